@@ -1,2 +1,3 @@
 pub mod LifeLaws
 pub mod LifeFiles
+pub mod ExamplesOfRestarts

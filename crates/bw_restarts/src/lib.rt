@@ -2,6 +2,7 @@
 //! nothing runs.
 #![tactic(auto)]
 
+ghost use Rattle.bw_restarts.specs.ExamplesOfRestarts.{StoppedServerExample};
 ghost use Rattle.bw_restarts.specs.Restarts.{ClosedLivesStay, CutBooksGoOn, LivesDeliver};
 ghost use Rattle.bw_restarts.specs.Restarts.{StoredLivesAreWhole};
 
@@ -14,4 +15,9 @@ pub fn law_restarts()
     ensures heard { LivesDeliver }
     ensures whole { StoredLivesAreWhole }
     ensures closed { ClosedLivesStay }
+{}
+
+/// A worked row: a server that is stopped after two numbers, and the next one.
+pub fn examples_of_restarts()
+    ensures { StoppedServerExample }
 {}

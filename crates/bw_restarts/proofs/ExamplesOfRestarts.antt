@@ -1,0 +1,202 @@
+-- The worked row computes.
+use Rattle.std.proofs.Common.{◌≡◌, ℕ, suc, zero, ◌<◌, Bool, false, cond, List, [], ◌∷◌, ◌++◌, Some, None, refl}
+use Rattle.std.proofs.Common.{sym, ◌∙◌, ap, subst, arith, ◌⊎◌, inl, inr}
+use Rattle.std.specs.Prelude.{◌==◌, map, filter}
+use Rattle.std.specs.List.{AllByRecursion, Contains}
+use Rattle.std.proofs.lemmas.Bool.{cases_eq, ne_eqb}
+use Rattle.bw_model.proofs.Computing.{computing}
+use Rattle.bw_model.proofs.BookLaws.{empty_book, turns_keep_books}
+use Rattle.bw_model.specs.Take.{Open, Block, Close, Stored}
+use Rattle.bw_model.specs.Turn.{good}
+use Rattle.bw_model.specs.Replies.{Reply, Judged}
+use Rattle.bw_model.specs.Wire.{Frame}
+use Rattle.bw_model.specs.Book.{log_of}
+use Rattle.bw_model.specs.BookRules.{IsBook}
+use Rattle.bw_model.specs.Exchange.{nothing_stands}
+use Rattle.bw_model.specs.ExampleWords.{a1, mono, two_frames, says, open_0, block_1, close_2, judged_example}
+use Rattle.bw_model.specs.ExamplesOfWorlds.{small_take}
+use Rattle.bw_journal.proofs.CutLaws.{cut_books_are_books}
+use Rattle.bw_exchange.specs.Answering.{Answered}
+use Rattle.bw_connections.specs.Keeping.{Tagged, own}
+use Rattle.bw_delivery.specs.Deliveries.{LinkBytes, IsOwnLink, IsOfAnother, IsDelivery, HasOnly, HearsVerdict}
+use Rattle.bw_delivery.proofs.Elements.{each-contains}
+use Rattle.bw_restarts.specs.Restarts.{ServerLife, GoesOnFrom, HeardInLives}
+use Rattle.bw_restarts.specs.ExamplesOfRestarts.{first_life, second_life, StoppedServerExample}
+use Rattle.bw_restarts.proofs.LifeLaws.{cuts_go_on}
+
+-- a verdict on a number of `a1` that is stored
+abbrev answers : ℕ → Frame → ℕ × Answered
+answers n f = (0, record { frame = f; replies = Judged a1 n Stored ∷ [] })
+
+abbrev first_trace : List Tagged
+first_trace = answers 0 (says 0 (Open mono [])) ∷ answers 1 (says 1 (Block two_frames)) ∷ []
+
+abbrev second_trace : List Tagged
+second_trace = answers 1 (says 1 (Block two_frames)) ∷ answers 2 (says 2 (Close 2)) ∷ []
+
+skipped : (n : ℕ) (ts : List Tagged) → AllByRecursion (λ t. (t.0 == n) ≡ false) ts → own n ts ≡ []
+skipped n [] h = refl
+skipped n (t ∷ ts) h =
+    ap (λ (v : Bool). map (λ x. x.1) (cond v (t ∷ filter (λ x. x.0 == n) ts) (filter (λ x. x.0 == n) ts))) h.0
+    ∙ skipped n ts h.1
+
+abbrev one_link : LinkBytes → List (ℕ × LinkBytes)
+one_link l = (0, l) ∷ []
+
+-- each connection is the sender's link, or had no frame
+abbrev IsLinkOrEmpty : LinkBytes → List Tagged → ℕ → Type 0
+IsLinkOrEmpty l trace n =
+    ((m : LinkBytes) × Contains (one_link l) (n, m)) ⊎ AllByRecursion (λ a. IsOfAnother a1 a.frame) (own n trace)
+
+others : (l : LinkBytes) (trace : List Tagged) →
+    ((n : ℕ) → (n ≡ 0 → ⊥) → AllByRecursion (λ t. (t.0 == n) ≡ false) trace) → (n : ℕ) → IsLinkOrEmpty l trace n
+others l trace apart n = go (cases_eq n 0)
+  where
+    go : (n ≡ 0) ⊎ (n ≡ 0 → ⊥) → IsLinkOrEmpty l trace n
+    go (inl e) = inl (l, subst (λ (k : ℕ). Contains (one_link l) (k, l)) (sym e) (0, omega arith, refl))
+    go (inr e) = inr (subst (AllByRecursion (λ a. IsOfAnother a1 a.frame)) (sym (skipped n trace (apart n e))) tt)
+
+apart_two : (n : ℕ) → (n ≡ 0 → ⊥) → (0 == n) ≡ false
+apart_two n e = ne_eqb 0 n (λ k. e (sym k))
+
+none_some : {X : Type 0} {x : X} → None ≡ Some x → ⊥
+none_some e = cc
+
+abbrev first_link : LinkBytes
+first_link = record {
+  said = open_0 ++ block_1 ++ close_2;
+  received = open_0 ++ block_1;
+  answered = judged_example 0 0 ++ judged_example 1 0;
+  heard = judged_example 0 0;
+}
+
+abbrev second_link : LinkBytes
+second_link = record {
+  said = block_1 ++ close_2;
+  received = block_1 ++ close_2;
+  answered = judged_example 1 0 ++ judged_example 2 0;
+  heard = judged_example 1 0 ++ judged_example 2 0;
+}
+
+first_own : IsOwnLink a1 small_take (own 0 first_trace) first_link
+unfolding computing
+first_own = record {
+  unchanged = record { there = (close_2, refl); back = (judged_example 1 0, refl) };
+  says = record {
+    frames = says 0 (Open mono []) ∷ says 1 (Block two_frames) ∷ says 2 (Close 2) ∷ [];
+    each = ((refl, refl), ((refl, refl), ((refl, refl), tt)));
+    spelled = refl;
+    part = ([], refl);
+  };
+  answers = record {
+    read = open_0 ++ block_1;
+    read_part = ([], refl);
+    first = ([], refl);
+    spelled = refl;
+    end = None;
+    part = ([], refl);
+  };
+}
+
+second_own : IsOwnLink a1 small_take (own 0 second_trace) second_link
+unfolding computing
+second_own = record {
+  unchanged = record { there = ([], refl); back = ([], refl) };
+  says = record {
+    frames = says 1 (Block two_frames) ∷ says 2 (Close 2) ∷ [];
+    each = ((refl, refl), ((refl, refl), tt));
+    spelled = refl;
+    part = ([], refl);
+  };
+  answers = record {
+    read = block_1 ++ close_2;
+    read_part = ([], refl);
+    first = ([], refl);
+    spelled = refl;
+    end = None;
+    part = ([], refl);
+  };
+}
+
+began_book : IsBook second_life.began
+unfolding computing
+began_book = cut_books_are_books first_life.left
+    (turns_keep_books nothing_stands _ (says 1 (Block two_frames)) good refl
+    (turns_keep_books nothing_stands [] (says 0 (Open mono [])) good refl empty_book))
+
+first_delivery : IsDelivery nothing_stands a1 small_take first_life.links [] first_life.left
+unfolding computing
+first_delivery = record {
+  is_book = empty_book;
+  had = λ n r e. absurd (none_some e);
+  trace = first_trace;
+  went = record {
+    received = (says 0 (Open mono []), good) ∷ (says 1 (Block two_frames), good) ∷ [];
+    answers = refl;
+    left = refl;
+  };
+  joined = record {
+    own_links = λ n l has. each-contains (λ x. IsOwnLink a1 small_take (own x.0 first_trace) x.1)
+        (one_link first_link) (n, l) (first_own, tt) has;
+    others = others first_link first_trace (λ n e. (apart_two n e, (apart_two n e, tt)));
+  };
+}
+
+second_delivery : IsDelivery nothing_stands a1 small_take second_life.links second_life.began second_life.left
+unfolding computing
+second_delivery = record {
+  is_book = began_book;
+  had = λ n r e. only n r e;
+  trace = second_trace;
+  went = record {
+    received = (says 1 (Block two_frames), good) ∷ (says 2 (Close 2), good) ∷ [];
+    answers = refl;
+    left = refl;
+  };
+  joined = record {
+    own_links = λ n l has. each-contains (λ x. IsOwnLink a1 small_take (own x.0 second_trace) x.1)
+        (one_link second_link) (n, l) (second_own, tt) has;
+    others = others second_link second_trace (λ n e. (apart_two n e, (apart_two n e, tt)));
+  };
+}
+  where
+    only : HasOnly small_take (log_of second_life.began a1)
+    only zero r e = e
+    only (suc zero) r e = e
+    only (suc (suc n)) r e = absurd (none_some e)
+
+first_heard : HearsVerdict a1 0 Stored first_link.heard
+first_heard = record {
+  replies = Judged a1 0 Stored ∷ [];
+  rest = [];
+  spelled = record { each = refl; whole = refl };
+  has = (0, omega arith, refl);
+}
+
+abbrev replies : List Reply
+replies = Judged a1 1 Stored ∷ Judged a1 2 Stored ∷ []
+
+second_heard : (n : ℕ) → Contains replies (Judged a1 n Stored) → HearsVerdict a1 n Stored second_link.heard
+second_heard n has = record { replies = replies; rest = []; spelled = record { each = refl; whole = refl }; has = has }
+
+abbrev lives : List ServerLife
+lives = first_life ∷ second_life ∷ []
+
+heard : (n : ℕ) → n < 3 → HeardInLives lives a1 n Stored
+heard zero below = (first_life, (0, omega arith, refl), (0, first_link, (0, omega arith, refl), first_heard))
+heard (suc zero) below =
+    (second_life, (1, omega arith, refl), (0, second_link, (0, omega arith, refl), second_heard 1 (0, omega arith, refl)))
+heard (suc (suc zero)) below =
+    (second_life, (1, omega arith, refl), (0, second_link, (0, omega arith, refl), second_heard 2 (1, omega arith, refl)))
+heard (suc (suc (suc n))) below = absurd (omega arith)
+
+begins : GoesOnFrom a1 [] []
+begins = record { done = refl; admitted = λ n r e. e }
+
+pub stopped : StoppedServerExample
+unfolding computing
+stopped = (
+  (begins, first_delivery, (cuts_go_on first_life.left a1, second_delivery, refl)),
+  heard,
+  refl,
+)
