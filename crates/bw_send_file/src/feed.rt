@@ -93,7 +93,7 @@ fn copy_of(alloc: Global, request: &RequestRef<'_>) -> Result<Request, FeedFault
 }
 
 /// Whether a request closes the take.
-fn is_close(request: &Request) -> bool
+pub fn is_close(request: &Request) -> bool
     ensures { result ≡ is_closing request.now }
 {
     match request.as_ref() {

@@ -8,11 +8,13 @@ mod feed;
 mod file;
 mod job;
 mod link_log;
+mod resuming;
 mod sending;
 
 pub use fault::FeedFault;
-pub use feed::PlanFeed;
+pub use feed::{PlanFeed, is_close};
 pub use file::send_file;
 pub use job::Recorder;
 pub use link_log::LinkLog;
+pub use resuming::send_feed_after;
 pub use sending::send_feed;

@@ -1,0 +1,2 @@
+mod ReadSteps
+mod FeedSteps

@@ -1,0 +1,4 @@
+pub mod TakeOpenings
+pub mod SkippedRequests
+pub mod Asks
+pub mod NotedCounts
