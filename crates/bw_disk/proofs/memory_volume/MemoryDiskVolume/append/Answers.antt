@@ -8,8 +8,8 @@ pub returns-clause-failed : goal.returns-clause-failed
 returns-clause-failed c =
     let path : List ℕ = string_bytes c.args.file.now.path in
     let same : OnErr c.write-answer.result
-            (content_at c.write-answer.new.files.items path ≡ content_at c.args.self.now.files.items path) =
-        search rules in
+    (content_at c.write-answer.new.files.items path ≡ content_at c.args.self.now.files.items path) =
+    search rules in
     λ honest. on_err_weaker c.write-answer.result
-        (λ e. unwritten (content_at c.args.self.now.files.items path)
-        (content_at c.write-answer.new.files.items path) c.args.offset c.args.bytes.now e) same
+    (λ e. unwritten (content_at c.args.self.now.files.items path)
+    (content_at c.write-answer.new.files.items path) c.args.offset c.args.bytes.now e) same

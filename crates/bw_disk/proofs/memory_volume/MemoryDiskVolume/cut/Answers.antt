@@ -8,7 +8,7 @@ pub returns-clause-failed : goal.returns-clause-failed
 returns-clause-failed c =
     let path : List ℕ = string_bytes c.args.file.now.path in
     let same : OnErr c.cut-answer.result (c.cut-answer.new.files.items ≡ c.args.self.now.files.items) =
-        search rules in
+    search rules in
     λ honest. on_err_weaker c.cut-answer.result
-        (λ e. uncut (content_at c.args.self.now.files.items path)
-        (content_at c.cut-answer.new.files.items path) c.args.len (ap (λ files. content_at files path) e)) same
+    (λ e. uncut (content_at c.args.self.now.files.items path)
+    (content_at c.cut-answer.new.files.items path) c.args.len (ap (λ files. content_at files path) e)) same
