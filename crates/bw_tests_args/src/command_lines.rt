@@ -27,7 +27,7 @@ fn a_rehearsal_has_a_name(rt: HostRuntime) -> Result<(), AllocError> {
     lines_come_to(&rt, rt.alloc(), &["bwingest", "rehearse"], &REHEARSALS)
 }
 
-static LINES: [Line; 46] = [
+static LINES: [Line; 51] = [
     (&[], Outcome::Refuses),
     (&["bwingest"], Outcome::Refuses),
     (&["bwingest", "help"], Outcome::Shows),
