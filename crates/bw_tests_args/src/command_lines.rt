@@ -128,6 +128,20 @@ fn each_line_runs_or_reports(rt: HostRuntime) -> Result<(), AllocError> {
     lines_come_to(&rt, rt.alloc(), &[], &LINES)
 }
 
+static TAKES: [Line; 6] = [
+    (&["bwingest", "takes", "--folder", "-d"], Outcome::Lists),
+    (&["bwingest", "takes", "--folder=-d"], Outcome::Lists),
+    (&["bwingest", "takes", "--help"], Outcome::Shows),
+    (&["bwingest", "takes"], Outcome::Refuses),
+    (&["bwingest", "takes", "-d"], Outcome::Refuses),
+    (&["bwingest", "takes", "--folder"], Outcome::Refuses),
+];
+
+#[test]
+fn takes_of_a_folder_are_listed(rt: HostRuntime) -> Result<(), AllocError> {
+    lines_come_to(&rt, rt.alloc(), &[], &TAKES)
+}
+
 static VALUES: [(&str, Outcome); 28] = [
     ("8192", Outcome::Replays(8_192)),
     ("0000008192", Outcome::Replays(8_192)),

@@ -48,6 +48,8 @@ pub(crate) enum Outcome {
     Packs(Said),
     /// Repairs the file `-f`, and writes it or doesn't.
     Repairs { is_written: bool },
+    /// Reports the takes of the folder `-d`.
+    Lists,
     /// Text on standard output, status 0.
     Shows,
     /// Text on standard error, status 2.
@@ -108,6 +110,8 @@ fn run_outcome(task: &Task, words: &[&str]) -> Outcome {
             is_written: *write,
         },
         Task::Repair { .. } => Outcome::Confuses,
+        Task::Takes(asked) if asked.folder.as_str() == "-d" => Outcome::Lists,
+        Task::Takes(_) => Outcome::Confuses,
     }
 }
 
