@@ -185,7 +185,7 @@ fn rename(
     Ok(true)
 }
 
-/// Puts a file that was never synced behind the others.
+/// Puts a file that was never synced after the others.
 fn put(
     files: &mut Vec<StoredFile>,
     alloc: Global,
