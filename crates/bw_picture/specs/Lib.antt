@@ -1,0 +1,5 @@
+pub mod Levels
+pub mod Peaks
+pub mod Columns
+pub mod Reads
+pub mod Drawings
