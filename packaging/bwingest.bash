@@ -11,7 +11,7 @@ _bwingest() {
     esac
     case ${COMP_WORDS[1]} in
     serve) options='--listen --folder --exchanges --limit --timeout --network --recorders --idle --until-stopped --log --journal --sync --help' ;;
-    send) options='--connect --name --rounds --timeout --network --file --set --strict --fruitless --log --help' ;;
+    send) options='--connect --name --rounds --timeout --network --file --set --strict --fruitless --log --state --help' ;;
     inspect) options='--help' ;;
     pack) options='--set --strict --help' ;;
     replay) options='--limit --fuse --help' ;;

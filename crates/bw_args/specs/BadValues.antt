@@ -37,7 +37,7 @@ fault_said Connect = codes "'--connect <ADDR>' takes " ++ address_wanted
 fault_said Rounds = codes "'--rounds <N>' takes a number from 1 to 1000, in at most ten digits"
 fault_said Fruitless =
     codes "'--fruitless <N>' takes a number from 1 to 1000000, in at most ten digits"
-fault_said Mixed = codes "'--set', '--strict', '--fruitless' and '--log' are for '--file <FILE>', and "
+fault_said Mixed = codes "'--set', '--strict', '--fruitless', '--log' and '--state' are for '--file <FILE>', and "
     ++ codes "'--rounds <N>' for a sender without it"
 
 -- the end of a line, and an empty line

@@ -150,6 +150,10 @@ strict_flag = flag (codes "strict")
 abbrev pub fruitless_option : Rule
 fruitless_option = option (codes "fruitless")
 
+-- `--state STATE`
+abbrev pub state_option : Rule
+state_option = option (codes "state")
+
 -- `send` with the options that say where to, and under which name
 abbrev pub send_where : App
 send_where = with_rule
@@ -164,9 +168,13 @@ send_how = with_rule (with_rule send_where timeout_option) network_flag
 abbrev pub send_source : App
 send_source = with_rule (with_rule (with_rule send_how file_option) set_option) strict_flag
 
--- `send`, with its ten options
+-- and when it gives up, and what it reports
+abbrev pub send_report : App
+send_report = with_rule (with_rule send_source fruitless_option) log_flag
+
+-- `send`, with its eleven options
 abbrev pub send_command : App
-send_command = with_rule (with_rule send_source fruitless_option) log_flag
+send_command = with_rule send_report state_option
 
 -- `pack`, with the file and its two options
 abbrev pub pack_command : App

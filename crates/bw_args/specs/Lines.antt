@@ -7,7 +7,7 @@ pub use Rattle.bw_args.specs.Given.{IsRecorders, IsRecordersGiven, GivesRecorder
 pub use Rattle.bw_args.specs.Given.{IsJournalingGiven, GivesCountOr, GivesRounds}
 use Rattle.std.specs.Prelude.{◌≡◌, ◌≢◌, ◌⊎◌, ⊤, ℕ, ◌<◌, ◌≤◌, Bool, true}
 use Rattle.std.specs.Prelude.{false, List, [], ◌∷◌, ◌++◌}
-use Rattle.std.specs.Prelude.{Option, Some, None, unwrap_or, Result, Ok, Err, string_bytes, codes}
+use Rattle.std.specs.Prelude.{Option, Some, None, option_map, unwrap_or, Result, Ok, Err, string_bytes, codes}
 use Rattle.std.specs.Prelude.{IsTrue, if◌then◌else◌}
 use Rattle.std.specs.Str.{bytes_eq}
 use Rattle.std.specs.declared.net.socket_addr.SocketAddr.{SocketAddr}
@@ -67,6 +67,7 @@ pub record FileUpload : Type 0 where
   pub timeout : ℕ
   pub fruitless : ℕ
   pub log : Bool
+  pub state : Option Text
 
 -- what may be asked for: a replay with this limit, in which the call of this number fails, or none;
 -- a rehearsal of the take of this name, with this limit; to inspect the file of this path; a server
@@ -102,6 +103,7 @@ wish_of (SendFile sender) = Uploading (record {
   timeout = sender.timeout;
   fruitless = sender.fruitless;
   log = sender.log;
+  state = option_map string_bytes sender.state;
 })
 wish_of (Pack source) = Packing (in_plain source)
 
@@ -139,6 +141,7 @@ pub record GivesUpload (options : List Row) (sender : FileUpload) : Type 0 where
   pub ends : GivesCountOr default_fruitless most_fruitless
       (given_on_line options (codes "fruitless")) sender.fruitless
   pub reports : sender.log ≡ is_set (given_on_line options (codes "log"))
+  pub states : sender.state ≡ given_on_line options (codes "state")
   pub unmixed : is_mixed (given_on_line options) ≡ false
 
 -- the command and its options ask for this

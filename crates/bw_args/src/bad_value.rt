@@ -186,7 +186,7 @@ For more information, try '--help'.
 ";
 
 const BAD_MIXED: &str = "\
-error: '--set', '--strict', '--fruitless' and '--log' are for '--file <FILE>', and '--rounds <N>' for a sender without it
+error: '--set', '--strict', '--fruitless', '--log' and '--state' are for '--file <FILE>', and '--rounds <N>' for a sender without it
 
 Usage: bwingest <COMMAND>
 

@@ -30,7 +30,7 @@ use Rattle.bw_ports.specs.declared.starts.Starts.{Ghosts as StartGhosts}
 use Rattle.bw_session.specs.declared.server.Server.{Server}
 use Rattle.bw_cli.specs.Packed.{Packs}
 use Rattle.bw_cli.specs.Remote.{Sends, ServesWith}
-use Rattle.bw_cli.specs.Uploads.{SendsRecording}
+use Rattle.bw_cli.specs.Uploads.{SendsByState}
 use Rattle.bw_cli.specs.Sides.{HostSide, SenderSide, ServerSide, UploadSide}
 use Rattle.bw_cli.specs.declared.outside.Outside.{Outside}
 
@@ -126,7 +126,7 @@ module _ {S T F H G M N X Y Z P R W L K D A B U Q I O E V C : Type 0} (host : Ho
       × IsHostWell failed x' × (x'.files ≡ x.files) × (x'.network ≡ x.network)
       × (x'.pause ≡ x.pause)
   IsDoneFor file_at failed (Run (SendFile sender)) exit x x' =
-      SendsRecording upload_side sender_side network host.files host.out host.reported sender exit
+      SendsByState upload_side sender_side network host.files host.out host.reported sender.state sender exit
       x.files x'.files x.network x.pause x'.pause x.out x'.out x.faults x'.faults
       × IsHostWell failed x' × (x'.network ≡ x.network) × (x'.input ≡ x.input)
   IsDoneFor file_at failed (Run (Pack source)) exit x x' =

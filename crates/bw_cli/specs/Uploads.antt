@@ -1,9 +1,11 @@
 -- What is done for the command lines that send recordings.
-use Rattle.std.specs.Prelude.{◌≡◌, ℕ, Option, Some, string_bytes}
+use Rattle.std.specs.Prelude.{◌≡◌, ℕ, List, Option, None, Some, String, string_bytes}
 use Rattle.bw_stream.specs.declared.sink.Sink.{Ghosts as Writer}
 use Rattle.bw_args.specs.declared.recordings.FileSender.{FileSender}
 use Rattle.bw_console.specs.Printing.{failures_if}
 use Rattle.bw_console.specs.declared.exit.Exit.{Exit}
+use Rattle.bw_console.specs.declared.exit.Exit.TheVariants as exits
+use Rattle.bw_send_state.specs.SentOn.{StoresRecording}
 use Rattle.bw_ports.specs.declared.network.Network.{Ghosts as NetworkGhosts}
 use Rattle.bw_ports.specs.declared.recording_files.RecordingFiles.{Ghosts as FileGhosts}
 use Rattle.bw_recorder.specs.Packs.{HasPacked, Packing}
@@ -38,3 +40,20 @@ module _ {U F H G M Q N X P R W D A B O E : Type 0} (upload : UploadSide U Q)
         (record { pause = q; dial = first }) (record { pause = q'; dial = last }) did
     pub failures : files.failures f' ≡ failures_if did.is_system_well (files.failures f)
     pub writes : HasPacked out reported did o o' e e'
+
+  -- It was sent from where its state says: with the status 0 each request of the recording in the
+  -- file's bytes, if they are reported, is stored, the first ones by the premise of going on.
+  pub record SendsKept (sender : FileSender) (exit : Exit) (f f' : F) (n : N) (q q' : Q)
+      (o o' : O) (e e' : E) : Type 0 where
+    pub recorder : Recorder
+    pub recorder_is : IsRecorderOf sender recorder
+    pub file : RecordingFile
+    pub file_is : IsRecordingFile sender.source file
+    pub state : Option (List ℕ)
+    pub stores : exit ≡ exits.Done → (b : List ℕ) → files.file_at f file.path.now ≡ Some b →
+        StoresRecording upload.feed upload.pause side.dial side.replies side.requests state recorder file b
+
+  -- with a state or without
+  abbrev pub SendsByState : Option String → FileSender → Exit → F → F → N → Q → Q → O → O → E → E → Type 0
+  SendsByState None sender exit f f' n q q' o o' e e' = SendsRecording sender exit f f' n q q' o o' e e'
+  SendsByState (Some path) sender exit f f' n q q' o o' e e' = SendsKept sender exit f f' n q q' o o' e e'

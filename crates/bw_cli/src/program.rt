@@ -22,6 +22,7 @@ use bw_console::{Exit, Fault, report_bad_argv};
 use bw_journal::{Journal, NoJournal};
 use bw_layout::Limit;
 use bw_ports::{ListenerSetup, Network, Pause, RecordingFiles, Starts, System, Watch};
+use bw_resume::StateKeeping;
 use bw_send_file::PlanFeed;
 use bw_session::Server;
 use bw_stream::{Sink, Source};
@@ -39,7 +40,7 @@ use std::process::ExitCode;
 /// - The texts of help, version and usage errors.
 pub fn start<
     S: System,
-    F: RecordingFiles,
+    F: RecordingFiles + StateKeeping,
     J: Journal,
     N: Network + ListenerSetup + Starts<Server<N::Store, J>>,
     P: Pause,
@@ -63,7 +64,7 @@ pub fn start<
 /// Reads the command line, and does what it asks for.
 fn obey<
     S: System,
-    F: RecordingFiles,
+    F: RecordingFiles + StateKeeping,
     J: Journal,
     N: Network + ListenerSetup + Starts<Server<N::Store, J>>,
     P: Pause,
@@ -89,7 +90,7 @@ fn obey<
 /// Does what these words ask for.
 fn answer<
     S: System,
-    F: RecordingFiles,
+    F: RecordingFiles + StateKeeping,
     J: Journal,
     N: Network + ListenerSetup + Starts<Server<N::Store, J>>,
     P: Pause,
@@ -115,7 +116,7 @@ fn answer<
 /// Does what a command line asks for.
 fn perform<
     S: System,
-    F: RecordingFiles,
+    F: RecordingFiles + StateKeeping,
     J: Journal,
     N: Network + ListenerSetup + Starts<Server<N::Store, J>>,
     P: Pause,
@@ -147,7 +148,7 @@ fn perform<
 /// Runs a task.
 fn run<
     S: System,
-    F: RecordingFiles,
+    F: RecordingFiles + StateKeeping,
     J: Journal,
     N: Network + ListenerSetup + Starts<Server<N::Store, J>>,
     P: Pause,

@@ -4,6 +4,7 @@
 #![tactic(auto)]
 
 mod header;
+mod keeping;
 pub mod laws;
 mod reading;
 mod state_files;
@@ -11,6 +12,7 @@ mod stopwatch;
 mod writing;
 
 pub use header::{Subject, header_text};
+pub use keeping::StateKeeping;
 pub use reading::settled_in;
 pub use state_files::{StateFiles, StateLog};
 pub use stopwatch::Stopwatch;

@@ -72,13 +72,20 @@ command_ends path s outcome did (inl x) done = outcome_ends path outcome did.exi
 command_ends path s outcome did (inr (inl x)) done = absurd (device_ends (sym x.exit_is ∙ done))
 command_ends path s outcome did (inr (inr x)) done = absurd (memory_ends (sym x.exit_is ∙ done))
 
+pub stores_after : (path : List ℕ) (first : Sender) (requests : List Request) (s : Sender) (outcome : Outcome FeedFault)
+    (did : Did) → EndsAfter path s outcome did → OffersFeed first requests (says_done outcome) s →
+    did.exit ≡ exits.Done → StoresAll (first.offered ++ requests) s
+stores_after path first requests s outcome did ends feeds done =
+    let says = command_ends path s outcome did ends done in
+    record {
+      offered = feeds.offered ∙ ap (λ (rs : List Request). first.offered ++ rs)
+          (sym (append-nil feeds.given)
+          ∙ ap (λ (rest : List Request). feeds.given ++ rest) (sym (feeds.none_left says)) ∙ sym feeds.all);
+      stored = feeds.stored says;
+    }
+
 pub stores_all : (path name : List ℕ) (requests : List Request) (s : Sender) (outcome : Outcome FeedFault) (did : Did) →
     EndsAfter path s outcome did → OffersFeed (new_sender name) requests (says_done outcome) s →
     did.exit ≡ exits.Done → StoresAll requests s
 stores_all path name requests s outcome did ends feeds done =
-    let says = command_ends path s outcome did ends done in
-    record {
-      offered = feeds.offered ∙ sym (append-nil feeds.given)
-          ∙ ap (λ (rest : List Request). feeds.given ++ rest) (sym (feeds.none_left says)) ∙ sym feeds.all;
-      stored = feeds.stored says;
-    }
+    stores_after path (new_sender name) requests s outcome did ends feeds done

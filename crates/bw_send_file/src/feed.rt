@@ -27,6 +27,15 @@ pub struct PlanFeed<R, S> {
     pub(crate) stamp: FileStamp,
 }
 
+impl<R, S> PlanFeed<R, S> {
+    /// How the file stood before it was opened.
+    pub fn stamp(&self) -> FileStamp
+        ensures { result ≡ self.now.stamp }
+    {
+        self.stamp
+    }
+}
+
 impl<R: Source + Drop, S: Stamped + Drop> Feed for PlanFeed<R, S> {
     type Fault = FeedFault;
 
@@ -70,7 +79,7 @@ fn copy_of(alloc: Global, request: &RequestRef<'_>) -> Result<Request, FeedFault
 }
 
 /// Whether a request closes the take.
-fn is_close(request: &Request) -> bool
+pub fn is_close(request: &Request) -> bool
     ensures { result ≡ is_closing request.now }
 {
     match request.as_ref() {

@@ -10,7 +10,7 @@ const BACKOFFS: [u32; 7] = [500, 500, 1_000, 2_000, 4_000, 8_000, 16_000];
 const LONGEST: u32 = 30_000;
 
 /// The milliseconds before the next link, where so many of the last links in a row settled nothing.
-pub(crate) fn backoff(fruitless: u64) -> u32
+pub fn backoff(fruitless: u64) -> u32
     ensures { result ≡ backoff fruitless }
 {
     match BACKOFFS.get(fruitless as usize) {
@@ -20,7 +20,7 @@ pub(crate) fn backoff(fruitless: u64) -> u32
 }
 
 /// Whether no link more is made: so many in a row settled nothing as are allowed.
-pub(crate) fn is_spent(most: Option<u32>, fruitless: u64) -> bool
+pub fn is_spent(most: Option<u32>, fruitless: u64) -> bool
     ensures { result ≡ is_limit_spent most fruitless }
 {
     match most {

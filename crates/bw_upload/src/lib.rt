@@ -2,7 +2,7 @@
 //! over each, and a new link after a pause where one breaks.
 #![tactic(auto)]
 
-mod backoff;
+pub mod backoff;
 mod feed;
 mod links;
 mod observer;

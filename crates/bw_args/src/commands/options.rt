@@ -4,7 +4,7 @@ ghost use Rattle.bw_args.specs.Commands.{flag, folder_option, fuse_option, idle_
 ghost use Rattle.bw_args.specs.Commands.{limit_option, listen_option, log_flag, name_option};
 ghost use Rattle.bw_args.specs.Commands.{network_flag, option, recorders_option, required};
 ghost use Rattle.bw_args.specs.Commands.{file_option, fruitless_option, journal_flag, repeated};
-ghost use Rattle.bw_args.specs.Commands.{rounds_option, set_option, strict_flag, sync_flag};
+ghost use Rattle.bw_args.specs.Commands.{rounds_option, set_option, state_option, strict_flag, sync_flag};
 ghost use Rattle.bw_args.specs.Commands.{timeout_option, until_stopped_flag};
 
 use clap::{Arg, ArgAction};
@@ -206,6 +206,13 @@ pub(crate) fn strict_flag<'a>(alloc: Global) -> Arg<'a>
 {
     let help = "Refuses a recording whose fields would have to be cleaned";
     flag_option(alloc, "strict", help)
+}
+
+pub(crate) fn state_option<'a>(alloc: Global) -> Arg<'a>
+    ensures { IsOption state_option result }
+{
+    let help = "With --file: notes in STATE how far it is, and goes on there when it is run again";
+    value_option(alloc, "state", "STATE", help)
 }
 
 pub(crate) fn fruitless_option<'a>(alloc: Global) -> Arg<'a>

@@ -1,16 +1,17 @@
 //! The command `send`.
 ghost use Rattle.std.specs.Prelude.{codes, Some, IfOk, IfErr, OnErr};
 ghost use Rattle.clap.specs.Words.{first_value, found_of, rows_of};
-ghost use Rattle.bw_args.specs.Commands.{IsCommand, send_command, send_how, send_source, send_where};
+ghost use Rattle.bw_args.specs.Commands.{IsCommand, send_command, send_how, send_report, send_source};
+ghost use Rattle.bw_args.specs.Commands.{send_where};
 ghost use Rattle.bw_args.specs.Lines.{AsksForPath, GivesTries, IsFirstBad, IsLineFor};
 ghost use Rattle.bw_args.specs.Lines.{looked_at_trying};
 
 use super::network::{address_given, count_given, flag_given};
 use super::options::{
     connect_option, file_option, fruitless_option, link_log_flag, name_option, network_flag,
-    patience_option, rounds_option, set_option, strict_flag,
+    patience_option, rounds_option, set_option, state_option, strict_flag,
 };
-use super::sources::{is_mixed, source_given};
+use super::sources::{is_mixed, source_given, state_given};
 use super::{name_given, named};
 use crate::{BadValue, CommandLine, FileSender, Send, Task, numbers};
 use clap::{ArgMatches, Command};
@@ -18,6 +19,13 @@ use std::alloc::{AllocError, Global};
 
 pub(crate) fn send<'a>(alloc: Global) -> Result<Command<'a>, AllocError>
     ensures { IfOk result (IsCommand send_command) }
+{
+    send_report(alloc)?.arg(state_option(alloc))
+}
+
+/// The command with these and the options that say when it gives up, and what it reports.
+fn send_report<'a>(alloc: Global) -> Result<Command<'a>, AllocError>
+    ensures { IfOk result (IsCommand send_report) }
 {
     send_source(alloc)?
         .arg(fruitless_option(alloc))?
@@ -92,6 +100,7 @@ pub(crate) fn send_line(alloc: Global, options: &ArgMatches<'_>) -> Result<Comma
     };
     let log = flag_given(options, "log");
     let source = source_given(alloc, options, path)?;
+    let state = state_given(alloc, options)?;
     Ok(CommandLine::Run(Task::SendFile(FileSender {
         connect,
         name,
@@ -99,6 +108,7 @@ pub(crate) fn send_line(alloc: Global, options: &ArgMatches<'_>) -> Result<Comma
         timeout: tries.timeout.unwrap_or(numbers::DEFAULT_TIMEOUT),
         fruitless: tries.fruitless.unwrap_or(numbers::DEFAULT_FRUITLESS),
         log,
+        state,
     })))
 }
 

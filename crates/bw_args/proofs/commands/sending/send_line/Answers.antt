@@ -77,6 +77,7 @@ returns-in_err-source-clause-err c = on_err c.from_residual.result (
     timeout = unwrap_or c.in-Ok.tries.timeout default_timeout;
     fruitless = unwrap_or c.in-Ok.tries.fruitless default_fruitless;
     log = is_set (first_value (found_of c.args.options.now) (codes "log"));
+    state = first_value (found_of c.args.options.now) (codes "state");
   }),
   tt,
   upload_asked (found_of c.args.options.now) _
@@ -86,6 +87,31 @@ returns-in_err-source-clause-err c = on_err c.from_residual.result (
       (found_source (found_of c.args.options.now) c.in-Some-get_str.path.now) c.in-Some-get_str.ensures refl refl refl)
       (c.in-Ok.tries.timeout, c.in-Ok.ensures.ok.waits, refl)
       (c.in-Ok.tries.fruitless, c.in-Ok.ensures.ok.ends, refl)
+      refl
+      refl
+      (sym c.is_mixed.ensures ∙ c.if-is_mixed.false),
+)
+
+pub returns-in_err-state-clause-err : goal.returns-in_err-state-clause-err
+returns-in_err-state-clause-err c = on_err c.from_residual-in_err-state.result (
+  Uploading (record {
+    connect = c.in-Some.connect;
+    name = c.in-Some-name_given.name;
+    source = found_source (found_of c.args.options.now) c.in-Some-get_str.path.now;
+    timeout = unwrap_or c.in-Ok.tries.timeout default_timeout;
+    fruitless = unwrap_or c.in-Ok.tries.fruitless default_fruitless;
+    log = is_set (first_value (found_of c.args.options.now) (codes "log"));
+    state = first_value (found_of c.args.options.now) (codes "state");
+  }),
+  tt,
+  upload_asked (found_of c.args.options.now) _
+      (an_address (found_of c.args.options.now) (codes "connect") _ _ c.flag_given-network.ensures c.in-Some.ensures)
+      c.in-Some-name_given.ensures
+      (source_asked (found_of c.args.options.now) c.in-Some-get_str.path.now
+      (found_source (found_of c.args.options.now) c.in-Some-get_str.path.now) c.in-Some-get_str.ensures refl refl refl)
+      (c.in-Ok.tries.timeout, c.in-Ok.ensures.ok.waits, refl)
+      (c.in-Ok.tries.fruitless, c.in-Ok.ensures.ok.ends, refl)
+      refl
       refl
       (sym c.is_mixed.ensures ∙ c.if-is_mixed.false),
 )
@@ -99,4 +125,5 @@ returns-clause-ok c = upload_asked (found_of c.args.options.now) _
     (c.in-Ok.tries.timeout, c.in-Ok.ensures.ok.waits, c.unwrap_or-2.ensures)
     (c.in-Ok.tries.fruitless, c.in-Ok.ensures.ok.ends, c.unwrap_or-3.ensures)
     c.flag_given-log.ensures
+    c.in_ok-state.ensures
     (sym c.is_mixed.ensures ∙ c.if-is_mixed.false)

@@ -1,0 +1,16 @@
+use Rattle.std.proofs.Common.{◌≡◌, ◌∙◌, ℕ, List, inl, inr, subst}
+use Rattle.bw_console.specs.Text.{as_line}
+use Rattle.bw_resume.specs.Counts.{settled_text}
+use Rattle.bw_stream.specs.Moves.{Begins}
+use Rattle.bw_send_state.proofs.keeper.StateKeeper.note.Goals as goal
+
+pub returns-in-Err : goal.returns-in-Err
+returns-in-Err g c = λ s is.
+    let text : c.as_bytes.result.now ≡ as_line (settled_text c.in-Some.count) =
+    c.as_bytes.ensures.value ∙ c.as_str.ensures.value ∙ c.settled_line.ensures in
+    inr (
+      c.in-Some.count,
+      c.in-Some.ensures s is,
+      inr (subst (λ (t : List ℕ). Begins (g.L.StateLog.written c.args.self.now.log) t
+      (g.L.StateLog.written c.append.new.self)) text c.in-Err.ensures.err),
+    )

@@ -1,0 +1,9 @@
+use Rattle.std.proofs.Common.{List}
+use Rattle.bw_model.specs.Take.{Request}
+use Rattle.bw_send_state.proofs.FeedSteps.{OpensAfter}
+use Rattle.bw_send_state.proofs.opening.opening_of.Given as goal
+
+abbrev pub invariant-loop-number : goal.invariant-loop-number
+invariant-loop-number g l =
+    (requests : List Request) → g.X.Feed.left l.fn.feed requests →
+    OpensAfter l.name l.frames.items l.number requests (g.X.Feed.left l.feed)

@@ -1,0 +1,29 @@
+-- What comes before the first block of a take.
+use Rattle.std.specs.Prelude.{◌≡◌, ◌++◌, ⊤, ℕ, suc, List, [], ◌∷◌, length}
+use Rattle.sha2.specs.Sha256.{sha256}
+use Rattle.bw_model.specs.Take.{Request, Open, Block, Mark, SetField, Close}
+use Rattle.bw_model.specs.Wire.{body, framed}
+use Rattle.bw_wire.specs.Encoded.{said}
+use Rattle.bw_send_state.specs.declared.opening.Opening.{Opening}
+
+-- the request is another one
+abbrev pub IsNoBlock : Request → Type 0
+IsNoBlock (Block bytes) = ⊥
+IsNoBlock r = ⊤
+
+-- the frames of the requests before the first block, the first of which has this number
+abbrev pub frames_before_block : List ℕ → ℕ → List Request → List ℕ
+frames_before_block name n [] = []
+frames_before_block name n (Block bytes ∷ rs) = []
+frames_before_block name n (r ∷ rs) =
+    framed (body (said name n r)) ++ frames_before_block name (suc n) rs
+
+-- the length of the first block
+abbrev pub first_block_len : List Request → ℕ
+first_block_len [] = 0
+first_block_len (Block bytes ∷ rs) = length bytes
+first_block_len (r ∷ rs) = first_block_len rs
+
+pub record IsOpeningOf (name : List ℕ) (requests : List Request) (opening : Opening) : Type 0 where
+  pub digest : opening.digest ≡ sha256 (frames_before_block name 0 requests)
+  pub block : opening.block ≡ first_block_len requests

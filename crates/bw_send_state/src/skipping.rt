@@ -1,0 +1,33 @@
+//! The first requests of a feed are passed over.
+ghost use Rattle.std.specs.Prelude.{◌≡◌, List, IfOk, true};
+ghost use Rattle.bw_model.specs.Take.{Request as Message};
+ghost use Rattle.bw_send_state.specs.SkippedRequests.{SkipsFirst};
+
+use bw_send_file::is_close;
+use bw_upload::{Feed, Given};
+
+/// Passes over the first requests of a feed, so many. Returns whether it gave that many, and no
+/// CLOSE among them.
+///
+/// # Errors
+/// The feed's fault.
+///
+/// # Not specified
+/// What the feed still gives, unless true is returned.
+pub fn skip<X: Feed>(feed: &mut X, count: u32) -> Result<bool, X::Fault>
+    ensures { IfOk result (λ all. all ≡ true → (requests : List Message) →
+        X.left feed.old requests → SkipsFirst count requests (X.left feed.new)) }
+{
+    for _skipped in 0..count {
+        match feed.next()? {
+            Given::Request(request) => {
+                if is_close(&request) {
+                    return Ok(false);
+                }
+            }
+            Given::NotYet => return Ok(false),
+            Given::End => return Ok(false),
+        }
+    }
+    Ok(true)
+}
