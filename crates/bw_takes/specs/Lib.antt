@@ -3,3 +3,4 @@ pub mod TakeFindings
 pub mod TakeLines
 pub mod TakeReports
 pub mod Showings
+pub mod TakeSamples
