@@ -1,6 +1,6 @@
 -- What is printed for a file.
 use Rattle.std.specs.Prelude.{ℕ, ◌==◌, ◌||◌, nat_lt, List, [], ◌∷◌, ◌++◌, flat_map, codes}
-use Rattle.std.specs.Prelude.{Some, None, if◌then◌else◌}
+use Rattle.std.specs.Prelude.{Option, Some, None, if◌then◌else◌}
 use Rattle.hex.specs.Hex.{encode_lower}
 use Rattle.serde_json.specs.Data.{Data}
 use Rattle.serde_json.specs.Written.{compact_text}
@@ -11,7 +11,7 @@ use Rattle.bw_inspect.specs.declared.fault.InspectFault.{InspectFault}
 use Rattle.bw_console.specs.Text.{as_line}
 use Rattle.bw_report.specs.Objects.{fault_data, report_data}
 use Rattle.bw_report.specs.declared.entry.Style.{Style}
-use Rattle.bw_report.specs.declared.entry.Style.TheVariants.{Plain, Json}
+use Rattle.bw_report.specs.declared.entry.Style.TheVariants.{Plain, Named, Json}
 use Rattle.bw_report.specs.declared.found.Found.{Found}
 use Rattle.bw_report.specs.declared.found.Found.TheVariants.{Read, Faulty, Unopened}
 
@@ -34,13 +34,19 @@ name_line name = as_line (codes "file " ++ flat_map name_byte name)
 abbrev pub fault_entry : InspectFault → List ℕ
 fault_entry f = as_line (codes "fault " ++ inspect_fault_text f)
 
+-- the line of a digest, if there is one
+abbrev pub digest_text : Option (List ℕ) → List ℕ
+digest_text None = []
+digest_text (Some digest) = as_line (codes "sha256=" ++ encode_lower digest)
+
 -- what is found, in lines
 abbrev pub plain_text : Found → List ℕ
-plain_text (Read r digest) = report_text (reported_by r)
+plain_text (Read r digest) = report_text (reported_by r) ++ digest_text digest
 plain_text (Faulty f) = fault_entry f
 plain_text (Unopened exit) = as_line (codes "fault Open")
 
 -- what is printed for what is found under a name
 abbrev pub entry_text : Style → List ℕ → Found → List ℕ
-entry_text Plain name found = name_line name ++ plain_text found
+entry_text Plain name found = plain_text found
+entry_text Named name found = name_line name ++ plain_text found
 entry_text Json name found = as_line (compact_text (found_data name found))

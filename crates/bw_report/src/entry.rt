@@ -1,8 +1,9 @@
 //! What is printed for a file.
-ghost use Rattle.std.specs.Prelude.{◌≡◌, ◌++◌, IfOk, OnOk};
+ghost use Rattle.std.specs.Prelude.{◌≡◌, ◌++◌, Some, IfOk, OnOk};
 ghost use Rattle.bw_model.specs.Report.{report_text};
 ghost use Rattle.bw_inspect.specs.Reports.{reported_by};
-ghost use Rattle.bw_report.specs.Entries.{entry_text, fault_entry, name_byte, name_line};
+ghost use Rattle.bw_report.specs.Entries.{digest_text, entry_text, fault_entry, name_byte};
+ghost use Rattle.bw_report.specs.Entries.{name_line, plain_text};
 
 use crate::found::Found;
 use crate::json::json_line;
@@ -13,10 +14,21 @@ use std::alloc::{AllocError, Global};
 /// How what is found is printed.
 #[derive(Clone, Copy, Debug, PartialEq, Eq)]
 pub enum Style {
-    /// As lines of words, below a line with the file's name.
+    /// As lines of words.
     Plain,
+    /// The same below a line with the file's name.
+    Named,
     /// As one line of JSON.
     Json,
+}
+
+/// What is wanted of each file.
+#[derive(Clone, Copy, Debug, PartialEq, Eq)]
+pub struct Wanted {
+    /// How it is printed.
+    pub style: Style,
+    /// Whether the SHA-256 of its samples is among it.
+    pub digest: bool,
 }
 
 /// What is printed for what is found under a name.
@@ -35,7 +47,8 @@ pub fn entry_of(
     ensures { IfOk result (λ v. v.items ≡ entry_text style name.now found.now) }
 {
     match style {
-        Style::Plain => plain_entry(alloc, name, found),
+        Style::Plain => plain_entry(alloc, Vec::new(alloc), found),
+        Style::Named => named_entry(alloc, name, found),
         Style::Json => json_entry(alloc, name, found),
     }
 }
@@ -50,16 +63,50 @@ fn json_entry(alloc: Global, name: &str, found: &Found) -> Result<Vec<u8>, Alloc
     Ok(text)
 }
 
-fn plain_entry(alloc: Global, name: &str, found: &Found) -> Result<Vec<u8>, AllocError>
-    ensures { IfOk result (λ v. v.items ≡ entry_text Style.Plain name.now found.now) }
+fn named_entry(alloc: Global, name: &str, found: &Found) -> Result<Vec<u8>, AllocError>
+    ensures { IfOk result (λ v. v.items ≡ entry_text Style.Named name.now found.now) }
 {
     let mut text = Vec::new(alloc);
     put_name(alloc, &mut text, name)?;
+    plain_entry(alloc, text, found)
+}
+
+/// The text with the lines of what is found below it.
+fn plain_entry(alloc: Global, text: Vec<u8>, found: &Found) -> Result<Vec<u8>, AllocError>
+    ensures { IfOk result (λ v. v.items ≡ text.items ++ plain_text found.now) }
+{
     match found {
-        Found::Read { report, .. } => with_report(text, report),
+        Found::Read { report, digest } => {
+            let text = with_report(text, report)?;
+            with_digest(alloc, text, digest)
+        }
         Found::Faulty(fault) => with_fault(alloc, text, fault),
         Found::Unopened(_) => with_line(text, "fault Open\n"),
     }
+}
+
+/// The text with the line of a digest below it, if there is one.
+fn with_digest(
+    alloc: Global,
+    text: Vec<u8>,
+    digest: &Option<[u8; 32]>,
+) -> Result<Vec<u8>, AllocError>
+    ensures { IfOk result (λ v. v.items ≡ text.items ++ digest_text digest.now) }
+{
+    match digest {
+        Some(digest) => with_digits(alloc, text, digest),
+        None => Ok(text),
+    }
+}
+
+fn with_digits(alloc: Global, mut text: Vec<u8>, digest: &[u8]) -> Result<Vec<u8>, AllocError>
+    ensures { IfOk result (λ v. v.items ≡ text.items ++ digest_text (Some digest.now)) }
+{
+    let digits = hex::encode(alloc, digest)?;
+    text.extend_from_slice(b"sha256=")?;
+    text.extend_from_slice(digits.as_bytes())?;
+    text.extend_from_slice(b"\n")?;
+    Ok(text)
 }
 
 /// The text with the lines of a report below it.
@@ -74,7 +121,11 @@ fn with_report(text: Vec<u8>, report: &Report) -> Result<Vec<u8>, AllocError>
 }
 
 /// The text with the line of a fault below it.
-fn with_fault(alloc: Global, text: Vec<u8>, fault: &InspectFault) -> Result<Vec<u8>, AllocError>
+fn with_fault(
+    alloc: Global,
+    text: Vec<u8>,
+    fault: &InspectFault,
+) -> Result<Vec<u8>, AllocError>
     ensures { IfOk result (λ v. v.items ≡ text.items ++ fault_entry fault.now) }
 {
     let line = format!(in alloc; "fault {fault}\n")?;

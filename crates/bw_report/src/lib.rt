@@ -2,6 +2,7 @@
 #![tactic(auto)]
 
 mod bext;
+mod digest;
 mod entry;
 mod exits;
 mod files;
@@ -11,7 +12,8 @@ mod parts;
 mod time;
 mod value;
 
-pub use entry::{Style, entry_of};
+pub use digest::samples_digest;
+pub use entry::{Style, Wanted, entry_of};
 pub use files::inspect_files;
 pub use found::Found;
 pub use json::json_line;
