@@ -1,7 +1,7 @@
 -- Closed takes stay as they are, whatever turns follow.
 use Rattle.std.proofs.Common.{◌≡◌, ℕ, suc, zero, ◌≤◌, Bool, true, false, not, cond, ◌&&◌, List, [], ◌∷◌}
 use Rattle.std.proofs.Common.{take, Option, Some, None, refl, ◌∙◌, ap, subst, arith}
-use Rattle.std.specs.Prelude.{fold, nat_le}
+use Rattle.std.specs.Prelude.{fold}
 use Rattle.std.specs.List.{list_any, list_all}
 use Rattle.std.specs.Str.{bytes_eq}
 use Rattle.bw_model.specs.Take.{Take, Request, Open, Block, Mark, SetField, Verdict, Stored, Closed, BadFormat, NameTaken}
@@ -9,12 +9,11 @@ use Rattle.bw_model.specs.Take.{new_take, after, verdict}
 use Rattle.bw_model.specs.Take.{is_stored, is_format, is_history_byte, judge, judge_open, parts, with_request}
 use Rattle.bw_model.specs.Take.{Close as CloseRequest}
 use Rattle.bw_model.specs.Wire.{Message, Frame, Says, Asks, Bye}
-use Rattle.bw_model.specs.Replies.{Reply, TooFar, TableFull, NoRoom}
 use Rattle.bw_model.specs.Book.{Log, Book, log_of, is_known, step, run_end}
-use Rattle.bw_model.specs.Turn.{Faults, turn, turn_by, served, drained_to, admitted_after, window, is_full, is_admissible}
-use Rattle.bw_model.specs.Turn.{with_change, book_after, notice}
+use Rattle.bw_model.specs.Turn.{Faults, turn, turn_by, served, admitted_after, is_full, with_change, book_after}
 use Rattle.bw_model.specs.World.{is_close}
 use Rattle.bw_model.proofs.BookLemmas.{same_name, log-with_log_same, log-with_log_other}
+use Rattle.bw_delivery.proofs.TurnCases.{by_case, ends_between}
 
 -- Takes.
 
@@ -77,41 +76,24 @@ taken_refuses (CloseRequest total) e = cc
 
 -- Done numbers.
 
-later_done : (done end : ℕ) (stop : Option ℕ) → done ≤ end → done ≤ drained_to done end stop
-later_done done end None h = h
-later_done done end (Some k) h = omega arith
-
 served_done : (taken : Bool) (log : Log) (m : Message) (stop : Option ℕ) → log.done ≤ (served taken log m stop).1.done
 unfolding served
-served_done taken log m stop = later_done log.done (run_end (admitted_after log m) log.done) stop (omega arith)
+served_done taken log m stop = (ends_between log.done (run_end (admitted_after log m) log.done) stop (omega arith)).0
 
 own_done : (existed : List ℕ → Bool) (b : Book) (m : Message) (faults : Faults) →
     (log_of b m.name).done ≤ (log_of (turn existed b (Says m) faults).1 m.name).done
-unfolding turn turn_by
+unfolding turn
 own_done existed b m faults =
-    go (not (is_known b m.name) && nat_le window m.number) (not (is_known b m.name) && is_full b)
-    (is_admissible log m.number && faults.refused)
-  where
-    log : Log
-    log = log_of b m.name
-
-    x : List Reply × Log
-    x = served (existed m.name) log m faults.stop
-
-    Goal : List Reply × Option Log → Type 0
-    Goal y = log.done ≤ (log_of (with_change b m.name y.1) m.name).done
-
-    changed : Goal (x.0, Some x.1)
-    changed =
-        let more = served_done (existed m.name) log m faults.stop in
-        omega (arith, more, ap (λ (z : Log). z.done) (log-with_log_same b m.name x.1))
-
-    go : (u v w : Bool) → Goal (cond u (notice m TooFar 0, None) (cond v (notice m TableFull 0, None)
-        (cond w (notice m NoRoom log.done, None) (x.0, Some x.1))))
-    go true v w = omega arith
-    go false true w = omega arith
-    go false false true = omega arith
-    go false false false = changed
+    let log : Log = log_of b m.name in
+    let more = served_done (existed m.name) log m faults.stop in
+    by_case (existed m.name) (is_known b m.name) (is_full b) log m faults
+    (λ y. log.done ≤ (log_of (with_change b m.name y.1) m.name).done) (λ code next. omega arith)
+    (omega (
+      arith,
+      more,
+      ap (λ (z : Log). z.done)
+          (log-with_log_same b m.name (served (existed m.name) log m faults.stop).1),
+    ))
 
 turn_done : (existed : List ℕ → Bool) (b : Book) (f : Frame) (faults : Faults) (name : List ℕ) →
     (log_of b name).done ≤ (log_of (turn existed b f faults).1 name).done

@@ -26,6 +26,7 @@ use Rattle.bw_delivery.proofs.Elements.{each-contains}
 use Rattle.bw_delivery.proofs.DoneRequests.{within_requests, prefix_of_requests, made_of_requests}
 use Rattle.bw_delivery.proofs.SoundTurns.{ReportsDone, IsSoundStep, sound_step}
 use Rattle.bw_delivery.proofs.LinkLaws.{answered_are, heard_was_answered}
+use Rattle.bw_delivery.proofs.WholeTakes.{all_made}
 
 -- what a frame of the run is to the name
 abbrev IsOfEither : List ℕ → List Request → Answered → Type 0
@@ -38,6 +39,15 @@ reports_on taken name old new g r h n v e =
     let below : n < old.done = x.0 in
     let more = g.done in
     ((let b : n < new.done = omega (arith, below, more) in b), x.1 ∙ sym (g.verdicts n below))
+
+pub grows_on : (taken : Bool) (a b c : Log) → Grows taken a b → Grows taken b c → Grows taken a c
+grows_on taken a b c f g =
+    let d = f.done in
+    let e = g.done in
+    record {
+      done = omega (arith, d, e);
+      verdicts = λ n h. g.verdicts n (omega (arith, h, d)) ∙ f.verdicts n h;
+    }
 
 -- a run of such frames
 run_sound : (existed : List ℕ → Bool) (requests : List Request) (name : List ℕ) (b : Book) (ts : List (Frame × Faults)) →
@@ -53,14 +63,9 @@ run_sound existed requests name b (t ∷ ts) sound each =
     let old : Log = log_of b name in
     let mid : Log = log_of later name in
     let new : Log = log_of (book_after existed later ts) name in
-    let d = first.grows.done in
-    let e = rest.grows.done in
     record {
       sound = rest.sound;
-      grows = record {
-        done = omega (arith, d, e);
-        verdicts = λ n h. rest.grows.verdicts n (omega (arith, h, d)) ∙ first.grows.verdicts n h;
-      };
+      grows = grows_on (existed name) old mid new first.grows rest.grows;
       reported = each-append (ReportsDone (existed name) name new) (turn existed b t.0 t.1).0 _
           (each-map (ReportsDone (existed name) name mid) (ReportsDone (existed name) name new) (turn existed b t.0 t.1).0
           (reports_on (existed name) name mid new rest.grows) first.reported) rest.reported;
@@ -133,7 +138,7 @@ joined_frames name requests links trace j = all_of_own (IsOfEither name requests
 
 -- A delivery.
 
-had_sound : (requests : List Request) (b : Book) (name : List ℕ) → IsBook b → HasOnly requests (log_of b name) →
+pub had_sound : (requests : List Request) (b : Book) (name : List ℕ) → IsBook b → HasOnly requests (log_of b name) →
     IsSound requests (log_of b name)
 had_sound requests b name is had = record {
   admitted = had;
@@ -171,15 +176,4 @@ deliveries_true existed name requests links book later d =
 pub stored_whole : StoredDeliveriesAreWhole
 stored_whole existed name requests links book later d stored =
     let h = deliveries_true existed name requests links book later d in
-    let log : Log = log_of later name in
-    let most = h.within in
-    let least = at_least (length requests) refl in
-    let same : log.done ≡ length requests = omega (arith, most, least) in
-    (same, h.made ∙ ap (made_by (existed name)) (take_all log.done requests (omega (arith, same))))
-  where
-    at_least : (count : ℕ) → length requests ≡ count → length requests ≤ (log_of later name).done
-    at_least zero e = omega (arith, e)
-    at_least (suc n) e =
-        let h = deliveries_true existed name requests links book later d in
-        let below = (h.verdicts n Stored (stored n (omega (arith, e)))).0 in
-        omega (arith, e, below)
+    all_made (existed name) name requests later h.within h.made (λ n below. (h.verdicts n Stored (stored n below)).0)

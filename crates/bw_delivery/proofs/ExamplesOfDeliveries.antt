@@ -12,13 +12,23 @@ use Rattle.bw_model.specs.Replies.{Reply, Judged}
 use Rattle.bw_model.specs.ExampleWords.{a1, mono, two_frames, says, hex, close_2, judged_example}
 use Rattle.bw_model.specs.ExamplesOfWorlds.{small_take}
 use Rattle.bw_connections.specs.Keeping.{Tagged, own}
-use Rattle.bw_delivery.specs.Deliveries.{LinkBytes, IsOwnLink, IsOfAnother, HearsVerdict}
-use Rattle.bw_delivery.specs.ExamplesOfDeliveries.{cut_link, whole_link, worked_trace, worked_links}
+use Rattle.bw_delivery.specs.Deliveries.{LinkBytes, IsOwnLink, IsOfAnother, HearsVerdict, SaysRequests}
+use Rattle.bw_delivery.specs.ExamplesOfDeliveries.{all_said, cut_link, whole_link, worked_trace, worked_links}
 use Rattle.bw_delivery.specs.ExamplesOfDeliveries.{WorkedDeliveryExample}
 use Rattle.bw_delivery.proofs.Elements.{each-contains}
 
 none_some : {X : Type 0} {x : X} → None ≡ Some x → ⊥
 none_some e = cc
+
+-- the whole take is said
+pub take_said : SaysRequests a1 small_take all_said
+unfolding computing
+take_said = record {
+  frames = says 0 (Open mono []) ∷ says 1 (Block two_frames) ∷ says 2 (Close 2) ∷ [];
+  each = ((refl, refl), ((refl, refl), ((refl, refl), tt)));
+  spelled = refl;
+  part = ([], refl);
+}
 
 cut : IsOwnLink a1 small_take (own 0 worked_trace) cut_link
 unfolding computing
@@ -27,43 +37,19 @@ cut = record {
     there = (hex "00020261310100000001000200" ++ close_2, refl);
     back = (judged_example 0 0, refl);
   };
-  says = record {
-    frames = says 0 (Open mono []) ∷ says 1 (Block two_frames) ∷ says 2 (Close 2) ∷ [];
-    each = ((refl, refl), ((refl, refl), ((refl, refl), tt)));
-    spelled = refl;
-    part = ([], refl);
-  };
-  answers = record {
-    read = cut_link.received;
-    read_part = ([], refl);
-    first = ([], refl);
-    end = None;
-    spelled = refl;
-    part = ([], refl);
-  };
+  says = take_said;
+  answers = record { read = cut_link.received; read_part = ([], refl); first = ([], refl); end = None; spelled = refl; part = ([], refl) };
 }
 
 whole : IsOwnLink a1 small_take (own 2 worked_trace) whole_link
 unfolding computing
 whole = record {
   unchanged = record { there = ([], refl); back = ([], refl) };
-  says = record {
-    frames = says 0 (Open mono []) ∷ says 1 (Block two_frames) ∷ says 2 (Close 2) ∷ [];
-    each = ((refl, refl), ((refl, refl), ((refl, refl), tt)));
-    spelled = refl;
-    part = ([], refl);
-  };
-  answers = record {
-    read = whole_link.received;
-    read_part = ([], refl);
-    first = ([], refl);
-    end = None;
-    spelled = refl;
-    part = ([], refl);
-  };
+  says = take_said;
+  answers = record { read = all_said; read_part = ([], refl); first = ([], refl); end = None; spelled = refl; part = ([], refl) };
 }
 
-skipped : (n : ℕ) (ts : List Tagged) → AllByRecursion (λ t. (t.0 == n) ≡ false) ts → own n ts ≡ []
+pub skipped : (n : ℕ) (ts : List Tagged) → AllByRecursion (λ t. (t.0 == n) ≡ false) ts → own n ts ≡ []
 skipped n [] h = refl
 skipped n (t ∷ ts) h =
     ap (λ (v : Bool). map (λ x. x.1) (cond v (t ∷ filter (λ x. x.0 == n) ts) (filter (λ x. x.0 == n) ts))) h.0

@@ -3,9 +3,11 @@ pub mod Elements
 pub mod DoneRequests
 pub mod RunSteps
 pub mod RerunLaws
+pub mod TurnCases
 pub mod SoundTurns
 pub mod SpelledBytes
 pub mod LinkLaws
+pub mod WholeTakes
 pub mod DeliveryLaws
 pub mod ClosedLaws
 pub mod DeliveredFiles

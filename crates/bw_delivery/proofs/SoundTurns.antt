@@ -6,10 +6,10 @@ use Rattle.std.proofs.lemmas.Bool.{cases_lt, le-leb, le-ltb}
 use Rattle.bw_model.specs.Bytes.{at, put}
 use Rattle.bw_model.specs.Take.{Request, Verdict}
 use Rattle.bw_model.specs.Wire.{Message, Frame, Says, Asks, Bye}
-use Rattle.bw_model.specs.Replies.{Reply, Judged, Noticed, Notice, Held, TooFar, Conflict, TableFull, NoRoom}
+use Rattle.bw_model.specs.Replies.{Reply, Judged, Noticed, Notice, Held, TooFar, Conflict}
 use Rattle.bw_model.specs.Replies.{DelayedStore, Next}
 use Rattle.bw_model.specs.Book.{Log, Book, log_of, is_known, run_end, verdict_at}
-use Rattle.bw_model.specs.Turn.{Faults, turn, turn_by, served, own_reply, notice, window, is_admissible, admitted_after}
+use Rattle.bw_model.specs.Turn.{Faults, turn, served, own_reply, window, admitted_after}
 use Rattle.bw_model.specs.Turn.{drained_to, is_repeat, is_full, with_change}
 use Rattle.bw_model.proofs.BookLemmas.{log-with_log_same}
 use Rattle.bw_model.proofs.MapLemmas.{filled_to}
@@ -18,6 +18,7 @@ use Rattle.bw_model.proofs.TrueReplies.{IsSound, Grows, IsTrueReply, IsFaithfulS
 use Rattle.bw_model.proofs.OwnTurns.{own_message_true}
 use Rattle.bw_model.proofs.OtherTurns.{other_true}
 use Rattle.bw_delivery.specs.Deliveries.{IsOneOf, IsOfAnother}
+use Rattle.bw_delivery.proofs.TurnCases.{by_case, ends_between}
 
 -- a verdict on the name in a reply is that of a done number
 abbrev pub ReportsDone : Bool → List ℕ → Log → Reply → Type 0
@@ -77,15 +78,6 @@ far_own taken s done later end m far = go (nat_le (done + window) m.number) (le-
     go true e rest = refl
     go false e rest = absurd cc
 
--- where draining ends
-record EndsBetween (done end later : ℕ) : Type 0 where
-  from : done ≤ later
-  to : later ≤ end
-
-ends_between : (done end : ℕ) (stop : Option ℕ) → done ≤ end → EndsBetween done end (drained_to done end stop)
-ends_between done end None h = record { from = h; to = omega arith }
-ends_between done end (Some k) h = record { from = omega arith; to = omega arith }
-
 far_served : (taken : Bool) (requests : List Request) (log : Log) (m : Message) (stop : Option ℕ) →
     IsSound requests log → log.done + window ≤ m.number →
     IsSoundStep taken requests m.name log (served taken log m stop).1 (served taken log m stop).0
@@ -101,15 +93,15 @@ far_served taken requests log m stop sound far =
       sound = record {
         admitted = λ n r h. sound.admitted n r (ap (λ (z : List (Option Request)). at z n) (sym same) ∙ h);
         filled = filled_to s log.done later
-            (λ k b. let x = sound.filled k b in (x.0, ap (λ (z : List (Option Request)). at z k) same ∙ x.1)) d.to;
+            (λ k b. let x = sound.filled k b in (x.0, ap (λ (z : List (Option Request)). at z k) same ∙ x.1)) d.1;
       };
       grows = record {
-        done = d.from;
+        done = d.0;
         verdicts = λ n b. ap (λ (z : List (Option Request)). verdict_at taken z n) same;
       };
       reported = each-append (ReportsDone taken m.name new) _ _
           (each-map (IsTrueReply taken m.name new) (ReportsDone taken m.name new) _ (λ r t. t.judged)
-          (verdicts_true taken m.name new log.done (later - log.done) (let f = d.from in omega (arith, f))))
+          (verdicts_true taken m.name new log.done (later - log.done) (let f = d.0 in omega (arith, f))))
           (subst (Each (ReportsDone taken m.name new)) (sym (far_own taken s log.done later end m far))
           (notice_reports taken m.name m.name new m.number later TooFar, tt));
     }
@@ -119,36 +111,17 @@ far_message : (existed : List ℕ → Bool) (requests : List Request) (b : Book)
     IsSound requests (log_of b m.name) → (log_of b m.name).done + window ≤ m.number →
     IsSoundStep (existed m.name) requests m.name (log_of b m.name)
     (log_of (turn existed b (Says m) faults).1 m.name) (turn existed b (Says m) faults).0
-unfolding turn turn_by
+unfolding turn
 far_message existed requests b m faults sound far =
-    go (not (is_known b m.name) && nat_le window m.number) (not (is_known b m.name) && is_full b)
-    (is_admissible log m.number && faults.refused)
-  where
-    log : Log
-    log = log_of b m.name
-
-    x : List Reply × Log
-    x = served (existed m.name) log m faults.stop
-
-    Goal : List Reply × Option Log → Type 0
-    Goal y = IsSoundStep (existed m.name) requests m.name log (log_of (with_change b m.name y.1) m.name) y.0
-
-    noticed : (code : Notice) (next : ℕ) → Goal (Noticed m.name m.number code next ∷ [], None)
-    noticed code next = same_log (existed m.name) requests m.name log _ sound
-        (notice_reports (existed m.name) m.name m.name log m.number next code, tt)
-
-    changed : Goal (x.0, Some x.1)
-    changed =
-        subst (λ (l : Log). IsSoundStep (existed m.name) requests m.name log l x.0)
-        (sym (log-with_log_same b m.name x.1))
-        (far_served (existed m.name) requests log m faults.stop sound far)
-
-    go : (u v w : Bool) → Goal (cond u (notice m TooFar 0, None) (cond v (notice m TableFull 0, None)
-        (cond w (notice m NoRoom log.done, None) (x.0, Some x.1))))
-    go true v w = noticed TooFar 0
-    go false true w = noticed TableFull 0
-    go false false true = noticed NoRoom log.done
-    go false false false = changed
+    let taken : Bool = existed m.name in
+    let log : Log = log_of b m.name in
+    let x : List Reply × Log = served taken log m faults.stop in
+    by_case taken (is_known b m.name) (is_full b) log m faults
+    (λ y. IsSoundStep taken requests m.name log (log_of (with_change b m.name y.1) m.name) y.0)
+    (λ code next. same_log taken requests m.name log _ sound
+    (notice_reports taken m.name m.name log m.number next code, tt))
+    (subst (λ (l : Log). IsSoundStep taken requests m.name log l x.0) (sym (log-with_log_same b m.name x.1))
+    (far_served taken requests log m faults.stop sound far))
 
 -- a message that is one of the requests
 own_message : (existed : List ℕ → Bool) (requests : List Request) (b : Book) (m : Message) (faults : Faults) →

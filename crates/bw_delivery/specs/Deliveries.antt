@@ -121,20 +121,20 @@ HeardOverLinks links name n v =
     (k : ℕ) × (l : LinkBytes) × Contains links (k, l) × HearsVerdict name n v l.heard
 
 -- The done numbers are the first of the requests, the take is what these make, each applied once in
--- their order, and each verdict that came is that of a done number.
+-- their order, and each verdict that came (`Heard`) is that of a done number.
 pub record IsDelivered (existed : List ℕ → Bool) (name : List ℕ) (requests : List Request)
-    (links : List (ℕ × LinkBytes)) (log : Log) (later : Book) : Type 0 where
+    (Heard : ℕ → Verdict → Type 0) (log : Log) (later : Book) : Type 0 where
   pub within : log.done ≤ length requests
   pub prefix : take log.done log.admitted ≡ map Some (take log.done requests)
   pub made : take_in (existed name) later name ≡ made_by (existed name) (take log.done requests)
-  pub verdicts : (n : ℕ) (v : Verdict) → HeardOverLinks links name n v →
+  pub verdicts : (n : ℕ) (v : Verdict) → Heard n v →
       (n < log.done) × (v ≡ verdict_at (existed name) log.admitted n)
 
 abbrev pub DeliveriesAreTrue : Type 0
 DeliveriesAreTrue = (existed : List ℕ → Bool) (name : List ℕ) (requests : List Request)
     (links : List (ℕ × LinkBytes)) (book later : Book) →
     IsDelivery existed name requests links book later →
-    IsDelivered existed name requests links (log_of later name) later
+    IsDelivered existed name requests (HeardOverLinks links name) (log_of later name) later
 
 -- each of these requests was heard to be stored
 abbrev pub EachHeardStored : List (ℕ × LinkBytes) → List ℕ → List Request → Type 0

@@ -33,7 +33,7 @@ use Rattle.bw_send.proofs.OfferSteps.{taken, refused, all_taken, all_refused}
 use Rattle.bw_delivery.specs.Deliveries.{LinkBytes, IsPartOf, SaysRequests, HearsVerdict, HeardOverLinks}
 use Rattle.bw_end_to_end.specs.UsedLinks.{UsedLink, AreSenderEnds}
 use Rattle.bw_end_to_end.specs.SentInRounds.{link_in_round, links_in_rounds, RoundsSendRequests}
-use Rattle.bw_end_to_end.proofs.SaidRequests.{IsOffered, AreSpelled, all_numbers, batch_says}
+use Rattle.bw_end_to_end.proofs.SaidRequests.{IsOffered, AreSpelled, all_numbers, batch_says, only_now}
 
 -- Offers.
 
@@ -125,11 +125,8 @@ more_verdicts x = go x.is_stopped
 -- Replies.
 
 hear_name : (s : Sender) (r : Reply) → (hear s r).name ≡ s.name
-hear_name s (Judged x k w) = go (is_counted s x k)
-  where
-    go : (b : Bool) → (cond b (record s { verdicts = put s.verdicts k w }) s).name ≡ s.name
-    go true = refl
-    go false = refl
+hear_name s (Judged x k w) = elim (is_counted s x k)
+    as (λ b. (cond b (record s { verdicts = put s.verdicts k w }) s).name ≡ s.name) [ true ↦ refl | false ↦ refl ]
 hear_name s (Noticed x k code next) = refl
 hear_name s (Refused reason place) = refl
 
@@ -352,15 +349,8 @@ module _ {D R W : Type 0} (dial : DialGhosts D R W) (reader : Reader R) (writer 
         verdicts_are = refl;
       })
       (record { named = named; each = each }) ends in
-      record { says = first.says; heard = λ n v e. over n v (first.heard n v (same n v went.ends e)) }
+      record { says = first.says; heard = λ n v e. only_now n v (first.heard n v (same n v went.ends e)) }
     where
-      none_some : {X : Type 0} {x : X} → None ≡ Some x → ⊥
-      none_some e = cc
-
-      over : (n : ℕ) (v : Verdict) → (at [] n ≡ Some v) ⊎ HeardOverLinks links name n v → HeardOverLinks links name n v
-      over n v (inl k) = absurd (none_some k)
-      over n v (inr k) = k
-
       same : (n : ℕ) (v : Verdict) →
           ((length went.heard ≡ rounds) × (last ≡ went.following))
           ⊎ ((length went.heard < rounds) × (last ≡ offer_more went.following) × IsSettled last) →

@@ -1,14 +1,16 @@
 -- What a sender says are its requests.
 use Rattle.std.proofs.Common.{◌≡◌, ℕ, suc, zero, ◌+◌, ◌<◌, ◌≤◌, Bool, true, ◌&&◌, List, [], ◌∷◌, ◌++◌, length}
-use Rattle.std.proofs.Common.{Option, Some, None, refl, sym, ◌∙◌, ap, arith}
+use Rattle.std.proofs.Common.{Option, Some, None, refl, sym, ◌∙◌, ap, arith, ◌⊎◌, inl, inr}
 use Rattle.std.specs.Prelude.{slice_get, nat_le}
 use Rattle.std.specs.List.{AllByRecursion, list_all}
 use Rattle.std.proofs.lemmas.Bool.{and_parts, and_from, le-leb}
 use Rattle.std.proofs.lemmas.List.Folds.{list_all-append}
+use Rattle.bw_model.specs.Bytes.{at}
 use Rattle.bw_model.specs.Take.{Request, Verdict}
 use Rattle.bw_model.specs.Wire.{Second, Bye, is_frame, is_name, is_request, last_number}
 use Rattle.bw_model.specs.World.{Sender, pending_from}
 use Rattle.bw_model.specs.Stream.{frames_bytes}
+use Rattle.bw_model.proofs.Elements.{get-below}
 use Rattle.bw_wire.specs.Encoded.{said}
 use Rattle.bw_engine.specs.Batches.{messages, pending_messages, batch}
 use Rattle.bw_delivery.specs.Deliveries.{IsOneOf, IsPartOf, SaysRequests}
@@ -29,32 +31,21 @@ pub record AreSpelled (name : List ℕ) (requests : List Request) : Type 0 where
   pub each : list_all is_request requests ≡ true
 
 get-append : {X : Type 0} (xs ys : List X) (k : ℕ) (x : X) → slice_get xs k ≡ Some x → slice_get (xs ++ ys) k ≡ Some x
-get-append [] ys k x e = absurd (none e)
-  where
-    none : {X : Type 0} {x : X} → None ≡ Some x → ⊥
-    none e = cc
+get-append [] ys k x e = let bad : None ≡ Some x = e in cc
 get-append (z ∷ zs) ys zero x e = e
 get-append (z ∷ zs) ys (suc k) x e = get-append zs ys k x e
 
-get-below : {X : Type 0} (xs : List X) (k : ℕ) (x : X) → slice_get xs k ≡ Some x → k < length xs
-get-below [] k x e = absurd (none e)
-  where
-    none : {X : Type 0} {x : X} → None ≡ Some x → ⊥
-    none e = cc
-get-below (z ∷ zs) zero x e = omega arith
-get-below (z ∷ zs) (suc k) x e = let h : k < length zs = get-below zs k x e in omega arith
-
 list_all-get : {X : Type 0} (p : X → Bool) (xs : List X) (k : ℕ) (x : X) → list_all p xs ≡ true →
     slice_get xs k ≡ Some x → p x ≡ true
-list_all-get p [] k x h e = absurd (none e)
-  where
-    none : {X : Type 0} {x : X} → None ≡ Some x → ⊥
-    none e = cc
-list_all-get p (y ∷ ys) zero x h e = ap p (inj (sym e)) ∙ (and_parts (p y) (list_all p ys) h).0
-  where
-    inj : {X : Type 0} {x y : X} → Some x ≡ Some y → x ≡ y
-    inj e = cc
+list_all-get p [] k x h e = let bad : None ≡ Some x = e in cc
+list_all-get p (y ∷ ys) zero x h e =
+    let same : x ≡ y = (let found : Some y ≡ Some x = e in cc) in ap p same ∙ (and_parts (p y) (list_all p ys) h).0
 list_all-get p (y ∷ ys) (suc k) x h e = list_all-get p ys k x (and_parts (p y) (list_all p ys) h).1 e
+
+-- at first no verdict was heard before
+pub only_now : {H : Type 0} (n : ℕ) (v : Verdict) → (at [] n ≡ Some v) ⊎ H → H
+only_now n v (inl before) = let bad : None ≡ Some v = before in cc
+only_now n v (inr now) = now
 
 -- each request without a verdict is one that was offered
 pub pending_are : (P : ℕ × Request → Type 0) (n : ℕ) (rs : List Request) (vs : List (Option Verdict)) →

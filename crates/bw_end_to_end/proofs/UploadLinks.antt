@@ -23,7 +23,7 @@ use Rattle.bw_upload.specs.declared.observer.LinkEnd.TheVariants as ends
 use Rattle.bw_delivery.specs.Deliveries.{LinkBytes, SaysRequests, HeardOverLinks}
 use Rattle.bw_end_to_end.specs.UsedLinks.{UsedLink, AreSenderEnds}
 use Rattle.bw_end_to_end.specs.UploadedLinks.{used_link, open_link, writer_left, links_in_course, UploadsSendRequests}
-use Rattle.bw_end_to_end.proofs.SaidRequests.{IsOffered, AreSpelled, all_numbers}
+use Rattle.bw_end_to_end.proofs.SaidRequests.{IsOffered, AreSpelled, all_numbers, only_now}
 use Rattle.bw_end_to_end.proofs.RoundLinks.{heard_all}
 use Rattle.bw_end_to_end.proofs.CourseSteps.{fill_offers, course_offers}
 use Rattle.bw_end_to_end.proofs.UsedLines.{IsUsedFrom, Took, used_new, used_says, used_breaks, used_hears}
@@ -269,11 +269,4 @@ module _ {F P D R W X : Type 0} (feed : FeedGhosts F X) (pause : PauseGhosts P)
   uploads_send name sender outcome f f' p p' d d' went requests rest links whole named each ends =
       let h = course_sends feed pause dial reader writer most name requests went.events _ went.last went.went None links rest
       tt refl (omega arith) whole (record { named = named; each = each }) ends in
-      record { says = h.says; heard = λ n v e. over n v (h.heard n v e) }
-    where
-      none_some : {X : Type 0} {x : X} → None ≡ Some x → ⊥
-      none_some e = cc
-
-      over : (n : ℕ) (v : Verdict) → (at [] n ≡ Some v) ⊎ HeardOverLinks links name n v → HeardOverLinks links name n v
-      over n v (inl k) = absurd (none_some k)
-      over n v (inr k) = k
+      record { says = h.says; heard = λ n v e. only_now n v (h.heard n v e) }

@@ -14,7 +14,7 @@ use Rattle.bw_session.specs.ServerTurns.{ServerTurn}
 use Rattle.bw_session.specs.declared.server.Server.{Server}
 use Rattle.bw_connections.specs.Keeping.{Tagged, all_answered, own}
 use Rattle.bw_delivery.specs.Deliveries.{LinkBytes, IsTrueLink, AnswersOver, IsOfAnother, HasOnly}
-use Rattle.bw_delivery.specs.Deliveries.{IsDelivered}
+use Rattle.bw_delivery.specs.Deliveries.{HeardOverLinks, IsDelivered}
 use Rattle.bw_end_to_end.specs.UsedLinks.{HasAllStored, SendsOver}
 
 -- These are the sender's links to a server that answered these frames: each end of each was given a
@@ -49,7 +49,8 @@ module _ {X Y : Type 0} (S : StoreGhosts X) (J : JournalGhosts Y) where
       (old new : Server X Y S J) →
       ServesSender first name requests verdicts links trace old new →
       (later : Book) × HoldsBook S J first new later
-      × IsDelivered (λ n. is_some (first n)) name requests links (log_of later name) later
+      × IsDelivered (λ n. is_some (first n)) name requests (HeardOverLinks links name)
+      (log_of later name) later
       × (HasAllStored requests verdicts → ((log_of later name).done ≡ length requests)
       × (take_in (is_some (first name)) later name ≡ made_by (is_some (first name)) requests))
 

@@ -20,6 +20,7 @@ use Rattle.bw_exchange.specs.Answering.{Answered}
 use Rattle.bw_connections.specs.Keeping.{Tagged, own}
 use Rattle.bw_delivery.specs.Deliveries.{LinkBytes, IsOwnLink, IsOfAnother, IsDelivery, HasOnly, HearsVerdict}
 use Rattle.bw_delivery.proofs.Elements.{each-contains}
+use Rattle.bw_delivery.proofs.ExamplesOfDeliveries.{skipped, take_said}
 use Rattle.bw_restarts.specs.Restarts.{ServerLife, GoesOnFrom, HeardInLives}
 use Rattle.bw_restarts.specs.ExamplesOfRestarts.{first_life, second_life, StoppedServerExample}
 use Rattle.bw_restarts.proofs.LifeLaws.{cuts_go_on}
@@ -33,12 +34,6 @@ first_trace = answers 0 (says 0 (Open mono [])) ∷ answers 1 (says 1 (Block two
 
 abbrev second_trace : List Tagged
 second_trace = answers 1 (says 1 (Block two_frames)) ∷ answers 2 (says 2 (Close 2)) ∷ []
-
-skipped : (n : ℕ) (ts : List Tagged) → AllByRecursion (λ t. (t.0 == n) ≡ false) ts → own n ts ≡ []
-skipped n [] h = refl
-skipped n (t ∷ ts) h =
-    ap (λ (v : Bool). map (λ x. x.1) (cond v (t ∷ filter (λ x. x.0 == n) ts) (filter (λ x. x.0 == n) ts))) h.0
-    ∙ skipped n ts h.1
 
 abbrev one_link : LinkBytes → List (ℕ × LinkBytes)
 one_link l = (0, l) ∷ []
@@ -82,20 +77,8 @@ first_own : IsOwnLink a1 small_take (own 0 first_trace) first_link
 unfolding computing
 first_own = record {
   unchanged = record { there = (close_2, refl); back = (judged_example 1 0, refl) };
-  says = record {
-    frames = says 0 (Open mono []) ∷ says 1 (Block two_frames) ∷ says 2 (Close 2) ∷ [];
-    each = ((refl, refl), ((refl, refl), ((refl, refl), tt)));
-    spelled = refl;
-    part = ([], refl);
-  };
-  answers = record {
-    read = open_0 ++ block_1;
-    read_part = ([], refl);
-    first = ([], refl);
-    spelled = refl;
-    end = None;
-    part = ([], refl);
-  };
+  says = take_said;
+  answers = record { read = open_0 ++ block_1; read_part = ([], refl); first = ([], refl); end = None; spelled = refl; part = ([], refl) };
 }
 
 second_own : IsOwnLink a1 small_take (own 0 second_trace) second_link
@@ -108,14 +91,7 @@ second_own = record {
     spelled = refl;
     part = ([], refl);
   };
-  answers = record {
-    read = block_1 ++ close_2;
-    read_part = ([], refl);
-    first = ([], refl);
-    spelled = refl;
-    end = None;
-    part = ([], refl);
-  };
+  answers = record { read = block_1 ++ close_2; read_part = ([], refl); first = ([], refl); end = None; spelled = refl; part = ([], refl) };
 }
 
 began_book : IsBook second_life.began

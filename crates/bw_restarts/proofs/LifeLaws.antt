@@ -14,7 +14,8 @@ use Rattle.bw_model.proofs.BookLaws.{is_servable}
 use Rattle.bw_model.proofs.MapLemmas.{at-first_free}
 use Rattle.bw_journal.proofs.CutLaws.{logs_cut}
 use Rattle.bw_delivery.specs.Deliveries.{HasOnly, HeardOverLinks}
-use Rattle.bw_delivery.proofs.DeliveryLaws.{delivery_step, deliveries_true}
+use Rattle.bw_delivery.proofs.DeliveryLaws.{delivery_step, deliveries_true, grows_on, had_sound}
+use Rattle.bw_delivery.proofs.WholeTakes.{all_made}
 use Rattle.bw_delivery.proofs.DoneRequests.{AreFirst, first_prefix, sound_first, within_requests, prefix_of_requests}
 use Rattle.bw_delivery.proofs.DoneRequests.{made_of_requests}
 use Rattle.bw_restarts.specs.Restarts.{ServerLife, GoesOnFrom, AreLives, HeardInLives, LivesDeliver}
@@ -59,23 +60,6 @@ goes_on_grows taken requests name left began g sound next =
           (sound_first requests (log_of left name) sound) n below;
     }
 
-pub grows_on : (taken : Bool) (a b c : Log) → Grows taken a b → Grows taken b c → Grows taken a c
-grows_on taken a b c f g =
-    let d = f.done in
-    let e = g.done in
-    record {
-      done = omega (arith, d, e);
-      verdicts = λ n h. g.verdicts n (omega (arith, h, d)) ∙ f.verdicts n h;
-    }
-
-began_sound : (requests : List Request) (b : Book) (name : List ℕ) → IsBook b → HasOnly requests (log_of b name) →
-    IsSound requests (log_of b name)
-began_sound requests b name is had = record {
-  admitted = had;
-  filled = λ k below. let all = (is_servable b name is).all_done in
-      at-first_free (log_of b name).admitted k (omega (arith, all, below));
-}
-
 pub lives_keep : (existed : List ℕ → Bool) (name : List ℕ) (requests : List Request) (lives : List ServerLife)
     (before after : Book) → AreLives existed name requests before lives after → IsSound requests (log_of before name) →
     KeepsLog (existed name) name requests lives (log_of before name) (log_of after name)
@@ -94,7 +78,7 @@ lives_keep existed name requests (life ∷ lives) before after went sound =
     let began : Log = log_of life.began name in
     let left : Log = log_of life.left name in
     let new : Log = log_of after name in
-    let next = began_sound requests life.began name went.1.is_book went.1.had in
+    let next = had_sound requests life.began name went.1.is_book went.1.had in
     let kept = delivery_step existed name requests life.links life.began life.left went.1 in
     let told = deliveries_true existed name requests life.links life.began life.left went.1 in
     let more = lives_keep existed name requests lives life.left after went.2 kept.sound in
@@ -153,18 +137,7 @@ lives_deliver existed name requests lives after went =
 pub stored_lives : StoredLivesAreWhole
 stored_lives existed name requests lives after went stored =
     let h = lives_deliver existed name requests lives after went in
-    let log : Log = log_of after name in
-    let most = h.within in
-    let least = at_least (length requests) refl in
-    let same : log.done ≡ length requests = omega (arith, most, least) in
-    (same, h.made ∙ ap (made_by (existed name)) (take_all log.done requests (omega (arith, same))))
-  where
-    at_least : (count : ℕ) → length requests ≡ count → length requests ≤ (log_of after name).done
-    at_least zero e = omega (arith, e)
-    at_least (suc n) e =
-        let h = lives_deliver existed name requests lives after went in
-        let below = (h.verdicts n Stored (stored n (omega (arith, e)))).0 in
-        omega (arith, e, below)
+    all_made (existed name) name requests after h.within h.made (λ n below. (h.verdicts n Stored (stored n below)).0)
 
 at_take : (s : List (Option Request)) (k n : ℕ) (r : Request) → at (take k s) n ≡ Some r → at s n ≡ Some r
 at_take [] zero n r e = e

@@ -1,18 +1,17 @@
 -- A sender's links to servers that follow one another over one folder.
-use Rattle.std.specs.Prelude.{◌≡◌, ◌<◌, ◌≤◌, ℕ, Bool, false, Option, Some, IsTrue, List, [], ◌∷◌, length}
-use Rattle.std.specs.Prelude.{map, take}
+use Rattle.std.specs.Prelude.{◌≡◌, ◌<◌, ℕ, Bool, false, Option, Some, IsTrue, List, [], ◌∷◌, length}
 use Rattle.std.specs.List.{Contains, list_any}
 use Rattle.bw_model.specs.Bytes.{at}
 use Rattle.bw_model.specs.Take.{Request, Verdict, Stored}
 use Rattle.bw_model.specs.File.{file_of}
 use Rattle.bw_model.specs.Wire.{Frame}
-use Rattle.bw_model.specs.Book.{Log, Book, log_of, made_by, verdict_at}
+use Rattle.bw_model.specs.Book.{Book, log_of, made_by}
 use Rattle.bw_model.specs.Turn.{Faults, book_after}
 use Rattle.bw_model.specs.Exchange.{take_in}
 use Rattle.bw_model.specs.Holds.{Store, Kept, Holds}
 use Rattle.bw_model.specs.World.{is_close}
 use Rattle.bw_journal.specs.Stops.{cut_book}
-use Rattle.bw_delivery.specs.Deliveries.{LinkBytes, IsDelivery, HeardOverLinks, stands_in}
+use Rattle.bw_delivery.specs.Deliveries.{LinkBytes, IsDelivered, IsDelivery, HeardOverLinks, stands_in}
 
 -- A server: the book that it began from, the one that it left, and the sender's links to it.
 pub record ServerLife : Type 0 where
@@ -46,18 +45,10 @@ HeardInLives lives name n v =
 
 -- Under the name the done numbers are the first of the requests, the take is what they make, and
 -- each verdict that came, from whichever server, is that of a done number.
-pub record AreDelivered (existed : List ℕ → Bool) (name : List ℕ) (requests : List Request)
-    (lives : List ServerLife) (log : Log) (after : Book) : Type 0 where
-  pub within : log.done ≤ length requests
-  pub prefix : take log.done log.admitted ≡ map Some (take log.done requests)
-  pub made : take_in (existed name) after name ≡ made_by (existed name) (take log.done requests)
-  pub verdicts : (n : ℕ) (v : Verdict) → HeardInLives lives name n v →
-      (n < log.done) × (v ≡ verdict_at (existed name) log.admitted n)
-
 abbrev pub LivesDeliver : Type 0
 LivesDeliver = (existed : List ℕ → Bool) (name : List ℕ) (requests : List Request)
     (lives : List ServerLife) (after : Book) → AreLives existed name requests [] lives after →
-    AreDelivered existed name requests lives (log_of after name) after
+    IsDelivered existed name requests (HeardInLives lives name) (log_of after name) after
 
 -- each of these requests was heard to be stored, from whichever server
 abbrev pub EachStoredInLives : List ServerLife → List ℕ → List Request → Type 0
