@@ -227,13 +227,13 @@ module _ {F P D R W X : Type 0} (feed : FeedGhosts F X) (pause : PauseGhosts P) 
       OffersFeed s requests (says_done outcome) y.filling.sender
   feeds_so es s requests f p d y outcome went rightly left =
       let so = fed_chain es s requests (starts s f p d) y went (fed_first s requests f p d left) in
+      let is : says_done outcome ≡ true → is_done y.filling.sender y.filling.is_ended ≡ true = λ done.
+      (both (is_done y.filling.sender y.filling.is_ended) _ (sym (rightly (not_memory outcome done)) ∙ done)).0 in
       record {
         given = so.given;
         rest = so.rest;
         all = so.all;
         offered = so.offered;
-        none_left = λ done. so.over
-            (done_so y.filling.sender y.filling.is_ended (sym (rightly (not_memory outcome done)) ∙ done)).0;
-        stored = λ done.
-            (done_so y.filling.sender y.filling.is_ended (sym (rightly (not_memory outcome done)) ∙ done)).1;
+        none_left = λ done. so.over (done_so y.filling.sender y.filling.is_ended (is done)).0;
+        stored = λ done. (done_so y.filling.sender y.filling.is_ended (is done)).1;
       }

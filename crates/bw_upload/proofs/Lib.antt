@@ -3,5 +3,6 @@ mod TurnSteps
 mod FillSteps
 mod Lifting
 mod FeedSteps
+mod FinalSteps
 mod VisitSteps
 mod LinkSteps

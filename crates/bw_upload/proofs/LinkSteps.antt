@@ -2,7 +2,7 @@
 use Rattle.std.proofs.Common.{◌≡◌, ◌⊎◌, ℕ, suc, ◌+◌, ◌-◌, ◌^◌, ◌≤◌, Bool, true, false, List, [], ◌∷◌, ◌++◌, length, map}
 use Rattle.std.proofs.Common.{Option, Some, None, Ok, Err, refl, sym, ap, subst, ◌∙◌, append_assoc, arith, inl, inr}
 use Rattle.std.specs.Prelude.{is_none, ◌&&◌, ◌==◌, nat_lt, if◌then◌else◌}
-use Rattle.std.proofs.Math.Bool.{and-false}
+use Rattle.std.proofs.Math.Bool.{and-false, and-true}
 use Rattle.std.proofs.lemmas.Bool.{eqb-true, le-ltb}
 use Rattle.std.proofs.lemmas.List.{length-append}
 use Rattle.bw_model.specs.Take.{Verdict}
@@ -21,6 +21,7 @@ use Rattle.bw_upload.specs.Chains.{Chain}
 use Rattle.bw_upload.specs.Conversing.{new_line}
 use Rattle.bw_upload.specs.Courses.{Course, CourseStep, UploadEvent, Fills, Misses, Makes, Leaves, fruitless_after, starts}
 use Rattle.bw_upload.specs.Filling.{Filling, FillEvent, FillStep, is_done}
+use Rattle.bw_upload.specs.FinalStops.{final_stop, final_stops, named_stop}
 use Rattle.bw_upload.specs.Links.{says_done, EndsFilled, Prepares, EndsUpload, DialsNext}
 use Rattle.bw_upload.specs.Links.{LinkAsked, end_of_link, WaitsBefore}
 use Rattle.bw_upload.specs.Stopping.{StopsFeed}
@@ -36,6 +37,7 @@ use Rattle.bw_upload.specs.declared.supply.Supply.{Supply}
 use Rattle.bw_upload.proofs.ChainSteps.{chain_on}
 use Rattle.bw_upload.proofs.Lifting.{lift_fill, with_filling}
 use Rattle.bw_upload.proofs.FeedSteps.{feeds_so}
+use Rattle.bw_upload.proofs.FinalSteps.{finals_on, fills_finals}
 use Rattle.bw_upload.proofs.VisitSteps.{still_some, undone_open}
 
 -- ---- refusals
@@ -61,7 +63,38 @@ fills_len : (es : List FillEvent) → length (map Fills es) ≡ length es
 fills_len [] = refl
 fills_len (e ∷ es) = ap suc (fills_len es)
 
+-- where no reply that ends an upload is named
+rightly_of : {X : Type 0} (outcome : Outcome X) (done : Bool) → named_stop outcome ≡ [] → says_done outcome ≡ done →
+    says_done outcome ≡ (done && (length (named_stop outcome) == 0))
+rightly_of outcome done none says =
+    says ∙ sym (and-true done) ∙ sym (ap (λ (l : List Stop). done && (length l == 0)) none)
+
 module _ {F P X : Type 0} (feed : FeedGhosts F X) (pause : PauseGhosts P) (most : Option ℕ) where
+  -- what stops the feed names no reply, and neither does what ends an upload before a link
+  stop_names : (outcome : Outcome X) (y : Filling F P) (f : F) → StopsFeed feed pause outcome y f →
+      named_stop outcome ≡ []
+  stop_names outcomes.Done y f s = refl
+  stop_names (outcomes.Refused n v) y f s = refl
+  stop_names (outcomes.Conflict n) y f s = absurd s
+  stop_names (outcomes.TooFar n) y f s = absurd s
+  stop_names (outcomes.NotOffered error) y f s = refl
+  stop_names outcomes.Fruitless y f s = refl
+  stop_names (outcomes.Feed fault) y f s = refl
+  stop_names outcomes.Memory y f s = refl
+  stop_names outcomes.Limit y f s = refl
+
+  filled_names : (outcome : Outcome X) (n count : ℕ) (y : Filling F P) (f : F) →
+      EndsFilled feed pause most outcome n count y f → named_stop outcome ≡ []
+  filled_names outcomes.Done n count y f e = refl
+  filled_names (outcomes.Refused m v) n count y f e = refl
+  filled_names (outcomes.Conflict m) n count y f e = absurd e
+  filled_names (outcomes.TooFar m) n count y f e = absurd e
+  filled_names (outcomes.NotOffered error) n count y f e = refl
+  filled_names outcomes.Fruitless n count y f e = refl
+  filled_names (outcomes.Feed fault) n count y f e = refl
+  filled_names outcomes.Memory n count y f e = refl
+  filled_names outcomes.Limit n count y f e = refl
+
   -- what stops the feed doesn't say that all is done
   pub stop_says : (outcome : Outcome X) (y : Filling F P) (f : F) → StopsFeed feed pause outcome y f →
       says_done outcome ≡ false
@@ -100,7 +133,7 @@ module _ {F P X : Type 0} (feed : FeedGhosts F X) (pause : PauseGhosts P) (most 
       is.sender,
       is.pause,
       (r.0, r.1, is.feed),
-      λ other. sym (refused_undone x.sender x.is_ended _ r.0 r.1),
+      λ other. rightly_of {X = X} (outcomes.Refused m v) _ refl (sym (refused_undone x.sender x.is_ended _ r.0 r.1)),
     );
   }
   prep_refused outcomes.Done n x supply f p is r = absurd r
@@ -122,7 +155,8 @@ module _ {F P X : Type 0} (feed : FeedGhosts F X) (pause : PauseGhosts P) (most 
       u.by.0,
       u.by.2,
       stop_ends outcome n (length u.events) u.after f u.by.3 u.by.4,
-      λ other. stop_says outcome u.after f u.by.3 ∙ sym (undone_open u.after.sender u.after.is_ended u.by.1),
+      λ other. rightly_of outcome _ (stop_names outcome u.after f u.by.3)
+          (stop_says outcome u.after f u.by.3 ∙ sym (undone_open u.after.sender u.after.is_ended u.by.1)),
     );
   }
 
@@ -133,7 +167,12 @@ module _ {F P X : Type 0} (feed : FeedGhosts F X) (pause : PauseGhosts P) (most 
     events = u.events;
     after = u.after;
     went = u.went;
-    by = (u.by.0.sender, u.by.0.pause, u.by.0.feed, λ other. sym done);
+    by = (
+      u.by.0.sender,
+      u.by.0.pause,
+      u.by.0.feed,
+      λ other. rightly_of {X = X} outcomes.Done _ refl (sym done),
+    );
   }
 
   pub prep_spent : (n : ℕ) (x : Filling F P) (supply : Supply) (f : F) (p : P) →
@@ -143,7 +182,12 @@ module _ {F P X : Type 0} (feed : FeedGhosts F X) (pause : PauseGhosts P) (most 
     events = u.events;
     after = u.after;
     went = u.went;
-    by = (u.by.0.sender, u.by.0.pause, (spent, u.by.0.feed), λ other. sym undone);
+    by = (
+      u.by.0.sender,
+      u.by.0.pause,
+      (spent, u.by.0.feed),
+      λ other. rightly_of {X = X} outcomes.Fruitless _ refl (sym undone),
+    );
   }
 
   pub prep_ready : (n : ℕ) (x : Filling F P) (supply : Supply) (f : F) (p : P) →
@@ -200,6 +244,7 @@ module _ {F P D R W X : Type 0} (feed : FeedGhosts F X) (pause : PauseGhosts P) 
             fruitless = sym (ap (λ (b : Bool). if b then 0 else suc x.fruitless) (lt_self (settled x.filling.sender)));
           },
           omega arith,
+          refl,
         );
       }
 
@@ -260,16 +305,18 @@ module _ {F P D R W X : Type 0} (feed : FeedGhosts F X) (pause : PauseGhosts P) 
       dial_is = v.kept.dial;
       ends = stop_ends_upload outcome (Makes ∷ v.events) v.after f' v.by.stops
           (λ e. let many = v.by.many e in omega (arith, many));
-      rightly = λ other. stop_says feed pause most outcome v.after.filling f' v.by.stops ∙ sym (v.by.undone other);
+      rightly = λ other. rightly_of outcome _ (stop_names feed pause most outcome v.after.filling f' v.by.stops)
+          (stop_says feed pause most outcome v.after.filling f' v.by.stops ∙ sym (v.by.undone other));
+      finals = v.by.finals ∙ sym (stop_names feed pause most outcome v.after.filling f' v.by.stops);
     };
   }
 
-  pub link_on : (end : LinkEnd) (x : Course F P D R W) (supply supply' : Supply) (f f' : F) (p p' : P)
+  link_on : (end : LinkEnd) (x : Course F P D R W) (supply supply' : Supply) (f f' : F) (p p' : P)
       (d d' : D) (link : Duplex R W) → DialsNext feed pause dial reader writer most x supply f p d →
       dial.dials d (Ok link) d' →
-      Visits feed pause dial reader writer most (Ok end) (made_course x p d' link) supply' f' p' →
+      final_stop end ≡ [] → Visits feed pause dial reader writer most (Ok end) (made_course x p d' link) supply' f' p' →
       LinkAsked feed pause dial reader writer most (Ok tt) x supply' f' p' d'
-  link_on end x supply supply' f f' p p' d d' link n called v = record {
+  link_on end x supply supply' f f' p p' d d' link n called none v = record {
     events = Makes ∷ v.events;
     after = v.after;
     went = made x supply f p d d' link v.events v.after n called v.went;
@@ -282,57 +329,60 @@ module _ {F P D R W X : Type 0} (feed : FeedGhosts F X) (pause : PauseGhosts P) 
         fruitless = v.by.fruitless;
       },
       omega arith,
+      v.by.finals ∙ none,
     );
   }
 
-  final_stop : (outcome : Outcome X) (stop : Stop) (x : Course F P D R W) (supply supply' : Supply) (f f' : F) (p p' : P)
+  stopped_for : (outcome : Outcome X) (stop : Stop) (x : Course F P D R W) (supply supply' : Supply) (f f' : F) (p p' : P)
       (d d' : D) (link : Duplex R W) → DialsNext feed pause dial reader writer most x supply f p d →
-      dial.dials d (Ok link) d' → says_done outcome ≡ false →
+      dial.dials d (Ok link) d' → says_done outcome ≡ false → named_stop outcome ≡ stop ∷ [] →
+      final_stop (ends.Stopped stop) ≡ stop ∷ [] →
       (v : Visits feed pause dial reader writer most (Ok (ends.Stopped stop)) (made_course x p d' link) supply' f' p') →
-      is_done v.after.filling.sender v.after.filling.is_ended ≡ false →
       EndsUpload feed pause dial reader writer most outcome (Makes ∷ v.events) v.after f' →
       LinkAsked feed pause dial reader writer most (Err outcome) x supply' f' p' d'
-  final_stop outcome stop x supply supply' f f' p p' d d' link n called says v undone ends = record {
-    events = Makes ∷ v.events;
-    after = v.after;
-    went = made x supply f p d d' link v.events v.after n called v.went;
-    by = record {
-      sender_is = v.by.filling.sender;
-      paused = v.by.filling.pause;
-      dial_is = v.kept.dial;
-      ends = ends;
-      rightly = λ other. says ∙ sym undone;
-    };
-  }
+  stopped_for outcome stop x supply supply' f f' p p' d d' link n called says named final v ends =
+      let done : Bool = is_done v.after.filling.sender v.after.filling.is_ended in
+      record {
+        events = Makes ∷ v.events;
+        after = v.after;
+        went = made x supply f p d d' link v.events v.after n called v.went;
+        by = record {
+          sender_is = v.by.filling.sender;
+          paused = v.by.filling.pause;
+          dial_is = v.kept.dial;
+          ends = ends;
+          rightly = λ other. says ∙ sym (and-false done) ∙ sym (ap (λ (l : List Stop). done && (length l == 0)) named);
+          finals = v.by.finals ∙ final ∙ sym named;
+        };
+      }
 
   pub link_ended : (end : LinkEnd) (x : Course F P D R W) (supply supply' : Supply) (f f' : F) (p p' : P)
       (d d' : D) (link : Duplex R W) → DialsNext feed pause dial reader writer most x supply f p d →
       dial.dials d (Ok link) d' →
       (v : Visits feed pause dial reader writer most (Ok end) (made_course x p d' link) supply' f' p') →
-      is_done v.after.filling.sender v.after.filling.is_ended ≡ false →
       LinkAsked feed pause dial reader writer most (end_of_link end) x supply' f' p' d'
-  link_ended (ends.Stopped (stops.Conflict m)) x supply supply' f f' p p' d d' link n called v undone =
-      final_stop (outcomes.Conflict m) (stops.Conflict m) x supply supply' f f' p p' d d' link n called refl v undone
+  link_ended (ends.Stopped (stops.Conflict m)) x supply supply' f f' p p' d d' link n called v =
+      stopped_for (outcomes.Conflict m) (stops.Conflict m) x supply supply' f f' p p' d d' link n called refl refl refl v
       ((Makes ∷ v.by.last.0, ap (λ (es : List UploadEvent). Makes ∷ es) v.by.last.1), v.by.filling.feed)
-  link_ended (ends.Stopped (stops.TooFar m)) x supply supply' f f' p p' d d' link n called v undone =
-      final_stop (outcomes.TooFar m) (stops.TooFar m) x supply supply' f f' p p' d d' link n called refl v undone
+  link_ended (ends.Stopped (stops.TooFar m)) x supply supply' f f' p p' d d' link n called v =
+      stopped_for (outcomes.TooFar m) (stops.TooFar m) x supply supply' f f' p p' d d' link n called refl refl refl v
       ((Makes ∷ v.by.last.0, ap (λ (es : List UploadEvent). Makes ∷ es) v.by.last.1), v.by.filling.feed)
-  link_ended (ends.Stopped stops.TableFull) x supply supply' f f' p p' d d' link n called v undone =
-      link_on (ends.Stopped stops.TableFull) x supply supply' f f' p p' d d' link n called v
-  link_ended (ends.Stopped stops.NoRoom) x supply supply' f f' p p' d d' link n called v undone =
-      link_on (ends.Stopped stops.NoRoom) x supply supply' f f' p p' d d' link n called v
-  link_ended (ends.Stopped stops.DelayedStore) x supply supply' f f' p p' d d' link n called v undone =
-      link_on (ends.Stopped stops.DelayedStore) x supply supply' f f' p p' d d' link n called v
-  link_ended (ends.Stopped stops.BadFrame) x supply supply' f f' p p' d d' link n called v undone =
-      link_on (ends.Stopped stops.BadFrame) x supply supply' f f' p p' d d' link n called v
-  link_ended ends.Ended x supply supply' f f' p p' d d' link n called v undone =
-      link_on ends.Ended x supply supply' f f' p p' d d' link n called v
-  link_ended (ends.Broken fault) x supply supply' f f' p p' d d' link n called v undone =
-      link_on (ends.Broken fault) x supply supply' f f' p p' d d' link n called v
-  link_ended ends.Refused x supply supply' f f' p p' d d' link n called v undone =
-      link_on ends.Refused x supply supply' f f' p p' d d' link n called v
-  link_ended ends.Done x supply supply' f f' p p' d d' link n called v undone =
-      link_on ends.Done x supply supply' f f' p p' d d' link n called v
+  link_ended (ends.Stopped stops.TableFull) x supply supply' f f' p p' d d' link n called v =
+      link_on (ends.Stopped stops.TableFull) x supply supply' f f' p p' d d' link n called refl v
+  link_ended (ends.Stopped stops.NoRoom) x supply supply' f f' p p' d d' link n called v =
+      link_on (ends.Stopped stops.NoRoom) x supply supply' f f' p p' d d' link n called refl v
+  link_ended (ends.Stopped stops.DelayedStore) x supply supply' f f' p p' d d' link n called v =
+      link_on (ends.Stopped stops.DelayedStore) x supply supply' f f' p p' d d' link n called refl v
+  link_ended (ends.Stopped stops.BadFrame) x supply supply' f f' p p' d d' link n called v =
+      link_on (ends.Stopped stops.BadFrame) x supply supply' f f' p p' d d' link n called refl v
+  link_ended ends.Ended x supply supply' f f' p p' d d' link n called v =
+      link_on ends.Ended x supply supply' f f' p p' d d' link n called refl v
+  link_ended (ends.Broken fault) x supply supply' f f' p p' d d' link n called v =
+      link_on (ends.Broken fault) x supply supply' f f' p p' d d' link n called refl v
+  link_ended ends.Refused x supply supply' f f' p p' d d' link n called v =
+      link_on ends.Refused x supply supply' f f' p p' d d' link n called refl v
+  link_ended ends.Done x supply supply' f f' p p' d d' link n called v =
+      link_on ends.Done x supply supply' f f' p p' d d' link n called refl v
 
   -- ---- link after link
 
@@ -348,6 +398,7 @@ module _ {F P D R W X : Type 0} (feed : FeedGhosts F X) (pause : PauseGhosts P) 
     pub count : fruitless ≡ after.fruitless
     pub few : fruitless ≤ links
     pub many : links ≤ length events
+    pub finals : final_stops events ≡ []
 
   pub links_none : (s : Defined) (supply : Supply) (f : F) (p : P) (d : D) → IsSender s supply.sender →
       supply.is_ended ≡ false → LinksSoFar 0 0 s f p d supply f p d
@@ -362,6 +413,7 @@ module _ {F P D R W X : Type 0} (feed : FeedGhosts F X) (pause : PauseGhosts P) 
     count = refl;
     few = omega arith;
     many = omega arith;
+    finals = refl;
   }
 
   -- the window is filled
@@ -404,6 +456,8 @@ module _ {F P D R W X : Type 0} (feed : FeedGhosts F X) (pause : PauseGhosts P) 
         ends = ends_up outcome n (length q.events) (so.events ++ map Fills q.events) (with_filling so.after q.after) f'
             q.by.2 so.count (omega (arith, len, fills));
         rightly = q.by.3;
+        finals = finals_on so.events (map Fills q.events) [] so.finals (fills_finals q.events)
+            ∙ sym (filled_names feed pause most outcome n (length q.events) q.after f' q.by.2);
         feeds = λ requests left. feeds_so feed pause dial reader writer most (so.events ++ map Fills q.events) s requests
             f0 p0 d0 (with_filling so.after q.after) outcome
             (prepared s f0 p0 d0 so.events so.after q.events q.after so.went q.went) q.by.3 left;
@@ -484,6 +538,8 @@ module _ {F P D R W X : Type 0} (feed : FeedGhosts F X) (pause : PauseGhosts P) 
     dial_is = m.by.dial_is;
     ends = more_events outcome (so.events ++ map Fills q.events) m.events m.after f'' m.by.ends;
     rightly = m.by.rightly;
+    finals = finals_on (so.events ++ map Fills q.events) m.events (named_stop outcome)
+        (finals_on so.events (map Fills q.events) [] so.finals (fills_finals q.events)) m.by.finals;
     feeds = λ requests left. feeds_so feed pause dial reader writer most
         ((so.events ++ map Fills q.events) ++ m.events) s requests f0 p0 d0 m.after outcome
         (chain_on (CourseStep feed pause dial reader writer most) (so.events ++ map Fills q.events) m.events
@@ -524,14 +580,16 @@ module _ {F P D R W X : Type 0} (feed : FeedGhosts F X) (pause : PauseGhosts P) 
             ∙ sym k.by.0.fruitless;
         few = subst (λ (z : ℕ). z ≤ links + 1) (sym same) (few_more before now n links so.few);
         many = omega (arith, len, first, so.many, k.by.1);
+        finals = finals_on (so.events ++ map Fills q.events) k.events []
+            (finals_on so.events (map Fills q.events) [] so.finals (fills_finals q.events)) k.by.2;
       }
 
   pub links_over : (outcome : Outcome X) (links n : ℕ) (s : Defined) (f0 : F) (p0 : P) (d0 : D) (supply : Supply) (f : F)
       (p : P) (d : D) → (so : LinksSoFar links n s f0 p0 d0 supply f p d) →
-      says_done outcome ≡ is_done so.after.filling.sender so.after.filling.is_ended →
+      says_done outcome ≡ is_done so.after.filling.sender so.after.filling.is_ended → named_stop outcome ≡ [] →
       EndsUpload feed pause dial reader writer most outcome so.events so.after f →
       Uploads feed pause dial reader writer most s supply.sender outcome f0 f p0 p d0 d
-  links_over outcome links n s f0 p0 d0 supply f p d so says ends = record {
+  links_over outcome links n s f0 p0 d0 supply f p d so says none ends = record {
     events = so.events;
     last = so.after;
     went = so.went;
@@ -539,7 +597,8 @@ module _ {F P D R W X : Type 0} (feed : FeedGhosts F X) (pause : PauseGhosts P) 
     paused = so.filling.pause;
     dial_is = so.dial_is;
     ends = ends;
-    rightly = λ other. says;
+    rightly = λ other. rightly_of outcome _ none says;
+    finals = so.finals ∙ sym none;
     feeds = λ requests left. feeds_so feed pause dial reader writer most so.events s requests f0 p0 d0 so.after outcome
-        so.went (λ other. says) left;
+        so.went (λ other. rightly_of outcome _ none says) left;
   }

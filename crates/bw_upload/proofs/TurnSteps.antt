@@ -21,8 +21,9 @@ use Rattle.bw_engine.specs.declared.talk.Listened.TheVariants as listens
 use Rattle.bw_engine.specs.declared.talk.Talk.{Talk}
 use Rattle.bw_ports.specs.declared.dial.Duplex.{Duplex}
 use Rattle.bw_upload.specs.Chains.{Chain}
-use Rattle.bw_upload.specs.Conversing.{Conversing, TalkEvent, Hears, Says, Breaks, TalkStep, MayHear, HearsReplies}
-use Rattle.bw_upload.specs.Turns.{IsLine, IsTalking, HeardBy, HearsTurn, TurnBy, TakesTurn, HearsOut, turn_end}
+use Rattle.bw_upload.specs.Conversing.{Conversing, TalkEvent, Hears, Says, Breaks, TalkStep, MayHear, HearsReplies, HeedsStop}
+use Rattle.bw_upload.specs.Turns.{IsLine, IsTalking, HeedsAny, HeardBy, HearsTurn, TurnBy, TakesTurn, HearsOut}
+use Rattle.bw_upload.specs.Turns.{turn_end, break_end}
 use Rattle.bw_upload.proofs.ChainSteps.{chain_on}
 use Rattle.bw_model.specs.Stream.{frames_bytes}
 use Rattle.bw_model.specs.World.{pending}
@@ -32,7 +33,6 @@ use Rattle.bw_wire.specs.Pending.{Pending, next_of}
 use Rattle.bw_engine.specs.Batches.{WritesMessages}
 use Rattle.bw_engine.specs.Hears.{GaveReplies}
 use Rattle.bw_engine.specs.Saying.{unsaid_messages}
-use Rattle.std.specs.Prelude.{is_some}
 use Rattle.bw_upload.specs.declared.observer.LinkEnd.{LinkEnd}
 use Rattle.bw_upload.specs.declared.observer.LinkEnd.TheVariants as ends
 
@@ -66,15 +66,16 @@ module _ {R W : Type 0} (reader : Reader R) (writer : Writer W) where
 
   -- nothing was heard, and the link is left
   quiet_turn : (end : Option LinkEnd) (x : Conversing R W) (sender sender' : Sender) (talk' : Talk)
-      (link' : Duplex R W) → IsSender x.sender sender → sender' ≡ sender →
+      (link' : Duplex R W) → IsSender x.sender sender → sender' ≡ sender → HeedsAny end x.line.stop →
       HeardBy reader writer end (length x.line.input) x talk' link' →
       HearsTurn reader writer end x sender' talk' link'
-  quiet_turn end x sender sender' talk' link' is same by = record {
+  quiet_turn end x sender sender' talk' link' is same heeds by = record {
     events = [];
     after = x;
     went = refl;
     sender_is = subst (IsSender x.sender) (sym same) is;
     broken = refl;
+    heeds = heeds;
     by = by;
   }
 
@@ -96,6 +97,7 @@ module _ {R W : Type 0} (reader : Reader R) (writer : Writer W) where
         went = (y, step, refl);
         sender_is = h.counted x.sender is.sender_is;
         broken = refl;
+        heeds = heeds stop (sym (h.stop_is x.sender is.sender_is));
         by = by stop line (omega (arith, len, h.some)) (sym (h.stop_is x.sender is.sender_is));
       }
     where
@@ -106,6 +108,11 @@ module _ {R W : Type 0} (reader : Reader R) (writer : Writer W) where
           (after_piece x r' h.piece h.heard) talk' (record link { reader = r' })
       by None line long e = (line, long)
       by (Some s) line long e = (line, e)
+
+      heeds : (o : Option Stop) → first_stop x.sender h.heard ≡ o →
+          HeedsAny (turn_end (Ok (listens.Heard o))) (first_stop x.sender h.heard)
+      heeds None e = e
+      heeds (Some s) e = e
 
   piece_bad : (x : Conversing R W) (sender sender' : Sender) (talk talk' : Talk) (link : Duplex R W) (r' : R) →
       IsTalking x sender talk link → MayHear reader writer x →
@@ -120,6 +127,7 @@ module _ {R W : Type 0} (reader : Reader R) (writer : Writer W) where
         went = (y, piece_step x link.reader r' h.piece h.heard bad.0 is.line_is.reader may h.some h.given bad.2, refl);
         sender_is = h.counted x.sender is.sender_is;
         broken = refl;
+        heeds = tt;
         by = inl (bad.0, bad.1, bad.2);
       }
 
@@ -137,27 +145,27 @@ module _ {R W : Type 0} (reader : Reader R) (writer : Writer W) where
       piece_heard (Some stop) x sender sender' talk talk' link r' is may said l.by_result
   listened (Ok listens.Ended) x sender sender' talk talk' link r' is may said l =
       quiet_turn (Some ends.Ended) x sender sender' talk' (record link { reader = r' }) is.sender_is
-      l.by_result.unheard (r', none_left x link.reader r' is.line_is.reader l.by_result.drained)
+      l.by_result.unheard is.unstopped (r', none_left x link.reader r' is.line_is.reader l.by_result.drained)
   listened (Err faults.Read) x sender sender' talk talk' link r' is may said l =
       quiet_turn (Some (ends.Broken faults.Read)) x sender sender' talk' (record link { reader = r' }) is.sender_is
-      l.by_result.1 (
+      l.by_result.1 is.unstopped (
         r',
         l.counted ∙ ap (λ (z : R). one_more (reader.failures z)) (sym is.line_is.reader),
       )
   listened (Err faults.Write) x sender sender' talk talk' link r' is may said l = absurd l.by_result
   listened (Err faults.Memory) x sender sender' talk talk' link r' is may said l =
       quiet_turn (Some (ends.Broken faults.Memory)) x sender sender' talk' (record link { reader = r' }) is.sender_is
-      l.by_result tt
+      l.by_result is.unstopped tt
   listened (Err faults.BadReply) x sender sender' talk talk' link r' is may said l = elim l.by_result [
     | inl bad ↦ piece_bad x sender sender' talk talk' link r' is may bad
     | inr ended ↦ quiet_turn (Some (ends.Broken faults.BadReply)) x sender sender' talk'
-        (record link { reader = r' }) is.sender_is ended.unheard
+        (record link { reader = r' }) is.sender_is ended.unheard tt
         (inr (r', none_left x link.reader r' is.line_is.reader ended.drained))
   ]
   listened (Err faults.TurnLimit) x sender sender' talk talk' link r' is may said l =
       let fed = is.line_is.heard.fed in
       quiet_turn (Some (ends.Broken faults.TurnLimit)) x sender sender' talk' (record link { reader = r' })
-      is.sender_is l.by_result.1 (omega (arith, l.by_result.0, fed))
+      is.sender_is l.by_result.1 is.unstopped (omega (arith, l.by_result.0, fed))
 
   -- ---- all that comes
 
@@ -173,42 +181,72 @@ module _ {R W : Type 0} (reader : Reader R) (writer : Writer W) where
       IsTalking x sender talk link → OutSoFar x sender talk link
   out_none x sender talk link is = record { events = []; after = x; went = refl; is = is; broken = refl }
 
-  pub out_over : (x : Conversing R W) (sender : Sender) (talk : Talk) (link : Duplex R W) →
-      OutSoFar x sender talk link → HearsOut reader writer x sender talk link
-  out_over x sender talk link f = record {
+  pub out_over : (x : Conversing R W) (sender : Sender) (talk : Talk) (link : Duplex R W) → x.line.is_broken ≡ true →
+      OutSoFar x sender talk link → HearsOut reader writer (ends.Broken faults.Write) x sender talk link
+  out_over x sender talk link broken f = record {
     events = f.events;
     after = f.after;
     went = f.went;
     sender_is = f.is.sender_is;
     broken = f.broken;
+    heeds = f.is.unstopped;
+    by = f.broken ∙ broken;
   }
 
+  -- over a link whose writer has failed: what came says why it is left, or else the failure does
+  heeds_broken : (end : LinkEnd) (stop : Option Stop) → HeedsStop end stop → HeedsStop (break_end end) stop
+  heeds_broken ends.Ended stop h = h
+  heeds_broken (ends.Broken faults.Read) stop h = h
+  heeds_broken (ends.Broken faults.Write) stop h = h
+  heeds_broken (ends.Broken faults.Memory) stop h = h
+  heeds_broken (ends.Broken faults.BadReply) stop h = tt
+  heeds_broken (ends.Broken faults.TurnLimit) stop h = h
+  heeds_broken (ends.Stopped why) stop h = h
+  heeds_broken ends.Refused stop h = h
+  heeds_broken ends.Done stop h = h
+
+  left_broken : (end : LinkEnd) (m n : ℕ) (y : Conversing R W) (talk : Talk) (link : Duplex R W) →
+      y.line.is_broken ≡ true → HeardBy reader writer (Some end) m y talk link →
+      TurnBy reader writer (Some (break_end end)) n y talk link
+  left_broken ends.Ended m n y talk link broken h = broken
+  left_broken (ends.Broken faults.Read) m n y talk link broken h = broken
+  left_broken (ends.Broken faults.Write) m n y talk link broken h = broken
+  left_broken (ends.Broken faults.Memory) m n y talk link broken h = broken
+  left_broken (ends.Broken faults.BadReply) m n y talk link broken h = h
+  left_broken (ends.Broken faults.TurnLimit) m n y talk link broken h = broken
+  left_broken (ends.Stopped why) m n y talk link broken h = h.1
+  left_broken ends.Refused m n y talk link broken h = broken
+  left_broken ends.Done m n y talk link broken h = broken
+
   pub out_end : (x : Conversing R W) (sender sender' : Sender) (talk talk' : Talk) (link link' : Duplex R W)
-      (end : Option LinkEnd) → x.line.is_broken ≡ true → OutSoFar x sender talk link →
+      (end : LinkEnd) → x.line.is_broken ≡ true → OutSoFar x sender talk link →
       ((y : Conversing R W) → IsTalking y sender talk link → MayHear reader writer y →
-      HearsTurn reader writer end y sender' talk' link') → HearsOut reader writer x sender' talk' link'
+      HearsTurn reader writer (Some end) y sender' talk' link') →
+      HearsOut reader writer (break_end end) x sender' talk' link'
   out_end x sender sender' talk talk' link link' end broken f hears =
-      let h = hears f.after f.is (inl (f.broken ∙ broken)) in
+      let h = hears f.after f.is (f.is.unstopped, inl (f.broken ∙ broken)) in
       record {
         events = f.events ++ h.events;
         after = h.after;
         went = chain_on (TalkStep reader writer) f.events h.events x f.after h.after f.went h.went;
         sender_is = h.sender_is;
         broken = h.broken ∙ f.broken;
+        heeds = heeds_broken end h.after.line.stop h.heeds;
+        by = left_broken end (length f.after.line.input) (length x.line.input) h.after talk' link'
+            (h.broken ∙ f.broken ∙ broken) h.by;
       }
 
-  pub out_more : (x : Conversing R W) (sender sender' : Sender) (talk talk' : Talk) (link link' : Duplex R W)
-      (end : Option LinkEnd) → x.line.is_broken ≡ true → OutSoFar x sender talk link → is_some end ≡ false →
+  pub out_more : (x : Conversing R W) (sender sender' : Sender) (talk talk' : Talk) (link link' : Duplex R W) →
+      x.line.is_broken ≡ true → OutSoFar x sender talk link →
       ((y : Conversing R W) → IsTalking y sender talk link → MayHear reader writer y →
-      HearsTurn reader writer end y sender' talk' link') → OutSoFar x sender' talk' link'
-  out_more x sender sender' talk talk' link link' (Some end) broken f none hears = absurd cc
-  out_more x sender sender' talk talk' link link' None broken f none hears =
-      let h = hears f.after f.is (inl (f.broken ∙ broken)) in
+      HearsTurn reader writer None y sender' talk' link') → OutSoFar x sender' talk' link'
+  out_more x sender sender' talk talk' link link' broken f hears =
+      let h = hears f.after f.is (f.is.unstopped, inl (f.broken ∙ broken)) in
       record {
         events = f.events ++ h.events;
         after = h.after;
         went = chain_on (TalkStep reader writer) f.events h.events x f.after h.after f.went h.went;
-        is = record { sender_is = h.sender_is; line_is = h.by.0 };
+        is = record { sender_is = h.sender_is; line_is = h.by.0; unstopped = h.heeds };
         broken = h.broken ∙ f.broken;
       }
 
@@ -235,7 +273,8 @@ module _ {R W : Type 0} (reader : Reader R) (writer : Writer W) where
           next = next;
           heard = same_heard x.line.input x.line.heard talk talk' same is.line_is.heard;
         };
-      }) (inr (refl, some)) in
+        unstopped = is.unstopped;
+      }) (is.unstopped, inr (refl, some)) in
       record {
         events = Says ∷ h.events;
         after = h.after;
@@ -252,6 +291,7 @@ module _ {R W : Type 0} (reader : Reader R) (writer : Writer W) where
           h.went,
         );
         sender_is = h.sender_is;
+        heeds = h.heeds;
         by = as_turn end h.after talk'' link' (h.broken ∙ whole) h.by;
       }
     where
@@ -279,15 +319,15 @@ module _ {R W : Type 0} (reader : Reader R) (writer : Writer W) where
       as_turn (Some ends.Done) y talk link b h = absurd h
 
   -- the writer failed
-  pub broke_and_heard : (x : Conversing R W) (sender sender' : Sender) (talk talk' talk'' : Talk)
+  pub broke_and_heard : (end : LinkEnd) (x : Conversing R W) (sender sender' : Sender) (talk talk' talk'' : Talk)
       (link link' : Duplex R W) (w' : W) → IsTalking x sender talk link → x.line.is_broken ≡ false →
       Begins (writer.written link.writer) (frames_bytes (unsaid_messages x.sender talk.next)) (writer.written w') →
       writer.failures w' ≡ one_more (writer.failures link.writer) →
       talk'.framer ≡ talk.framer →
       ((y : Conversing R W) → IsTalking y sender talk' (record link { writer = w' }) → y.line.is_broken ≡ true →
-      HearsOut reader writer y sender' talk'' link') →
-      TakesTurn reader writer (Some (ends.Broken faults.Write)) x sender' talk'' link'
-  broke_and_heard x sender sender' talk talk' talk'' link link' w' is whole begun failed same hears =
+      HearsOut reader writer end y sender' talk'' link') →
+      TakesTurn reader writer (Some end) x sender' talk'' link'
+  broke_and_heard end x sender sender' talk talk' talk'' link link' w' is whole begun failed same hears =
       let y : Conversing R W = record {
         sender = x.sender;
         line = record x.line { writer = w'; next = talk'.next; is_broken = true };
@@ -305,6 +345,7 @@ module _ {R W : Type 0} (reader : Reader R) (writer : Writer W) where
             fed = ap (λ (p : Pending). p.fed) same ∙ is.line_is.heard.fed;
           };
         };
+        unstopped = is.unstopped;
       }) refl in
       record {
         events = Breaks ∷ h.events;
@@ -323,7 +364,8 @@ module _ {R W : Type 0} (reader : Reader R) (writer : Writer W) where
           h.went,
         );
         sender_is = h.sender_is;
-        by = h.broken;
+        heeds = h.heeds;
+        by = h.by;
       }
 
   -- memory was refused
@@ -335,5 +377,6 @@ module _ {R W : Type 0} (reader : Reader R) (writer : Writer W) where
     after = x;
     went = refl;
     sender_is = is.sender_is;
+    heeds = is.unstopped;
     by = tt;
   }

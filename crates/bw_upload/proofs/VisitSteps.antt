@@ -3,7 +3,7 @@ use Rattle.std.proofs.Common.{◌≡◌, ◌≢◌, ◌⊎◌, ℕ, suc, ◌+◌
 use Rattle.std.proofs.Common.{Option, Some, None, Ok, Err, refl, sym, ap, subst, ◌∙◌, arith, inl, inr}
 use Rattle.std.specs.Prelude.{is_none, not, ◌&&◌, ◌==◌}
 use Rattle.std.proofs.lemmas.Bool.{eqb-true}
-use Rattle.std.proofs.lemmas.List.{length-append}
+use Rattle.std.proofs.lemmas.List.{length-append, append-nil}
 use Rattle.bw_model.specs.Take.{Verdict}
 use Rattle.bw_model.specs.World.{Sender as Defined, settled, pending, refused, refused_from}
 use Rattle.bw_stream.specs.declared.sink.Sink.{Ghosts as Writer}
@@ -18,12 +18,13 @@ use Rattle.bw_ports.specs.declared.dial.Dial.{Ghosts as DialGhosts}
 use Rattle.bw_ports.specs.declared.dial.Duplex.{Duplex}
 use Rattle.bw_ports.specs.declared.pause.Pause.{Ghosts as PauseGhosts}
 use Rattle.bw_upload.specs.Chains.{Chain}
-use Rattle.bw_upload.specs.Conversing.{Conversing, Line, LeavesBy, new_line}
+use Rattle.bw_upload.specs.Conversing.{Conversing, Line, LeavesBy, HeedsStop, new_line}
 use Rattle.bw_upload.specs.Courses.{Course, CourseStep, UploadEvent, Fills, Talks, Leaves, LeavesRightly}
 use Rattle.bw_upload.specs.Courses.{fruitless_after}
 use Rattle.bw_upload.specs.Filling.{Filling, FillEvent, FillStep, is_done}
+use Rattle.bw_upload.specs.FinalStops.{final_stop, final_stops}
 use Rattle.bw_upload.specs.Supplies.{IsFilling, FillsUp}
-use Rattle.bw_upload.specs.Turns.{IsLine, IsTalking, TakesTurn, TurnBy}
+use Rattle.bw_upload.specs.Turns.{IsLine, IsTalking, HeedsAny, TakesTurn, TurnBy}
 use Rattle.bw_upload.specs.Visits.{BeginsVisit, KeepsDials, Visits, visit_end}
 use Rattle.bw_upload.specs.declared.feed.Feed.{Ghosts as FeedGhosts}
 use Rattle.bw_upload.specs.declared.observer.LinkEnd.{LinkEnd}
@@ -32,6 +33,7 @@ use Rattle.bw_upload.specs.declared.outcome.Outcome.{Outcome}
 use Rattle.bw_upload.specs.declared.outcome.Outcome.TheVariants as outcomes
 use Rattle.bw_upload.specs.declared.supply.Supply.{Supply}
 use Rattle.bw_upload.proofs.ChainSteps.{chain_on}
+use Rattle.bw_upload.proofs.FinalSteps.{finals_on, fills_finals, talks_finals}
 use Rattle.bw_upload.proofs.Lifting.{lift_fill, lift_talk, with_filling, with_talk}
 
 -- ---- whether all is done
@@ -100,6 +102,8 @@ module _ {F P D R W X : Type 0} (feed : FeedGhosts F X) (pause : PauseGhosts P) 
     pub fruitless : after.fruitless ≡ x.fruitless
     pub before : after.before ≡ x.before
     pub many : n ≤ length l.input
+    pub unstopped : l.stop ≡ None
+    pub finals : final_stops events ≡ []
 
   pub visit_begins : (x : Course F P D R W) (supply : Supply) (talk : Talk) (link : Duplex R W) (f : F) (p : P) →
       BeginsVisit x supply f p link → talk.next ≡ 0 → HasHeard [] [] talk → VisitSoFar 0 x supply talk link f p
@@ -117,6 +121,8 @@ module _ {F P D R W X : Type 0} (feed : FeedGhosts F X) (pause : PauseGhosts P) 
     fruitless = refl;
     before = refl;
     many = omega arith;
+    unstopped = refl;
+    finals = refl;
   }
 
   -- what a turn makes of that
@@ -139,6 +145,8 @@ module _ {F P D R W X : Type 0} (feed : FeedGhosts F X) (pause : PauseGhosts P) 
     pub fruitless : after.fruitless ≡ x.fruitless
     pub before : after.before ≡ x.before
     pub many : n ≤ m
+    pub heeds : HeedsAny end t.line.stop
+    pub finals : final_stops events ≡ []
 
   pub visit_turned : (end : Option LinkEnd) (n : ℕ) (x : Course F P D R W) (supply : Supply) (talk talk' : Talk)
       (link link' : Duplex R W) (sender' : Sender) (f : F) (p : P) → VisitSoFar n x supply talk link f p →
@@ -146,7 +154,7 @@ module _ {F P D R W X : Type 0} (feed : FeedGhosts F X) (pause : PauseGhosts P) 
       VisitTurned end n x (record supply { sender = sender' }) talk' link' f p
   visit_turned end n x supply talk talk' link link' sender' f p so turns =
       let t = turns (record { sender = so.after.filling.sender; line = so.l })
-      (record { sender_is = so.filling.sender; line_is = so.is_line }) so.whole so.some in
+      (record { sender_is = so.filling.sender; line_is = so.is_line; unstopped = so.unstopped }) so.whole so.some in
       record {
         events = so.events ++ map Talks t.events;
         after = with_talk so.after t.after;
@@ -167,6 +175,8 @@ module _ {F P D R W X : Type 0} (feed : FeedGhosts F X) (pause : PauseGhosts P) 
         fruitless = so.fruitless;
         before = so.before;
         many = so.many;
+        heeds = t.heeds;
+        finals = finals_on so.events (map Talks t.events) [] so.finals (talks_finals t.events);
       }
 
   -- a course that leaves its link
@@ -182,12 +192,15 @@ module _ {F P D R W X : Type 0} (feed : FeedGhosts F X) (pause : PauseGhosts P) 
       LeavesBy reader writer end (record { sender = y.filling.sender; line = l }) →
       LeavesRightly feed pause dial reader writer most end (is_done y.filling.sender y.filling.is_ended) →
       IsFilling y.filling supply f p → KeepsDials x y → y.fruitless ≡ x.fruitless → y.before ≡ x.before →
-      Visits feed pause dial reader writer most (Ok end) x supply f p
-  leaves end events x y l supply f p went line why rightly filling kept fruitless before = record {
+      HeedsStop end l.stop → final_stops events ≡ [] → Visits feed pause dial reader writer most (Ok end) x supply f p
+  leaves end events x y l supply f p went line why rightly filling kept fruitless before heeds finals = record {
     events = events ++ Leaves end ∷ [];
     after = left_course y;
-    went = goes_on events (Leaves end ∷ []) x y (left_course y) went
-        (left_course y, record { l = l; line = line; why = why; rightly = rightly; is = refl }, refl);
+    went = goes_on events (Leaves end ∷ []) x y (left_course y) went (
+      left_course y,
+      record { l = l; line = line; why = why; rightly = rightly; heeds = heeds; is = refl },
+      refl,
+    );
     kept = record { dial = kept.dial; dials = kept.dials };
     by = record {
       filling = filling;
@@ -195,6 +208,7 @@ module _ {F P D R W X : Type 0} (feed : FeedGhosts F X) (pause : PauseGhosts P) 
       fruitless = ap (λ (n : ℕ). fruitless_after n (settled y.filling.sender) y.fruitless) before
           ∙ ap (fruitless_after x.before (settled y.filling.sender)) fruitless;
       last = (events, refl);
+      finals = finals_on events (Leaves end ∷ []) (final_stop end) finals (append-nil (final_stop end));
     };
   }
 
@@ -206,7 +220,7 @@ module _ {F P D R W X : Type 0} (feed : FeedGhosts F X) (pause : PauseGhosts P) 
   left_so end n x supply talk link f p v why rightly =
       leaves end v.events x v.after v.t.line supply f p v.went v.line
       (subst (λ (s : Defined). LeavesBy reader writer end (record { sender = s; line = v.t.line })) (sym v.sender) why)
-      rightly v.filling v.kept v.fruitless v.before
+      rightly v.filling v.kept v.fruitless v.before v.heeds v.finals
 
   pub visit_left : (end : LinkEnd) (n : ℕ) (x : Course F P D R W) (supply : Supply) (talk : Talk) (link : Duplex R W)
       (f : F) (p : P) → VisitTurned (Some end) n x supply talk link f p →
@@ -227,6 +241,7 @@ module _ {F P D R W X : Type 0} (feed : FeedGhosts F X) (pause : PauseGhosts P) 
       stops = tt;
       undone = λ other. absurd (other refl);
       many = λ e. absurd cc;
+      finals = v.finals;
     };
   }
   visit_left (ends.Broken faults.BadReply) n x supply talk link f p v =
@@ -244,7 +259,7 @@ module _ {F P D R W X : Type 0} (feed : FeedGhosts F X) (pause : PauseGhosts P) 
       Visits feed pause dial reader writer most (Ok ends.Refused) x supply f p
   visit_refused n x supply talk link f p v some =
       leaves ends.Refused v.events x v.after v.t.line supply f p v.went v.line
-      (some_refused (refused v.after.filling.sender) some) tt v.filling v.kept v.fruitless v.before
+      (some_refused (refused v.after.filling.sender) some) tt v.filling v.kept v.fruitless v.before v.heeds v.finals
 
   -- the window is filled: this is what is left then
   filled : (n : ℕ) (x : Course F P D R W) (supply : Supply) (talk : Talk) (link : Duplex R W) (f : F) (p : P) →
@@ -272,6 +287,7 @@ module _ {F P D R W X : Type 0} (feed : FeedGhosts F X) (pause : PauseGhosts P) 
           stops = u.by.3;
           undone = λ other. undone_open u.after.sender u.after.is_ended u.by.1;
           many = λ e. let many = u.by.4 e in omega (arith, many, len, same);
+          finals = finals_on v.events (map Fills u.events) [] v.finals (fills_finals u.events);
         };
       }
 
@@ -284,7 +300,8 @@ module _ {F P D R W X : Type 0} (feed : FeedGhosts F X) (pause : PauseGhosts P) 
       leaves ends.Done (v.events ++ map Fills u.events) x (with_filling v.after u.after) v.t.line supply' f' p'
       (filled n x supply talk link f p v u.events u.after u.went) v.line
       (v.by.2, w', subst (λ (z : W). PartsWith writer z w') (sym v.by.0.writer) parts) done u.by.0
-      (record { dial = v.kept.dial; dials = v.kept.dials }) v.fruitless v.before
+      (record { dial = v.kept.dial; dials = v.kept.dials }) v.fruitless v.before v.heeds
+      (finals_on v.events (map Fills u.events) [] v.finals (fills_finals u.events))
 
   pub visit_more : (n : ℕ) (x : Course F P D R W) (supply supply' : Supply) (talk : Talk) (link : Duplex R W)
       (f f' : F) (p p' : P) → (v : VisitTurned None n x supply talk link f p) →
@@ -309,6 +326,8 @@ module _ {F P D R W X : Type 0} (feed : FeedGhosts F X) (pause : PauseGhosts P) 
         fruitless = v.fruitless;
         before = v.before;
         many = omega (arith, v.many, v.by.1);
+        unstopped = v.heeds;
+        finals = finals_on v.events (map Fills u.events) [] v.finals (fills_finals u.events);
       }
 
   pub visit_limited : (n : ℕ) (x : Course F P D R W) (supply : Supply) (talk : Talk) (link : Duplex R W) (f : F) (p : P)
@@ -316,7 +335,7 @@ module _ {F P D R W X : Type 0} (feed : FeedGhosts F X) (pause : PauseGhosts P) 
       Visits feed pause dial reader writer most (Ok (ends.Broken faults.TurnLimit)) x supply f p
   visit_limited n x supply talk link f p so long =
       leaves (ends.Broken faults.TurnLimit) so.events x so.after so.l supply f p so.went so.line
-      (omega (arith, long, so.many)) tt so.filling so.kept so.fruitless so.before
+      (omega (arith, long, so.many)) tt so.filling so.kept so.fruitless so.before so.unstopped so.finals
 
   -- no talk begins: memory was refused
   pub visit_lacks : (x : Course F P D R W) (supply : Supply) (link : Duplex R W) (f : F) (p : P) →
@@ -332,5 +351,6 @@ module _ {F P D R W X : Type 0} (feed : FeedGhosts F X) (pause : PauseGhosts P) 
       stops = tt;
       undone = λ other. absurd (other refl);
       many = λ e. absurd cc;
+      finals = refl;
     };
   }

@@ -47,6 +47,19 @@ pub data TalkEvent : Type 0 where
   -- a piece was read, and these replies are heard
   Hears : List Reply → TalkEvent
 
+-- A link over which a reply came that stops the talk is left for the first in its piece, unless
+-- bytes that are no reply follow in that piece.
+abbrev pub HeedsStop : LinkEnd → Option Stop → Type 0
+HeedsStop ends.Ended stop = stop ≡ None
+HeedsStop (ends.Broken faults.Read) stop = stop ≡ None
+HeedsStop (ends.Broken faults.Write) stop = stop ≡ None
+HeedsStop (ends.Broken faults.Memory) stop = stop ≡ None
+HeedsStop (ends.Broken faults.BadReply) stop = Unit {0}
+HeedsStop (ends.Broken faults.TurnLimit) stop = stop ≡ None
+HeedsStop (ends.Stopped why) stop = stop ≡ Some why
+HeedsStop ends.Refused stop = stop ≡ None
+HeedsStop ends.Done stop = stop ≡ None
+
 -- the link of a reader and a writer, of which nothing was used yet
 abbrev pub new_line : {R W : Type 0} → R → W → Line R W
 new_line r w = record {
@@ -81,10 +94,11 @@ module _ {R W : Type 0} (reader : Reader R) (writer : Writer W) where
       line = record x.line { writer = y.line.writer; next = y.line.next; is_broken = true };
     }
 
-  -- a piece is awaited once all that is pending was said, or the writer has failed
+  -- a piece is awaited once all that is pending was said, or the writer has failed, and none after a
+  -- reply that stops the talk
   abbrev pub MayHear : Conversing R W → Type 0
-  MayHear x = (x.line.is_broken ≡ true)
-      ⊎ ((x.line.next ≡ length x.sender.offered) × (pending x.sender 0 ≢ None))
+  MayHear x = (x.line.stop ≡ None) × ((x.line.is_broken ≡ true)
+      ⊎ ((x.line.next ≡ length x.sender.offered) × (pending x.sender 0 ≢ None)))
 
   -- What is heard over a link is what its bytes begin with: after these replies come bytes that
   -- begin with none, as they are cut (more may come), or for another reason.

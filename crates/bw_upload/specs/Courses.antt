@@ -9,7 +9,7 @@ use Rattle.bw_ports.specs.declared.dial.DialFault.{DialFault}
 use Rattle.bw_ports.specs.declared.dial.Duplex.{Duplex}
 use Rattle.bw_ports.specs.declared.pause.Pause.{Ghosts as PauseGhosts}
 use Rattle.bw_upload.specs.Backoff.{backoff, is_spent}
-use Rattle.bw_upload.specs.Conversing.{Conversing, Line, TalkEvent, TalkStep, LeavesBy, new_line}
+use Rattle.bw_upload.specs.Conversing.{Conversing, Line, TalkEvent, TalkStep, LeavesBy, HeedsStop, new_line}
 use Rattle.bw_upload.specs.Filling.{Filling, FillEvent, FillStep, is_done}
 use Rattle.bw_upload.specs.declared.feed.Feed.{Ghosts as FeedGhosts}
 use Rattle.bw_upload.specs.declared.observer.LinkEnd.{LinkEnd}
@@ -118,6 +118,7 @@ module _ {F P D R W X : Type 0} (feed : FeedGhosts F X) (pause : PauseGhosts P)
     pub line : x.line ≡ Some l
     pub why : LeavesBy reader writer end (record { sender = x.filling.sender; line = l })
     pub rightly : LeavesRightly end (is_done x.filling.sender x.filling.is_ended)
+    pub heeds : HeedsStop end l.stop
     pub is : y ≡ record x {
       line = None;
       fruitless = fruitless_after x.before (settled x.filling.sender) x.fruitless;

@@ -4,6 +4,7 @@ pub mod Chains
 pub mod Filling
 pub mod Conversing
 pub mod Courses
+pub mod FinalStops
 pub mod Stopping
 pub mod Supplies
 pub mod Turns

@@ -1,6 +1,6 @@
 -- Links are made, one after another.
 use Rattle.std.specs.Prelude.{◌≡◌, ◌≢◌, ◌⊎◌, ℕ, suc, ◌-◌, ◌^◌, ◌≤◌, Bool, true, false, Option, None, Result, Ok}
-use Rattle.std.specs.Prelude.{Err, List, [], ◌∷◌, ◌++◌, length}
+use Rattle.std.specs.Prelude.{Err, List, [], ◌∷◌, ◌++◌, length, ◌&&◌, ◌==◌}
 use Rattle.bw_model.specs.Take.{Verdict}
 use Rattle.bw_model.specs.World.{settled, pending, refused}
 use Rattle.bw_request.specs.Verdicts.{verdict_meaning}
@@ -15,6 +15,7 @@ use Rattle.bw_upload.specs.Backoff.{backoff, is_spent}
 use Rattle.bw_upload.specs.Chains.{Chain}
 use Rattle.bw_upload.specs.Courses.{Course, UploadEvent, Leaves, CourseStep, BacksOff, MayDial, fruitless_after}
 use Rattle.bw_upload.specs.Filling.{Filling, FillEvent, FillStep, is_done}
+use Rattle.bw_upload.specs.FinalStops.{final_stops, named_stop}
 use Rattle.bw_upload.specs.Stopping.{StopsFeed}
 use Rattle.bw_upload.specs.Supplies.{IsFilling}
 use Rattle.bw_upload.specs.declared.feed.Feed.{Ghosts as FeedGhosts}
@@ -56,11 +57,11 @@ module _ {F P X : Type 0} (feed : FeedGhosts F X) (pause : PauseGhosts P) (most 
   EndsFilled outcomes.Memory n count x f = Unit {0}
   EndsFilled outcomes.Limit n count x f = (2 ^ 64 - 1 ≤ count) × (x.feed ≡ f)
 
-  -- it is done exactly if the feed has ended and all that was offered is settled and stored;
-  -- where memory was refused, that isn't said
+  -- it is done exactly if the feed has ended, all that was offered is settled and stored, and it
+  -- names no reply that ends an upload; where memory was refused, that isn't said
   abbrev pub SaysRightly : Outcome X → Filling F P → Type 0
-  SaysRightly outcome x =
-      outcome ≢ outcomes.Memory → says_done outcome ≡ is_done x.sender x.is_ended
+  SaysRightly outcome x = outcome ≢ outcomes.Memory →
+      says_done outcome ≡ (is_done x.sender x.is_ended && (length (named_stop outcome) == 0))
 
   abbrev pub PreparedBy : Result (Unit {0}) (Outcome X) → ℕ → ℕ → Filling F P → Supply → F → P →
       Type 0
@@ -117,6 +118,7 @@ module _ {F P D R W X : Type 0} (feed : FeedGhosts F X) (pause : PauseGhosts P)
     pub dial_is : y.dial ≡ d
     pub ends : EndsUpload outcome events y f
     pub rightly : SaysRightly feed pause most outcome y.filling
+    pub finals : final_stops events ≡ named_stop outcome
 
   -- it goes on after a link
   pub record GoesAfterLink (x y : Course F P D R W) (supply : Supply) (f : F) (p : P) (d : D)
@@ -130,7 +132,8 @@ module _ {F P D R W X : Type 0} (feed : FeedGhosts F X) (pause : PauseGhosts P)
 
   abbrev pub MadeBy : Result (Unit {0}) (Outcome X) → List UploadEvent → Course F P D R W →
       Course F P D R W → Supply → F → P → D → Type 0
-  MadeBy (Ok u) events x y supply f p d = GoesAfterLink x y supply f p d × (1 ≤ length events)
+  MadeBy (Ok u) events x y supply f p d =
+      GoesAfterLink x y supply f p d × (1 ≤ length events) × (final_stops events ≡ [])
   MadeBy (Err outcome) events x y supply f p d = EndsCourse outcome events y supply f p d
 
   -- a link was asked for, and used if it was made

@@ -7,12 +7,13 @@ use Rattle.bw_sender.specs.declared.sender.Sender.{Sender}
 use Rattle.bw_engine.specs.Talks.{HasHeard}
 use Rattle.bw_engine.specs.declared.send_fault.SendFault.{SendFault}
 use Rattle.bw_engine.specs.declared.send_fault.SendFault.TheVariants as faults
+use Rattle.bw_engine.specs.declared.stop.Stop.{Stop}
 use Rattle.bw_engine.specs.declared.talk.Listened.{Listened}
 use Rattle.bw_engine.specs.declared.talk.Listened.TheVariants as listens
 use Rattle.bw_engine.specs.declared.talk.Talk.{Talk}
 use Rattle.bw_ports.specs.declared.dial.Duplex.{Duplex}
 use Rattle.bw_upload.specs.Chains.{Chain}
-use Rattle.bw_upload.specs.Conversing.{Conversing, Line, TalkEvent, TalkStep, LeavesBy}
+use Rattle.bw_upload.specs.Conversing.{Conversing, Line, TalkEvent, TalkStep, LeavesBy, HeedsStop}
 use Rattle.bw_upload.specs.declared.observer.LinkEnd.{LinkEnd}
 use Rattle.bw_upload.specs.declared.observer.LinkEnd.TheVariants as ends
 
@@ -28,6 +29,24 @@ pub record IsTalking {R W : Type 0} (x : Conversing R W) (sender : Sender) (talk
     (link : Duplex R W) : Type 0 where
   pub sender_is : IsSender x.sender sender
   pub line_is : IsLine x.line talk link
+  pub unstopped : x.line.stop ≡ None
+
+-- if it is left, then for a reply that stops the talk, if there was one
+abbrev pub HeedsAny : Option LinkEnd → Option Stop → Type 0
+HeedsAny None stop = stop ≡ None
+HeedsAny (Some end) stop = HeedsStop end stop
+
+-- why a link isn't used any more whose writer has failed, and that was then heard up to this end
+abbrev pub break_end : LinkEnd → LinkEnd
+break_end ends.Ended = ends.Broken faults.Write
+break_end (ends.Broken faults.Read) = ends.Broken faults.Write
+break_end (ends.Broken faults.Write) = ends.Broken faults.Write
+break_end (ends.Broken faults.Memory) = ends.Broken faults.Write
+break_end (ends.Broken faults.BadReply) = ends.Broken faults.BadReply
+break_end (ends.Broken faults.TurnLimit) = ends.Broken faults.Write
+break_end (ends.Stopped stop) = ends.Stopped stop
+break_end ends.Refused = ends.Broken faults.Write
+break_end ends.Done = ends.Broken faults.Write
 
 -- why a link isn't used any more after a piece, if it isn't
 abbrev pub turn_end : Result Listened SendFault → Option LinkEnd
@@ -61,6 +80,7 @@ module _ {R W : Type 0} (reader : Reader R) (writer : Writer W) where
     pub went : Chain (TalkStep reader writer) events x after
     pub sender_is : IsSender after.sender sender
     pub broken : after.line.is_broken ≡ x.line.is_broken
+    pub heeds : HeedsAny end after.line.stop
     pub by : HeardBy end (length x.line.input) after talk link
 
   -- after a turn the link can be used, or it is left, or memory was refused
@@ -88,13 +108,16 @@ module _ {R W : Type 0} (reader : Reader R) (writer : Writer W) where
     pub after : Conversing R W
     pub went : Chain (TalkStep reader writer) events x after
     pub sender_is : IsSender after.sender sender
+    pub heeds : HeedsAny end after.line.stop
     pub by : TurnBy end (length x.line.input) after talk link
 
-  -- all that came was heard, after a write had failed
-  pub record HearsOut (x : Conversing R W) (sender : Sender) (talk : Talk) (link : Duplex R W)
-      : Type 0 where
+  -- all that came was heard, after a write had failed, up to a reply that stops the talk
+  pub record HearsOut (end : LinkEnd) (x : Conversing R W) (sender : Sender) (talk : Talk)
+      (link : Duplex R W) : Type 0 where
     pub events : List TalkEvent
     pub after : Conversing R W
     pub went : Chain (TalkStep reader writer) events x after
     pub sender_is : IsSender after.sender sender
     pub broken : after.line.is_broken ≡ x.line.is_broken
+    pub heeds : HeedsStop end after.line.stop
+    pub by : TurnBy (Some end) (length x.line.input) after talk link

@@ -10,6 +10,7 @@ use Rattle.bw_sender.specs.Senders.{IsSender}
 use Rattle.bw_upload.specs.Chains.{Chain}
 use Rattle.bw_upload.specs.Courses.{Course, UploadEvent, CourseStep, starts}
 use Rattle.bw_upload.specs.Fed.{OffersFeed}
+use Rattle.bw_upload.specs.FinalStops.{final_stops, named_stop}
 use Rattle.bw_upload.specs.Links.{EndsUpload, SaysRightly, says_done}
 use Rattle.bw_upload.specs.declared.feed.Feed.{Ghosts as FeedGhosts}
 use Rattle.bw_upload.specs.declared.outcome.Outcome.{Outcome}
@@ -28,6 +29,8 @@ module _ {F P D R W X : Type 0} (feed : FeedGhosts F X) (pause : PauseGhosts P)
     pub dial_is : last.dial ≡ d'
     pub ends : EndsUpload feed pause dial reader writer most outcome events last f'
     pub rightly : SaysRightly feed pause most outcome last.filling
+    -- no link was left for Conflict or TooFar, except the last for the one that it names
+    pub finals : final_stops events ≡ named_stop outcome
     -- where it is known what the feed gives
     pub feeds : (requests : List Request) → feed.left f requests →
         OffersFeed s requests (says_done outcome) last.filling.sender

@@ -12,6 +12,7 @@ use Rattle.bw_upload.specs.Chains.{Chain}
 use Rattle.bw_upload.specs.Conversing.{new_line}
 use Rattle.bw_upload.specs.Courses.{Course, CourseStep, UploadEvent, Leaves, fruitless_after}
 use Rattle.bw_upload.specs.Filling.{is_done}
+use Rattle.bw_upload.specs.FinalStops.{final_stop, final_stops}
 use Rattle.bw_upload.specs.Stopping.{StopsFeed}
 use Rattle.bw_upload.specs.Supplies.{IsFilling}
 use Rattle.bw_upload.specs.declared.feed.Feed.{Ghosts as FeedGhosts}
@@ -56,6 +57,7 @@ module _ {F P D R W X : Type 0} (feed : FeedGhosts F X) (pause : PauseGhosts P)
     pub stops : StopsFeed feed pause outcome y.filling f
     pub undone : outcome ≢ outcomes.Memory → is_done y.filling.sender y.filling.is_ended ≡ false
     pub many : outcome ≡ outcomes.Limit → 2 ^ 64 - 1 ≤ length events
+    pub finals : final_stops events ≡ []
 
   -- the link was left
   pub record LeftAfter (end : LinkEnd) (events : List UploadEvent) (x y : Course F P D R W)
@@ -65,6 +67,7 @@ module _ {F P D R W X : Type 0} (feed : FeedGhosts F X) (pause : PauseGhosts P)
     pub fruitless : y.fruitless
         ≡ fruitless_after x.before (settled y.filling.sender) x.fruitless
     pub last : (earlier : List UploadEvent) × (events ≡ earlier ++ Leaves end ∷ [])
+    pub finals : final_stops events ≡ final_stop end
 
   abbrev pub VisitedBy : Result LinkEnd (Outcome X) → List UploadEvent → Course F P D R W →
       Course F P D R W → Supply → F → P → Type 0

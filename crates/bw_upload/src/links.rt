@@ -25,13 +25,17 @@ use std::alloc::Global;
 /// Requests are offered as long as the window has room, and each is said once over a link, before
 /// anything is awaited. Before a further link is made, half a second passes, after links that settle
 /// nothing up to half a minute. So many of these in a row as `fruitless` says end the upload, if it
-/// is given. It also ends at the first refused request, and at Conflict and TooFar.
+/// is given. It also ends at the first refused request, and at Conflict and TooFar: after one of
+/// these it isn't `Done`, though all may have the verdict Stored, as of another sender's requests
+/// under these numbers.
 ///
 /// At most sixteen requests are held.
 ///
 /// # Not specified
 /// - When memory is refused, and when a link can't be made.
 /// - That the observer gets each report.
+/// - What is read after BYE, and a Conflict or TooFar that comes in one piece with bytes that are no
+///   reply, or after another reply for which the link is left.
 pub fn upload<F: Feed, P: Pause, D: Dial, V: Observer>(
     alloc: Global,
     sender: Sender,
@@ -167,9 +171,6 @@ fn make_link<F: Feed, P: Pause, D: Dial, V: Observer>(
     observer.link(LinkEvent::Made, &supply.sender);
     let end = visit::<F, P, D, V>(alloc, supply, feed, pause, &mut link, observer)?;
     observer.link(LinkEvent::Left(end), &supply.sender);
-    if supply.is_done() {
-        return Ok(());
-    }
     end_by(end)
 }
 

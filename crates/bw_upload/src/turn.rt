@@ -3,7 +3,7 @@ ghost use Rattle.std.specs.Prelude.{◌≡◌, ◌≢◌, true, false, None};
 ghost use Rattle.bw_model.specs.World.{pending};
 ghost use Rattle.bw_upload.specs.Conversing.{Conversing, MayHear};
 ghost use Rattle.bw_upload.specs.Turns.{IsTalking, HearsTurn, HearsOut, TakesTurn};
-ghost use Rattle.bw_upload.specs.Turns.{turn_end as end_of_turn};
+ghost use Rattle.bw_upload.specs.Turns.{turn_end as end_of_turn, break_end as end_of_break};
 
 use crate::observer::LinkEnd;
 use bw_engine::{Listened, SendFault, Talk};
@@ -14,8 +14,8 @@ use bw_stream::{Sink, Source};
 use std::alloc::Global;
 
 /// Says what is pending and wasn't said, and hears a piece. If the writer fails, hears what
-/// still comes: what came through before has its verdicts. Returns why the link isn't used any
-/// more, if it isn't: `Memory` if memory was refused.
+/// still comes: what came through before has its verdicts, or a reply that stops the talk. Returns
+/// why the link isn't used any more, if it isn't: `Memory` if memory was refused.
 pub(crate) fn take_turn<R: Source, W: Sink>(
     alloc: Global,
     sender: &mut Sender,
@@ -28,10 +28,7 @@ pub(crate) fn take_turn<R: Source, W: Sink>(
 {
     match talk.say(alloc, sender, &mut link.writer) {
         Ok(()) => hear(sender, talk, link),
-        Err(SendFault::Write) => {
-            hear_out(sender, talk, link);
-            Some(LinkEnd::Broken(SendFault::Write))
-        }
+        Err(SendFault::Write) => Some(hear_out(sender, talk, link)),
         Err(_memory) => Some(LinkEnd::Broken(SendFault::Memory)),
     }
 }
@@ -61,15 +58,33 @@ fn turn_end(listened: Result<Listened, SendFault>) -> Option<LinkEnd>
     }
 }
 
-/// Hears what still comes, up to a reply that stops the talk.
-fn hear_out<R: Source, W: Sink>(sender: &mut Sender, talk: &mut Talk, link: &mut Duplex<R, W>)
+/// Hears what still comes after the writer has failed, up to a reply that stops the talk. Returns
+/// why the link isn't used any more.
+fn hear_out<R: Source, W: Sink>(
+    sender: &mut Sender,
+    talk: &mut Talk,
+    link: &mut Duplex<R, W>,
+) -> LinkEnd
     ensures { (x : Conversing R W) → IsTalking x sender.old talk.old link.old →
         x.line.is_broken ≡ true →
-        HearsOut R.Source W.Sink x sender.new talk.new link.new }
+        HearsOut R.Source W.Sink result x sender.new talk.new link.new }
 {
     for _read in 0..MOST_READS {
-        if hear(sender, talk, link).is_some() {
-            return;
+        if let Some(end) = hear(sender, talk, link) {
+            return break_end(end);
         }
+    }
+    LinkEnd::Broken(SendFault::Write)
+}
+
+/// Why a link isn't used any more whose writer has failed, and that was then heard up to this end: a
+/// reply that stops the talk, or bytes that are none, say more than the failure does.
+fn break_end(end: LinkEnd) -> LinkEnd
+    ensures { result ≡ end_of_break end }
+{
+    match end {
+        LinkEnd::Stopped(stop) => LinkEnd::Stopped(stop),
+        LinkEnd::Broken(SendFault::BadReply) => LinkEnd::Broken(SendFault::BadReply),
+        _ => LinkEnd::Broken(SendFault::Write),
     }
 }

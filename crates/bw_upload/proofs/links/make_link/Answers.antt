@@ -1,7 +1,5 @@
-use Rattle.std.proofs.Common.{Bool, ap, sym, ◌∙◌}
 use Rattle.std.proofs.lemmas.Result.{err_from_is_err_and}
-use Rattle.bw_upload.specs.Filling.{is_done}
-use Rattle.bw_upload.proofs.LinkSteps.{link_missed, link_begins, made_course, link_stopped, link_on, link_ended}
+use Rattle.bw_upload.proofs.LinkSteps.{link_missed, link_begins, made_course, link_stopped, link_ended}
 use Rattle.bw_upload.proofs.links.make_link.Goals as goal
 
 pub returns-in_default : goal.returns-in_default
@@ -19,14 +17,6 @@ returns-in_err-end g c = λ most x n.
     g.F.Feed g.P.Pause g.D.Dial g.D.Reader.Source g.D.Writer.Sink most c.in_err-end.field-0.0 x _ _ _ _ _ _ _ _
     c.in-Ok.link n c.in-Ok.ensures.received v)
 
-pub returns-then-is_done : goal.returns-then-is_done
-returns-then-is_done g c = λ most x n.
-    let v = c.in_ok-end.ensures most (made_course g.F.Feed g.P.Pause g.D.Dial g.D.Reader.Source g.D.Writer.Sink most x
-    c.args.pause.now c.dial.new.self c.in-Ok.link)
-    (link_begins g.F.Feed g.P.Pause g.D.Dial g.D.Reader.Source g.D.Writer.Sink most x _ _ _ _ c.dial.new.self c.in-Ok.link n) in
-    link_on g.F.Feed g.P.Pause g.D.Dial g.D.Reader.Source g.D.Writer.Sink most c.in_ok-end.end x _ _ _ _ _ _ _ _
-    c.in-Ok.link n c.in-Ok.ensures.received v
-
 pub returns : goal.returns
 returns g c = λ most x n.
     let v = c.in_ok-end.ensures most (made_course g.F.Feed g.P.Pause g.D.Dial g.D.Reader.Source g.D.Writer.Sink most x
@@ -34,6 +24,4 @@ returns g c = λ most x n.
     (link_begins g.F.Feed g.P.Pause g.D.Dial g.D.Reader.Source g.D.Writer.Sink most x _ _ _ _ c.dial.new.self c.in-Ok.link n) in
     rw c.end_by.ensures (link_ended
     g.F.Feed g.P.Pause g.D.Dial g.D.Reader.Source g.D.Writer.Sink most c.in_ok-end.end x _ _ _ _ _ _ _ _
-    c.in-Ok.link n c.in-Ok.ensures.received v
-    (ap (λ (e : Bool). is_done v.after.filling.sender e) (sym v.by.filling.ended)
-    ∙ sym (c.is_done.ensures v.after.filling.sender v.by.filling.sender) ∙ c.if-is_done.false))
+    c.in-Ok.link n c.in-Ok.ensures.received v)

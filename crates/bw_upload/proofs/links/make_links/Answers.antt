@@ -1,4 +1,4 @@
-use Rattle.std.proofs.Common.{Bool, ap, arith, sym, ◌∙◌}
+use Rattle.std.proofs.Common.{Bool, ap, arith, refl, sym, ◌∙◌}
 use Rattle.bw_upload.specs.Filling.{is_done}
 use Rattle.bw_upload.specs.declared.outcome.Outcome.TheVariants.{Done, Limit}
 use Rattle.bw_upload.proofs.Lifting.{with_filling}
@@ -54,7 +54,7 @@ returns-then-is_done g c = λ s is unended.
     links_over g.F.Feed g.P.Pause g.D.Dial g.D.Reader.Source g.D.Writer.Sink c.args.most Done c.loop-links.links
     c.loop-links.fruitless s _ _ _ _ _ _ _ so
     (sym (ap (λ (e : Bool). is_done so.after.filling.sender e) (sym so.filling.ended)
-    ∙ sym (c.is_done.ensures so.after.filling.sender so.filling.sender) ∙ c.if-is_done.true)) so.filling.feed
+    ∙ sym (c.is_done.ensures so.after.filling.sender so.filling.sender) ∙ c.if-is_done.true)) refl so.filling.feed
 
 pub returns-else-is_done : goal.returns-else-is_done
 returns-else-is_done g c = λ s is unended.
@@ -63,5 +63,5 @@ returns-else-is_done g c = λ s is unended.
     links_over g.F.Feed g.P.Pause g.D.Dial g.D.Reader.Source g.D.Writer.Sink c.args.most Limit c.loop-links.links
     c.loop-links.fruitless s _ _ _ _ _ _ _ so
     (sym (ap (λ (e : Bool). is_done so.after.filling.sender e) (sym so.filling.ended)
-    ∙ sym (c.is_done.ensures so.after.filling.sender so.filling.sender) ∙ c.if-is_done.false))
+    ∙ sym (c.is_done.ensures so.after.filling.sender so.filling.sender) ∙ c.if-is_done.false)) refl
     (omega (arith, c.loop-links-test.false, many), so.filling.feed)

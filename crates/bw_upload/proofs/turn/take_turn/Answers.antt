@@ -11,7 +11,7 @@ returns-in-Ok g c = λ x is whole some.
 pub returns-in-Err-Write : goal.returns-in-Err-Write
 returns-in-Err-Write g c = λ x is whole some.
     let write = c.in-Err-Write.field-0-is in
-    broke_and_heard g.R.Source g.W.Sink x c.args.sender.now c.hear_out.new.sender c.args.talk.now c.say.new.self
+    broke_and_heard g.R.Source g.W.Sink c.hear_out.result x c.args.sender.now c.hear_out.new.sender c.args.talk.now c.say.new.self
     c.hear_out.new.talk c.args.link.now c.hear_out.new.link c.say.new.writer is whole
     (rw write at c.in-Err-Write.ensures.err x.sender is.sender_is) (rw write at c.in-Err-Write.ensures.count)
     c.say.ensures.heard c.hear_out.ensures
