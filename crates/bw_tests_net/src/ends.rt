@@ -1,40 +1,21 @@
 //! How connections end, and the run.
 use crate::compare::same;
-use crate::play::{ALL, OTHER, OTHERS_FIRST, QUICK, VERDICTS, is_over, is_reported, serve};
-use crate::scripted::{Give, Script, Take};
-use crate::scripted_reactor::{Comes, Plan, ReportsRound, Visit};
+use crate::play::{ALL, OTHER, OTHERS_FIRST, QUICK, VERDICTS, bounds, is_over, is_reported, serve};
+use crate::scripted::{Give, Take};
+use crate::scripted_reactor::{Comes, Plan, Visit};
 use bw_console::Exit;
-use bw_serve::Bounds;
 use std::alloc::Global;
 use std::process::Abort;
 use std::test::Fail;
 
-const BROKEN_READ: Visit = Visit {
-    round: 1,
-    comes: Comes::Peer(Script {
-        input: OTHER,
-        gives: &[Give::Bytes(22), Give::Failed],
-        takes: ALL,
-    }),
-};
+const BROKEN_READ: Visit = Visit(1, Comes::Peer(OTHER, &[Give::Bytes(22), Give::Failed], ALL));
 
-const BROKEN_WRITE: Visit = Visit {
-    round: 1,
-    comes: Comes::Peer(Script {
-        input: OTHER,
-        gives: &[Give::Bytes(22)],
-        takes: &[Take::Bytes(5), Take::Failed],
-    }),
-};
+const BROKEN_WRITE: Visit = Visit(
+    1,
+    Comes::Peer(OTHER, &[Give::Bytes(22)], &[Take::Bytes(5), Take::Failed]),
+);
 
-const BYE: Visit = Visit {
-    round: 1,
-    comes: Comes::Peer(Script {
-        input: b"\x01\0\0\0\x09",
-        gives: &[Give::Bytes(5)],
-        takes: ALL,
-    }),
-};
+const BYE: Visit = Visit(1, Comes::Peer(b"\x01\0\0\0\x09", &[Give::Bytes(5)], ALL));
 
 const FOUR_ENDS: &[Visit] = &[BROKEN_WRITE, BROKEN_READ, QUICK, BYE];
 
@@ -42,21 +23,10 @@ const FOUR_ENDS: &[Visit] = &[BROKEN_WRITE, BROKEN_READ, QUICK, BYE];
 const FOUR_LINES: &[u8] = b"exchange 0 Bye\nexchange 1 WriteFault\n\
     exchange 2 ReadFault\nexchange 3 EndOfInput\n";
 
-const FOUR: Bounds = Bounds {
-    places: 4,
-    exchanges: 4,
-    idle: 60_000,
-};
-
 #[test]
 fn each_end_has_its_line_in_order(rt: HostRuntime) -> Result<(), Fail> {
-    let plan = Plan {
-        visits: FOUR_ENDS,
-        tick: 10,
-        rounds: 100,
-        reports: ReportsRound::Both,
-    };
-    let received = serve(rt.alloc(), &FOUR, plan)?;
+    let plan = Plan::over(FOUR_ENDS, 10, 100);
+    let received = serve(rt.alloc(), &bounds(4, 4, 60_000), plan)?;
     is_over(&rt, &received, Exit::Done, FOUR_LINES);
     is_reported(&rt, &received, 0, &OTHERS_FIRST[..5]);
     is_reported(&rt, &received, 1, OTHERS_FIRST);
@@ -65,15 +35,9 @@ fn each_end_has_its_line_in_order(rt: HostRuntime) -> Result<(), Fail> {
     Ok(())
 }
 
-const CLOSED: Visit = Visit {
-    round: 4,
-    comes: Comes::Closed,
-};
+const CLOSED: Visit = Visit(4, Comes::Closed);
 
-const GONE: Visit = Visit {
-    round: 1,
-    comes: Comes::Gone,
-};
+const GONE: Visit = Visit(1, Comes::Gone);
 
 const THEN_CLOSED: &[Visit] = &[QUICK, CLOSED, QUICK];
 
@@ -90,18 +54,8 @@ fn ends_so(
     exit: Exit,
     time: u64,
 ) -> Result<(), Fail> {
-    let bounds = Bounds {
-        places: 1,
-        exchanges,
-        idle: 60_000,
-    };
-    let plan = Plan {
-        visits,
-        tick: 10,
-        rounds: 6,
-        reports: ReportsRound::Both,
-    };
-    let received = serve(alloc, &bounds, plan)?;
+    let plan = Plan::over(visits, 10, 6);
+    let received = serve(alloc, &bounds(1, exchanges, 60_000), plan)?;
     is_over(rt, &received, exit, b"exchange 0 EndOfInput\n");
     is_reported(rt, &received, 0, VERDICTS);
     same(rt, "how many came", &received.scripted_reactor.let_in(), &1);

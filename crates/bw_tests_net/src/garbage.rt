@@ -1,10 +1,9 @@
 //! What follows a bad frame.
 use crate::compare::same;
-use crate::play::{ALL, Received, is_over, is_reported, serve};
-use crate::scripted::{Give, Script};
-use crate::scripted_reactor::{Comes, Plan, ReportsRound, Visit};
+use crate::play::{ALL, Received, bounds, is_over, is_reported, serve};
+use crate::scripted::Give;
+use crate::scripted_reactor::{Comes, Plan, Visit};
 use bw_console::Exit;
-use bw_serve::Bounds;
 use std::alloc::Global;
 use std::process::Abort;
 use std::test::Fail;
@@ -18,44 +17,27 @@ const AFTER: &[u8] = b"\0\0\0\0\
 /// The reply to the bad frame.
 const BAD_FRAME: &[u8] = b"\x0a\0\0\0\x83\x01\0\0\0\0\0\0\0\0";
 
-const IN_PIECES: &[Visit] = &[Visit {
-    round: 1,
-    comes: Comes::Peer(Script {
-        input: AFTER,
-        gives: &[
+const IN_PIECES: &[Visit] = &[Visit(
+    1,
+    Comes::Peer(
+        AFTER,
+        &[
             Give::Bytes(4),
             Give::Bytes(22),
             Give::Nothing,
             Give::Bytes(16),
             Give::Bytes(20),
         ],
-        takes: ALL,
-    }),
-}];
+        ALL,
+    ),
+)];
 
-const WITHOUT_END: &[Visit] = &[Visit {
-    round: 1,
-    comes: Comes::Peer(Script {
-        input: AFTER,
-        gives: &[Give::Bytes(4), Give::Bytes(1)],
-        takes: ALL,
-    }),
-}];
+const WITHOUT_END: &[Visit] = &[Visit(
+    1,
+    Comes::Peer(AFTER, &[Give::Bytes(4), Give::Bytes(1)], ALL),
+)];
 
-const BROKEN: &[Visit] = &[Visit {
-    round: 1,
-    comes: Comes::Peer(Script {
-        input: AFTER,
-        gives: &[Give::Bytes(10), Give::Failed],
-        takes: ALL,
-    }),
-}];
-
-const ONE: Bounds = Bounds {
-    places: 1,
-    exchanges: 1,
-    idle: 60_000,
-};
+const BROKEN: &[Visit] = &[Visit(1, Comes::Peer(AFTER, &[Give::Bytes(10), Give::Failed], ALL))];
 
 /// Serves a peer that sends a bad frame, and compares the outcome of the run; then how many bytes
 /// it gave, and when it was ended.
@@ -66,13 +48,8 @@ fn is_bad(
     given: usize,
     time: u64,
 ) -> Result<(), Fail> {
-    let plan = Plan {
-        visits,
-        tick: 100,
-        rounds: 1_000,
-        reports: ReportsRound::Both,
-    };
-    let received = serve(alloc, &ONE, plan)?;
+    let plan = Plan::over(visits, 100, 1_000);
+    let received = serve(alloc, &bounds(1, 1, 60_000), plan)?;
     is_over(rt, &received, Exit::Done, b"exchange 0 BadFrame\n");
     is_reported(rt, &received, 0, BAD_FRAME);
     let found = received.scripted_reactor.given_and_shut(0);

@@ -1,30 +1,18 @@
 //! Memory that is refused to an event loop.
-use crate::play::{OTHERS, QUICK, QUICK_OTHER, Received, VERDICTS, try_serve, two_frames};
-use crate::scripted_reactor::{Plan, ReportsRound, Visit};
+use crate::play::{OTHERS, QUICK, QUICK_OTHER, Received, VERDICTS, bounds, try_serve, two_frames};
+use crate::scripted_reactor::{Plan, Visit};
 use bw_request::Name;
-use bw_serve::Bounds;
 use std::alloc::Global;
 use std::process::Abort;
 use std::test::Fail;
 
 const BOTH: &[Visit] = &[QUICK, QUICK_OTHER];
 
-const TWO: Bounds = Bounds {
-    places: 2,
-    exchanges: 2,
-    idle: 100,
-};
-
 /// Run once more with each growth refused, by `tools/refuse_calls --tests`.
 #[test]
 fn what_was_reported_stands_where_a_growth_is_refused(rt: HostRuntime) -> Result<(), Fail> {
-    let plan = Plan {
-        visits: BOTH,
-        tick: 10,
-        rounds: 100,
-        reports: ReportsRound::Both,
-    };
-    if let Some(received) = try_serve(rt.alloc(), &TWO, true, plan) {
+    let plan = Plan::over(BOTH, 10, 100);
+    if let Some(received) = try_serve(rt.alloc(), &bounds(2, 2, 100), true, plan) {
         assert!(&rt;
             stands(rt.alloc(), &received, b"a1", VERDICTS),
             "another file a1"

@@ -1,11 +1,11 @@
 //! The whole command: its first line, its lines, and what it reports if something can't be used.
 use crate::compare::same;
 use crate::memory_network::{FOLDER, MemoryNetwork, PORT};
-use crate::play::{QUICK, QUICK_OTHER};
-use crate::scripted_reactor::{Plan, ReportsRound, Visit};
+use crate::play::{QUICK, QUICK_OTHER, bounds};
+use crate::scripted_reactor::{Plan, Visit};
 use bw_console::Exit;
 use bw_layout::Limit;
-use bw_serve::{Bounds, Hosting, serve_many};
+use bw_serve::{Hosting, serve_many};
 use bw_stream::MemorySink;
 use std::alloc::Global;
 use std::net::{Ipv4Addr, SocketAddr};
@@ -13,19 +13,6 @@ use std::process::Abort;
 use std::test::Fail;
 
 const TWO_VISITS: &[Visit] = &[QUICK, QUICK_OTHER];
-
-const PLAN: Plan = Plan {
-    visits: TWO_VISITS,
-    tick: 10,
-    rounds: 100,
-    reports: ReportsRound::Both,
-};
-
-const TWO: Bounds = Bounds {
-    places: 2,
-    exchanges: 2,
-    idle: 60_000,
-};
 
 /// The wanted outcome of a call.
 #[derive(Clone, Copy)]
@@ -38,11 +25,11 @@ struct Wanted {
 
 /// Serves two at once over the memory's network, with a log, and compares the whole outcome.
 fn comes_to(rt: &impl Abort, alloc: Global, port: u16, folder: &str, wanted: &Wanted) {
-    let mut memory_network = MemoryNetwork::new(alloc, PLAN);
+    let mut memory_network = MemoryNetwork::new(alloc, Plan::over(TWO_VISITS, 10, 100));
     let hosting = Hosting {
         address: SocketAddr::from((Ipv4Addr::LOCALHOST, port)),
         folder,
-        bounds: TWO,
+        bounds: bounds(2, 2, 60_000),
         limit: Limit::default(),
         log: true,
     };

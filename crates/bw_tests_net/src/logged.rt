@@ -1,9 +1,10 @@
 //! The log lines of recorders that are served at once.
-use crate::play::{ALL, OTHER, QUICK, QUICK_OTHER, is_logged, is_over, serve, serve_logged};
-use crate::scripted::{Give, Script, Take};
-use crate::scripted_reactor::{Comes, Plan, ReportsRound, Visit};
+use crate::play::{
+    ALL, OTHER, QUICK, QUICK_OTHER, bounds, is_logged, is_over, serve, serve_logged,
+};
+use crate::scripted::{Give, Take};
+use crate::scripted_reactor::{Comes, Plan, Visit};
 use bw_console::Exit;
-use bw_serve::Bounds;
 use std::test::Fail;
 
 /// OPEN 0 and BLOCK 1 under `a1`, with bodies of 18 and 12 bytes.
@@ -17,49 +18,25 @@ const ONE_REQUEST: &[u8] = b"\x12\0\0\0\x01\x02c3\0\0\0\0\x80\xbb\0\0\x01\0\x10\
 /// The second, whose three bodies are of 18, 12 and 16 bytes, sends two at a time, in 32 rounds. The
 /// third falls silent after its first frame, in the first round.
 const BESIDE_EACH_OTHER: &[Visit] = &[
-    Visit {
-        round: 1,
-        comes: Comes::Peer(Script {
-            input: TWO_REQUESTS,
-            gives: &[Give::Bytes(1)],
-            takes: &[Take::Bytes(1)],
-        }),
-    },
-    Visit {
-        round: 1,
-        comes: Comes::Peer(Script {
-            input: OTHER,
-            gives: &[Give::Bytes(2)],
-            takes: ALL,
-        }),
-    },
-    Visit {
-        round: 1,
-        comes: Comes::Peer(Script {
-            input: ONE_REQUEST,
-            gives: &[Give::Bytes(22), Give::Nothing],
-            takes: ALL,
-        }),
-    },
+    Visit(
+        1,
+        Comes::Peer(TWO_REQUESTS, &[Give::Bytes(1)], &[Take::Bytes(1)]),
+    ),
+    Visit(1, Comes::Peer(OTHER, &[Give::Bytes(2)], ALL)),
+    Visit(
+        1,
+        Comes::Peer(ONE_REQUEST, &[Give::Bytes(22), Give::Nothing], ALL),
+    ),
 ];
 
-const THREE: Bounds = Bounds {
-    places: 3,
-    exchanges: 3,
-    idle: 2_000,
-};
-
-const SLOWLY: Plan = Plan {
-    visits: BESIDE_EACH_OTHER,
-    // the third is ended in round 52; no frame takes more than 29 rounds
-    tick: 40,
-    rounds: 1_000,
-    reports: ReportsRound::Both,
-};
+/// The third is ended in round 52; no frame takes more than 29 rounds.
+fn slowly() -> Plan {
+    Plan::over(BESIDE_EACH_OTHER, 40, 1_000)
+}
 
 #[test]
 fn each_is_reported_of_with_its_own_messages(rt: HostRuntime) -> Result<(), Fail> {
-    let received = serve_logged(rt.alloc(), &THREE, SLOWLY)?;
+    let received = serve_logged(rt.alloc(), &bounds(3, 3, 2_000), slowly())?;
     is_over(
         &rt,
         &received,
@@ -78,28 +55,17 @@ fn each_is_reported_of_with_its_own_messages(rt: HostRuntime) -> Result<(), Fail
 
 #[test]
 fn no_one_is_reported_of_without_a_log(rt: HostRuntime) -> Result<(), Fail> {
-    let received = serve(rt.alloc(), &THREE, SLOWLY)?;
+    let received = serve(rt.alloc(), &bounds(3, 3, 2_000), slowly())?;
     is_logged(&rt, &received, b"");
     Ok(())
 }
-
-const ONE_PLACE: Bounds = Bounds {
-    places: 1,
-    exchanges: 2,
-    idle: 60_000,
-};
 
 const AFTER_EACH_OTHER: &[Visit] = &[QUICK, QUICK_OTHER];
 
 #[test]
 fn the_next_at_a_place_is_counted_anew(rt: HostRuntime) -> Result<(), Fail> {
-    let plan = Plan {
-        visits: AFTER_EACH_OTHER,
-        tick: 10,
-        rounds: 100,
-        reports: ReportsRound::Both,
-    };
-    let received = serve_logged(rt.alloc(), &ONE_PLACE, plan)?;
+    let plan = Plan::over(AFTER_EACH_OTHER, 10, 100);
+    let received = serve_logged(rt.alloc(), &bounds(1, 2, 60_000), plan)?;
     is_logged(
         &rt,
         &received,

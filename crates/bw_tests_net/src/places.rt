@@ -1,41 +1,24 @@
 //! More recorders than places, or than are wanted.
 use crate::compare::same;
-use crate::play::{OTHERS, QUICK, QUICK_OTHER, VERDICTS, is_over, is_reported, serve};
-use crate::scripted_reactor::{Plan, ReportsRound, Visit};
+use crate::play::{
+    OTHERS, QUICK, QUICK_OTHER, Received, VERDICTS, bounds, is_over, is_reported, serve,
+};
+use crate::scripted_reactor::{Plan, Visit};
 use bw_console::Exit;
-use bw_serve::Bounds;
+use std::alloc::Global;
 use std::test::Fail;
 
 const THREE_VISITS: &[Visit] = &[QUICK, QUICK_OTHER, QUICK];
 
-const PLAN: Plan = Plan {
-    visits: THREE_VISITS,
-    tick: 10,
-    rounds: 100,
-    reports: ReportsRound::Both,
-};
-
-const ONE_PLACE: Bounds = Bounds {
-    places: 1,
-    exchanges: 3,
-    idle: 60_000,
-};
-
-const TWO_WANTED: Bounds = Bounds {
-    places: 4,
-    exchanges: 2,
-    idle: 60_000,
-};
-
-const NONE_WANTED: Bounds = Bounds {
-    places: 4,
-    exchanges: 0,
-    idle: 60_000,
-};
+/// Serves the three at so many places, until so many have been served.
+fn serve_three(alloc: Global, places: usize, exchanges: u64) -> Result<Received, Fail> {
+    let plan = Plan::over(THREE_VISITS, 10, 100);
+    serve(alloc, &bounds(places, exchanges, 60_000), plan)
+}
 
 #[test]
 fn the_next_is_let_in_where_a_place_is_free(rt: HostRuntime) -> Result<(), Fail> {
-    let received = serve(rt.alloc(), &ONE_PLACE, PLAN)?;
+    let received = serve_three(rt.alloc(), 1, 3)?;
     let lines = b"exchange 0 EndOfInput\nexchange 1 Bye\nexchange 2 EndOfInput\n";
     is_over(&rt, &received, Exit::Done, lines);
     is_reported(&rt, &received, 1, OTHERS);
@@ -58,7 +41,7 @@ fn the_next_is_let_in_where_a_place_is_free(rt: HostRuntime) -> Result<(), Fail>
 
 #[test]
 fn no_more_are_let_in_than_are_wanted(rt: HostRuntime) -> Result<(), Fail> {
-    let received = serve(rt.alloc(), &TWO_WANTED, PLAN)?;
+    let received = serve_three(rt.alloc(), 4, 2)?;
     is_over(
         &rt,
         &received,
@@ -82,7 +65,7 @@ fn no_more_are_let_in_than_are_wanted(rt: HostRuntime) -> Result<(), Fail> {
 
 #[test]
 fn nobody_is_waited_for_where_none_is_wanted(rt: HostRuntime) -> Result<(), Fail> {
-    let received = serve(rt.alloc(), &NONE_WANTED, PLAN)?;
+    let received = serve_three(rt.alloc(), 4, 0)?;
     is_over(&rt, &received, Exit::Done, b"");
     same(&rt, "the time", &received.scripted_reactor.time(), &0);
     Ok(())

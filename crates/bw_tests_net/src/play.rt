@@ -1,6 +1,6 @@
 //! The bytes of worked takes, and runs over them.
 use crate::compare::same;
-use crate::scripted::{Give, Script, Take};
+use crate::scripted::{Give, Take};
 use crate::scripted_reactor::{Comes, Plan, ScriptedReactor, Visit};
 use bw_console::Exit;
 use bw_exchange::Metered;
@@ -46,24 +46,19 @@ pub(crate) const OTHERS_FIRST: &[u8] = b"\x09\0\0\0\x81\x02b2\0\0\0\0\0";
 pub(crate) const ALL: &[Take] = &[Take::Bytes(4096)];
 
 /// A peer that sends `TAKE` at once.
-pub(crate) const QUICK: Visit = Visit {
-    round: 1,
-    comes: Comes::Peer(Script {
-        input: TAKE,
-        gives: &[Give::Bytes(58)],
-        takes: ALL,
-    }),
-};
+pub(crate) const QUICK: Visit = Visit(1, Comes::Peer(TAKE, &[Give::Bytes(58)], ALL));
 
 /// A peer that sends `OTHER` at once.
-pub(crate) const QUICK_OTHER: Visit = Visit {
-    round: 1,
-    comes: Comes::Peer(Script {
-        input: OTHER,
-        gives: &[Give::Bytes(63)],
-        takes: ALL,
-    }),
-};
+pub(crate) const QUICK_OTHER: Visit = Visit(1, Comes::Peer(OTHER, &[Give::Bytes(63)], ALL));
+
+/// At most so many connections at once and in all, each of them silent for so many milliseconds.
+pub(crate) fn bounds(places: usize, exchanges: u64, idle: u64) -> Bounds {
+    Bounds {
+        places,
+        exchanges,
+        idle,
+    }
+}
 
 /// The outcome of a run.
 #[derive(Drop)]

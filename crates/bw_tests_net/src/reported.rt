@@ -1,50 +1,36 @@
 //! What a reactor reports of links: as soon as there may be bytes, or room, and only once.
-use crate::play::{ALL, OTHERS, QUICK, QUICK_OTHER, TAKE, VERDICTS, is_over, is_reported, serve};
-use crate::scripted::{Give, Script, Take};
+use crate::play::{
+    ALL, OTHERS, QUICK, QUICK_OTHER, TAKE, VERDICTS, bounds, is_over, is_reported, serve,
+};
+use crate::scripted::{Give, Take};
 use crate::scripted_reactor::{Comes, Plan, ReportsRound, Visit};
 use bw_console::Exit;
-use bw_serve::Bounds;
 use std::alloc::Global;
 use std::process::Abort;
 use std::test::Fail;
 
 /// There are no bytes at first.
-const BYTES_LATER: &[Visit] = &[Visit {
-    round: 1,
-    comes: Comes::Peer(Script {
-        input: TAKE,
-        gives: &[Give::Nothing, Give::Bytes(58)],
-        takes: ALL,
-    }),
-}];
+const BYTES_LATER: &[Visit] = &[Visit(
+    1,
+    Comes::Peer(TAKE, &[Give::Nothing, Give::Bytes(58)], ALL),
+)];
 
 /// There is no room at first.
-const ROOM_LATER: &[Visit] = &[Visit {
-    round: 1,
-    comes: Comes::Peer(Script {
-        input: TAKE,
-        gives: &[Give::Bytes(58)],
-        takes: &[Take::Nothing, Take::Bytes(4096)],
-    }),
-}];
+const ROOM_LATER: &[Visit] = &[Visit(
+    1,
+    Comes::Peer(
+        TAKE,
+        &[Give::Bytes(58)],
+        &[Take::Nothing, Take::Bytes(4096)],
+    ),
+)];
 
 const BOTH: &[Visit] = &[QUICK, QUICK_OTHER];
 
-const fn bounds(count: u64) -> Bounds {
-    Bounds {
-        places: 2,
-        exchanges: count,
-        idle: 1_000,
-    }
-}
-
-const fn plan(visits: &'static [Visit], reports: ReportsRound) -> Plan {
-    Plan {
-        visits,
-        tick: 100,
-        rounds: 100,
-        reports,
-    }
+/// Only this is reported after a wait.
+fn plan(visits: &'static [Visit], reports: ReportsRound) -> Plan {
+    let all = Plan::over(visits, 100, 100);
+    Plan { reports, ..all }
 }
 
 /// Compares a run of one peer of which only this is reported.
@@ -54,7 +40,7 @@ fn is_served(
     visits: &'static [Visit],
     reports: ReportsRound,
 ) -> Result<(), Fail> {
-    let received = serve(alloc, &bounds(1), plan(visits, reports))?;
+    let received = serve(alloc, &bounds(2, 1, 1_000), plan(visits, reports))?;
     is_over(rt, &received, Exit::Done, b"exchange 0 EndOfInput\n");
     is_reported(rt, &received, 0, VERDICTS);
     Ok(())
@@ -72,7 +58,11 @@ fn replies_are_sent_once_room_is_reported(rt: HostRuntime) -> Result<(), Fail> {
 
 #[test]
 fn bytes_and_end_are_read_without_being_reported_again(rt: HostRuntime) -> Result<(), Fail> {
-    let received = serve(rt.alloc(), &bounds(2), plan(BOTH, ReportsRound::Nothing))?;
+    let received = serve(
+        rt.alloc(),
+        &bounds(2, 2, 1_000),
+        plan(BOTH, ReportsRound::Nothing),
+    )?;
     let lines = b"exchange 0 Bye\nexchange 1 EndOfInput\n";
     is_over(&rt, &received, Exit::Done, lines);
     is_reported(&rt, &received, 0, VERDICTS);

@@ -2,7 +2,7 @@
 ghost use Rattle.std.specs.Prelude.{◌≡◌, [], IfOk, ⊤};
 ghost use Rattle.bw_ports.specs.Reactors.{closes_after};
 
-use crate::scripted::{Record, Script, Scripted, new_record};
+use crate::scripted::{Give, Record, Script, Scripted, Take, new_record};
 use bw_ports::{Accepted, Link, Reactor, Ready, TryAcceptFault, WaitFault};
 use std::alloc::{AllocError, Global};
 use std::cell::RefCell;
@@ -12,17 +12,15 @@ use std::rc::Rc;
 /// A peer that comes, or what happens instead.
 #[derive(Clone, Copy)]
 pub(crate) enum Comes {
-    Peer(Script),
+    /// Its script: the input, what it gives and what it takes.
+    Peer(&'static [u8], &'static [Give], &'static [Take]),
     Gone,
     Closed,
 }
 
 /// A peer that comes in this round, counted from 1, or as soon as there is a place.
 #[derive(Clone, Copy)]
-pub(crate) struct Visit {
-    pub(crate) round: u64,
-    pub(crate) comes: Comes,
-}
+pub(crate) struct Visit(pub(crate) u64, pub(crate) Comes);
 
 /// What is reported of each link after each wait.
 #[derive(Clone, Copy, PartialEq, Eq)]
@@ -42,6 +40,18 @@ pub(crate) struct Plan {
     /// How many rounds there are before a wait fails.
     pub(crate) rounds: u64,
     pub(crate) reports: ReportsRound,
+}
+
+impl Plan {
+    /// All is reported after each wait.
+    pub(crate) fn over(visits: &'static [Visit], tick: u64, rounds: u64) -> Plan {
+        Plan {
+            visits,
+            tick,
+            rounds,
+            reports: ReportsRound::Both,
+        }
+    }
 }
 
 /// A reactor in memory, which keeps a record of each link.
@@ -226,20 +236,27 @@ impl Reactor for ScriptedReactor {
     }
 
     fn accept(&mut self, place: usize) -> Result<Accepted<Scripted>, TryAcceptFault> {
-        let Some(visit) = self.plan.visits.get(self.met).copied() else {
+        let Some(Visit(round, comes)) = self.plan.visits.get(self.met).copied() else {
             return Err(TryAcceptFault::Nobody);
         };
-        if visit.round > self.round {
+        if round > self.round {
             return Err(TryAcceptFault::Nobody);
         }
         self.met = self.met.saturating_add(1);
-        match visit.comes {
+        match comes {
             Comes::Gone => Err(TryAcceptFault::Gone),
             Comes::Closed => {
                 self.failures = self.failures.saturating_add(1);
                 Err(TryAcceptFault::Closed)
             }
-            Comes::Peer(script) => self.admit(script, place),
+            Comes::Peer(input, gives, takes) => {
+                let script = Script {
+                    input,
+                    gives,
+                    takes,
+                };
+                self.admit(script, place)
+            }
         }
     }
 

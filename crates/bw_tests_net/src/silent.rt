@@ -1,43 +1,29 @@
 //! Recorders that send no whole frame, or take no reply, beside another.
 use crate::compare::same;
-use crate::play::{ALL, FIRST, OTHERS, QUICK_OTHER, TAKE, VERDICTS, is_over, is_reported, serve};
-use crate::scripted::{Give, Script, Take};
-use crate::scripted_reactor::{Comes, Plan, ReportsRound, Visit};
+use crate::play::{
+    ALL, FIRST, OTHERS, QUICK_OTHER, TAKE, VERDICTS, bounds, is_over, is_reported, serve,
+};
+use crate::scripted::{Give, Take};
+use crate::scripted_reactor::{Comes, Plan, Visit};
 use bw_console::Exit;
-use bw_serve::Bounds;
 use std::alloc::Global;
 use std::process::Abort;
 use std::test::Fail;
 
 /// Silent in the middle of its second frame.
-const SILENT: Visit = Visit {
-    round: 1,
-    comes: Comes::Peer(Script {
-        input: TAKE,
-        gives: &[Give::Bytes(30), Give::Nothing],
-        takes: ALL,
-    }),
-};
+const SILENT: Visit = Visit(1, Comes::Peer(TAKE, &[Give::Bytes(30), Give::Nothing], ALL));
 
 /// A byte a round, after its first frame.
-const SLOW: Visit = Visit {
-    round: 1,
-    comes: Comes::Peer(Script {
-        input: TAKE,
-        gives: &[Give::Bytes(22), Give::Bytes(1)],
-        takes: ALL,
-    }),
-};
+const SLOW: Visit = Visit(
+    1,
+    Comes::Peer(TAKE, &[Give::Bytes(22), Give::Bytes(1)], ALL),
+);
 
 /// Takes no replies.
-const DEAF: Visit = Visit {
-    round: 1,
-    comes: Comes::Peer(Script {
-        input: TAKE,
-        gives: &[Give::Bytes(22), Give::Bytes(16)],
-        takes: &[Take::Nothing],
-    }),
-};
+const DEAF: Visit = Visit(
+    1,
+    Comes::Peer(TAKE, &[Give::Bytes(22), Give::Bytes(16)], &[Take::Nothing]),
+);
 
 const BESIDE_SILENT: &[Visit] = &[SILENT, QUICK_OTHER];
 
@@ -45,33 +31,23 @@ const BESIDE_SLOW: &[Visit] = &[SLOW, QUICK_OTHER];
 
 const BESIDE_DEAF: &[Visit] = &[DEAF, QUICK_OTHER];
 
-const TWO: Bounds = Bounds {
-    places: 2,
-    exchanges: 2,
-    idle: 1_000,
-};
-
 const LINES: &[u8] = b"exchange 0 Bye\nexchange 1 Idle\n";
 
 /// A peer that comes after two seconds, and sends nothing at first.
-const LATE: &[Visit] = &[Visit {
-    round: 20,
-    comes: Comes::Peer(Script {
-        input: TAKE,
-        gives: &[Give::Nothing, Give::Bytes(58)],
-        takes: ALL,
-    }),
-}];
+const LATE: &[Visit] = &[Visit(
+    20,
+    Comes::Peer(TAKE, &[Give::Nothing, Give::Bytes(58)], ALL),
+)];
 
 /// A frame a round.
-const STEADY: &[Visit] = &[Visit {
-    round: 1,
-    comes: Comes::Peer(Script {
-        input: TAKE,
-        gives: &[Give::Bytes(22), Give::Bytes(16), Give::Bytes(20)],
-        takes: ALL,
-    }),
-}];
+const STEADY: &[Visit] = &[Visit(
+    1,
+    Comes::Peer(
+        TAKE,
+        &[Give::Bytes(22), Give::Bytes(16), Give::Bytes(20)],
+        ALL,
+    ),
+)];
 
 /// Compares a run of one of these beside `QUICK_OTHER`: its replies, how many bytes it gave, and
 /// when it was ended.
@@ -82,13 +58,8 @@ fn is_idle(
     replies: &[u8],
     given: usize,
 ) -> Result<(), Fail> {
-    let plan = Plan {
-        visits,
-        tick: 100,
-        rounds: 1_000,
-        reports: ReportsRound::Both,
-    };
-    let received = serve(alloc, &TWO, plan)?;
+    let plan = Plan::over(visits, 100, 1_000);
+    let received = serve(alloc, &bounds(2, 2, 1_000), plan)?;
     is_over(rt, &received, Exit::Done, LINES);
     is_reported(rt, &received, 0, replies);
     is_reported(rt, &received, 1, OTHERS);
@@ -127,18 +98,8 @@ fn is_served(
     tick: u64,
     idle: u64,
 ) -> Result<(), Fail> {
-    let plan = Plan {
-        visits,
-        tick,
-        rounds: 100,
-        reports: ReportsRound::Both,
-    };
-    let bounds = Bounds {
-        places: 1,
-        exchanges: 1,
-        idle,
-    };
-    let received = serve(alloc, &bounds, plan)?;
+    let plan = Plan::over(visits, tick, 100);
+    let received = serve(alloc, &bounds(1, 1, idle), plan)?;
     is_over(rt, &received, Exit::Done, b"exchange 0 EndOfInput\n");
     is_reported(rt, &received, 0, VERDICTS);
     Ok(())

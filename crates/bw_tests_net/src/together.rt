@@ -1,46 +1,22 @@
 //! Recorders that are served at once.
-use crate::play::{ALL, OTHER, OTHERS, TAKE, VERDICTS, has_file, is_over, is_reported, serve};
-use crate::scripted::{Give, Script, Take};
-use crate::scripted_reactor::{Comes, Plan, ReportsRound, Visit};
+use crate::play::{
+    ALL, OTHER, OTHERS, TAKE, VERDICTS, bounds, has_file, is_over, is_reported, serve,
+};
+use crate::scripted::{Give, Take};
+use crate::scripted_reactor::{Comes, Plan, Visit};
 use bw_console::Exit;
-use bw_serve::Bounds;
 use std::test::Fail;
 
 /// Each sends a byte at a time; the first takes its replies a byte at a time too.
 const IN_BYTES: &[Visit] = &[
-    Visit {
-        round: 1,
-        comes: Comes::Peer(Script {
-            input: TAKE,
-            gives: &[Give::Bytes(1)],
-            takes: &[Take::Bytes(1)],
-        }),
-    },
-    Visit {
-        round: 1,
-        comes: Comes::Peer(Script {
-            input: OTHER,
-            gives: &[Give::Bytes(1)],
-            takes: ALL,
-        }),
-    },
+    Visit(1, Comes::Peer(TAKE, &[Give::Bytes(1)], &[Take::Bytes(1)])),
+    Visit(1, Comes::Peer(OTHER, &[Give::Bytes(1)], ALL)),
 ];
-
-const TWO: Bounds = Bounds {
-    places: 2,
-    exchanges: 2,
-    idle: 60_000,
-};
 
 #[test]
 fn two_are_served_byte_by_byte(rt: HostRuntime) -> Result<(), Fail> {
-    let plan = Plan {
-        visits: IN_BYTES,
-        tick: 10,
-        rounds: 1_000,
-        reports: ReportsRound::Both,
-    };
-    let received = serve(rt.alloc(), &TWO, plan)?;
+    let plan = Plan::over(IN_BYTES, 10, 1_000);
+    let received = serve(rt.alloc(), &bounds(2, 2, 60_000), plan)?;
     is_over(
         &rt,
         &received,
