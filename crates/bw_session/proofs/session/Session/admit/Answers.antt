@@ -142,3 +142,108 @@ returns-clause-unasked c = λ first log found h refused.
     let place : m.number ≡ length finished + slot = search rules in
     no_false (sym refused ∙ free_new first log c.args.self.now.progress.state.parts finished c.args.self.now.window
     c.args.self.now.progress.growing found h m.number slot place inside free)
+
+pub len-done-requires : goal.len-done-requires
+len-done-requires c = search rules
+
+pub number-number-requires : goal.number-number-requires
+number-number-requires c = search rules
+
+pub overflow_cast-number : goal.overflow_cast-number
+overflow_cast-number c = search rules
+
+pub overflow_add-done : goal.overflow_add-done
+overflow_add-done c = search rules
+
+pub returns-then-number-done-clause-progress : goal.returns-then-number-done-clause-progress
+returns-then-number-done-clause-progress c = search rules
+
+pub returns-then-number-done-clause-err : goal.returns-then-number-done-clause-err
+returns-then-number-done-clause-err c = search rules
+
+pub returns-then-number-done-clause-held : goal.returns-then-number-done-clause-held
+returns-then-number-done-clause-held c = search rules
+
+pub returns-then-number-done-clause-refused : goal.returns-then-number-done-clause-refused
+returns-then-number-done-clause-refused c = search rules
+
+pub returns-then-number-done-clause-unasked : goal.returns-then-number-done-clause-unasked
+returns-then-number-done-clause-unasked c = search rules
+
+pub get-requires : goal.get-requires
+get-requires c = search rules
+
+pub is_some-requires : goal.is_some-requires
+is_some-requires c κs = search rules
+
+pub returns-then-is_some-clause-progress : goal.returns-then-is_some-clause-progress
+returns-then-is_some-clause-progress c = search rules
+
+pub returns-then-is_some-clause-err : goal.returns-then-is_some-clause-err
+returns-then-is_some-clause-err c = search rules
+
+pub returns-then-is_some-clause-held : goal.returns-then-is_some-clause-held
+returns-then-is_some-clause-held c = search rules
+
+pub returns-then-is_some-clause-ok : goal.returns-then-is_some-clause-ok
+returns-then-is_some-clause-ok c = search rules
+
+pub returns-then-is_some-clause-refused : goal.returns-then-is_some-clause-refused
+returns-then-is_some-clause-refused c = search rules
+
+pub returns-then-is_some-clause-noted : goal.returns-then-is_some-clause-noted
+returns-then-is_some-clause-noted c = search rules
+
+pub returns-then-is_some-clause-unasked : goal.returns-then-is_some-clause-unasked
+returns-then-is_some-clause-unasked c = search rules
+
+pub branch-room-requires : goal.branch-room-requires
+branch-room-requires c κs = search rules
+
+pub from_residual-requires : goal.from_residual-requires
+from_residual-requires c κs = search rules
+
+pub returns-in_err-room-clause-progress : goal.returns-in_err-room-clause-progress
+returns-in_err-room-clause-progress c = search rules
+
+pub returns-in_err-room-clause-err : goal.returns-in_err-room-clause-err
+returns-in_err-room-clause-err c = search rules
+
+pub returns-in_err-room-clause-held : goal.returns-in_err-room-clause-held
+returns-in_err-room-clause-held c = search rules
+
+pub returns-in_err-room-clause-ok : goal.returns-in_err-room-clause-ok
+returns-in_err-room-clause-ok c = search rules
+
+pub returns-in_err-room-clause-refused : goal.returns-in_err-room-clause-refused
+returns-in_err-room-clause-refused c = search rules
+
+pub returns-in_err-room-clause-noted : goal.returns-in_err-room-clause-noted
+returns-in_err-room-clause-noted c = search rules
+
+pub returns-in_err-room-clause-unasked : goal.returns-in_err-room-clause-unasked
+returns-in_err-room-clause-unasked c = search rules
+
+pub copy_to-requires-clause-empty : goal.copy_to-requires-clause-empty
+copy_to-requires-clause-empty c = search rules
+
+pub copy_to-requires-clause-room : goal.copy_to-requires-clause-room
+copy_to-requires-clause-room c = search rules
+
+pub copy_to-requires-clause-digest : goal.copy_to-requires-clause-digest
+copy_to-requires-clause-digest c = search rules
+
+pub put-requires : goal.put-requires
+put-requires c = search rules
+
+pub returns-clause-progress : goal.returns-clause-progress
+returns-clause-progress c = search rules
+
+pub returns-clause-err : goal.returns-clause-err
+returns-clause-err c = search rules
+
+pub returns-clause-held : goal.returns-clause-held
+returns-clause-held c = search rules
+
+pub returns-clause-refused : goal.returns-clause-refused
+returns-clause-refused c = search rules
