@@ -75,6 +75,20 @@ allowed-alike place a b c d k n name more end e =
     ∙ take-resting size (k ∷ n ∷ name) name more)
     ∙ e
 
+-- another last byte of a name changes no framing
+same-framing : (a b c d k n last : ℕ) (start more : List ℕ) → SameFraming
+    (six a b c d k n ((start ++ last ∷ []) ++ more)) (six a b c d k n ((start ++ 0 ∷ []) ++ more))
+same-framing a b c d k n last start more = record {
+  count = omega (
+    arith,
+    length-append (start ++ last ∷ []) more,
+    length-append (start ++ 0 ∷ []) more,
+    length-append start (last ∷ []),
+    length-append start (0 ∷ []),
+  );
+  size = refl;
+}
+
 -- after another name, whose last byte isn't in the frame
 refused-short : (place a b c d k : ℕ) (start : List ℕ) (last : ℕ) (more : List ℕ) (end : End) →
     size_in a b c d ≤ length start + 2
@@ -88,16 +102,7 @@ refused-short place a b c d k start last more end short e =
     let body : (x : ℕ) → take size (k ∷ n ∷ ((start ++ x ∷ []) ++ more)) ≡ take size (k ∷ n ∷ start) =
     λ x. ap (λ (zs : List ℕ). take size (k ∷ n ∷ zs)) (append_assoc start (x ∷ []) more)
     ∙ take-append-le size (k ∷ n ∷ start) (x ∷ more) (omega arith) in
-    let s : SameFraming (six a b c d k n xs) (six a b c d k n ys) = record {
-      count = omega (
-        arith,
-        length-append (start ++ last ∷ []) more,
-        length-append (start ++ 0 ∷ []) more,
-        length-append start (last ∷ []),
-        length-append start (0 ∷ []),
-      );
-      size = refl;
-    } in
+    let s : SameFraming (six a b c d k n xs) (six a b c d k n ys) = same-framing a b c d k n last start more in
     ends-same Second place a a (b ∷ c ∷ d ∷ k ∷ n ∷ xs) (b ∷ c ∷ d ∷ k ∷ n ∷ ys) s (body 0 ∙ sym (body last)) ∙ e
 
 -- the body of a frame that has the whole name
@@ -161,16 +166,7 @@ refused-long place a b c d k start last more end long e =
     let old = b ∷ c ∷ d ∷ k ∷ n ∷ ((start ++ last ∷ []) ++ more) in
     let new = b ∷ c ∷ d ∷ k ∷ n ∷ ((start ++ 0 ∷ []) ++ more) in
     let fault = first_that_holds (framing_faults longest_body (a ∷ old)) in
-    let s : SameFraming (a ∷ old) (a ∷ new) = record {
-      count = omega (
-        arith,
-        length-append (start ++ last ∷ []) more,
-        length-append (start ++ 0 ∷ []) more,
-        length-append start (last ∷ []),
-        length-append start (0 ∷ []),
-      );
-      size = refl;
-    } in
+    let s : SameFraming (a ∷ old) (a ∷ new) = same-framing a b c d k n last start more in
     let given : by_parts place (drop (4 + size) (a ∷ old)) fault (decoded Second (k ∷ n ∷ ((start ++ last ∷ []) ++ x)))
     ≡ Some end =
     ap (λ (body : List ℕ). by_parts place (drop (4 + size) (a ∷ old)) fault (decoded Second body))
