@@ -192,6 +192,12 @@ KeepsJournals folder before after =
     ⊎ ((name : List ℕ) × IsTrue (is_name name) × IsSome (before (notes_path folder name))
     × (path ≡ notes_path folder name))
 
+-- Only these two may have changed.
+abbrev pub KeepsTheRest : ℕ → List ℕ → (List ℕ → Option (List ℕ)) → (List ℕ → Option (List ℕ)) →
+    (List ℕ → Option (List ℕ)) → (List ℕ → Option (List ℕ)) → Type 0
+KeepsTheRest limit folder notes takes later_notes later_takes =
+    KeepsTakes limit folder notes takes later_takes × KeepsJournals folder notes later_notes
+
 -- Each name of a folder that has a journal is found and restored.
 pub record ResumesFolder (limit : ℕ) (folder : List ℕ) (notes takes later_notes later_takes :
     List ℕ → Option (List ℕ)) (found : List FoundName) : Type 0 where

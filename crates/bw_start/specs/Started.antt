@@ -75,6 +75,13 @@ pub record IsLeftIn (limit : ℕ) (folder : List ℕ) (first : List ℕ → Opti
   pub one_folder : (name : List ℕ) →
       is_some (notes (wave_path folder name)) ≡ is_some (takes (wave_path folder name))
 
+-- this holds of every book that an earlier server may have left there, and of what was in its store
+-- at first
+abbrev pub OfEachBookLeft : ℕ → List ℕ → (List ℕ → Option (List ℕ)) → (List ℕ → Option (List ℕ)) →
+    ((List ℕ → Option (List ℕ)) → Book → Type 0) → Type 0
+OfEachBookLeft limit folder notes takes Holds = (first : List ℕ → Option (List ℕ)) (book : Book) →
+    IsLeftIn limit folder first book notes takes → Holds first book
+
 -- A server of this limit, whose store and journal are those of this folder.
 pub record IsSetTo {D E F H : Type 0} {G : DiskGhosts D F} {K : DiskGhosts E H} {S : StoreGhosts (FolderStore D F G)}
     {J : JournalGhosts (FolderJournal E H K)} (limit : ℕ) (folder : List ℕ) (sync : Bool)

@@ -5,7 +5,7 @@ ghost use Rattle.bw_model.specs.Turn.{most_takes};
 ghost use Rattle.bw_disk.specs.DiskSteps.{StaysWhole};
 ghost use Rattle.bw_disk.specs.Volumes.{AreDistinct};
 ghost use Rattle.bw_start.specs.FoundNames.{found_names, IsFoundIn};
-ghost use Rattle.bw_start.specs.Restored.{IsRestoredIn, are_sound, count_done, with_done_name, with_refusal, KeepsTakes, KeepsJournals};
+ghost use Rattle.bw_start.specs.Restored.{IsRestoredIn, are_sound, count_done, with_done_name, with_refusal, KeepsTheRest};
 ghost use Rattle.bw_start.specs.Restored.{KeepsTakesBut, KeepsNotesBut, FindsFolder, IsFoundFault, IsPlainFault};
 ghost use Rattle.bw_start.specs.Restored.{ResumesFolder, RefusesFolder, IsUnchanged, refusal_as, refusals_of};
 
@@ -85,8 +85,8 @@ pub fn restore_folder<D: Volume, E: Volume, W: StartWatch>(
     ensures unchanged { IfErr result (IsUnchanged
         (StaysWhole D.Disk takes.old takes.new × StaysWhole E.Disk notes.old notes.new)) }
     ensures kept { IsTrue (D.honest takes.old) → IsTrue (E.honest notes.old) →
-        KeepsTakes limit folder.now (E.contents notes.old) (D.contents takes.old) (D.contents takes.new)
-        × KeepsJournals folder.now (E.contents notes.old) (E.contents notes.new) }
+        KeepsTheRest limit folder.now (E.contents notes.old) (D.contents takes.old)
+        (E.contents notes.new) (D.contents takes.new) }
 {
     let _bytes = limit_bytes(limit);
     let found = match find_all(alloc, takes, notes, folder, limit, watch) {

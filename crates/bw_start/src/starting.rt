@@ -4,10 +4,10 @@ ghost use Rattle.bw_model.specs.Book.{Book};
 ghost use Rattle.bw_journal.specs.Stops.{cut_book};
 ghost use Rattle.bw_disk.specs.DiskSteps.{StaysWhole};
 ghost use Rattle.bw_session.specs.Books.{HoldsBook, NotesBook};
-ghost use Rattle.bw_start.specs.Restored.{IsUnchanged, RefusesFolder, KeepsTakes, KeepsJournals, IsPlainFault};
+ghost use Rattle.bw_start.specs.Restored.{IsUnchanged, RefusesFolder, KeepsTheRest, IsPlainFault};
 ghost use Rattle.bw_start.specs.Restored.{HasFewDone, IsSoundFolder, ResumesFolder, count_done};
 ghost use Rattle.bw_model.specs.Turn.{most_takes};
-ghost use Rattle.bw_start.specs.Started.{IsLeftIn, IsSetTo};
+ghost use Rattle.bw_start.specs.Started.{IsLeftIn, IsSetTo, OfEachBookLeft};
 
 use crate::adopting::adopt_each;
 use crate::listing::FoundName;
@@ -44,31 +44,26 @@ pub fn start<D: Volume, E: Volume, W: StartWatch>(
     watch: &mut W,
 ) -> Result<Server<FolderStore<D>, FolderJournal<E>>, (StartFault, D, E)>
     ensures holds { IsTrue (D.honest takes) → IsTrue (E.honest notes) → IfOk result
-        (λ s. (first : List ℕ → Option (List ℕ)) (book : Book) →
-        IsLeftIn limit folder.now first book (E.contents notes) (D.contents takes) →
-        HoldsBook _ _ first s (cut_book book)) }
+        (λ s. OfEachBookLeft limit folder.now (E.contents notes) (D.contents takes)
+        (λ first book. HoldsBook _ _ first s (cut_book book))) }
     ensures noted { IsTrue (D.honest takes) → IsTrue (E.honest notes) → IfOk result
-        (λ s. (first : List ℕ → Option (List ℕ)) (book : Book) →
-        IsLeftIn limit folder.now first book (E.contents notes) (D.contents takes) →
-        NotesBook _ _ first s (cut_book book)) }
+        (λ s. OfEachBookLeft limit folder.now (E.contents notes) (D.contents takes)
+        (λ first book. NotesBook _ _ first s (cut_book book))) }
     ensures admits { IsTrue (D.honest takes) → IsTrue (E.honest notes) → IfErr result
-        (λ e. (first : List ℕ → Option (List ℕ)) (book : Book) →
-        IsLeftIn limit folder.now first book (E.contents notes) (D.contents takes) →
-        HasFewDone limit folder.now (E.contents notes) → IsPlainFault e.0) }
+        (λ e. OfEachBookLeft limit folder.now (E.contents notes) (D.contents takes)
+        (λ first book. HasFewDone limit folder.now (E.contents notes) → IsPlainFault e.0)) }
     ensures refused { IsTrue (D.honest takes) → IsTrue (E.honest notes) → IfErr result
         (λ e. RefusesFolder limit folder.now (E.contents notes) (D.contents takes) e.0) }
     ensures sound { IsTrue (D.honest takes) → IsTrue (E.honest notes) → IfOk result
         (λ _. IsSoundFolder limit folder.now (E.contents notes) (D.contents takes)) }
     ensures settings { IfOk result (λ s. IsSetTo limit folder.now sync s) }
-    ensures unchanged { IfErr result (λ e. IsUnchanged
-        (StaysWhole D.Disk takes e.1 × StaysWhole E.Disk notes e.2) e.0) }
+    ensures unchanged { IfErr result
+        (λ e. IsUnchanged (StaysWhole D.Disk takes e.1 × StaysWhole E.Disk notes e.2) e.0) }
     ensures untouched { IsTrue (D.honest takes) → IsTrue (E.honest notes) → IfOk result
-        (λ s. KeepsTakes limit folder.now (E.contents notes) (D.contents takes)
-        (D.contents s.stores.store.disk)
-        × KeepsJournals folder.now (E.contents notes) (E.contents s.stores.journal.disk)) }
+        (λ s. KeepsTheRest limit folder.now (E.contents notes) (D.contents takes)
+        (E.contents s.stores.journal.disk) (D.contents s.stores.store.disk)) }
     ensures untouched_back { IsTrue (D.honest takes) → IsTrue (E.honest notes) → IfErr result
-        (λ e. KeepsTakes limit folder.now (E.contents notes) (D.contents takes) (D.contents e.1)
-        × KeepsJournals folder.now (E.contents notes) (E.contents e.2)) }
+        (λ e. KeepsTheRest limit folder.now (E.contents notes) (D.contents takes) (E.contents e.2) (D.contents e.1)) }
 {
     let mut takes = takes;
     let mut notes = notes;
