@@ -2,7 +2,7 @@
 use Rattle.std.proofs.Common.{◌≡◌, ℕ, ◌<◌, ◌≤◌, Bool, true, false, List, [], ◌∷◌, ◌++◌, Option, Some, None, Result, Ok, Err}
 use Rattle.std.proofs.Common.{OnErr, ap, codes, refl, subst, sym, ◌∙◌, arith, inl, inr, unwrap_or}
 use Rattle.std.proofs.Math.Path.{fun_ext}
-use Rattle.std.specs.Prelude.{⊤, ◌||◌, if◌then◌else◌, is_some, not, option_map}
+use Rattle.std.specs.Prelude.{⊤, ◌⊎◌, ◌||◌, if◌then◌else◌, is_some, not, option_map}
 use Rattle.std.specs.declared.net.socket_addr.SocketAddr.{SocketAddr}
 use Rattle.std.specs.Net.Socket.{socket_port}
 use Rattle.clap.specs.Words.{Row, Text, first_of, first_value, rows_of}
@@ -15,7 +15,7 @@ use Rattle.bw_args.specs.Given.{GivesNoFuse, GivesRecorders, IsAddressGiven, IsE
 use Rattle.bw_args.specs.Given.{IsJournaling, IsJournalingGiven, IsRecorders, IsRecordersGiven, given_on_line, is_set}
 use Rattle.bw_args.specs.Sources.{GivesSource, PlainSource, is_mixed, settings_on_line}
 use Rattle.bw_args.specs.Inspecting.{GivesInspection, PlainInspection}
-use Rattle.bw_args.specs.Lines.{AsksNothing, GivesSender, GivesServer, GivesTries, GivesUpload, HasNumbersInRange}
+use Rattle.bw_args.specs.Lines.{AsksForPath, AsksNothing, GivesSender, GivesServer, GivesTries, HasNumbersInRange}
 use Rattle.bw_args.specs.Lines.{IsEndWithin, IsFirstBad, IsGood, IsLineFor, IsWayWithin, IsWishOf, IsWithin, Service}
 use Rattle.bw_args.specs.Lines.{FileUpload, Wish, looked_at, looked_at_trying, looked_at_waiting}
 use Rattle.bw_args.specs.Lines.{Replaying, Rehearsing, Inspecting, Packing, Sending, SendingPcm, Serving}
@@ -28,8 +28,7 @@ use Rattle.bw_args.specs.Numbers.{most_block, most_fruitless, most_recorders, mo
 use Rattle.bw_args.specs.declared.commands.sending.Tries.{Tries}
 use Rattle.bw_args.specs.declared.CommandLine.{CommandLine}
 use Rattle.bw_args.specs.declared.CommandLine.TheVariants.{Run, BadValue as Bad, Report}
-use Rattle.bw_args.specs.declared.Task.TheVariants.{Replay, Rehearse, Inspect, Serve, Send, SendFile, SendPcm}
-use Rattle.bw_args.specs.declared.Task.TheVariants.{Pack, InspectFiles, Repair, Takes}
+use Rattle.bw_args.specs.declared.Task.TheVariants.{Replay, Rehearse, Serve, Send, SendFile, SendPcm}
 use Rattle.bw_args.proofs.WishLemmas.{one_count, other_name, same_way}
 use Rattle.bw_args.specs.declared.peers.End.{End}
 use Rattle.bw_args.specs.declared.peers.Journaling.{Journaling}
@@ -38,8 +37,18 @@ use Rattle.bw_args.specs.declared.peers.Send.{Send as Sender}
 use Rattle.bw_args.specs.declared.bad_value.BadValue.{BadValue}
 use Rattle.bw_args.specs.declared.bad_value.BadValue.TheVariants.{Name, Limit, Fuse, UntilStopped, Sync, Wait}
 
+-- the value that is looked at first is good, and one after it is bad
+infixr 20 ◌and_then◌
+pub ◌and_then◌ : {A B C : Type 0} → A → B → C ⊎ (A × B)
+good and_then later = inr (good, later)
+
+-- it is bad
+pub bad : {A B : Type 0} {value : BadValue} → ¬ A → (¬ A × (value ≡ value)) ⊎ B
+bad none = inl (none, refl)
+
 -- what the getters give of the options, by their rows
-by_rows : (found : Found) (P : (Text → Option Text) → Type 0) → P (first_value found) → P (given_on_line (rows_of found))
+by_rows : (found : Found) (P : (Text → Option Text) → Type 0) → P (first_value found)
+    → P (given_on_line (rows_of found))
 by_rows found P given = subst P (fun_ext (first_value-rows found)) given
 
 -- none of these values is bad
@@ -118,9 +127,6 @@ wished_good name options wish asked = go wish asked
     go : (w : Wish) → IsWishOf (Some (name, options)) w → AllGood (looked_at name) (given_on_line options)
     go (Replaying limit fuse) a = at (codes "replay") a.0 ((limit, a.1), ((fuse, a.2), tt))
     go (Rehearsing take_name limit) a = at (codes "rehearse") a.0 ((take_name, a.1), ((limit, a.2), tt))
-    go (Inspecting path) a = at (codes "inspect") a.0 tt
-    go (InspectingFiles inspection) a = at (codes "inspect") a.0 tt
-    go (Repairing path write) a = at (codes "repair") a.0 tt
     go (Listing folder) a = at (codes "takes") a.0 ((folder, a.1), tt)
     go (Serving server) a = at (codes "serve") a.0 (
       (server.listen, a.1.listens),
@@ -148,7 +154,16 @@ wished_good name options wish asked = go wish asked
       (sender.connect, a.1.connects),
       (
         (sender.name, a.1.named),
-        ((a.1.tries.0, a.1.tries.1), ((sender.timeout, a.1.waits), ((None, no_count most_fruitless _ (no_fruitless (given_on_line options) a.1.lines a.1.unmixed)), (a.1.unmixed, samples_good (given_on_line options) None a.1.unsampled)))),
+        (
+          (a.1.tries.0, a.1.tries.1),
+          (
+            (sender.timeout, a.1.waits),
+            (
+              (None, no_count most_fruitless _ (no_fruitless (given_on_line options) a.1.lines a.1.unmixed)),
+              (a.1.unmixed, samples_good (given_on_line options) None a.1.unsampled),
+            ),
+          ),
+        ),
       ),
     )
     go (Uploading sender) a = at (codes "send") a.0 (
@@ -156,7 +171,11 @@ wished_good name options wish asked = go wish asked
       (
         (sender.name, a.1.named),
         (
-          (None, no_count most_rounds _ (no_rounds (given_on_line options) sender.source.path a.1.takes.from a.1.unmixed)),
+          (
+            None,
+            no_count most_rounds _ (no_rounds (given_on_line options) sender.source.path a.1.takes.from
+                a.1.unmixed),
+          ),
           (
             (a.1.waits.0, a.1.waits.1),
             ((a.1.ends.0, a.1.ends.1), (a.1.unmixed, samples_good (given_on_line options) None a.1.unsampled)),
@@ -169,7 +188,11 @@ wished_good name options wish asked = go wish asked
       (
         (sender.name, a.1.named),
         (
-          (None, no_count most_rounds _ (no_rounds (given_on_line options) sender.source.path a.1.takes.from a.1.unmixed)),
+          (
+            None,
+            no_count most_rounds _ (no_rounds (given_on_line options) sender.source.path a.1.takes.from
+                a.1.unmixed),
+          ),
           (
             (a.1.waits.0, a.1.waits.1),
             (
@@ -180,7 +203,7 @@ wished_good name options wish asked = go wish asked
         ),
       ),
     )
-    go (Packing source) a = at (codes "pack") a.0 tt
+    go w a = at _ a.0 tt
 
 -- if all are good none is the first that is bad
 pub good_not_bad : (values : List BadValue) (given : Text → Option Text) (value : BadValue) → AllGood values given
@@ -197,7 +220,11 @@ pub one_bad : (values : List BadValue) (given : Text → Option Text) (a b : Bad
 one_bad [] given a b x y = absurd x
 one_bad (first ∷ later) given a b x y = elim x [
   | inl here ↦ elim y [ inl too ↦ here.1 ∙ sym too.1 | inr following ↦ absurd (here.0 following.0) ]
-  | inr following ↦ elim y [ inl here ↦ absurd (here.0 following.0) | inr too ↦ one_bad later given a b following.1 too.1 ]
+  | inr following ↦ elim y [
+    | inl here ↦ absurd (here.0 following.0)
+    | inr too ↦ one_bad later given a b following.1
+        too.1
+  ]
 ]
 
 -- if a value is the first that is bad, that is the line
@@ -231,13 +258,13 @@ no_limit found given good = given good.0 good.1
 -- if no limit is given that is one, that is the line
 pub no_limit_line : (found : Found) → IsLimitGiven (first_value found (codes "limit")) None
     → IsLineFor (Some (codes "replay", rows_of found)) (Bad Limit)
-no_limit_line found given = bad_line found (codes "replay") Limit (inl (no_limit found given, refl))
+no_limit_line found given = bad_line found (codes "replay") Limit (bad (no_limit found given))
 
 -- if no fuse is given that is one beside a limit, that is the line
 pub no_fuse_line : (found : Found) (limit : ℕ) → GivesLimit (first_value found (codes "limit")) limit
     → GivesNoFuse (first_value found (codes "fuse")) → IsLineFor (Some (codes "replay", rows_of found)) (Bad Fuse)
 no_fuse_line found limit given burns = bad_line found (codes "replay") Fuse
-    (inr ((limit, given), inl ((λ good. burns good.0 good.1), refl)))
+    ((limit, given) and_then bad (λ good. burns good.0 good.1))
 
 -- the name and the limit that are given are those that are asked for
 pub given_rehearsed : (found : Found) (name : Text) (limit : ℕ)
@@ -249,14 +276,14 @@ given_rehearsed found name limit named given =
 -- if no name is given that is one, that is the line
 pub no_name_line : (found : Found) → IsNameGiven (first_value found (codes "name")) None
     → IsLineFor (Some (codes "rehearse", rows_of found)) (Bad Name)
-no_name_line found given = bad_line found (codes "rehearse") Name (inl ((λ good. given good.0 good.1), refl))
+no_name_line found given = bad_line found (codes "rehearse") Name (bad (λ good. given good.0 good.1))
 
 -- if no limit is given that is one beside a name, that is the line
 pub name_alone_line : (found : Found) (name : Text) → GivesName (first_value found (codes "name")) name
     → IsLimitGiven (first_value found (codes "limit")) None
     → IsLineFor (Some (codes "rehearse", rows_of found)) (Bad Limit)
 name_alone_line found name named given = bad_line found (codes "rehearse") Limit
-    (inr ((name, named), inl (no_limit found given, refl)))
+    ((name, named) and_then bad (no_limit found given))
 
 -- the files to inspect that are given are those that are asked for
 pub inspection_asked : (found : Found) (inspection : PlainInspection)
@@ -276,17 +303,9 @@ no_file_line found given = (nothing, inr (refl, refl))
     none = given ∙ raw_values-rows found (codes "file")
 
     nothing : AsksNothing (Some (codes "inspect", rows_of found))
-    nothing (Replaying n k) asked = other_name (codes "inspect") (codes "replay") refl _ refl asked.0
-    nothing (Rehearsing name n) asked = other_name (codes "inspect") (codes "rehearse") refl _ refl asked.0
-    nothing (Serving server) asked = other_name (codes "inspect") (codes "serve") refl _ refl asked.0
-    nothing (Sending sender) asked = other_name (codes "inspect") (codes "send") refl _ refl asked.0
-    nothing (Uploading sender) asked = other_name (codes "inspect") (codes "send") refl _ refl asked.0
-    nothing (SendingPcm sender) asked = other_name (codes "inspect") (codes "send") refl _ refl asked.0
-    nothing (Packing source) asked = other_name (codes "inspect") (codes "pack") refl _ refl asked.0
     nothing (Inspecting path) asked = let bad : None ≡ Some (path ∷ []) = none ∙ asked.1.from in cc
     nothing (InspectingFiles inspection) asked = let bad : None ≡ Some inspection.files = none ∙ asked.1.from in cc
-    nothing (Repairing path write) asked = other_name (codes "inspect") (codes "repair") refl _ refl asked.0
-    nothing (Listing folder) asked = other_name (codes "inspect") (codes "takes") refl _ refl asked.0
+    nothing wish asked = other_name (refl {a = codes "inspect"}) asked.0 refl
 
 -- the file to pack that is given is the one that is asked for
 pub source_asked : (found : Found) (path : Text) (source : PlainSource) → Some path ≡ first_value found (codes "file")
@@ -316,18 +335,9 @@ pub no_packed_line : (found : Found) → None ≡ first_value found (codes "file
 no_packed_line found given = (nothing, inr (refl, refl))
   where
     nothing : AsksNothing (Some (codes "pack", rows_of found))
-    nothing (Replaying n k) asked = other_name (codes "pack") (codes "replay") refl _ refl asked.0
-    nothing (Rehearsing name n) asked = other_name (codes "pack") (codes "rehearse") refl _ refl asked.0
-    nothing (Inspecting path) asked = other_name (codes "pack") (codes "inspect") refl _ refl asked.0
-    nothing (InspectingFiles inspection) asked = other_name (codes "pack") (codes "inspect") refl _ refl asked.0
-    nothing (Serving server) asked = other_name (codes "pack") (codes "serve") refl _ refl asked.0
-    nothing (Sending sender) asked = other_name (codes "pack") (codes "send") refl _ refl asked.0
-    nothing (Uploading sender) asked = other_name (codes "pack") (codes "send") refl _ refl asked.0
-    nothing (SendingPcm sender) asked = other_name (codes "pack") (codes "send") refl _ refl asked.0
-    nothing (Repairing path write) asked = other_name (codes "pack") (codes "repair") refl _ refl asked.0
-    nothing (Listing folder) asked = other_name (codes "pack") (codes "takes") refl _ refl asked.0
     nothing (Packing source) asked =
         no_path source.path (given ∙ first_value-rows found (codes "file") ∙ asked.1.from)
+    nothing wish asked = other_name (refl {a = codes "pack"}) asked.0 refl
 
 -- the file to repair that is given is the one that is asked for, and so is the writing
 pub repair_asked : (found : Found) (path : Text) (write : Bool) → Some path ≡ first_value found (codes "file")
@@ -345,18 +355,9 @@ pub no_repaired_line : (found : Found) → None ≡ first_value found (codes "fi
 no_repaired_line found given = (nothing, inr (refl, refl))
   where
     nothing : AsksNothing (Some (codes "repair", rows_of found))
-    nothing (Replaying n k) asked = other_name (codes "repair") (codes "replay") refl _ refl asked.0
-    nothing (Rehearsing name n) asked = other_name (codes "repair") (codes "rehearse") refl _ refl asked.0
-    nothing (Inspecting path) asked = other_name (codes "repair") (codes "inspect") refl _ refl asked.0
-    nothing (Serving server) asked = other_name (codes "repair") (codes "serve") refl _ refl asked.0
-    nothing (Sending sender) asked = other_name (codes "repair") (codes "send") refl _ refl asked.0
-    nothing (Uploading sender) asked = other_name (codes "repair") (codes "send") refl _ refl asked.0
-    nothing (InspectingFiles inspection) asked = other_name (codes "repair") (codes "inspect") refl _ refl asked.0
-    nothing (SendingPcm sender) asked = other_name (codes "repair") (codes "send") refl _ refl asked.0
-    nothing (Packing source) asked = other_name (codes "repair") (codes "pack") refl _ refl asked.0
-    nothing (Listing folder) asked = other_name (codes "repair") (codes "takes") refl _ refl asked.0
     nothing (Repairing path write) asked =
         no_path path (given ∙ first_value-rows found (codes "file") ∙ asked.1)
+    nothing wish asked = other_name (refl {a = codes "repair"}) asked.0 refl
 
 -- the folder of takes that is given is the one that is asked for
 pub listing_asked : (found : Found) (folder : Text) → GivesFolder (first_value found (codes "folder")) folder
@@ -384,11 +385,13 @@ pub upload_asked : (found : Found) (sender : FileUpload)
 upload_asked found sender connects named takes waits ends reports unmixed unsampled = (
   refl,
   record {
-    connects = by_rows found (λ g. GivesAddress (is_set (g (codes "network"))) (g (codes "connect")) sender.connect) connects;
+    connects = by_rows found (λ g. GivesAddress (is_set (g (codes "network"))) (g (codes "connect")) sender.connect)
+        connects;
     named = by_rows found (λ g. GivesName (g (codes "name")) sender.name) named;
     takes = takes;
     waits = by_rows found (λ g. GivesCountOr default_timeout most_seconds (g (codes "timeout")) sender.timeout) waits;
-    ends = by_rows found (λ g. GivesCountOr default_fruitless most_fruitless (g (codes "fruitless")) sender.fruitless) ends;
+    ends = by_rows found (λ g. GivesCountOr default_fruitless most_fruitless (g (codes "fruitless")) sender.fruitless)
+        ends;
     reports = by_rows found (λ g. sender.log ≡ is_set (g (codes "log"))) reports;
     unmixed = by_rows found (λ g. is_mixed g ≡ false) unmixed;
     unsampled = by_rows found (λ g. GivesSamples g None) unsampled;
@@ -408,7 +411,8 @@ pub pcm_asked : (found : Found) (sender : PcmUpload) (count : Option ℕ)
 pcm_asked found sender count connects named takes samples waits counts ends reports unmixed = (
   refl,
   record {
-    connects = by_rows found (λ g. GivesAddress (is_set (g (codes "network"))) (g (codes "connect")) sender.connect) connects;
+    connects = by_rows found (λ g. GivesAddress (is_set (g (codes "network"))) (g (codes "connect")) sender.connect)
+        connects;
     named = by_rows found (λ g. GivesName (g (codes "name")) sender.name) named;
     takes = takes;
     samples = by_rows found (λ g. GivesSamples g (Some sender.pcm)) samples;
@@ -421,12 +425,59 @@ pcm_asked found sender count connects named takes samples waits counts ends repo
   },
 )
 
+-- of a recording, or of samples, the file's path is kept
+pub upload_kept : (found : Found) (path name : Text) (connect : SocketAddr) (tries : Tries)
+    → GivesAddress (is_set (first_value found (codes "network"))) (first_value found (codes "connect")) connect
+    → GivesName (first_value found (codes "name")) name → Some path ≡ first_value found (codes "file")
+    → GivesTries (first_value found) tries → is_mixed (first_value found) ≡ false
+    → GivesSamples (first_value found) None
+    → AsksForPath (Some (codes "send", rows_of found))
+upload_kept found path name connect tries connects named at given unmixed unsampled = (
+  Uploading (record {
+    connect = connect;
+    name = name;
+    source = found_source found path;
+    timeout = unwrap_or tries.timeout default_timeout;
+    fruitless = unwrap_or tries.fruitless default_fruitless;
+    log = is_set (first_value found (codes "log"));
+  }),
+  tt,
+  upload_asked found _ connects named (source_asked found path (found_source found path) at refl refl refl)
+      (tries.timeout, given.waits, refl) (tries.fruitless, given.ends, refl) refl unmixed unsampled,
+)
+
+pub samples_kept : (found : Found) (path name : Text) (connect : SocketAddr) (tries : Tries) (pcm : PlainPcm)
+    → GivesAddress (is_set (first_value found (codes "network"))) (first_value found (codes "connect")) connect
+    → GivesName (first_value found (codes "name")) name → Some path ≡ first_value found (codes "file")
+    → GivesTries (first_value found) tries → is_mixed (first_value found) ≡ false
+    → GivesSamples (first_value found) (Some pcm) → AsksForPath (Some (codes "send", rows_of found))
+samples_kept found path name connect tries pcm connects named at given unmixed samples = (
+  SendingPcm (record {
+    connect = connect;
+    name = name;
+    source = found_source found path;
+    pcm = pcm;
+    timeout = unwrap_or tries.timeout default_timeout;
+    fruitless = fruitless_of pcm.until tries.fruitless;
+    log = is_set (first_value found (codes "log"));
+  }),
+  tt,
+  pcm_asked found _ tries.fruitless connects named (source_asked found path (found_source found path) at refl refl
+      refl)
+      samples (tries.timeout, given.waits, refl) given.ends refl refl unmixed,
+)
+
 -- addresses and ends, where a flag was read before
 pub an_address : (found : Found) (option : Text) (network : Bool) (address : SocketAddr)
     → network ≡ is_set (first_value found (codes "network")) → GivesAddress network (first_value found option) address
     → GivesAddress (is_set (first_value found (codes "network"))) (first_value found option) address
 an_address found option network address is given =
     subst (λ n. GivesAddress n (first_value found option) address) is given
+
+pub found_address : (found : Found) (option : Text) (network : Bool) (address : SocketAddr)
+    → network ≡ is_set (first_value found (codes "network")) → GivesAddress network (first_value found option) address
+    → (a : SocketAddr) × GivesAddress (is_set (first_value found (codes "network"))) (first_value found option) a
+found_address found option network address is given = (address, an_address found option network address is given)
 
 pub no_address : (found : Found) (option : Text) (network : Bool)
     → network ≡ is_set (first_value found (codes "network")) → IsAddressGiven network (first_value found option) None
@@ -488,14 +539,14 @@ first_then (first ∷ rest) later given value bad = elim bad [
 -- where how recorders are served is good, a later value may be the first that is bad
 pub way_then : (later : List BadValue) (given : Text → Option Text) (value : BadValue) (way : Way)
     → GivesRecorders given way → IsFirstBad later given value → IsFirstBad (looked_at_waiting ++ later) given value
-way_then later given value way g bad =
-    inr ((g.timeout, g.waits), inr ((g.most, g.serves), inr ((g.idle, g.idles), inr ((way, g), bad))))
+way_then later given value way g first =
+    (g.timeout, g.waits) and_then (g.most, g.serves) and_then (g.idle, g.idles) and_then (way, g) and_then first
 
 -- where how a sender tries is good, a later value may be the first that is bad
 pub tries_then : (later : List BadValue) (given : Text → Option Text) (value : BadValue) (tries : Tries)
     → GivesTries given tries → IsFirstBad later given value → IsFirstBad (looked_at_trying ++ later) given value
-tries_then later given value tries g bad =
-    inr ((tries.rounds, g.rounds), inr ((tries.timeout, g.waits), inr ((tries.fruitless, g.ends), bad)))
+tries_then later given value tries g first =
+    (tries.rounds, g.rounds) and_then (tries.timeout, g.waits) and_then (tries.fruitless, g.ends) and_then first
 
 given_limit : (text : Option Text) (limit : ℕ) → GivesLimit text limit → IsLimitValue limit
 given_limit (Some text) limit given = subst IsLimitValue (sym given.1) given.0.1
@@ -550,13 +601,12 @@ given_block given pcm g = go g.format g.are
         (given_count most_block (given (codes "block")) g.block g.blocks)
 
 -- the numbers of a task that is asked for are in their ranges
-pub line_limit : (command : Option (Text × List Row)) (line : CommandLine) → IsLineFor command line → HasNumbersInRange line
+pub line_limit : (command : Option (Text × List Row)) (line : CommandLine) → IsLineFor command line
+    → HasNumbersInRange line
 line_limit (Some command) (Run (Replay limit fuse)) asked =
     given_limit (first_of (codes "limit") command.1) limit asked.1
 line_limit (Some command) (Run (Rehearse name limit)) asked =
     given_limit (first_of (codes "limit") command.1) limit asked.2
-line_limit (Some command) (Run (Inspect file)) asked = tt
-line_limit (Some command) (Run (InspectFiles inspection)) asked = tt
 line_limit (Some command) (Run (Serve server)) asked = (
   given_port _ _ server.listen asked.1.listens,
   given_end _ _ server.end (given_count _ _ _ asked.1.ends.1) asked.1.ends.2,
@@ -584,9 +634,7 @@ line_limit (Some command) (Run (SendPcm sender)) asked = (
   given_fruitless _ asked.1.count sender.fruitless (given_count _ _ _ asked.1.counts) asked.1.ends,
   given_block _ _ asked.1.samples,
 )
-line_limit (Some command) (Run (Pack source)) asked = tt
-line_limit (Some command) (Run (Repair file write)) asked = tt
-line_limit (Some command) (Run (Takes listing)) asked = tt
+line_limit (Some command) (Run task) asked = tt
 line_limit None (Run task) asked = absurd asked
 line_limit command (Bad value) asked = tt
 line_limit command (Report error) asked = tt

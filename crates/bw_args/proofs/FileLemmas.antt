@@ -1,336 +1,232 @@
 -- The forms of `pack` and of `send` with a recording, at values that are not known.
-use Rattle.std.proofs.Common.{◌≡◌, List, [], ◌∷◌, ◌++◌, true, false, Some, None, codes, refl, ap, subst, sym, ◌∙◌, inl, inr}
-use Rattle.std.specs.declared.net.socket_addr.SocketAddr.{SocketAddr}
+use Rattle.std.proofs.Common.{◌≡◌, List, [], ◌∷◌, ◌++◌, true, false, Some, None, codes, refl}
 use Rattle.clap.specs.declared.error.ErrorKind.TheVariants.{MissingRequiredArgument}
-use Rattle.clap.specs.Words.{Text, fault_of}
+use Rattle.clap.specs.Words.{Row, Text}
 use Rattle.clap.proofs.OnLiterals.{clap_on_literals}
-use Rattle.bw_args.specs.Addresses.{IsAddress}
-use Rattle.bw_args.specs.Commands.{command_line}
-use Rattle.bw_args.specs.Numbers.{IsCountText, most_fruitless, most_rounds, most_seconds, number_written}
+use Rattle.bw_args.specs.Numbers.{IsCountText, default_fruitless, default_timeout, most_fruitless, most_rounds, most_seconds}
+use Rattle.bw_args.specs.Numbers.{number_written}
 use Rattle.bw_args.specs.ReadWords.{as_read}
-use Rattle.bw_args.specs.Given.{IsName}
-use Rattle.bw_args.specs.Sources.{PlainSource}
-use Rattle.bw_args.specs.Lines.{AsksFor, IsLineOf, Packing, FileUpload, Uploading}
+use Rattle.bw_args.specs.Sources.{GivesSource, PlainSource, is_mixed}
+use Rattle.bw_args.specs.PcmSources.{GivesSamples}
+use Rattle.bw_args.specs.Lines.{AsksFor, GivesAddress, GivesCountOr, GivesName, GivesUpload, IsLineOf, Packing}
+use Rattle.bw_args.specs.Lines.{FileUpload, Uploading, given_on_line, is_set}
 use Rattle.bw_args.specs.Forms.{IsPlain}
-use Rattle.bw_args.specs.PeerForms.{sending}
 use Rattle.bw_args.specs.FileForms.{RefusesFiles, RunsFileSender, RunsPack, plain_upload, source_at, with_file}
 use Rattle.bw_args.specs.declared.CommandLine.{CommandLine}
 use Rattle.bw_args.specs.declared.bad_value.BadValue.TheVariants.{Fruitless, Mixed}
-use Rattle.bw_args.proofs.FormLemmas.{plain_byte, reports}
-use Rattle.bw_args.proofs.ServerLemmas.{asked_runs}
-use Rattle.bw_args.proofs.ValueLemmas.{IsBadAt, reported}
+use Rattle.bw_args.proofs.FormLemmas.{asked_reports, asked_runs, asks, plain_byte}
+use Rattle.bw_args.proofs.SenderLemmas.{AsksSender, samples_by}
+use Rattle.bw_args.proofs.Asked.{bad, ◌and_then◌}
+use Rattle.bw_args.proofs.ValueLemmas.{LacksSender, not_mixed, nothing, reported}
 
-pack_asks : (program path : Text) → IsPlain path
-    → AsksFor (as_read (program ∷ codes "pack" ∷ path ∷ [])) (Packing (source_at path))
+-- the words that follow `pack` ask for this
+abbrev AsksPack : List Text → PlainSource → Type 0
+AsksPack words source = (program : Text) → AsksFor (as_read (program ∷ codes "pack" ∷ words)) (Packing source)
+
+pack_asks : (path : Text) → IsPlain path → AsksPack (path ∷ []) (source_at path)
 unfolding clap_on_literals
-pack_asks program [] plain = record { taken = refl; asked = (refl, record { from = refl; sets = refl; refuses = refl }) }
-pack_asks program (d ∷ ds) plain =
+pack_asks [] plain program = asks refl (refl, record { from = refl; sets = refl; refuses = refl })
+pack_asks (d ∷ ds) plain program =
     let value = plain_byte d plain in
-    record {
-      taken = rw (value, value) (refl {a = []});
-      asked = simp value (refl, record { from = refl; sets = refl; refuses = refl });
-    }
+    asks (rw (value, value) (refl {a = []})) (simp value (refl, record { from = refl; sets = refl; refuses = refl }))
 
-strict_asks : (program path : Text) → IsPlain path
-    → AsksFor (as_read (program ∷ codes "pack" ∷ codes "--strict" ∷ path ∷ []))
-    (Packing (record (source_at path) { strict = true }))
+strict_asks : (path : Text) → IsPlain path
+    → AsksPack (codes "--strict" ∷ path ∷ []) (record (source_at path) { strict = true })
 unfolding clap_on_literals
-strict_asks program [] plain = record { taken = refl; asked = (refl, record { from = refl; sets = refl; refuses = refl }) }
-strict_asks program (d ∷ ds) plain =
+strict_asks [] plain program = asks refl (refl, record { from = refl; sets = refl; refuses = refl })
+strict_asks (d ∷ ds) plain program =
     let value = plain_byte d plain in
-    record {
-      taken = rw (value, value) (refl {a = []});
-      asked = simp value (refl, record { from = refl; sets = refl; refuses = refl });
-    }
+    asks (rw (value, value) (refl {a = []})) (simp value (refl, record { from = refl; sets = refl; refuses = refl }))
 
-sets_asks : (program path a b : Text) → IsPlain path → AsksFor
-    (as_read (program ∷ codes "pack" ∷ (codes "--set=" ++ a) ∷ (codes "--set=" ++ b) ∷ path ∷ []))
-    (Packing (record (source_at path) { settings = a ∷ b ∷ [] }))
+sets_asks : (path a b : Text) → IsPlain path
+    → AsksPack ((codes "--set=" ++ a) ∷ (codes "--set=" ++ b) ∷ path ∷ [])
+    (record (source_at path) { settings = a ∷ b ∷ [] })
 unfolding clap_on_literals
-sets_asks program [] a b plain = record { taken = refl; asked = (refl, record { from = refl; sets = refl; refuses = refl }) }
-sets_asks program (d ∷ ds) a b plain =
+sets_asks [] a b plain program = asks refl (refl, record { from = refl; sets = refl; refuses = refl })
+sets_asks (d ∷ ds) a b plain program =
     let value = plain_byte d plain in
-    record {
-      taken = rw (value, value) (refl {a = []});
-      asked = simp value (refl, record { from = refl; sets = refl; refuses = refl });
-    }
-
-no_file : (program : Text) → fault_of command_line (as_read (program ∷ codes "pack" ∷ [])) ≡ MissingRequiredArgument ∷ []
-unfolding clap_on_literals
-no_file program = refl
+    asks (rw (value, value) (refl {a = []})) (simp value (refl, record { from = refl; sets = refl; refuses = refl }))
 
 pub runs_pack : (words : List Text) (line : CommandLine) → IsLineOf words line → RunsPack words line
+unfolding clap_on_literals
 runs_pack words line is = record {
-  alone = λ p f plain e. asked_runs words _ line _ is e (pack_asks p f plain);
-  strict = λ p f plain e. asked_runs words _ line _ is e (strict_asks p f plain);
-  sets = λ p f a b plain e. asked_runs words _ line _ is e (sets_asks p f a b plain);
-  none = λ p e. reports MissingRequiredArgument (as_read words) line
-      (ap (λ w. fault_of command_line (as_read w)) e ∙ no_file p) is;
+  alone = λ p f plain e. asked_runs words _ line _ is e (pack_asks f plain p);
+  strict = λ p f plain e. asked_runs words _ line _ is e (strict_asks f plain p);
+  sets = λ p f a b plain e. asked_runs words _ line _ is e (sets_asks f a b plain p);
+  none = λ p e. asked_reports MissingRequiredArgument words _ line is e refl;
 }
 
-alone_sends : (program connect name path : Text) (address : SocketAddr) → IsAddress false connect address → IsName name
-    → AsksFor (as_read (sending program connect name (with_file path []))) (Uploading (plain_upload address name path))
-unfolding clap_on_literals
-alone_sends program connect name path address at named = record {
-  taken = refl;
-  asked = (
-    refl,
-    record {
-      connects = at;
-      named = (named, refl);
-      takes = record { from = refl; sets = refl; refuses = refl };
-      waits = (None, refl, refl);
-      ends = (None, refl, refl);
-      reports = refl;
-      unmixed = refl;
-      unsampled = record { format = None; skip = None; block = None; formatted = refl; begins = refl; blocks = refl; unmixed = refl; are = refl };
-    },
-  );
+-- what of a recording's sender is given says it
+upload_by : {options : List Row} {sender : FileUpload}
+    → GivesCountOr default_timeout most_seconds (given_on_line options (codes "timeout")) sender.timeout
+    → GivesCountOr default_fruitless most_fruitless (given_on_line options (codes "fruitless")) sender.fruitless
+    → GivesAddress (is_set (given_on_line options (codes "network"))) (given_on_line options (codes "connect"))
+    sender.connect
+    → GivesName (given_on_line options (codes "name")) sender.name → GivesSource options sender.source
+    → sender.log ≡ is_set (given_on_line options (codes "log")) → is_mixed (given_on_line options) ≡ false
+    → GivesSamples (given_on_line options) None → GivesUpload options sender
+upload_by waits ends connects named takes reports unmixed unsampled = record {
+  connects = connects;
+  named = named;
+  takes = takes;
+  waits = waits;
+  ends = ends;
+  reports = reports;
+  unmixed = unmixed;
+  unsampled = unsampled;
 }
 
-sets_sends : (program connect name path a b : Text) (address : SocketAddr) → IsAddress false connect address → IsName name
-    → AsksFor (as_read (sending program connect name
-    (with_file path ((codes "--set=" ++ a) ∷ (codes "--set=" ++ b) ∷ []))))
-    (Uploading (record (plain_upload address name path) { source = record (source_at path) { settings = a ∷ b ∷ [] } }))
+alone_sends : (path : Text) → AsksSender false (with_file path [])
+    (λ a n. Uploading (plain_upload a n path))
 unfolding clap_on_literals
-sets_sends program connect name path a b address at named = record {
-  taken = refl;
-  asked = (
-    refl,
-    record {
-      connects = at;
-      named = (named, refl);
-      takes = record { from = refl; sets = refl; refuses = refl };
-      waits = (None, refl, refl);
-      ends = (None, refl, refl);
-      reports = refl;
-      unmixed = refl;
-      unsampled = record { format = None; skip = None; block = None; formatted = refl; begins = refl; blocks = refl; unmixed = refl; are = refl };
-    },
-  );
-}
+alone_sends path program connect name address at named =
+    asks refl (
+      refl,
+      upload_by (None, refl, refl) (None, refl, refl) at (named, refl)
+          (record { from = refl; sets = refl; refuses = refl }) refl refl
+          (samples_by None None None refl refl refl refl refl),
+    )
 
-strict_sends : (program connect name path : Text) (address : SocketAddr) → IsAddress false connect address → IsName name
-    → AsksFor (as_read (sending program connect name (with_file path (codes "--strict" ∷ []))))
-    (Uploading (record (plain_upload address name path) { source = record (source_at path) { strict = true } }))
+sets_sends : (path x y : Text) → AsksSender false (with_file path
+    ((codes "--set=" ++ x) ∷ (codes "--set=" ++ y) ∷ []))
+    (λ a n. Uploading (record (plain_upload a n path) { source = record (source_at path) { settings = x ∷ y ∷ [] } }))
 unfolding clap_on_literals
-strict_sends program connect name path address at named = record {
-  taken = refl;
-  asked = (
-    refl,
-    record {
-      connects = at;
-      named = (named, refl);
-      takes = record { from = refl; sets = refl; refuses = refl };
-      waits = (None, refl, refl);
-      ends = (None, refl, refl);
-      reports = refl;
-      unmixed = refl;
-      unsampled = record { format = None; skip = None; block = None; formatted = refl; begins = refl; blocks = refl; unmixed = refl; are = refl };
-    },
-  );
-}
+sets_sends path x y program connect name address at named =
+    asks refl (
+      refl,
+      upload_by (None, refl, refl) (None, refl, refl) at (named, refl)
+          (record { from = refl; sets = refl; refuses = refl }) refl refl
+          (samples_by None None None refl refl refl refl refl),
+    )
 
-fruitless_sends : (program connect name path count : Text) (address : SocketAddr) → IsAddress false connect address
-    → IsName name → IsCountText most_fruitless count
-    → AsksFor (as_read (sending program connect name (with_file path ((codes "--fruitless=" ++ count) ∷ []))))
-    (Uploading (record (plain_upload address name path) { fruitless = number_written count }))
+strict_sends : (path : Text) → AsksSender false (with_file path (codes "--strict" ∷ []))
+    (λ a n. Uploading (record (plain_upload a n path) { source = record (source_at path) { strict = true } }))
 unfolding clap_on_literals
-fruitless_sends program connect name path count address at named given = record {
-  taken = refl;
-  asked = (
-    refl,
-    record {
-      connects = at;
-      named = (named, refl);
-      takes = record { from = refl; sets = refl; refuses = refl };
-      waits = (None, refl, refl);
-      ends = (Some (number_written count), (given, refl), refl);
-      reports = refl;
-      unmixed = refl;
-      unsampled = record { format = None; skip = None; block = None; formatted = refl; begins = refl; blocks = refl; unmixed = refl; are = refl };
-    },
-  );
-}
+strict_sends path program connect name address at named =
+    asks refl (
+      refl,
+      upload_by (None, refl, refl) (None, refl, refl) at (named, refl)
+          (record { from = refl; sets = refl; refuses = refl }) refl refl
+          (samples_by None None None refl refl refl refl refl),
+    )
 
-timeout_sends : (program connect name path seconds : Text) (address : SocketAddr) → IsAddress false connect address
-    → IsName name → IsCountText most_seconds seconds
-    → AsksFor (as_read (sending program connect name (with_file path ((codes "--timeout=" ++ seconds) ∷ []))))
-    (Uploading (record (plain_upload address name path) { timeout = number_written seconds }))
+fruitless_sends : (path count : Text) → IsCountText most_fruitless count
+    → AsksSender false (with_file path ((codes "--fruitless=" ++ count) ∷ []))
+    (λ a n. Uploading (record (plain_upload a n path) { fruitless = number_written count }))
 unfolding clap_on_literals
-timeout_sends program connect name path seconds address at named given = record {
-  taken = refl;
-  asked = (
-    refl,
-    record {
-      connects = at;
-      named = (named, refl);
-      takes = record { from = refl; sets = refl; refuses = refl };
-      waits = (Some (number_written seconds), (given, refl), refl);
-      ends = (None, refl, refl);
-      reports = refl;
-      unmixed = refl;
-      unsampled = record { format = None; skip = None; block = None; formatted = refl; begins = refl; blocks = refl; unmixed = refl; are = refl };
-    },
-  );
-}
+fruitless_sends path count is program connect name address at named =
+    asks refl (
+      refl,
+      upload_by (None, refl, refl) (Some (number_written count), (is, refl), refl) at (named, refl)
+          (record { from = refl; sets = refl; refuses = refl }) refl refl
+          (samples_by None None None refl refl refl refl refl),
+    )
 
-log_sends : (program connect name path : Text) (address : SocketAddr) → IsAddress false connect address → IsName name
-    → AsksFor (as_read (sending program connect name (with_file path (codes "--log" ∷ []))))
-    (Uploading (record (plain_upload address name path) { log = true }))
+timeout_sends : (path seconds : Text) → IsCountText most_seconds seconds
+    → AsksSender false (with_file path ((codes "--timeout=" ++ seconds) ∷ []))
+    (λ a n. Uploading (record (plain_upload a n path) { timeout = number_written seconds }))
 unfolding clap_on_literals
-log_sends program connect name path address at named = record {
-  taken = refl;
-  asked = (
-    refl,
-    record {
-      connects = at;
-      named = (named, refl);
-      takes = record { from = refl; sets = refl; refuses = refl };
-      waits = (None, refl, refl);
-      ends = (None, refl, refl);
-      reports = refl;
-      unmixed = refl;
-      unsampled = record { format = None; skip = None; block = None; formatted = refl; begins = refl; blocks = refl; unmixed = refl; are = refl };
-    },
-  );
-}
+timeout_sends path seconds is program connect name address at named =
+    asks refl (
+      refl,
+      upload_by (Some (number_written seconds), (is, refl), refl) (None, refl, refl) at (named, refl)
+          (record { from = refl; sets = refl; refuses = refl }) refl refl
+          (samples_by None None None refl refl refl refl refl),
+    )
 
-network_sends : (program connect name path : Text) (address : SocketAddr) → IsAddress true connect address → IsName name
-    → AsksFor (as_read (sending program connect name (with_file path (codes "--network" ∷ []))))
-    (Uploading (plain_upload address name path))
+log_sends : (path : Text) → AsksSender false (with_file path (codes "--log" ∷ []))
+    (λ a n. Uploading (record (plain_upload a n path) { log = true }))
 unfolding clap_on_literals
-network_sends program connect name path address at named = record {
-  taken = refl;
-  asked = (
-    refl,
-    record {
-      connects = at;
-      named = (named, refl);
-      takes = record { from = refl; sets = refl; refuses = refl };
-      waits = (None, refl, refl);
-      ends = (None, refl, refl);
-      reports = refl;
-      unmixed = refl;
-      unsampled = record { format = None; skip = None; block = None; formatted = refl; begins = refl; blocks = refl; unmixed = refl; are = refl };
-    },
-  );
-}
+log_sends path program connect name address at named =
+    asks refl (
+      refl,
+      upload_by (None, refl, refl) (None, refl, refl) at (named, refl)
+          (record { from = refl; sets = refl; refuses = refl }) refl refl
+          (samples_by None None None refl refl refl refl refl),
+    )
+
+network_sends : (path : Text) → AsksSender true (with_file path (codes "--network" ∷ []))
+    (λ a n. Uploading (plain_upload a n path))
+unfolding clap_on_literals
+network_sends path program connect name address at named =
+    asks refl (
+      refl,
+      upload_by (None, refl, refl) (None, refl, refl) at (named, refl)
+          (record { from = refl; sets = refl; refuses = refl }) refl refl
+          (samples_by None None None refl refl refl refl refl),
+    )
 
 pub runs_file_sender : (words : List Text) (line : CommandLine) → IsLineOf words line → RunsFileSender words line
 runs_file_sender words line is = record {
-  alone = λ f p c n a at named e. asked_runs words _ line _ is e (alone_sends p c n f a at named);
-  sets = λ f x y p c n a at named e. asked_runs words _ line _ is e (sets_sends p c n f x y a at named);
-  strict = λ f p c n a at named e. asked_runs words _ line _ is e (strict_sends p c n f a at named);
-  fruitless = λ f t given p c n a at named e. asked_runs words _ line _ is e (fruitless_sends p c n f t a at named given);
-  timeout = λ f t given p c n a at named e. asked_runs words _ line _ is e (timeout_sends p c n f t a at named given);
-  log = λ f p c n a at named e. asked_runs words _ line _ is e (log_sends p c n f a at named);
-  network = λ f p c n a at named e. asked_runs words _ line _ is e (network_sends p c n f a at named);
+  alone = λ f p c n a at named e. asked_runs words _ line _ is e (alone_sends f p c n a at named);
+  sets = λ f x y p c n a at named e. asked_runs words _ line _ is e (sets_sends f x y p c n a at named);
+  strict = λ f p c n a at named e. asked_runs words _ line _ is e (strict_sends f p c n a at named);
+  fruitless = λ f t given p c n a at named e. asked_runs words _ line _ is e
+      (fruitless_sends f t given p c n a at named);
+  timeout = λ f t given p c n a at named e. asked_runs words _ line _ is e (timeout_sends f t given p c n a at named);
+  log = λ f p c n a at named e. asked_runs words _ line _ is e (log_sends f p c n a at named);
+  network = λ f p c n a at named e. asked_runs words _ line _ is e (network_sends f p c n a at named);
 }
 
-mixed_rounds : (program connect name path count : Text) (address : SocketAddr) → IsAddress false connect address
-    → IsName name → IsCountText most_rounds count
-    → IsBadAt (as_read (sending program connect name (with_file path ((codes "--rounds=" ++ count) ∷ [])))) Mixed
+mixed_rounds : (path count : Text) → IsCountText most_rounds count
+    → LacksSender (with_file path ((codes "--rounds=" ++ count) ∷ [])) Mixed
 unfolding clap_on_literals
-mixed_rounds program connect name path count address at named given = (
+mixed_rounds path count is program connect name address at named = (
   refl,
-  inr (
-    (address, at),
-    inr (
-      (name, (named, refl)),
-      inr (
-        (Some (number_written count), (given, refl)),
-        inr ((None, refl), inr ((None, refl), inl ((λ good. let bad : true ≡ false = good in cc), refl))),
-      ),
-    ),
-  ),
+  (address, at) and_then (name, (named, refl)) and_then (Some (number_written count), (is, refl))
+      and_then nothing and_then nothing and_then bad not_mixed,
 )
 
-mixed_sets : (program connect name a : Text) (address : SocketAddr) → IsAddress false connect address → IsName name
-    → IsBadAt (as_read (sending program connect name ((codes "--set=" ++ a) ∷ []))) Mixed
+mixed_sets : (a : Text) → LacksSender ((codes "--set=" ++ a) ∷ []) Mixed
 unfolding clap_on_literals
-mixed_sets program connect name a address at named = (
+mixed_sets a program connect name address at named = (
   refl,
-  inr (
-    (address, at),
-    inr (
-      (name, (named, refl)),
-      inr ((None, refl), inr ((None, refl), inr ((None, refl), inl ((λ good. let bad : true ≡ false = good in cc), refl)))),
-    ),
-  ),
+  (address, at) and_then (name, (named, refl)) and_then nothing and_then nothing and_then nothing
+      and_then bad not_mixed,
 )
 
-mixed_strict : (program connect name : Text) (address : SocketAddr) → IsAddress false connect address → IsName name
-    → IsBadAt (as_read (sending program connect name (codes "--strict" ∷ []))) Mixed
+mixed_strict : LacksSender (codes "--strict" ∷ []) Mixed
 unfolding clap_on_literals
 mixed_strict program connect name address at named = (
   refl,
-  inr (
-    (address, at),
-    inr (
-      (name, (named, refl)),
-      inr ((None, refl), inr ((None, refl), inr ((None, refl), inl ((λ good. let bad : true ≡ false = good in cc), refl)))),
-    ),
-  ),
+  (address, at) and_then (name, (named, refl)) and_then nothing and_then nothing and_then nothing
+      and_then bad not_mixed,
 )
 
-mixed_log : (program connect name : Text) (address : SocketAddr) → IsAddress false connect address → IsName name
-    → IsBadAt (as_read (sending program connect name (codes "--log" ∷ []))) Mixed
+mixed_log : LacksSender (codes "--log" ∷ []) Mixed
 unfolding clap_on_literals
 mixed_log program connect name address at named = (
   refl,
-  inr (
-    (address, at),
-    inr (
-      (name, (named, refl)),
-      inr ((None, refl), inr ((None, refl), inr ((None, refl), inl ((λ good. let bad : true ≡ false = good in cc), refl)))),
-    ),
-  ),
+  (address, at) and_then (name, (named, refl)) and_then nothing and_then nothing and_then nothing
+      and_then bad not_mixed,
 )
 
-mixed_fruitless : (program connect name count : Text) (address : SocketAddr) → IsAddress false connect address
-    → IsName name → IsCountText most_fruitless count
-    → IsBadAt (as_read (sending program connect name ((codes "--fruitless=" ++ count) ∷ []))) Mixed
+mixed_fruitless : (count : Text) → IsCountText most_fruitless count
+    → LacksSender ((codes "--fruitless=" ++ count) ∷ []) Mixed
 unfolding clap_on_literals
-mixed_fruitless program connect name count address at named given = (
+mixed_fruitless count is program connect name address at named = (
   refl,
-  inr (
-    (address, at),
-    inr (
-      (name, (named, refl)),
-      inr (
-        (None, refl),
-        inr (
-          (None, refl),
-          inr ((Some (number_written count), (given, refl)), inl ((λ good. let bad : true ≡ false = good in cc), refl)),
-        ),
-      ),
-    ),
-  ),
+  (address, at) and_then (name, (named, refl)) and_then nothing and_then nothing
+      and_then (Some (number_written count), (is, refl)) and_then bad not_mixed,
 )
 
-bad_fruitless : (program connect name path count : Text) (address : SocketAddr) → IsAddress false connect address
-    → IsName name → ¬ IsCountText most_fruitless count
-    → IsBadAt (as_read (sending program connect name (with_file path ((codes "--fruitless=" ++ count) ∷ [])))) Fruitless
+bad_fruitless : (path count : Text) → ¬ IsCountText most_fruitless count
+    → LacksSender (with_file path ((codes "--fruitless=" ++ count) ∷ [])) Fruitless
 unfolding clap_on_literals
-bad_fruitless program connect name path count address at named none = (
+bad_fruitless path count none program connect name address at named = (
   refl,
-  inr (
-    (address, at),
-    inr (
-      (name, (named, refl)),
-      inr ((None, refl), inr ((None, refl), inl ((λ good. none good.1.0), refl))),
-    ),
-  ),
+  (address, at) and_then (name, (named, refl)) and_then nothing and_then nothing
+      and_then bad (λ good. none good.1.0),
 )
 
 pub refuses_files : (words : List Text) (line : CommandLine) → IsLineOf words line → RefusesFiles words line
 refuses_files words line is = record {
-  rounds = λ f t given p c n a at named e. reported words _ line Mixed is e (mixed_rounds p c n f t a at named given);
-  sets = λ x p c n a at named e. reported words _ line Mixed is e (mixed_sets p c n x a at named);
+  rounds = λ f t given p c n a at named e. reported words _ line Mixed is e (mixed_rounds f t given p c n a at named);
+  sets = λ x p c n a at named e. reported words _ line Mixed is e (mixed_sets x p c n a at named);
   strict = λ p c n a at named e. reported words _ line Mixed is e (mixed_strict p c n a at named);
   log = λ p c n a at named e. reported words _ line Mixed is e (mixed_log p c n a at named);
-  fruitless = λ t given p c n a at named e. reported words _ line Mixed is e (mixed_fruitless p c n t a at named given);
+  fruitless = λ t given p c n a at named e. reported words _ line Mixed is e
+      (mixed_fruitless t given p c n a at named);
   bad_fruitless = λ f t none p c n a at named e.
-      reported words _ line Fruitless is e (bad_fruitless p c n f t a at named none);
+      reported words _ line Fruitless is e (bad_fruitless f t none p c n a at named);
 }

@@ -6,21 +6,19 @@ use Rattle.std.proofs.lemmas.Bool.{eqb-true}
 use Rattle.clap.specs.declared.error.ErrorKind.{ErrorKind}
 use Rattle.clap.specs.declared.error.ErrorKind.TheVariants.{DisplayHelp, DisplayVersion, MissingRequiredArgument}
 use Rattle.clap.specs.declared.error.ErrorKind.TheVariants.{MissingSubcommand}
-use Rattle.clap.specs.Words.{IsAmong, Text, fault_of, kind_of}
+use Rattle.clap.specs.Words.{IsAmong, Text, fault_of, kind_of, subcommand_of}
 use Rattle.clap.proofs.OnLiterals.{clap_on_literals}
 use Rattle.bw_args.specs.Commands.{command_line}
-use Rattle.bw_args.specs.Lines.{AsksFor, IsLineOf, IsLineRead, Wish}
+use Rattle.bw_args.specs.Lines.{AsksFor, IsLineOf, IsLineRead, IsWishOf, Wish}
 use Rattle.bw_args.specs.ReadWords.{as_read}
 use Rattle.bw_args.specs.Lines.{Inspecting, InspectingFiles, Replaying, wish_of}
 use Rattle.bw_args.specs.Forms.{Inspects, IsPlain, IsReportedAs, RunsFor, RunsInspect, RunsReplay, ReportsHelp}
 use Rattle.bw_args.specs.Forms.{inspection_of}
-use Rattle.bw_args.specs.Inspecting.{PlainInspection}
 use Rattle.bw_args.specs.Numbers.{IsLimitText, IsNumber, default_limit, number_written}
 use Rattle.bw_args.proofs.WishLemmas.{one_wish}
 use Rattle.bw_args.specs.declared.CommandLine.{CommandLine}
 use Rattle.bw_args.specs.declared.CommandLine.TheVariants.{Run, BadValue as Bad, Report}
-use Rattle.bw_args.specs.declared.Task.TheVariants.{Inspect, Rehearse, Replay, Send, Serve, SendFile, SendPcm}
-use Rattle.bw_args.specs.declared.Task.TheVariants.{Pack, InspectFiles, Repair, Takes}
+use Rattle.bw_args.specs.declared.Task.TheVariants.{Inspect, Replay}
 
 -- a digit is no hyphen, so the word is read as a value
 pub no_hyphen : (d : ℕ) (ds : Text) → IsNumber (d ∷ ds) → (d == 45) ≡ false
@@ -32,9 +30,14 @@ no_hyphen d ds given = go (d == 45) refl
         let digit : digit_value 45 < 10 = subst (λ c. digit_value c < 10) (eqb-true d 45 e) given.0.1.0 in
         absurd (omega arith)
 
+-- words that `clap` takes ask for this
+pub asks : {words : List Text} {wish : Wish} → fault_of command_line words ≡ []
+    → IsWishOf (subcommand_of command_line words) wish → AsksFor words wish
+asks taken asked = record { taken = taken; asked = asked }
+
 plain_asks : (program : Text) → AsksFor (program ∷ codes "replay" ∷ []) (Replaying default_limit None)
 unfolding clap_on_literals
-plain_asks program = record { taken = refl; asked = (refl, refl, refl) }
+plain_asks program = asks refl (refl, refl, refl)
 
 apart_asks : (program text : Text) → IsLimitText text
     → AsksFor (program ∷ codes "replay" ∷ codes "--limit" ∷ text ∷ []) (Replaying (number_written text) None)
@@ -42,12 +45,12 @@ unfolding clap_on_literals
 apart_asks program [] given = let bad : 0 < 0 = given.0.0.0 in absurd (omega arith)
 apart_asks program (d ∷ ds) given =
     let value = no_hyphen d ds given.0 in
-    record { taken = rw (value, value) (refl {a = []}); asked = simp value (refl, (given, refl), refl) }
+    asks (rw (value, value) (refl {a = []})) (simp value (refl, (given, refl), refl))
 
 joined_asks : (program text : Text) → IsLimitText text
     → AsksFor (program ∷ codes "replay" ∷ (codes "--limit=" ++ text) ∷ []) (Replaying (number_written text) None)
 unfolding clap_on_literals
-joined_asks program text given = record { taken = refl; asked = (refl, (given, refl), refl) }
+joined_asks program text given = asks refl (refl, (given, refl), refl)
 
 fuse_apart_asks : (program text : Text) → IsNumber text → AsksFor
     (program ∷ codes "replay" ∷ codes "--fuse" ∷ text ∷ []) (Replaying default_limit (Some (number_written text)))
@@ -55,12 +58,12 @@ unfolding clap_on_literals
 fuse_apart_asks program [] given = let bad : 0 < 0 = given.0.0 in absurd (omega arith)
 fuse_apart_asks program (d ∷ ds) given =
     let value = no_hyphen d ds given in
-    record { taken = rw (value, value) (refl {a = []}); asked = simp value (refl, refl, (given, refl)) }
+    asks (rw (value, value) (refl {a = []})) (simp value (refl, refl, (given, refl)))
 
 fuse_joined_asks : (program text : Text) → IsNumber text → AsksFor
     (program ∷ codes "replay" ∷ (codes "--fuse=" ++ text) ∷ []) (Replaying default_limit (Some (number_written text)))
 unfolding clap_on_literals
-fuse_joined_asks program text given = record { taken = refl; asked = (refl, refl, (given, refl)) }
+fuse_joined_asks program text given = asks refl (refl, refl, (given, refl))
 
 both_asks : (program limit fuse : Text) → IsLimitText limit → IsNumber fuse → AsksFor
     (program ∷ codes "replay" ∷ codes "--limit" ∷ limit ∷ codes "--fuse" ∷ fuse ∷ [])
@@ -71,7 +74,7 @@ both_asks program (c ∷ cs) [] given burns = let bad : 0 < 0 = burns.0.0 in abs
 both_asks program (c ∷ cs) (d ∷ ds) given burns =
     let v = no_hyphen c cs given.0 in
     let w = no_hyphen d ds burns in
-    record { taken = rw (v, v, w, w) (refl {a = []}); asked = simp (v, w) (refl, (given, refl), (burns, refl)) }
+    asks (rw (v, v, w, w) (refl {a = []})) (simp (v, w) (refl, (given, refl), (burns, refl)))
 
 turned_asks : (program limit fuse : Text) → IsLimitText limit → IsNumber fuse → AsksFor
     (program ∷ codes "replay" ∷ codes "--fuse" ∷ fuse ∷ codes "--limit" ∷ limit ∷ [])
@@ -82,7 +85,7 @@ turned_asks program (c ∷ cs) [] given burns = let bad : 0 < 0 = burns.0.0 in a
 turned_asks program (c ∷ cs) (d ∷ ds) given burns =
     let v = no_hyphen c cs given.0 in
     let w = no_hyphen d ds burns in
-    record { taken = rw (w, w, v, v) (refl {a = []}); asked = simp (v, w) (refl, (given, refl), (burns, refl)) }
+    asks (rw (w, w, v, v) (refl {a = []})) (simp (v, w) (refl, (given, refl), (burns, refl)))
 
 -- words that ask for something run it
 pub runs : (words : List Text) (line : CommandLine) (wish : Wish) → IsLineRead words line → AsksFor words wish →
@@ -91,42 +94,30 @@ runs words (Run task) wish is asks = one_wish _ (wish_of task) wish is.asked ask
 runs words (Bad value) wish is asks = absurd (is.asks_nothing wish asks)
 runs words (Report error) wish is asks = absurd (is.asks_nothing wish asks)
 
+-- as they are read
+pub asked_runs : (words asking : List Text) (line : CommandLine) (wish : Wish) → IsLineOf words line → words ≡ asking
+    → AsksFor (as_read asking) wish → RunsFor wish line
+asked_runs words asking line wish is e asking_for =
+    runs (as_read words) line wish is (subst (λ w. AsksFor (as_read w) wish) (sym e) asking_for)
+
 replays : (limit : ℕ) (fuse : Option ℕ) (line : CommandLine) → RunsFor (Replaying limit fuse) line
     → line ≡ Run (Replay limit fuse)
 replays limit fuse (Run (Replay n k)) e = let limits : n ≡ limit = cc in let fuses : k ≡ fuse = cc in cc
-replays limit fuse (Run (Rehearse name n)) e = cc
-replays limit fuse (Run (Inspect file)) e = cc
-replays limit fuse (Run (InspectFiles inspection)) e = cc
-replays limit fuse (Run (Serve server)) e = cc
-replays limit fuse (Run (Send sender)) e = cc
-replays limit fuse (Run (SendFile sender)) e = cc
-replays limit fuse (Run (SendPcm sender)) e = cc
-replays limit fuse (Run (Pack source)) e = cc
-replays limit fuse (Run (Repair file write)) e = cc
-replays limit fuse (Run (Takes listing)) e = cc
+replays limit fuse (Run task) e = cc
 replays limit fuse (Bad value) e = absurd e
 replays limit fuse (Report error) e = absurd e
 
 inspects : (path : Text) (line : CommandLine) → RunsFor (Inspecting path) line → Inspects path line
 inspects path (Run (Inspect file)) e = cc
-inspects path (Run (InspectFiles inspection)) e = cc
-inspects path (Run (Replay limit fuse)) e = cc
-inspects path (Run (Rehearse name limit)) e = cc
-inspects path (Run (Serve server)) e = cc
-inspects path (Run (Send sender)) e = cc
-inspects path (Run (SendFile sender)) e = cc
-inspects path (Run (SendPcm sender)) e = cc
-inspects path (Run (Pack source)) e = cc
-inspects path (Run (Repair file write)) e = cc
-inspects path (Run (Takes listing)) e = cc
+inspects path (Run task) e = cc
 inspects path (Bad value) e = absurd e
 inspects path (Report error) e = absurd e
 
 -- words that ask for a replay run it
 asked_replays : (words asking : List Text) (line : CommandLine) (limit : ℕ) (fuse : Option ℕ) → IsLineOf words line
     → words ≡ asking → AsksFor (as_read asking) (Replaying limit fuse) → line ≡ Run (Replay limit fuse)
-asked_replays words asking line limit fuse is e asks = replays limit fuse line
-    (runs (as_read words) line _ is (subst (λ w. AsksFor (as_read w) (Replaying limit fuse)) (sym e) asks))
+asked_replays words asking line limit fuse is e asking_for =
+    replays limit fuse line (asked_runs words asking line _ is e asking_for)
 
 pub runs_replay : (words : List Text) (line : CommandLine) → IsLineOf words line → RunsReplay words line
 runs_replay words line is = record {
@@ -149,26 +140,18 @@ reports kind words (Bad value) fault is = let bad : kind ∷ [] ≡ [] = sym fau
 reports kind words (Report error) fault is =
     elim (subst (IsAmong (kind_of error)) fault is.reason) [ inl same ↦ same | inr none ↦ absurd none ]
 
-help_fault : (program : Text) → fault_of command_line (program ∷ codes "--help" ∷ []) ≡ DisplayHelp ∷ []
-unfolding clap_on_literals
-help_fault program = refl
-
-version_fault : (program : Text) → fault_of command_line (program ∷ codes "--version" ∷ []) ≡ DisplayVersion ∷ []
-unfolding clap_on_literals
-version_fault program = refl
-
-bare_fault : (program : Text) → fault_of command_line (program ∷ []) ≡ MissingSubcommand ∷ []
-unfolding clap_on_literals
-bare_fault program = refl
+-- as they are read
+pub asked_reports : (kind : ErrorKind) (words asking : List Text) (line : CommandLine) → IsLineOf words line
+    → words ≡ asking → fault_of command_line (as_read asking) ≡ kind ∷ [] → IsReportedAs kind line
+asked_reports kind words asking line is e fault =
+    reports kind (as_read words) line (ap (λ w. fault_of command_line (as_read w)) e ∙ fault) is
 
 pub reports_help : (words : List Text) (line : CommandLine) → IsLineOf words line → ReportsHelp words line
+unfolding clap_on_literals
 reports_help words line is = record {
-  help = λ program e. reports DisplayHelp (as_read words) line
-      (ap (λ w. fault_of command_line (as_read w)) e ∙ help_fault program) is;
-  version = λ program e. reports DisplayVersion (as_read words) line
-      (ap (λ w. fault_of command_line (as_read w)) e ∙ version_fault program) is;
-  bare = λ program e. reports MissingSubcommand (as_read words) line
-      (ap (λ w. fault_of command_line (as_read w)) e ∙ bare_fault program) is;
+  help = λ program e. asked_reports DisplayHelp words _ line is e refl;
+  version = λ program e. asked_reports DisplayVersion words _ line is e refl;
+  bare = λ program e. asked_reports MissingSubcommand words _ line is e refl;
 }
 
 -- a word that is no option is read as a value
@@ -181,79 +164,58 @@ plain_byte d plain = go (d == 45) refl
 
 file_asks : (program path : Text) → IsPlain path → AsksFor (program ∷ codes "inspect" ∷ path ∷ []) (Inspecting path)
 unfolding clap_on_literals
-file_asks program [] plain = record { taken = refl; asked = (refl, record { from = refl; prints = refl }) }
+file_asks program [] plain = asks refl (refl, record { from = refl; prints = refl })
 file_asks program (d ∷ ds) plain =
     let value = plain_byte d plain in
-    record { taken = rw (value, value) (refl {a = []}); asked = simp value (refl, record { from = refl; prints = refl }) }
+    asks (rw (value, value) (refl {a = []})) (simp value (refl, record { from = refl; prints = refl }))
 
 json_asks : (program path : Text) → IsPlain path
     → AsksFor (program ∷ codes "inspect" ∷ codes "--json" ∷ path ∷ [])
     (InspectingFiles (record (inspection_of (path ∷ [])) { json = true }))
 unfolding clap_on_literals
-json_asks program [] plain = record { taken = refl; asked = (refl, record { from = refl; prints = refl }, refl) }
+json_asks program [] plain = asks refl (refl, record { from = refl; prints = refl }, refl)
 json_asks program (d ∷ ds) plain =
     let value = plain_byte d plain in
-    record {
-      taken = rw (value, value) (refl {a = []});
-      asked = simp value (refl, record { from = refl; prints = refl }, refl);
-    }
+    asks (rw (value, value) (refl {a = []})) (simp value (refl, record { from = refl; prints = refl }, refl))
 
 two_ask : (program path other : Text) → IsPlain path → IsPlain other
     → AsksFor (program ∷ codes "inspect" ∷ path ∷ other ∷ []) (InspectingFiles (inspection_of (path ∷ other ∷ [])))
 unfolding clap_on_literals
-two_ask program [] [] p q = record { taken = refl; asked = (refl, record { from = refl; prints = refl }, refl) }
+two_ask program [] [] p q = asks refl (refl, record { from = refl; prints = refl }, refl)
 two_ask program [] (d ∷ ds) p q =
     let w = plain_byte d q in
-    record { taken = rw (w, w) (refl {a = []}); asked = simp w (refl, record { from = refl; prints = refl }, refl) }
+    asks (rw (w, w) (refl {a = []})) (simp w (refl, record { from = refl; prints = refl }, refl))
 two_ask program (c ∷ cs) [] p q =
     let v = plain_byte c p in
-    record { taken = rw (v, v) (refl {a = []}); asked = simp v (refl, record { from = refl; prints = refl }, refl) }
+    asks (rw (v, v) (refl {a = []})) (simp v (refl, record { from = refl; prints = refl }, refl))
 two_ask program (c ∷ cs) (d ∷ ds) p q =
     let v = plain_byte c p in
     let w = plain_byte d q in
-    record {
-      taken = rw (v, v, w, w) (refl {a = []});
-      asked = simp (v, w) (refl, record { from = refl; prints = refl }, refl);
-    }
+    asks (rw (v, v, w, w) (refl {a = []})) (simp (v, w) (refl, record { from = refl; prints = refl }, refl))
 
 json_last_asks : (program path other : Text) → IsPlain path → IsPlain other
     → AsksFor (program ∷ codes "inspect" ∷ path ∷ other ∷ codes "--json" ∷ [])
     (InspectingFiles (record (inspection_of (path ∷ other ∷ [])) { json = true }))
 unfolding clap_on_literals
-json_last_asks program [] [] p q = record { taken = refl; asked = (refl, record { from = refl; prints = refl }, refl) }
+json_last_asks program [] [] p q = asks refl (refl, record { from = refl; prints = refl }, refl)
 json_last_asks program [] (d ∷ ds) p q =
     let w = plain_byte d q in
-    record { taken = rw (w, w) (refl {a = []}); asked = simp w (refl, record { from = refl; prints = refl }, refl) }
+    asks (rw (w, w) (refl {a = []})) (simp w (refl, record { from = refl; prints = refl }, refl))
 json_last_asks program (c ∷ cs) [] p q =
     let v = plain_byte c p in
-    record { taken = rw (v, v) (refl {a = []}); asked = simp v (refl, record { from = refl; prints = refl }, refl) }
+    asks (rw (v, v) (refl {a = []})) (simp v (refl, record { from = refl; prints = refl }, refl))
 json_last_asks program (c ∷ cs) (d ∷ ds) p q =
     let v = plain_byte c p in
     let w = plain_byte d q in
-    record {
-      taken = rw (v, v, w, w) (refl {a = []});
-      asked = simp (v, w) (refl, record { from = refl; prints = refl }, refl);
-    }
-
-no_file_fault : (program : Text)
-    → fault_of command_line (program ∷ codes "inspect" ∷ []) ≡ MissingRequiredArgument ∷ []
-unfolding clap_on_literals
-no_file_fault program = refl
-
--- words that ask for files to be inspected run that
-asked_inspects : (words asking : List Text) (line : CommandLine) (inspection : PlainInspection) → IsLineOf words line
-    → words ≡ asking → AsksFor (as_read asking) (InspectingFiles inspection) → RunsFor (InspectingFiles inspection) line
-asked_inspects words asking line inspection is e asks =
-    runs (as_read words) line _ is (subst (λ w. AsksFor (as_read w) (InspectingFiles inspection)) (sym e) asks)
+    asks (rw (v, v, w, w) (refl {a = []})) (simp (v, w) (refl, record { from = refl; prints = refl }, refl))
 
 pub runs_inspect : (words : List Text) (line : CommandLine) → IsLineOf words line → RunsInspect words line
+unfolding clap_on_literals
 runs_inspect words line is = record {
   file = λ program path plain e.
-      inspects path line (runs (as_read words) line _ is
-      (subst (λ w. AsksFor (as_read w) (Inspecting path)) (sym e) (file_asks program path plain)));
-  none = λ program e. reports MissingRequiredArgument (as_read words) line
-      (ap (λ w. fault_of command_line (as_read w)) e ∙ no_file_fault program) is;
-  two = λ program path other p q e. asked_inspects words _ line _ is e (two_ask program path other p q);
-  json = λ program path p e. asked_inspects words _ line _ is e (json_asks program path p);
-  json_last = λ program path other p q e. asked_inspects words _ line _ is e (json_last_asks program path other p q);
+      inspects path line (asked_runs words _ line _ is e (file_asks program path plain));
+  none = λ program e. asked_reports MissingRequiredArgument words _ line is e refl;
+  two = λ program path other p q e. asked_runs words _ line _ is e (two_ask program path other p q);
+  json = λ program path p e. asked_runs words _ line _ is e (json_asks program path p);
+  json_last = λ program path other p q e. asked_runs words _ line _ is e (json_last_asks program path other p q);
 }

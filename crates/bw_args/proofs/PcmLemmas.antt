@@ -1,202 +1,125 @@
 -- The forms of `send` with headerless samples, at values that are not known.
-use Rattle.std.proofs.Common.{◌≡◌, List, [], ◌∷◌, ◌++◌, true, false, Option, Some, None, codes, refl, inl, inr}
-use Rattle.std.specs.declared.net.socket_addr.SocketAddr.{SocketAddr}
-use Rattle.clap.specs.Words.{Text}
+use Rattle.std.proofs.Common.{◌≡◌, ℕ, List, [], ◌∷◌, ◌++◌, false, Option, Some, None, codes, refl}
+use Rattle.clap.specs.Words.{Row, Text}
 use Rattle.clap.proofs.OnLiterals.{clap_on_literals}
-use Rattle.bw_args.specs.Addresses.{IsAddress}
-use Rattle.bw_args.specs.Numbers.{IsCountText, IsNumber, most_block, most_fruitless, number_written}
-use Rattle.bw_args.specs.PcmSources.{GivesFormat, IsFormatText}
-use Rattle.bw_args.specs.ReadWords.{as_read}
-use Rattle.bw_args.specs.Given.{IsName}
-use Rattle.bw_args.specs.Lines.{AsksFor, IsLineOf, SendingPcm}
-use Rattle.bw_args.specs.PeerForms.{sending}
+use Rattle.bw_args.specs.Numbers.{IsCountText, IsNumber, default_timeout, most_block, most_fruitless, most_seconds}
+use Rattle.bw_args.specs.Numbers.{number_written}
+use Rattle.bw_args.specs.Sources.{GivesSource, is_mixed}
+use Rattle.bw_args.specs.PcmSources.{GivesFormat, GivesSamples, IsFormatText, fruitless_of}
+use Rattle.bw_args.specs.Lines.{GivesAddress, GivesCount, GivesCountOr, GivesName, GivesPcmUpload, IsLineOf, PcmUpload}
+use Rattle.bw_args.specs.Lines.{SendingPcm, given_on_line, is_set}
 use Rattle.bw_args.specs.FileForms.{with_file}
 use Rattle.bw_args.specs.PcmForms.{RefusesSamples, RunsPcmSender, plain_pcm_upload, with_pcm}
 use Rattle.bw_args.specs.declared.CommandLine.{CommandLine}
 use Rattle.bw_args.specs.declared.bad_value.BadValue.TheVariants.{Pcm, Skip, Block, MixedSamples}
 use Rattle.bw_args.specs.declared.commands.samples.WrittenFormat.{WrittenFormat}
-use Rattle.bw_args.proofs.ServerLemmas.{asked_runs}
-use Rattle.bw_args.proofs.ValueLemmas.{IsBadAt, reported}
+use Rattle.bw_args.proofs.FormLemmas.{asked_runs, asks}
+use Rattle.bw_args.proofs.SenderLemmas.{AsksSender, samples_by}
+use Rattle.bw_args.proofs.Asked.{bad, ◌and_then◌}
+use Rattle.bw_args.proofs.ValueLemmas.{LacksSender, not_mixed, nothing, reported}
 
-alone_sends : (program connect name path text : Text) (format : WrittenFormat) (address : SocketAddr)
-    → IsAddress false connect address → IsName name → IsFormatText text format
-    → AsksFor (as_read (sending program connect name (with_pcm path text [])))
-    (SendingPcm (plain_pcm_upload address name path format))
-unfolding clap_on_literals
-alone_sends program connect name path text format address at named given = record {
-  taken = refl;
-  asked = (
-    refl,
-    record {
-      connects = at;
-      named = (named, refl);
-      takes = record { from = refl; sets = refl; refuses = refl };
-      samples = record {
-        format = Some format;
-        skip = None;
-        block = None;
-        formatted = given;
-        begins = refl;
-        blocks = refl;
-        unmixed = refl;
-        are = refl;
-      };
-      waits = (None, refl, refl);
-      count = None;
-      counts = refl;
-      ends = refl;
-      reports = refl;
-      unmixed = refl;
-    },
-  );
+-- what of a sender of samples is given says it
+pcm_by : {options : List Row} {sender : PcmUpload} (count : Option ℕ)
+    → GivesCount most_fruitless (given_on_line options (codes "fruitless")) count
+    → sender.fruitless ≡ fruitless_of sender.pcm.until count → GivesSamples (given_on_line options) (Some sender.pcm)
+    → GivesAddress (is_set (given_on_line options (codes "network"))) (given_on_line options (codes "connect"))
+    sender.connect
+    → GivesName (given_on_line options (codes "name")) sender.name → GivesSource options sender.source
+    → GivesCountOr default_timeout most_seconds (given_on_line options (codes "timeout")) sender.timeout
+    → sender.log ≡ is_set (given_on_line options (codes "log")) → is_mixed (given_on_line options) ≡ false
+    → GivesPcmUpload options sender
+pcm_by count counts ends samples connects named takes waits reports unmixed = record {
+  connects = connects;
+  named = named;
+  takes = takes;
+  samples = samples;
+  waits = waits;
+  count = count;
+  counts = counts;
+  ends = ends;
+  reports = reports;
+  unmixed = unmixed;
 }
 
-skip_sends : (program connect name path text bytes : Text) (format : WrittenFormat) (address : SocketAddr)
-    → IsAddress false connect address → IsName name → IsFormatText text format
-    → IsNumber bytes
-    → AsksFor (as_read (sending program connect name (with_pcm path text ((codes "--skip=" ++ bytes) ∷ []))))
-    (SendingPcm (record (plain_pcm_upload address name path format) { pcm = record (plain_pcm_upload address name path format).pcm { skip = number_written bytes } }))
+alone_sends : (path text : Text) (format : WrittenFormat) → IsFormatText text format
+    → AsksSender false (with_pcm path text [])
+    (λ a n. SendingPcm (plain_pcm_upload a n path format))
 unfolding clap_on_literals
-skip_sends program connect name path text bytes format address at named given number = record {
-  taken = refl;
-  asked = (
-    refl,
-    record {
-      connects = at;
-      named = (named, refl);
-      takes = record { from = refl; sets = refl; refuses = refl };
-      samples = record {
-        format = Some format;
-        skip = Some (number_written bytes);
-        block = None;
-        formatted = given;
-        begins = (number, refl);
-        blocks = refl;
-        unmixed = refl;
-        are = refl;
-      };
-      waits = (None, refl, refl);
-      count = None;
-      counts = refl;
-      ends = refl;
-      reports = refl;
-      unmixed = refl;
-    },
-  );
-}
+alone_sends path text format given program connect name address at named =
+    asks refl (
+      refl,
+      pcm_by None refl refl (samples_by (Some format) None None given refl refl refl refl) at (named, refl)
+          (record { from = refl; sets = refl; refuses = refl }) (None, refl, refl) refl refl,
+    )
 
-block_sends : (program connect name path text frames : Text) (format : WrittenFormat) (address : SocketAddr)
-    → IsAddress false connect address → IsName name → IsFormatText text format
+skip_sends : (path text bytes : Text) (format : WrittenFormat) → IsFormatText text format → IsNumber bytes
+    → AsksSender false (with_pcm path text ((codes "--skip=" ++ bytes) ∷ []))
+    (λ a n. SendingPcm (record (plain_pcm_upload a n path format)
+    { pcm = record (plain_pcm_upload a n path format).pcm { skip = number_written bytes } }))
+unfolding clap_on_literals
+skip_sends path text bytes format given number program connect name address at named =
+    asks refl (
+      refl,
+      pcm_by None refl refl (samples_by (Some format) (Some (number_written bytes)) None given (number, refl) refl
+          refl refl) at (named, refl)
+          (record { from = refl; sets = refl; refuses = refl }) (None, refl, refl) refl refl,
+    )
+
+block_sends : (path text frames : Text) (format : WrittenFormat) → IsFormatText text format
     → IsCountText most_block frames
-    → AsksFor (as_read (sending program connect name (with_pcm path text ((codes "--block=" ++ frames) ∷ []))))
-    (SendingPcm (record (plain_pcm_upload address name path format) { pcm = record (plain_pcm_upload address name path format).pcm { block = Some (number_written frames) } }))
+    → AsksSender false (with_pcm path text ((codes "--block=" ++ frames) ∷ []))
+    (λ a n. SendingPcm (record (plain_pcm_upload a n path format)
+    { pcm = record (plain_pcm_upload a n path format).pcm { block = Some (number_written frames) } }))
 unfolding clap_on_literals
-block_sends program connect name path text frames format address at named given number = record {
-  taken = refl;
-  asked = (
-    refl,
-    record {
-      connects = at;
-      named = (named, refl);
-      takes = record { from = refl; sets = refl; refuses = refl };
-      samples = record {
-        format = Some format;
-        skip = None;
-        block = Some (number_written frames);
-        formatted = given;
-        begins = refl;
-        blocks = (number, refl);
-        unmixed = refl;
-        are = refl;
-      };
-      waits = (None, refl, refl);
-      count = None;
-      counts = refl;
-      ends = refl;
-      reports = refl;
-      unmixed = refl;
-    },
-  );
-}
+block_sends path text frames format given number program connect name address at named =
+    asks refl (
+      refl,
+      pcm_by None refl refl (samples_by (Some format) None (Some (number_written frames)) given refl (number, refl)
+          refl refl) at (named, refl)
+          (record { from = refl; sets = refl; refuses = refl }) (None, refl, refl) refl refl,
+    )
 
-follow_sends : (program connect name path text end : Text) (format : WrittenFormat) (address : SocketAddr)
-    → IsAddress false connect address → IsName name → IsFormatText text format
-    → AsksFor (as_read (sending program connect name (with_pcm path text (codes "--follow" ∷ (codes "--until=" ++ end) ∷ []))))
-    (SendingPcm (record (plain_pcm_upload address name path format) { pcm = record (plain_pcm_upload address name path format).pcm { until = Some end }; fruitless = None }))
+follow_sends : (path text end : Text) (format : WrittenFormat) → IsFormatText text format
+    → AsksSender false (with_pcm path text (codes "--follow" ∷ (codes "--until=" ++ end) ∷ []))
+    (λ a n. SendingPcm (record (plain_pcm_upload a n path format)
+    { pcm = record (plain_pcm_upload a n path format).pcm { until = Some end }; fruitless = None }))
 unfolding clap_on_literals
-follow_sends program connect name path text end format address at named given = record {
-  taken = refl;
-  asked = (
-    refl,
-    record {
-      connects = at;
-      named = (named, refl);
-      takes = record { from = refl; sets = refl; refuses = refl };
-      samples = record {
-        format = Some format;
-        skip = None;
-        block = None;
-        formatted = given;
-        begins = refl;
-        blocks = refl;
-        unmixed = refl;
-        are = refl;
-      };
-      waits = (None, refl, refl);
-      count = None;
-      counts = refl;
-      ends = refl;
-      reports = refl;
-      unmixed = refl;
-    },
-  );
-}
+follow_sends path text end format given program connect name address at named =
+    asks refl (
+      refl,
+      pcm_by None refl refl (samples_by (Some format) None None given refl refl refl refl) at (named, refl)
+          (record { from = refl; sets = refl; refuses = refl }) (None, refl, refl) refl refl,
+    )
 
-fruitless_sends : (program connect name path text end count : Text) (format : WrittenFormat) (address : SocketAddr)
-    → IsAddress false connect address → IsName name → IsFormatText text format
+fruitless_sends : (path text end count : Text) (format : WrittenFormat) → IsFormatText text format
     → IsCountText most_fruitless count
-    → AsksFor (as_read (sending program connect name (with_pcm path text (codes "--follow" ∷ (codes "--until=" ++ end) ∷ (codes "--fruitless=" ++ count) ∷ []))))
-    (SendingPcm (record (plain_pcm_upload address name path format) { pcm = record (plain_pcm_upload address name path format).pcm { until = Some end }; fruitless = Some (number_written count) }))
+    → AsksSender false (with_pcm path text (codes "--follow" ∷ (codes "--until=" ++ end) ∷
+    (codes "--fruitless=" ++ count) ∷ []))
+    (λ a n. SendingPcm (record (plain_pcm_upload a n path format) {
+      pcm = record (plain_pcm_upload a n path format).pcm { until = Some end };
+      fruitless = Some
+          (number_written count);
+    }))
 unfolding clap_on_literals
-fruitless_sends program connect name path text end count format address at named given number = record {
-  taken = refl;
-  asked = (
-    refl,
-    record {
-      connects = at;
-      named = (named, refl);
-      takes = record { from = refl; sets = refl; refuses = refl };
-      samples = record {
-        format = Some format;
-        skip = None;
-        block = None;
-        formatted = given;
-        begins = refl;
-        blocks = refl;
-        unmixed = refl;
-        are = refl;
-      };
-      waits = (None, refl, refl);
-      count = Some (number_written count);
-      counts = (number, refl);
-      ends = refl;
-      reports = refl;
-      unmixed = refl;
-    },
-  );
-}
+fruitless_sends path text end count format given number program connect name address at named =
+    asks refl (
+      refl,
+      pcm_by (Some (number_written count)) (number, refl) refl
+          (samples_by (Some format) None None given refl refl refl refl) at (named, refl)
+          (record { from = refl; sets = refl; refuses = refl }) (None, refl, refl) refl refl,
+    )
 
 pub runs_pcm_sender : (words : List Text) (line : CommandLine) → IsLineOf words line → RunsPcmSender words line
 runs_pcm_sender words line is = record {
-  alone = λ f t m given p c n a at named e. asked_runs words _ line _ is e (alone_sends p c n f t m a at named given);
-  skip = λ f t b m given number p c n a at named e.
-      asked_runs words _ line _ is e (skip_sends p c n f t b m a at named given number);
-  block = λ f t b m given number p c n a at named e.
-      asked_runs words _ line _ is e (block_sends p c n f t b m a at named given number);
-  follow = λ f t u m given p c n a at named e.
-      asked_runs words _ line _ is e (follow_sends p c n f t u m a at named given);
-  fruitless = λ f t u k m given number p c n a at named e.
-      asked_runs words _ line _ is e (fruitless_sends p c n f t u k m a at named given number);
+  alone = λ f t m given p c n a at named e. asked_runs words _ line _ is e (alone_sends f t m given p c n a at named);
+  skip = λ f t b m given number p c n a at named e. asked_runs words _ line _ is e
+      (skip_sends f t b m given number p c n a at named);
+  block = λ f t b m given number p c n a at named e. asked_runs words _ line _ is e
+      (block_sends f t b m given number p c n a at named);
+  follow = λ f t u m given p c n a at named e. asked_runs words _ line _ is e
+      (follow_sends f t u m given p c n a at named);
+  fruitless = λ f t u k m given number p c n a at named e. asked_runs words _ line _ is e
+      (fruitless_sends f t u k m given number p c n a at named);
 }
 
 -- a text that is no format gives none
@@ -205,175 +128,84 @@ no_format : (text : Text) (format : Option WrittenFormat) → ((format : Written
 no_format text (Some format) none gives = none format gives
 no_format text None none gives = gives
 
-bad_format : (program connect name path text : Text) (address : SocketAddr)
-    → IsAddress false connect address → IsName name
-    → ((format : WrittenFormat) → ¬ IsFormatText text format)
-    → IsBadAt (as_read (sending program connect name (with_pcm path text []))) Pcm
+bad_format : (path text : Text) → ((format : WrittenFormat) → ¬ IsFormatText text format)
+    → LacksSender (with_pcm path text []) Pcm
 unfolding clap_on_literals
-bad_format program connect name path text address at named none = (
+bad_format path text none program connect name address at named = (
   refl,
-  inr (
-    (address, at),
-    inr (
-      (name, (named, refl)),
-      inr (
-        (None, refl),
-        inr (
-          (None, refl),
-          inr ((None, refl), inr (refl, inl ((λ good. no_format text good.0 none good.1), refl))),
-        ),
-      ),
-    ),
-  ),
+  (address, at) and_then (name, (named, refl)) and_then nothing and_then nothing and_then nothing
+      and_then refl and_then bad (λ good. no_format text good.0 none good.1),
 )
 
-bad_skip : (program connect name path text bytes : Text) (format : WrittenFormat) (address : SocketAddr)
-    → IsAddress false connect address → IsName name
-    → IsFormatText text format
-    → ¬ IsNumber bytes
-    → IsBadAt (as_read (sending program connect name (with_pcm path text ((codes "--skip=" ++ bytes) ∷ [])))) Skip
+bad_skip : (path text bytes : Text) (format : WrittenFormat) → IsFormatText text format → ¬ IsNumber bytes
+    → LacksSender (with_pcm path text ((codes "--skip=" ++ bytes) ∷ [])) Skip
 unfolding clap_on_literals
-bad_skip program connect name path text bytes format address at named given none = (
+bad_skip path text bytes format given none program connect name address at named = (
   refl,
-  inr (
-    (address, at),
-    inr (
-      (name, (named, refl)),
-      inr (
-        (None, refl),
-        inr (
-          (None, refl),
-          inr ((None, refl), inr (refl, inr ((Some format, given), inl ((λ good. none good.1.0), refl)))),
-        ),
-      ),
-    ),
-  ),
+  (address, at) and_then (name, (named, refl)) and_then nothing and_then nothing and_then nothing
+      and_then refl and_then (Some format, given) and_then bad (λ good. none good.1.0),
 )
 
-bad_block : (program connect name path text frames : Text) (format : WrittenFormat) (address : SocketAddr)
-    → IsAddress false connect address → IsName name
-    → IsFormatText text format
+bad_block : (path text frames : Text) (format : WrittenFormat) → IsFormatText text format
     → ¬ IsCountText most_block frames
-    → IsBadAt (as_read (sending program connect name (with_pcm path text ((codes "--block=" ++ frames) ∷ [])))) Block
+    → LacksSender (with_pcm path text ((codes "--block=" ++ frames) ∷ [])) Block
 unfolding clap_on_literals
-bad_block program connect name path text frames format address at named given none = (
+bad_block path text frames format given none program connect name address at named = (
   refl,
-  inr (
-    (address, at),
-    inr (
-      (name, (named, refl)),
-      inr (
-        (None, refl),
-        inr (
-          (None, refl),
-          inr ((None, refl), inr (refl, inr ((Some format, given), inr ((None, refl), inl ((λ good. none good.1.0), refl))))),
-        ),
-      ),
-    ),
-  ),
+  (address, at) and_then (name, (named, refl)) and_then nothing and_then nothing and_then nothing
+      and_then refl and_then (Some format, given) and_then nothing and_then bad (λ good. none good.1.0),
 )
 
-mixed_fileless : (program connect name text : Text) (format : WrittenFormat) (address : SocketAddr)
-    → IsAddress false connect address → IsName name
-    → IsFormatText text format
-    → IsBadAt (as_read (sending program connect name ((codes "--pcm=" ++ text) ∷ []))) MixedSamples
+mixed_fileless : (text : Text) (format : WrittenFormat) → IsFormatText text format
+    → LacksSender ((codes "--pcm=" ++ text) ∷ []) MixedSamples
 unfolding clap_on_literals
-mixed_fileless program connect name text format address at named given = (
+mixed_fileless text format given program connect name address at named = (
   refl,
-  inr (
-    (address, at),
-    inr (
-      (name, (named, refl)),
-      inr (
-        (None, refl),
-        inr (
-          (None, refl),
-          inr ((None, refl), inr (refl, inr ((Some format, given), inr ((None, refl), inr ((None, refl), inl ((λ good. let bad : true ≡ false = good in cc), refl)))))),
-        ),
-      ),
-    ),
-  ),
+  (address, at) and_then (name, (named, refl)) and_then nothing and_then nothing and_then nothing
+      and_then refl and_then (Some format, given) and_then nothing and_then nothing and_then bad not_mixed,
 )
 
-mixed_follow : (program connect name path text : Text) (format : WrittenFormat) (address : SocketAddr)
-    → IsAddress false connect address → IsName name
-    → IsFormatText text format
-    → IsBadAt (as_read (sending program connect name (with_pcm path text (codes "--follow" ∷ [])))) MixedSamples
+mixed_follow : (path text : Text) (format : WrittenFormat) → IsFormatText text format
+    → LacksSender (with_pcm path text (codes "--follow" ∷ [])) MixedSamples
 unfolding clap_on_literals
-mixed_follow program connect name path text format address at named given = (
+mixed_follow path text format given program connect name address at named = (
   refl,
-  inr (
-    (address, at),
-    inr (
-      (name, (named, refl)),
-      inr (
-        (None, refl),
-        inr (
-          (None, refl),
-          inr ((None, refl), inr (refl, inr ((Some format, given), inr ((None, refl), inr ((None, refl), inl ((λ good. let bad : true ≡ false = good in cc), refl)))))),
-        ),
-      ),
-    ),
-  ),
+  (address, at) and_then (name, (named, refl)) and_then nothing and_then nothing and_then nothing
+      and_then refl and_then (Some format, given) and_then nothing and_then nothing and_then bad not_mixed,
 )
 
-mixed_until : (program connect name path text end : Text) (format : WrittenFormat) (address : SocketAddr)
-    → IsAddress false connect address → IsName name
-    → IsFormatText text format
-    → IsBadAt (as_read (sending program connect name (with_pcm path text ((codes "--until=" ++ end) ∷ [])))) MixedSamples
+mixed_until : (path text end : Text) (format : WrittenFormat) → IsFormatText text format
+    → LacksSender (with_pcm path text ((codes "--until=" ++ end) ∷ [])) MixedSamples
 unfolding clap_on_literals
-mixed_until program connect name path text end format address at named given = (
+mixed_until path text end format given program connect name address at named = (
   refl,
-  inr (
-    (address, at),
-    inr (
-      (name, (named, refl)),
-      inr (
-        (None, refl),
-        inr (
-          (None, refl),
-          inr ((None, refl), inr (refl, inr ((Some format, given), inr ((None, refl), inr ((None, refl), inl ((λ good. let bad : true ≡ false = good in cc), refl)))))),
-        ),
-      ),
-    ),
-  ),
+  (address, at) and_then (name, (named, refl)) and_then nothing and_then nothing and_then nothing
+      and_then refl and_then (Some format, given) and_then nothing and_then nothing and_then bad not_mixed,
 )
 
-mixed_skip : (program connect name path bytes : Text) (address : SocketAddr)
-    → IsAddress false connect address → IsName name
-    → IsNumber bytes
-    → IsBadAt (as_read (sending program connect name (with_file path ((codes "--skip=" ++ bytes) ∷ [])))) MixedSamples
+mixed_skip : (path bytes : Text) → IsNumber bytes
+    → LacksSender (with_file path ((codes "--skip=" ++ bytes) ∷ [])) MixedSamples
 unfolding clap_on_literals
-mixed_skip program connect name path bytes address at named number = (
+mixed_skip path bytes number program connect name address at named = (
   refl,
-  inr (
-    (address, at),
-    inr (
-      (name, (named, refl)),
-      inr (
-        (None, refl),
-        inr (
-          (None, refl),
-          inr ((None, refl), inr (refl, inr ((None, refl), inr ((Some (number_written bytes), (number, refl)), inr ((None, refl), inl ((λ good. let bad : true ≡ false = good in cc), refl)))))),
-        ),
-      ),
-    ),
-  ),
+  (address, at) and_then (name, (named, refl)) and_then nothing and_then nothing and_then nothing
+      and_then refl and_then nothing and_then (Some (number_written bytes), (number, refl)) and_then nothing
+      and_then bad not_mixed,
 )
 
 pub refuses_samples : (words : List Text) (line : CommandLine) → IsLineOf words line → RefusesSamples words line
 refuses_samples words line is = record {
-  format = λ f t none p c n a at named e. reported words _ line Pcm is e (bad_format p c n f t a at named none);
-  skip = λ f t b m given none p c n a at named e.
-      reported words _ line Skip is e (bad_skip p c n f t b m a at named given none);
-  block = λ f t b m given none p c n a at named e.
-      reported words _ line Block is e (bad_block p c n f t b m a at named given none);
-  fileless = λ t m given p c n a at named e.
-      reported words _ line MixedSamples is e (mixed_fileless p c n t m a at named given);
-  follow = λ f t m given p c n a at named e.
-      reported words _ line MixedSamples is e (mixed_follow p c n f t m a at named given);
-  until = λ f t u m given p c n a at named e.
-      reported words _ line MixedSamples is e (mixed_until p c n f t u m a at named given);
-  formatless = λ f b number p c n a at named e.
-      reported words _ line MixedSamples is e (mixed_skip p c n f b a at named number);
+  format = λ f t none p c n a at named e. reported words _ line Pcm is e (bad_format f t none p c n a at named);
+  skip = λ f t b m given none p c n a at named e. reported words _ line Skip is e
+      (bad_skip f t b m given none p c n a at named);
+  block = λ f t b m given none p c n a at named e. reported words _ line Block is e
+      (bad_block f t b m given none p c n a at named);
+  fileless = λ t m given p c n a at named e. reported words _ line MixedSamples is e
+      (mixed_fileless t m given p c n a at named);
+  follow = λ f t m given p c n a at named e. reported words _ line MixedSamples is e
+      (mixed_follow f t m given p c n a at named);
+  until = λ f t u m given p c n a at named e. reported words _ line MixedSamples is e
+      (mixed_until f t u m given p c n a at named);
+  formatless = λ f b number p c n a at named e. reported words _ line MixedSamples is e
+      (mixed_skip f b number p c n a at named);
 }

@@ -1,19 +1,17 @@
 -- The forms of a rehearsal, at names and limits that are not known.
-use Rattle.std.proofs.Common.{◌≡◌, ℕ, List, [], ◌∷◌, ◌++◌, false, ◌<◌, ◌==◌, codes, refl, ap, subst, sym}
-use Rattle.std.proofs.Common.{◌∙◌, arith}
+use Rattle.std.proofs.Common.{◌≡◌, ℕ, List, [], ◌∷◌, ◌++◌, false, ◌<◌, ◌==◌, codes, refl, subst, sym}
+use Rattle.std.proofs.Common.{arith}
 use Rattle.clap.specs.declared.error.ErrorKind.TheVariants.{MissingRequiredArgument}
-use Rattle.clap.specs.Words.{Text, fault_of, subcommand_of}
+use Rattle.clap.specs.Words.{Text}
 use Rattle.clap.proofs.OnLiterals.{clap_on_literals}
-use Rattle.bw_args.specs.Commands.{command_line}
 use Rattle.bw_args.specs.ReadWords.{as_read, joined}
-use Rattle.bw_args.specs.Lines.{AsksFor, IsLineOf, IsName, IsWishOf, Rehearsing}
+use Rattle.bw_args.specs.Lines.{AsksFor, IsLineOf, IsName, Rehearsing}
 use Rattle.bw_args.specs.Forms.{RunsFor, RunsRehearsal}
 use Rattle.bw_args.specs.Numbers.{IsLimitText, default_limit, number_written}
 use Rattle.bw_args.specs.declared.CommandLine.{CommandLine}
 use Rattle.bw_args.specs.declared.CommandLine.TheVariants.{Run, BadValue as Bad, Report}
-use Rattle.bw_args.specs.declared.Task.TheVariants.{Inspect, Rehearse, Replay, Send, Serve, SendFile, SendPcm}
-use Rattle.bw_args.specs.declared.Task.TheVariants.{Pack, InspectFiles, Repair, Takes}
-use Rattle.bw_args.proofs.FormLemmas.{no_hyphen, runs, reports}
+use Rattle.bw_args.specs.declared.Task.TheVariants.{Rehearse}
+use Rattle.bw_args.proofs.FormLemmas.{asked_reports, asked_runs, asks, no_hyphen}
 
 -- a limit's word is read unchanged
 limit_stays : (d : ℕ) (ds : Text) (rest : List Text) → (d == 45) ≡ false
@@ -23,19 +21,14 @@ limit_stays d ds rest value = rw value (refl {a = (d ∷ ds) ∷ joined (codes "
 joined_asks : (program name : Text) → IsName name
     → AsksFor (program ∷ codes "rehearse" ∷ (codes "--name=" ++ name) ∷ []) (Rehearsing name default_limit)
 unfolding clap_on_literals
-joined_asks program name named = record { taken = refl; asked = (refl, (named, refl), refl) }
+joined_asks program name named = asks refl (refl, (named, refl), refl)
 
-both_taken : (program name : Text) (d : ℕ) (ds : Text) → (d == 45) ≡ false → fault_of command_line
-    (program ∷ codes "rehearse" ∷ (codes "--name=" ++ name) ∷ codes "--limit" ∷ (d ∷ ds) ∷ []) ≡ []
-unfolding clap_on_literals
-both_taken program name d ds value = rw (value, value) (refl {a = []})
-
-both_wished : (program name : Text) (d : ℕ) (ds : Text) → (d == 45) ≡ false → IsName name → IsLimitText (d ∷ ds)
-    → IsWishOf (subcommand_of command_line
-    (program ∷ codes "rehearse" ∷ (codes "--name=" ++ name) ∷ codes "--limit" ∷ (d ∷ ds) ∷ []))
+both_read : (program name : Text) (d : ℕ) (ds : Text) → (d == 45) ≡ false → IsName name → IsLimitText (d ∷ ds)
+    → AsksFor (program ∷ codes "rehearse" ∷ (codes "--name=" ++ name) ∷ codes "--limit" ∷ (d ∷ ds) ∷ [])
     (Rehearsing name (number_written (d ∷ ds)))
 unfolding clap_on_literals
-both_wished program name d ds value named given = simp value (refl, (named, refl), (given, refl))
+both_read program name d ds value named given =
+    asks (rw (value, value) (refl {a = []})) (simp value (refl, (named, refl), (given, refl)))
 
 both_asks : (program name limit : Text) → IsName name → IsLimitText limit → AsksFor
     (as_read (program ∷ codes "rehearse" ∷ codes "--name" ∷ name ∷ codes "--limit" ∷ limit ∷ []))
@@ -44,22 +37,15 @@ both_asks program name [] named given = let bad : 0 < 0 = given.0.0.0 in absurd 
 both_asks program name (d ∷ ds) named given =
     let value = no_hyphen d ds given.0 in
     subst (λ w. AsksFor (program ∷ codes "rehearse" ∷ (codes "--name=" ++ name) ∷ codes "--limit" ∷ w)
-    (Rehearsing name (number_written (d ∷ ds)))) (sym (limit_stays d ds [] value)) (record {
-      taken = both_taken program name d ds value;
-      asked = both_wished program name d ds value named given;
-    })
+    (Rehearsing name (number_written (d ∷ ds)))) (sym (limit_stays d ds [] value))
+    (both_read program name d ds value named given)
 
-turned_taken : (program name : Text) (d : ℕ) (ds : Text) → (d == 45) ≡ false → fault_of command_line
-    (program ∷ codes "rehearse" ∷ codes "--limit" ∷ (d ∷ ds) ∷ (codes "--name=" ++ name) ∷ []) ≡ []
-unfolding clap_on_literals
-turned_taken program name d ds value = rw (value, value) (refl {a = []})
-
-turned_wished : (program name : Text) (d : ℕ) (ds : Text) → (d == 45) ≡ false → IsName name → IsLimitText (d ∷ ds)
-    → IsWishOf (subcommand_of command_line
-    (program ∷ codes "rehearse" ∷ codes "--limit" ∷ (d ∷ ds) ∷ (codes "--name=" ++ name) ∷ []))
+turned_read : (program name : Text) (d : ℕ) (ds : Text) → (d == 45) ≡ false → IsName name → IsLimitText (d ∷ ds)
+    → AsksFor (program ∷ codes "rehearse" ∷ codes "--limit" ∷ (d ∷ ds) ∷ (codes "--name=" ++ name) ∷ [])
     (Rehearsing name (number_written (d ∷ ds)))
 unfolding clap_on_literals
-turned_wished program name d ds value named given = simp value (refl, (named, refl), (given, refl))
+turned_read program name d ds value named given =
+    asks (rw (value, value) (refl {a = []})) (simp value (refl, (named, refl), (given, refl)))
 
 turned_asks : (program name limit : Text) → IsName name → IsLimitText limit → AsksFor
     (as_read (program ∷ codes "rehearse" ∷ codes "--limit" ∷ limit ∷ codes "--name" ∷ name ∷ []))
@@ -69,54 +55,30 @@ turned_asks program name (d ∷ ds) named given =
     let value = no_hyphen d ds given.0 in
     subst (λ w. AsksFor (program ∷ codes "rehearse" ∷ codes "--limit" ∷ w)
     (Rehearsing name (number_written (d ∷ ds))))
-    (sym (limit_stays d ds (codes "--name" ∷ name ∷ []) value)) (record {
-      taken = turned_taken program name d ds value;
-      asked = turned_wished program name d ds value named given;
-    })
+    (sym (limit_stays d ds (codes "--name" ∷ name ∷ []) value))
+    (turned_read program name d ds value named given)
 
 both_joined_asks : (program name limit : Text) → IsName name → IsLimitText limit → AsksFor
     (program ∷ codes "rehearse" ∷ (codes "--name=" ++ name) ∷ (codes "--limit=" ++ limit) ∷ [])
     (Rehearsing name (number_written limit))
 unfolding clap_on_literals
-both_joined_asks program name limit named given = record {
-  taken = refl;
-  asked = (refl, (named, refl), (given, refl));
-}
+both_joined_asks program name limit named given = asks refl (refl, (named, refl), (given, refl))
 
 rehearses : (name : Text) (limit : ℕ) (line : CommandLine) → RunsFor (Rehearsing name limit) line
     → line ≡ Run (Rehearse name limit)
 rehearses name limit (Run (Rehearse m n)) e = let names : m ≡ name = cc in let limits : n ≡ limit = cc in cc
-rehearses name limit (Run (Replay n k)) e = cc
-rehearses name limit (Run (Inspect file)) e = cc
-rehearses name limit (Run (InspectFiles inspection)) e = cc
-rehearses name limit (Run (Serve server)) e = cc
-rehearses name limit (Run (Send sender)) e = cc
-rehearses name limit (Run (SendFile sender)) e = cc
-rehearses name limit (Run (SendPcm sender)) e = cc
-rehearses name limit (Run (Pack source)) e = cc
-rehearses name limit (Run (Repair file write)) e = cc
-rehearses name limit (Run (Takes listing)) e = cc
+rehearses name limit (Run task) e = cc
 rehearses name limit (Bad value) e = absurd e
 rehearses name limit (Report error) e = absurd e
 
 -- words that ask for a rehearsal run it
 asked_rehearses : (words asking : List Text) (line : CommandLine) (name : Text) (limit : ℕ) → IsLineOf words line
     → words ≡ asking → AsksFor (as_read asking) (Rehearsing name limit) → line ≡ Run (Rehearse name limit)
-asked_rehearses words asking line name limit is e asks = rehearses name limit line
-    (runs (as_read words) line _ is (subst (λ w. AsksFor (as_read w) (Rehearsing name limit)) (sym e) asks))
-
-no_name_fault : (program : Text) → fault_of command_line (program ∷ codes "rehearse" ∷ [])
-    ≡ MissingRequiredArgument ∷ []
-unfolding clap_on_literals
-no_name_fault program = refl
-
-limit_alone_fault : (program limit : Text)
-    → fault_of command_line (program ∷ codes "rehearse" ∷ (codes "--limit=" ++ limit) ∷ [])
-    ≡ MissingRequiredArgument ∷ []
-unfolding clap_on_literals
-limit_alone_fault program limit = refl
+asked_rehearses words asking line name limit is e asking_for =
+    rehearses name limit line (asked_runs words asking line _ is e asking_for)
 
 pub runs_rehearsal : (words : List Text) (line : CommandLine) → IsLineOf words line → RunsRehearsal words line
+unfolding clap_on_literals
 runs_rehearsal words line is = record {
   apart = λ program name named e. asked_rehearses words _ line _ _ is e (joined_asks program name named);
   joined = λ program name named e. asked_rehearses words _ line _ _ is e (joined_asks program name named);
@@ -126,8 +88,6 @@ runs_rehearsal words line is = record {
       asked_rehearses words _ line _ _ is e (turned_asks program name limit named given);
   both_joined = λ program name limit named given e.
       asked_rehearses words _ line _ _ is e (both_joined_asks program name limit named given);
-  none = λ program e. reports MissingRequiredArgument (as_read words) line
-      (ap (λ w. fault_of command_line (as_read w)) e ∙ no_name_fault program) is;
-  limit_alone = λ program limit e. reports MissingRequiredArgument (as_read words) line
-      (ap (λ w. fault_of command_line (as_read w)) e ∙ limit_alone_fault program limit) is;
+  none = λ program e. asked_reports MissingRequiredArgument words _ line is e refl;
+  limit_alone = λ program limit e. asked_reports MissingRequiredArgument words _ line is e refl;
 }

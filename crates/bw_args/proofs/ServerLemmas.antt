@@ -1,12 +1,13 @@
 -- The forms of `serve`, at values that are not known.
-use Rattle.std.proofs.Common.{◌≡◌, ◌≢◌, ℕ, List, [], ◌∷◌, ◌++◌, true, false, Option, Some, None, ◌<◌}
+use Rattle.std.proofs.Common.{◌≡◌, ◌≢◌, ℕ, Bool, List, [], ◌∷◌, ◌++◌, true, false, Option, Some, None, ◌<◌}
 use Rattle.std.proofs.Common.{◌+◌, ◌-◌, codes, suc, zero}
-use Rattle.std.proofs.Common.{refl, subst, sym, arith}
+use Rattle.std.proofs.Common.{refl, ap, subst, sym, arith}
 use Rattle.std.proofs.lemmas.Str.Parse.{digit_from_value}
 use Rattle.std.specs.Int.{IsInRange}
 use Rattle.std.specs.declared.net.socket_addr.SocketAddr.{SocketAddr}
 use Rattle.std.specs.Net.Socket.{socket_port}
-use Rattle.clap.specs.Words.{Text, fault_of, subcommand_of}
+use Rattle.clap.specs.Words.{Row, Text, fault_of, subcommand_of}
+use Rattle.clap.specs.declared.error.ErrorKind.{ErrorKind}
 use Rattle.clap.proofs.OnLiterals.{clap_on_literals}
 use Rattle.bw_args.specs.Addresses.{IsAddress, local}
 use Rattle.bw_args.specs.Commands.{command_line}
@@ -14,8 +15,8 @@ use Rattle.bw_args.specs.Numbers.{IsCountText, IsLimitText, IsNumber, default_id
 use Rattle.bw_args.specs.Numbers.{most_recorders, most_seconds}
 use Rattle.bw_args.specs.Numbers.{number_written}
 use Rattle.bw_args.specs.ReadWords.{as_read}
-use Rattle.bw_args.specs.Lines.{AsksFor, GivesCount, GivesRecorders, IsLineOf, IsRecorders, IsWishOf, Serving, Wish}
-use Rattle.bw_args.specs.Forms.{RunsFor}
+use Rattle.bw_args.specs.Lines.{AsksFor, GivesAddress, GivesCount, GivesEnd, GivesFolder, GivesLimit, GivesRecorders}
+use Rattle.bw_args.specs.Lines.{GivesServer, IsJournaling, IsLineOf, IsRecorders, IsWishOf, Service, Serving, Wish, is_set}
 use Rattle.bw_args.specs.PeerForms.{RunsServer, plain_server}
 use Rattle.bw_args.specs.PeerForms.{serving}
 use Rattle.bw_args.specs.declared.CommandLine.{CommandLine}
@@ -23,7 +24,7 @@ use Rattle.bw_args.specs.declared.peers.End.TheVariants as when
 use Rattle.bw_args.specs.declared.peers.Recorders.{Recorders as Way}
 use Rattle.bw_args.specs.declared.peers.Journaling.TheVariants.{Kept, Synced}
 use Rattle.bw_args.specs.declared.peers.Recorders.TheVariants.{InTurn, AtOnce}
-use Rattle.bw_args.proofs.FormLemmas.{runs}
+use Rattle.bw_args.proofs.FormLemmas.{asked_runs, asks}
 
 -- how recorders are served, where these are the times and numbers that are given
 pub serves_by : {given : Text → Option Text} (timeout most idle : Option ℕ) (way : Way)
@@ -41,277 +42,151 @@ serves_by timeout most idle way waits serves idles is = record {
   is = is;
 }
 
-alone_asks : (program listen folder : Text) (address : SocketAddr) → IsAddress false listen address → folder ≢ []
-    → AsksFor (as_read (serving program listen folder [])) (Serving (plain_server address folder))
-unfolding clap_on_literals
-alone_asks program listen folder address at full =
-    record {
-      taken = refl;
-      asked = (
-        refl,
-        record {
-          listens = at;
-          keeps = (full, refl);
-          ends = (None, refl, refl);
-          limited = refl;
-          serves = serves_by None None None _ refl refl refl refl;
-          reports = refl;
-          journals = refl;
-          names = refl;
-        },
-      );
-    }
+-- what of a server is given says it
+server_by : {given : Text → Option Text} {server : Service} → GivesEnd (given (codes "exchanges"))
+    (is_set (given (codes "until-stopped"))) server.end
+    → GivesLimit (given (codes "limit")) server.limit → GivesRecorders given server.recorders
+    → GivesAddress (is_set (given (codes "network"))) (given (codes "listen")) server.listen
+    → GivesFolder (given (codes "folder")) server.folder → server.log ≡ is_set (given (codes "log"))
+    → IsJournaling (is_set (given (codes "journal"))) (is_set (given (codes "sync"))) server.journal
+    → server.one_name ≡ is_set (given (codes "one-name")) → GivesServer given server
+server_by ends limited serves listens keeps reports journals names = record {
+  listens = listens;
+  keeps = keeps;
+  ends = ends;
+  limited = limited;
+  serves = serves;
+  reports = reports;
+  journals = journals;
+  names = names;
+}
 
-exchanges_asks : (program listen folder : Text) (address : SocketAddr) (count : Text)
-    → IsAddress false listen address → folder ≢ [] → IsCountText most_exchanges count
-    → AsksFor (as_read (serving program listen folder ((codes "--exchanges=" ++ count) ∷ []))) (Serving
-    (record (plain_server address folder) { end = when.Exchanges (number_written count) }))
-unfolding clap_on_literals
-exchanges_asks program listen folder address count at full given =
-    record {
-      taken = refl;
-      asked = (
-        refl,
-        record {
-          listens = at;
-          keeps = (full, refl);
-          ends = (Some (number_written count), (given, refl), refl);
-          limited = refl;
-          serves = serves_by None None None _ refl refl refl refl;
-          reports = refl;
-          journals = refl;
-          names = refl;
-        },
-      );
-    }
+-- these further words ask for this server
+abbrev AsksServer : Bool → List Text → (SocketAddr → Text → Service) → Type 0
+AsksServer network more server = (program listen folder : Text) (address : SocketAddr)
+    → IsAddress network listen address → folder ≢ []
+    → AsksFor (as_read (serving program listen folder more)) (Serving (server address folder))
 
-limit_asks : (program listen folder : Text) (address : SocketAddr) (limit : Text) → IsAddress false listen address
-    → folder ≢ [] → IsLimitText limit
-    → AsksFor (as_read (serving program listen folder ((codes "--limit=" ++ limit) ∷ []))) (Serving
-    (record (plain_server address folder) { limit = number_written limit }))
+alone : AsksServer false [] plain_server
 unfolding clap_on_literals
-limit_asks program listen folder address limit at full given =
-    record {
-      taken = refl;
-      asked = (
-        refl,
-        record {
-          listens = at;
-          keeps = (full, refl);
-          ends = (None, refl, refl);
-          limited = (given, refl);
-          serves = serves_by None None None _ refl refl refl refl;
-          reports = refl;
-          journals = refl;
-          names = refl;
-        },
-      );
-    }
+alone program listen folder address at full =
+    asks refl (
+      refl,
+      server_by (None, refl, refl) refl (serves_by None None None _ refl refl refl refl) at
+          (full, refl) refl refl refl,
+    )
 
-timeout_asks : (program listen folder : Text) (address : SocketAddr) (seconds : Text)
-    → IsAddress false listen address → folder ≢ [] → IsCountText most_seconds seconds
-    → AsksFor (as_read (serving program listen folder ((codes "--timeout=" ++ seconds) ∷ []))) (Serving
-    (record (plain_server address folder) { recorders = InTurn (Some (number_written seconds)) }))
+network : AsksServer true (codes "--network" ∷ []) plain_server
 unfolding clap_on_literals
-timeout_asks program listen folder address seconds at full given =
-    record {
-      taken = refl;
-      asked = (
-        refl,
-        record {
-          listens = at;
-          keeps = (full, refl);
-          ends = (None, refl, refl);
-          limited = refl;
-          serves = serves_by (Some (number_written seconds)) None None _ (given, refl) refl refl refl;
-          reports = refl;
-          journals = refl;
-          names = refl;
-        },
-      );
-    }
+network program listen folder address at full =
+    asks refl (
+      refl,
+      server_by (None, refl, refl) refl (serves_by None None None _ refl refl refl refl) at
+          (full, refl) refl refl refl,
+    )
 
-recorders_asks : (program listen folder : Text) (address : SocketAddr) (count : Text)
-    → IsAddress false listen address → folder ≢ [] → IsCountText most_recorders count
-    → AsksFor (as_read (serving program listen folder ((codes "--recorders=" ++ count) ∷ []))) (Serving
-    (record (plain_server address folder) { recorders = AtOnce (number_written count) default_idle }))
+exchanges : (count : Text) → IsCountText most_exchanges count
+    → AsksServer false ((codes "--exchanges=" ++ count) ∷ [])
+    (λ a f. record (plain_server a f) { end = when.Exchanges (number_written count) })
 unfolding clap_on_literals
-recorders_asks program listen folder address count at full given =
-    record {
-      taken = refl;
-      asked = (
-        refl,
-        record {
-          listens = at;
-          keeps = (full, refl);
-          ends = (None, refl, refl);
-          limited = refl;
-          serves = serves_by None (Some (number_written count)) None _ refl (given, refl) refl refl;
-          reports = refl;
-          journals = refl;
-          names = refl;
-        },
-      );
-    }
+exchanges count is program listen folder address at full =
+    asks refl (
+      refl,
+      server_by (Some (number_written count), (is, refl), refl) refl
+          (serves_by None None None _ refl refl refl refl) at (full, refl) refl refl refl,
+    )
 
-idle_asks : (program listen folder : Text) (address : SocketAddr) (count seconds : Text)
-    → IsAddress false listen address → folder ≢ [] → IsCountText most_recorders count
-    → IsCountText most_seconds seconds
-    → AsksFor (as_read (serving program listen folder ((codes "--recorders=" ++ count) ∷ (codes "--idle=" ++ seconds)
-    ∷ []))) (Serving
-    (record (plain_server address folder) { recorders = AtOnce (number_written count) (number_written seconds) }))
+limit : (text : Text) → IsLimitText text
+    → AsksServer false ((codes "--limit=" ++ text) ∷ [])
+    (λ a f. record (plain_server a f) { limit = number_written text })
 unfolding clap_on_literals
-idle_asks program listen folder address count seconds at full given idles =
-    record {
-      taken = refl;
-      asked = (
-        refl,
-        record {
-          listens = at;
-          keeps = (full, refl);
-          ends = (None, refl, refl);
-          limited = refl;
-          serves = serves_by None (Some (number_written count)) (Some (number_written seconds)) _ refl (given, refl)
-              (idles, refl) refl;
-          reports = refl;
-          journals = refl;
-          names = refl;
-        },
-      );
-    }
+limit text is program listen folder address at full =
+    asks refl (
+      refl,
+      server_by (None, refl, refl) (is, refl) (serves_by None None None _ refl refl refl refl) at
+          (full, refl) refl refl refl,
+    )
 
-network_asks : (program listen folder : Text) (address : SocketAddr) → IsAddress true listen address → folder ≢ []
-    → AsksFor (as_read (serving program listen folder (codes "--network" ∷ [])))
-    (Serving (plain_server address folder))
+timeout : (seconds : Text) → IsCountText most_seconds seconds
+    → AsksServer false ((codes "--timeout=" ++ seconds) ∷ [])
+    (λ a f. record (plain_server a f) { recorders = InTurn (Some (number_written seconds)) })
 unfolding clap_on_literals
-network_asks program listen folder address at full =
-    record {
-      taken = refl;
-      asked = (
-        refl,
-        record {
-          listens = at;
-          keeps = (full, refl);
-          ends = (None, refl, refl);
-          limited = refl;
-          serves = serves_by None None None _ refl refl refl refl;
-          reports = refl;
-          journals = refl;
-          names = refl;
-        },
-      );
-    }
+timeout seconds is program listen folder address at full =
+    asks refl (
+      refl,
+      server_by (None, refl, refl) refl
+          (serves_by (Some (number_written seconds)) None None _ (is, refl) refl refl refl) at (full, refl) refl refl refl,
+    )
 
-until_stopped_asks : (program listen folder : Text) (address : SocketAddr) → IsAddress false listen address
-    → folder ≢ []
-    → AsksFor (as_read (serving program listen folder (codes "--until-stopped" ∷ []))) (Serving
-    (record (plain_server address folder) { end = when.UntilStopped }))
+recorders : (count : Text) → IsCountText most_recorders count
+    → AsksServer false ((codes "--recorders=" ++ count) ∷ [])
+    (λ a f. record (plain_server a f) { recorders = AtOnce (number_written count) default_idle })
 unfolding clap_on_literals
-until_stopped_asks program listen folder address at full =
-    record {
-      taken = refl;
-      asked = (
-        refl,
-        record {
-          listens = at;
-          keeps = (full, refl);
-          ends = (None, refl, refl);
-          limited = refl;
-          serves = serves_by None None None _ refl refl refl refl;
-          reports = refl;
-          journals = refl;
-          names = refl;
-        },
-      );
-    }
+recorders count is program listen folder address at full =
+    asks refl (
+      refl,
+      server_by (None, refl, refl) refl
+          (serves_by None (Some (number_written count)) None _ refl (is, refl) refl refl) at (full, refl) refl refl refl,
+    )
 
-log_asks : (program listen folder : Text) (address : SocketAddr) → IsAddress false listen address → folder ≢ []
-    → AsksFor (as_read (serving program listen folder (codes "--log" ∷ [])))
-    (Serving (record (plain_server address folder) { log = true }))
+idle : (count seconds : Text) → IsCountText most_recorders count → IsCountText most_seconds seconds
+    → AsksServer false ((codes "--recorders=" ++ count) ∷ (codes "--idle=" ++ seconds) ∷ [])
+    (λ a f. record (plain_server a f) { recorders = AtOnce (number_written count) (number_written seconds) })
 unfolding clap_on_literals
-log_asks program listen folder address at full =
-    record {
-      taken = refl;
-      asked = (
-        refl,
-        record {
-          listens = at;
-          keeps = (full, refl);
-          ends = (None, refl, refl);
-          limited = refl;
-          serves = serves_by None None None _ refl refl refl refl;
-          reports = refl;
-          journals = refl;
-          names = refl;
-        },
-      );
-    }
+idle count seconds is idles program listen folder address at full =
+    asks refl (
+      refl,
+      server_by (None, refl, refl) refl
+          (serves_by None (Some (number_written count)) (Some (number_written seconds)) _ refl (is, refl) (idles, refl)
+          refl) at (full, refl) refl refl refl,
+    )
 
-one_name_asks : (program listen folder : Text) (address : SocketAddr) → IsAddress false listen address → folder ≢ []
-    → AsksFor (as_read (serving program listen folder (codes "--one-name" ∷ [])))
-    (Serving (record (plain_server address folder) { one_name = true }))
+until_stopped : AsksServer false (codes "--until-stopped" ∷ [])
+    (λ a f. record (plain_server a f) { end = when.UntilStopped })
 unfolding clap_on_literals
-one_name_asks program listen folder address at full =
-    record {
-      taken = refl;
-      asked = (
-        refl,
-        record {
-          listens = at;
-          keeps = (full, refl);
-          ends = (None, refl, refl);
-          limited = refl;
-          serves = serves_by None None None _ refl refl refl refl;
-          reports = refl;
-          journals = refl;
-          names = refl;
-        },
-      );
-    }
+until_stopped program listen folder address at full =
+    asks refl (
+      refl,
+      server_by (None, refl, refl) refl (serves_by None None None _ refl refl refl refl) at
+          (full, refl) refl refl refl,
+    )
 
-journal_asks : (program listen folder : Text) (address : SocketAddr) → IsAddress false listen address → folder ≢ []
-    → AsksFor (as_read (serving program listen folder (codes "--journal" ∷ [])))
-    (Serving (record (plain_server address folder) { journal = Kept }))
+log : AsksServer false (codes "--log" ∷ []) (λ a f. record (plain_server a f) { log = true })
 unfolding clap_on_literals
-journal_asks program listen folder address at full =
-    record {
-      taken = refl;
-      asked = (
-        refl,
-        record {
-          listens = at;
-          keeps = (full, refl);
-          ends = (None, refl, refl);
-          limited = refl;
-          serves = serves_by None None None _ refl refl refl refl;
-          reports = refl;
-          journals = refl;
-          names = refl;
-        },
-      );
-    }
+log program listen folder address at full =
+    asks refl (
+      refl,
+      server_by (None, refl, refl) refl (serves_by None None None _ refl refl refl refl) at
+          (full, refl) refl refl refl,
+    )
 
-sync_asks : (program listen folder : Text) (address : SocketAddr) → IsAddress false listen address → folder ≢ []
-    → AsksFor (as_read (serving program listen folder (codes "--journal" ∷ codes "--sync" ∷ [])))
-    (Serving (record (plain_server address folder) { journal = Synced }))
+one_name : AsksServer false (codes "--one-name" ∷ []) (λ a f. record (plain_server a f) { one_name = true })
 unfolding clap_on_literals
-sync_asks program listen folder address at full =
-    record {
-      taken = refl;
-      asked = (
-        refl,
-        record {
-          listens = at;
-          keeps = (full, refl);
-          ends = (None, refl, refl);
-          limited = refl;
-          serves = serves_by None None None _ refl refl refl refl;
-          reports = refl;
-          journals = refl;
-          names = refl;
-        },
-      );
-    }
+one_name program listen folder address at full =
+    asks refl (
+      refl,
+      server_by (None, refl, refl) refl (serves_by None None None _ refl refl refl refl) at
+          (full, refl) refl refl refl,
+    )
+
+journal : AsksServer false (codes "--journal" ∷ []) (λ a f. record (plain_server a f) { journal = Kept })
+unfolding clap_on_literals
+journal program listen folder address at full =
+    asks refl (
+      refl,
+      server_by (None, refl, refl) refl (serves_by None None None _ refl refl refl refl) at
+          (full, refl) refl refl refl,
+    )
+
+sync : AsksServer false (codes "--journal" ∷ codes "--sync" ∷ [])
+    (λ a f. record (plain_server a f) { journal = Synced })
+unfolding clap_on_literals
+sync program listen folder address at full =
+    asks refl (
+      refl,
+      server_by (None, refl, refl) refl (serves_by None None None _ refl refl refl refl) at
+          (full, refl) refl refl refl,
+    )
 
 -- a local address is no option
 apart_near : (program folder : Text) (address : SocketAddr) → IsAddress false (local (socket_port address)) address
@@ -320,22 +195,12 @@ apart_near : (program folder : Text) (address : SocketAddr) → IsAddress false 
     ∷ []))
     (Serving (plain_server address folder))
 unfolding clap_on_literals
-apart_near program folder address at full = record {
-  taken = refl;
-  asked = (
-    refl,
-    record {
-      listens = at;
-      keeps = (full, refl);
-      ends = (None, refl, refl);
-      limited = refl;
-      serves = serves_by None None None _ refl refl refl refl;
-      reports = refl;
-      journals = refl;
-      names = refl;
-    },
-  );
-}
+apart_near program folder address at full =
+    asks refl (
+      refl,
+      server_by (None, refl, refl) refl (serves_by None None None _ refl refl refl refl) at
+          (full, refl) refl refl refl,
+    )
 
 apart_asks : (program listen folder : Text) (address : SocketAddr) → IsAddress false listen address → folder ≢ []
     → AsksFor (as_read (program ∷ codes "serve" ∷ codes "--listen" ∷ listen ∷ codes "--folder" ∷ folder ∷ []))
@@ -374,122 +239,73 @@ by_number P each (d ∷ ds) number = by_digit (λ c. P (c ∷ ds)) (each ds) d (
 
 -- a value in the word after its option is taken, and read as one in the word of its option
 abbrev pub IsReadApart : (List Text → List Text) → Text → Text → Type 0
-IsReadApart before option value =
-    (fault_of command_line (as_read (before (option ∷ value ∷ []))) ≡ [])
-    × (subcommand_of command_line (as_read (before (option ∷ value ∷ [])))
-    ≡ subcommand_of command_line (as_read (before ((option ++ codes "=" ++ value) ∷ []))))
+IsReadApart before option value = ◌≡◌ {A = List ErrorKind × Option (Text × List Row)} (
+  fault_of command_line (as_read (before (option ∷ value ∷ []))),
+  subcommand_of command_line (as_read (before (option ∷ value ∷ []))),
+)
+    ([], subcommand_of command_line (as_read (before ((option ++ codes "=" ++ value) ∷ []))))
 
 -- and asks for the same
-pub asks_apart : (before : List Text → List Text) (option value : Text) (wish : Wish) → IsReadApart before option value
+pub asks_apart : (before : List Text → List Text) (option value : Text) (wish : Wish)
+    → IsReadApart before option value
     → AsksFor (as_read (before ((option ++ codes "=" ++ value) ∷ []))) wish
     → AsksFor (as_read (before (option ∷ value ∷ []))) wish
-asks_apart before option value wish same asks =
-    record { taken = same.0; asked = subst (λ o. IsWishOf o wish) (sym same.1) asks.asked }
+asks_apart before option value wish same asking =
+    asks (ap (λ w. w.0) same) (subst (λ o. IsWishOf o wish) (ap (λ w. w.1) (sym same)) asking.asked)
 
 exchanges_apart : (program listen folder text : Text) → IsNumber text
     → IsReadApart (serving program listen folder) (codes "--exchanges") text
 unfolding clap_on_literals
-exchanges_apart program listen folder =
-    by_number (IsReadApart (serving program listen folder) (codes "--exchanges")) (λ ds. (
-      (refl, refl),
-      (refl, refl),
-      (refl, refl),
-      (refl, refl),
-      (refl, refl),
-      (refl, refl),
-      (refl, refl),
-      (refl, refl),
-      (refl, refl),
-      (refl, refl),
-    ))
+exchanges_apart program listen folder = by_number (IsReadApart (serving program listen folder) (codes "--exchanges"))
+    (λ ds. (refl, refl, refl, refl, refl, refl, refl, refl, refl, refl))
 
 limit_apart : (program listen folder text : Text) → IsNumber text
     → IsReadApart (serving program listen folder) (codes "--limit") text
 unfolding clap_on_literals
-limit_apart program listen folder =
-    by_number (IsReadApart (serving program listen folder) (codes "--limit")) (λ ds. (
-      (refl, refl),
-      (refl, refl),
-      (refl, refl),
-      (refl, refl),
-      (refl, refl),
-      (refl, refl),
-      (refl, refl),
-      (refl, refl),
-      (refl, refl),
-      (refl, refl),
-    ))
+limit_apart program listen folder = by_number (IsReadApart (serving program listen folder) (codes "--limit"))
+    (λ ds. (refl, refl, refl, refl, refl, refl, refl, refl, refl, refl))
 
 timeout_apart : (program listen folder text : Text) → IsNumber text
     → IsReadApart (serving program listen folder) (codes "--timeout") text
 unfolding clap_on_literals
-timeout_apart program listen folder =
-    by_number (IsReadApart (serving program listen folder) (codes "--timeout")) (λ ds. (
-      (refl, refl),
-      (refl, refl),
-      (refl, refl),
-      (refl, refl),
-      (refl, refl),
-      (refl, refl),
-      (refl, refl),
-      (refl, refl),
-      (refl, refl),
-      (refl, refl),
-    ))
+timeout_apart program listen folder = by_number (IsReadApart (serving program listen folder) (codes "--timeout"))
+    (λ ds. (refl, refl, refl, refl, refl, refl, refl, refl, refl, refl))
 
 recorders_apart : (program listen folder text : Text) → IsNumber text
     → IsReadApart (serving program listen folder) (codes "--recorders") text
 unfolding clap_on_literals
-recorders_apart program listen folder =
-    by_number (IsReadApart (serving program listen folder) (codes "--recorders")) (λ ds. (
-      (refl, refl),
-      (refl, refl),
-      (refl, refl),
-      (refl, refl),
-      (refl, refl),
-      (refl, refl),
-      (refl, refl),
-      (refl, refl),
-      (refl, refl),
-      (refl, refl),
-    ))
-
--- words that ask for this run it
-pub asked_runs : (words asking : List Text) (line : CommandLine) (wish : Wish) → IsLineOf words line → words ≡ asking
-    → AsksFor (as_read asking) wish → RunsFor wish line
-asked_runs words asking line wish is e asks =
-    runs (as_read words) line wish is (subst (λ w. AsksFor (as_read w) wish) (sym e) asks)
+recorders_apart program listen folder = by_number (IsReadApart (serving program listen folder) (codes "--recorders"))
+    (λ ds. (refl, refl, refl, refl, refl, refl, refl, refl, refl, refl))
 
 pub runs_server : (words : List Text) (line : CommandLine) → IsLineOf words line → RunsServer words line
 runs_server words line is = record {
-  alone = λ p l f a at full e. asked_runs words _ line _ is e (alone_asks p l f a at full);
+  alone = λ p l f a at full e. asked_runs words _ line _ is e (alone p l f a at full);
   apart = λ p l f a at full e. asked_runs words _ line _ is e (apart_asks p l f a at full);
-  exchanges = λ n given p l f a at full e. asked_runs words _ line _ is e (exchanges_asks p l f a n at full given);
+  exchanges = λ n given p l f a at full e. asked_runs words _ line _ is e (exchanges n given p l f a at full);
   exchanges_apart = λ n given p l f a at full e.
       asked_runs words _ line _ is e
       (asks_apart (serving p l f) (codes "--exchanges") n _ (exchanges_apart p l f n given.0)
-      (exchanges_asks p l f a n at full given));
-  limit = λ n given p l f a at full e. asked_runs words _ line _ is e (limit_asks p l f a n at full given);
+      (exchanges n given p l f a at full));
+  limit = λ n given p l f a at full e. asked_runs words _ line _ is e (limit n given p l f a at full);
   limit_apart = λ n given p l f a at full e.
       asked_runs words _ line _ is e
       (asks_apart (serving p l f) (codes "--limit") n _ (limit_apart p l f n given.0)
-      (limit_asks p l f a n at full given));
-  timeout = λ n given p l f a at full e. asked_runs words _ line _ is e (timeout_asks p l f a n at full given);
+      (limit n given p l f a at full));
+  timeout = λ n given p l f a at full e. asked_runs words _ line _ is e (timeout n given p l f a at full);
   timeout_apart = λ n given p l f a at full e.
       asked_runs words _ line _ is e
       (asks_apart (serving p l f) (codes "--timeout") n _ (timeout_apart p l f n given.0)
-      (timeout_asks p l f a n at full given));
-  recorders = λ n given p l f a at full e. asked_runs words _ line _ is e (recorders_asks p l f a n at full given);
+      (timeout n given p l f a at full));
+  recorders = λ n given p l f a at full e. asked_runs words _ line _ is e (recorders n given p l f a at full);
   recorders_apart = λ n given p l f a at full e.
       asked_runs words _ line _ is e
       (asks_apart (serving p l f) (codes "--recorders") n _ (recorders_apart p l f n given.0)
-      (recorders_asks p l f a n at full given));
-  idle = λ n s given idles p l f a at full e.
-      asked_runs words _ line _ is e (idle_asks p l f a n s at full given idles);
-  network = λ p l f a at full e. asked_runs words _ line _ is e (network_asks p l f a at full);
-  until_stopped = λ p l f a at full e. asked_runs words _ line _ is e (until_stopped_asks p l f a at full);
-  log = λ p l f a at full e. asked_runs words _ line _ is e (log_asks p l f a at full);
-  journal = λ p l f a at full e. asked_runs words _ line _ is e (journal_asks p l f a at full);
-  sync = λ p l f a at full e. asked_runs words _ line _ is e (sync_asks p l f a at full);
-  one_name = λ p l f a at full e. asked_runs words _ line _ is e (one_name_asks p l f a at full);
+      (recorders n given p l f a at full));
+  idle = λ n s given idles p l f a at full e. asked_runs words _ line _ is e (idle n s given idles p l f a at full);
+  network = λ p l f a at full e. asked_runs words _ line _ is e (network p l f a at full);
+  until_stopped = λ p l f a at full e. asked_runs words _ line _ is e (until_stopped p l f a at full);
+  log = λ p l f a at full e. asked_runs words _ line _ is e (log p l f a at full);
+  journal = λ p l f a at full e. asked_runs words _ line _ is e (journal p l f a at full);
+  sync = λ p l f a at full e. asked_runs words _ line _ is e (sync p l f a at full);
+  one_name = λ p l f a at full e. asked_runs words _ line _ is e (one_name p l f a at full);
 }

@@ -1,18 +1,22 @@
 -- Values of another form, each of which is a fault of its own.
-use Rattle.std.proofs.Common.{◌≡◌, List, [], ◌∷◌, ◌++◌, Option, Some, None, codes, refl, ap, subst, inl, inr}
+use Rattle.std.proofs.Common.{◌≡◌, ◌≢◌, List, [], ◌∷◌, ◌++◌, true, false, Option, Some, None, codes, refl, ap, subst}
+use Rattle.std.proofs.Common.{inl, inr}
+use Rattle.std.specs.declared.net.socket_addr.SocketAddr.{SocketAddr}
 use Rattle.clap.specs.Words.{IsAmong, Row, Text, fault_of, kind_of, subcommand_of}
 use Rattle.clap.proofs.OnLiterals.{clap_on_literals}
 use Rattle.bw_args.specs.Commands.{command_line}
 use Rattle.bw_args.specs.ReadWords.{as_read}
 use Rattle.bw_args.specs.Lines.{IsFirstBad, IsLineOf, IsLineRead, IsName, IsWishOf, Lacks, Wish}
 use Rattle.bw_args.specs.Lines.{given_on_line, looked_at, wish_of}
+use Rattle.bw_args.specs.Addresses.{IsAddress}
 use Rattle.bw_args.specs.Forms.{RefusesValues}
+use Rattle.bw_args.specs.PeerForms.{sending, serving}
 use Rattle.bw_args.specs.Numbers.{IsLimitText, IsNumber, default_limit}
 use Rattle.bw_args.specs.declared.CommandLine.{CommandLine}
 use Rattle.bw_args.specs.declared.CommandLine.TheVariants.{Run, BadValue as Bad, Report}
 use Rattle.bw_args.specs.declared.bad_value.BadValue.{BadValue}
 use Rattle.bw_args.specs.declared.bad_value.BadValue.TheVariants.{Name, Limit, Fuse}
-use Rattle.bw_args.proofs.Asked.{good_not_bad, one_bad, wished_good}
+use Rattle.bw_args.proofs.Asked.{bad, good_not_bad, one_bad, wished_good, ◌and_then◌}
 
 -- the command's first bad value
 abbrev pub HasFirstBad : Option (Text × List Row) → BadValue → Type 0
@@ -22,9 +26,10 @@ HasFirstBad (Some command) value = IsFirstBad (looked_at command.0) (given_on_li
 -- a command with a bad value asks for nothing
 bad_not_wished : (command : Option (Text × List Row)) (value : BadValue) (wish : Wish) → HasFirstBad command value
     → ¬ IsWishOf command wish
-bad_not_wished None value wish bad asked = bad
-bad_not_wished (Some command) value wish bad asked =
-    good_not_bad (looked_at command.0) (given_on_line command.1) value (wished_good command.0 command.1 wish asked) bad
+bad_not_wished None value wish first asked = first
+bad_not_wished (Some command) value wish first asked =
+    good_not_bad (looked_at command.0) (given_on_line command.1) value (wished_good command.0 command.1 wish asked)
+    first
 
 -- and lacks no other one
 one_lacked : (command : Option (Text × List Row)) (a b : BadValue) → HasFirstBad command a → Lacks command b → b ≡ a
@@ -56,36 +61,54 @@ abbrev pub IsBadAt : List Text → BadValue → Type 0
 IsBadAt words value =
     (fault_of command_line words ≡ []) × HasFirstBad (subcommand_of command_line words) value
 
+-- so of a sender with these further words
+abbrev pub LacksSender : List Text → BadValue → Type 0
+LacksSender more value = (program connect name : Text) (address : SocketAddr) → IsAddress false connect address
+    → IsName name → IsBadAt (as_read (sending program connect name more)) value
+
+-- and of a server
+abbrev pub LacksServer : List Text → BadValue → Type 0
+LacksServer more value = (program listen folder : Text) (address : SocketAddr) → IsAddress false listen address
+    → folder ≢ [] → IsBadAt (as_read (serving program listen folder more)) value
+
+-- where an option isn't given, nothing is
+pub nothing : {A : Type 0} → (given : Option A) × (given ≡ None)
+nothing = (None, refl)
+
+-- options that don't belong together
+pub not_mixed : ¬ (true ≡ false)
+not_mixed same = let apart : true ≡ false = same in cc
+
 bad_limit : (program text : Text) → ¬ IsLimitText text
     → IsBadAt (program ∷ codes "replay" ∷ (codes "--limit=" ++ text) ∷ []) Limit
 unfolding clap_on_literals
-bad_limit program text none = (refl, inl ((λ good. none good.1.0), refl))
+bad_limit program text none = (refl, bad (λ good. none good.1.0))
 
 bad_fuse : (program text : Text) → ¬ IsNumber text
     → IsBadAt (program ∷ codes "replay" ∷ (codes "--fuse=" ++ text) ∷ []) Fuse
 unfolding clap_on_literals
-bad_fuse program text none = (refl, inr ((default_limit, refl), inl ((λ good. none good.1.0), refl)))
+bad_fuse program text none = (refl, (default_limit, refl) and_then bad (λ good. none good.1.0))
 
 bad_limit_first : (program limit fuse : Text) → ¬ IsLimitText limit
     → IsBadAt (program ∷ codes "replay" ∷ (codes "--fuse=" ++ fuse) ∷ (codes "--limit=" ++ limit) ∷ []) Limit
 unfolding clap_on_literals
-bad_limit_first program limit fuse none = (refl, inl ((λ good. none good.1.0), refl))
+bad_limit_first program limit fuse none = (refl, bad (λ good. none good.1.0))
 
 bad_name : (program text : Text) → ¬ IsName text
     → IsBadAt (program ∷ codes "rehearse" ∷ (codes "--name=" ++ text) ∷ []) Name
 unfolding clap_on_literals
-bad_name program text none = (refl, inl ((λ good. none good.1.0), refl))
+bad_name program text none = (refl, bad (λ good. none good.1.0))
 
 bad_name_first : (program name limit : Text) → ¬ IsName name
     → IsBadAt (program ∷ codes "rehearse" ∷ (codes "--limit=" ++ limit) ∷ (codes "--name=" ++ name) ∷ []) Name
 unfolding clap_on_literals
-bad_name_first program name limit none = (refl, inl ((λ good. none good.1.0), refl))
+bad_name_first program name limit none = (refl, bad (λ good. none good.1.0))
 
 bad_limit_then : (program name limit : Text) → IsName name → ¬ IsLimitText limit
     → IsBadAt (program ∷ codes "rehearse" ∷ (codes "--name=" ++ name) ∷ (codes "--limit=" ++ limit) ∷ []) Limit
 unfolding clap_on_literals
 bad_limit_then program name limit named none =
-    (refl, inr ((name, (named, refl)), inl ((λ good. none good.1.0), refl)))
+    (refl, (name, (named, refl)) and_then bad (λ good. none good.1.0))
 
 pub refuses_values : (words : List Text) (line : CommandLine) → IsLineOf words line → RefusesValues words line
 refuses_values words line is = record {

@@ -105,58 +105,40 @@ one_journaling true true a b x y = x ∙ sym y
 one_journaling false true a b x y = absurd x
 
 one_server : (given : Text → Option Text) (a b : Service) → GivesServer given a → GivesServer given b → a ≡ b
-one_server given a b x y =
-    let listens = one_address _ _ a.listen b.listen x.listens y.listens in
-    let keeps = one_folder _ a.folder b.folder x.keeps y.keeps in
-    let stops = ends_once _ _ a.end b.end x.ends y.ends in
-    let limited = one_limit _ a.limit b.limit x.limited y.limited in
-    let serves = one_way given a.recorders b.recorders x.serves y.serves in
-    let reports = x.reports ∙ sym y.reports in
-    let journals = one_journaling _ _ a.journal b.journal x.journals y.journals in
-    let names = x.names ∙ sym y.names in
-    λ i. record {
-      listen = listens i;
-      folder = keeps i;
-      end = stops i;
-      limit = limited i;
-      recorders = serves i;
-      log = reports i;
-      journal = journals i;
-      one_name = names i;
-    }
+one_server given a b x y = λ i. record {
+  listen = one_address _ _ a.listen b.listen x.listens y.listens i;
+  folder = one_folder _ a.folder b.folder x.keeps y.keeps i;
+  end = ends_once _ _ a.end b.end x.ends y.ends i;
+  limit = one_limit _ a.limit b.limit x.limited y.limited i;
+  recorders = one_way given a.recorders b.recorders x.serves y.serves i;
+  log = (x.reports ∙ sym y.reports) i;
+  journal = one_journaling _ _ a.journal b.journal x.journals y.journals i;
+  one_name = (x.names ∙ sym y.names) i;
+}
 
 one_sender : (given : Text → Option Text) (a b : Sender) → GivesSender given a → GivesSender given b → a ≡ b
-one_sender given a b x y =
-    let connects = one_address _ _ a.connect b.connect x.connects y.connects in
-    let named = one_name _ a.name b.name x.named y.named in
-    let tries = one_count_or _ _ _ a.rounds b.rounds x.tries y.tries in
-    let waits = one_count _ _ a.timeout b.timeout x.waits y.waits in
-    λ i. record { connect = connects i; name = named i; rounds = tries i; timeout = waits i }
+one_sender given a b x y = λ i. record {
+  connect = one_address _ _ a.connect b.connect x.connects y.connects i;
+  name = one_name _ a.name b.name x.named y.named i;
+  rounds = one_count_or _ _ _ a.rounds b.rounds x.tries y.tries i;
+  timeout = one_count _ _ a.timeout b.timeout x.waits y.waits i;
+}
 
 one_source : (options : List Row) (a b : PlainSource) → GivesSource options a → GivesSource options b → a ≡ b
 one_source options a b x y =
     let from : Some a.path ≡ Some b.path = sym x.from ∙ y.from in
     let path : a.path ≡ b.path = cc in
-    let sets = x.sets ∙ sym y.sets in
-    let refuses = x.refuses ∙ sym y.refuses in
-    λ i. record { path = path i; settings = sets i; strict = refuses i }
+    λ i. record { path = path i; settings = (x.sets ∙ sym y.sets) i; strict = (x.refuses ∙ sym y.refuses) i }
 
 one_upload : (options : List Row) (a b : FileUpload) → GivesUpload options a → GivesUpload options b → a ≡ b
-one_upload options a b x y =
-    let connects = one_address _ _ a.connect b.connect x.connects y.connects in
-    let named = one_name _ a.name b.name x.named y.named in
-    let takes = one_source options a.source b.source x.takes y.takes in
-    let waits = one_count_or _ _ _ a.timeout b.timeout x.waits y.waits in
-    let ends = one_count_or _ _ _ a.fruitless b.fruitless x.ends y.ends in
-    let reports = x.reports ∙ sym y.reports in
-    λ i. record {
-      connect = connects i;
-      name = named i;
-      source = takes i;
-      timeout = waits i;
-      fruitless = ends i;
-      log = reports i;
-    }
+one_upload options a b x y = λ i. record {
+  connect = one_address _ _ a.connect b.connect x.connects y.connects i;
+  name = one_name _ a.name b.name x.named y.named i;
+  source = one_source options a.source b.source x.takes y.takes i;
+  timeout = one_count_or _ _ _ a.timeout b.timeout x.waits y.waits i;
+  fruitless = one_count_or _ _ _ a.fruitless b.fruitless x.ends y.ends i;
+  log = (x.reports ∙ sym y.reports) i;
+}
 
 one_number : (text : Option Text) (a b : Option ℕ) → GivesNumber text a → GivesNumber text b → a ≡ b
 one_number None a b x y = x ∙ sym y
@@ -181,10 +163,11 @@ same_format text a b x y =
     sym x.parts.two ∙ ap at_comma rest ∙ y.parts.two in
     let channels : x.channels ≡ y.channels = ap first_part two in
     let bits : x.bits ≡ y.bits = ap second_part two in
-    let rates = x.rate_is.1 ∙ ap number_written rate ∙ sym y.rate_is.1 in
-    let channel_counts = x.channels_are.1 ∙ ap number_written channels ∙ sym y.channels_are.1 in
-    let depths = x.bits_are.1 ∙ ap number_written bits ∙ sym y.bits_are.1 in
-    λ i. record { rate = rates i; channels = channel_counts i; bits = depths i }
+    λ i. record {
+      rate = (x.rate_is.1 ∙ ap number_written rate ∙ sym y.rate_is.1) i;
+      channels = (x.channels_are.1 ∙ ap number_written channels ∙ sym y.channels_are.1) i;
+      bits = (x.bits_are.1 ∙ ap number_written bits ∙ sym y.bits_are.1) i;
+    }
 
 one_format : (text : Option Text) (a b : Option WrittenFormat) → GivesFormat text a → GivesFormat text b → a ≡ b
 one_format None a b x y = x ∙ sym y
@@ -192,7 +175,8 @@ one_format (Some text) (Some a) (Some b) x y = ap Some (same_format text a b x y
 one_format (Some text) None b x y = absurd x
 one_format (Some text) (Some a) None x y = absurd y
 
-pub one_samples : (given : Text → Option Text) (a b : Option PlainPcm) → GivesSamples given a → GivesSamples given b → a ≡ b
+pub one_samples : (given : Text → Option Text) (a b : Option PlainPcm) → GivesSamples given a → GivesSamples given b
+    → a ≡ b
 one_samples given a b x y =
     let format = one_format (given (codes "pcm")) x.format y.format x.formatted y.formatted in
     let skip = one_number (given (codes "skip")) x.skip y.skip x.begins y.begins in
@@ -205,25 +189,20 @@ one_samples given a b x y =
 
 one_pcm_upload : (options : List Row) (a b : PcmUpload) → GivesPcmUpload options a → GivesPcmUpload options b → a ≡ b
 one_pcm_upload options a b x y =
-    let connects = one_address _ _ a.connect b.connect x.connects y.connects in
-    let named = one_name _ a.name b.name x.named y.named in
-    let takes = one_source options a.source b.source x.takes y.takes in
     let samples : Some a.pcm ≡ Some b.pcm =
     one_samples (given_on_line options) (Some a.pcm) (Some b.pcm) x.samples y.samples in
     let pcm : a.pcm ≡ b.pcm = cc in
-    let waits = one_count_or _ _ _ a.timeout b.timeout x.waits y.waits in
     let count = one_count most_fruitless _ x.count y.count x.counts y.counts in
     let ends = x.ends ∙ ap (fruitless_of a.pcm.until) count ∙ ap (λ (s : PlainPcm). fruitless_of s.until y.count) pcm
     ∙ sym y.ends in
-    let reports = x.reports ∙ sym y.reports in
     λ i. record {
-      connect = connects i;
-      name = named i;
-      source = takes i;
+      connect = one_address _ _ a.connect b.connect x.connects y.connects i;
+      name = one_name _ a.name b.name x.named y.named i;
+      source = one_source options a.source b.source x.takes y.takes i;
       pcm = pcm i;
-      timeout = waits i;
+      timeout = one_count_or _ _ _ a.timeout b.timeout x.waits y.waits i;
       fruitless = ends i;
-      log = reports i;
+      log = (x.reports ∙ sym y.reports) i;
     }
 
 -- samples are described, or none
@@ -231,12 +210,12 @@ some_samples : {P : Type 0} (given : Text → Option Text) (pcm : PlainPcm) → 
     → GivesSamples given (Some pcm) → P
 some_samples given pcm x y = let bad : None ≡ Some pcm = one_samples given None (Some pcm) x y in cc
 
-one_inspection : (options : List Row) (a b : PlainInspection) → GivesInspection options a → GivesInspection options b → a ≡ b
+one_inspection : (options : List Row) (a b : PlainInspection) → GivesInspection options a → GivesInspection options b
+    → a ≡ b
 one_inspection options a b x y =
     let from : Some a.files ≡ Some b.files = sym x.from ∙ y.from in
     let files : a.files ≡ b.files = cc in
-    let prints = x.prints ∙ sym y.prints in
-    λ i. record { files = files i; json = prints i }
+    λ i. record { files = files i; json = (x.prints ∙ sym y.prints) i }
 
 -- one file is reported as it always is, or not
 not_alone : (options : List Row) (path : Text) (inspection : PlainInspection)
@@ -253,8 +232,8 @@ no_lines options sender upload lines file =
     let bad : None ≡ Some upload.source.path = sym lines.lines ∙ file.takes.from in cc
 
 -- a command doesn't have two names
-pub other_name : {P : Type 0} (a b : Text) → bytes_eq a b ≡ false → (name : Text) → name ≡ a → name ≡ b → P
-other_name a b apart name is also =
+pub other_name : {P : Type 0} {name a b : Text} → name ≡ a → name ≡ b → bytes_eq a b ≡ false → P
+other_name {P} {name} {a} {b} is also apart =
     let same : bytes_eq a b ≡ true = (bytes_eq-Decides a b).1 (sym is ∙ also) in
     let bad : true ≡ false = sym same ∙ apart in cc
 
@@ -269,7 +248,8 @@ one_wish (Some command) (Rehearsing a n) (Rehearsing b m) x y =
     let limits : n ≡ m = one_limit (first_of (codes "limit") command.1) n m x.2 y.2 in cc
 one_wish (Some command) (Inspecting a) (Inspecting b) x y =
     let same : Some (a ∷ []) ≡ Some (b ∷ []) = sym x.1.from ∙ y.1.from in cc
-one_wish (Some command) (InspectingFiles a) (InspectingFiles b) x y = ap InspectingFiles (one_inspection command.1 a b x.1 y.1)
+one_wish (Some command) (InspectingFiles a) (InspectingFiles b) x y = ap InspectingFiles
+    (one_inspection command.1 a b x.1 y.1)
 one_wish (Some command) (Inspecting a) (InspectingFiles b) x y = absurd (not_alone command.1 a b x.1 y.1 y.2)
 one_wish (Some command) (InspectingFiles a) (Inspecting b) x y = absurd (not_alone command.1 b a y.1 x.1 x.2)
 one_wish (Some command) (Serving a) (Serving b) x y = ap Serving (one_server _ a b x.1 y.1)
@@ -290,106 +270,5 @@ one_wish (Some command) (Repairing a v) (Repairing b w) x y =
     let writes : v ≡ w = x.2 ∙ sym y.2 in cc
 one_wish (Some command) (Sending a) (Uploading b) x y = absurd (no_lines command.1 a b x.1 y.1)
 one_wish (Some command) (Uploading a) (Sending b) x y = absurd (no_lines command.1 b a y.1 x.1)
-one_wish (Some command) (Replaying a k) (Rehearsing b m) x y = other_name (codes "replay") (codes "rehearse") refl command.0 x.0 y.0
-one_wish (Some command) (Replaying a k) (Inspecting b) x y = other_name (codes "replay") (codes "inspect") refl command.0 x.0 y.0
-one_wish (Some command) (Replaying a k) (Serving b) x y = other_name (codes "replay") (codes "serve") refl command.0 x.0 y.0
-one_wish (Some command) (Replaying a k) (Sending b) x y = other_name (codes "replay") (codes "send") refl command.0 x.0 y.0
-one_wish (Some command) (Replaying a k) (Uploading b) x y = other_name (codes "replay") (codes "send") refl command.0 x.0 y.0
-one_wish (Some command) (Replaying a k) (SendingPcm b) x y = other_name (codes "replay") (codes "send") refl command.0 x.0 y.0
-one_wish (Some command) (Replaying a k) (Packing b) x y = other_name (codes "replay") (codes "pack") refl command.0 x.0 y.0
-one_wish (Some command) (Rehearsing a n) (Replaying b j) x y = other_name (codes "rehearse") (codes "replay") refl command.0 x.0 y.0
-one_wish (Some command) (Rehearsing a n) (Inspecting b) x y = other_name (codes "rehearse") (codes "inspect") refl command.0 x.0 y.0
-one_wish (Some command) (Rehearsing a n) (Serving b) x y = other_name (codes "rehearse") (codes "serve") refl command.0 x.0 y.0
-one_wish (Some command) (Rehearsing a n) (Sending b) x y = other_name (codes "rehearse") (codes "send") refl command.0 x.0 y.0
-one_wish (Some command) (Rehearsing a n) (Uploading b) x y = other_name (codes "rehearse") (codes "send") refl command.0 x.0 y.0
-one_wish (Some command) (Rehearsing a n) (SendingPcm b) x y = other_name (codes "rehearse") (codes "send") refl command.0 x.0 y.0
-one_wish (Some command) (Rehearsing a n) (Packing b) x y = other_name (codes "rehearse") (codes "pack") refl command.0 x.0 y.0
-one_wish (Some command) (Inspecting a) (Replaying b j) x y = other_name (codes "inspect") (codes "replay") refl command.0 x.0 y.0
-one_wish (Some command) (Inspecting a) (Rehearsing b m) x y = other_name (codes "inspect") (codes "rehearse") refl command.0 x.0 y.0
-one_wish (Some command) (Inspecting a) (Serving b) x y = other_name (codes "inspect") (codes "serve") refl command.0 x.0 y.0
-one_wish (Some command) (Inspecting a) (Sending b) x y = other_name (codes "inspect") (codes "send") refl command.0 x.0 y.0
-one_wish (Some command) (Inspecting a) (Uploading b) x y = other_name (codes "inspect") (codes "send") refl command.0 x.0 y.0
-one_wish (Some command) (Inspecting a) (SendingPcm b) x y = other_name (codes "inspect") (codes "send") refl command.0 x.0 y.0
-one_wish (Some command) (Inspecting a) (Packing b) x y = other_name (codes "inspect") (codes "pack") refl command.0 x.0 y.0
-one_wish (Some command) (Serving a) (Replaying b j) x y = other_name (codes "serve") (codes "replay") refl command.0 x.0 y.0
-one_wish (Some command) (Serving a) (Rehearsing b m) x y = other_name (codes "serve") (codes "rehearse") refl command.0 x.0 y.0
-one_wish (Some command) (Serving a) (Inspecting b) x y = other_name (codes "serve") (codes "inspect") refl command.0 x.0 y.0
-one_wish (Some command) (Serving a) (Sending b) x y = other_name (codes "serve") (codes "send") refl command.0 x.0 y.0
-one_wish (Some command) (Serving a) (Uploading b) x y = other_name (codes "serve") (codes "send") refl command.0 x.0 y.0
-one_wish (Some command) (Serving a) (SendingPcm b) x y = other_name (codes "serve") (codes "send") refl command.0 x.0 y.0
-one_wish (Some command) (Serving a) (Packing b) x y = other_name (codes "serve") (codes "pack") refl command.0 x.0 y.0
-one_wish (Some command) (Sending a) (Replaying b j) x y = other_name (codes "send") (codes "replay") refl command.0 x.0 y.0
-one_wish (Some command) (Sending a) (Rehearsing b m) x y = other_name (codes "send") (codes "rehearse") refl command.0 x.0 y.0
-one_wish (Some command) (Sending a) (Inspecting b) x y = other_name (codes "send") (codes "inspect") refl command.0 x.0 y.0
-one_wish (Some command) (Sending a) (Serving b) x y = other_name (codes "send") (codes "serve") refl command.0 x.0 y.0
-one_wish (Some command) (Sending a) (Packing b) x y = other_name (codes "send") (codes "pack") refl command.0 x.0 y.0
-one_wish (Some command) (Uploading a) (Replaying b j) x y = other_name (codes "send") (codes "replay") refl command.0 x.0 y.0
-one_wish (Some command) (SendingPcm a) (Replaying b j) x y = other_name (codes "send") (codes "replay") refl command.0 x.0 y.0
-one_wish (Some command) (Uploading a) (Rehearsing b m) x y = other_name (codes "send") (codes "rehearse") refl command.0 x.0 y.0
-one_wish (Some command) (SendingPcm a) (Rehearsing b m) x y = other_name (codes "send") (codes "rehearse") refl command.0 x.0 y.0
-one_wish (Some command) (Uploading a) (Inspecting b) x y = other_name (codes "send") (codes "inspect") refl command.0 x.0 y.0
-one_wish (Some command) (SendingPcm a) (Inspecting b) x y = other_name (codes "send") (codes "inspect") refl command.0 x.0 y.0
-one_wish (Some command) (Uploading a) (Serving b) x y = other_name (codes "send") (codes "serve") refl command.0 x.0 y.0
-one_wish (Some command) (SendingPcm a) (Serving b) x y = other_name (codes "send") (codes "serve") refl command.0 x.0 y.0
-one_wish (Some command) (Uploading a) (Packing b) x y = other_name (codes "send") (codes "pack") refl command.0 x.0 y.0
-one_wish (Some command) (SendingPcm a) (Packing b) x y = other_name (codes "send") (codes "pack") refl command.0 x.0 y.0
-one_wish (Some command) (Packing a) (Replaying b j) x y = other_name (codes "pack") (codes "replay") refl command.0 x.0 y.0
-one_wish (Some command) (Packing a) (Rehearsing b m) x y = other_name (codes "pack") (codes "rehearse") refl command.0 x.0 y.0
-one_wish (Some command) (Packing a) (Inspecting b) x y = other_name (codes "pack") (codes "inspect") refl command.0 x.0 y.0
-one_wish (Some command) (Packing a) (Serving b) x y = other_name (codes "pack") (codes "serve") refl command.0 x.0 y.0
-one_wish (Some command) (Packing a) (Sending b) x y = other_name (codes "pack") (codes "send") refl command.0 x.0 y.0
-one_wish (Some command) (Packing a) (Uploading b) x y = other_name (codes "pack") (codes "send") refl command.0 x.0 y.0
-one_wish (Some command) (Packing a) (SendingPcm b) x y = other_name (codes "pack") (codes "send") refl command.0 x.0 y.0
-one_wish (Some command) (Replaying a k) (InspectingFiles b) x y = other_name (codes "replay") (codes "inspect") refl command.0 x.0 y.0
-one_wish (Some command) (InspectingFiles a) (Replaying b j) x y = other_name (codes "inspect") (codes "replay") refl command.0 x.0 y.0
-one_wish (Some command) (Rehearsing a n) (InspectingFiles b) x y = other_name (codes "rehearse") (codes "inspect") refl command.0 x.0 y.0
-one_wish (Some command) (InspectingFiles a) (Rehearsing b m) x y = other_name (codes "inspect") (codes "rehearse") refl command.0 x.0 y.0
-one_wish (Some command) (Serving a) (InspectingFiles b) x y = other_name (codes "serve") (codes "inspect") refl command.0 x.0 y.0
-one_wish (Some command) (InspectingFiles a) (Serving b) x y = other_name (codes "inspect") (codes "serve") refl command.0 x.0 y.0
-one_wish (Some command) (Sending a) (InspectingFiles b) x y = other_name (codes "send") (codes "inspect") refl command.0 x.0 y.0
-one_wish (Some command) (InspectingFiles a) (Sending b) x y = other_name (codes "inspect") (codes "send") refl command.0 x.0 y.0
-one_wish (Some command) (Uploading a) (InspectingFiles b) x y = other_name (codes "send") (codes "inspect") refl command.0 x.0 y.0
-one_wish (Some command) (InspectingFiles a) (Uploading b) x y = other_name (codes "inspect") (codes "send") refl command.0 x.0 y.0
-one_wish (Some command) (Packing a) (InspectingFiles b) x y = other_name (codes "pack") (codes "inspect") refl command.0 x.0 y.0
-one_wish (Some command) (InspectingFiles a) (Packing b) x y = other_name (codes "inspect") (codes "pack") refl command.0 x.0 y.0
-one_wish (Some command) (InspectingFiles a) (SendingPcm b) x y = other_name (codes "inspect") (codes "send") refl command.0 x.0 y.0
-one_wish (Some command) (SendingPcm a) (InspectingFiles b) x y = other_name (codes "send") (codes "inspect") refl command.0 x.0 y.0
-one_wish (Some command) (Replaying a k) (Repairing b w) x y = other_name (codes "replay") (codes "repair") refl command.0 x.0 y.0
-one_wish (Some command) (Rehearsing a n) (Repairing b w) x y = other_name (codes "rehearse") (codes "repair") refl command.0 x.0 y.0
-one_wish (Some command) (Inspecting a) (Repairing b w) x y = other_name (codes "inspect") (codes "repair") refl command.0 x.0 y.0
-one_wish (Some command) (Serving a) (Repairing b w) x y = other_name (codes "serve") (codes "repair") refl command.0 x.0 y.0
-one_wish (Some command) (Sending a) (Repairing b w) x y = other_name (codes "send") (codes "repair") refl command.0 x.0 y.0
-one_wish (Some command) (Uploading a) (Repairing b w) x y = other_name (codes "send") (codes "repair") refl command.0 x.0 y.0
-one_wish (Some command) (Packing a) (Repairing b w) x y = other_name (codes "pack") (codes "repair") refl command.0 x.0 y.0
-one_wish (Some command) (Repairing a v) (Replaying b j) x y = other_name (codes "repair") (codes "replay") refl command.0 x.0 y.0
-one_wish (Some command) (Repairing a v) (Rehearsing b m) x y = other_name (codes "repair") (codes "rehearse") refl command.0 x.0 y.0
-one_wish (Some command) (Repairing a v) (Inspecting b) x y = other_name (codes "repair") (codes "inspect") refl command.0 x.0 y.0
-one_wish (Some command) (Repairing a v) (Serving b) x y = other_name (codes "repair") (codes "serve") refl command.0 x.0 y.0
-one_wish (Some command) (Repairing a v) (Sending b) x y = other_name (codes "repair") (codes "send") refl command.0 x.0 y.0
-one_wish (Some command) (Repairing a v) (Uploading b) x y = other_name (codes "repair") (codes "send") refl command.0 x.0 y.0
-one_wish (Some command) (Repairing a v) (Packing b) x y = other_name (codes "repair") (codes "pack") refl command.0 x.0 y.0
-one_wish (Some command) (InspectingFiles a) (Repairing b w) x y = other_name (codes "inspect") (codes "repair") refl command.0 x.0 y.0
-one_wish (Some command) (SendingPcm a) (Repairing b w) x y = other_name (codes "send") (codes "repair") refl command.0 x.0 y.0
-one_wish (Some command) (Repairing a v) (InspectingFiles b) x y = other_name (codes "repair") (codes "inspect") refl command.0 x.0 y.0
-one_wish (Some command) (Repairing a v) (SendingPcm b) x y = other_name (codes "repair") (codes "send") refl command.0 x.0 y.0
 one_wish (Some command) (Listing a) (Listing b) x y = ap Listing (one_folder _ a b x.1 y.1)
-one_wish (Some command) (Replaying a k) (Listing b) x y = other_name (codes "replay") (codes "takes") refl command.0 x.0 y.0
-one_wish (Some command) (Rehearsing a n) (Listing b) x y = other_name (codes "rehearse") (codes "takes") refl command.0 x.0 y.0
-one_wish (Some command) (Inspecting a) (Listing b) x y = other_name (codes "inspect") (codes "takes") refl command.0 x.0 y.0
-one_wish (Some command) (InspectingFiles a) (Listing b) x y = other_name (codes "inspect") (codes "takes") refl command.0 x.0 y.0
-one_wish (Some command) (Serving a) (Listing b) x y = other_name (codes "serve") (codes "takes") refl command.0 x.0 y.0
-one_wish (Some command) (Sending a) (Listing b) x y = other_name (codes "send") (codes "takes") refl command.0 x.0 y.0
-one_wish (Some command) (Uploading a) (Listing b) x y = other_name (codes "send") (codes "takes") refl command.0 x.0 y.0
-one_wish (Some command) (SendingPcm a) (Listing b) x y = other_name (codes "send") (codes "takes") refl command.0 x.0 y.0
-one_wish (Some command) (Packing a) (Listing b) x y = other_name (codes "pack") (codes "takes") refl command.0 x.0 y.0
-one_wish (Some command) (Repairing a v) (Listing b) x y = other_name (codes "repair") (codes "takes") refl command.0 x.0 y.0
-one_wish (Some command) (Listing a) (Replaying b j) x y = other_name (codes "takes") (codes "replay") refl command.0 x.0 y.0
-one_wish (Some command) (Listing a) (Rehearsing b m) x y = other_name (codes "takes") (codes "rehearse") refl command.0 x.0 y.0
-one_wish (Some command) (Listing a) (Inspecting b) x y = other_name (codes "takes") (codes "inspect") refl command.0 x.0 y.0
-one_wish (Some command) (Listing a) (InspectingFiles b) x y = other_name (codes "takes") (codes "inspect") refl command.0 x.0 y.0
-one_wish (Some command) (Listing a) (Serving b) x y = other_name (codes "takes") (codes "serve") refl command.0 x.0 y.0
-one_wish (Some command) (Listing a) (Sending b) x y = other_name (codes "takes") (codes "send") refl command.0 x.0 y.0
-one_wish (Some command) (Listing a) (Uploading b) x y = other_name (codes "takes") (codes "send") refl command.0 x.0 y.0
-one_wish (Some command) (Listing a) (SendingPcm b) x y = other_name (codes "takes") (codes "send") refl command.0 x.0 y.0
-one_wish (Some command) (Listing a) (Packing b) x y = other_name (codes "takes") (codes "pack") refl command.0 x.0 y.0
-one_wish (Some command) (Listing a) (Repairing b w) x y = other_name (codes "takes") (codes "repair") refl command.0 x.0 y.0
+one_wish (Some command) a b x y = other_name x.0 y.0 refl

@@ -13,8 +13,7 @@ use Rattle.bw_args.specs.Lines.{InspectingFiles, IsName, Wish, wish_of}
 use Rattle.bw_args.specs.declared.CommandLine.{CommandLine}
 use Rattle.bw_args.specs.declared.CommandLine.TheVariants.{Run, BadValue as Bad, Report}
 use Rattle.bw_args.specs.declared.bad_value.BadValue.TheVariants.{Name, Limit, Fuse}
-use Rattle.bw_args.specs.declared.Task.TheVariants.{Replay, Rehearse, Inspect, Serve, Send, SendFile, SendPcm}
-use Rattle.bw_args.specs.declared.Task.TheVariants.{Pack, InspectFiles, Repair, Takes}
+use Rattle.bw_args.specs.declared.Task.TheVariants.{Replay, Rehearse, Inspect}
 
 -- the line runs a task for this
 abbrev pub RunsFor : Wish → CommandLine → Type 0
@@ -133,18 +132,7 @@ pub record ReportsHelp (words : List Text) (line : CommandLine) : Type 0 where
 -- the line inspects the file of this path
 abbrev pub Inspects : Text → CommandLine → Type 0
 Inspects path (Run (Inspect file)) = string_bytes file ≡ path
-Inspects path (Run (InspectFiles inspection)) = ⊥
-Inspects path (Run (Replay limit fuse)) = ⊥
-Inspects path (Run (Rehearse name limit)) = ⊥
-Inspects path (Run (Serve server)) = ⊥
-Inspects path (Run (Send sender)) = ⊥
-Inspects path (Run (SendFile sender)) = ⊥
-Inspects path (Run (SendPcm sender)) = ⊥
-Inspects path (Run (Pack source)) = ⊥
-Inspects path (Run (Repair file write)) = ⊥
-Inspects path (Run (Takes listing)) = ⊥
-Inspects path (Bad value) = ⊥
-Inspects path (Report error) = ⊥
+Inspects path line = ⊥
 
 -- a word that is no option: it doesn't begin with a hyphen
 abbrev pub IsPlain : Text → Type 0

@@ -5,10 +5,10 @@ pub use Rattle.bw_args.specs.Given.{GivesAddress, IsAddressGiven, GivesFolder, I
 pub use Rattle.bw_args.specs.Given.{GivesCount, IsCountGiven, IsEnd, IsEndGiven, GivesEnd}
 pub use Rattle.bw_args.specs.Given.{IsRecorders, IsRecordersGiven, GivesRecorders, IsJournaling}
 pub use Rattle.bw_args.specs.Given.{IsJournalingGiven, GivesCountOr, GivesRounds}
-use Rattle.std.specs.Prelude.{◌≡◌, ◌≢◌, ◌⊎◌, ⊤, ℕ, ◌<◌, ◌≤◌, Bool, true}
+use Rattle.std.specs.Prelude.{◌≡◌, ◌≢◌, ◌⊎◌, ⊤, ℕ, ◌<◌, ◌≤◌, Bool}
 use Rattle.std.specs.Prelude.{false, List, [], ◌∷◌, ◌++◌}
-use Rattle.std.specs.Prelude.{Option, Some, None, unwrap_or, Result, Ok, Err, string_bytes, codes}
-use Rattle.std.specs.Prelude.{IsTrue, if◌then◌else◌}
+use Rattle.std.specs.Prelude.{Option, Some, None, string_bytes, codes}
+use Rattle.std.specs.Prelude.{if◌then◌else◌}
 use Rattle.std.specs.Str.{bytes_eq}
 use Rattle.std.specs.declared.net.socket_addr.SocketAddr.{SocketAddr}
 use Rattle.std.specs.Net.Socket.{socket_port}

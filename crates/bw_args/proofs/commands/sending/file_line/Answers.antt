@@ -1,30 +1,12 @@
-use Rattle.std.proofs.Common.{codes, refl, unwrap_or}
-use Rattle.clap.specs.Words.{first_value, found_of}
-use Rattle.bw_args.specs.Given.{is_set}
+use Rattle.clap.specs.Words.{found_of}
 use Rattle.bw_args.specs.Sources.{in_plain}
-use Rattle.bw_args.specs.Numbers.{default_fruitless, default_timeout}
-use Rattle.bw_args.specs.Lines.{Uploading}
-use Rattle.bw_args.proofs.Asked.{found_source, on_err, source_asked, upload_asked}
+use Rattle.bw_args.proofs.Asked.{on_err, source_asked, upload_asked, upload_kept}
 use Rattle.bw_args.proofs.commands.sending.file_line.Goals as goal
 
 pub returns-in_err-source-clause-err : goal.returns-in_err-source-clause-err
-returns-in_err-source-clause-err c = on_err c.from_residual.result (
-  Uploading (record {
-    connect = c.args.connect;
-    name = c.args.name;
-    source = found_source (found_of c.args.options.now) c.args.path.now;
-    timeout = unwrap_or c.args.tries.timeout default_timeout;
-    fruitless = unwrap_or c.args.tries.fruitless default_fruitless;
-    log = is_set (first_value (found_of c.args.options.now) (codes "log"));
-  }),
-  tt,
-  upload_asked (found_of c.args.options.now) _ c.requires.connects c.requires.named
-      (source_asked (found_of c.args.options.now) c.args.path.now
-      (found_source (found_of c.args.options.now) c.args.path.now) c.requires.takes refl refl refl)
-      (c.args.tries.timeout, c.requires.tries.waits, refl)
-      (c.args.tries.fruitless, c.requires.tries.ends, refl)
-      refl c.requires.unmixed c.requires.unsampled,
-)
+returns-in_err-source-clause-err c = on_err c.from_residual.result
+    (upload_kept (found_of c.args.options.now) c.args.path.now c.args.name c.args.connect c.args.tries
+    c.requires.connects c.requires.named c.requires.takes c.requires.tries c.requires.unmixed c.requires.unsampled)
 
 pub returns-clause-ok : goal.returns-clause-ok
 returns-clause-ok c = upload_asked (found_of c.args.options.now) _ c.requires.connects c.requires.named

@@ -1,58 +1,39 @@
-use Rattle.std.proofs.Common.{◌≡◌, ◌∷◌, true, false, codes, inl, inr, refl, sym, ◌∙◌}
+use Rattle.std.proofs.Common.{◌≡◌, ◌∷◌, true, false, codes, sym, ◌∙◌}
 use Rattle.clap.specs.Words.{first_value, found_of}
 use Rattle.bw_args.specs.Lines.{looked_at_samples, looked_at_trying}
 use Rattle.bw_args.specs.declared.bad_value.BadValue.TheVariants.{Name, Connect, Mixed}
-use Rattle.bw_args.proofs.Asked.{an_address, bad_line, first_then, no_address, sender_asked}
-use Rattle.bw_args.proofs.Asked.{no_samples, tries_then}
+use Rattle.bw_args.proofs.Asked.{an_address, bad, bad_line, first_then, found_address, no_address, no_samples, sender_asked}
+use Rattle.bw_args.proofs.Asked.{tries_then, ◌and_then◌}
 use Rattle.bw_args.proofs.commands.sending.send_line.Goals as goal
 
 pub returns-in_default-clause-ok : goal.returns-in_default-clause-ok
-returns-in_default-clause-ok c = bad_line (found_of c.args.options.now) (codes "send") Connect
-    (inl (
-      no_address (found_of c.args.options.now) (codes "connect") _
-          c.flag_given-network.ensures c.in_default.ensures,
-      refl,
-    ))
+returns-in_default-clause-ok c = bad_line (found_of c.args.options.now) (codes "send") Connect (
+    bad (no_address (found_of c.args.options.now) (codes "connect") _ c.flag_given-network.ensures
+    c.in_default.ensures)
+    )
 
 pub returns-in_default-name_given-clause-ok : goal.returns-in_default-name_given-clause-ok
-returns-in_default-name_given-clause-ok c = bad_line (found_of c.args.options.now) (codes "send") Name (inr (
-  (
-    c.in-Some.connect,
-    an_address (found_of c.args.options.now) (codes "connect") _ _
-        c.flag_given-network.ensures c.in-Some.ensures,
-  ),
-  inl ((λ good. c.in_default-name_given.ensures good.0 good.1), refl),
-))
+returns-in_default-name_given-clause-ok c = bad_line (found_of c.args.options.now) (codes "send") Name (
+    found_address (found_of c.args.options.now) (codes "connect") _ _ c.flag_given-network.ensures c.in-Some.ensures
+    and_then bad (λ good. c.in_default-name_given.ensures good.0 good.1)
+    )
 
 pub returns-in-Err-clause-ok : goal.returns-in-Err-clause-ok
-returns-in-Err-clause-ok c = bad_line (found_of c.args.options.now) (codes "send") c.in-Err.value (inr (
-  (
-    c.in-Some.connect,
-    an_address (found_of c.args.options.now) (codes "connect") _ _
-        c.flag_given-network.ensures c.in-Some.ensures,
-  ),
-  inr (
-    (c.in-Some-name_given.name, c.in-Some-name_given.ensures),
-    first_then looked_at_trying (Mixed ∷ looked_at_samples) (first_value (found_of c.args.options.now)) c.in-Err.value
-        c.in-Err.ensures.err,
-  ),
-))
+returns-in-Err-clause-ok c = bad_line (found_of c.args.options.now) (codes "send") c.in-Err.value (
+    found_address (found_of c.args.options.now) (codes "connect") _ _ c.flag_given-network.ensures c.in-Some.ensures
+    and_then (c.in-Some-name_given.name, c.in-Some-name_given.ensures)
+    and_then first_then looked_at_trying (Mixed ∷ looked_at_samples) (first_value (found_of c.args.options.now))
+    c.in-Err.value c.in-Err.ensures.err
+    )
 
 pub returns-then-is_mixed-clause-ok : goal.returns-then-is_mixed-clause-ok
-returns-then-is_mixed-clause-ok c = bad_line (found_of c.args.options.now) (codes "send") Mixed (inr (
-  (
-    c.in-Some.connect,
-    an_address (found_of c.args.options.now) (codes "connect") _ _
-        c.flag_given-network.ensures c.in-Some.ensures,
-  ),
-  inr (
-    (c.in-Some-name_given.name, c.in-Some-name_given.ensures),
-    tries_then (Mixed ∷ looked_at_samples) (first_value (found_of c.args.options.now)) Mixed c.in-Ok.tries c.in-Ok.ensures.ok (inl (
-      (λ good. let bad : true ≡ false = sym c.if-is_mixed.true ∙ c.is_mixed.ensures ∙ good in cc),
-      refl,
-    )),
-  ),
-))
+returns-then-is_mixed-clause-ok c = bad_line (found_of c.args.options.now) (codes "send") Mixed (
+    found_address (found_of c.args.options.now) (codes "connect") _ _ c.flag_given-network.ensures c.in-Some.ensures
+    and_then (c.in-Some-name_given.name, c.in-Some-name_given.ensures)
+    and_then tries_then (Mixed ∷ looked_at_samples) (first_value (found_of c.args.options.now)) Mixed
+    c.in-Ok.tries c.in-Ok.ensures.ok
+    (bad (λ good. let apart : true ≡ false = sym c.if-is_mixed.true ∙ c.is_mixed.ensures ∙ good in cc))
+    )
 
 pub returns-in_default-get_str-clause-ok : goal.returns-in_default-get_str-clause-ok
 returns-in_default-get_str-clause-ok c = sender_asked (found_of c.args.options.now) _ (record {
@@ -68,17 +49,12 @@ returns-in_default-get_str-clause-ok c = sender_asked (found_of c.args.options.n
 })
 
 pub returns-in-Err-samples_given-clause-ok : goal.returns-in-Err-samples_given-clause-ok
-returns-in-Err-samples_given-clause-ok c =
-    bad_line (found_of c.args.options.now) (codes "send") c.in-Err-samples_given.value (inr (
-      (
-        c.in-Some.connect,
-        an_address (found_of c.args.options.now) (codes "connect") _ _
-            c.flag_given-network.ensures c.in-Some.ensures,
-      ),
-      inr (
-        (c.in-Some-name_given.name, c.in-Some-name_given.ensures),
-        tries_then (Mixed ∷ looked_at_samples) (first_value (found_of c.args.options.now)) c.in-Err-samples_given.value
-            c.in-Ok.tries c.in-Ok.ensures.ok
-            (inr (sym c.is_mixed.ensures ∙ c.if-is_mixed.false, c.in-Err-samples_given.ensures.err)),
-      ),
-    ))
+returns-in-Err-samples_given-clause-ok c = bad_line (found_of c.args.options.now) (codes "send")
+    c.in-Err-samples_given.value (
+    found_address (found_of c.args.options.now) (codes "connect") _ _ c.flag_given-network.ensures c.in-Some.ensures
+    and_then (c.in-Some-name_given.name, c.in-Some-name_given.ensures)
+    and_then tries_then (Mixed ∷ looked_at_samples) (first_value (found_of c.args.options.now))
+    c.in-Err-samples_given.value
+    c.in-Ok.tries c.in-Ok.ensures.ok
+    (sym c.is_mixed.ensures ∙ c.if-is_mixed.false and_then c.in-Err-samples_given.ensures.err)
+    )

@@ -1,133 +1,73 @@
-use Rattle.std.proofs.Common.{[], ◌∷◌, codes, inl, inr, refl, subst, sym}
+use Rattle.std.proofs.Common.{[], ◌∷◌, codes, subst, sym}
 use Rattle.clap.specs.Words.{first_value, found_of}
 use Rattle.bw_args.specs.Lines.{GivesFolder, Serving, looked_at_waiting}
 use Rattle.bw_args.specs.declared.bad_value.BadValue.TheVariants.{Listen, Folder, Exchanges, Limit}
 use Rattle.bw_args.specs.declared.bad_value.BadValue.TheVariants.{UntilStopped, Sync}
-use Rattle.bw_args.proofs.Asked.{a_journaling, an_address, an_end, bad_line, first_then, no_address, no_end, on_err, server_asked}
-use Rattle.bw_args.proofs.Asked.{no_journaling, way_then}
+use Rattle.bw_args.proofs.Asked.{a_journaling, an_address, an_end, bad, bad_line, first_then, found_address, no_address}
+use Rattle.bw_args.proofs.Asked.{no_end, no_journaling, on_err, server_asked, way_then, ◌and_then◌}
 use Rattle.bw_args.proofs.commands.serving.serve_line.Goals as goal
 
 pub returns-in_default-clause-ok : goal.returns-in_default-clause-ok
-returns-in_default-clause-ok c = bad_line (found_of c.args.options.now) (codes "serve") Listen
-    (inl (
-      no_address (found_of c.args.options.now) (codes "listen") _
-          c.flag_given-network.ensures c.in_default.ensures,
-      refl,
-    ))
+returns-in_default-clause-ok c = bad_line (found_of c.args.options.now) (codes "serve") Listen (
+    bad (no_address (found_of c.args.options.now) (codes "listen") _ c.flag_given-network.ensures
+    c.in_default.ensures)
+    )
 
 pub returns-in_default-folder_given-clause-ok : goal.returns-in_default-folder_given-clause-ok
-returns-in_default-folder_given-clause-ok c = bad_line (found_of c.args.options.now) (codes "serve") Folder (inr (
-  (
-    c.in-Some.listen,
-    an_address (found_of c.args.options.now) (codes "listen") _ _
-        c.flag_given-network.ensures c.in-Some.ensures,
-  ),
-  inl ((λ good. c.in_default-folder_given.ensures good.0 good.1), refl),
-))
+returns-in_default-folder_given-clause-ok c = bad_line (found_of c.args.options.now) (codes "serve") Folder (
+    found_address (found_of c.args.options.now) (codes "listen") _ _ c.flag_given-network.ensures c.in-Some.ensures
+    and_then bad (λ good. c.in_default-folder_given.ensures good.0 good.1)
+    )
 
 pub returns-in_default-count_given-clause-ok : goal.returns-in_default-count_given-clause-ok
-returns-in_default-count_given-clause-ok c = bad_line (found_of c.args.options.now) (codes "serve") Exchanges (inr (
-  (
-    c.in-Some.listen,
-    an_address (found_of c.args.options.now) (codes "listen") _ _
-        c.flag_given-network.ensures c.in-Some.ensures,
-  ),
-  inr (
-    (_, c.in-Some-folder_given.ensures),
-    inl ((λ good. c.in_default-count_given.ensures good.0 good.1), refl),
-  ),
-))
+returns-in_default-count_given-clause-ok c = bad_line (found_of c.args.options.now) (codes "serve") Exchanges (
+    found_address (found_of c.args.options.now) (codes "listen") _ _ c.flag_given-network.ensures c.in-Some.ensures
+    and_then (_, c.in-Some-folder_given.ensures) and_then bad (λ good. c.in_default-count_given.ensures good.0 good.1)
+    )
 
 pub returns-in_default-limit_given-clause-ok : goal.returns-in_default-limit_given-clause-ok
-returns-in_default-limit_given-clause-ok c = bad_line (found_of c.args.options.now) (codes "serve") Limit (inr (
-  (
-    c.in-Some.listen,
-    an_address (found_of c.args.options.now) (codes "listen") _ _
-        c.flag_given-network.ensures c.in-Some.ensures,
-  ),
-  inr (
-    (_, c.in-Some-folder_given.ensures),
-    inr (
-      (c.in-Ok.count, c.in-Ok.ensures),
-      inl ((λ good. c.in_default-limit_given.ensures good.0 good.1), refl),
-    ),
-  ),
-))
+returns-in_default-limit_given-clause-ok c = bad_line (found_of c.args.options.now) (codes "serve") Limit (
+    found_address (found_of c.args.options.now) (codes "listen") _ _ c.flag_given-network.ensures c.in-Some.ensures
+    and_then (_, c.in-Some-folder_given.ensures) and_then (c.in-Ok.count, c.in-Ok.ensures)
+    and_then bad (λ good. c.in_default-limit_given.ensures good.0 good.1)
+    )
 
 pub returns-in-Err-clause-ok : goal.returns-in-Err-clause-ok
-returns-in-Err-clause-ok c = bad_line (found_of c.args.options.now) (codes "serve") c.in-Err.value (inr (
-  (
-    c.in-Some.listen,
-    an_address (found_of c.args.options.now) (codes "listen") _ _
-        c.flag_given-network.ensures c.in-Some.ensures,
-  ),
-  inr (
-    (_, c.in-Some-folder_given.ensures),
-    inr (
-      (c.in-Ok.count, c.in-Ok.ensures),
-      inr (
-        (c.in-Some-limit_given.limit, c.in-Some-limit_given.ensures),
-        first_then looked_at_waiting (UntilStopped ∷ Sync ∷ []) (first_value (found_of c.args.options.now)) c.in-Err.value
-            c.in-Err.ensures.err,
-      ),
-    ),
-  ),
-))
+returns-in-Err-clause-ok c = bad_line (found_of c.args.options.now) (codes "serve") c.in-Err.value (
+    found_address (found_of c.args.options.now) (codes "listen") _ _ c.flag_given-network.ensures c.in-Some.ensures
+    and_then (_, c.in-Some-folder_given.ensures) and_then (c.in-Ok.count, c.in-Ok.ensures)
+    and_then (c.in-Some-limit_given.limit, c.in-Some-limit_given.ensures)
+    and_then first_then looked_at_waiting (UntilStopped ∷ Sync ∷ []) (first_value (found_of c.args.options.now))
+    c.in-Err.value c.in-Err.ensures.err
+    )
 
 pub returns-in_default-end_given-clause-ok : goal.returns-in_default-end_given-clause-ok
-returns-in_default-end_given-clause-ok c = bad_line (found_of c.args.options.now) (codes "serve") UntilStopped (inr (
-  (
-    c.in-Some.listen,
-    an_address (found_of c.args.options.now) (codes "listen") _ _
-        c.flag_given-network.ensures c.in-Some.ensures,
-  ),
-  inr (
-    (_, c.in-Some-folder_given.ensures),
-    inr (
-      (c.in-Ok.count, c.in-Ok.ensures),
-      inr (
-        (c.in-Some-limit_given.limit, c.in-Some-limit_given.ensures),
-        way_then (UntilStopped ∷ Sync ∷ []) (first_value (found_of c.args.options.now)) UntilStopped
-            c.in-Ok-recorders_given.recorders c.in-Ok-recorders_given.ensures.ok (inl (
-              no_end (found_of c.args.options.now) _ _
-                  c.flag_given.ensures c.in-Ok.ensures c.in_default-end_given.ensures,
-              refl,
-            )),
-      ),
-    ),
-  ),
-))
+returns-in_default-end_given-clause-ok c = bad_line (found_of c.args.options.now) (codes "serve") UntilStopped (
+    found_address (found_of c.args.options.now) (codes "listen") _ _ c.flag_given-network.ensures c.in-Some.ensures
+    and_then (_, c.in-Some-folder_given.ensures) and_then (c.in-Ok.count, c.in-Ok.ensures)
+    and_then (c.in-Some-limit_given.limit, c.in-Some-limit_given.ensures)
+    and_then way_then (UntilStopped ∷ Sync ∷ []) (first_value (found_of c.args.options.now)) UntilStopped
+    c.in-Ok-recorders_given.recorders c.in-Ok-recorders_given.ensures.ok
+    (bad (no_end (found_of c.args.options.now) _ _ c.flag_given.ensures c.in-Ok.ensures
+    c.in_default-end_given.ensures))
+    )
 
 pub returns-in_default-journaling-clause-ok : goal.returns-in_default-journaling-clause-ok
-returns-in_default-journaling-clause-ok c = bad_line (found_of c.args.options.now) (codes "serve") Sync (inr (
-  (
-    c.in-Some.listen,
-    an_address (found_of c.args.options.now) (codes "listen") _ _
-        c.flag_given-network.ensures c.in-Some.ensures,
-  ),
-  inr (
-    (_, c.in-Some-folder_given.ensures),
-    inr (
-      (c.in-Ok.count, c.in-Ok.ensures),
-      inr (
-        (c.in-Some-limit_given.limit, c.in-Some-limit_given.ensures),
-        way_then (UntilStopped ∷ Sync ∷ []) (first_value (found_of c.args.options.now)) Sync
-            c.in-Ok-recorders_given.recorders c.in-Ok-recorders_given.ensures.ok (inr (
-              (
-                c.in-Some-end_given.end,
-                an_end (found_of c.args.options.now) _ _ _ c.flag_given.ensures c.in-Ok.ensures
-                    c.in-Some-end_given.ensures,
-              ),
-              inl (
-                no_journaling (found_of c.args.options.now) _ _ c.flag_given-is_kept.ensures
-                    c.flag_given-is_synced.ensures c.in_default-journaling.ensures,
-                refl,
-              ),
-            )),
-      ),
-    ),
-  ),
-))
+returns-in_default-journaling-clause-ok c = bad_line (found_of c.args.options.now) (codes "serve") Sync (
+    found_address (found_of c.args.options.now) (codes "listen") _ _ c.flag_given-network.ensures c.in-Some.ensures
+    and_then (_, c.in-Some-folder_given.ensures) and_then (c.in-Ok.count, c.in-Ok.ensures)
+    and_then (c.in-Some-limit_given.limit, c.in-Some-limit_given.ensures)
+    and_then way_then (UntilStopped ∷ Sync ∷ []) (first_value (found_of c.args.options.now)) Sync
+    c.in-Ok-recorders_given.recorders c.in-Ok-recorders_given.ensures.ok
+    ((
+      c.in-Some-end_given.end,
+      an_end (found_of c.args.options.now) _ _ _ c.flag_given.ensures c.in-Ok.ensures
+          c.in-Some-end_given.ensures,
+    )
+    and_then bad (no_journaling (found_of c.args.options.now) _ _ c.flag_given-is_kept.ensures
+    c.flag_given-is_synced.ensures
+    c.in_default-journaling.ensures))
+    )
 
 pub returns-in_err-folder-clause-err : goal.returns-in_err-folder-clause-err
 returns-in_err-folder-clause-err c = on_err c.from_residual.result (
@@ -146,7 +86,8 @@ returns-in_err-folder-clause-err c = on_err c.from_residual.result (
     listens = an_address (found_of c.args.options.now) (codes "listen") _ _
         c.flag_given-network.ensures c.in-Some.ensures;
     keeps = c.in-Some-folder_given.ensures;
-    ends = an_end (found_of c.args.options.now) _ _ _ c.flag_given.ensures c.in-Ok.ensures c.in-Some-end_given.ensures;
+    ends = an_end (found_of c.args.options.now) _ _ _ c.flag_given.ensures c.in-Ok.ensures
+        c.in-Some-end_given.ensures;
     limited = c.in-Some-limit_given.ensures;
     serves = c.in-Ok-recorders_given.ensures.ok;
     reports = c.flag_given-log.ensures;

@@ -1,4 +1,4 @@
-use Rattle.std.proofs.Common.{◌≡◌, List, [], Option, Some, None, ap, sym, subst, ◌∙◌, codes, map, string_bytes, unwrap_or}
+use Rattle.std.proofs.Common.{List, [], Option, ap, ◌∙◌, codes, map, string_bytes, unwrap_or}
 use Rattle.std.proofs.lemmas.Result.{IfOk-weaker}
 use Rattle.clap.specs.Words.{Text, found_of}
 use Rattle.clap.proofs.WalkLemmas.{raw_values-rows}
