@@ -1,0 +1,86 @@
+-- What was read of a file from a place on, and entry after entry.
+use Rattle.std.proofs.Common.{◌≡◌, ◌⊎◌, ℕ, suc, ◌+◌, ◌≤◌, true, false, List, length, take, drop, Option, Some, None}
+use Rattle.std.proofs.Common.{inl, inr, refl, sym, ◌∙◌, ap, arith}
+use Rattle.std.specs.Prelude.{option_map}
+use Rattle.std.proofs.lemmas.List.{length-drop, drop-drop, take_all}
+use Rattle.bw_disk.specs.Volumes.{ReadsFrom}
+use Rattle.bw_disk.proofs.PrefixReads.{IsReadTo}
+use Rattle.bw_journal.specs.Entries.{JournalEntry, first_entry}
+use Rattle.bw_journal.specs.JournalHeaders.{header_len}
+use Rattle.bw_take_files.specs.TakeSamples.{brought, entries_within, entries_of, first_changed, is_kept}
+
+-- what is read past a place of a file is read of what follows that place
+pub past : (content : Option (List ℕ)) (place count n more : ℕ) (rest : List ℕ) → ReadsFrom content (place + count) n more rest →
+    ReadsFrom (option_map (drop place) content) count n more rest
+past content place count n more rest r = record {
+  found = drop place r.found;
+  stands = ap (option_map (drop place)) r.stands;
+  within = omega (arith, r.within, length-drop place r.found);
+  copied = r.copied ∙ ap (take more) (sym (drop-drop count place r.found));
+  ended = λ none. elim (r.ended none) [
+    | inl full ↦ inl full
+    | inr end ↦ inr (omega (arith, end, length-drop place r.found))
+  ];
+}
+
+-- all that was asked for was read, or all that follows the place
+pub read_whole : (content : Option (List ℕ)) (place count n : ℕ) (room : List ℕ) →
+    IsReadTo (option_map (drop place) content) count room → count ≤ n →
+    ((found : List ℕ) → content ≡ Some found → (count ≡ n) ⊎ (length (drop place found) ≤ count)) →
+    (found : List ℕ) → content ≡ Some found → take count room ≡ take n (drop place found)
+read_whole content place count n room so fits ends found is =
+    let was = so.1 (drop place found) (ap (option_map (drop place)) is) in
+    was.1 ∙ (elim (ends found is) [
+      | inl full ↦ ap (λ (k : ℕ). take k (drop place found)) full
+      | inr end ↦ take_all count (drop place found) end
+          ∙ sym (take_all n (drop place found) (omega (arith, end, fits)))
+    ])
+
+module _ (name found : List ℕ) (number place k : ℕ) (bytes : List ℕ) where
+  -- one more entry, whose samples are there
+  pub kept_next : (m : ℕ) (x : JournalEntry × ℕ) → k ≡ suc m → first_entry bytes ≡ Some x →
+      is_kept name found number place x.0 ≡ true →
+      first_changed name found number place (entries_within k bytes)
+      ≡ first_changed name found (suc number) (place + brought x.0) (entries_within m (drop x.1 bytes))
+  kept_next m x e first kept =
+      ap (λ (n : ℕ). first_changed name found number place (entries_within n bytes)) e
+      ∙ rw (first, entries_within) (rw kept refl)
+
+  -- one more entry, whose samples aren't
+  pub kept_stops : (m : ℕ) (x : JournalEntry × ℕ) → k ≡ suc m → first_entry bytes ≡ Some x →
+      is_kept name found number place x.0 ≡ false →
+      first_changed name found number place (entries_within k bytes) ≡ Some number
+  kept_stops m x e first lost =
+      ap (λ (n : ℕ). first_changed name found number place (entries_within n bytes)) e
+      ∙ rw (first, entries_within) (rw lost refl)
+
+  -- no entry more
+  pub kept_ends : (m : ℕ) → k ≡ suc m → first_entry bytes ≡ None →
+      first_changed name found number place (entries_within k bytes) ≡ None
+  kept_ends m e first =
+      ap (λ (n : ℕ). first_changed name found number place (entries_within n bytes)) e
+      ∙ rw (first, entries_within) refl
+
+  -- all entries were compared
+  pub kept_all : k ≡ 0 → first_changed name found number place (entries_within k bytes) ≡ None
+  kept_all e = ap (λ (n : ℕ). first_changed name found number place (entries_within n bytes)) e
+
+-- all entries are still to be compared
+pub begins_all : (name found : List ℕ) (place : ℕ) (journal : List ℕ) (k : ℕ) (rest : List ℕ) → k ≡ length journal →
+    rest ≡ drop header_len journal →
+    first_changed name found 0 place (entries_of journal) ≡ first_changed name found 0 place (entries_within k rest)
+begins_all name found place journal k rest e same =
+    ap (λ (n : ℕ). first_changed name found 0 place (entries_within n (drop header_len journal))) (sym e)
+    ∙ ap (λ (b : List ℕ). first_changed name found 0 place (entries_within k b)) (sym same)
+
+-- one entry further
+pub goes_on : (name found : List ℕ) (number place k m : ℕ) (bytes : List ℕ) (x : JournalEntry × ℕ) (number' place' : ℕ)
+    (rest : List ℕ) → k ≡ suc m → first_entry bytes ≡ Some x → is_kept name found number place x.0 ≡ true →
+    number' ≡ suc number → place' ≡ place + brought x.0 → rest ≡ drop x.1 bytes →
+    first_changed name found number place (entries_within k bytes)
+    ≡ first_changed name found number' place' (entries_within m rest)
+goes_on name found number place k m bytes x number' place' rest e first kept next at same =
+    kept_next name found number place k bytes m x e first kept
+    ∙ ap (λ (n : ℕ). first_changed name found n (place + brought x.0) (entries_within m (drop x.1 bytes))) (sym next)
+    ∙ ap (λ (p : ℕ). first_changed name found number' p (entries_within m (drop x.1 bytes))) (sym at)
+    ∙ ap (λ (b : List ℕ). first_changed name found number' place' (entries_within m b)) (sym same)

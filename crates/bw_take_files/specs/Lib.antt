@@ -1,0 +1,2 @@
+pub mod TakeSamples
+pub mod GivenUp
