@@ -107,16 +107,20 @@ module _ {F : Type 0} (followed : FollowedGhosts F) where
       IfErr result (λ f. (y ≡ x) × RefusesBlock count f x) →
       ((rest : List ℕ) → followed.to_come start.file ≡ Some rest →
       next_step_of (sample_requests (progress_of start) (start.samples.held ++ rest))
-      ≡ Some (Block (take count x.samples.held))) →
+      ≡ Some (Block (take count x.samples.held))) → x.step ≡ steps.Samples →
       ComesTo followed steps.Samples result start y
-  block_by start x y count (Ok (nexts.Request r)) few ok err has = tt
-  block_by start x y count (Ok nexts.NotYet) few ok err has = absurd ok.0
-  block_by start x y count (Ok nexts.End) few ok err has = absurd ok.0
-  block_by start x y count (Err (faults.Unread place)) few ok err has = absurd err.1
-  block_by start x y count (Err (faults.PartFrame place)) few ok err has = absurd err.1
-  block_by start x y count (Err faults.TooLong) few ok err has = too_long x y count err.0 few err.1
-  block_by start x y count (Err faults.Unsendable) few ok err has = (Block (take count x.samples.held), err.1, has)
-  block_by start x y count (Err faults.Memory) few ok err has = tt
+  block_by start x y count (Ok (nexts.Request r)) few ok err has step =
+      λ ends. absurd (goes_on (sym (ok.1.step ∙ step) ∙ ends))
+    where
+      goes_on : steps.Samples ≡ steps.End → ⊥
+      goes_on e = absurd cc
+  block_by start x y count (Ok nexts.NotYet) few ok err has step = absurd ok.0
+  block_by start x y count (Ok nexts.End) few ok err has step = absurd ok.0
+  block_by start x y count (Err (faults.Unread place)) few ok err has step = absurd err.1
+  block_by start x y count (Err (faults.PartFrame place)) few ok err has step = absurd err.1
+  block_by start x y count (Err faults.TooLong) few ok err has step = too_long x y count err.0 few err.1
+  block_by start x y count (Err faults.Unsendable) few ok err has step = (Block (take count x.samples.held), err.1, has)
+  block_by start x y count (Err faults.Memory) few ok err has step = tt
 
 -- what is given of what was read is given of what was there before
 pub given_of_read : (p : PcmProgress) (old new : HeldSamples) (rest : List ℕ) (result : Result NextRequest PcmFault)

@@ -108,6 +108,12 @@ module _ {F : Type 0} (followed : FollowedGhosts F) where
     pub complete : followed.is_complete y.file ≡ true
     pub none : (xs : List ℕ) → followed.to_come x.file ≡ Some xs → followed.to_come y.file ≡ Some []
 
+  -- CLOSE, of as many frames as were given: the file is complete, and nothing of it is left
+  pub record ClosesSamples (r : Request) (y : PcmRequests F) : Type 0 where
+    pub close : r ≡ Close y.given
+    pub none : length y.samples.held ≡ 0
+    pub complete : followed.is_complete y.file ≡ true
+
   -- no message carries the next request from a step on
   abbrev pub IsUnsendable : PcmStep → PcmRequests F → Type 0
   IsUnsendable step x =
@@ -115,10 +121,10 @@ module _ {F : Type 0} (followed : FollowedGhosts F) where
       × ((rest : List ℕ) → followed.to_come x.file ≡ Some rest →
       next_step_of (requests_of_step (progress_of x) (x.samples.held ++ rest) step) ≡ Some r)
 
-  -- when each fault comes; and before a whole block is written nothing is given as long as the file
-  -- isn't complete
+  -- when each fault comes; before a whole block is written nothing is given as long as the file
+  -- isn't complete; and only CLOSE is the last request
   abbrev pub ComesTo : PcmStep → Result NextRequest PcmFault → PcmRequests F → PcmRequests F → Type 0
-  ComesTo step (Ok (nexts.Request r)) x y = Unit {0}
+  ComesTo step (Ok (nexts.Request r)) x y = y.step ≡ steps.End → ClosesSamples r y
   ComesTo step (Ok nexts.NotYet) x y =
       (length y.samples.held < y.samples.size) × (y.step ≡ steps.Samples)
   ComesTo step (Ok nexts.End) x y = (x.step ≡ steps.End) × (y.step ≡ steps.End)

@@ -47,6 +47,7 @@ impl<F: Followed + Drop> PcmRequests<F> {
         ensures plan { IfOk result (λ x. (b : List ℕ) (r : Recording) →
             F.to_come file ≡ Some (drop pcm.skip b) → pcm_recording_of b options.now pcm ≡ Ok r →
             RequestsLeft F.Followed x (plan (frames_a_block options.now r.outline.format) r)) }
+        ensures first { IfOk result (λ x. x.step ≡ steps.Open) }
         ensures err { IfErr result (λ f. PcmFaultOf options.now pcm file_len f) }
     {
         let outline = match pcm.outline(alloc, file_len, options) {

@@ -39,7 +39,7 @@ returns-then-held-size-clause-by g c =
     let m = c.read_on.ensures.read rest (c.has_ended.ensures.kept ∙ e) in
     next_of_read p x.samples c.read_on.new.self rest _ _ _ m
     (held_block p c.read_on.new.self.held m.rest (length c.bytes-held.result.now) x.align (some_size p x.some x.align)
-    count full))
+    count full)) refl
 
 pub returns-then-not-is_complete-clause-left : goal.returns-then-not-is_complete-clause-left
 returns-then-not-is_complete-clause-left g c rest e =
@@ -92,7 +92,7 @@ returns-then-part-held-clause-by g c =
     next_of_read p x.samples c.read_on.new.self rest _ _ _ m
     (rest_block p c.read_on.new.self.held m.rest
     (length c.bytes-held.result.now - length c.bytes-held.result.now % c.from.result) x.align
-    (some_size p x.some x.align) (omega (arith, short, sized)) none few (omega (arith, more))))
+    (some_size p x.some x.align) (omega (arith, short, sized)) none few (omega (arith, more)))) refl
 
 pub returns-then-part-gt0-clause-left : goal.returns-then-part-gt0-clause-left
 returns-then-part-gt0-clause-left g c rest e =
@@ -138,3 +138,14 @@ returns-clause-left g c rest e =
           ∙ ap (λ (r : Request). r ∷ []) (sym c.in-Ok-copy_of.ensures.ok),
       (m.rest, m.left_is, refl),
     )
+
+pub returns-clause-by : goal.returns-clause-by
+returns-clause-by g c = λ ends.
+    let held : length c.bytes-held.result.now ≡ length c.read_on.new.self.held = ap length c.bytes-held.ensures.value in
+    let part = c.if-part-held.false in
+    let zero_part = c.if-part-gt0.false in
+    record {
+      close = c.in-Ok-copy_of.ensures.ok;
+      none = omega (arith, held, part, zero_part);
+      complete = c.read_on.ensures.stays (search rules);
+    }
