@@ -17,7 +17,6 @@ use Rattle.bw_console.specs.Outcomes.{Outcome, Does, IsOutOfMemory}
 use Rattle.bw_commands.specs.Replays.{IsReplay}
 use Rattle.bw_console.specs.Faults.{IsReportedBy, exit_of}
 use Rattle.bw_commands.specs.Inspections.{IsPrintOfText}
-use Rattle.bw_commands.specs.Looks.{IsLook}
 use Rattle.bw_console.specs.Printing.{Nothing, IsOf}
 use Rattle.bw_commands.specs.Rehearsals.{IsRehearsal}
 use Rattle.bw_console.specs.BadArgv.{IsBadArgv}
@@ -28,7 +27,7 @@ use Rattle.bw_ports.specs.declared.network.Network.{Ghosts as NetworkGhosts}
 use Rattle.bw_ports.specs.declared.listener_setup.ListenerSetup.{Ghosts as ListenerSetupGhosts}
 use Rattle.bw_ports.specs.declared.starts.Starts.{Ghosts as StartGhosts}
 use Rattle.bw_session.specs.declared.server.Server.{Server}
-use Rattle.bw_cli.specs.Inspected.{InspectsFiles}
+use Rattle.bw_cli.specs.Inspected.{InspectsFiles, IsLookAt}
 use Rattle.bw_cli.specs.Listed.{ShowsTakes}
 use Rattle.bw_cli.specs.Packed.{Packs}
 use Rattle.bw_cli.specs.Repaired.{RepairsFile}
@@ -75,7 +74,7 @@ abbrev pub IsTaskDone : (Text → Option (List ℕ)) → Option (List ℕ) → T
 IsTaskDone file_at input (Replay limit fuse) gives_all did =
     IsReplay limit fuse input did × (gives_all ≡ true)
 IsTaskDone file_at input (Inspect file) gives_all did =
-    IsLook (file_at (string_bytes file)) (string_bytes file) gives_all did
+    IsLookAt file_at input (string_bytes file) gives_all did
 IsTaskDone file_at input (Rehearse name limit) gives_all did =
     IsRehearsal name limit input did × (gives_all ≡ true)
 IsTaskDone file_at input (InspectFiles inspection) gives_all did = ⊥
@@ -148,10 +147,9 @@ module _ {S T F H G M Ed DK DF N X Y Z P R W L K D A B U J Q I O E V C : Type 0}
       × IsHostWell failed x' × (x'.network ≡ x.network) × (x'.input ≡ x.input)
       × (x'.pause ≡ x.pause) × (x'.disk ≡ x.disk)
   IsDoneFor file_at failed (Run (InspectFiles inspection)) exit x x' =
-      InspectsFiles host.out host.reported (host.files.file_at x.files) inspection exit
-      (host.files.failures x.files) (host.files.failures x'.files) x.out x'.out x.faults x'.faults
-      × IsHostWell failed x' × (x'.network ≡ x.network) × (x'.input ≡ x.input)
-      × (x'.pause ≡ x.pause) × (x'.disk ≡ x.disk)
+      InspectsFiles host.files host.input host.out host.reported inspection exit
+      x.files x'.files x.input x'.input x.out x'.out x.faults x'.faults
+      × IsHostWell failed x' × (x'.network ≡ x.network) × (x'.pause ≡ x.pause) × (x'.disk ≡ x.disk)
   IsDoneFor file_at failed (Run (Repair file write)) exit x x' =
       RepairsFile host.edits host.out host.reported (string_bytes file) write exit
       x.files x'.files x.out x'.out x.faults x'.faults

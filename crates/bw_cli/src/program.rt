@@ -11,7 +11,7 @@ ghost use Rattle.bw_cli.specs.Programs.{IsDoneFor, IsProgram, IsReporting};
 ghost use Rattle.bw_cli.specs.Sides.{host_side, sender_side, server_side, upload_side};
 
 use crate::folders::list_takes;
-use crate::inspections::inspect_as;
+use crate::inspections::{inspect_as, inspect_one};
 use crate::outside::Outside;
 use crate::recordings::pack_as;
 use crate::remote::{send_as, serve_as};
@@ -19,7 +19,7 @@ use crate::samples::send_pcm_as;
 use crate::uploads::send_file_as;
 use bw_args::{CommandLine, Task, parse};
 use bw_commands::replay::{replay, replay_fused};
-use bw_commands::{inspect_file, rehearse_run};
+use bw_commands::rehearse_run;
 use bw_console::print::{give_up, print, print_diagnostic};
 use bw_console::{Exit, Fault, report_bad_argv};
 use bw_disk::Volume;
@@ -202,8 +202,12 @@ fn run<
             (Some(limit), None) => replay(alloc, limit, input, out, faults),
             (None, _) => unreachable!(),
         },
-        Task::Inspect { file } => inspect_file(alloc, system, file.as_str(), out, faults),
-        Task::InspectFiles(inspection) => inspect_as(alloc, inspection, files, out, faults),
+        Task::Inspect { file } => {
+            inspect_one(alloc, system, input, file.as_str(), out, faults)
+        }
+        Task::InspectFiles(inspection) => {
+            inspect_as(alloc, inspection, files, input, out, faults)
+        }
         Task::Rehearse { name, limit } => match Limit::new(*limit) {
             Some(limit) => rehearse_run(alloc, name.copy(), limit, input, out, faults),
             None => unreachable!(),

@@ -1,3 +1,4 @@
 mod Utf8Texts
 pub mod JsonShapes
 pub mod LookLemmas
+pub mod Hashed
