@@ -1,0 +1,4 @@
+pub mod Pieces
+pub mod DrawingLaws
+mod TextLemmas
+mod FittingLaws

@@ -1,0 +1,22 @@
+//! A waveform as a picture (SVG 1.1): the least and the greatest sample of each column of each
+//! channel, the time axis and the markers.
+#![tactic(auto)]
+
+mod channels;
+mod drawing;
+mod fitting;
+mod level;
+mod page;
+mod peak;
+mod reading;
+mod stroke;
+mod time_text;
+
+pub use channels::widen_all;
+pub use drawing::{Shape, draw};
+pub use fitting::fit;
+pub use level::{SampleWidth, level_at};
+pub use page::picture;
+pub use peak::Peak;
+pub use reading::read_frames;
+pub use stroke::{column_stroke, push_strokes};
