@@ -55,8 +55,8 @@ no_fruitless given none unmixed =
   where
     go : (file set fruitless : Option Text) → file ≡ None
         → (if is_some file then is_some (given (codes "rounds"))
-        else (is_some set || (is_some fruitless
-        || (is_set (given (codes "strict")) || is_set (given (codes "log")))))) ≡ false
+        else (is_some set || (is_some fruitless || (is_some (given (codes "state"))
+        || (is_set (given (codes "strict")) || is_set (given (codes "log"))))))) ≡ false
         → fruitless ≡ None
     go (Some text) set fruitless is unmixed = let bad : Some text ≡ None = is in cc
     go None (Some text) fruitless is unmixed = let bad : true ≡ false = unmixed in cc
@@ -70,8 +70,8 @@ no_rounds given path has unmixed = go (given (codes "file")) (given (codes "roun
   where
     go : (file rounds : Option Text) → file ≡ Some path
         → (if is_some file then is_some rounds
-        else (is_some (given (codes "set")) || (is_some (given (codes "fruitless"))
-        || (is_set (given (codes "strict")) || is_set (given (codes "log")))))) ≡ false
+        else (is_some (given (codes "set")) || (is_some (given (codes "fruitless")) || (is_some (given (codes "state"))
+        || (is_set (given (codes "strict")) || is_set (given (codes "log"))))))) ≡ false
         → rounds ≡ None
     go None rounds is unmixed = let bad : None ≡ Some path = is in cc
     go (Some text) None is unmixed = refl
@@ -98,7 +98,7 @@ no_samples given samples none g =
     subst (GivesSamples given) same g
   where
     go : (pcm file : Option Text) (format : Option WrittenFormat) → file ≡ None → GivesFormat pcm format
-        → (if is_some pcm then not (is_some file) || is_unpaired given
+        → (if is_some pcm then not (is_some file) || (is_some (given (codes "state")) || is_unpaired given)
         else (is_some (given (codes "skip")) || (is_some (given (codes "block"))
         || (is_set (given (codes "follow")) || is_some (given (codes "until")))))) ≡ false
         → format ≡ None
@@ -379,9 +379,10 @@ pub upload_asked : (found : Found) (sender : FileUpload)
     → GivesName (first_value found (codes "name")) sender.name → GivesSource (rows_of found) sender.source
     → GivesCountOr default_timeout most_seconds (first_value found (codes "timeout")) sender.timeout
     → GivesCountOr default_fruitless most_fruitless (first_value found (codes "fruitless")) sender.fruitless
-    → sender.log ≡ is_set (first_value found (codes "log")) → is_mixed (first_value found) ≡ false
+    → sender.log ≡ is_set (first_value found (codes "log")) → sender.state ≡ first_value found (codes "state")
+    → is_mixed (first_value found) ≡ false
     → GivesSamples (first_value found) None → IsWishOf (Some (codes "send", rows_of found)) (Uploading sender)
-upload_asked found sender connects named takes waits ends reports unmixed unsampled = (
+upload_asked found sender connects named takes waits ends reports states unmixed unsampled = (
   refl,
   record {
     connects = by_rows found (λ g. GivesAddress (is_set (g (codes "network"))) (g (codes "connect")) sender.connect) connects;
@@ -390,6 +391,7 @@ upload_asked found sender connects named takes waits ends reports unmixed unsamp
     waits = by_rows found (λ g. GivesCountOr default_timeout most_seconds (g (codes "timeout")) sender.timeout) waits;
     ends = by_rows found (λ g. GivesCountOr default_fruitless most_fruitless (g (codes "fruitless")) sender.fruitless) ends;
     reports = by_rows found (λ g. sender.log ≡ is_set (g (codes "log"))) reports;
+    states = by_rows found (λ g. sender.state ≡ g (codes "state")) states;
     unmixed = by_rows found (λ g. is_mixed g ≡ false) unmixed;
     unsampled = by_rows found (λ g. GivesSamples g None) unsampled;
   },

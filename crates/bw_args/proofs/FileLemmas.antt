@@ -82,6 +82,7 @@ alone_sends program connect name path address at named = record {
       waits = (None, refl, refl);
       ends = (None, refl, refl);
       reports = refl;
+      states = refl;
       unmixed = refl;
       unsampled = record { format = None; skip = None; block = None; formatted = refl; begins = refl; blocks = refl; unmixed = refl; are = refl };
     },
@@ -104,6 +105,7 @@ sets_sends program connect name path a b address at named = record {
       waits = (None, refl, refl);
       ends = (None, refl, refl);
       reports = refl;
+      states = refl;
       unmixed = refl;
       unsampled = record { format = None; skip = None; block = None; formatted = refl; begins = refl; blocks = refl; unmixed = refl; are = refl };
     },
@@ -125,6 +127,7 @@ strict_sends program connect name path address at named = record {
       waits = (None, refl, refl);
       ends = (None, refl, refl);
       reports = refl;
+      states = refl;
       unmixed = refl;
       unsampled = record { format = None; skip = None; block = None; formatted = refl; begins = refl; blocks = refl; unmixed = refl; are = refl };
     },
@@ -147,6 +150,7 @@ fruitless_sends program connect name path count address at named given = record 
       waits = (None, refl, refl);
       ends = (Some (number_written count), (given, refl), refl);
       reports = refl;
+      states = refl;
       unmixed = refl;
       unsampled = record { format = None; skip = None; block = None; formatted = refl; begins = refl; blocks = refl; unmixed = refl; are = refl };
     },
@@ -169,6 +173,7 @@ timeout_sends program connect name path seconds address at named given = record 
       waits = (Some (number_written seconds), (given, refl), refl);
       ends = (None, refl, refl);
       reports = refl;
+      states = refl;
       unmixed = refl;
       unsampled = record { format = None; skip = None; block = None; formatted = refl; begins = refl; blocks = refl; unmixed = refl; are = refl };
     },
@@ -190,6 +195,7 @@ log_sends program connect name path address at named = record {
       waits = (None, refl, refl);
       ends = (None, refl, refl);
       reports = refl;
+      states = refl;
       unmixed = refl;
       unsampled = record { format = None; skip = None; block = None; formatted = refl; begins = refl; blocks = refl; unmixed = refl; are = refl };
     },
@@ -211,6 +217,29 @@ network_sends program connect name path address at named = record {
       waits = (None, refl, refl);
       ends = (None, refl, refl);
       reports = refl;
+      states = refl;
+      unmixed = refl;
+      unsampled = record { format = None; skip = None; block = None; formatted = refl; begins = refl; blocks = refl; unmixed = refl; are = refl };
+    },
+  );
+}
+
+state_sends : (program connect name path state : Text) (address : SocketAddr) → IsAddress false connect address → IsName name
+    → AsksFor (as_read (sending program connect name (with_file path ((codes "--state=" ++ state) ∷ []))))
+    (Uploading (record (plain_upload address name path) { state = Some state }))
+unfolding clap_on_literals
+state_sends program connect name path state address at named = record {
+  taken = refl;
+  asked = (
+    refl,
+    record {
+      connects = at;
+      named = (named, refl);
+      takes = record { from = refl; sets = refl; refuses = refl };
+      waits = (None, refl, refl);
+      ends = (None, refl, refl);
+      reports = refl;
+      states = refl;
       unmixed = refl;
       unsampled = record { format = None; skip = None; block = None; formatted = refl; begins = refl; blocks = refl; unmixed = refl; are = refl };
     },
@@ -225,6 +254,7 @@ runs_file_sender words line is = record {
   fruitless = λ f t given p c n a at named e. asked_runs words _ line _ is e (fruitless_sends p c n f t a at named given);
   timeout = λ f t given p c n a at named e. asked_runs words _ line _ is e (timeout_sends p c n f t a at named given);
   log = λ f p c n a at named e. asked_runs words _ line _ is e (log_sends p c n f a at named);
+  state = λ f t p c n a at named e. asked_runs words _ line _ is e (state_sends p c n f t a at named);
   network = λ f p c n a at named e. asked_runs words _ line _ is e (network_sends p c n f a at named);
 }
 
@@ -288,6 +318,20 @@ mixed_log program connect name address at named = (
   ),
 )
 
+mixed_state : (program connect name state : Text) (address : SocketAddr) → IsAddress false connect address → IsName name
+    → IsBadAt (as_read (sending program connect name ((codes "--state=" ++ state) ∷ []))) Mixed
+unfolding clap_on_literals
+mixed_state program connect name state address at named = (
+  refl,
+  inr (
+    (address, at),
+    inr (
+      (name, (named, refl)),
+      inr ((None, refl), inr ((None, refl), inr ((None, refl), inl ((λ good. let bad : true ≡ false = good in cc), refl)))),
+    ),
+  ),
+)
+
 mixed_fruitless : (program connect name count : Text) (address : SocketAddr) → IsAddress false connect address
     → IsName name → IsCountText most_fruitless count
     → IsBadAt (as_read (sending program connect name ((codes "--fruitless=" ++ count) ∷ []))) Mixed
@@ -330,6 +374,7 @@ refuses_files words line is = record {
   sets = λ x p c n a at named e. reported words _ line Mixed is e (mixed_sets p c n x a at named);
   strict = λ p c n a at named e. reported words _ line Mixed is e (mixed_strict p c n a at named);
   log = λ p c n a at named e. reported words _ line Mixed is e (mixed_log p c n a at named);
+  state = λ t p c n a at named e. reported words _ line Mixed is e (mixed_state p c n t a at named);
   fruitless = λ t given p c n a at named e. reported words _ line Mixed is e (mixed_fruitless p c n t a at named given);
   bad_fruitless = λ f t none p c n a at named e.
       reported words _ line Fruitless is e (bad_fruitless p c n f t a at named none);

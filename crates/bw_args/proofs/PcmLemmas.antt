@@ -339,6 +339,28 @@ mixed_until program connect name path text end format address at named given = (
   ),
 )
 
+mixed_state : (program connect name path text state : Text) (format : WrittenFormat) (address : SocketAddr)
+    → IsAddress false connect address → IsName name
+    → IsFormatText text format
+    → IsBadAt (as_read (sending program connect name (with_pcm path text ((codes "--state=" ++ state) ∷ [])))) MixedSamples
+unfolding clap_on_literals
+mixed_state program connect name path text state format address at named given = (
+  refl,
+  inr (
+    (address, at),
+    inr (
+      (name, (named, refl)),
+      inr (
+        (None, refl),
+        inr (
+          (None, refl),
+          inr ((None, refl), inr (refl, inr ((Some format, given), inr ((None, refl), inr ((None, refl), inl ((λ good. let bad : true ≡ false = good in cc), refl)))))),
+        ),
+      ),
+    ),
+  ),
+)
+
 mixed_skip : (program connect name path bytes : Text) (address : SocketAddr)
     → IsAddress false connect address → IsName name
     → IsNumber bytes
@@ -374,6 +396,8 @@ refuses_samples words line is = record {
       reported words _ line MixedSamples is e (mixed_follow p c n f t m a at named given);
   until = λ f t u m given p c n a at named e.
       reported words _ line MixedSamples is e (mixed_until p c n f t u m a at named given);
+  state = λ f t u m given p c n a at named e.
+      reported words _ line MixedSamples is e (mixed_state p c n f t u m a at named given);
   formatless = λ f b number p c n a at named e.
       reported words _ line MixedSamples is e (mixed_skip p c n f b a at named number);
 }

@@ -149,6 +149,7 @@ one_upload options a b x y =
     let waits = one_count_or _ _ _ a.timeout b.timeout x.waits y.waits in
     let ends = one_count_or _ _ _ a.fruitless b.fruitless x.ends y.ends in
     let reports = x.reports ∙ sym y.reports in
+    let states = x.states ∙ sym y.states in
     λ i. record {
       connect = connects i;
       name = named i;
@@ -156,6 +157,7 @@ one_upload options a b x y =
       timeout = waits i;
       fruitless = ends i;
       log = reports i;
+      state = states i;
     }
 
 one_number : (text : Option Text) (a b : Option ℕ) → GivesNumber text a → GivesNumber text b → a ≡ b

@@ -162,6 +162,10 @@ strict_flag = flag (codes "strict")
 abbrev pub fruitless_option : Rule
 fruitless_option = option (codes "fruitless")
 
+-- `--state STATE`
+abbrev pub state_option : Rule
+state_option = option (codes "state")
+
 -- `send` with the options that say where to, and under which name
 abbrev pub send_where : App
 send_where = with_rule
@@ -204,9 +208,13 @@ send_samples = with_rule (with_rule (with_rule send_source pcm_option) skip_opti
 abbrev pub send_followed : App
 send_followed = with_rule (with_rule send_samples follow_flag) until_option
 
--- `send`, with its fifteen options
+-- and when it gives up, and what it reports
+abbrev pub send_report : App
+send_report = with_rule (with_rule send_followed fruitless_option) log_flag
+
+-- `send`, with its sixteen options
 abbrev pub send_command : App
-send_command = with_rule (with_rule send_followed fruitless_option) log_flag
+send_command = with_rule send_report state_option
 
 -- `pack`, with the file and its two options
 abbrev pub pack_command : App

@@ -1,5 +1,5 @@
 -- The forms of `pack` and of `send` with a recording, in plain words, and what each results in.
-use Rattle.std.specs.Prelude.{◌≡◌, true, false, List, [], ◌∷◌, ◌++◌, codes}
+use Rattle.std.specs.Prelude.{◌≡◌, true, false, Some, None, List, [], ◌∷◌, ◌++◌, codes}
 use Rattle.std.specs.declared.net.socket_addr.SocketAddr.{SocketAddr}
 use Rattle.clap.specs.Walk.{Text}
 use Rattle.clap.specs.declared.error.ErrorKind.TheVariants.{MissingRequiredArgument}
@@ -42,6 +42,7 @@ plain_upload address name path = record {
   timeout = default_timeout;
   fruitless = default_fruitless;
   log = false;
+  state = None;
 }
 
 -- `--file=FILE`, and what follows
@@ -76,6 +77,9 @@ pub record RunsFileSender (words : List Text) (line : CommandLine) : Type 0 wher
   -- with `--log`
   pub log : (path : Text) → ForSender false words (with_file path (codes "--log" ∷ []))
       (AsksToUpload line path (λ s. record s { log = true }))
+  -- with `--state=STATE`
+  pub state : (path state : Text) → ForSender false words (with_file path ((codes "--state=" ++ state) ∷ []))
+      (AsksToUpload line path (λ s. record s { state = Some state }))
   -- with `--network`
   pub network : (path : Text) → ForSender true words (with_file path (codes "--network" ∷ []))
       (AsksToUpload line path (λ s. s))
@@ -92,6 +96,9 @@ pub record RefusesFiles (words : List Text) (line : CommandLine) : Type 0 where
   pub strict : ForSender false words (codes "--strict" ∷ []) (ReportsBad line Mixed)
   -- `--log`
   pub log : ForSender false words (codes "--log" ∷ []) (ReportsBad line Mixed)
+  -- `--state=STATE`
+  pub state : (state : Text) → ForSender false words ((codes "--state=" ++ state) ∷ [])
+      (ReportsBad line Mixed)
   -- `--fruitless=N`
   pub fruitless : (count : Text) → IsCountText most_fruitless count
       → ForSender false words ((codes "--fruitless=" ++ count) ∷ []) (ReportsBad line Mixed)

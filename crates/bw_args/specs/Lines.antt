@@ -7,7 +7,7 @@ pub use Rattle.bw_args.specs.Given.{IsRecorders, IsRecordersGiven, GivesRecorder
 pub use Rattle.bw_args.specs.Given.{IsJournalingGiven, GivesCountOr, GivesRounds}
 use Rattle.std.specs.Prelude.{◌≡◌, ◌≢◌, ◌⊎◌, ⊤, ℕ, ◌<◌, ◌≤◌, Bool, true}
 use Rattle.std.specs.Prelude.{false, List, [], ◌∷◌, ◌++◌}
-use Rattle.std.specs.Prelude.{Option, Some, None, unwrap_or, Result, Ok, Err, string_bytes, codes}
+use Rattle.std.specs.Prelude.{Option, Some, None, option_map, unwrap_or, Result, Ok, Err, string_bytes, codes}
 use Rattle.std.specs.Prelude.{IsTrue, if◌then◌else◌}
 use Rattle.std.specs.Str.{bytes_eq}
 use Rattle.std.specs.declared.net.socket_addr.SocketAddr.{SocketAddr}
@@ -73,6 +73,7 @@ pub record FileUpload : Type 0 where
   pub timeout : ℕ
   pub fruitless : ℕ
   pub log : Bool
+  pub state : Option Text
 
 -- the sender of headerless samples that a command line asks for
 pub record PcmUpload : Type 0 where
@@ -125,6 +126,7 @@ wish_of (SendFile sender) = Uploading (record {
   timeout = sender.timeout;
   fruitless = sender.fruitless;
   log = sender.log;
+  state = option_map string_bytes sender.state;
 })
 wish_of (SendPcm sender) = SendingPcm (record {
   connect = sender.connect;
@@ -175,6 +177,7 @@ pub record GivesUpload (options : List Row) (sender : FileUpload) : Type 0 where
   pub ends : GivesCountOr default_fruitless most_fruitless
       (given_on_line options (codes "fruitless")) sender.fruitless
   pub reports : sender.log ≡ is_set (given_on_line options (codes "log"))
+  pub states : sender.state ≡ given_on_line options (codes "state")
   pub unmixed : is_mixed (given_on_line options) ≡ false
   pub unsampled : GivesSamples (given_on_line options) None
 

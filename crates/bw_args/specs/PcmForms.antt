@@ -89,6 +89,10 @@ pub record RefusesSamples (words : List Text) (line : CommandLine) : Type 0 wher
   pub until : (path text end : Text) (format : WrittenFormat) → IsFormatText text format
       → ForSender false words (with_pcm path text ((codes "--until=" ++ end) ∷ []))
       (ReportsBad line MixedSamples)
+  -- with `--state=STATE`
+  pub state : (path text state : Text) (format : WrittenFormat) → IsFormatText text format
+      → ForSender false words (with_pcm path text ((codes "--state=" ++ state) ∷ []))
+      (ReportsBad line MixedSamples)
   -- with `--file=FILE --skip=BYTES` alone
   pub formatless : (path bytes : Text) → IsNumber bytes
       → ForSender false words (with_file path ((codes "--skip=" ++ bytes) ∷ []))

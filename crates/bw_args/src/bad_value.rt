@@ -43,8 +43,8 @@ pub enum BadValue {
     Skip,
     /// How many frames a block of headerless samples has.
     Block,
-    /// An option for headerless samples without `--pcm`, that without `--file`, or one of `--follow`
-    /// and `--until` without the other.
+    /// An option for headerless samples without `--pcm`, that without `--file` or with `--state`, or
+    /// one of `--follow` and `--until` without the other.
     MixedSamples,
 }
 
@@ -199,7 +199,7 @@ For more information, try '--help'.
 ";
 
 const BAD_MIXED: &str = "\
-error: '--set', '--strict', '--fruitless' and '--log' are for '--file <FILE>', and '--rounds <N>' for a sender without it
+error: '--set', '--strict', '--fruitless', '--log' and '--state' are for '--file <FILE>', and '--rounds <N>' for a sender without it
 
 Usage: bwingest <COMMAND>
 
@@ -231,7 +231,7 @@ For more information, try '--help'.
 ";
 
 const BAD_MIXED_SAMPLES: &str = "\
-error: '--pcm' is for '--file <FILE>', '--skip', '--block', '--follow' for '--pcm'; '--follow' goes with '--until <END>'
+error: '--pcm' is for '--file <FILE>', '--skip', '--block', '--follow' for '--pcm'; '--follow' goes with '--until <END>', and '--state' not with '--pcm'
 
 Usage: bwingest <COMMAND>
 

@@ -68,4 +68,6 @@ pub struct FileSender {
     pub fruitless: u32,
     /// Whether each change of the link is reported in a line on standard error.
     pub log: bool,
+    /// The path of the file of its state, if it keeps one, as it was given.
+    pub state: Option<String>,
 }

@@ -34,7 +34,7 @@ use Rattle.bw_cli.specs.Packed.{Packs}
 use Rattle.bw_cli.specs.Repaired.{RepairsFile}
 use Rattle.bw_cli.specs.Remote.{Sends, ServesByRule}
 use Rattle.bw_cli.specs.PcmUploads.{SendsPcm}
-use Rattle.bw_cli.specs.Uploads.{SendsRecording}
+use Rattle.bw_cli.specs.Uploads.{SendsByState}
 use Rattle.bw_cli.specs.Sides.{HostSide, SenderSide, ServerSide, UploadSide}
 use Rattle.bw_cli.specs.declared.outside.Outside.{Outside}
 
@@ -135,7 +135,7 @@ module _ {S T F H G M Ed DK DF N X Y Z P R W L K D A B U J Q I O E V C : Type 0}
       × IsHostWell failed x' × (x'.files ≡ x.files) × (x'.network ≡ x.network)
       × (x'.pause ≡ x.pause) × (x'.disk ≡ x.disk)
   IsDoneFor file_at failed (Run (SendFile sender)) exit x x' =
-      SendsRecording upload_side sender_side network host.files host.out host.reported sender exit
+      SendsByState upload_side sender_side network host.files host.out host.reported host.kept_at sender exit
       x.files x'.files x.network x.pause x'.pause x.out x'.out x.faults x'.faults
       × IsHostWell failed x' × (x'.network ≡ x.network) × (x'.input ≡ x.input) × (x'.disk ≡ x.disk)
   IsDoneFor file_at failed (Run (SendPcm sender)) exit x x' =

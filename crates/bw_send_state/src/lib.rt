@@ -1,5 +1,4 @@
-//! A file's recording is sent with a state: it goes on where an earlier sender of the same file
-//! stopped. No command uses it yet.
+//! `send --file` with a state: it goes on where an earlier sender of the same file stopped.
 #![tactic(auto)]
 
 mod asking;

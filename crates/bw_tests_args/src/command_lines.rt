@@ -379,7 +379,7 @@ static SENDERS: [Line; 10] = [
 
 const PLAINLY: Said = Said::Nothing { is_strict: false };
 
-static FILE_SENDERS: [Line; 21] = [
+static FILE_SENDERS: [Line; 25] = [
     (&["--file=-f"], Outcome::SendsFile(30, 10, PLAINLY)),
     (
         &["--strict", "--file=-f"],
@@ -414,6 +414,19 @@ static FILE_SENDERS: [Line; 21] = [
         Outcome::SendsFile(1, 1_000_000, PLAINLY),
     ),
     (&["--log", "--file=-f"], Outcome::SendsFile(30, 10, PLAINLY)),
+    (
+        &["--state", "-s", "--file=-f"],
+        Outcome::SendsWithState(30, 10, PLAINLY),
+    ),
+    (
+        &["--file=-f", "--state=-s", "--log", "--fruitless=7"],
+        Outcome::SendsWithState(30, 7, PLAINLY),
+    ),
+    (&["--state=-s"], Outcome::Refuses),
+    (
+        &["--file=-f", "--state=-s", "--pcm=48000,2,24"],
+        Outcome::Refuses,
+    ),
     (&["--file=-f", "--fruitless", "0"], Outcome::Refuses),
     (&["--file=-f", "--fruitless", "1000001"], Outcome::Refuses),
     (&["--file=-f", "--fruitless", "-1"], Outcome::Refuses),

@@ -38,6 +38,8 @@ pub(crate) enum Outcome {
     /// Sends the recording `-f` to the address and under the name that the rows' first words give,
     /// with this timeout, until so many links settle nothing.
     SendsFile(u32, u32, Said),
+    /// The same with the state `-s`.
+    SendsWithState(u32, u32, Said),
     /// Sends the samples of two channels and 24 bits at 48 kHz in the file `-f`, after so many bytes,
     /// in blocks of so many frames, to the address and under the name that the rows' first words
     /// give, until so many links settle nothing.
@@ -139,9 +141,15 @@ fn file_sender_outcome(sender: &FileSender) -> Outcome {
     if sender.connect.port() != 4100 || sender.name.as_bytes() != b"-a".as_slice() {
         return Outcome::SendsElsewhere;
     }
-    match said_of(&sender.source) {
-        Some(said) => Outcome::SendsFile(sender.timeout, sender.fruitless, said),
-        None => Outcome::Confuses,
+    let Some(said) = said_of(&sender.source) else {
+        return Outcome::Confuses;
+    };
+    match &sender.state {
+        None => Outcome::SendsFile(sender.timeout, sender.fruitless, said),
+        Some(state) if state.as_str() == "-s" => {
+            Outcome::SendsWithState(sender.timeout, sender.fruitless, said)
+        }
+        Some(_) => Outcome::Confuses,
     }
 }
 

@@ -7,7 +7,7 @@ ghost use Rattle.bw_args.specs.Commands.{file_option, fruitless_option, journal_
 ghost use Rattle.bw_args.specs.Commands.{rounds_option, set_option, strict_flag, sync_flag};
 ghost use Rattle.bw_args.specs.Commands.{timeout_option, until_stopped_flag, block_option, follow_flag};
 ghost use Rattle.bw_args.specs.Commands.{pcm_option, skip_option, until_option, files_argument, json_flag};
-ghost use Rattle.bw_args.specs.Commands.{write_flag};
+ghost use Rattle.bw_args.specs.Commands.{state_option, write_flag};
 
 use clap::{Arg, ArgAction};
 use std::alloc::Global;
@@ -229,6 +229,13 @@ pub(crate) fn strict_flag<'a>(alloc: Global) -> Arg<'a>
 {
     let help = "Refuses a recording whose fields would have to be cleaned";
     flag_option(alloc, "strict", help)
+}
+
+pub(crate) fn state_option<'a>(alloc: Global) -> Arg<'a>
+    ensures { IsOption state_option result }
+{
+    let help = "With --file: notes in STATE how far it is, and goes on there when it is run again";
+    value_option(alloc, "state", "STATE", help)
 }
 
 pub(crate) fn fruitless_option<'a>(alloc: Global) -> Arg<'a>
