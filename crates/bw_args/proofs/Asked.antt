@@ -19,12 +19,12 @@ use Rattle.bw_args.specs.Lines.{AsksNothing, GivesSender, GivesServer, GivesTrie
 use Rattle.bw_args.specs.Lines.{IsEndWithin, IsFirstBad, IsGood, IsLineFor, IsWayWithin, IsWishOf, IsWithin, Service}
 use Rattle.bw_args.specs.Lines.{FileUpload, Wish, looked_at, looked_at_trying, looked_at_waiting}
 use Rattle.bw_args.specs.Lines.{Replaying, Rehearsing, Inspecting, Packing, Sending, SendingPcm, Serving}
-use Rattle.bw_args.specs.Lines.{Uploading, PcmUpload, looked_at_samples, InspectingFiles, Repairing, Listing}
+use Rattle.bw_args.specs.Lines.{Uploading, PcmUpload, looked_at_samples, looked_at_samples_paced, InspectingFiles, Repairing, Listing}
 use Rattle.bw_args.specs.PcmSources.{GivesFormat, GivesSamples, PlainPcm, fruitless_of, is_unpaired}
 use Rattle.bw_args.specs.PcmSources.{samples_with}
 use Rattle.bw_args.specs.declared.commands.samples.WrittenFormat.{WrittenFormat}
 use Rattle.bw_args.specs.Numbers.{IsLimitValue, default_fruitless, default_rounds, default_timeout, most_exchanges}
-use Rattle.bw_args.specs.Numbers.{most_block, most_fruitless, most_recorders, most_rounds, most_seconds}
+use Rattle.bw_args.specs.Numbers.{most_block, most_fruitless, most_rate, most_recorders, most_rounds, most_seconds}
 use Rattle.bw_args.specs.declared.commands.sending.Tries.{Tries}
 use Rattle.bw_args.specs.declared.CommandLine.{CommandLine}
 use Rattle.bw_args.specs.declared.CommandLine.TheVariants.{Run, BadValue as Bad, Report}
@@ -55,13 +55,32 @@ no_fruitless given none unmixed =
   where
     go : (file set fruitless : Option Text) → file ≡ None
         → (if is_some file then is_some (given (codes "rounds"))
-        else (is_some set || (is_some fruitless || (is_some (given (codes "state"))
-        || (is_set (given (codes "strict")) || is_set (given (codes "log"))))))) ≡ false
+        else (is_some set || (is_some fruitless || (is_some (given (codes "state")) || (is_some (given (codes "rate"))
+        || (is_set (given (codes "strict")) || is_set (given (codes "log")))))))) ≡ false
         → fruitless ≡ None
     go (Some text) set fruitless is unmixed = let bad : Some text ≡ None = is in cc
     go None (Some text) fruitless is unmixed = let bad : true ≡ false = unmixed in cc
     go None None None is unmixed = refl
     go None None (Some text) is unmixed = let bad : true ≡ false = unmixed in cc
+
+-- .. and nothing of a rate
+no_rate : (given : Text → Option Text) → given (codes "file") ≡ None → is_mixed given ≡ false
+    → given (codes "rate") ≡ None
+no_rate given none unmixed =
+    go (given (codes "file")) (given (codes "set")) (given (codes "fruitless")) (given (codes "state")) (given (codes "rate"))
+    none unmixed
+  where
+    go : (file set fruitless state rate : Option Text) → file ≡ None
+        → (if is_some file then is_some (given (codes "rounds"))
+        else (is_some set || (is_some fruitless || (is_some state || (is_some rate
+        || (is_set (given (codes "strict")) || is_set (given (codes "log")))))))) ≡ false
+        → rate ≡ None
+    go (Some text) set fruitless state rate is unmixed = let bad : Some text ≡ None = is in cc
+    go None (Some text) fruitless state rate is unmixed = let bad : true ≡ false = unmixed in cc
+    go None None (Some text) state rate is unmixed = let bad : true ≡ false = unmixed in cc
+    go None None None (Some text) rate is unmixed = let bad : true ≡ false = unmixed in cc
+    go None None None None None is unmixed = refl
+    go None None None None (Some text) is unmixed = let bad : true ≡ false = unmixed in cc
 
 -- with it nothing of rounds
 no_rounds : (given : Text → Option Text) (path : Text) → given (codes "file") ≡ Some path → is_mixed given ≡ false
@@ -71,7 +90,7 @@ no_rounds given path has unmixed = go (given (codes "file")) (given (codes "roun
     go : (file rounds : Option Text) → file ≡ Some path
         → (if is_some file then is_some rounds
         else (is_some (given (codes "set")) || (is_some (given (codes "fruitless")) || (is_some (given (codes "state"))
-        || (is_set (given (codes "strict")) || is_set (given (codes "log"))))))) ≡ false
+        || (is_some (given (codes "rate")) || (is_set (given (codes "strict")) || is_set (given (codes "log")))))))) ≡ false
         → rounds ≡ None
     go None rounds is unmixed = let bad : None ≡ Some path = is in cc
     go (Some text) None is unmixed = refl
@@ -82,10 +101,11 @@ no_count : (most : ℕ) (text : Option Text) → text ≡ None → GivesCount mo
 no_count most None none = refl
 no_count most (Some text) none = let bad : Some text ≡ None = none in cc
 
--- what describes samples, or that there are none, is good
-samples_good : (given : Text → Option Text) (samples : Option PlainPcm) → GivesSamples given samples
-    → AllGood looked_at_samples given
-samples_good given samples g = ((g.format, g.formatted), ((g.skip, g.begins), ((g.block, g.blocks), (g.unmixed, tt))))
+-- what describes samples, or that there are none, and a rate, are good
+samples_good : (given : Text → Option Text) (samples : Option PlainPcm) (rate : Option ℕ) → GivesSamples given samples
+    → GivesCount most_rate (given (codes "rate")) rate → AllGood looked_at_samples_paced given
+samples_good given samples rate g paced =
+    ((g.format, g.formatted), ((g.skip, g.begins), ((g.block, g.blocks), (g.unmixed, ((rate, paced), tt)))))
 
 -- without a file nothing describes samples
 pub no_samples : (given : Text → Option Text) (samples : Option PlainPcm) → given (codes "file") ≡ None
@@ -148,7 +168,7 @@ wished_good name options wish asked = go wish asked
       (sender.connect, a.1.connects),
       (
         (sender.name, a.1.named),
-        ((a.1.tries.0, a.1.tries.1), ((sender.timeout, a.1.waits), ((None, no_count most_fruitless _ (no_fruitless (given_on_line options) a.1.lines a.1.unmixed)), (a.1.unmixed, samples_good (given_on_line options) None a.1.unsampled)))),
+        ((a.1.tries.0, a.1.tries.1), ((sender.timeout, a.1.waits), ((None, no_count most_fruitless _ (no_fruitless (given_on_line options) a.1.lines a.1.unmixed)), (a.1.unmixed, samples_good (given_on_line options) None None a.1.unsampled (no_count most_rate _ (no_rate (given_on_line options) a.1.lines a.1.unmixed)))))),
       ),
     )
     go (Uploading sender) a = at (codes "send") a.0 (
@@ -159,7 +179,7 @@ wished_good name options wish asked = go wish asked
           (None, no_count most_rounds _ (no_rounds (given_on_line options) sender.source.path a.1.takes.from a.1.unmixed)),
           (
             (a.1.waits.0, a.1.waits.1),
-            ((a.1.ends.0, a.1.ends.1), (a.1.unmixed, samples_good (given_on_line options) None a.1.unsampled)),
+            ((a.1.ends.0, a.1.ends.1), (a.1.unmixed, samples_good (given_on_line options) None sender.rate a.1.unsampled a.1.paced)),
           ),
         ),
       ),
@@ -174,7 +194,7 @@ wished_good name options wish asked = go wish asked
             (a.1.waits.0, a.1.waits.1),
             (
               (a.1.count, a.1.counts),
-              (a.1.unmixed, samples_good (given_on_line options) (Some sender.pcm) a.1.samples),
+              (a.1.unmixed, samples_good (given_on_line options) (Some sender.pcm) sender.rate a.1.samples a.1.paced),
             ),
           ),
         ),
@@ -380,9 +400,9 @@ pub upload_asked : (found : Found) (sender : FileUpload)
     → GivesCountOr default_timeout most_seconds (first_value found (codes "timeout")) sender.timeout
     → GivesCountOr default_fruitless most_fruitless (first_value found (codes "fruitless")) sender.fruitless
     → sender.log ≡ is_set (first_value found (codes "log")) → sender.state ≡ first_value found (codes "state")
-    → is_mixed (first_value found) ≡ false
+    → GivesCount most_rate (first_value found (codes "rate")) sender.rate → is_mixed (first_value found) ≡ false
     → GivesSamples (first_value found) None → IsWishOf (Some (codes "send", rows_of found)) (Uploading sender)
-upload_asked found sender connects named takes waits ends reports states unmixed unsampled = (
+upload_asked found sender connects named takes waits ends reports states paced unmixed unsampled = (
   refl,
   record {
     connects = by_rows found (λ g. GivesAddress (is_set (g (codes "network"))) (g (codes "connect")) sender.connect) connects;
@@ -392,6 +412,7 @@ upload_asked found sender connects named takes waits ends reports states unmixed
     ends = by_rows found (λ g. GivesCountOr default_fruitless most_fruitless (g (codes "fruitless")) sender.fruitless) ends;
     reports = by_rows found (λ g. sender.log ≡ is_set (g (codes "log"))) reports;
     states = by_rows found (λ g. sender.state ≡ g (codes "state")) states;
+    paced = by_rows found (λ g. GivesCount most_rate (g (codes "rate")) sender.rate) paced;
     unmixed = by_rows found (λ g. is_mixed g ≡ false) unmixed;
     unsampled = by_rows found (λ g. GivesSamples g None) unsampled;
   },
@@ -405,9 +426,10 @@ pub pcm_asked : (found : Found) (sender : PcmUpload) (count : Option ℕ)
     → GivesCountOr default_timeout most_seconds (first_value found (codes "timeout")) sender.timeout
     → GivesCount most_fruitless (first_value found (codes "fruitless")) count
     → sender.fruitless ≡ fruitless_of sender.pcm.until count
-    → sender.log ≡ is_set (first_value found (codes "log")) → is_mixed (first_value found) ≡ false
+    → sender.log ≡ is_set (first_value found (codes "log"))
+    → GivesCount most_rate (first_value found (codes "rate")) sender.rate → is_mixed (first_value found) ≡ false
     → IsWishOf (Some (codes "send", rows_of found)) (SendingPcm sender)
-pcm_asked found sender count connects named takes samples waits counts ends reports unmixed = (
+pcm_asked found sender count connects named takes samples waits counts ends reports paced unmixed = (
   refl,
   record {
     connects = by_rows found (λ g. GivesAddress (is_set (g (codes "network"))) (g (codes "connect")) sender.connect) connects;
@@ -419,6 +441,7 @@ pcm_asked found sender count connects named takes samples waits counts ends repo
     counts = by_rows found (λ g. GivesCount most_fruitless (g (codes "fruitless")) count) counts;
     ends = ends;
     reports = by_rows found (λ g. sender.log ≡ is_set (g (codes "log"))) reports;
+    paced = by_rows found (λ g. GivesCount most_rate (g (codes "rate")) sender.rate) paced;
     unmixed = by_rows found (λ g. is_mixed g ≡ false) unmixed;
   },
 )
@@ -499,6 +522,12 @@ pub tries_then : (later : List BadValue) (given : Text → Option Text) (value :
 tries_then later given value tries g bad =
     inr ((tries.rounds, g.rounds), inr ((tries.timeout, g.waits), inr ((tries.fruitless, g.ends), bad)))
 
+-- where what describes samples is good, a later value may be the first that is bad
+pub samples_then : (later : List BadValue) (given : Text → Option Text) (value : BadValue) (samples : Option PlainPcm)
+    → GivesSamples given samples → IsFirstBad later given value → IsFirstBad (looked_at_samples ++ later) given value
+samples_then later given value samples g bad =
+    inr ((g.format, g.formatted), inr ((g.skip, g.begins), inr ((g.block, g.blocks), inr (g.unmixed, bad))))
+
 given_limit : (text : Option Text) (limit : ℕ) → GivesLimit text limit → IsLimitValue limit
 given_limit (Some text) limit given = subst IsLimitValue (sym given.1) given.0.1
 given_limit None limit given = subst IsLimitValue (sym given) (refl, omega arith, omega arith)
@@ -578,6 +607,7 @@ line_limit (Some command) (Run (SendFile sender)) asked = (
       (given_count _ _ _ asked.1.waits.1) asked.1.waits.2,
   given_number default_fruitless most_fruitless asked.1.ends.0 sender.fruitless (omega arith) (omega arith)
       (given_count _ _ _ asked.1.ends.1) asked.1.ends.2,
+  given_count _ _ sender.rate asked.1.paced,
 )
 line_limit (Some command) (Run (SendPcm sender)) asked = (
   given_port _ _ sender.connect asked.1.connects,
@@ -585,6 +615,7 @@ line_limit (Some command) (Run (SendPcm sender)) asked = (
       (given_count _ _ _ asked.1.waits.1) asked.1.waits.2,
   given_fruitless _ asked.1.count sender.fruitless (given_count _ _ _ asked.1.counts) asked.1.ends,
   given_block _ _ asked.1.samples,
+  given_count _ _ sender.rate asked.1.paced,
 )
 line_limit (Some command) (Run (Pack source)) asked = tt
 line_limit (Some command) (Run (Repair file write)) asked = tt

@@ -6,7 +6,7 @@ use Rattle.clap.specs.Words.{Text, fault_of}
 use Rattle.clap.proofs.OnLiterals.{clap_on_literals}
 use Rattle.bw_args.specs.Addresses.{IsAddress}
 use Rattle.bw_args.specs.Commands.{command_line}
-use Rattle.bw_args.specs.Numbers.{IsCountText, most_fruitless, most_rounds, most_seconds, number_written}
+use Rattle.bw_args.specs.Numbers.{IsCountText, most_fruitless, most_rate, most_rounds, most_seconds, number_written}
 use Rattle.bw_args.specs.ReadWords.{as_read}
 use Rattle.bw_args.specs.Given.{IsName}
 use Rattle.bw_args.specs.Sources.{PlainSource}
@@ -15,7 +15,7 @@ use Rattle.bw_args.specs.Forms.{IsPlain}
 use Rattle.bw_args.specs.PeerForms.{sending}
 use Rattle.bw_args.specs.FileForms.{RefusesFiles, RunsFileSender, RunsPack, plain_upload, source_at, with_file}
 use Rattle.bw_args.specs.declared.CommandLine.{CommandLine}
-use Rattle.bw_args.specs.declared.bad_value.BadValue.TheVariants.{Fruitless, Mixed}
+use Rattle.bw_args.specs.declared.bad_value.BadValue.TheVariants.{Fruitless, Mixed, Rate}
 use Rattle.bw_args.proofs.FormLemmas.{plain_byte, reports}
 use Rattle.bw_args.proofs.ServerLemmas.{asked_runs}
 use Rattle.bw_args.proofs.ValueLemmas.{IsBadAt, reported}
@@ -83,6 +83,7 @@ alone_sends program connect name path address at named = record {
       ends = (None, refl, refl);
       reports = refl;
       states = refl;
+      paced = refl;
       unmixed = refl;
       unsampled = record { format = None; skip = None; block = None; formatted = refl; begins = refl; blocks = refl; unmixed = refl; are = refl };
     },
@@ -106,6 +107,7 @@ sets_sends program connect name path a b address at named = record {
       ends = (None, refl, refl);
       reports = refl;
       states = refl;
+      paced = refl;
       unmixed = refl;
       unsampled = record { format = None; skip = None; block = None; formatted = refl; begins = refl; blocks = refl; unmixed = refl; are = refl };
     },
@@ -128,6 +130,7 @@ strict_sends program connect name path address at named = record {
       ends = (None, refl, refl);
       reports = refl;
       states = refl;
+      paced = refl;
       unmixed = refl;
       unsampled = record { format = None; skip = None; block = None; formatted = refl; begins = refl; blocks = refl; unmixed = refl; are = refl };
     },
@@ -151,6 +154,7 @@ fruitless_sends program connect name path count address at named given = record 
       ends = (Some (number_written count), (given, refl), refl);
       reports = refl;
       states = refl;
+      paced = refl;
       unmixed = refl;
       unsampled = record { format = None; skip = None; block = None; formatted = refl; begins = refl; blocks = refl; unmixed = refl; are = refl };
     },
@@ -174,6 +178,7 @@ timeout_sends program connect name path seconds address at named given = record 
       ends = (None, refl, refl);
       reports = refl;
       states = refl;
+      paced = refl;
       unmixed = refl;
       unsampled = record { format = None; skip = None; block = None; formatted = refl; begins = refl; blocks = refl; unmixed = refl; are = refl };
     },
@@ -196,6 +201,7 @@ log_sends program connect name path address at named = record {
       ends = (None, refl, refl);
       reports = refl;
       states = refl;
+      paced = refl;
       unmixed = refl;
       unsampled = record { format = None; skip = None; block = None; formatted = refl; begins = refl; blocks = refl; unmixed = refl; are = refl };
     },
@@ -218,6 +224,7 @@ network_sends program connect name path address at named = record {
       ends = (None, refl, refl);
       reports = refl;
       states = refl;
+      paced = refl;
       unmixed = refl;
       unsampled = record { format = None; skip = None; block = None; formatted = refl; begins = refl; blocks = refl; unmixed = refl; are = refl };
     },
@@ -240,6 +247,31 @@ state_sends program connect name path state address at named = record {
       ends = (None, refl, refl);
       reports = refl;
       states = refl;
+      paced = refl;
+      unmixed = refl;
+      unsampled = record { format = None; skip = None; block = None; formatted = refl; begins = refl; blocks = refl; unmixed = refl; are = refl };
+    },
+  );
+}
+
+rate_sends : (program connect name path bytes : Text) (address : SocketAddr) → IsAddress false connect address → IsName name
+    → IsCountText most_rate bytes
+    → AsksFor (as_read (sending program connect name (with_file path ((codes "--rate=" ++ bytes) ∷ []))))
+    (Uploading (record (plain_upload address name path) { rate = Some (number_written bytes) }))
+unfolding clap_on_literals
+rate_sends program connect name path bytes address at named given = record {
+  taken = refl;
+  asked = (
+    refl,
+    record {
+      connects = at;
+      named = (named, refl);
+      takes = record { from = refl; sets = refl; refuses = refl };
+      waits = (None, refl, refl);
+      ends = (None, refl, refl);
+      reports = refl;
+      states = refl;
+      paced = (given, refl);
       unmixed = refl;
       unsampled = record { format = None; skip = None; block = None; formatted = refl; begins = refl; blocks = refl; unmixed = refl; are = refl };
     },
@@ -255,6 +287,7 @@ runs_file_sender words line is = record {
   timeout = λ f t given p c n a at named e. asked_runs words _ line _ is e (timeout_sends p c n f t a at named given);
   log = λ f p c n a at named e. asked_runs words _ line _ is e (log_sends p c n f a at named);
   state = λ f t p c n a at named e. asked_runs words _ line _ is e (state_sends p c n f t a at named);
+  rate = λ f t given p c n a at named e. asked_runs words _ line _ is e (rate_sends p c n f t a at named given);
   network = λ f p c n a at named e. asked_runs words _ line _ is e (network_sends p c n f a at named);
 }
 
@@ -332,6 +365,20 @@ mixed_state program connect name state address at named = (
   ),
 )
 
+mixed_rate : (program connect name bytes : Text) (address : SocketAddr) → IsAddress false connect address → IsName name
+    → IsBadAt (as_read (sending program connect name ((codes "--rate=" ++ bytes) ∷ []))) Mixed
+unfolding clap_on_literals
+mixed_rate program connect name bytes address at named = (
+  refl,
+  inr (
+    (address, at),
+    inr (
+      (name, (named, refl)),
+      inr ((None, refl), inr ((None, refl), inr ((None, refl), inl ((λ good. let bad : true ≡ false = good in cc), refl)))),
+    ),
+  ),
+)
+
 mixed_fruitless : (program connect name count : Text) (address : SocketAddr) → IsAddress false connect address
     → IsName name → IsCountText most_fruitless count
     → IsBadAt (as_read (sending program connect name ((codes "--fruitless=" ++ count) ∷ []))) Mixed
@@ -368,6 +415,30 @@ bad_fruitless program connect name path count address at named none = (
   ),
 )
 
+bad_rate : (program connect name path bytes : Text) (address : SocketAddr) → IsAddress false connect address
+    → IsName name → ¬ IsCountText most_rate bytes
+    → IsBadAt (as_read (sending program connect name (with_file path ((codes "--rate=" ++ bytes) ∷ [])))) Rate
+unfolding clap_on_literals
+bad_rate program connect name path bytes address at named none = (
+  refl,
+  inr (
+    (address, at),
+    inr (
+      (name, (named, refl)),
+      inr (
+        (None, refl),
+        inr (
+          (None, refl),
+          inr (
+            (None, refl),
+            inr (refl, inr ((None, refl), inr ((None, refl), inr ((None, refl), inr (refl, inl ((λ good. none good.1.0), refl)))))),
+          ),
+        ),
+      ),
+    ),
+  ),
+)
+
 pub refuses_files : (words : List Text) (line : CommandLine) → IsLineOf words line → RefusesFiles words line
 refuses_files words line is = record {
   rounds = λ f t given p c n a at named e. reported words _ line Mixed is e (mixed_rounds p c n f t a at named given);
@@ -375,7 +446,10 @@ refuses_files words line is = record {
   strict = λ p c n a at named e. reported words _ line Mixed is e (mixed_strict p c n a at named);
   log = λ p c n a at named e. reported words _ line Mixed is e (mixed_log p c n a at named);
   state = λ t p c n a at named e. reported words _ line Mixed is e (mixed_state p c n t a at named);
+  rate = λ t p c n a at named e. reported words _ line Mixed is e (mixed_rate p c n t a at named);
   fruitless = λ t given p c n a at named e. reported words _ line Mixed is e (mixed_fruitless p c n t a at named given);
   bad_fruitless = λ f t none p c n a at named e.
       reported words _ line Fruitless is e (bad_fruitless p c n f t a at named none);
+  bad_rate = λ f t none p c n a at named e.
+      reported words _ line Rate is e (bad_rate p c n f t a at named none);
 }

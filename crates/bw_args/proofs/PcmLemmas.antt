@@ -4,7 +4,7 @@ use Rattle.std.specs.declared.net.socket_addr.SocketAddr.{SocketAddr}
 use Rattle.clap.specs.Words.{Text}
 use Rattle.clap.proofs.OnLiterals.{clap_on_literals}
 use Rattle.bw_args.specs.Addresses.{IsAddress}
-use Rattle.bw_args.specs.Numbers.{IsCountText, IsNumber, most_block, most_fruitless, number_written}
+use Rattle.bw_args.specs.Numbers.{IsCountText, IsNumber, most_block, most_fruitless, most_rate, number_written}
 use Rattle.bw_args.specs.PcmSources.{GivesFormat, IsFormatText}
 use Rattle.bw_args.specs.ReadWords.{as_read}
 use Rattle.bw_args.specs.Given.{IsName}
@@ -46,6 +46,7 @@ alone_sends program connect name path text format address at named given = recor
       counts = refl;
       ends = refl;
       reports = refl;
+      paced = refl;
       unmixed = refl;
     },
   );
@@ -80,6 +81,7 @@ skip_sends program connect name path text bytes format address at named given nu
       counts = refl;
       ends = refl;
       reports = refl;
+      paced = refl;
       unmixed = refl;
     },
   );
@@ -114,6 +116,7 @@ block_sends program connect name path text frames format address at named given 
       counts = refl;
       ends = refl;
       reports = refl;
+      paced = refl;
       unmixed = refl;
     },
   );
@@ -147,6 +150,7 @@ follow_sends program connect name path text end format address at named given = 
       counts = refl;
       ends = refl;
       reports = refl;
+      paced = refl;
       unmixed = refl;
     },
   );
@@ -181,6 +185,42 @@ fruitless_sends program connect name path text end count format address at named
       counts = (number, refl);
       ends = refl;
       reports = refl;
+      paced = refl;
+      unmixed = refl;
+    },
+  );
+}
+
+rate_sends : (program connect name path text bytes : Text) (format : WrittenFormat) (address : SocketAddr)
+    → IsAddress false connect address → IsName name → IsFormatText text format
+    → IsCountText most_rate bytes
+    → AsksFor (as_read (sending program connect name (with_pcm path text ((codes "--rate=" ++ bytes) ∷ []))))
+    (SendingPcm (record (plain_pcm_upload address name path format) { rate = Some (number_written bytes) }))
+unfolding clap_on_literals
+rate_sends program connect name path text bytes format address at named given number = record {
+  taken = refl;
+  asked = (
+    refl,
+    record {
+      connects = at;
+      named = (named, refl);
+      takes = record { from = refl; sets = refl; refuses = refl };
+      samples = record {
+        format = Some format;
+        skip = None;
+        block = None;
+        formatted = given;
+        begins = refl;
+        blocks = refl;
+        unmixed = refl;
+        are = refl;
+      };
+      waits = (None, refl, refl);
+      count = None;
+      counts = refl;
+      ends = refl;
+      reports = refl;
+      paced = (number, refl);
       unmixed = refl;
     },
   );
@@ -197,6 +237,8 @@ runs_pcm_sender words line is = record {
       asked_runs words _ line _ is e (follow_sends p c n f t u m a at named given);
   fruitless = λ f t u k m given number p c n a at named e.
       asked_runs words _ line _ is e (fruitless_sends p c n f t u k m a at named given number);
+  rate = λ f t b m given number p c n a at named e.
+      asked_runs words _ line _ is e (rate_sends p c n f t b m a at named given number);
 }
 
 -- a text that is no format gives none

@@ -17,7 +17,7 @@ use Rattle.bw_args.specs.declared.commands.samples.WrittenFormat.{WrittenFormat}
 use Rattle.bw_args.specs.Lines.{GivesPcmUpload, GivesSender, GivesServer, GivesUpload, IsWishOf, Service}
 use Rattle.bw_args.specs.Lines.{FileUpload, PcmUpload, Wish, Inspecting, Packing, Rehearsing, Replaying}
 use Rattle.bw_args.specs.Lines.{Sending, SendingPcm, Serving, Uploading, InspectingFiles, Repairing, Listing}
-use Rattle.bw_args.specs.Numbers.{most_block, most_exchanges, most_fruitless, most_recorders, most_seconds}
+use Rattle.bw_args.specs.Numbers.{most_block, most_exchanges, most_fruitless, most_rate, most_recorders, most_seconds}
 use Rattle.bw_args.specs.Numbers.{number_written}
 use Rattle.bw_args.specs.Inspecting.{GivesInspection, PlainInspection, is_alone}
 use Rattle.bw_args.specs.declared.peers.End.{End}
@@ -150,6 +150,7 @@ one_upload options a b x y =
     let ends = one_count_or _ _ _ a.fruitless b.fruitless x.ends y.ends in
     let reports = x.reports ∙ sym y.reports in
     let states = x.states ∙ sym y.states in
+    let paced = one_count most_rate _ a.rate b.rate x.paced y.paced in
     λ i. record {
       connect = connects i;
       name = named i;
@@ -158,6 +159,7 @@ one_upload options a b x y =
       fruitless = ends i;
       log = reports i;
       state = states i;
+      rate = paced i;
     }
 
 one_number : (text : Option Text) (a b : Option ℕ) → GivesNumber text a → GivesNumber text b → a ≡ b
@@ -218,6 +220,7 @@ one_pcm_upload options a b x y =
     let ends = x.ends ∙ ap (fruitless_of a.pcm.until) count ∙ ap (λ (s : PlainPcm). fruitless_of s.until y.count) pcm
     ∙ sym y.ends in
     let reports = x.reports ∙ sym y.reports in
+    let paced = one_count most_rate _ a.rate b.rate x.paced y.paced in
     λ i. record {
       connect = connects i;
       name = named i;
@@ -226,6 +229,7 @@ one_pcm_upload options a b x y =
       timeout = waits i;
       fruitless = ends i;
       log = reports i;
+      rate = paced i;
     }
 
 -- samples are described, or none

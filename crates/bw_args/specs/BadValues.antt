@@ -7,7 +7,7 @@ use Rattle.bw_args.specs.declared.bad_value.BadValue.TheVariants.{Folder, Exchan
 use Rattle.bw_args.specs.declared.bad_value.BadValue.TheVariants.{Recorders, Idle, Wait}
 use Rattle.bw_args.specs.declared.bad_value.BadValue.TheVariants.{UntilStopped, Sync, Connect, Rounds}
 use Rattle.bw_args.specs.declared.bad_value.BadValue.TheVariants.{Fruitless, Mixed, Pcm, Skip, Block}
-use Rattle.bw_args.specs.declared.bad_value.BadValue.TheVariants.{MixedSamples}
+use Rattle.bw_args.specs.declared.bad_value.BadValue.TheVariants.{MixedSamples, Rate}
 
 -- what an address is
 abbrev pub address_wanted : Text
@@ -38,7 +38,7 @@ fault_said Connect = codes "'--connect <ADDR>' takes " ++ address_wanted
 fault_said Rounds = codes "'--rounds <N>' takes a number from 1 to 1000, in at most ten digits"
 fault_said Fruitless =
     codes "'--fruitless <N>' takes a number from 1 to 1000000, in at most ten digits"
-fault_said Mixed = codes "'--set', '--strict', '--fruitless', '--log' and '--state' are for '--file <FILE>', and "
+fault_said Mixed = codes "'--set', '--strict', '--fruitless', '--log', '--state' and '--rate' are for '--file <FILE>', and "
     ++ codes "'--rounds <N>' for a sender without it"
 fault_said Pcm = codes "'--pcm <RATE,CHANNELS,BITS>' takes three numbers with commas between them, "
     ++ codes "each from 0 to 4294967295, in at most ten digits"
@@ -48,6 +48,8 @@ fault_said Block =
     codes "'--block <FRAMES>' takes a number from 1 to 4294967295, in at most ten digits"
 fault_said MixedSamples = codes "'--pcm' is for '--file <FILE>', '--skip', '--block', '--follow' for "
     ++ codes "'--pcm'; '--follow' goes with '--until <END>', and '--state' not with '--pcm'"
+fault_said Rate =
+    codes "'--rate <BYTES>' takes a number from 1 to 4294967295, in at most ten digits"
 
 -- the end of a line, and an empty line
 abbrev pub line_and_gap : Text

@@ -166,6 +166,10 @@ fruitless_option = option (codes "fruitless")
 abbrev pub state_option : Rule
 state_option = option (codes "state")
 
+-- `--rate BYTES`
+abbrev pub rate_option : Rule
+rate_option = option (codes "rate")
+
 -- `send` with the options that say where to, and under which name
 abbrev pub send_where : App
 send_where = with_rule
@@ -212,9 +216,9 @@ send_followed = with_rule (with_rule send_samples follow_flag) until_option
 abbrev pub send_report : App
 send_report = with_rule (with_rule send_followed fruitless_option) log_flag
 
--- `send`, with its sixteen options
+-- `send`, with its seventeen options
 abbrev pub send_command : App
-send_command = with_rule send_report state_option
+send_command = with_rule (with_rule send_report state_option) rate_option
 
 -- `pack`, with the file and its two options
 abbrev pub pack_command : App

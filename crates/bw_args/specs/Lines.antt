@@ -20,7 +20,7 @@ use Rattle.clap.specs.Values.{kind_of}
 use Rattle.clap.specs.declared.error.ErrorKind.{ErrorKind}
 use Rattle.clap.specs.declared.error.ErrorKind.TheVariants.{OutOfMemory}
 use Rattle.bw_args.specs.Numbers.{IsLimitValue, default_fruitless, default_timeout, most_exchanges}
-use Rattle.bw_args.specs.Numbers.{most_block, most_fruitless, most_recorders, most_rounds, most_seconds}
+use Rattle.bw_args.specs.Numbers.{most_block, most_fruitless, most_rate, most_recorders, most_rounds, most_seconds}
 use Rattle.bw_args.specs.Commands.{command_line}
 use Rattle.bw_args.specs.Inspecting.{GivesInspection, PlainInspection, inspection_in_plain, is_alone}
 use Rattle.bw_args.specs.Sources.{GivesSource, PlainSource, in_plain, is_mixed}
@@ -35,7 +35,7 @@ use Rattle.bw_args.specs.declared.bad_value.BadValue.TheVariants.{Folder, Exchan
 use Rattle.bw_args.specs.declared.bad_value.BadValue.TheVariants.{Recorders, Idle, Wait}
 use Rattle.bw_args.specs.declared.bad_value.BadValue.TheVariants.{UntilStopped, Sync, Connect, Rounds}
 use Rattle.bw_args.specs.declared.bad_value.BadValue.TheVariants.{Fruitless, Mixed, Pcm, Skip, Block}
-use Rattle.bw_args.specs.declared.bad_value.BadValue.TheVariants.{MixedSamples}
+use Rattle.bw_args.specs.declared.bad_value.BadValue.TheVariants.{MixedSamples, Rate}
 use Rattle.bw_args.specs.declared.peers.End.{End}
 use Rattle.bw_args.specs.declared.peers.End.TheVariants as when
 use Rattle.bw_args.specs.declared.peers.Journaling.{Journaling}
@@ -74,6 +74,7 @@ pub record FileUpload : Type 0 where
   pub fruitless : ℕ
   pub log : Bool
   pub state : Option Text
+  pub rate : Option ℕ
 
 -- the sender of headerless samples that a command line asks for
 pub record PcmUpload : Type 0 where
@@ -84,6 +85,7 @@ pub record PcmUpload : Type 0 where
   pub timeout : ℕ
   pub fruitless : Option ℕ
   pub log : Bool
+  pub rate : Option ℕ
 
 -- what may be asked for: a replay with this limit, in which the call of this number fails, or none;
 -- a rehearsal of the take of this name, with this limit; to inspect the file of this path, or files;
@@ -127,6 +129,7 @@ wish_of (SendFile sender) = Uploading (record {
   fruitless = sender.fruitless;
   log = sender.log;
   state = option_map string_bytes sender.state;
+  rate = sender.rate;
 })
 wish_of (SendPcm sender) = SendingPcm (record {
   connect = sender.connect;
@@ -136,6 +139,7 @@ wish_of (SendPcm sender) = SendingPcm (record {
   timeout = sender.timeout;
   fruitless = sender.fruitless;
   log = sender.log;
+  rate = sender.rate;
 })
 wish_of (Pack source) = Packing (in_plain source)
 wish_of (Repair file write) = Repairing (string_bytes file) write
@@ -178,6 +182,7 @@ pub record GivesUpload (options : List Row) (sender : FileUpload) : Type 0 where
       (given_on_line options (codes "fruitless")) sender.fruitless
   pub reports : sender.log ≡ is_set (given_on_line options (codes "log"))
   pub states : sender.state ≡ given_on_line options (codes "state")
+  pub paced : GivesCount most_rate (given_on_line options (codes "rate")) sender.rate
   pub unmixed : is_mixed (given_on_line options) ≡ false
   pub unsampled : GivesSamples (given_on_line options) None
 
@@ -194,6 +199,7 @@ pub record GivesPcmUpload (options : List Row) (sender : PcmUpload) : Type 0 whe
   pub counts : GivesCount most_fruitless (given_on_line options (codes "fruitless")) count
   pub ends : sender.fruitless ≡ fruitless_of sender.pcm.until count
   pub reports : sender.log ≡ is_set (given_on_line options (codes "log"))
+  pub paced : GivesCount most_rate (given_on_line options (codes "rate")) sender.rate
   pub unmixed : is_mixed (given_on_line options) ≡ false
 
 -- the command and its options ask for this
@@ -278,6 +284,7 @@ IsGood Pcm given = (format : Option WrittenFormat) × GivesFormat (given (codes 
 IsGood Skip given = (bytes : Option ℕ) × GivesNumber (given (codes "skip")) bytes
 IsGood Block given = (frames : Option ℕ) × GivesCount most_block (given (codes "block")) frames
 IsGood MixedSamples given = are_samples_mixed given ≡ false
+IsGood Rate given = (count : Option ℕ) × GivesCount most_rate (given (codes "rate")) count
 
 -- the values that say how recorders are served, in the order in which they are looked at
 abbrev pub looked_at_waiting : List BadValue
@@ -291,6 +298,10 @@ looked_at_trying = Rounds ∷ Timeout ∷ Fruitless ∷ []
 abbrev pub looked_at_samples : List BadValue
 looked_at_samples = Pcm ∷ Skip ∷ Block ∷ MixedSamples ∷ []
 
+-- .. and how fast they are sent
+abbrev pub looked_at_samples_paced : List BadValue
+looked_at_samples_paced = looked_at_samples ++ Rate ∷ []
+
 -- the values that a command looks at, in this order
 abbrev pub looked_at : Text → List BadValue
 looked_at command = if bytes_eq command (codes "replay") then Limit ∷ Fuse ∷ []
@@ -298,7 +309,7 @@ looked_at command = if bytes_eq command (codes "replay") then Limit ∷ Fuse ∷
     else (if bytes_eq command (codes "serve")
     then Listen ∷ Folder ∷ Exchanges ∷ Limit ∷ (looked_at_waiting ++ UntilStopped ∷ Sync ∷ [])
     else (if bytes_eq command (codes "send")
-    then Connect ∷ Name ∷ (looked_at_trying ++ Mixed ∷ looked_at_samples)
+    then Connect ∷ Name ∷ (looked_at_trying ++ Mixed ∷ looked_at_samples_paced)
     else (if bytes_eq command (codes "takes") then Folder ∷ [] else []))))
 
 -- of these values, in this order, it is the first that is bad
@@ -376,10 +387,11 @@ HasNumbersInRange (Run (Send sender)) = (0 < socket_port sender.connect)
     × IsWithin most_seconds sender.timeout
 HasNumbersInRange (Run (SendFile sender)) = (0 < socket_port sender.connect)
     × ((1 ≤ sender.timeout) × (sender.timeout ≤ most_seconds))
-    × ((1 ≤ sender.fruitless) × (sender.fruitless ≤ most_fruitless))
+    × ((1 ≤ sender.fruitless) × (sender.fruitless ≤ most_fruitless)) × IsWithin most_rate sender.rate
 HasNumbersInRange (Run (SendPcm sender)) = (0 < socket_port sender.connect)
     × ((1 ≤ sender.timeout) × (sender.timeout ≤ most_seconds))
     × IsWithin most_fruitless sender.fruitless × IsWithin most_block sender.pcm.block
+    × IsWithin most_rate sender.rate
 HasNumbersInRange (Run (Pack source)) = ⊤
 HasNumbersInRange (Run (Repair file write)) = ⊤
 HasNumbersInRange (Run (Takes listing)) = ⊤

@@ -35,4 +35,5 @@ abbrev pub is_mixed : (Text → Option Text) → Bool
 is_mixed given = if is_some (given (codes "file")) then is_some (given (codes "rounds"))
     else is_some (given (codes "set"))
     || (is_some (given (codes "fruitless")) || (is_some (given (codes "state"))
-    || (is_set (given (codes "strict")) || is_set (given (codes "log")))))
+    || (is_some (given (codes "rate"))
+    || (is_set (given (codes "strict")) || is_set (given (codes "log"))))))

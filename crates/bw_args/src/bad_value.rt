@@ -46,6 +46,8 @@ pub enum BadValue {
     /// An option for headerless samples without `--pcm`, that without `--file` or with `--state`, or
     /// one of `--follow` and `--until` without the other.
     MixedSamples,
+    /// How many bytes a second a sender sends at most.
+    Rate,
 }
 
 impl BadValue {
@@ -74,6 +76,7 @@ impl BadValue {
             BadValue::Skip => BAD_SKIP,
             BadValue::Block => BAD_BLOCK,
             BadValue::MixedSamples => BAD_MIXED_SAMPLES,
+            BadValue::Rate => BAD_RATE,
         }
     }
 }
@@ -199,7 +202,7 @@ For more information, try '--help'.
 ";
 
 const BAD_MIXED: &str = "\
-error: '--set', '--strict', '--fruitless', '--log' and '--state' are for '--file <FILE>', and '--rounds <N>' for a sender without it
+error: '--set', '--strict', '--fruitless', '--log', '--state' and '--rate' are for '--file <FILE>', and '--rounds <N>' for a sender without it
 
 Usage: bwingest <COMMAND>
 
@@ -232,6 +235,14 @@ For more information, try '--help'.
 
 const BAD_MIXED_SAMPLES: &str = "\
 error: '--pcm' is for '--file <FILE>', '--skip', '--block', '--follow' for '--pcm'; '--follow' goes with '--until <END>', and '--state' not with '--pcm'
+
+Usage: bwingest <COMMAND>
+
+For more information, try '--help'.
+";
+
+const BAD_RATE: &str = "\
+error: '--rate <BYTES>' takes a number from 1 to 4294967295, in at most ten digits
 
 Usage: bwingest <COMMAND>
 

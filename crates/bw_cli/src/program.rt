@@ -27,6 +27,7 @@ use bw_edit::EditedFiles;
 use bw_journal::{Journal, NoJournal};
 use bw_layout::Limit;
 use bw_one_name::NameRule;
+use bw_pace::PacedNetwork;
 use bw_ports::{ListenerSetup, Network, Pause, RecordingFiles, Starts, System, Watch};
 use bw_repair_file::repair_file;
 use bw_resume::StateKeeping;
@@ -51,7 +52,7 @@ pub fn start<
     F: RecordingFiles + StateKeeping + EditedFiles,
     D: Volume,
     J: Journal,
-    N: Network + ListenerSetup + Starts<Server<N::Store, J>> + NameRule,
+    N: PacedNetwork + ListenerSetup + Starts<Server<N::Store, J>> + NameRule,
     P: Pause,
     R: Source,
     W: Sink,
@@ -77,7 +78,7 @@ fn obey<
     F: RecordingFiles + StateKeeping + EditedFiles,
     D: Volume,
     J: Journal,
-    N: Network + ListenerSetup + Starts<Server<N::Store, J>> + NameRule,
+    N: PacedNetwork + ListenerSetup + Starts<Server<N::Store, J>> + NameRule,
     P: Pause,
     R: Source,
     W: Sink,
@@ -105,7 +106,7 @@ fn answer<
     F: RecordingFiles + StateKeeping + EditedFiles,
     D: Volume,
     J: Journal,
-    N: Network + ListenerSetup + Starts<Server<N::Store, J>> + NameRule,
+    N: PacedNetwork + ListenerSetup + Starts<Server<N::Store, J>> + NameRule,
     P: Pause,
     R: Source,
     W: Sink,
@@ -133,7 +134,7 @@ fn perform<
     F: RecordingFiles + StateKeeping + EditedFiles,
     D: Volume,
     J: Journal,
-    N: Network + ListenerSetup + Starts<Server<N::Store, J>> + NameRule,
+    N: PacedNetwork + ListenerSetup + Starts<Server<N::Store, J>> + NameRule,
     P: Pause,
     R: Source,
     W: Sink,
@@ -167,7 +168,7 @@ fn run<
     F: RecordingFiles + StateKeeping + EditedFiles,
     D: Volume,
     J: Journal,
-    N: Network + ListenerSetup + Starts<Server<N::Store, J>> + NameRule,
+    N: PacedNetwork + ListenerSetup + Starts<Server<N::Store, J>> + NameRule,
     P: Pause,
     R: Source,
     W: Sink,

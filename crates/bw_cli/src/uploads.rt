@@ -8,6 +8,7 @@ use crate::recordings::recording_of;
 use bw_args::FileSender;
 use bw_console::print::give_up;
 use bw_console::{Exit, Fault};
+use bw_pace::PacedNetwork;
 use bw_ports::{Network, Pause, RecordingFiles};
 use bw_resume::StateKeeping;
 use bw_send_file::{PlanFeed, Recorder, send_file};
@@ -21,7 +22,7 @@ use std::alloc::Global;
 /// each change of the link to the observer.
 pub(crate) fn send_file_as<
     F: RecordingFiles + StateKeeping,
-    N: Network,
+    N: PacedNetwork,
     P: Pause,
     G: Observer,
     W: Sink,
@@ -57,7 +58,7 @@ pub(crate) fn send_file_as<
 /// Sends the recording with the state at a path.
 fn send_kept<
     F: RecordingFiles + StateKeeping,
-    N: Network,
+    N: PacedNetwork,
     P: Pause,
     G: Observer,
     W: Sink,
@@ -86,7 +87,7 @@ fn send_kept<
         path: state,
         address: address.as_str(),
     };
-    let mut links = network.dial(sender.connect, Some(sender.timeout));
+    let mut links = network.dial_paced(sender.connect, Some(sender.timeout), sender.rate);
     let mut states = files.states();
     let mut stopwatch = files.stopwatch();
     let file = recording_of(&sender.source);
@@ -107,7 +108,7 @@ fn send_kept<
 }
 
 /// Sends the recording without a state.
-fn send_new<F: RecordingFiles, N: Network, P: Pause, G: Observer, W: Sink, E: Sink>(
+fn send_new<F: RecordingFiles, N: PacedNetwork, P: Pause, G: Observer, W: Sink, E: Sink>(
     alloc: Global,
     sender: &FileSender,
     files: &mut F,
@@ -124,7 +125,7 @@ fn send_new<F: RecordingFiles, N: Network, P: Pause, G: Observer, W: Sink, E: Si
         F.RecordingFiles W.Sink E.Sink sender.now result files.old files.new network.now
         pause.old pause.new out.old out.new faults.old faults.new }
 {
-    let mut dial = network.dial(sender.connect, Some(sender.timeout));
+    let mut dial = network.dial_paced(sender.connect, Some(sender.timeout), sender.rate);
     let file = recording_of(&sender.source);
     send_file(
         alloc,

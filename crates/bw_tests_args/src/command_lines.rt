@@ -379,7 +379,7 @@ static SENDERS: [Line; 10] = [
 
 const PLAINLY: Said = Said::Nothing { is_strict: false };
 
-static FILE_SENDERS: [Line; 25] = [
+static FILE_SENDERS: [Line; 30] = [
     (&["--file=-f"], Outcome::SendsFile(30, 10, PLAINLY)),
     (
         &["--strict", "--file=-f"],
@@ -424,6 +424,17 @@ static FILE_SENDERS: [Line; 25] = [
     ),
     (&["--state=-s"], Outcome::Refuses),
     (
+        &["--rate", "4294967295", "--file=-f"],
+        Outcome::SendsAtMost(4_294_967_295),
+    ),
+    (
+        &["--file=-f", "--state=-s", "--rate=1"],
+        Outcome::SendsAtMost(1),
+    ),
+    (&["--file=-f", "--rate=0"], Outcome::Refuses),
+    (&["--file=-f", "--rate=4294967296"], Outcome::Refuses),
+    (&["--rate=1"], Outcome::Refuses),
+    (
         &["--file=-f", "--state=-s", "--pcm=48000,2,24"],
         Outcome::Refuses,
     ),
@@ -443,7 +454,7 @@ static FILE_SENDERS: [Line; 25] = [
     (&["--fruitless", "10"], Outcome::Refuses),
 ];
 
-static PCM_SENDERS: [Line; 19] = [
+static PCM_SENDERS: [Line; 20] = [
     (
         &["--pcm=48000,2,24", "--file=-f"],
         Outcome::SendsPcm(0, None, Some(10)),
@@ -469,6 +480,10 @@ static PCM_SENDERS: [Line; 19] = [
             "--until=-e",
         ],
         Outcome::Follows(0, None, Some(3)),
+    ),
+    (
+        &["--file=-f", "--rate=1000", "--pcm=48000,2,24"],
+        Outcome::SendsAtMost(1_000),
     ),
     (&["--file=-f", "--pcm", "48000,2"], Outcome::Refuses),
     (&["--file=-f", "--pcm", "48000,2,24,"], Outcome::Refuses),

@@ -40,6 +40,8 @@ pub(crate) enum Outcome {
     SendsFile(u32, u32, Said),
     /// The same with the state `-s`.
     SendsWithState(u32, u32, Said),
+    /// Sends so many bytes a second of a recording or of samples.
+    SendsAtMost(u32),
     /// Sends the samples of two channels and 24 bits at 48 kHz in the file `-f`, after so many bytes,
     /// in blocks of so many frames, to the address and under the name that the rows' first words
     /// give, until so many links settle nothing.
@@ -144,6 +146,9 @@ fn file_sender_outcome(sender: &FileSender) -> Outcome {
     let Some(said) = said_of(&sender.source) else {
         return Outcome::Confuses;
     };
+    if let Some(rate) = sender.rate {
+        return Outcome::SendsAtMost(rate);
+    }
     match &sender.state {
         None => Outcome::SendsFile(sender.timeout, sender.fruitless, said),
         Some(state) if state.as_str() == "-s" => {
@@ -161,6 +166,9 @@ fn pcm_sender_outcome(sender: &PcmSender) -> Outcome {
     let is_as_given = pcm.rate == 48_000 && pcm.channels == 2 && pcm.bits == 24;
     if !is_as_given || said_of(&sender.source).is_none() {
         return Outcome::Confuses;
+    }
+    if let Some(rate) = sender.rate {
+        return Outcome::SendsAtMost(rate);
     }
     match &pcm.until {
         Some(until) if until.as_str() == "-e" => {

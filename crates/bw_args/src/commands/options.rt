@@ -7,7 +7,7 @@ ghost use Rattle.bw_args.specs.Commands.{file_option, fruitless_option, journal_
 ghost use Rattle.bw_args.specs.Commands.{rounds_option, set_option, strict_flag, sync_flag};
 ghost use Rattle.bw_args.specs.Commands.{timeout_option, until_stopped_flag, block_option, follow_flag};
 ghost use Rattle.bw_args.specs.Commands.{pcm_option, skip_option, until_option, files_argument, json_flag};
-ghost use Rattle.bw_args.specs.Commands.{state_option, write_flag};
+ghost use Rattle.bw_args.specs.Commands.{rate_option, state_option, write_flag};
 
 use clap::{Arg, ArgAction};
 use std::alloc::Global;
@@ -236,6 +236,13 @@ pub(crate) fn state_option<'a>(alloc: Global) -> Arg<'a>
 {
     let help = "With --file: notes in STATE how far it is, and goes on there when it is run again";
     value_option(alloc, "state", "STATE", help)
+}
+
+pub(crate) fn rate_option<'a>(alloc: Global) -> Arg<'a>
+    ensures { IsOption rate_option result }
+{
+    let help = "With --file: sends at most so many bytes a second, from 1 to 4294967295";
+    value_option(alloc, "rate", "BYTES", help)
 }
 
 pub(crate) fn fruitless_option<'a>(alloc: Global) -> Arg<'a>

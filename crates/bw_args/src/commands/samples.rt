@@ -1,7 +1,8 @@
 //! Headerless samples, as `send` takes them.
 ghost use Rattle.std.specs.Prelude.{◌≡◌, codes, false, option_map, Some, IfOk, IfErr, MatchOption, OnErr};
 ghost use Rattle.clap.specs.Words.{first_value, found_of, rows_of};
-ghost use Rattle.bw_args.specs.Given.{GivesAddress, GivesName, is_set};
+ghost use Rattle.bw_args.specs.Given.{GivesAddress, GivesCount, GivesName, is_set};
+ghost use Rattle.bw_args.specs.Numbers.{most_rate};
 ghost use Rattle.bw_args.specs.Lines.{AsksForPath, GivesTries, IsFirstBad, IsLineFor};
 ghost use Rattle.bw_args.specs.Lines.{looked_at_samples};
 ghost use Rattle.bw_args.specs.PcmSources.{GivesSamples, IsFormatGiven, IsFormatText, IsNumberGiven};
@@ -157,6 +158,7 @@ pub(crate) fn samples_line(
     connect: SocketAddr,
     name: Name,
     tries: Tries,
+    rate: Option<u32>,
     samples: Samples<'_>,
 ) -> Result<CommandLine, AllocError>
     requires connects { GivesAddress (is_set (first_value (found_of options.now) (codes "network")))
@@ -164,6 +166,7 @@ pub(crate) fn samples_line(
     requires named { GivesName (first_value (found_of options.now) (codes "name")) name }
     requires takes { Some path.now ≡ first_value (found_of options.now) (codes "file") }
     requires tries { GivesTries (first_value (found_of options.now)) tries }
+    requires paced { GivesCount most_rate (first_value (found_of options.now) (codes "rate")) rate }
     requires unmixed { is_mixed (first_value (found_of options.now)) ≡ false }
     requires samples { GivesSamples (first_value (found_of options.now))
         (Some (plain_samples samples)) }
@@ -182,6 +185,7 @@ pub(crate) fn samples_line(
         timeout: tries.timeout.unwrap_or(numbers::DEFAULT_TIMEOUT),
         fruitless: most_fruitless(samples, tries.fruitless),
         log,
+        rate,
     })))
 }
 

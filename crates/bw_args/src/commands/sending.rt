@@ -3,7 +3,8 @@ ghost use Rattle.std.specs.Prelude.{◌≡◌, codes, false, Some, None, IfOk, I
 ghost use Rattle.clap.specs.Words.{first_value, found_of, rows_of};
 ghost use Rattle.bw_args.specs.Commands.{IsCommand, send_command, send_followed, send_how};
 ghost use Rattle.bw_args.specs.Commands.{send_report, send_samples, send_source, send_where};
-ghost use Rattle.bw_args.specs.Given.{GivesAddress, GivesName, is_set};
+ghost use Rattle.bw_args.specs.Given.{GivesAddress, GivesCount, GivesName, is_set};
+ghost use Rattle.bw_args.specs.Numbers.{most_rate};
 ghost use Rattle.bw_args.specs.Lines.{AsksForPath, GivesTries, IsFirstBad, IsLineFor};
 ghost use Rattle.bw_args.specs.Lines.{looked_at_trying};
 ghost use Rattle.bw_args.specs.PcmSources.{GivesSamples};
@@ -12,7 +13,7 @@ ghost use Rattle.bw_args.specs.Sources.{is_mixed};
 use super::network::{address_given, count_given, flag_given};
 use super::options::{
     block_option, connect_option, file_option, follow_flag, fruitless_option, link_log_flag,
-    name_option, network_flag, patience_option, pcm_option, rounds_option, set_option, skip_option,
+    name_option, network_flag, patience_option, pcm_option, rate_option, rounds_option, set_option, skip_option,
     state_option, strict_flag, until_option,
 };
 use super::samples::{samples_given, samples_line};
@@ -27,7 +28,9 @@ use std::net::SocketAddr;
 pub(crate) fn send<'a>(alloc: Global) -> Result<Command<'a>, AllocError>
     ensures { IfOk result (IsCommand send_command) }
 {
-    send_report(alloc)?.arg(state_option(alloc))
+    send_report(alloc)?
+        .arg(state_option(alloc))?
+        .arg(rate_option(alloc))
 }
 
 /// The command with these and the options that say when it gives up, and what it reports.
@@ -96,7 +99,7 @@ Example: bwingest send --connect 127.0.0.1:4100 --name a1 < requests.hex",
 }
 
 /// Bad values are reported in this order: the address, the name, those of `tries_given`, options
-/// that don't belong together, and those of `samples_given`.
+/// that don't belong together, those of `samples_given`, and the rate.
 pub(crate) fn send_line(alloc: Global, options: &ArgMatches<'_>) -> Result<CommandLine, AllocError>
     ensures ok { IfOk result (IsLineFor (Some (codes "send", rows_of (found_of options.now)))) }
     ensures err { OnErr result
@@ -120,6 +123,9 @@ pub(crate) fn send_line(alloc: Global, options: &ArgMatches<'_>) -> Result<Comma
         Ok(samples) => samples,
         Err(value) => return Ok(CommandLine::BadValue(value)),
     };
+    let Ok(rate) = count_given(options, "rate", numbers::MOST_RATE) else {
+        return Ok(CommandLine::BadValue(BadValue::Rate));
+    };
     let Some(path) = options.get_str("file") else {
         return Ok(CommandLine::Run(Task::Send(Send {
             connect,
@@ -129,8 +135,10 @@ pub(crate) fn send_line(alloc: Global, options: &ArgMatches<'_>) -> Result<Comma
         })));
     };
     match samples {
-        Some(samples) => samples_line(alloc, options, path, connect, name, tries, samples),
-        None => file_line(alloc, options, path, connect, name, tries),
+        Some(samples) => samples_line(
+            alloc, options, path, connect, name, tries, rate, samples,
+        ),
+        None => file_line(alloc, options, path, connect, name, tries, rate),
     }
 }
 
@@ -142,12 +150,14 @@ fn file_line(
     connect: SocketAddr,
     name: Name,
     tries: Tries,
+    rate: Option<u32>,
 ) -> Result<CommandLine, AllocError>
     requires connects { GivesAddress (is_set (first_value (found_of options.now) (codes "network")))
         (first_value (found_of options.now) (codes "connect")) connect }
     requires named { GivesName (first_value (found_of options.now) (codes "name")) name }
     requires takes { Some path.now ≡ first_value (found_of options.now) (codes "file") }
     requires tries { GivesTries (first_value (found_of options.now)) tries }
+    requires paced { GivesCount most_rate (first_value (found_of options.now) (codes "rate")) rate }
     requires unmixed { is_mixed (first_value (found_of options.now)) ≡ false }
     requires unsampled { GivesSamples (first_value (found_of options.now)) None }
     ensures ok { IfOk result (IsLineFor (Some (codes "send", rows_of (found_of options.now)))) }
@@ -165,6 +175,7 @@ fn file_line(
         fruitless: tries.fruitless.unwrap_or(numbers::DEFAULT_FRUITLESS),
         log,
         state,
+        rate,
     })))
 }
 

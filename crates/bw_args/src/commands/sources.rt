@@ -75,6 +75,7 @@ pub(crate) fn is_mixed(options: &ArgMatches<'_>) -> bool
     options.get_str("set").is_some()
         || options.get_str("fruitless").is_some()
         || options.get_str("state").is_some()
+        || options.get_str("rate").is_some()
         || flag_given(options, "strict")
         || flag_given(options, "log")
 }

@@ -18,6 +18,7 @@ returns-in_err-source-clause-err c = on_err c.from_residual.result (
     timeout = unwrap_or c.args.tries.timeout default_timeout;
     fruitless = fruitless_of (plain_samples c.args.samples).until c.args.tries.fruitless;
     log = is_set (first_value (found_of c.args.options.now) (codes "log"));
+    rate = c.args.rate;
   }),
   tt,
   pcm_asked (found_of c.args.options.now) _ c.args.tries.fruitless c.requires.connects c.requires.named
@@ -25,7 +26,7 @@ returns-in_err-source-clause-err c = on_err c.from_residual.result (
       (found_source (found_of c.args.options.now) c.args.path.now) c.requires.takes refl refl refl)
       c.requires.samples
       (c.args.tries.timeout, c.requires.tries.waits, refl)
-      c.requires.tries.ends refl refl c.requires.unmixed,
+      c.requires.tries.ends refl refl c.requires.paced c.requires.unmixed,
 )
 
 pub returns-in_err-pcm-clause-err : goal.returns-in_err-pcm-clause-err
@@ -38,6 +39,7 @@ returns-in_err-pcm-clause-err c = on_err c.from_residual-in_err-pcm.result (
     timeout = unwrap_or c.args.tries.timeout default_timeout;
     fruitless = fruitless_of (plain_samples c.args.samples).until c.args.tries.fruitless;
     log = is_set (first_value (found_of c.args.options.now) (codes "log"));
+    rate = c.args.rate;
   }),
   tt,
   pcm_asked (found_of c.args.options.now) _ c.args.tries.fruitless c.requires.connects c.requires.named
@@ -45,7 +47,7 @@ returns-in_err-pcm-clause-err c = on_err c.from_residual-in_err-pcm.result (
       (found_source (found_of c.args.options.now) c.args.path.now) c.requires.takes refl refl refl)
       c.requires.samples
       (c.args.tries.timeout, c.requires.tries.waits, refl)
-      c.requires.tries.ends refl refl c.requires.unmixed,
+      c.requires.tries.ends refl refl c.requires.paced c.requires.unmixed,
 )
 
 pub returns-clause-ok : goal.returns-clause-ok
@@ -59,4 +61,4 @@ returns-clause-ok c =
     c.requires.tries.ends
     (c.most_fruitless.ensures
     ∙ ap (λ (p : PlainPcm). fruitless_of p.until c.args.tries.fruitless) (sym same))
-    c.flag_given-log.ensures c.requires.unmixed
+    c.flag_given-log.ensures c.requires.paced c.requires.unmixed

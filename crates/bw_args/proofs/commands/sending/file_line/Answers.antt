@@ -17,6 +17,7 @@ returns-in_err-source-clause-err c = on_err c.from_residual.result (
     fruitless = unwrap_or c.args.tries.fruitless default_fruitless;
     log = is_set (first_value (found_of c.args.options.now) (codes "log"));
     state = first_value (found_of c.args.options.now) (codes "state");
+    rate = c.args.rate;
   }),
   tt,
   upload_asked (found_of c.args.options.now) _ c.requires.connects c.requires.named
@@ -24,7 +25,7 @@ returns-in_err-source-clause-err c = on_err c.from_residual.result (
       (found_source (found_of c.args.options.now) c.args.path.now) c.requires.takes refl refl refl)
       (c.args.tries.timeout, c.requires.tries.waits, refl)
       (c.args.tries.fruitless, c.requires.tries.ends, refl)
-      refl refl c.requires.unmixed c.requires.unsampled,
+      refl refl c.requires.paced c.requires.unmixed c.requires.unsampled,
 )
 
 pub returns-in_err-state-clause-err : goal.returns-in_err-state-clause-err
@@ -37,6 +38,7 @@ returns-in_err-state-clause-err c = on_err c.from_residual-in_err-state.result (
     fruitless = unwrap_or c.args.tries.fruitless default_fruitless;
     log = is_set (first_value (found_of c.args.options.now) (codes "log"));
     state = first_value (found_of c.args.options.now) (codes "state");
+    rate = c.args.rate;
   }),
   tt,
   upload_asked (found_of c.args.options.now) _ c.requires.connects c.requires.named
@@ -44,7 +46,7 @@ returns-in_err-state-clause-err c = on_err c.from_residual-in_err-state.result (
       (found_source (found_of c.args.options.now) c.args.path.now) c.requires.takes refl refl refl)
       (c.args.tries.timeout, c.requires.tries.waits, refl)
       (c.args.tries.fruitless, c.requires.tries.ends, refl)
-      refl refl c.requires.unmixed c.requires.unsampled,
+      refl refl c.requires.paced c.requires.unmixed c.requires.unsampled,
 )
 
 pub returns-clause-ok : goal.returns-clause-ok
@@ -53,4 +55,4 @@ returns-clause-ok c = upload_asked (found_of c.args.options.now) _ c.requires.co
     c.requires.takes c.in_ok-source.ensures.0 c.in_ok-source.ensures.1 c.in_ok-source.ensures.2)
     (c.args.tries.timeout, c.requires.tries.waits, c.unwrap_or.ensures)
     (c.args.tries.fruitless, c.requires.tries.ends, c.unwrap_or-2.ensures)
-    c.flag_given-log.ensures c.in_ok-state.ensures c.requires.unmixed c.requires.unsampled
+    c.flag_given-log.ensures c.in_ok-state.ensures c.requires.paced c.requires.unmixed c.requires.unsampled

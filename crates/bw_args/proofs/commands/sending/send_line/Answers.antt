@@ -1,9 +1,9 @@
 use Rattle.std.proofs.Common.{◌≡◌, ◌∷◌, true, false, codes, inl, inr, refl, sym, ◌∙◌}
 use Rattle.clap.specs.Words.{first_value, found_of}
-use Rattle.bw_args.specs.Lines.{looked_at_samples, looked_at_trying}
-use Rattle.bw_args.specs.declared.bad_value.BadValue.TheVariants.{Name, Connect, Mixed}
+use Rattle.bw_args.specs.Lines.{looked_at_samples, looked_at_samples_paced, looked_at_trying}
+use Rattle.bw_args.specs.declared.bad_value.BadValue.TheVariants.{Name, Connect, Mixed, Rate}
 use Rattle.bw_args.proofs.Asked.{an_address, bad_line, first_then, no_address, sender_asked}
-use Rattle.bw_args.proofs.Asked.{no_samples, tries_then}
+use Rattle.bw_args.proofs.Asked.{no_samples, samples_then, tries_then}
 use Rattle.bw_args.proofs.commands.sending.send_line.Goals as goal
 
 pub returns-in_default-clause-ok : goal.returns-in_default-clause-ok
@@ -33,7 +33,7 @@ returns-in-Err-clause-ok c = bad_line (found_of c.args.options.now) (codes "send
   ),
   inr (
     (c.in-Some-name_given.name, c.in-Some-name_given.ensures),
-    first_then looked_at_trying (Mixed ∷ looked_at_samples) (first_value (found_of c.args.options.now)) c.in-Err.value
+    first_then looked_at_trying (Mixed ∷ looked_at_samples_paced) (first_value (found_of c.args.options.now)) c.in-Err.value
         c.in-Err.ensures.err,
   ),
 ))
@@ -47,7 +47,7 @@ returns-then-is_mixed-clause-ok c = bad_line (found_of c.args.options.now) (code
   ),
   inr (
     (c.in-Some-name_given.name, c.in-Some-name_given.ensures),
-    tries_then (Mixed ∷ looked_at_samples) (first_value (found_of c.args.options.now)) Mixed c.in-Ok.tries c.in-Ok.ensures.ok (inl (
+    tries_then (Mixed ∷ looked_at_samples_paced) (first_value (found_of c.args.options.now)) Mixed c.in-Ok.tries c.in-Ok.ensures.ok (inl (
       (λ good. let bad : true ≡ false = sym c.if-is_mixed.true ∙ c.is_mixed.ensures ∙ good in cc),
       refl,
     )),
@@ -77,8 +77,28 @@ returns-in-Err-samples_given-clause-ok c =
       ),
       inr (
         (c.in-Some-name_given.name, c.in-Some-name_given.ensures),
-        tries_then (Mixed ∷ looked_at_samples) (first_value (found_of c.args.options.now)) c.in-Err-samples_given.value
+        tries_then (Mixed ∷ looked_at_samples_paced) (first_value (found_of c.args.options.now)) c.in-Err-samples_given.value
             c.in-Ok.tries c.in-Ok.ensures.ok
-            (inr (sym c.is_mixed.ensures ∙ c.if-is_mixed.false, c.in-Err-samples_given.ensures.err)),
+            (inr (sym c.is_mixed.ensures ∙ c.if-is_mixed.false, first_then looked_at_samples (Rate ∷ []) (first_value (found_of c.args.options.now)) c.in-Err-samples_given.value c.in-Err-samples_given.ensures.err)),
+      ),
+    ))
+
+pub returns-in_default-count_given-clause-ok : goal.returns-in_default-count_given-clause-ok
+returns-in_default-count_given-clause-ok c =
+    bad_line (found_of c.args.options.now) (codes "send") Rate (inr (
+      (
+        c.in-Some.connect,
+        an_address (found_of c.args.options.now) (codes "connect") _ _
+            c.flag_given-network.ensures c.in-Some.ensures,
+      ),
+      inr (
+        (c.in-Some-name_given.name, c.in-Some-name_given.ensures),
+        tries_then (Mixed ∷ looked_at_samples_paced) (first_value (found_of c.args.options.now)) Rate
+            c.in-Ok.tries c.in-Ok.ensures.ok
+            (inr (
+              sym c.is_mixed.ensures ∙ c.if-is_mixed.false,
+              samples_then (Rate ∷ []) (first_value (found_of c.args.options.now)) Rate _ c.in-Ok-samples_given.ensures.ok
+                  (inl ((λ good. c.in_default-count_given.ensures good.0 good.1), refl)),
+            )),
       ),
     ))
