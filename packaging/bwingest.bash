@@ -15,7 +15,7 @@ _bwingest() {
     inspect) options='--json --help' ;;
     pack) options='--set --strict --help' ;;
     repair) options='--write --help' ;;
-    takes) options='--folder --help' ;;
+    takes) options='--folder --check --json --give-up --help' ;;
     replay) options='--limit --fuse --help' ;;
     rehearse) options='--name --limit --help' ;;
     esac

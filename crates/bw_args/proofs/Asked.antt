@@ -10,6 +10,8 @@ use Rattle.clap.specs.declared.parser.matches.Found.{Found}
 use Rattle.clap.specs.Walk.{all_of}
 use Rattle.clap.specs.Matches.{matched_of, raw_values}
 use Rattle.clap.proofs.WalkLemmas.{first_value-rows, raw_values-rows}
+use Rattle.bw_args.specs.declared.folders.FolderWork.{FolderWork}
+use Rattle.bw_args.specs.Given.{GivesWork}
 use Rattle.bw_args.specs.Given.{GivesAddress, GivesCount, GivesCountOr, GivesEnd, GivesFolder, GivesFuse, GivesLimit, GivesName}
 use Rattle.bw_args.specs.Given.{GivesNoFuse, GivesRecorders, IsAddressGiven, IsEnd, IsEndGiven, IsLimitGiven, IsNameGiven}
 use Rattle.bw_args.specs.Given.{IsJournaling, IsJournalingGiven, IsRecorders, IsRecordersGiven, given_on_line, is_set}
@@ -121,7 +123,7 @@ wished_good name options wish asked = go wish asked
     go (Inspecting path) a = at (codes "inspect") a.0 tt
     go (InspectingFiles inspection) a = at (codes "inspect") a.0 tt
     go (Repairing path write) a = at (codes "repair") a.0 tt
-    go (Listing folder) a = at (codes "takes") a.0 ((folder, a.1), tt)
+    go (Listing folder work) a = at (codes "takes") a.0 ((folder, a.1), ((work, a.2), tt))
     go (Serving server) a = at (codes "serve") a.0 (
       (server.listen, a.1.listens),
       (
@@ -286,7 +288,7 @@ no_file_line found given = (nothing, inr (refl, refl))
     nothing (Inspecting path) asked = let bad : None ≡ Some (path ∷ []) = none ∙ asked.1.from in cc
     nothing (InspectingFiles inspection) asked = let bad : None ≡ Some inspection.files = none ∙ asked.1.from in cc
     nothing (Repairing path write) asked = other_name (codes "inspect") (codes "repair") refl _ refl asked.0
-    nothing (Listing folder) asked = other_name (codes "inspect") (codes "takes") refl _ refl asked.0
+    nothing (Listing folder work) asked = other_name (codes "inspect") (codes "takes") refl _ refl asked.0
 
 -- the file to pack that is given is the one that is asked for
 pub source_asked : (found : Found) (path : Text) (source : PlainSource) → Some path ≡ first_value found (codes "file")
@@ -325,7 +327,7 @@ no_packed_line found given = (nothing, inr (refl, refl))
     nothing (Uploading sender) asked = other_name (codes "pack") (codes "send") refl _ refl asked.0
     nothing (SendingPcm sender) asked = other_name (codes "pack") (codes "send") refl _ refl asked.0
     nothing (Repairing path write) asked = other_name (codes "pack") (codes "repair") refl _ refl asked.0
-    nothing (Listing folder) asked = other_name (codes "pack") (codes "takes") refl _ refl asked.0
+    nothing (Listing folder work) asked = other_name (codes "pack") (codes "takes") refl _ refl asked.0
     nothing (Packing source) asked =
         no_path source.path (given ∙ first_value-rows found (codes "file") ∙ asked.1.from)
 
@@ -354,14 +356,18 @@ no_repaired_line found given = (nothing, inr (refl, refl))
     nothing (InspectingFiles inspection) asked = other_name (codes "repair") (codes "inspect") refl _ refl asked.0
     nothing (SendingPcm sender) asked = other_name (codes "repair") (codes "send") refl _ refl asked.0
     nothing (Packing source) asked = other_name (codes "repair") (codes "pack") refl _ refl asked.0
-    nothing (Listing folder) asked = other_name (codes "repair") (codes "takes") refl _ refl asked.0
+    nothing (Listing folder work) asked = other_name (codes "repair") (codes "takes") refl _ refl asked.0
     nothing (Repairing path write) asked =
         no_path path (given ∙ first_value-rows found (codes "file") ∙ asked.1)
 
--- the folder of takes that is given is the one that is asked for
-pub listing_asked : (found : Found) (folder : Text) → GivesFolder (first_value found (codes "folder")) folder
-    → IsWishOf (Some (codes "takes", rows_of found)) (Listing folder)
-listing_asked found folder given = (refl, by_rows found (λ g. GivesFolder (g (codes "folder")) folder) given)
+-- the folder of takes that is given is the one that is asked for, and so is what is done there
+pub listing_asked : (found : Found) (folder : Text) (work : FolderWork) → GivesFolder (first_value found (codes "folder")) folder
+    → GivesWork (first_value found) work → IsWishOf (Some (codes "takes", rows_of found)) (Listing folder work)
+listing_asked found folder work given done = (
+  refl,
+  by_rows found (λ g. GivesFolder (g (codes "folder")) folder) given,
+  by_rows found (λ g. GivesWork g work) done,
+)
 
 -- the server that is given is the one that is asked for
 pub server_asked : (found : Found) (server : Service) → GivesServer (first_value found) server

@@ -9,6 +9,7 @@ use Rattle.std.specs.declared.net.socket_addr.SocketAddr.{SocketAddr}
 use Rattle.std.proofs.NetLemmas.Theorems.{IsSocketText_unique}
 use Rattle.clap.specs.Words.{Row, Text, first_of}
 use Rattle.bw_args.specs.Given.{GivesAddress, GivesCount, GivesCountOr, GivesEnd, GivesFolder, GivesFuse, GivesLimit}
+use Rattle.bw_args.specs.Given.{IsWork}
 use Rattle.bw_args.specs.Given.{GivesName, GivesRecorders, IsEnd, IsJournaling, IsRecorders, given_on_line}
 use Rattle.bw_args.specs.Sources.{GivesSource, PlainSource}
 use Rattle.bw_args.specs.PcmSources.{GivesFormat, GivesNumber, GivesSamples, IsFormatText, PlainPcm, at_comma}
@@ -20,6 +21,7 @@ use Rattle.bw_args.specs.Lines.{Sending, SendingPcm, Serving, Uploading, Inspect
 use Rattle.bw_args.specs.Numbers.{most_block, most_exchanges, most_fruitless, most_recorders, most_seconds}
 use Rattle.bw_args.specs.Numbers.{number_written}
 use Rattle.bw_args.specs.Inspecting.{GivesInspection, PlainInspection, is_alone}
+use Rattle.bw_args.specs.declared.folders.FolderWork.{FolderWork}
 use Rattle.bw_args.specs.declared.peers.End.{End}
 use Rattle.bw_args.specs.declared.peers.Journaling.{Journaling}
 use Rattle.bw_args.specs.declared.peers.Recorders.{Recorders as Way}
@@ -46,6 +48,14 @@ one_address network (Some text) a b x y = IsSocketText_unique text a b x.spelled
 one_folder : (text : Option Text) (a b : Text) → GivesFolder text a → GivesFolder text b → a ≡ b
 one_folder None a b x y = absurd x
 one_folder (Some text) a b x y = x.1 ∙ sym y.1
+
+-- one thing is done in a folder
+one_work : (check json : Bool) (text : Option Text) (a b : FolderWork) → IsWork check json text a → IsWork check json text b
+    → a ≡ b
+one_work check json None a b x y = x ∙ sym y
+one_work false false (Some text) a b x y = x.1 ∙ sym y.1
+one_work false true (Some text) a b x y = absurd x
+one_work true json (Some text) a b x y = absurd x
 
 pub one_count : (most : ℕ) (text : Option Text) (a b : Option ℕ) → GivesCount most text a → GivesCount most text b
     → a ≡ b
@@ -372,24 +382,25 @@ one_wish (Some command) (InspectingFiles a) (Repairing b w) x y = other_name (co
 one_wish (Some command) (SendingPcm a) (Repairing b w) x y = other_name (codes "send") (codes "repair") refl command.0 x.0 y.0
 one_wish (Some command) (Repairing a v) (InspectingFiles b) x y = other_name (codes "repair") (codes "inspect") refl command.0 x.0 y.0
 one_wish (Some command) (Repairing a v) (SendingPcm b) x y = other_name (codes "repair") (codes "send") refl command.0 x.0 y.0
-one_wish (Some command) (Listing a) (Listing b) x y = ap Listing (one_folder _ a b x.1 y.1)
-one_wish (Some command) (Replaying a k) (Listing b) x y = other_name (codes "replay") (codes "takes") refl command.0 x.0 y.0
-one_wish (Some command) (Rehearsing a n) (Listing b) x y = other_name (codes "rehearse") (codes "takes") refl command.0 x.0 y.0
-one_wish (Some command) (Inspecting a) (Listing b) x y = other_name (codes "inspect") (codes "takes") refl command.0 x.0 y.0
-one_wish (Some command) (InspectingFiles a) (Listing b) x y = other_name (codes "inspect") (codes "takes") refl command.0 x.0 y.0
-one_wish (Some command) (Serving a) (Listing b) x y = other_name (codes "serve") (codes "takes") refl command.0 x.0 y.0
-one_wish (Some command) (Sending a) (Listing b) x y = other_name (codes "send") (codes "takes") refl command.0 x.0 y.0
-one_wish (Some command) (Uploading a) (Listing b) x y = other_name (codes "send") (codes "takes") refl command.0 x.0 y.0
-one_wish (Some command) (SendingPcm a) (Listing b) x y = other_name (codes "send") (codes "takes") refl command.0 x.0 y.0
-one_wish (Some command) (Packing a) (Listing b) x y = other_name (codes "pack") (codes "takes") refl command.0 x.0 y.0
-one_wish (Some command) (Repairing a v) (Listing b) x y = other_name (codes "repair") (codes "takes") refl command.0 x.0 y.0
-one_wish (Some command) (Listing a) (Replaying b j) x y = other_name (codes "takes") (codes "replay") refl command.0 x.0 y.0
-one_wish (Some command) (Listing a) (Rehearsing b m) x y = other_name (codes "takes") (codes "rehearse") refl command.0 x.0 y.0
-one_wish (Some command) (Listing a) (Inspecting b) x y = other_name (codes "takes") (codes "inspect") refl command.0 x.0 y.0
-one_wish (Some command) (Listing a) (InspectingFiles b) x y = other_name (codes "takes") (codes "inspect") refl command.0 x.0 y.0
-one_wish (Some command) (Listing a) (Serving b) x y = other_name (codes "takes") (codes "serve") refl command.0 x.0 y.0
-one_wish (Some command) (Listing a) (Sending b) x y = other_name (codes "takes") (codes "send") refl command.0 x.0 y.0
-one_wish (Some command) (Listing a) (Uploading b) x y = other_name (codes "takes") (codes "send") refl command.0 x.0 y.0
-one_wish (Some command) (Listing a) (SendingPcm b) x y = other_name (codes "takes") (codes "send") refl command.0 x.0 y.0
-one_wish (Some command) (Listing a) (Packing b) x y = other_name (codes "takes") (codes "pack") refl command.0 x.0 y.0
-one_wish (Some command) (Listing a) (Repairing b w) x y = other_name (codes "takes") (codes "repair") refl command.0 x.0 y.0
+one_wish (Some command) (Listing a v) (Listing b w) x y =
+    ap (λ (f : Text). Listing f v) (one_folder _ a b x.1 y.1) ∙ ap (Listing b) (one_work _ _ _ v w x.2 y.2)
+one_wish (Some command) (Replaying a k) (Listing b w) x y = other_name (codes "replay") (codes "takes") refl command.0 x.0 y.0
+one_wish (Some command) (Rehearsing a n) (Listing b w) x y = other_name (codes "rehearse") (codes "takes") refl command.0 x.0 y.0
+one_wish (Some command) (Inspecting a) (Listing b w) x y = other_name (codes "inspect") (codes "takes") refl command.0 x.0 y.0
+one_wish (Some command) (InspectingFiles a) (Listing b w) x y = other_name (codes "inspect") (codes "takes") refl command.0 x.0 y.0
+one_wish (Some command) (Serving a) (Listing b w) x y = other_name (codes "serve") (codes "takes") refl command.0 x.0 y.0
+one_wish (Some command) (Sending a) (Listing b w) x y = other_name (codes "send") (codes "takes") refl command.0 x.0 y.0
+one_wish (Some command) (Uploading a) (Listing b w) x y = other_name (codes "send") (codes "takes") refl command.0 x.0 y.0
+one_wish (Some command) (SendingPcm a) (Listing b w) x y = other_name (codes "send") (codes "takes") refl command.0 x.0 y.0
+one_wish (Some command) (Packing a) (Listing b w) x y = other_name (codes "pack") (codes "takes") refl command.0 x.0 y.0
+one_wish (Some command) (Repairing a u) (Listing b w) x y = other_name (codes "repair") (codes "takes") refl command.0 x.0 y.0
+one_wish (Some command) (Listing a v) (Replaying b j) x y = other_name (codes "takes") (codes "replay") refl command.0 x.0 y.0
+one_wish (Some command) (Listing a v) (Rehearsing b m) x y = other_name (codes "takes") (codes "rehearse") refl command.0 x.0 y.0
+one_wish (Some command) (Listing a v) (Inspecting b) x y = other_name (codes "takes") (codes "inspect") refl command.0 x.0 y.0
+one_wish (Some command) (Listing a v) (InspectingFiles b) x y = other_name (codes "takes") (codes "inspect") refl command.0 x.0 y.0
+one_wish (Some command) (Listing a v) (Serving b) x y = other_name (codes "takes") (codes "serve") refl command.0 x.0 y.0
+one_wish (Some command) (Listing a v) (Sending b) x y = other_name (codes "takes") (codes "send") refl command.0 x.0 y.0
+one_wish (Some command) (Listing a v) (Uploading b) x y = other_name (codes "takes") (codes "send") refl command.0 x.0 y.0
+one_wish (Some command) (Listing a v) (SendingPcm b) x y = other_name (codes "takes") (codes "send") refl command.0 x.0 y.0
+one_wish (Some command) (Listing a v) (Packing b) x y = other_name (codes "takes") (codes "pack") refl command.0 x.0 y.0
+one_wish (Some command) (Listing a v) (Repairing b u) x y = other_name (codes "takes") (codes "repair") refl command.0 x.0 y.0

@@ -5,7 +5,7 @@ use Rattle.bw_args.specs.declared.bad_value.BadValue.{BadValue}
 use Rattle.bw_args.specs.declared.bad_value.BadValue.TheVariants.{Name, Limit, Fuse, Listen}
 use Rattle.bw_args.specs.declared.bad_value.BadValue.TheVariants.{Folder, Exchanges, Timeout}
 use Rattle.bw_args.specs.declared.bad_value.BadValue.TheVariants.{Recorders, Idle, Wait}
-use Rattle.bw_args.specs.declared.bad_value.BadValue.TheVariants.{UntilStopped, Sync, Connect, Rounds}
+use Rattle.bw_args.specs.declared.bad_value.BadValue.TheVariants.{UntilStopped, Sync, GiveUp, Connect, Rounds}
 use Rattle.bw_args.specs.declared.bad_value.BadValue.TheVariants.{Fruitless, Mixed, Pcm, Skip, Block}
 use Rattle.bw_args.specs.declared.bad_value.BadValue.TheVariants.{MixedSamples}
 
@@ -34,6 +34,8 @@ fault_said Wait = codes "'--idle <SECONDS>' is for '--recorders <N>', and "
     ++ codes "'--timeout <SECONDS>' for a server without it"
 fault_said UntilStopped = codes "'--until-stopped' can't be given beside '--exchanges <N>'"
 fault_said Sync = codes "'--sync' is for '--journal'"
+fault_said GiveUp = codes "'--give-up <NAME>' takes 1 to 32 bytes of a-z, 0-9, '-' and '_', "
+    ++ codes "without '--check' and '--json'"
 fault_said Connect = codes "'--connect <ADDR>' takes " ++ address_wanted
 fault_said Rounds = codes "'--rounds <N>' takes a number from 1 to 1000, in at most ten digits"
 fault_said Fruitless =

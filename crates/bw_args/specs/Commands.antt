@@ -222,9 +222,21 @@ write_flag = flag (codes "write")
 abbrev pub repair_command : App
 repair_command = with_rule (with_rule (new_app (codes "repair")) file_argument) write_flag
 
--- `takes`, with its option
+-- `--check`
+abbrev pub check_flag : Rule
+check_flag = flag (codes "check")
+
+-- `--give-up NAME`
+abbrev pub give_up_option : Rule
+give_up_option = option (codes "give-up")
+
+-- `takes` with the folder, and how far its takes are looked at
+abbrev pub takes_where : App
+takes_where = with_rule (with_rule (new_app (codes "takes")) folder_option) check_flag
+
+-- `takes`, with its four options
 abbrev pub takes_command : App
-takes_command = with_rule (new_app (codes "takes")) folder_option
+takes_command = with_rule (with_rule takes_where json_flag) give_up_option
 
 -- the program, which has a version and requires a command
 abbrev pub program : App

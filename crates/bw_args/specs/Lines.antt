@@ -5,6 +5,7 @@ pub use Rattle.bw_args.specs.Given.{GivesAddress, IsAddressGiven, GivesFolder, I
 pub use Rattle.bw_args.specs.Given.{GivesCount, IsCountGiven, IsEnd, IsEndGiven, GivesEnd}
 pub use Rattle.bw_args.specs.Given.{IsRecorders, IsRecordersGiven, GivesRecorders, IsJournaling}
 pub use Rattle.bw_args.specs.Given.{IsJournalingGiven, GivesCountOr, GivesRounds}
+pub use Rattle.bw_args.specs.Given.{IsWork, IsWorkGiven, GivesWork}
 use Rattle.std.specs.Prelude.{◌≡◌, ◌≢◌, ◌⊎◌, ⊤, ℕ, ◌<◌, ◌≤◌, Bool, true}
 use Rattle.std.specs.Prelude.{false, List, [], ◌∷◌, ◌++◌}
 use Rattle.std.specs.Prelude.{Option, Some, None, unwrap_or, Result, Ok, Err, string_bytes, codes}
@@ -33,9 +34,10 @@ use Rattle.bw_args.specs.declared.bad_value.BadValue.{BadValue}
 use Rattle.bw_args.specs.declared.bad_value.BadValue.TheVariants.{Name, Limit, Fuse, Listen}
 use Rattle.bw_args.specs.declared.bad_value.BadValue.TheVariants.{Folder, Exchanges, Timeout}
 use Rattle.bw_args.specs.declared.bad_value.BadValue.TheVariants.{Recorders, Idle, Wait}
-use Rattle.bw_args.specs.declared.bad_value.BadValue.TheVariants.{UntilStopped, Sync, Connect, Rounds}
+use Rattle.bw_args.specs.declared.bad_value.BadValue.TheVariants.{UntilStopped, Sync, GiveUp, Connect, Rounds}
 use Rattle.bw_args.specs.declared.bad_value.BadValue.TheVariants.{Fruitless, Mixed, Pcm, Skip, Block}
 use Rattle.bw_args.specs.declared.bad_value.BadValue.TheVariants.{MixedSamples}
+use Rattle.bw_args.specs.declared.folders.FolderWork.{FolderWork}
 use Rattle.bw_args.specs.declared.peers.End.{End}
 use Rattle.bw_args.specs.declared.peers.End.TheVariants as when
 use Rattle.bw_args.specs.declared.peers.Journaling.{Journaling}
@@ -87,7 +89,8 @@ pub record PcmUpload : Type 0 where
 -- what may be asked for: a replay with this limit, in which the call of this number fails, or none;
 -- a rehearsal of the take of this name, with this limit; to inspect the file of this path, or files;
 -- a server or a sender; the sender of a recording, of headerless samples, or a recording's requests;
--- the sizes that the file of this path lacks, to be written or not; the takes of a folder
+-- the sizes that the file of this path lacks, to be written or not; what is done with the takes of a
+-- folder
 pub data Wish : Type 0 where
   Replaying : ℕ → Option ℕ → Wish
   Rehearsing : Text → ℕ → Wish
@@ -99,7 +102,7 @@ pub data Wish : Type 0 where
   SendingPcm : PcmUpload → Wish
   Packing : PlainSource → Wish
   Repairing : Text → Bool → Wish
-  Listing : Text → Wish
+  Listing : Text → FolderWork → Wish
 
 -- what a task is about
 abbrev pub wish_of : Task → Wish
@@ -137,7 +140,7 @@ wish_of (SendPcm sender) = SendingPcm (record {
 })
 wish_of (Pack source) = Packing (in_plain source)
 wish_of (Repair file write) = Repairing (string_bytes file) write
-wish_of (Takes listing) = Listing (string_bytes listing.folder)
+wish_of (Takes listing) = Listing (string_bytes listing.folder) listing.work
 
 -- what is given is this server
 pub record GivesServer (given : Text → Option Text) (server : Service) : Type 0 where
@@ -221,8 +224,9 @@ IsWishOf (Some command) (Packing source) =
 IsWishOf (Some command) (Repairing path write) =
     (command.0 ≡ codes "repair") × (first_of (codes "file") command.1 ≡ Some path)
     × (write ≡ is_set (first_of (codes "write") command.1))
-IsWishOf (Some command) (Listing folder) =
+IsWishOf (Some command) (Listing folder work) =
     (command.0 ≡ codes "takes") × GivesFolder (given_on_line command.1 (codes "folder")) folder
+    × GivesWork (given_on_line command.1) work
 
 -- they ask for nothing
 abbrev pub AsksNothing : Option (Text × List Row) → Type 0
@@ -240,7 +244,7 @@ HasPath (Uploading sender) = ⊤
 HasPath (SendingPcm sender) = ⊤
 HasPath (Packing source) = ⊤
 HasPath (Repairing path write) = ⊤
-HasPath (Listing folder) = ⊤
+HasPath (Listing folder work) = ⊤
 
 -- they ask for something of which a path is kept
 abbrev pub AsksForPath : Option (Text × List Row) → Type 0
@@ -265,6 +269,7 @@ IsGood UntilStopped given = (end : End)
     × GivesEnd (given (codes "exchanges")) (is_set (given (codes "until-stopped"))) end
 IsGood Sync given = (journal : Journaling)
     × IsJournaling (is_set (given (codes "journal"))) (is_set (given (codes "sync"))) journal
+IsGood GiveUp given = (work : FolderWork) × GivesWork given work
 IsGood Connect given = (address : SocketAddr)
     × GivesAddress (is_set (given (codes "network"))) (given (codes "connect")) address
 IsGood Rounds given = (count : Option ℕ) × GivesCount most_rounds (given (codes "rounds")) count
@@ -296,7 +301,7 @@ looked_at command = if bytes_eq command (codes "replay") then Limit ∷ Fuse ∷
     then Listen ∷ Folder ∷ Exchanges ∷ Limit ∷ (looked_at_waiting ++ UntilStopped ∷ Sync ∷ [])
     else (if bytes_eq command (codes "send")
     then Connect ∷ Name ∷ (looked_at_trying ++ Mixed ∷ looked_at_samples)
-    else (if bytes_eq command (codes "takes") then Folder ∷ [] else []))))
+    else (if bytes_eq command (codes "takes") then Folder ∷ GiveUp ∷ [] else []))))
 
 -- of these values, in this order, it is the first that is bad
 abbrev pub IsFirstBad : List BadValue → (Text → Option Text) → BadValue → Type 0

@@ -29,6 +29,8 @@ pub enum BadValue {
     UntilStopped,
     /// `--sync` without `--journal`.
     Sync,
+    /// The name of a take that is given up, or other options of `takes` beside it.
+    GiveUp,
     /// The address of the server that requests are sent to.
     Connect,
     /// How many exchanges a sender makes.
@@ -66,6 +68,7 @@ impl BadValue {
             BadValue::Wait => BAD_WAIT,
             BadValue::UntilStopped => BAD_UNTIL_STOPPED,
             BadValue::Sync => BAD_SYNC,
+            BadValue::GiveUp => BAD_GIVE_UP,
             BadValue::Connect => BAD_CONNECT,
             BadValue::Rounds => BAD_ROUNDS,
             BadValue::Fruitless => BAD_FRUITLESS,
@@ -168,6 +171,14 @@ For more information, try '--help'.
 
 const BAD_SYNC: &str = "\
 error: '--sync' is for '--journal'
+
+Usage: bwingest <COMMAND>
+
+For more information, try '--help'.
+";
+
+const BAD_GIVE_UP: &str = "\
+error: '--give-up <NAME>' takes 1 to 32 bytes of a-z, 0-9, '-' and '_', without '--check' and '--json'
 
 Usage: bwingest <COMMAND>
 

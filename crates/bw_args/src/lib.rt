@@ -26,7 +26,7 @@ pub use bad_value::BadValue;
 use bw_request::Name;
 use clap::Error;
 use clap::error::ErrorKind;
-pub use folders::TakesFolder;
+pub use folders::{FolderWork, TakesFolder};
 pub use inspection::Inspection;
 pub use peers::{End, Journaling, Recorders, Send, Serve};
 pub use recordings::{FileSender, PcmSender, PcmSource, SourceFile};
@@ -58,7 +58,7 @@ pub enum Task {
     Pack(SourceFile),
     /// Report which sizes the file at this path lacks; write them into it, if `write` says so.
     Repair { file: String, write: bool },
-    /// Report the takes of a folder.
+    /// Report the takes of a folder, or give one of them up.
     Takes(TakesFolder),
 }
 

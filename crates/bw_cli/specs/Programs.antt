@@ -29,7 +29,7 @@ use Rattle.bw_ports.specs.declared.listener_setup.ListenerSetup.{Ghosts as Liste
 use Rattle.bw_ports.specs.declared.starts.Starts.{Ghosts as StartGhosts}
 use Rattle.bw_session.specs.declared.server.Server.{Server}
 use Rattle.bw_cli.specs.Inspected.{InspectsFiles}
-use Rattle.bw_cli.specs.Listed.{ShowsTakes}
+use Rattle.bw_cli.specs.Listed.{WorksOnTakes, folder_side}
 use Rattle.bw_cli.specs.Packed.{Packs}
 use Rattle.bw_cli.specs.Repaired.{RepairsFile}
 use Rattle.bw_cli.specs.Remote.{Sends, ServesByRule}
@@ -101,7 +101,7 @@ abbrev pub IsUnread : Bool → Outcome → Type 0
 IsUnread true did = IsOutOfMemory did
 IsUnread false did = (kind : ErrorKind) × IsBadArgv kind did
 
-module _ {S T F H G M Ed DK DF N X Y Z P R W L K D A B U J Q I O E V C : Type 0} (host : HostSide S T F H G M Ed DK DF I O E)
+module _ {S T F H G M Ed LK DK DF N X Y Z P R W L K D A B U J Q I O E V C : Type 0} (host : HostSide S T F H G M Ed LK DK DF I O E)
     (server_side : ServerSide X Y Z P R W L K N) (sender_side : SenderSide D A B)
     (upload_side : UploadSide U J Q) (network : NetworkGhosts N X P D R W A B) (listener_setup : ListenerSetupGhosts N L K)
     (starter : StartGhosts N (Server X Y server_side.store server_side.journal)) where
@@ -158,9 +158,9 @@ module _ {S T F H G M Ed DK DF N X Y Z P R W L K D A B U J Q I O E V C : Type 0}
       × IsHostWell failed x' × (x'.network ≡ x.network) × (x'.input ≡ x.input)
       × (x'.pause ≡ x.pause) × (x'.disk ≡ x.disk)
   IsDoneFor file_at failed (Run (Takes listing)) exit x x' =
-      ShowsTakes host.disk host.out host.reported listing exit
-      x.disk x'.disk x.out x'.out x.faults x'.faults
-      × IsHostWell failed x' × (x'.files ≡ x.files) × (x'.network ≡ x.network)
+      WorksOnTakes (folder_side host.disk host.locks host.out host.reported) listing exit
+      x.disk x'.disk x.files x'.files x.out x'.out x.faults x'.faults
+      × IsHostWell failed x' × (x'.network ≡ x.network)
       × (x'.input ≡ x.input) × (x'.pause ≡ x.pause)
   IsDoneFor file_at failed line exit x x' =
       DoesAlone (IsLineDone file_at (host.input.left x.input) line) exit failed x x'

@@ -10,7 +10,7 @@ ghost use Rattle.bw_send_file.specs.FileLooks.{LooksAt};
 ghost use Rattle.bw_cli.specs.Programs.{IsDoneFor, IsProgram, IsReporting};
 ghost use Rattle.bw_cli.specs.Sides.{host_side, sender_side, server_side, upload_side};
 
-use crate::folders::list_takes;
+use crate::folders::work_on_takes;
 use crate::inspections::inspect_as;
 use crate::outside::Outside;
 use crate::recordings::pack_as;
@@ -26,6 +26,7 @@ use bw_disk::Volume;
 use bw_edit::EditedFiles;
 use bw_journal::{Journal, NoJournal};
 use bw_layout::Limit;
+use bw_lock::FolderLocks;
 use bw_one_name::NameRule;
 use bw_ports::{ListenerSetup, Network, Pause, RecordingFiles, Starts, System, Watch};
 use bw_repair_file::repair_file;
@@ -47,7 +48,7 @@ use std::process::ExitCode;
 /// - The texts of help, version and usage errors.
 pub fn start<
     S: System,
-    F: RecordingFiles + EditedFiles,
+    F: RecordingFiles + EditedFiles + FolderLocks,
     D: Volume,
     J: Journal,
     N: Network + ListenerSetup + Starts<Server<N::Store, J>> + NameRule,
@@ -59,7 +60,7 @@ pub fn start<
     G: Observer,
 >(alloc: Global, outside: &mut Outside<S, F, D, N, P, R, W, E, V, G>) -> ExitCode
     ensures { (exit : Exit) × (exit_status result ≡ status_of exit) × IsProgram
-        (host_side S.System F.RecordingFiles F.EditedFiles D.Disk R.Source W.Sink E.Sink)
+        (host_side S.System F.RecordingFiles F.EditedFiles F.FolderLocks D.Disk R.Source W.Sink E.Sink)
         (server_side N.Store.TakeStore J.Journal ⟦<NoJournal as Journal>⟧ N.Peers.Peers
         N.Peers.Reader.Source N.Peers.Writer.Sink N.Reactor.Reactor N.Reactor.Link.Link N.NameRule)
         (sender_side N.Dial.Dial N.Dial.Reader.Source N.Dial.Writer.Sink)
@@ -73,7 +74,7 @@ pub fn start<
 /// Reads the command line, and does what it asks for.
 fn obey<
     S: System,
-    F: RecordingFiles + EditedFiles,
+    F: RecordingFiles + EditedFiles + FolderLocks,
     D: Volume,
     J: Journal,
     N: Network + ListenerSetup + Starts<Server<N::Store, J>> + NameRule,
@@ -84,7 +85,7 @@ fn obey<
     V: Watch,
     G: Observer,
 >(alloc: Global, outside: &mut Outside<S, F, D, N, P, R, W, E, V, G>) -> Exit
-    ensures { IsProgram (host_side S.System F.RecordingFiles F.EditedFiles D.Disk R.Source W.Sink E.Sink)
+    ensures { IsProgram (host_side S.System F.RecordingFiles F.EditedFiles F.FolderLocks D.Disk R.Source W.Sink E.Sink)
         (server_side N.Store.TakeStore J.Journal ⟦<NoJournal as Journal>⟧ N.Peers.Peers
         N.Peers.Reader.Source N.Peers.Writer.Sink N.Reactor.Reactor N.Reactor.Link.Link N.NameRule)
         (sender_side N.Dial.Dial N.Dial.Reader.Source N.Dial.Writer.Sink)
@@ -101,7 +102,7 @@ fn obey<
 /// Does what these words ask for.
 fn answer<
     S: System,
-    F: RecordingFiles + EditedFiles,
+    F: RecordingFiles + EditedFiles + FolderLocks,
     D: Volume,
     J: Journal,
     N: Network + ListenerSetup + Starts<Server<N::Store, J>> + NameRule,
@@ -112,7 +113,7 @@ fn answer<
     V: Watch,
     G: Observer,
 >(alloc: Global, words: &[String], outside: &mut Outside<S, F, D, N, P, R, W, E, V, G>) -> Exit
-    ensures { IsProgram (host_side S.System F.RecordingFiles F.EditedFiles D.Disk R.Source W.Sink E.Sink)
+    ensures { IsProgram (host_side S.System F.RecordingFiles F.EditedFiles F.FolderLocks D.Disk R.Source W.Sink E.Sink)
         (server_side N.Store.TakeStore J.Journal ⟦<NoJournal as Journal>⟧ N.Peers.Peers
         N.Peers.Reader.Source N.Peers.Writer.Sink N.Reactor.Reactor N.Reactor.Link.Link N.NameRule)
         (sender_side N.Dial.Dial N.Dial.Reader.Source N.Dial.Writer.Sink)
@@ -129,7 +130,7 @@ fn answer<
 /// Does what a command line asks for.
 fn perform<
     S: System,
-    F: RecordingFiles + EditedFiles,
+    F: RecordingFiles + EditedFiles + FolderLocks,
     D: Volume,
     J: Journal,
     N: Network + ListenerSetup + Starts<Server<N::Store, J>> + NameRule,
@@ -141,7 +142,7 @@ fn perform<
     G: Observer,
 >(alloc: Global, line: &CommandLine, outside: &mut Outside<S, F, D, N, P, R, W, E, V, G>) -> Exit
     requires { HasNumbersInRange line.now }
-    ensures { IsDoneFor (host_side S.System F.RecordingFiles F.EditedFiles D.Disk R.Source W.Sink E.Sink)
+    ensures { IsDoneFor (host_side S.System F.RecordingFiles F.EditedFiles F.FolderLocks D.Disk R.Source W.Sink E.Sink)
         (server_side N.Store.TakeStore J.Journal ⟦<NoJournal as Journal>⟧ N.Peers.Peers
         N.Peers.Reader.Source N.Peers.Writer.Sink N.Reactor.Reactor N.Reactor.Link.Link N.NameRule)
         (sender_side N.Dial.Dial N.Dial.Reader.Source N.Dial.Writer.Sink)
@@ -163,7 +164,7 @@ fn perform<
 /// Runs a task.
 fn run<
     S: System,
-    F: RecordingFiles + EditedFiles,
+    F: RecordingFiles + EditedFiles + FolderLocks,
     D: Volume,
     J: Journal,
     N: Network + ListenerSetup + Starts<Server<N::Store, J>> + NameRule,
@@ -175,7 +176,7 @@ fn run<
     G: Observer,
 >(alloc: Global, task: &Task, outside: &mut Outside<S, F, D, N, P, R, W, E, V, G>) -> Exit
     requires { HasNumbersInRange (CommandLine.Run task.now) }
-    ensures { IsDoneFor (host_side S.System F.RecordingFiles F.EditedFiles D.Disk R.Source W.Sink E.Sink)
+    ensures { IsDoneFor (host_side S.System F.RecordingFiles F.EditedFiles F.FolderLocks D.Disk R.Source W.Sink E.Sink)
         (server_side N.Store.TakeStore J.Journal ⟦<NoJournal as Journal>⟧ N.Peers.Peers
         N.Peers.Reader.Source N.Peers.Writer.Sink N.Reactor.Reactor N.Reactor.Link.Link N.NameRule)
         (sender_side N.Dial.Dial N.Dial.Reader.Source N.Dial.Writer.Sink)
@@ -228,7 +229,7 @@ fn run<
         Task::Repair { file, write } => {
             repair_file(alloc, files, file.as_str(), *write, out, faults)
         }
-        Task::Takes(listing) => list_takes(alloc, listing, disk, out, faults),
+        Task::Takes(listing) => work_on_takes(alloc, listing, disk, files, out, faults),
     }
 }
 

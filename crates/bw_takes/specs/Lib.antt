@@ -1,5 +1,10 @@
 pub mod TakeNames
 pub mod TakeFindings
 pub mod TakeLines
+pub mod TakeSamples
+pub mod TakeSummaries
+pub mod TakeObjects
 pub mod TakeReports
 pub mod Showings
+pub mod GivenUp
+pub mod GiveUpShowings

@@ -23,7 +23,7 @@ use bw_take::TakeState;
 use std::alloc::Global;
 
 /// Journals have at most this many bytes.
-const JOURNAL_MAX: usize = 1 << 40;
+pub(crate) const JOURNAL_MAX: usize = 1 << 40;
 
 /// How a journal of the largest limit begins, but for its first eight bytes.
 const USUAL_FRONT: [u8; 12] = [0, 0, 0, 0, 0, 0, 0, 0, 254, 255, 255, 255];
@@ -39,10 +39,13 @@ pub enum TakeFinding {
     Refused(NameFault),
     /// Its journal says this, and its file fits.
     Begun(Replayed),
+    /// The samples of this number, the first one, aren't those that its journal has the digest of;
+    /// all else fits.
+    Changed(u32),
 }
 
-/// What is found of a take in a folder, by the limit that its journal begins with. Nothing is
-/// changed.
+/// What is found of a take in a folder, by the limit that its journal begins with; no sample is
+/// read. Nothing is changed.
 ///
 /// A server may be writing meanwhile: a file that only grew after its journal was read isn't too
 /// long.
@@ -54,7 +57,7 @@ pub enum TakeFinding {
 /// # Not specified
 /// - When memory is refused.
 /// - What is found while others write.
-pub fn look_at_take<D: Volume>(
+pub(crate) fn look_at_take<D: Volume>(
     alloc: Global,
     disk: &mut D,
     folder: &str,

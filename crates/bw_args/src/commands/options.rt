@@ -7,7 +7,7 @@ ghost use Rattle.bw_args.specs.Commands.{file_option, fruitless_option, journal_
 ghost use Rattle.bw_args.specs.Commands.{rounds_option, set_option, strict_flag, sync_flag};
 ghost use Rattle.bw_args.specs.Commands.{timeout_option, until_stopped_flag, block_option, follow_flag};
 ghost use Rattle.bw_args.specs.Commands.{pcm_option, skip_option, until_option, files_argument, json_flag};
-ghost use Rattle.bw_args.specs.Commands.{write_flag};
+ghost use Rattle.bw_args.specs.Commands.{check_flag, give_up_option, write_flag};
 
 use clap::{Arg, ArgAction};
 use std::alloc::Global;
@@ -91,6 +91,28 @@ pub(crate) fn json_flag<'a>(alloc: Global) -> Arg<'a>
 {
     let help = "Prints a line of JSON for each file";
     flag_option(alloc, "json", help)
+}
+
+/// The same flag of the takes of a folder.
+pub(crate) fn take_json_flag<'a>(alloc: Global) -> Arg<'a>
+    ensures { IsOption json_flag result }
+{
+    let help = "Prints a line of JSON for each take";
+    flag_option(alloc, "json", help)
+}
+
+pub(crate) fn check_flag<'a>(alloc: Global) -> Arg<'a>
+    ensures { IsOption check_flag result }
+{
+    let help = "Compares the samples of each file with the digests in its journal";
+    flag_option(alloc, "check", help)
+}
+
+pub(crate) fn give_up_option<'a>(alloc: Global) -> Arg<'a>
+    ensures { IsOption give_up_option result }
+{
+    let help = "Renames the journal and the file of this take, so that its name is free again";
+    value_option(alloc, "give-up", "NAME", help)
 }
 
 pub(crate) fn timeout_option<'a>(alloc: Global) -> Arg<'a>

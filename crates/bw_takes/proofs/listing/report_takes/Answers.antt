@@ -12,9 +12,9 @@ loop-name-preserved g c =
     let r = c.in_ok-put_take.ensures in
     record {
       disk = whole_next g.D.Disk _ _ _ i.disk r.disk;
-      lines = λ honest. line_next g.D.Disk c.args.folder.now c.args.disk.now c.loop-name.disk i.disk honest
+      lines = λ honest. line_next g.D.Disk c.args.style c.args.depth c.args.folder.now c.args.disk.now c.loop-name.disk i.disk honest
           c.loop-name.yielded c.in-Some.name _ _ (i.lines honest) r.line;
-      sound = λ honest. sound_next g.D.Disk c.args.folder.now c.args.disk.now c.loop-name.disk i.disk honest
+      sound = λ honest. sound_next g.D.Disk c.args.style c.args.depth c.args.folder.now c.args.disk.now c.loop-name.disk i.disk honest
           c.loop-name.yielded c.in-Some.name _ _ (i.sound honest) r.sound;
     }
 
@@ -26,6 +26,6 @@ returns-clause-report g c = λ honest.
       names = c.in_ok-names.names.keys;
       ordered = c.in_ok-names.ensures.ordered;
       lists = c.in_ok-names.ensures.each honest;
-      text = i.lines honest ∙ ap (flat_map (line_in c.args.folder.now (g.D.Disk.contents c.args.disk.now))) all;
-      clear = i.sound honest ∙ ap (list_all (is_sound_in c.args.folder.now (g.D.Disk.contents c.args.disk.now))) all;
+      text = i.lines honest ∙ ap (flat_map (line_in c.args.style c.args.depth c.args.folder.now (g.D.Disk.contents c.args.disk.now))) all;
+      clear = i.sound honest ∙ ap (list_all (is_sound_in c.args.depth c.args.folder.now (g.D.Disk.contents c.args.disk.now))) all;
     }
