@@ -12,7 +12,7 @@ _bwingest() {
     case ${COMP_WORDS[1]} in
     serve) options='--listen --folder --exchanges --limit --timeout --network --recorders --idle --until-stopped --log --journal --sync --one-name --help' ;;
     send) options='--connect --name --rounds --timeout --network --file --set --strict --fruitless --log --pcm --skip --block --follow --until --help' ;;
-    inspect) options='--json --help' ;;
+    inspect) options='--json --human --digest --help' ;;
     pack) options='--set --strict --help' ;;
     repair) options='--write --help' ;;
     takes) options='--folder --help' ;;

@@ -14,7 +14,7 @@ use Rattle.bw_args.specs.Given.{GivesAddress, GivesCount, GivesCountOr, GivesEnd
 use Rattle.bw_args.specs.Given.{GivesNoFuse, GivesRecorders, IsAddressGiven, IsEnd, IsEndGiven, IsLimitGiven, IsNameGiven}
 use Rattle.bw_args.specs.Given.{IsJournaling, IsJournalingGiven, IsRecorders, IsRecordersGiven, given_on_line, is_set}
 use Rattle.bw_args.specs.Sources.{GivesSource, PlainSource, is_mixed, settings_on_line}
-use Rattle.bw_args.specs.Inspecting.{GivesInspection, PlainInspection}
+use Rattle.bw_args.specs.Inspecting.{GivesInspection, PlainInspection, is_possible, one_file}
 use Rattle.bw_args.specs.Lines.{AsksForPath, AsksNothing, GivesSender, GivesServer, GivesTries, HasNumbersInRange}
 use Rattle.bw_args.specs.Lines.{IsEndWithin, IsFirstBad, IsGood, IsLineFor, IsWayWithin, IsWishOf, IsWithin, Service}
 use Rattle.bw_args.specs.Lines.{FileUpload, Wish, looked_at, looked_at_trying, looked_at_waiting}
@@ -35,7 +35,7 @@ use Rattle.bw_args.specs.declared.peers.Journaling.{Journaling}
 use Rattle.bw_args.specs.declared.peers.Recorders.{Recorders as Way}
 use Rattle.bw_args.specs.declared.peers.Send.{Send as Sender}
 use Rattle.bw_args.specs.declared.bad_value.BadValue.{BadValue}
-use Rattle.bw_args.specs.declared.bad_value.BadValue.TheVariants.{Name, Limit, Fuse, UntilStopped, Sync, Wait}
+use Rattle.bw_args.specs.declared.bad_value.BadValue.TheVariants.{Name, Limit, Fuse, UntilStopped, Sync, Wait, Inspection}
 
 -- the value that is looked at first is good, and one after it is bad
 infixr 20 ◌and_then◌
@@ -288,24 +288,79 @@ name_alone_line found name named given = bad_line found (codes "rehearse") Limit
 -- the files to inspect that are given are those that are asked for
 pub inspection_asked : (found : Found) (inspection : PlainInspection)
     → Some inspection.files ≡ option_map raw_values (matched_of found (codes "file"))
-    → inspection.json ≡ is_set (first_value found (codes "json")) → GivesInspection (rows_of found) inspection
-inspection_asked found inspection given prints = record {
+    → inspection.json ≡ is_set (first_value found (codes "json"))
+    → inspection.human ≡ is_set (first_value found (codes "human"))
+    → inspection.digest ≡ is_set (first_value found (codes "digest"))
+    → is_possible inspection.files inspection.json inspection.human inspection.digest ≡ true
+    → GivesInspection (rows_of found) inspection
+inspection_asked found inspection given prints explains digests possible = record {
   from = sym (given ∙ raw_values-rows found (codes "file"));
   prints = by_rows found (λ g. inspection.json ≡ is_set (g (codes "json"))) prints;
+  explains = by_rows found (λ g. inspection.human ≡ is_set (g (codes "human"))) explains;
+  digests = by_rows found (λ g. inspection.digest ≡ is_set (g (codes "digest"))) digests;
+  possible = possible;
 }
 
--- without one, nothing is asked for, and no value is looked at
-pub no_file_line : (found : Found) → None ≡ option_map raw_values (matched_of found (codes "file"))
-    → IsLineFor (Some (codes "inspect", rows_of found)) (Bad Limit)
-no_file_line found given = (nothing, inr (refl, refl))
-  where
-    none : None ≡ all_of (codes "file") (rows_of found)
-    none = given ∙ raw_values-rows found (codes "file")
+-- one file is asked for, and no option
+no_option : (json human digest optioned : Bool) → optioned ≡ (json || (human || digest)) → optioned ≡ false
+    → (json ≡ false) × (human ≡ false) × (digest ≡ false)
+no_option false false false optioned is none = (refl, refl, refl)
+no_option true human digest optioned is none = let bad : true ≡ false = sym is ∙ none in cc
+no_option false true digest optioned is none = let bad : true ≡ false = sym is ∙ none in cc
+no_option false false true optioned is none = let bad : true ≡ false = sym is ∙ none in cc
 
-    nothing : AsksNothing (Some (codes "inspect", rows_of found))
-    nothing (Inspecting path) asked = let bad : None ≡ Some (path ∷ []) = none ∙ asked.1.from in cc
-    nothing (InspectingFiles inspection) asked = let bad : None ≡ Some inspection.files = none ∙ asked.1.from in cc
-    nothing wish asked = other_name (refl {a = codes "inspect"}) asked.0 refl
+pub only_asked : (found : Found) (files : List Text) (path : Text) (json human digest optioned : Bool) → files ≡ path ∷ []
+    → Some files ≡ option_map raw_values (matched_of found (codes "file"))
+    → json ≡ is_set (first_value found (codes "json")) → human ≡ is_set (first_value found (codes "human"))
+    → digest ≡ is_set (first_value found (codes "digest")) → optioned ≡ (json || (human || digest)) → optioned ≡ false
+    → GivesInspection (rows_of found) (one_file path)
+only_asked found files path json human digest optioned one given prints explains digests is none =
+    let without = no_option json human digest optioned is none in
+    inspection_asked found (one_file path) (ap Some (sym one) ∙ given) (sym without.0 ∙ prints) (sym without.1 ∙ explains)
+    (sym without.2 ∙ digests) refl
+
+-- options by which nothing can be inspected ask for nothing
+pub nothing_inspected : (command : Text × List Row) → command.0 ≡ codes "inspect"
+    → ((i : PlainInspection) → ¬ GivesInspection command.1 i) → AsksNothing (Some command)
+nothing_inspected command is none (Inspecting path) asked = none (one_file path) asked.1
+nothing_inspected command is none (InspectingFiles inspection) asked = none inspection asked.1
+nothing_inspected command is none wish asked = other_name is asked.0 refl
+
+-- without a file, nothing is asked for, and no value is looked at
+pub no_file_line : (found : Found) → None ≡ option_map raw_values (matched_of found (codes "file"))
+    → IsLineFor (Some (codes "inspect", rows_of found)) (Bad Inspection)
+no_file_line found given = (nothing_inspected _ refl nothing, inr (refl, refl))
+  where
+    nothing : (i : PlainInspection) → ¬ GivesInspection (rows_of found) i
+    nothing i asked = let bad : None ≡ Some i.files = given ∙ raw_values-rows found (codes "file") ∙ asked.from in cc
+
+-- nor with files that can't be inspected so
+pub clashing : (options : List Row) (files : List Text) (json human digest : Bool) → all_of (codes "file") options ≡ Some files
+    → json ≡ is_set (given_on_line options (codes "json")) → human ≡ is_set (given_on_line options (codes "human"))
+    → digest ≡ is_set (given_on_line options (codes "digest")) → is_possible files json human digest ≡ false
+    → (i : PlainInspection) → ¬ GivesInspection options i
+clashing options files json human digest given prints explains digests clash i asked =
+    let from : Some files ≡ Some i.files = sym given ∙ asked.from in
+    let same : files ≡ i.files = cc in
+    let printed : json ≡ i.json = prints ∙ sym asked.prints in
+    let explained : human ≡ i.human = explains ∙ sym asked.explains in
+    let digested : digest ≡ i.digest = digests ∙ sym asked.digests in
+    let as_asked : is_possible files json human digest ≡ true = rw (same, printed, explained, digested) asked.possible in
+    let bad : true ≡ false = sym as_asked ∙ clash in cc
+
+pub clashing_line : (found : Found) (files : List Text) (json human digest : Bool)
+    → Some files ≡ option_map raw_values (matched_of found (codes "file"))
+    → json ≡ is_set (first_value found (codes "json")) → human ≡ is_set (first_value found (codes "human"))
+    → digest ≡ is_set (first_value found (codes "digest")) → is_possible files json human digest ≡ false
+    → IsLineFor (Some (codes "inspect", rows_of found)) (Bad Inspection)
+clashing_line found files json human digest given prints explains digests clash = (
+  nothing_inspected _ refl (clashing (rows_of found) files json human digest
+      (sym (given ∙ raw_values-rows found (codes "file")))
+      (by_rows found (λ g. json ≡ is_set (g (codes "json"))) prints)
+      (by_rows found (λ g. human ≡ is_set (g (codes "human"))) explains)
+      (by_rows found (λ g. digest ≡ is_set (g (codes "digest"))) digests) clash),
+  inr (refl, refl),
+)
 
 -- the file to pack that is given is the one that is asked for
 pub source_asked : (found : Found) (path : Text) (source : PlainSource) → Some path ≡ first_value found (codes "file")

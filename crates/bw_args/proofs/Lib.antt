@@ -4,6 +4,7 @@ pub mod WishLemmas
 pub mod Asked
 pub mod LineLemmas
 pub mod FormLemmas
+pub mod InspectLemmas
 pub mod ValueLemmas
 pub mod RehearsalLemmas
 pub mod ServerLemmas

@@ -19,7 +19,7 @@ use Rattle.bw_args.specs.Lines.{FileUpload, PcmUpload, Wish, Inspecting, Packing
 use Rattle.bw_args.specs.Lines.{Sending, SendingPcm, Serving, Uploading, InspectingFiles, Repairing, Listing}
 use Rattle.bw_args.specs.Numbers.{most_block, most_exchanges, most_fruitless, most_recorders, most_seconds}
 use Rattle.bw_args.specs.Numbers.{number_written}
-use Rattle.bw_args.specs.Inspecting.{GivesInspection, PlainInspection, is_alone}
+use Rattle.bw_args.specs.Inspecting.{GivesInspection, PlainInspection, has_option, is_alone, one_file}
 use Rattle.bw_args.specs.declared.peers.End.{End}
 use Rattle.bw_args.specs.declared.peers.Journaling.{Journaling}
 use Rattle.bw_args.specs.declared.peers.Recorders.{Recorders as Way}
@@ -215,15 +215,18 @@ one_inspection : (options : List Row) (a b : PlainInspection) → GivesInspectio
 one_inspection options a b x y =
     let from : Some a.files ≡ Some b.files = sym x.from ∙ y.from in
     let files : a.files ≡ b.files = cc in
-    λ i. record { files = files i; json = (x.prints ∙ sym y.prints) i }
+    let prints = x.prints ∙ sym y.prints in
+    let explains = x.explains ∙ sym y.explains in
+    let digests = x.digests ∙ sym y.digests in
+    λ i. record { files = files i; json = prints i; human = explains i; digest = digests i }
 
 -- one file is reported as it always is, or not
 not_alone : (options : List Row) (path : Text) (inspection : PlainInspection)
-    → GivesInspection options (record { files = path ∷ []; json = false }) → GivesInspection options inspection
-    → ¬ (is_alone inspection.files inspection.json ≡ false)
+    → GivesInspection options (one_file path) → GivesInspection options inspection
+    → ¬ (is_alone inspection.files (has_option inspection) ≡ false)
 not_alone options path inspection one other several =
-    let same = one_inspection options (record { files = path ∷ []; json = false }) inspection one other in
-    let bad : true ≡ false = subst (λ (i : PlainInspection). is_alone i.files i.json ≡ false) (sym same) several in cc
+    let same = one_inspection options (one_file path) inspection one other in
+    let bad : true ≡ false = subst (λ (i : PlainInspection). is_alone i.files (has_option i) ≡ false) (sym same) several in cc
 
 -- a recording's file is given, or none
 no_lines : (options : List Row) (sender : Sender) (upload : FileUpload) → GivesSender (given_on_line options) sender

@@ -7,7 +7,7 @@ use Rattle.bw_args.specs.declared.bad_value.BadValue.TheVariants.{Folder, Exchan
 use Rattle.bw_args.specs.declared.bad_value.BadValue.TheVariants.{Recorders, Idle, Wait}
 use Rattle.bw_args.specs.declared.bad_value.BadValue.TheVariants.{UntilStopped, Sync, Connect, Rounds}
 use Rattle.bw_args.specs.declared.bad_value.BadValue.TheVariants.{Fruitless, Mixed, Pcm, Skip, Block}
-use Rattle.bw_args.specs.declared.bad_value.BadValue.TheVariants.{MixedSamples}
+use Rattle.bw_args.specs.declared.bad_value.BadValue.TheVariants.{MixedSamples, Inspection}
 
 -- what an address is
 abbrev pub address_wanted : Text
@@ -48,6 +48,8 @@ fault_said Block =
     codes "'--block <FRAMES>' takes a number from 1 to 4294967295, in at most ten digits"
 fault_said MixedSamples = codes "'--pcm' is for '--file <FILE>', '--skip', '--block', '--follow' for "
     ++ codes "'--pcm'; '--follow' goes with '--until <END>'"
+fault_said Inspection = codes "'--json' can't be given beside '--human', and '-', which is read once, "
+    ++ codes "beside another file or '--digest'"
 
 -- the end of a line, and an empty line
 abbrev pub line_and_gap : Text

@@ -72,9 +72,21 @@ files_argument = record file_argument { action = Some Append }
 abbrev pub json_flag : Rule
 json_flag = flag (codes "json")
 
--- `inspect`, with the files and its option
+-- `--human`
+abbrev pub human_flag : Rule
+human_flag = flag (codes "human")
+
+-- `--digest`
+abbrev pub digest_flag : Rule
+digest_flag = flag (codes "digest")
+
+-- `inspect`, with the files and `--json`
+abbrev pub inspect_texts : App
+inspect_texts = with_rule (with_rule (new_app (codes "inspect")) files_argument) json_flag
+
+-- .. and its other options
 abbrev pub inspect_command : App
-inspect_command = with_rule (with_rule (new_app (codes "inspect")) files_argument) json_flag
+inspect_command = with_rule (with_rule inspect_texts human_flag) digest_flag
 
 -- `--listen ADDR`
 abbrev pub listen_option : Rule

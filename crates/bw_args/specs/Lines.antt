@@ -22,7 +22,8 @@ use Rattle.clap.specs.declared.error.ErrorKind.TheVariants.{OutOfMemory}
 use Rattle.bw_args.specs.Numbers.{IsLimitValue, default_fruitless, default_timeout, most_exchanges}
 use Rattle.bw_args.specs.Numbers.{most_block, most_fruitless, most_recorders, most_rounds, most_seconds}
 use Rattle.bw_args.specs.Commands.{command_line}
-use Rattle.bw_args.specs.Inspecting.{GivesInspection, PlainInspection, inspection_in_plain, is_alone}
+use Rattle.bw_args.specs.Inspecting.{GivesInspection, PlainInspection, has_option, inspection_in_plain}
+use Rattle.bw_args.specs.Inspecting.{is_alone, one_file}
 use Rattle.bw_args.specs.Sources.{GivesSource, PlainSource, in_plain, is_mixed}
 use Rattle.bw_args.specs.PcmSources.{GivesFormat, GivesNumber, GivesSamples, PlainPcm}
 use Rattle.bw_args.specs.PcmSources.{are_samples_mixed, fruitless_of, plain_pcm}
@@ -35,7 +36,7 @@ use Rattle.bw_args.specs.declared.bad_value.BadValue.TheVariants.{Folder, Exchan
 use Rattle.bw_args.specs.declared.bad_value.BadValue.TheVariants.{Recorders, Idle, Wait}
 use Rattle.bw_args.specs.declared.bad_value.BadValue.TheVariants.{UntilStopped, Sync, Connect, Rounds}
 use Rattle.bw_args.specs.declared.bad_value.BadValue.TheVariants.{Fruitless, Mixed, Pcm, Skip, Block}
-use Rattle.bw_args.specs.declared.bad_value.BadValue.TheVariants.{MixedSamples}
+use Rattle.bw_args.specs.declared.bad_value.BadValue.TheVariants.{MixedSamples, Inspection}
 use Rattle.bw_args.specs.declared.peers.End.{End}
 use Rattle.bw_args.specs.declared.peers.End.TheVariants as when
 use Rattle.bw_args.specs.declared.peers.Journaling.{Journaling}
@@ -204,10 +205,10 @@ IsWishOf (Some command) (Rehearsing name limit) =
     × GivesLimit (first_of (codes "limit") command.1) limit
 IsWishOf (Some command) (Inspecting path) =
     (command.0 ≡ codes "inspect")
-    × GivesInspection command.1 (record { files = path ∷ []; json = false })
+    × GivesInspection command.1 (one_file path)
 IsWishOf (Some command) (InspectingFiles inspection) =
     (command.0 ≡ codes "inspect") × GivesInspection command.1 inspection
-    × (is_alone inspection.files inspection.json ≡ false)
+    × (is_alone inspection.files (has_option inspection) ≡ false)
 IsWishOf (Some command) (Serving server) =
     (command.0 ≡ codes "serve") × GivesServer (given_on_line command.1) server
 IsWishOf (Some command) (Sending sender) =
@@ -275,6 +276,7 @@ IsGood Pcm given = (format : Option WrittenFormat) × GivesFormat (given (codes 
 IsGood Skip given = (bytes : Option ℕ) × GivesNumber (given (codes "skip")) bytes
 IsGood Block given = (frames : Option ℕ) × GivesCount most_block (given (codes "block")) frames
 IsGood MixedSamples given = are_samples_mixed given ≡ false
+IsGood Inspection given = ⊤
 
 -- the values that say how recorders are served, in the order in which they are looked at
 abbrev pub looked_at_waiting : List BadValue
@@ -304,12 +306,16 @@ IsFirstBad [] given value = ⊥
 IsFirstBad (first ∷ later) given value = (¬ IsGood first given × (value ≡ first))
     ⊎ (IsGood first given × IsFirstBad later given value)
 
--- the value for which they ask for nothing; where no value is looked at, a limit stands for what
--- `clap` doesn't let through
+-- what is bad of a command of which no value is looked at: of `inspect`, what is asked for together;
+-- elsewhere a limit stands for what `clap` doesn't let through
+abbrev pub bad_unlooked : Text → BadValue
+bad_unlooked command = if bytes_eq command (codes "inspect") then Inspection else Limit
+
+-- the value for which they ask for nothing
 abbrev pub Lacks : Option (Text × List Row) → BadValue → Type 0
 Lacks None value = value ≡ Limit
 Lacks (Some command) value = IsFirstBad (looked_at command.0) (given_on_line command.1) value
-    ⊎ ((looked_at command.0 ≡ []) × (value ≡ Limit))
+    ⊎ ((looked_at command.0 ≡ []) × (value ≡ bad_unlooked command.0))
 
 -- exactly the line that they result in
 abbrev pub IsLineFor : Option (Text × List Row) → CommandLine → Type 0

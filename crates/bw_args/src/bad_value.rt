@@ -46,6 +46,8 @@ pub enum BadValue {
     /// An option for headerless samples without `--pcm`, that without `--file`, or one of `--follow`
     /// and `--until` without the other.
     MixedSamples,
+    /// `--json` together with `--human`, or standard input (`-`) beside another file or `--digest`.
+    Inspection,
 }
 
 impl BadValue {
@@ -74,6 +76,7 @@ impl BadValue {
             BadValue::Skip => BAD_SKIP,
             BadValue::Block => BAD_BLOCK,
             BadValue::MixedSamples => BAD_MIXED_SAMPLES,
+            BadValue::Inspection => BAD_INSPECTION,
         }
     }
 }
@@ -232,6 +235,14 @@ For more information, try '--help'.
 
 const BAD_MIXED_SAMPLES: &str = "\
 error: '--pcm' is for '--file <FILE>', '--skip', '--block', '--follow' for '--pcm'; '--follow' goes with '--until <END>'
+
+Usage: bwingest <COMMAND>
+
+For more information, try '--help'.
+";
+
+const BAD_INSPECTION: &str = "\
+error: '--json' can't be given beside '--human', and '-', which is read once, beside another file or '--digest'
 
 Usage: bwingest <COMMAND>
 

@@ -76,11 +76,11 @@ pub enum CommandLine {
 /// Parses a command line, whose first word is the program's own name.
 ///
 /// Which words run a task, and of what kind an error is, follows from `clap`'s own contract
-/// (`line`). In plain terms the contract says of forty-eight forms that they run (`replay`,
-/// `rehearse`, `inspect`, `repair`, `serve`, `send`, `send_pcm`, `takes`), of thirty which value is a
-/// fault (`values`, `peers`, `samples`, `takes`) and of fourteen what they print (`help`, `rehearse`,
-/// `inspect`, `repair`, `wanted`, `takes`). Examples
-/// test that options may be given in all their forms and orders, and that all else is refused,
+/// (`line`). In plain terms the contract says of sixty-three forms that they run (`replay`, `rehearse`,
+/// `inspect`, `pack`, `repair`, `serve`, `send`, `send_file`, `send_pcm`, `takes`), of forty which
+/// value is a fault (`values`, `inspect`, `peers`, `files`, `samples`, `takes`) and of fifteen what
+/// they print (`help`, `rehearse`, `inspect`, `pack`, `repair`, `wanted`, `takes`). Examples test that
+/// options may be given in all their forms and orders, and that all else is refused,
 /// except `--` at the end or before a file.
 ///
 /// # Errors

@@ -27,7 +27,7 @@ fn a_rehearsal_has_a_name(rt: HostRuntime) -> Result<(), AllocError> {
     lines_come_to(&rt, rt.alloc(), &["bwingest", "rehearse"], &REHEARSALS)
 }
 
-static LINES: [Line; 51] = [
+static LINES: [Line; 61] = [
     (&[], Outcome::Refuses),
     (&["bwingest"], Outcome::Refuses),
     (&["bwingest", "help"], Outcome::Shows),
@@ -94,15 +94,46 @@ static LINES: [Line; 51] = [
     (&["bwingest", "inspect", "-x"], Outcome::Refuses),
     (
         &["bwingest", "inspect", "a.wav", "b.wav"],
-        Outcome::InspectsFiles(2, false),
+        Outcome::InspectsFiles(2, [false, false, false]),
     ),
     (
         &["bwingest", "inspect", "a.wav", "--json", "--", "-b", "c"],
-        Outcome::InspectsFiles(3, true),
+        Outcome::InspectsFiles(3, [true, false, false]),
     ),
     (
         &["bwingest", "inspect", "--json", "a.wav"],
-        Outcome::InspectsFiles(1, true),
+        Outcome::InspectsFiles(1, [true, false, false]),
+    ),
+    (
+        &["bwingest", "inspect", "--human", "a.wav"],
+        Outcome::InspectsFiles(1, [false, true, false]),
+    ),
+    (
+        &["bwingest", "inspect", "a.wav", "--digest", "-b", "--json"],
+        Outcome::Refuses,
+    ),
+    (
+        &["bwingest", "inspect", "a.wav", "--digest", "b", "--json"],
+        Outcome::InspectsFiles(2, [true, false, true]),
+    ),
+    (
+        &["bwingest", "inspect", "--human", "--digest", "a.wav"],
+        Outcome::InspectsFiles(1, [false, true, true]),
+    ),
+    (
+        &["bwingest", "inspect", "--json", "-"],
+        Outcome::InspectsFiles(1, [true, false, false]),
+    ),
+    (
+        &["bwingest", "inspect", "--json", "--human", "a.wav"],
+        Outcome::Refuses,
+    ),
+    (&["bwingest", "inspect", "--digest", "-"], Outcome::Refuses),
+    (&["bwingest", "inspect", "-", "a.wav"], Outcome::Refuses),
+    (&["bwingest", "inspect", "-", "-"], Outcome::Refuses),
+    (
+        &["bwingest", "inspect", "--digest", "--digest", "a.wav"],
+        Outcome::Refuses,
     ),
     (&["bwingest", "inspect", "--json"], Outcome::Refuses),
     (
@@ -620,7 +651,7 @@ fn an_address_is_local_without_leave_for_the_network(rt: HostRuntime) -> Result<
     Ok(())
 }
 
-static TEXTS: [(&[&str], &str); 13] = [
+static TEXTS: [(&[&str], &str); 16] = [
     (&["/tmp/x", "--version"], "bwingest 1.0.0\n"),
     (&["/tmp/x", "--help"], "Usage: bwingest <COMMAND>\n"),
     (&["/tmp/x"], "Usage: bwingest <COMMAND>\n"),
@@ -657,6 +688,18 @@ static TEXTS: [(&[&str], &str); 13] = [
         "Example: bwingest pack take.wav --set description='River at dawn' > take.hex\n",
     ),
     (&["/tmp/x", "pack"], "Usage: bwingest pack "),
+    (
+        &["/tmp/x", "inspect", "--help"],
+        "RIFF WAVE, BW64 or RF64 files, or - for standard input\n",
+    ),
+    (
+        &["/tmp/x", "inspect", "--jsn", "a.wav"],
+        "tip: a similar argument exists: '--json'\n",
+    ),
+    (
+        &["/tmp/x", "inspct"],
+        "tip: a similar subcommand exists: 'inspect'\n",
+    ),
     (
         &["/tmp/x", "send", "--help"],
         "Example: bwingest send --connect 127.0.0.1:4100 --name a1 < requests.hex\n",

@@ -19,8 +19,8 @@ pub(crate) enum Outcome {
     Rehearses(u64),
     /// Inspects the file that the last word names.
     Inspects,
-    /// Inspects so many files, in JSON or not.
-    InspectsFiles(usize, bool),
+    /// Inspects so many files: whether in JSON, for people, and with digests.
+    InspectsFiles(usize, [bool; 3]),
     /// Serves at the address and in the folder that the rows' first words give: until this end, with
     /// this limit, recorders in this way.
     Serves(End, u64, Recorders),
@@ -97,7 +97,9 @@ fn run_outcome(task: &Task, words: &[&str]) -> Outcome {
         Task::Rehearse { .. } => Outcome::Confuses,
         Task::Inspect { file } if words.last() == Some(&file.as_str()) => Outcome::Inspects,
         Task::Inspect { .. } => Outcome::Confuses,
-        Task::InspectFiles(asked) => Outcome::InspectsFiles(asked.files.len(), asked.json),
+        Task::InspectFiles(asked) => {
+            Outcome::InspectsFiles(asked.files.len(), [asked.json, asked.human, asked.digest])
+        }
         Task::Serve(server) => server_outcome(server),
         Task::Send(sender) => sender_outcome(sender),
         Task::SendFile(sender) => file_sender_outcome(sender),

@@ -5,7 +5,8 @@ use Rattle.bw_args.proofs.Asked.{line_limit}
 use Rattle.bw_args.proofs.FileLemmas.{refuses_files, runs_file_sender, runs_pack}
 use Rattle.bw_args.proofs.FolderLemmas.{runs_takes}
 use Rattle.bw_args.proofs.RepairLemmas.{runs_repair}
-use Rattle.bw_args.proofs.FormLemmas.{runs_inspect, runs_replay, reports_help}
+use Rattle.bw_args.proofs.FormLemmas.{runs_replay, reports_help}
+use Rattle.bw_args.proofs.InspectLemmas.{runs_inspect}
 use Rattle.bw_args.proofs.LineLemmas.{line_asked, line_of_read, reported_line, reported_result}
 use Rattle.bw_args.proofs.RehearsalLemmas.{runs_rehearsal}
 use Rattle.bw_args.proofs.ValueLemmas.{refuses_values}

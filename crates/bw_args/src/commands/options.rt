@@ -7,7 +7,7 @@ ghost use Rattle.bw_args.specs.Commands.{file_option, fruitless_option, journal_
 ghost use Rattle.bw_args.specs.Commands.{rounds_option, set_option, strict_flag, sync_flag};
 ghost use Rattle.bw_args.specs.Commands.{timeout_option, until_stopped_flag, block_option, follow_flag};
 ghost use Rattle.bw_args.specs.Commands.{pcm_option, skip_option, until_option, files_argument, json_flag};
-ghost use Rattle.bw_args.specs.Commands.{write_flag};
+ghost use Rattle.bw_args.specs.Commands.{digest_flag, human_flag, write_flag};
 
 use clap::{Arg, ArgAction};
 use std::alloc::Global;
@@ -83,7 +83,9 @@ pub(crate) fn file_argument<'a>(alloc: Global) -> Arg<'a>
 pub(crate) fn files_argument<'a>(alloc: Global) -> Arg<'a>
     ensures { IsOption files_argument result }
 {
-    file_argument(alloc).action(ArgAction::Append)
+    file_argument(alloc)
+        .action(ArgAction::Append)
+        .help("RIFF WAVE, BW64 or RF64 files, or - for standard input")
 }
 
 pub(crate) fn json_flag<'a>(alloc: Global) -> Arg<'a>
@@ -91,6 +93,20 @@ pub(crate) fn json_flag<'a>(alloc: Global) -> Arg<'a>
 {
     let help = "Prints a line of JSON for each file";
     flag_option(alloc, "json", help)
+}
+
+pub(crate) fn human_flag<'a>(alloc: Global) -> Arg<'a>
+    ensures { IsOption human_flag result }
+{
+    let help = "Prints for people: times, sizes and levels with their units";
+    flag_option(alloc, "human", help)
+}
+
+pub(crate) fn digest_flag<'a>(alloc: Global) -> Arg<'a>
+    ensures { IsOption digest_flag result }
+{
+    let help = "Adds the SHA-256 of the samples alone; reads them";
+    flag_option(alloc, "digest", help)
 }
 
 pub(crate) fn timeout_option<'a>(alloc: Global) -> Arg<'a>
