@@ -1,6 +1,6 @@
 -- A picture, part by part.
-use Rattle.std.specs.Prelude.{ℕ, zero, suc, ◌+◌, ◌*◌, ◌/◌, nat_lt, List, [], ◌++◌, codes, decimal, flat_map}
-use Rattle.std.specs.Prelude.{if◌then◌else◌}
+use Rattle.std.specs.Prelude.{ℕ, zero, suc, ◌+◌, ◌*◌, ◌/◌, nat_lt, List, [], ◌++◌, codes, decimal}
+use Rattle.std.specs.Prelude.{flat_map, if◌then◌else◌}
 use Rattle.bw_model.specs.Report.{RawCue}
 use Rattle.bw_picture.specs.Columns.{channel_height}
 use Rattle.bw_picture.specs.Drawings.{all_strokes}
@@ -43,7 +43,8 @@ waveform strokes = codes "<path stroke='#246' d='" ++ strokes ++ codes "'/>\n"
 
 -- the line of the time axis
 abbrev pub axis_line : Shape → List ℕ
-axis_line s = codes "<path stroke='#000' d='" ++ line_across (height_of s) s.columns ++ codes "'/>\n"
+axis_line s =
+    codes "<path stroke='#000' d='" ++ line_across (height_of s) s.columns ++ codes "'/>\n"
 
 -- the start of a group that is shifted
 abbrev pub shift : ℕ → ℕ → List ℕ
@@ -80,7 +81,8 @@ marker_at x height id = shift x 0 ++ marker_line height ++ marker_name id
 
 -- .. at the column of its frame, unless that is after the last one
 abbrev pub marker : Shape → RawCue → List ℕ
-marker s c = if nat_lt c.offset s.frames then marker_at (c.offset / s.wide) (height_of s) c.id else []
+marker s c =
+    if nat_lt c.offset s.frames then marker_at (c.offset / s.wide) (height_of s) c.id else []
 
 -- the picture with these strokes
 abbrev pub page : List ℕ → Shape → ℕ → List RawCue → List ℕ
