@@ -11,7 +11,7 @@ use std::alloc::Global;
 /// # Errors
 /// `Memory` if memory was refused.
 #[tactic(auto, unfolding(crate::specs::Paths::path_with))]
-pub(crate) fn path_in(
+pub fn path_in(
     alloc: Global,
     folder: &str,
     name: &Name,
