@@ -152,7 +152,8 @@ twice_clash program = (refl, (refl, clashing _ (codes "-" ∷ []) false false tr
 
 beside_clash : (program path : Text) → IsPlain path → IsClash (program ∷ codes "inspect" ∷ codes "-" ∷ path ∷ [])
 unfolding clap_on_literals
-beside_clash program [] plain = (refl, (refl, clashing _ (codes "-" ∷ [] ∷ []) false false false refl refl refl refl refl))
+beside_clash program [] plain =
+    (refl, (refl, clashing _ (codes "-" ∷ [] ∷ []) false false false refl refl refl refl refl))
 beside_clash program (d ∷ ds) plain =
     let value = plain_byte d plain in (
       rw (value, value) (refl {a = []}),
