@@ -4,7 +4,7 @@ use Rattle.std.specs.Prelude.{if◌then◌else◌}
 use Rattle.std.specs.Str.{bytes_eq}
 use Rattle.std.proofs.lemmas.Slice.Eq.{bytes_eq-Decides}
 use Rattle.clap.specs.Words.{Row, Text}
-use Rattle.bw_args.specs.Lines.{AsksNothing, IsLineFor, bad_unlooked, looked_at}
+use Rattle.bw_args.specs.Lines.{AsksNothing, IsLineFor, looked_at}
 use Rattle.bw_args.specs.Lines.{Replaying, Rehearsing, Inspecting, InspectingFiles, Serving, Sending, Uploading}
 use Rattle.bw_args.specs.Lines.{SendingPcm, Packing, Picturing, Repairing, Listing}
 use Rattle.bw_args.specs.declared.CommandLine.TheVariants.{BadValue as Bad}
