@@ -1,5 +1,5 @@
 -- The forms of `inspect`, at paths that are not known.
-use Rattle.std.proofs.Common.{◌≡◌, List, [], ◌∷◌, Bool, true, false, codes, refl, ap, subst, sym, ◌∙◌, Option, Some, None}
+use Rattle.std.proofs.Common.{◌≡◌, List, [], ◌∷◌, Bool, true, false, codes, refl, ap, subst, ◌∙◌, Option, Some, None}
 use Rattle.std.proofs.Common.{inl, inr}
 use Rattle.std.specs.Prelude.{slice_index}
 use Rattle.std.proofs.lemmas.Slice.Eq.{bytes_eq-Decides}
@@ -152,7 +152,8 @@ twice_clash program = (refl, (refl, clashing _ (codes "-" ∷ []) false false tr
 
 beside_clash : (program path : Text) → IsPlain path → IsClash (program ∷ codes "inspect" ∷ codes "-" ∷ path ∷ [])
 unfolding clap_on_literals
-beside_clash program [] plain = (refl, (refl, clashing _ (codes "-" ∷ [] ∷ []) false false false refl refl refl refl refl))
+beside_clash program [] plain =
+    (refl, (refl, clashing _ (codes "-" ∷ [] ∷ []) false false false refl refl refl refl refl))
 beside_clash program (d ∷ ds) plain =
     let value = plain_byte d plain in (
       rw (value, value) (refl {a = []}),

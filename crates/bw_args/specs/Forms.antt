@@ -143,8 +143,8 @@ IsPlain (byte ∷ bytes) = byte ≢ 45
 abbrev pub inspection_of : List Text → PlainInspection
 inspection_of files = record { files = files; json = false; human = false; digest = false }
 
--- `inspect FILE..` runs, with its options, whatever the program's name; no file is a fault, and so are
--- two ways to print, and standard input beside what can't be done with it
+-- `inspect FILE..` runs, with its options, whatever the program's name; no file is a fault, and so
+-- are two ways to print, and standard input beside what can't be done with it
 pub record RunsInspect (words : List Text) (line : CommandLine) : Type 0 where
   pub file : (program path : Text) → IsPlain path
       → words ≡ program ∷ codes "inspect" ∷ path ∷ [] → Inspects path line

@@ -1,6 +1,6 @@
 -- The files to inspect, as the options of a command line give them.
-use Rattle.std.specs.Prelude.{◌≡◌, Bool, true, false, not, ◌&&◌, ◌||◌, ◌==◌, List, [], ◌∷◌, length, Some}
-use Rattle.std.specs.Prelude.{codes, map, string_bytes}
+use Rattle.std.specs.Prelude.{◌≡◌, Bool, true, false, not, ◌&&◌, ◌||◌, ◌==◌, List, [], ◌∷◌}
+use Rattle.std.specs.Prelude.{length, Some, codes, map, string_bytes}
 use Rattle.std.specs.List.{list_any}
 use Rattle.std.specs.Str.{bytes_eq}
 use Rattle.clap.specs.Walk.{Row, Text, all_of}
@@ -53,4 +53,5 @@ pub record GivesInspection (options : List Row) (inspection : PlainInspection) :
   pub prints : inspection.json ≡ is_set (given_on_line options (codes "json"))
   pub explains : inspection.human ≡ is_set (given_on_line options (codes "human"))
   pub digests : inspection.digest ≡ is_set (given_on_line options (codes "digest"))
-  pub possible : is_possible inspection.files inspection.json inspection.human inspection.digest ≡ true
+  pub possible :
+      is_possible inspection.files inspection.json inspection.human inspection.digest ≡ true

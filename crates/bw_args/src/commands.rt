@@ -13,6 +13,7 @@ mod listing;
 mod network;
 mod options;
 mod packing;
+mod picturing;
 mod repairing;
 mod samples;
 mod sending;
@@ -45,11 +46,13 @@ fn on_folders<'a>(alloc: Global) -> Result<Command<'a>, AllocError>
     on_files(alloc)?.subcommand(listing::takes(alloc)?)
 }
 
-/// The program with these, and those that change files in place.
+/// The program with these, and those that draw a file or change it in place.
 fn on_files<'a>(alloc: Global) -> Result<Command<'a>, AllocError>
     ensures { IfOk result (λ c. app_of c ≡ on_files) }
 {
-    offline(alloc)?.subcommand(repairing::repair(alloc)?)
+    offline(alloc)?
+        .subcommand(picturing::picture(alloc)?)?
+        .subcommand(repairing::repair(alloc)?)
 }
 
 /// The program with the commands that use no network.
@@ -119,6 +122,7 @@ pub fn line(alloc: Global, matches: &ArgMatches<'_>) -> Result<CommandLine, Allo
         Some(("serve", options)) => serving::serve_line(alloc, options),
         Some(("send", options)) => sending::send_line(alloc, options),
         Some(("pack", options)) => packing::pack_line(alloc, options),
+        Some(("picture", options)) => picturing::picture_line(alloc, options),
         Some(("repair", options)) => repairing::repair_line(alloc, options),
         Some(("takes", options)) => listing::takes_line(alloc, options),
         // `clap` refuses words without a command of ours.

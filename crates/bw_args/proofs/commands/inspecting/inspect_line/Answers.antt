@@ -40,9 +40,11 @@ returns-in_ok-files-in-None-clause-ok c = (
   refl,
   inspection_asked (found_of c.args.options.now) _ (ap Some c.in_ok-files-in-None.ensures ∙ c.in-Some.ensures)
       c.flag_given-json.ensures c.flag_given-human.ensures c.flag_given-digest.ensures
-      (ap (λ (files : List Text). is_possible files c.flag_given-json.result c.flag_given-human.result c.flag_given-digest.result)
+      (ap (λ (files : List Text). is_possible files c.flag_given-json.result c.flag_given-human.result
+      c.flag_given-digest.result)
       c.in_ok-files-in-None.ensures ∙ sym c.is_possible.ensures ∙ c.if-not-is_possible.false),
-  ap (λ (files : List Text). is_alone files (c.flag_given-json.result || (c.flag_given-human.result || c.flag_given-digest.result)))
+  ap (λ (files : List Text). is_alone files (c.flag_given-json.result
+      || (c.flag_given-human.result || c.flag_given-digest.result)))
       c.in_ok-files-in-None.ensures
       ∙ ap (is_alone (map (λ p. p.now) c.in-Some.paths.now)) (sym c.has_option.ensures)
       ∙ c.in-None.ensures.others,
@@ -59,8 +61,8 @@ returns-in_err-files-in-None-clause-err c = on_err c.from_residual-in_err-files-
   tt,
   (
     refl,
-    inspection_asked (found_of c.args.options.now) _ c.in-Some.ensures c.flag_given-json.ensures c.flag_given-human.ensures
-        c.flag_given-digest.ensures (sym c.is_possible.ensures ∙ c.if-not-is_possible.false),
+    inspection_asked (found_of c.args.options.now) _ c.in-Some.ensures c.flag_given-json.ensures
+        c.flag_given-human.ensures c.flag_given-digest.ensures (sym c.is_possible.ensures ∙ c.if-not-is_possible.false),
     ap (is_alone (map (λ p. p.now) c.in-Some.paths.now)) (sym c.has_option.ensures) ∙ c.in-None.ensures.others,
   ),
 )
