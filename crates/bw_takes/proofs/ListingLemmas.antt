@@ -15,7 +15,7 @@ use Rattle.bw_takes.specs.TakeReports.{line_in, is_sound_in}
 abbrev pub lent : List (Bor (List ℕ)) → List (List ℕ)
 lent ys = map (λ y. y.now) ys
 
-more_lines : (f : List ℕ → List ℕ) (ys : List (Bor (List ℕ))) (y : Bor (List ℕ)) →
+pub more_lines : (f : List ℕ → List ℕ) (ys : List (Bor (List ℕ))) (y : Bor (List ℕ)) →
     flat_map f (lent (ys ++ y ∷ [])) ≡ flat_map f (lent ys) ++ f y.now
 more_lines f ys y =
     ap (flat_map f) (map-append (λ (b : Bor (List ℕ)). b.now) ys (y ∷ [])) ∙ flat_map-append f (lent ys) (y.now ∷ [])

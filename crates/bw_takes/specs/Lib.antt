@@ -6,3 +6,5 @@ pub mod TakeObjects
 pub mod TakeReports
 pub mod Showings
 pub mod GiveUpShowings
+pub mod Screens
+pub mod Watches
