@@ -10,8 +10,8 @@ use Rattle.bw_report.specs.Times.{milliseconds}
 use Rattle.bw_report.specs.UnitTexts.{level_text, size_text, time_text}
 
 -- the line of the form
-abbrev pub form_line : List ℕ → ℕ → List ℕ
-form_line id size = as_line (codes "form " ++ id ++ codes " " ++ size_text size)
+abbrev pub human_form : List ℕ → ℕ → List ℕ
+human_form id size = as_line (codes "form " ++ id ++ codes " " ++ size_text size)
 
 -- a format tag (RIFF WAVE) by its name, or its number
 abbrev pub tag_text : ℕ → List ℕ
@@ -26,8 +26,8 @@ abbrev pub channels_text : ℕ → List ℕ
 channels_text n = if n == 1 then codes "1 channel" else decimal n ++ codes " channels"
 
 -- the line of the samples' format
-abbrev pub format_line : RawFmt → List ℕ
-format_line f = as_line (codes "format " ++ tag_text f.tag ++ codes " " ++ decimal f.rate
+abbrev pub human_format : RawFmt → List ℕ
+human_format f = as_line (codes "format " ++ tag_text f.tag ++ codes " " ++ decimal f.rate
     ++ codes " Hz " ++ decimal f.bits ++ codes " bits " ++ channels_text f.channels)
 
 -- the line of a time under a name
@@ -84,9 +84,9 @@ level_lines (n ∷ ns) = range_lines (slice_index (n ∷ ns) 0) (slice_index (n 
     ++ loudest_lines (slice_index (n ∷ ns) 3) (slice_index (n ∷ ns) 4)
 
 -- the lines of a `bext` chunk, if there is one, at this rate
-abbrev pub bext_lines : ℕ → Option (RawBext × ℕ) → List ℕ
-bext_lines rate None = []
-bext_lines rate (Some b) = named_lines b.0 ++ dated_lines rate b.0 ++ level_lines b.0.loudness
+abbrev pub human_bext : ℕ → Option (RawBext × ℕ) → List ℕ
+human_bext rate None = []
+human_bext rate (Some b) = named_lines b.0 ++ dated_lines rate b.0 ++ level_lines b.0.loudness
 
 -- the line of a cue point: its identifier, and its time at this rate
 abbrev pub marker_line : ℕ → RawCue → List ℕ
@@ -94,12 +94,12 @@ marker_line rate c = as_line (codes "marker " ++ decimal c.id ++ codes " "
     ++ time_text (milliseconds c.offset rate))
 
 -- the line of a chunk: its identifier and its size
-abbrev pub chunk_line : Entry → List ℕ
-chunk_line e = as_line (codes "chunk " ++ map id_byte e.id ++ codes " " ++ size_text e.size)
+abbrev pub human_chunk : Entry → List ℕ
+human_chunk e = as_line (codes "chunk " ++ map id_byte e.id ++ codes " " ++ size_text e.size)
 
 -- the form, and the samples' format
 abbrev pub head_lines : Report → List ℕ
-head_lines r = form_line r.form r.size ++ format_line r.fmt
+head_lines r = human_form r.form r.size ++ human_format r.fmt
 
 -- .. and how many samples there are
 abbrev pub sound_lines : Report → List ℕ
@@ -107,11 +107,11 @@ sound_lines r = head_lines r ++ samples_lines r.data_size r.fmt
 
 -- the markers and the chunks
 abbrev pub mark_lines : Report → List ℕ
-mark_lines r = flat_map (marker_line r.fmt.rate) r.cues ++ flat_map chunk_line r.chunks
+mark_lines r = flat_map (marker_line r.fmt.rate) r.cues ++ flat_map human_chunk r.chunks
 
 -- what is known beside the samples
 abbrev pub rest_lines : Report → List ℕ
-rest_lines r = bext_lines r.fmt.rate r.bext ++ mark_lines r
+rest_lines r = human_bext r.fmt.rate r.bext ++ mark_lines r
 
 -- the report, line by line
 abbrev pub human_text : Report → List ℕ

@@ -13,10 +13,10 @@ use Rattle.bw_report.specs.declared.found.Found.{Found}
 use Rattle.bw_report.specs.declared.found.Found.TheVariants.{Read, Faulty, Unopened}
 
 -- it was looked at
-abbrev pub IsOpen : Found → Type 0
-IsOpen (Read r digest) = ⊤
-IsOpen (Faulty f) = ⊤
-IsOpen (Unopened exit) = ⊥
+abbrev pub WasOpened : Found → Type 0
+WasOpened (Read r digest) = ⊤
+WasOpened (Faulty f) = ⊤
+WasOpened (Unopened exit) = ⊥
 
 -- whether all reads succeeded, by what was found
 abbrev pub is_read_by : Found → Bool
@@ -29,7 +29,7 @@ pub record IsEntryOf (input : Option (List ℕ)) (style : Style) (name : List �
     : Type 0 where
   pub found : Found
   pub right : Of input (λ b. IsFoundInBytes b false found)
-  pub opened : IsOpen found
+  pub opened : WasOpened found
   pub reads : did.reads_all ≡ is_read_by found
   pub outcome : Result (Unit {0}) Fault
   pub ends : did.exit ≡ worse (exit_of_found found) (exit_of outcome)

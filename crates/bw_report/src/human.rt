@@ -3,8 +3,8 @@ ghost use Rattle.std.specs.Prelude.{◌≡◌, ◌++◌, ◌∷◌, ◌==◌, no
 ghost use Rattle.std.specs.Prelude.{take_while, unwrap_or, [], OnOk};
 ghost use Rattle.bw_model.specs.Report.{frames_of, id_byte};
 ghost use Rattle.bw_inspect.specs.Reports.{bext_by, reported_by};
-ghost use Rattle.bw_report.specs.HumanTexts.{bext_lines, channels_text, chunk_line, dated_lines};
-ghost use Rattle.bw_report.specs.HumanTexts.{form_line, format_line, head_lines, human_text};
+ghost use Rattle.bw_report.specs.HumanTexts.{human_bext, channels_text, human_chunk, dated_lines};
+ghost use Rattle.bw_report.specs.HumanTexts.{human_form, human_format, head_lines, human_text};
 ghost use Rattle.bw_report.specs.HumanTexts.{level_line, level_lines, loudest_lines, mark_lines};
 ghost use Rattle.bw_report.specs.HumanTexts.{marker_line, named_lines, range_lines, rest_lines};
 ghost use Rattle.bw_report.specs.HumanTexts.{samples_lines, shown_line, sound_lines, tag_text};
@@ -69,7 +69,7 @@ fn put_marks(text: &mut Vec<u8>, report: &Report) -> Result<(), AllocError>
 }
 
 fn put_form(text: &mut Vec<u8>, id: &ChunkId, size: u64) -> Result<(), AllocError>
-    ensures { OnOk result (text.new.items ≡ text.old.items ++ form_line id.now size) }
+    ensures { OnOk result (text.new.items ≡ text.old.items ++ human_form id.now size) }
 {
     text.extend_from_slice(b"form ")?;
     text.extend_from_slice(&id.0)?;
@@ -81,7 +81,7 @@ fn put_form(text: &mut Vec<u8>, id: &ChunkId, size: u64) -> Result<(), AllocErro
 
 /// Appends the line of the samples' format.
 fn put_format(text: &mut Vec<u8>, fmt: &RawFmt) -> Result<(), AllocError>
-    ensures { OnOk result (text.new.items ≡ text.old.items ++ format_line fmt.now) }
+    ensures { OnOk result (text.new.items ≡ text.old.items ++ human_format fmt.now) }
 {
     text.extend_from_slice(b"format ")?;
     put_tag(text, fmt.tag)?;
@@ -156,7 +156,7 @@ fn put_bext(
     rate: u32,
 ) -> Result<(), AllocError>
     ensures { OnOk result (text.new.items
-        ≡ text.old.items ++ bext_lines rate (option_map bext_by bext.now)) }
+        ≡ text.old.items ++ human_bext rate (option_map bext_by bext.now)) }
 {
     match bext {
         Some(chunk) => {
@@ -311,7 +311,7 @@ fn put_marker(text: &mut Vec<u8>, cue: &RawCue, rate: u32) -> Result<(), AllocEr
 
 /// Appends a line for each chunk: its identifier and its size.
 fn put_chunks(text: &mut Vec<u8>, chunks: &Chunks) -> Result<(), AllocError>
-    ensures { OnOk result (text.new.items ≡ text.old.items ++ flat_map chunk_line chunks.now) }
+    ensures { OnOk result (text.new.items ≡ text.old.items ++ flat_map human_chunk chunks.now) }
 {
     for chunk in chunks.as_slice() {
         put_chunk(text, chunk)?;
@@ -320,7 +320,7 @@ fn put_chunks(text: &mut Vec<u8>, chunks: &Chunks) -> Result<(), AllocError>
 }
 
 fn put_chunk(text: &mut Vec<u8>, chunk: &ListedChunk) -> Result<(), AllocError>
-    ensures { OnOk result (text.new.items ≡ text.old.items ++ chunk_line chunk.now) }
+    ensures { OnOk result (text.new.items ≡ text.old.items ++ human_chunk chunk.now) }
 {
     text.extend_from_slice(b"chunk ")?;
     text.extend_from_slice(&visible(&chunk.id.0))?;

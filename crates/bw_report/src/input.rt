@@ -4,7 +4,7 @@ ghost use Rattle.bw_stream.specs.Readers.{Of};
 ghost use Rattle.bw_console.specs.Outcomes.{HasWritten, Outcome};
 ghost use Rattle.bw_console.specs.Printing.{failures_if};
 ghost use Rattle.bw_report.specs.Findings.{IsFoundInBytes};
-ghost use Rattle.bw_report.specs.Inputs.{IsEntryOf, IsOpen, is_read_by};
+ghost use Rattle.bw_report.specs.Inputs.{IsEntryOf, WasOpened, is_read_by};
 
 use crate::entry::{Style, Wanted};
 use crate::exits::worse;
@@ -53,7 +53,7 @@ pub fn inspect_input<R: Source, W: Sink, E: Sink>(
 /// Looks at what a reader has.
 fn look_at_input<R: Source>(alloc: Global, input: &mut R) -> Found
     ensures right { Of (R.left input.old) (λ b. IsFoundInBytes b false result) }
-    ensures opened { IsOpen result }
+    ensures opened { WasOpened result }
     ensures count { R.failures input.new ≡ failures_if (is_read_by result) (R.failures input.old) }
 {
     match inspect(alloc, input) {
