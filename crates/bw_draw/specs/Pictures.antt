@@ -52,8 +52,8 @@ abbrev pub RefusesPicture : List ℕ → OpenFault → Type 0
 RefusesPicture b fault = RefusesAs b no_options fault ⊎ IsUndrawable b fault
 
 -- the text is printed whole, or the writer fails, and that is reported
-abbrev pub PrintsText : List ℕ → Outcome → Type 0
-PrintsText text did = (did.reads_all ≡ true)
+abbrev pub EndsPrinting : List ℕ → Outcome → Type 0
+EndsPrinting text did = (did.reads_all ≡ true)
     × (((did.exit ≡ exits.Done) × (did.out ≡ Whole text) × (did.faults ≡ Nothing))
     ⊎ ((did.exit ≡ exits.Device) × (did.out ≡ Part text)
     × IsOf (as_line (input_fault_text faults.Unwritable)) did.faults))
@@ -63,7 +63,7 @@ pub record PrintsPicture (file : Option (List ℕ)) (gives_all : Bool) (did : Ou
   pub text : List ℕ
   pub right : Of file (λ b. IsPictureOf b text)
   pub gives : gives_all ≡ true
-  pub prints : PrintsText text did
+  pub prints : EndsPrinting text did
 
 -- it isn't drawn, which is reported
 pub record DrawsNothing (file : Option (List ℕ)) (path : List ℕ) (gives_all : Bool) (did : Outcome)

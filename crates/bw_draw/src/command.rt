@@ -2,7 +2,7 @@
 ghost use Rattle.std.specs.Prelude.{◌≡◌, Bool};
 ghost use Rattle.bw_console.specs.Outcomes.{HasWritten, Outcome};
 ghost use Rattle.bw_console.specs.Printing.{failures_if};
-ghost use Rattle.bw_draw.specs.Pictures.{IsDrawing, PrintsText};
+ghost use Rattle.bw_draw.specs.Pictures.{IsDrawing, EndsPrinting};
 
 use crate::fault::report_fault;
 use crate::opening::picture_at;
@@ -44,7 +44,7 @@ pub fn draw_file<F: RecordingFiles, W: Sink, E: Sink>(
 
 /// Prints a text. Returns how the command ends.
 fn print_text<W: Sink, E: Sink>(text: &[u8], out: &mut W, faults: &mut E) -> Exit
-    ensures { (did : Outcome) × (did.exit ≡ result) × PrintsText text.now did
+    ensures { (did : Outcome) × (did.exit ≡ result) × EndsPrinting text.now did
         × HasWritten W.Sink E.Sink did out.old out.new faults.old faults.new }
 {
     match print(out, text) {

@@ -5,7 +5,7 @@ use Rattle.bw_picture.specs.Columns.{strokes}
 use Rattle.bw_picture.specs.Levels.{bytes_of}
 use Rattle.bw_picture.specs.Peaks.{greatest_of, least_of}
 use Rattle.bw_inspect.specs.declared.fault.InspectFault.{InspectFault}
-use Rattle.bw_picture.specs.Reads.{EndsBefore, file_level}
+use Rattle.bw_picture.specs.Reads.{LacksBytes, file_level}
 use Rattle.bw_picture.specs.declared.drawing.Shape.{Shape}
 
 -- bytes of a frame
@@ -47,4 +47,4 @@ pub record DrawsColumn (b : List ℕ) (s : Shape) (column : ℕ) (old new : List
 
 -- frames are reported to be missing only where b ends before the last one does
 abbrev pub LacksFrames : List ℕ → Shape → InspectFault → Type 0
-LacksFrames b s f = EndsBefore b s.place (s.frames * frame_bytes s) f
+LacksFrames b s f = LacksBytes b s.place (s.frames * frame_bytes s) f

@@ -21,5 +21,5 @@ pub record HasWidened (b : List ℕ) (place frames : ℕ) (w : SampleWidth) (ali
   pub rest : left ≡ Some (drop (place + frames * align) b)
 
 -- bytes are reported to be missing only where b ends before
-abbrev pub EndsBefore : List ℕ → ℕ → ℕ → InspectFault → Type 0
-EndsBefore b place size f = IsTrue (is_of_bytes f.kind) → length b < place + size
+abbrev pub LacksBytes : List ℕ → ℕ → ℕ → InspectFault → Type 0
+LacksBytes b place size f = IsTrue (is_of_bytes f.kind) → length b < place + size

@@ -4,9 +4,9 @@ ghost use Rattle.std.specs.Prelude.{OnOk};
 ghost use Rattle.bw_inspect.specs.Places.{AtPlace};
 ghost use Rattle.bw_picture.specs.Drawings.{LacksFrames};
 ghost use Rattle.bw_picture.specs.Pages.{axis, axis_line, height_of as full_height, line_across};
-ghost use Rattle.bw_picture.specs.Pages.{look, marker, marker_at, marker_line, marker_name};
+ghost use Rattle.bw_picture.specs.Pages.{look, marker, marker_at, marker_stroke, marker_name};
 ghost use Rattle.bw_picture.specs.Pages.{middles, middles_line, opening, page, picture_text, shift};
-ghost use Rattle.bw_picture.specs.Pages.{size_text, tick, tick_count, ticks, waveform};
+ghost use Rattle.bw_picture.specs.Pages.{view_size, tick, tick_count, ticks, waveform};
 
 use crate::drawing::{Shape, draw, no_memory};
 use crate::time_text::{put_number, put_time};
@@ -79,7 +79,7 @@ fn put_opening(text: &mut Vec<u8>, shape: &Shape) -> Result<(), AllocError>
 }
 
 fn put_size(text: &mut Vec<u8>, wide: u64, high: u64) -> Result<(), AllocError>
-    ensures { OnOk result (text.new.items ≡ text.old.items ++ size_text wide high) }
+    ensures { OnOk result (text.new.items ≡ text.old.items ++ view_size wide high) }
 {
     put_number(text, wide)?;
     text.extend_from_slice(b" ")?;
@@ -229,7 +229,7 @@ fn put_marker_at(text: &mut Vec<u8>, x: u64, height: u64, id: u32) -> Result<(),
 }
 
 fn put_marker_line(text: &mut Vec<u8>, height: u64) -> Result<(), AllocError>
-    ensures { OnOk result (text.new.items ≡ text.old.items ++ marker_line height) }
+    ensures { OnOk result (text.new.items ≡ text.old.items ++ marker_stroke height) }
 {
     text.extend_from_slice(b"<path stroke='#c30' d='M0 0V")?;
     put_number(text, height)?;

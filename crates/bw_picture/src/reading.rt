@@ -3,7 +3,7 @@ ghost use Rattle.std.specs.Prelude.{◌≡◌, ◌+◌, ◌-◌, ◌*◌, ◌/�
 ghost use Rattle.std.specs.Prelude.{slice_index, Some, IfErr, OnOk};
 ghost use Rattle.bw_inspect.specs.Places.{AtPlace};
 ghost use Rattle.bw_picture.specs.Levels.{bytes_of};
-ghost use Rattle.bw_picture.specs.Reads.{EndsBefore, HasWidened};
+ghost use Rattle.bw_picture.specs.Reads.{LacksBytes, HasWidened};
 
 use crate::channels::widen_all;
 use crate::level::SampleWidth;
@@ -33,7 +33,7 @@ pub fn read_frames<R: Source>(
         HasWidened b place frames width align lows.old highs.old lows.new highs.new
         (R.left reader.new))) }
     ensures err { IfErr result (λ f. AtPlace (R.left reader.old) place (λ b.
-        EndsBefore b place (frames * align) f)) }
+        LacksBytes b place (frames * align) f)) }
 {
     let most = buf.len() / align;
     let mut done = 0;
