@@ -8,6 +8,7 @@ mod followed;
 mod host;
 mod journals;
 mod lock;
+mod locks;
 mod network;
 mod pause;
 mod reactor;
