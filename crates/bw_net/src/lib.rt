@@ -14,6 +14,8 @@ mod reactor;
 mod recordings;
 mod socket;
 mod starting;
+mod states;
+mod stopwatch;
 mod tcp;
 mod terminal;
 
@@ -27,5 +29,7 @@ pub use reactor::TcpReactor;
 pub use recordings::{HostRecordings, StampedFile};
 pub use socket::Socket;
 pub use starting::FolderServer;
+pub use states::{HostStates, StateFile};
+pub use stopwatch::ClockStopwatch;
 pub use tcp::{TcpDial, TcpPeers};
 pub use terminal::Terminal;
