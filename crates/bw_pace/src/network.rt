@@ -10,11 +10,6 @@ pub trait PacedNetwork: Network {
     /// # Not specified
     /// - Anything beyond what each network says of itself.
     /// - How much time passes.
-    fn dial_paced(
-        &self,
-        address: SocketAddr,
-        timeout: Option<u32>,
-        rate: Option<u32>,
-    ) -> Self::Dial
+    fn dial_paced(&self, address: SocketAddr, timeout: Option<u32>, rate: Option<u32>) -> Self::Dial
         ensures received { Self.calls self.now address timeout result };
 }

@@ -1,13 +1,13 @@
 //! A writer that waits.
-ghost use Rattle.std.specs.Prelude.{◌≡◌};
+ghost use Rattle.std.specs.Prelude.{◌≡◌, ◌≤◌, ◌<◌};
 
 use bw_ports::Pause;
 use bw_resume::Stopwatch;
 use bw_stream::{IoFailed, Sink};
 
-/// A writer that takes so many bytes a second at most, if a rate is given: before a write it waits
-/// until those that were written before have had their time. What is written is what its own writer
-/// gets, at any rate.
+/// A writer that takes so many bytes a second at most, if a rate is given: it takes those of a tenth
+/// of a second at once, and before a write it waits until those that were written before have had
+/// their time. What is written is what its own writer gets, at any rate.
 #[derive(Drop)]
 pub struct PacedSink<W, P, T> {
     inner: W,
@@ -51,6 +51,18 @@ impl<W, P: Pause, T: Stopwatch> PacedSink<W, P, T> {
         }
     }
 
+    /// How many of so many bytes are written at once: those of a tenth of a second, and at least one,
+    /// so that the other end isn't left without a byte for long.
+    fn piece_len(&self, len: usize) -> usize
+        ensures within { result ≤ len }
+        ensures some { 0 < len → 0 < result }
+    {
+        match self.rate {
+            None => len,
+            Some(rate) => len.min((rate as usize / 10).max(1)),
+        }
+    }
+
     /// Notes that so many bytes were written.
     fn note(&mut self, count: usize)
         ensures { self.new.inner ≡ self.old.inner }
@@ -75,8 +87,9 @@ impl<W: Sink, P: Pause, T: Stopwatch> Sink for PacedSink<W, P, T> {
     ghost is_flushed = { λ s. W.is_flushed s.inner };
 
     fn write(&mut self, bytes: &[u8]) -> Result<usize, IoFailed> {
+        let len = self.piece_len(bytes.len());
         self.wait();
-        let count = self.inner.write(bytes)?;
+        let count = self.inner.write(&bytes[..len])?;
         self.note(count);
         Ok(count)
     }
