@@ -4,6 +4,7 @@ ghost use Rattle.std.specs.Prelude.{◌≡◌, None};
 use bw_resume::{StateFiles, StateLog};
 use std::fs::{File, OpenOptions};
 use std::io::{self, ErrorKind, Read, Write};
+use std::path::Path;
 
 /// The files of states on this machine. It reports no bytes, since no clause of std says what a
 /// file holds.
@@ -71,7 +72,7 @@ fn first_bytes(rt: &HostRuntime, path: &str, most: usize) -> io::Result<Vec<u8>>
     Ok(bytes)
 }
 
-/// A file with just these bytes, which are synced.
+/// A file with just these bytes, which are synced, and its folder too.
 fn begin(rt: &HostRuntime, path: &str, bytes: &[u8]) -> io::Result<StateFile> {
     let mut file = OpenOptions::new()
         .write(true)
@@ -80,7 +81,19 @@ fn begin(rt: &HostRuntime, path: &str, bytes: &[u8]) -> io::Result<StateFile> {
         .open(rt, path)?;
     file.write_all(bytes)?;
     file.sync_data()?;
+    // Some file systems can't sync a folder. Without it a loss of power may take the state away, and
+    // all is sent again.
+    let _ = sync_folder_of(rt, path);
     Ok(StateFile { file, failures: 0 })
+}
+
+/// Syncs the folder of the file at a path, so that the file's name is in it after a loss of power.
+fn sync_folder_of(rt: &HostRuntime, path: &str) -> io::Result<()> {
+    let folder = match Path::new(path).parent() {
+        Some(folder) if !folder.as_os_str().is_empty() => folder,
+        _ => Path::new("."),
+    };
+    File::open(rt, folder)?.sync_all()
 }
 
 /// A state's file of this machine, which is written at its end.

@@ -1,13 +1,21 @@
 -- What is found at a state's path, and where a sender begins by it.
 use Rattle.std.specs.Prelude.{◌≡◌, ◌⊎◌, ℕ, zero, suc, Option, Some, List, [], ◌∷◌, nat_lt, take, unwrap_or}
-use Rattle.std.specs.Prelude.{if◌then◌else◌}
+use Rattle.std.specs.Prelude.{if◌then◌else◌, Bool, ◌||◌, nat_eq, codes}
+use Rattle.std.specs.List.{starts_with}
 use Rattle.bw_stream.specs.Moves.{Keeps}
+use Rattle.bw_plan.specs.Cleaning.{are_zero}
 use Rattle.bw_resume.specs.Reading.{settled_in}
 use Rattle.bw_resume.specs.States.{state_bytes}
 
 -- so many bytes of a state are read at most
 abbrev pub most_bytes : ℕ
 most_bytes = 16777216
+
+-- these may be the first bytes of a state: they begin as one does, are cut before that, or are all
+-- zero, as a loss of power may leave them
+abbrev pub may_begin_state : List ℕ → Bool
+may_begin_state bytes = starts_with nat_eq bytes (codes "bwingest-state-1 ")
+    || starts_with nat_eq (codes "bwingest-state-1 ") bytes || are_zero bytes
 
 -- how many requests are settled by the first bytes of a state, if its header is this one; else none
 abbrev pub count_found : List ℕ → List ℕ → ℕ

@@ -14,7 +14,7 @@ use crate::reports::report_start;
 use bw_console::print::{give_up, print_diagnostic};
 use bw_console::{Exit, Fault};
 use bw_plan::Options;
-use bw_ports::{Dial, Pause, RecordingFiles, Stamped};
+use bw_ports::{Dial, FileStamp, Pause, RecordingFiles, Stamped};
 use bw_recorder::{RecordingFile, report_open_fault};
 use bw_request::Name;
 use bw_resume::{StateFiles, Subject, header_text, settled_line};
@@ -23,6 +23,15 @@ use bw_stream::{Sink, Source};
 use bw_upload::Feed;
 use std::alloc::{AllocError, Global};
 use std::io;
+
+/// The header of the state of a recording in a file.
+#[derive(Drop)]
+pub(crate) struct FileHeader {
+    /// Without the line feed that ends it.
+    pub(crate) text: Vec<u8>,
+    /// How the file stood before it was opened.
+    pub(crate) stamp: FileStamp,
+}
 
 /// The header of the state of a recording in a file.
 ///
@@ -36,17 +45,18 @@ pub(crate) fn read_header<F: RecordingFiles, E: Sink>(
     options: &Options,
     files: &mut F,
     faults: &mut E,
-) -> Result<Vec<u8>, Exit>
+) -> Result<FileHeader, Exit>
     ensures ok { IfOk result (λ header. (b : List ℕ) → F.file_at files.old file.now.path.now ≡ Some b →
         IsHeaderFor recorder.now.name.now place.now.address.now
-        (F.stamp_at files.old file.now.path.now) options.now b header.items) }
+        (F.stamp_at files.old file.now.path.now) options.now b header.text.items) }
     ensures files { F.file_at files.new ≡ F.file_at files.old }
     ensures err { IfErr result (λ exit. exit ≢ Exit.Done) }
 {
     match open_feed(alloc, files, file.path, options) {
         Ok(mut opened) => {
+            let stamp = opened.feed.stamp();
             match header_of(alloc, recorder.name, place.address, &mut opened.feed) {
-                Ok(header) => Ok(header),
+                Ok(text) => Ok(FileHeader { text, stamp }),
                 Err(fault) => Err(report_file_fault(alloc, file.path, &fault, faults)),
             }
         }

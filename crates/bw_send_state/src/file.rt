@@ -1,7 +1,6 @@
 //! The command: a file's recording is sent, from where its state says.
-ghost use Rattle.std.specs.Prelude.{◌≡◌, ◌≤◌, ◌+◌, List, Some, ℕ, map, string_bytes};
+ghost use Rattle.std.specs.Prelude.{◌≡◌, ◌≤◌, ◌+◌, List, Some, ℕ};
 ghost use Rattle.bw_model.specs.Wire.{Second, last_number};
-ghost use Rattle.bw_recorder.specs.SettingLists.{options_of as options_given};
 ghost use Rattle.bw_send_state.specs.SentOn.{SendsRest, StoresRecording};
 
 use crate::beginning::{begin_at, open_log, read_header};
@@ -9,15 +8,15 @@ use crate::keeper::StateKeeper;
 use crate::observers::Observers;
 use crate::place::{StatePlace, find_count};
 use crate::reports::report_unkept;
-use crate::skipping::skip;
+use crate::skipping::pass_over;
 use bw_console::print::give_up;
 use bw_console::{Exit, Fault};
 use bw_plan::Options;
-use bw_ports::{Dial, Pause, RecordingFiles};
+use bw_ports::{Dial, FileStamp, Pause, RecordingFiles};
 use bw_recorder::{RecordingFile, options_of, refuse_settings, report_open_fault, warn};
 use bw_resume::{StateFiles, Stopwatch};
 use bw_send_file::{
-    FeedFault, PlanFeed, Recorder, open_feed, report_file_fault, send_feed_after, send_file,
+    FeedFault, PlanFeed, Recorder, open_feed, report_file_fault, send_feed_after,
 };
 use bw_stream::Sink;
 use bw_upload::{Feed, Observer};
@@ -75,7 +74,7 @@ pub fn send_file_on<
         Ok(header) => header,
         Err(exit) => return exit,
     };
-    let found = match find_count(states, place.path, header.as_slice()) {
+    let found = match find_count(states, place.path, header.text.as_slice()) {
         Ok(found) => found,
         Err(error) => return report_unkept(alloc, place.path, &error, faults),
     };
@@ -83,7 +82,7 @@ pub fn send_file_on<
         Ok(count) => count,
         Err(exit) => return exit,
     };
-    let log = match open_log(alloc, states, place.path, header.as_slice(), found, count) {
+    let log = match open_log(alloc, states, place.path, header.text.as_slice(), found, count) {
         Ok(log) => log,
         Err(error) => return report_unkept(alloc, place.path, &error, faults),
     };
@@ -91,8 +90,9 @@ pub fn send_file_on<
         first: StateKeeper::new(log, stopwatch, count),
         second: observer,
     };
-    let exit = send_from(
-        alloc, recorder, file, &options, count, files, pause, dial, &mut both, out, faults,
+    let exit = send_rest(
+        alloc, recorder, file, &options, &header.stamp, count, files, pause, dial, &mut both, out,
+        faults,
     );
     let Observers {
         first: keeper,
@@ -104,44 +104,14 @@ pub fn send_file_on<
     }
 }
 
-/// Sends a file's recording, but for its first requests, so many.
-fn send_from<F: RecordingFiles, P: Pause, D: Dial, V: Observer, W: Sink, E: Sink>(
-    alloc: Global,
-    recorder: &Recorder<'_>,
-    file: &RecordingFile<'_>,
-    options: &Options,
-    count: u32,
-    files: &mut F,
-    pause: &mut P,
-    dial: &mut D,
-    observer: &mut V,
-    out: &mut W,
-    faults: &mut E,
-) -> Exit
-    requires count { count ≤ last_number Second + 1 }
-    requires options { options_given (map string_bytes file.now.settings.now) file.now.is_strict file.now.frames
-        ≡ Some options.now }
-    ensures { result ≡ Exit.Done → (b : List ℕ) → F.file_at files.old file.now.path.now ≡ Some b →
-        SendsRest ⟦<PlanFeed<F::File, F::Stamped> as Feed>⟧ P.Pause D.Dial D.Reader.Source
-        D.Writer.Sink recorder.now options.now count b
-        (record { pause = pause.new; dial = dial.new }) }
-{
-    if count == 0 {
-        return send_file(
-            alloc, recorder, file, files, pause, dial, observer, out, faults,
-        );
-    }
-    send_rest(
-        alloc, recorder, file, options, count, files, pause, dial, observer, out, faults,
-    )
-}
-
-/// Sends what comes after the first requests of a file's recording, so many.
+/// Sends what comes after the first requests of a file's recording, so many. The file must stand as
+/// it did when its state was read.
 fn send_rest<F: RecordingFiles, P: Pause, D: Dial, V: Observer, W: Sink, E: Sink>(
     alloc: Global,
     recorder: &Recorder<'_>,
     file: &RecordingFile<'_>,
     options: &Options,
+    stamp: &FileStamp,
     count: u32,
     files: &mut F,
     pause: &mut P,
@@ -162,7 +132,7 @@ fn send_rest<F: RecordingFiles, P: Pause, D: Dial, V: Observer, W: Sink, E: Sink
     };
     warn(opened.warnings.as_slice(), faults);
     let feed = &mut opened.feed;
-    match skip(feed, count) {
+    match pass_over(feed, stamp, count) {
         Ok(true) => send_feed_after(
             alloc, recorder, file.path, count, feed, pause, dial, observer, out, faults,
         ),
