@@ -91,12 +91,7 @@ impl<N: Network> Network for FilteredNetwork<N> {
 }
 
 impl<N: PacedNetwork> PacedNetwork for FilteredNetwork<N> {
-    fn dial_paced(
-        &self,
-        address: SocketAddr,
-        timeout: Option<u32>,
-        rate: Option<u32>,
-    ) -> N::Dial {
+    fn dial_paced(&self, address: SocketAddr, timeout: Option<u32>, rate: Option<u32>) -> N::Dial {
         self.network.dial_paced(address, timeout, rate)
     }
 }

@@ -15,9 +15,7 @@ use bw_plan::Options;
 use bw_ports::{Dial, FileStamp, Pause, RecordingFiles};
 use bw_recorder::{RecordingFile, options_of, refuse_settings, report_open_fault, warn};
 use bw_resume::{StateFiles, Stopwatch};
-use bw_send_file::{
-    FeedFault, PlanFeed, Recorder, open_feed, report_file_fault, send_feed_after,
-};
+use bw_send_file::{FeedFault, PlanFeed, Recorder, open_feed, report_file_fault, send_feed_after};
 use bw_stream::Sink;
 use bw_upload::{Feed, Observer};
 use std::alloc::Global;
@@ -82,7 +80,14 @@ pub fn send_file_on<
         Ok(count) => count,
         Err(exit) => return exit,
     };
-    let log = match open_log(alloc, states, place.path, header.text.as_slice(), found, count) {
+    let log = match open_log(
+        alloc,
+        states,
+        place.path,
+        header.text.as_slice(),
+        found,
+        count,
+    ) {
         Ok(log) => log,
         Err(error) => return report_unkept(alloc, place.path, &error, faults),
     };
@@ -91,7 +96,17 @@ pub fn send_file_on<
         second: observer,
     };
     let exit = send_rest(
-        alloc, recorder, file, &options, &header.stamp, count, files, pause, dial, &mut both, out,
+        alloc,
+        recorder,
+        file,
+        &options,
+        &header.stamp,
+        count,
+        files,
+        pause,
+        dial,
+        &mut both,
+        out,
         faults,
     );
     let Observers {
