@@ -3,7 +3,7 @@
 _bwingest() {
     local word=${COMP_WORDS[COMP_CWORD]} last=${COMP_WORDS[COMP_CWORD - 1]} options=
     if [ "$COMP_CWORD" = 1 ]; then
-        COMPREPLY=($(compgen -W 'replay rehearse inspect pack repair takes serve send help --help --version' -- "$word"))
+        COMPREPLY=($(compgen -W 'replay rehearse inspect pack picture repair takes serve send help --help --version' -- "$word"))
         return
     fi
     case $last in
@@ -11,11 +11,12 @@ _bwingest() {
     esac
     case ${COMP_WORDS[1]} in
     serve) options='--listen --folder --exchanges --limit --timeout --network --recorders --idle --until-stopped --log --journal --sync --one-name --help' ;;
-    send) options='--connect --name --rounds --timeout --network --file --set --strict --fruitless --log --pcm --skip --block --follow --until --help' ;;
-    inspect) options='--json --help' ;;
+    send) options='--connect --name --rounds --timeout --network --file --set --strict --fruitless --log --state --rate --pcm --skip --block --follow --until --help' ;;
+    inspect) options='--json --human --digest --help' ;;
     pack) options='--set --strict --help' ;;
+    picture) options='--help' ;;
     repair) options='--write --help' ;;
-    takes) options='--folder --help' ;;
+    takes) options='--folder --check --json --give-up --help' ;;
     replay) options='--limit --fuse --help' ;;
     rehearse) options='--name --limit --help' ;;
     esac

@@ -114,6 +114,62 @@ def report(name, file, digest=False):
     }
 
 
+def clock(ms):
+    """Milliseconds as hours, minutes and seconds."""
+    if ms is None:
+        return "unknown"
+    seconds, part = divmod(ms, 1_000)
+    return f"{seconds // 3_600}:{seconds // 60 % 60:02}:{seconds % 60:02}.{part:03}"
+
+
+def hundredths(count, unit):
+    return f"{'-' if count < 0 else ''}{abs(count) // 100}.{abs(count) % 100:02} {unit}"
+
+
+def sized(count):
+    """A number of bytes in the largest unit of which there is one, rounded down."""
+    for shift, unit in ((30, "GiB"), (20, "MiB"), (10, "KiB")):
+        if count >> shift:
+            return hundredths((count * 100) >> shift, unit)
+    return f"{count} B"
+
+
+def shown(bytes_):
+    """A text without control characters and backslashes; of one that isn't UTF-8, in ASCII alone."""
+    most = 0x110000 if text_of(bytes_) is not None else 128
+    units = text_of(bytes_) if most > 128 else bytes_.decode("latin-1")
+    return "".join(f"\\x{ord(c):02x}" if ord(c) < 32 or c in "\x7f\\" or ord(c) >= most else c for c in units)
+
+
+def human(found):
+    """What `inspect --human` prints of a file without a fault, from its object."""
+    fmt, data, bext = found["fmt"], found["data"], found["bext"]
+    tag = {1: "PCM", 3: "float", 0xFFFE: "extensible"}.get(fmt["tag"], f"tag {fmt['tag']}")
+    channels = "1 channel" if fmt["channels"] == 1 else f"{fmt['channels']} channels"
+    lines = [
+        f"form {found['form']} {sized(found['size'])}",
+        f"format {tag} {fmt['rate']} Hz {fmt['bits']} bits {channels}",
+        f"duration {clock(data['ms'])}",
+        f"samples {sized(data['bytes'])} {data['frames']} frames",
+    ]
+    if bext:
+        for key in ("description", "originator", "reference", "date", "clock"):
+            if bext[key + "_hex"]:
+                lines.append(f"{key} {shown(bytes.fromhex(bext[key + '_hex']))}")
+        lines.append(f"time of day {clock(bext['time_of_day'])}")
+        names = (("loudness", "value", "LUFS"), ("loudness range", "range", "LU"), ("true peak", "peak", "dBTP"))
+        for name, key, unit in (*names, ("momentary", "momentary", "LUFS"), ("short-term", "short", "LUFS")):
+            if bext["loudness"]:
+                level = bext["loudness"][key]
+                lines.append(f"{name} {'unset' if level is None else hundredths(level, unit)}")
+    lines.extend(f"marker {cue['id']} {clock(cue['ms'])}" for cue in found["cues"])
+    for one in found["chunks"]:
+        visible = "".join(chr(c) if 33 <= c <= 126 else "." for c in bytes.fromhex(one["id_hex"]))
+        lines.append(f"chunk {visible} {sized(one['size'])}")
+    lines.extend([f"sha256={found['sha256']}"] if found["sha256"] else [])
+    return "".join(line + "\n" for line in lines)
+
+
 def fault(name, kind, at):
     """The object of a file that has a fault, or can't be opened."""
     return dict.fromkeys(KEYS) | {"file": name, "ok": False, "fault": kind, "at": at}

@@ -13,29 +13,32 @@ use Rattle.clap.proofs.WalkLemmas.{first_value-rows, raw_values-rows}
 use Rattle.bw_args.specs.Given.{GivesAddress, GivesCount, GivesCountOr, GivesEnd, GivesFolder, GivesFuse, GivesLimit, GivesName}
 use Rattle.bw_args.specs.Given.{GivesNoFuse, GivesRecorders, IsAddressGiven, IsEnd, IsEndGiven, IsLimitGiven, IsNameGiven}
 use Rattle.bw_args.specs.Given.{IsJournaling, IsJournalingGiven, IsRecorders, IsRecordersGiven, given_on_line, is_set}
+use Rattle.bw_args.specs.Given.{GivesWork, IsWork, IsWorkGiven}
 use Rattle.bw_args.specs.Sources.{GivesSource, PlainSource, is_mixed, settings_on_line}
-use Rattle.bw_args.specs.Inspecting.{GivesInspection, PlainInspection}
+use Rattle.bw_args.specs.Inspecting.{GivesInspection, PlainInspection, is_possible, one_file}
 use Rattle.bw_args.specs.Lines.{AsksForPath, AsksNothing, GivesSender, GivesServer, GivesTries, HasNumbersInRange}
 use Rattle.bw_args.specs.Lines.{IsEndWithin, IsFirstBad, IsGood, IsLineFor, IsWayWithin, IsWishOf, IsWithin, Service}
 use Rattle.bw_args.specs.Lines.{FileUpload, Wish, looked_at, looked_at_trying, looked_at_waiting}
 use Rattle.bw_args.specs.Lines.{Replaying, Rehearsing, Inspecting, Packing, Sending, SendingPcm, Serving}
-use Rattle.bw_args.specs.Lines.{Uploading, PcmUpload, looked_at_samples, InspectingFiles, Repairing, Listing}
+use Rattle.bw_args.specs.Lines.{Uploading, PcmUpload, looked_at_samples, InspectingFiles, Repairing, Listing, Picturing}
 use Rattle.bw_args.specs.PcmSources.{GivesFormat, GivesSamples, PlainPcm, fruitless_of, is_unpaired}
 use Rattle.bw_args.specs.PcmSources.{samples_with}
 use Rattle.bw_args.specs.declared.commands.samples.WrittenFormat.{WrittenFormat}
 use Rattle.bw_args.specs.Numbers.{IsLimitValue, default_fruitless, default_rounds, default_timeout, most_exchanges}
-use Rattle.bw_args.specs.Numbers.{most_block, most_fruitless, most_recorders, most_rounds, most_seconds}
+use Rattle.bw_args.specs.Numbers.{most_block, most_fruitless, most_rate, most_recorders, most_rounds, most_seconds}
 use Rattle.bw_args.specs.declared.commands.sending.Tries.{Tries}
 use Rattle.bw_args.specs.declared.CommandLine.{CommandLine}
 use Rattle.bw_args.specs.declared.CommandLine.TheVariants.{Run, BadValue as Bad, Report}
 use Rattle.bw_args.specs.declared.Task.TheVariants.{Replay, Rehearse, Serve, Send, SendFile, SendPcm}
 use Rattle.bw_args.proofs.WishLemmas.{one_count, other_name, same_way}
+use Rattle.bw_args.specs.declared.folders.FolderWork.{FolderWork}
 use Rattle.bw_args.specs.declared.peers.End.{End}
 use Rattle.bw_args.specs.declared.peers.Journaling.{Journaling}
 use Rattle.bw_args.specs.declared.peers.Recorders.{Recorders as Way}
 use Rattle.bw_args.specs.declared.peers.Send.{Send as Sender}
 use Rattle.bw_args.specs.declared.bad_value.BadValue.{BadValue}
-use Rattle.bw_args.specs.declared.bad_value.BadValue.TheVariants.{Name, Limit, Fuse, UntilStopped, Sync, Wait}
+use Rattle.bw_args.specs.declared.bad_value.BadValue.TheVariants.{Name, Limit, Fuse, UntilStopped, Sync, Wait, GiveUp}
+use Rattle.bw_args.specs.declared.bad_value.BadValue.TheVariants.{Inspection}
 
 -- the value that is looked at first is good, and one after it is bad
 infixr 20 ◌and_then◌
@@ -56,21 +59,24 @@ abbrev pub AllGood : List BadValue → (Text → Option Text) → Type 0
 AllGood [] given = ⊤
 AllGood (value ∷ values) given = IsGood value given × AllGood values given
 
--- without a recording's file nothing is said of fruitless links
-no_fruitless : (given : Text → Option Text) → given (codes "file") ≡ None → is_mixed given ≡ false
-    → given (codes "fruitless") ≡ None
-no_fruitless given none unmixed =
-    go (given (codes "file")) (given (codes "set")) (given (codes "fruitless")) none unmixed
+-- without a recording's file nothing is said of fruitless links, nor of a rate
+no_pace : (given : Text → Option Text) → given (codes "file") ≡ None → is_mixed given ≡ false
+    → (given (codes "fruitless") ≡ None) × (given (codes "rate") ≡ None)
+no_pace given none unmixed =
+    go (given (codes "file")) (given (codes "set")) (given (codes "fruitless")) (given (codes "state"))
+    (given (codes "rate")) none unmixed
   where
-    go : (file set fruitless : Option Text) → file ≡ None
+    go : (file set fruitless state rate : Option Text) → file ≡ None
         → (if is_some file then is_some (given (codes "rounds"))
-        else (is_some set || (is_some fruitless
-        || (is_set (given (codes "strict")) || is_set (given (codes "log")))))) ≡ false
-        → fruitless ≡ None
-    go (Some text) set fruitless is unmixed = let bad : Some text ≡ None = is in cc
-    go None (Some text) fruitless is unmixed = let bad : true ≡ false = unmixed in cc
-    go None None None is unmixed = refl
-    go None None (Some text) is unmixed = let bad : true ≡ false = unmixed in cc
+        else (is_some set || (is_some fruitless || (is_some state || (is_some rate
+        || (is_set (given (codes "strict")) || is_set (given (codes "log")))))))) ≡ false
+        → (fruitless ≡ None) × (rate ≡ None)
+    go (Some text) set fruitless state rate is unmixed = let bad : Some text ≡ None = is in cc
+    go None (Some text) fruitless state rate is unmixed = let bad : true ≡ false = unmixed in cc
+    go None None (Some text) state rate is unmixed = let bad : true ≡ false = unmixed in cc
+    go None None None (Some text) rate is unmixed = let bad : true ≡ false = unmixed in cc
+    go None None None None (Some text) is unmixed = let bad : true ≡ false = unmixed in cc
+    go None None None None None is unmixed = (refl, refl)
 
 -- with it nothing of rounds
 no_rounds : (given : Text → Option Text) (path : Text) → given (codes "file") ≡ Some path → is_mixed given ≡ false
@@ -80,7 +86,8 @@ no_rounds given path has unmixed = go (given (codes "file")) (given (codes "roun
     go : (file rounds : Option Text) → file ≡ Some path
         → (if is_some file then is_some rounds
         else (is_some (given (codes "set")) || (is_some (given (codes "fruitless"))
-        || (is_set (given (codes "strict")) || is_set (given (codes "log")))))) ≡ false
+        || (is_some (given (codes "state")) || (is_some (given (codes "rate"))
+        || (is_set (given (codes "strict")) || is_set (given (codes "log")))))))) ≡ false
         → rounds ≡ None
     go None rounds is unmixed = let bad : None ≡ Some path = is in cc
     go (Some text) None is unmixed = refl
@@ -107,7 +114,7 @@ no_samples given samples none g =
     subst (GivesSamples given) same g
   where
     go : (pcm file : Option Text) (format : Option WrittenFormat) → file ≡ None → GivesFormat pcm format
-        → (if is_some pcm then not (is_some file) || is_unpaired given
+        → (if is_some pcm then not (is_some file) || (is_some (given (codes "state")) || is_unpaired given)
         else (is_some (given (codes "skip")) || (is_some (given (codes "block"))
         || (is_set (given (codes "follow")) || is_some (given (codes "until")))))) ≡ false
         → format ≡ None
@@ -127,7 +134,7 @@ wished_good name options wish asked = go wish asked
     go : (w : Wish) → IsWishOf (Some (name, options)) w → AllGood (looked_at name) (given_on_line options)
     go (Replaying limit fuse) a = at (codes "replay") a.0 ((limit, a.1), ((fuse, a.2), tt))
     go (Rehearsing take_name limit) a = at (codes "rehearse") a.0 ((take_name, a.1), ((limit, a.2), tt))
-    go (Listing folder) a = at (codes "takes") a.0 ((folder, a.1), tt)
+    go (Listing folder work) a = at (codes "takes") a.0 ((folder, a.1), ((work, a.2), tt))
     go (Serving server) a = at (codes "serve") a.0 (
       (server.listen, a.1.listens),
       (
@@ -159,8 +166,11 @@ wished_good name options wish asked = go wish asked
           (
             (sender.timeout, a.1.waits),
             (
-              (None, no_count most_fruitless _ (no_fruitless (given_on_line options) a.1.lines a.1.unmixed)),
-              (a.1.unmixed, samples_good (given_on_line options) None a.1.unsampled),
+              (None, no_count most_fruitless _ (no_pace (given_on_line options) a.1.lines a.1.unmixed).0),
+              (
+                (None, no_count most_rate _ (no_pace (given_on_line options) a.1.lines a.1.unmixed).1),
+                (a.1.unmixed, samples_good (given_on_line options) None a.1.unsampled),
+              ),
             ),
           ),
         ),
@@ -178,7 +188,13 @@ wished_good name options wish asked = go wish asked
           ),
           (
             (a.1.waits.0, a.1.waits.1),
-            ((a.1.ends.0, a.1.ends.1), (a.1.unmixed, samples_good (given_on_line options) None a.1.unsampled)),
+            (
+              (a.1.ends.0, a.1.ends.1),
+              (
+                (sender.rate, a.1.paced),
+                (a.1.unmixed, samples_good (given_on_line options) None a.1.unsampled),
+              ),
+            ),
           ),
         ),
       ),
@@ -197,7 +213,10 @@ wished_good name options wish asked = go wish asked
             (a.1.waits.0, a.1.waits.1),
             (
               (a.1.count, a.1.counts),
-              (a.1.unmixed, samples_good (given_on_line options) (Some sender.pcm) a.1.samples),
+              (
+                (sender.rate, a.1.paced),
+                (a.1.unmixed, samples_good (given_on_line options) (Some sender.pcm) a.1.samples),
+              ),
             ),
           ),
         ),
@@ -288,24 +307,83 @@ name_alone_line found name named given = bad_line found (codes "rehearse") Limit
 -- the files to inspect that are given are those that are asked for
 pub inspection_asked : (found : Found) (inspection : PlainInspection)
     → Some inspection.files ≡ option_map raw_values (matched_of found (codes "file"))
-    → inspection.json ≡ is_set (first_value found (codes "json")) → GivesInspection (rows_of found) inspection
-inspection_asked found inspection given prints = record {
+    → inspection.json ≡ is_set (first_value found (codes "json"))
+    → inspection.human ≡ is_set (first_value found (codes "human"))
+    → inspection.digest ≡ is_set (first_value found (codes "digest"))
+    → is_possible inspection.files inspection.json inspection.human inspection.digest ≡ true
+    → GivesInspection (rows_of found) inspection
+inspection_asked found inspection given prints explains digests possible = record {
   from = sym (given ∙ raw_values-rows found (codes "file"));
   prints = by_rows found (λ g. inspection.json ≡ is_set (g (codes "json"))) prints;
+  explains = by_rows found (λ g. inspection.human ≡ is_set (g (codes "human"))) explains;
+  digests = by_rows found (λ g. inspection.digest ≡ is_set (g (codes "digest"))) digests;
+  possible = possible;
 }
 
--- without one, nothing is asked for, and no value is looked at
-pub no_file_line : (found : Found) → None ≡ option_map raw_values (matched_of found (codes "file"))
-    → IsLineFor (Some (codes "inspect", rows_of found)) (Bad Limit)
-no_file_line found given = (nothing, inr (refl, refl))
-  where
-    none : None ≡ all_of (codes "file") (rows_of found)
-    none = given ∙ raw_values-rows found (codes "file")
+-- one file is asked for, and no option
+no_option : (json human digest optioned : Bool) → optioned ≡ (json || (human || digest)) → optioned ≡ false
+    → (json ≡ false) × (human ≡ false) × (digest ≡ false)
+no_option false false false optioned is none = (refl, refl, refl)
+no_option true human digest optioned is none = let bad : true ≡ false = sym is ∙ none in cc
+no_option false true digest optioned is none = let bad : true ≡ false = sym is ∙ none in cc
+no_option false false true optioned is none = let bad : true ≡ false = sym is ∙ none in cc
 
-    nothing : AsksNothing (Some (codes "inspect", rows_of found))
-    nothing (Inspecting path) asked = let bad : None ≡ Some (path ∷ []) = none ∙ asked.1.from in cc
-    nothing (InspectingFiles inspection) asked = let bad : None ≡ Some inspection.files = none ∙ asked.1.from in cc
-    nothing wish asked = other_name (refl {a = codes "inspect"}) asked.0 refl
+pub only_asked : (found : Found) (files : List Text) (path : Text) (json human digest optioned : Bool)
+    → files ≡ path ∷ []
+    → Some files ≡ option_map raw_values (matched_of found (codes "file"))
+    → json ≡ is_set (first_value found (codes "json")) → human ≡ is_set (first_value found (codes "human"))
+    → digest ≡ is_set (first_value found (codes "digest")) → optioned ≡ (json || (human || digest)) → optioned ≡ false
+    → GivesInspection (rows_of found) (one_file path)
+only_asked found files path json human digest optioned one given prints explains digests is none =
+    let without = no_option json human digest optioned is none in
+    inspection_asked found (one_file path) (ap Some (sym one) ∙ given) (sym without.0 ∙ prints)
+    (sym without.1 ∙ explains)
+    (sym without.2 ∙ digests) refl
+
+-- options by which nothing can be inspected ask for nothing
+pub nothing_inspected : (command : Text × List Row) → command.0 ≡ codes "inspect"
+    → ((i : PlainInspection) → ¬ GivesInspection command.1 i) → AsksNothing (Some command)
+nothing_inspected command is none (Inspecting path) asked = none (one_file path) asked.1
+nothing_inspected command is none (InspectingFiles inspection) asked = none inspection asked.1
+nothing_inspected command is none wish asked = other_name is asked.0 refl
+
+-- without a file, nothing is asked for, and no value is looked at
+pub no_file_line : (found : Found) → None ≡ option_map raw_values (matched_of found (codes "file"))
+    → IsLineFor (Some (codes "inspect", rows_of found)) (Bad Inspection)
+no_file_line found given = (nothing_inspected _ refl nothing, inr (refl, refl))
+  where
+    nothing : (i : PlainInspection) → ¬ GivesInspection (rows_of found) i
+    nothing i asked = let bad : None ≡ Some i.files = given ∙ raw_values-rows found (codes "file") ∙ asked.from in cc
+
+-- nor with files that can't be inspected so
+pub clashing : (options : List Row) (files : List Text) (json human digest : Bool)
+    → all_of (codes "file") options ≡ Some files
+    → json ≡ is_set (given_on_line options (codes "json")) → human ≡ is_set (given_on_line options (codes "human"))
+    → digest ≡ is_set (given_on_line options (codes "digest")) → is_possible files json human digest ≡ false
+    → (i : PlainInspection) → ¬ GivesInspection options i
+clashing options files json human digest given prints explains digests clash i asked =
+    let from : Some files ≡ Some i.files = sym given ∙ asked.from in
+    let same : files ≡ i.files = cc in
+    let printed : json ≡ i.json = prints ∙ sym asked.prints in
+    let explained : human ≡ i.human = explains ∙ sym asked.explains in
+    let digested : digest ≡ i.digest = digests ∙ sym asked.digests in
+    let as_asked : is_possible files json human digest ≡ true =
+    rw (same, printed, explained, digested) asked.possible in
+    let bad : true ≡ false = sym as_asked ∙ clash in cc
+
+pub clashing_line : (found : Found) (files : List Text) (json human digest : Bool)
+    → Some files ≡ option_map raw_values (matched_of found (codes "file"))
+    → json ≡ is_set (first_value found (codes "json")) → human ≡ is_set (first_value found (codes "human"))
+    → digest ≡ is_set (first_value found (codes "digest")) → is_possible files json human digest ≡ false
+    → IsLineFor (Some (codes "inspect", rows_of found)) (Bad Inspection)
+clashing_line found files json human digest given prints explains digests clash = (
+  nothing_inspected _ refl (clashing (rows_of found) files json human digest
+      (sym (given ∙ raw_values-rows found (codes "file")))
+      (by_rows found (λ g. json ≡ is_set (g (codes "json"))) prints)
+      (by_rows found (λ g. human ≡ is_set (g (codes "human"))) explains)
+      (by_rows found (λ g. digest ≡ is_set (g (codes "digest"))) digests) clash),
+  inr (refl, refl),
+)
 
 -- the file to pack that is given is the one that is asked for
 pub source_asked : (found : Found) (path : Text) (source : PlainSource) → Some path ≡ first_value found (codes "file")
@@ -339,6 +417,20 @@ no_packed_line found given = (nothing, inr (refl, refl))
         no_path source.path (given ∙ first_value-rows found (codes "file") ∙ asked.1.from)
     nothing wish asked = other_name (refl {a = codes "pack"}) asked.0 refl
 
+-- the file to draw that is given is the one that is asked for
+pub picture_asked : (found : Found) (path : Text) → Some path ≡ first_value found (codes "file")
+    → IsWishOf (Some (codes "picture", rows_of found)) (Picturing path)
+picture_asked found path given = (refl, sym (given ∙ first_value-rows found (codes "file")))
+
+-- without one, nothing is asked for, and no value is looked at
+pub no_picture_line : (found : Found) → None ≡ first_value found (codes "file")
+    → IsLineFor (Some (codes "picture", rows_of found)) (Bad Limit)
+no_picture_line found given = (nothing, inr (refl, refl))
+  where
+    nothing : AsksNothing (Some (codes "picture", rows_of found))
+    nothing (Picturing path) asked = no_path path (given ∙ first_value-rows found (codes "file") ∙ asked.1)
+    nothing wish asked = other_name (refl {a = codes "picture"}) asked.0 refl
+
 -- the file to repair that is given is the one that is asked for, and so is the writing
 pub repair_asked : (found : Found) (path : Text) (write : Bool) → Some path ≡ first_value found (codes "file")
     → write ≡ is_set (first_value found (codes "write"))
@@ -359,10 +451,15 @@ no_repaired_line found given = (nothing, inr (refl, refl))
         no_path path (given ∙ first_value-rows found (codes "file") ∙ asked.1)
     nothing wish asked = other_name (refl {a = codes "repair"}) asked.0 refl
 
--- the folder of takes that is given is the one that is asked for
-pub listing_asked : (found : Found) (folder : Text) → GivesFolder (first_value found (codes "folder")) folder
-    → IsWishOf (Some (codes "takes", rows_of found)) (Listing folder)
-listing_asked found folder given = (refl, by_rows found (λ g. GivesFolder (g (codes "folder")) folder) given)
+-- the folder of takes that is given is the one that is asked for, and so is what is done there
+pub listing_asked : (found : Found) (folder : Text) (work : FolderWork)
+    → GivesFolder (first_value found (codes "folder")) folder → GivesWork (first_value found) work
+    → IsWishOf (Some (codes "takes", rows_of found)) (Listing folder work)
+listing_asked found folder work given done = (
+  refl,
+  by_rows found (λ g. GivesFolder (g (codes "folder")) folder) given,
+  by_rows found (λ g. GivesWork g work) done,
+)
 
 -- the server that is given is the one that is asked for
 pub server_asked : (found : Found) (server : Service) → GivesServer (first_value found) server
@@ -380,9 +477,10 @@ pub upload_asked : (found : Found) (sender : FileUpload)
     → GivesName (first_value found (codes "name")) sender.name → GivesSource (rows_of found) sender.source
     → GivesCountOr default_timeout most_seconds (first_value found (codes "timeout")) sender.timeout
     → GivesCountOr default_fruitless most_fruitless (first_value found (codes "fruitless")) sender.fruitless
-    → sender.log ≡ is_set (first_value found (codes "log")) → is_mixed (first_value found) ≡ false
+    → sender.log ≡ is_set (first_value found (codes "log")) → sender.state ≡ first_value found (codes "state")
+    → GivesCount most_rate (first_value found (codes "rate")) sender.rate → is_mixed (first_value found) ≡ false
     → GivesSamples (first_value found) None → IsWishOf (Some (codes "send", rows_of found)) (Uploading sender)
-upload_asked found sender connects named takes waits ends reports unmixed unsampled = (
+upload_asked found sender connects named takes waits ends reports states paced unmixed unsampled = (
   refl,
   record {
     connects = by_rows found (λ g. GivesAddress (is_set (g (codes "network"))) (g (codes "connect")) sender.connect)
@@ -393,6 +491,8 @@ upload_asked found sender connects named takes waits ends reports unmixed unsamp
     ends = by_rows found (λ g. GivesCountOr default_fruitless most_fruitless (g (codes "fruitless")) sender.fruitless)
         ends;
     reports = by_rows found (λ g. sender.log ≡ is_set (g (codes "log"))) reports;
+    states = by_rows found (λ g. sender.state ≡ g (codes "state")) states;
+    paced = by_rows found (λ g. GivesCount most_rate (g (codes "rate")) sender.rate) paced;
     unmixed = by_rows found (λ g. is_mixed g ≡ false) unmixed;
     unsampled = by_rows found (λ g. GivesSamples g None) unsampled;
   },
@@ -406,9 +506,10 @@ pub pcm_asked : (found : Found) (sender : PcmUpload) (count : Option ℕ)
     → GivesCountOr default_timeout most_seconds (first_value found (codes "timeout")) sender.timeout
     → GivesCount most_fruitless (first_value found (codes "fruitless")) count
     → sender.fruitless ≡ fruitless_of sender.pcm.until count
-    → sender.log ≡ is_set (first_value found (codes "log")) → is_mixed (first_value found) ≡ false
+    → sender.log ≡ is_set (first_value found (codes "log"))
+    → GivesCount most_rate (first_value found (codes "rate")) sender.rate → is_mixed (first_value found) ≡ false
     → IsWishOf (Some (codes "send", rows_of found)) (SendingPcm sender)
-pcm_asked found sender count connects named takes samples waits counts ends reports unmixed = (
+pcm_asked found sender count connects named takes samples waits counts ends reports paced unmixed = (
   refl,
   record {
     connects = by_rows found (λ g. GivesAddress (is_set (g (codes "network"))) (g (codes "connect")) sender.connect)
@@ -421,6 +522,7 @@ pcm_asked found sender count connects named takes samples waits counts ends repo
     counts = by_rows found (λ g. GivesCount most_fruitless (g (codes "fruitless")) count) counts;
     ends = ends;
     reports = by_rows found (λ g. sender.log ≡ is_set (g (codes "log"))) reports;
+    paced = by_rows found (λ g. GivesCount most_rate (g (codes "rate")) sender.rate) paced;
     unmixed = by_rows found (λ g. is_mixed g ≡ false) unmixed;
   },
 )
@@ -440,10 +542,13 @@ upload_kept found path name connect tries connects named at given unmixed unsamp
     timeout = unwrap_or tries.timeout default_timeout;
     fruitless = unwrap_or tries.fruitless default_fruitless;
     log = is_set (first_value found (codes "log"));
+    state = first_value found (codes "state");
+    rate = tries.rate;
   }),
   tt,
   upload_asked found _ connects named (source_asked found path (found_source found path) at refl refl refl)
-      (tries.timeout, given.waits, refl) (tries.fruitless, given.ends, refl) refl unmixed unsampled,
+      (tries.timeout, given.waits, refl) (tries.fruitless, given.ends, refl) refl refl given.paced
+      unmixed unsampled,
 )
 
 pub samples_kept : (found : Found) (path name : Text) (connect : SocketAddr) (tries : Tries) (pcm : PlainPcm)
@@ -460,11 +565,12 @@ samples_kept found path name connect tries pcm connects named at given unmixed s
     timeout = unwrap_or tries.timeout default_timeout;
     fruitless = fruitless_of pcm.until tries.fruitless;
     log = is_set (first_value found (codes "log"));
+    rate = tries.rate;
   }),
   tt,
   pcm_asked found _ tries.fruitless connects named (source_asked found path (found_source found path) at refl refl
       refl)
-      samples (tries.timeout, given.waits, refl) given.ends refl refl unmixed,
+      samples (tries.timeout, given.waits, refl) given.ends refl refl given.paced unmixed,
 )
 
 -- addresses and ends, where a flag was read before
@@ -518,6 +624,25 @@ no_journaling found is_kept is_synced kept synced none good =
     none good.0 (subst (λ s. IsJournaling is_kept s good.0) (sym synced)
     (subst (λ k. IsJournaling k (is_set (first_value found (codes "sync"))) good.0) (sym kept) good.1))
 
+-- what is done in a folder, where its options were read before
+pub a_work : (found : Found) (check json : Bool) (name : Option Text) (work : FolderWork)
+    → check ≡ is_set (first_value found (codes "check")) → json ≡ is_set (first_value found (codes "json"))
+    → name ≡ first_value found (codes "give-up") → IsWork check json name work → GivesWork (first_value found) work
+a_work found check json name work checks prints names is =
+    subst (λ n. IsWork (is_set (first_value found (codes "check"))) (is_set (first_value found (codes "json"))) n work)
+    names (subst (λ j. IsWork (is_set (first_value found (codes "check"))) j name work) prints
+    (subst (λ c. IsWork c json name work) checks is))
+
+pub no_work : (found : Found) (check json : Bool) (name : Option Text)
+    → check ≡ is_set (first_value found (codes "check")) → json ≡ is_set (first_value found (codes "json"))
+    → name ≡ first_value found (codes "give-up") → IsWorkGiven check json name None
+    → ¬ IsGood GiveUp (first_value found)
+no_work found check json name checks prints names none good =
+    none good.0 (subst (λ n. IsWork check json n good.0) (sym names)
+    (subst (λ j. IsWork check j (first_value found (codes "give-up")) good.0) (sym prints)
+    (subst (λ c. IsWork c (is_set (first_value found (codes "json"))) (first_value found (codes "give-up")) good.0)
+    (sym checks) good.1)))
+
 -- the ways that were looked at are the only ones
 pub no_way : (found : Found) (timeout most idle : Option ℕ)
     → GivesCount most_seconds (first_value found (codes "timeout")) timeout
@@ -546,7 +671,8 @@ way_then later given value way g first =
 pub tries_then : (later : List BadValue) (given : Text → Option Text) (value : BadValue) (tries : Tries)
     → GivesTries given tries → IsFirstBad later given value → IsFirstBad (looked_at_trying ++ later) given value
 tries_then later given value tries g first =
-    (tries.rounds, g.rounds) and_then (tries.timeout, g.waits) and_then (tries.fruitless, g.ends) and_then first
+    (tries.rounds, g.rounds) and_then (tries.timeout, g.waits) and_then (tries.fruitless, g.ends)
+    and_then (tries.rate, g.paced) and_then first
 
 given_limit : (text : Option Text) (limit : ℕ) → GivesLimit text limit → IsLimitValue limit
 given_limit (Some text) limit given = subst IsLimitValue (sym given.1) given.0.1
@@ -626,6 +752,7 @@ line_limit (Some command) (Run (SendFile sender)) asked = (
       (given_count _ _ _ asked.1.waits.1) asked.1.waits.2,
   given_number default_fruitless most_fruitless asked.1.ends.0 sender.fruitless (omega arith) (omega arith)
       (given_count _ _ _ asked.1.ends.1) asked.1.ends.2,
+  given_count _ _ sender.rate asked.1.paced,
 )
 line_limit (Some command) (Run (SendPcm sender)) asked = (
   given_port _ _ sender.connect asked.1.connects,
@@ -633,6 +760,7 @@ line_limit (Some command) (Run (SendPcm sender)) asked = (
       (given_count _ _ _ asked.1.waits.1) asked.1.waits.2,
   given_fruitless _ asked.1.count sender.fruitless (given_count _ _ _ asked.1.counts) asked.1.ends,
   given_block _ _ asked.1.samples,
+  given_count _ _ sender.rate asked.1.paced,
 )
 line_limit (Some command) (Run task) asked = tt
 line_limit None (Run task) asked = absurd asked

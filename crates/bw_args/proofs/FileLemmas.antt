@@ -4,16 +4,16 @@ use Rattle.clap.specs.declared.error.ErrorKind.TheVariants.{MissingRequiredArgum
 use Rattle.clap.specs.Words.{Row, Text}
 use Rattle.clap.proofs.OnLiterals.{clap_on_literals}
 use Rattle.bw_args.specs.Numbers.{IsCountText, default_fruitless, default_timeout, most_fruitless, most_rounds, most_seconds}
-use Rattle.bw_args.specs.Numbers.{number_written}
+use Rattle.bw_args.specs.Numbers.{most_rate, number_written}
 use Rattle.bw_args.specs.ReadWords.{as_read}
 use Rattle.bw_args.specs.Sources.{GivesSource, PlainSource, is_mixed}
 use Rattle.bw_args.specs.PcmSources.{GivesSamples}
-use Rattle.bw_args.specs.Lines.{AsksFor, GivesAddress, GivesCountOr, GivesName, GivesUpload, IsLineOf, Packing}
+use Rattle.bw_args.specs.Lines.{AsksFor, GivesAddress, GivesCount, GivesCountOr, GivesName, GivesUpload, IsLineOf, Packing}
 use Rattle.bw_args.specs.Lines.{FileUpload, Uploading, given_on_line, is_set}
 use Rattle.bw_args.specs.Forms.{IsPlain}
 use Rattle.bw_args.specs.FileForms.{RefusesFiles, RunsFileSender, RunsPack, plain_upload, source_at, with_file}
 use Rattle.bw_args.specs.declared.CommandLine.{CommandLine}
-use Rattle.bw_args.specs.declared.bad_value.BadValue.TheVariants.{Fruitless, Mixed}
+use Rattle.bw_args.specs.declared.bad_value.BadValue.TheVariants.{Fruitless, Mixed, Rate}
 use Rattle.bw_args.proofs.FormLemmas.{asked_reports, asked_runs, asks, plain_byte}
 use Rattle.bw_args.proofs.SenderLemmas.{AsksSender, samples_by}
 use Rattle.bw_args.proofs.Asked.{bad, ◌and_then◌}
@@ -63,15 +63,18 @@ upload_by : {options : List Row} {sender : FileUpload}
     → GivesAddress (is_set (given_on_line options (codes "network"))) (given_on_line options (codes "connect"))
     sender.connect
     → GivesName (given_on_line options (codes "name")) sender.name → GivesSource options sender.source
-    → sender.log ≡ is_set (given_on_line options (codes "log")) → is_mixed (given_on_line options) ≡ false
-    → GivesSamples (given_on_line options) None → GivesUpload options sender
-upload_by waits ends connects named takes reports unmixed unsampled = record {
+    → sender.log ≡ is_set (given_on_line options (codes "log")) → sender.state ≡ given_on_line options (codes "state")
+    → GivesCount most_rate (given_on_line options (codes "rate")) sender.rate
+    → is_mixed (given_on_line options) ≡ false → GivesSamples (given_on_line options) None → GivesUpload options sender
+upload_by waits ends connects named takes reports states paced unmixed unsampled = record {
   connects = connects;
   named = named;
   takes = takes;
   waits = waits;
   ends = ends;
   reports = reports;
+  states = states;
+  paced = paced;
   unmixed = unmixed;
   unsampled = unsampled;
 }
@@ -83,7 +86,7 @@ alone_sends path program connect name address at named =
     asks refl (
       refl,
       upload_by (None, refl, refl) (None, refl, refl) at (named, refl)
-          (record { from = refl; sets = refl; refuses = refl }) refl refl
+          (record { from = refl; sets = refl; refuses = refl }) refl refl refl refl
           (samples_by None None None refl refl refl refl refl),
     )
 
@@ -95,7 +98,7 @@ sets_sends path x y program connect name address at named =
     asks refl (
       refl,
       upload_by (None, refl, refl) (None, refl, refl) at (named, refl)
-          (record { from = refl; sets = refl; refuses = refl }) refl refl
+          (record { from = refl; sets = refl; refuses = refl }) refl refl refl refl
           (samples_by None None None refl refl refl refl refl),
     )
 
@@ -106,7 +109,7 @@ strict_sends path program connect name address at named =
     asks refl (
       refl,
       upload_by (None, refl, refl) (None, refl, refl) at (named, refl)
-          (record { from = refl; sets = refl; refuses = refl }) refl refl
+          (record { from = refl; sets = refl; refuses = refl }) refl refl refl refl
           (samples_by None None None refl refl refl refl refl),
     )
 
@@ -118,7 +121,7 @@ fruitless_sends path count is program connect name address at named =
     asks refl (
       refl,
       upload_by (None, refl, refl) (Some (number_written count), (is, refl), refl) at (named, refl)
-          (record { from = refl; sets = refl; refuses = refl }) refl refl
+          (record { from = refl; sets = refl; refuses = refl }) refl refl refl refl
           (samples_by None None None refl refl refl refl refl),
     )
 
@@ -130,7 +133,7 @@ timeout_sends path seconds is program connect name address at named =
     asks refl (
       refl,
       upload_by (Some (number_written seconds), (is, refl), refl) (None, refl, refl) at (named, refl)
-          (record { from = refl; sets = refl; refuses = refl }) refl refl
+          (record { from = refl; sets = refl; refuses = refl }) refl refl refl refl
           (samples_by None None None refl refl refl refl refl),
     )
 
@@ -141,7 +144,30 @@ log_sends path program connect name address at named =
     asks refl (
       refl,
       upload_by (None, refl, refl) (None, refl, refl) at (named, refl)
-          (record { from = refl; sets = refl; refuses = refl }) refl refl
+          (record { from = refl; sets = refl; refuses = refl }) refl refl refl refl
+          (samples_by None None None refl refl refl refl refl),
+    )
+
+state_sends : (path state : Text) → AsksSender false (with_file path ((codes "--state=" ++ state) ∷ []))
+    (λ a n. Uploading (record (plain_upload a n path) { state = Some state }))
+unfolding clap_on_literals
+state_sends path state program connect name address at named =
+    asks refl (
+      refl,
+      upload_by (None, refl, refl) (None, refl, refl) at (named, refl)
+          (record { from = refl; sets = refl; refuses = refl }) refl refl refl refl
+          (samples_by None None None refl refl refl refl refl),
+    )
+
+rate_sends : (path bytes : Text) → IsCountText most_rate bytes
+    → AsksSender false (with_file path ((codes "--rate=" ++ bytes) ∷ []))
+    (λ a n. Uploading (record (plain_upload a n path) { rate = Some (number_written bytes) }))
+unfolding clap_on_literals
+rate_sends path bytes is program connect name address at named =
+    asks refl (
+      refl,
+      upload_by (None, refl, refl) (None, refl, refl) at (named, refl)
+          (record { from = refl; sets = refl; refuses = refl }) refl refl (is, refl) refl
           (samples_by None None None refl refl refl refl refl),
     )
 
@@ -152,7 +178,7 @@ network_sends path program connect name address at named =
     asks refl (
       refl,
       upload_by (None, refl, refl) (None, refl, refl) at (named, refl)
-          (record { from = refl; sets = refl; refuses = refl }) refl refl
+          (record { from = refl; sets = refl; refuses = refl }) refl refl refl refl
           (samples_by None None None refl refl refl refl refl),
     )
 
@@ -165,6 +191,8 @@ runs_file_sender words line is = record {
       (fruitless_sends f t given p c n a at named);
   timeout = λ f t given p c n a at named e. asked_runs words _ line _ is e (timeout_sends f t given p c n a at named);
   log = λ f p c n a at named e. asked_runs words _ line _ is e (log_sends f p c n a at named);
+  state = λ f t p c n a at named e. asked_runs words _ line _ is e (state_sends f t p c n a at named);
+  rate = λ f t given p c n a at named e. asked_runs words _ line _ is e (rate_sends f t given p c n a at named);
   network = λ f p c n a at named e. asked_runs words _ line _ is e (network_sends f p c n a at named);
 }
 
@@ -174,7 +202,7 @@ unfolding clap_on_literals
 mixed_rounds path count is program connect name address at named = (
   refl,
   (address, at) and_then (name, (named, refl)) and_then (Some (number_written count), (is, refl))
-      and_then nothing and_then nothing and_then bad not_mixed,
+      and_then nothing and_then nothing and_then nothing and_then bad not_mixed,
 )
 
 mixed_sets : (a : Text) → LacksSender ((codes "--set=" ++ a) ∷ []) Mixed
@@ -182,7 +210,7 @@ unfolding clap_on_literals
 mixed_sets a program connect name address at named = (
   refl,
   (address, at) and_then (name, (named, refl)) and_then nothing and_then nothing and_then nothing
-      and_then bad not_mixed,
+      and_then nothing and_then bad not_mixed,
 )
 
 mixed_strict : LacksSender (codes "--strict" ∷ []) Mixed
@@ -190,7 +218,7 @@ unfolding clap_on_literals
 mixed_strict program connect name address at named = (
   refl,
   (address, at) and_then (name, (named, refl)) and_then nothing and_then nothing and_then nothing
-      and_then bad not_mixed,
+      and_then nothing and_then bad not_mixed,
 )
 
 mixed_log : LacksSender (codes "--log" ∷ []) Mixed
@@ -198,7 +226,7 @@ unfolding clap_on_literals
 mixed_log program connect name address at named = (
   refl,
   (address, at) and_then (name, (named, refl)) and_then nothing and_then nothing and_then nothing
-      and_then bad not_mixed,
+      and_then nothing and_then bad not_mixed,
 )
 
 mixed_fruitless : (count : Text) → IsCountText most_fruitless count
@@ -207,7 +235,32 @@ unfolding clap_on_literals
 mixed_fruitless count is program connect name address at named = (
   refl,
   (address, at) and_then (name, (named, refl)) and_then nothing and_then nothing
-      and_then (Some (number_written count), (is, refl)) and_then bad not_mixed,
+      and_then (Some (number_written count), (is, refl)) and_then nothing and_then bad not_mixed,
+)
+
+mixed_state : (state : Text) → LacksSender ((codes "--state=" ++ state) ∷ []) Mixed
+unfolding clap_on_literals
+mixed_state state program connect name address at named = (
+  refl,
+  (address, at) and_then (name, (named, refl)) and_then nothing and_then nothing and_then nothing
+      and_then nothing and_then bad not_mixed,
+)
+
+mixed_rate : (bytes : Text) → IsCountText most_rate bytes → LacksSender ((codes "--rate=" ++ bytes) ∷ []) Mixed
+unfolding clap_on_literals
+mixed_rate bytes is program connect name address at named = (
+  refl,
+  (address, at) and_then (name, (named, refl)) and_then nothing and_then nothing and_then nothing
+      and_then (Some (number_written bytes), (is, refl)) and_then bad not_mixed,
+)
+
+bad_rate : (path bytes : Text) → ¬ IsCountText most_rate bytes
+    → LacksSender (with_file path ((codes "--rate=" ++ bytes) ∷ [])) Rate
+unfolding clap_on_literals
+bad_rate path bytes none program connect name address at named = (
+  refl,
+  (address, at) and_then (name, (named, refl)) and_then nothing and_then nothing and_then nothing
+      and_then bad (λ good. none good.1.0),
 )
 
 bad_fruitless : (path count : Text) → ¬ IsCountText most_fruitless count
@@ -227,6 +280,9 @@ refuses_files words line is = record {
   log = λ p c n a at named e. reported words _ line Mixed is e (mixed_log p c n a at named);
   fruitless = λ t given p c n a at named e. reported words _ line Mixed is e
       (mixed_fruitless t given p c n a at named);
+  state = λ t p c n a at named e. reported words _ line Mixed is e (mixed_state t p c n a at named);
+  rate = λ t given p c n a at named e. reported words _ line Mixed is e (mixed_rate t given p c n a at named);
+  bad_rate = λ f t none p c n a at named e. reported words _ line Rate is e (bad_rate f t none p c n a at named);
   bad_fruitless = λ f t none p c n a at named e.
       reported words _ line Fruitless is e (bad_fruitless f t none p c n a at named);
 }

@@ -1,26 +1,53 @@
 -- The forms of `takes`, at folders that are not known.
-use Rattle.std.proofs.Common.{◌≢◌, List, [], ◌∷◌, ◌++◌, codes, refl}
+use Rattle.std.proofs.Common.{◌≢◌, List, [], ◌∷◌, ◌++◌, true, false, codes, refl}
 use Rattle.clap.specs.declared.error.ErrorKind.TheVariants.{MissingRequiredArgument}
 use Rattle.clap.specs.Words.{Text}
 use Rattle.clap.proofs.OnLiterals.{clap_on_literals}
 use Rattle.bw_args.specs.ReadWords.{as_read}
-use Rattle.bw_args.specs.Lines.{AsksFor, IsLineOf, Listing}
+use Rattle.bw_args.specs.Lines.{AsksFor, IsLineOf, IsName, Listing}
 use Rattle.bw_args.specs.FolderForms.{RunsTakes}
 use Rattle.bw_args.specs.declared.CommandLine.{CommandLine}
-use Rattle.bw_args.specs.declared.bad_value.BadValue.TheVariants.{Folder}
+use Rattle.bw_args.specs.declared.bad_value.BadValue.TheVariants.{Folder, GiveUp as BadGiveUp}
+use Rattle.bw_args.specs.declared.folders.FolderWork.TheVariants.{Report, GiveUp}
 use Rattle.bw_args.proofs.FormLemmas.{asked_reports, asked_runs, asks}
-use Rattle.bw_args.proofs.Asked.{bad}
+use Rattle.bw_args.proofs.Asked.{bad, ◌and_then◌}
 use Rattle.bw_args.proofs.ValueLemmas.{IsBadAt, reported}
 
 joined_lists : (program folder : Text) → folder ≢ []
-    → AsksFor (as_read (program ∷ codes "takes" ∷ (codes "--folder=" ++ folder) ∷ [])) (Listing folder)
+    → AsksFor (as_read (program ∷ codes "takes" ∷ (codes "--folder=" ++ folder) ∷ []))
+    (Listing folder (Report false false))
 unfolding clap_on_literals
-joined_lists program folder full = asks refl (refl, (full, refl))
+joined_lists program folder full = asks refl (refl, (full, refl), refl)
 
 apart_lists : (program folder : Text) → folder ≢ []
-    → AsksFor (as_read (program ∷ codes "takes" ∷ codes "--folder" ∷ folder ∷ [])) (Listing folder)
+    → AsksFor (as_read (program ∷ codes "takes" ∷ codes "--folder" ∷ folder ∷ []))
+    (Listing folder (Report false false))
 unfolding clap_on_literals
-apart_lists program folder full = asks refl (refl, (full, refl))
+apart_lists program folder full = asks refl (refl, (full, refl), refl)
+
+checked_lists : (program folder : Text) → folder ≢ []
+    → AsksFor (as_read (program ∷ codes "takes" ∷ codes "--folder" ∷ folder ∷ codes "--check" ∷ codes "--json" ∷ []))
+    (Listing folder (Report true true))
+unfolding clap_on_literals
+checked_lists program folder full = asks refl (refl, (full, refl), refl)
+
+gives_up : (program folder name : Text) → folder ≢ [] → IsName name
+    → AsksFor (as_read (program ∷ codes "takes" ∷ codes "--folder" ∷ folder ∷ (codes "--give-up=" ++ name) ∷ []))
+    (Listing folder (GiveUp name))
+unfolding clap_on_literals
+gives_up program folder name full named = asks refl (refl, (full, refl), (named, refl))
+
+bad_name : (program folder text : Text) → folder ≢ [] → ¬ IsName text
+    → IsBadAt (as_read (program ∷ codes "takes" ∷ codes "--folder" ∷ folder ∷ (codes "--give-up=" ++ text) ∷ []))
+    BadGiveUp
+unfolding clap_on_literals
+bad_name program folder text full none = (refl, (folder, (full, refl)) and_then bad (λ good. none good.1.0))
+
+bad_mix : (program folder text : Text) → folder ≢ []
+    → IsBadAt (as_read (program ∷ codes "takes" ∷ codes "--folder" ∷ folder ∷ codes "--json"
+    ∷ (codes "--give-up=" ++ text) ∷ [])) BadGiveUp
+unfolding clap_on_literals
+bad_mix program folder text full = (refl, (folder, (full, refl)) and_then bad (λ good. good.1))
 
 bad_folder : (program : Text) → IsBadAt (as_read (program ∷ codes "takes" ∷ codes "--folder=" ∷ [])) Folder
 unfolding clap_on_literals
@@ -31,6 +58,10 @@ unfolding clap_on_literals
 runs_takes words line is = record {
   joined = λ p f full e. asked_runs words _ line _ is e (joined_lists p f full);
   apart = λ p f full e. asked_runs words _ line _ is e (apart_lists p f full);
+  checked = λ p f full e. asked_runs words _ line _ is e (checked_lists p f full);
+  given_up = λ p f n full named e. asked_runs words _ line _ is e (gives_up p f n full named);
+  unnamed = λ p f t full none e. reported words _ line BadGiveUp is e (bad_name p f t full none);
+  mixed = λ p f t full e. reported words _ line BadGiveUp is e (bad_mix p f t full);
   empty = λ p e. reported words _ line Folder is e (bad_folder p);
   none = λ p e. asked_reports MissingRequiredArgument words _ line is e refl;
 }

@@ -1,24 +1,22 @@
--- The forms of the commands, at limits and paths that are not known.
+-- The forms of `replay`, at limits that are not known, and what words that ask for something run.
 use Rattle.std.proofs.Common.{◌≡◌, ℕ, List, [], ◌∷◌, ◌++◌, Bool, true, false, ◌==◌, ◌<◌, ◌≢◌, codes, refl, ap, subst}
 use Rattle.std.proofs.Common.{sym, ◌∙◌, arith, Option, Some, None, inl, inr}
 use Rattle.std.specs.Char.{digit_value}
 use Rattle.std.proofs.lemmas.Bool.{eqb-true}
 use Rattle.clap.specs.declared.error.ErrorKind.{ErrorKind}
-use Rattle.clap.specs.declared.error.ErrorKind.TheVariants.{DisplayHelp, DisplayVersion, MissingRequiredArgument}
-use Rattle.clap.specs.declared.error.ErrorKind.TheVariants.{MissingSubcommand}
+use Rattle.clap.specs.declared.error.ErrorKind.TheVariants.{DisplayHelp, DisplayVersion, MissingSubcommand}
 use Rattle.clap.specs.Words.{IsAmong, Text, fault_of, kind_of, subcommand_of}
 use Rattle.clap.proofs.OnLiterals.{clap_on_literals}
 use Rattle.bw_args.specs.Commands.{command_line}
 use Rattle.bw_args.specs.Lines.{AsksFor, IsLineOf, IsLineRead, IsWishOf, Wish}
 use Rattle.bw_args.specs.ReadWords.{as_read}
-use Rattle.bw_args.specs.Lines.{Inspecting, InspectingFiles, Replaying, wish_of}
-use Rattle.bw_args.specs.Forms.{Inspects, IsPlain, IsReportedAs, RunsFor, RunsInspect, RunsReplay, ReportsHelp}
-use Rattle.bw_args.specs.Forms.{inspection_of}
+use Rattle.bw_args.specs.Lines.{Replaying, wish_of}
+use Rattle.bw_args.specs.Forms.{IsReportedAs, RunsFor, RunsReplay, ReportsHelp}
 use Rattle.bw_args.specs.Numbers.{IsLimitText, IsNumber, default_limit, number_written}
 use Rattle.bw_args.proofs.WishLemmas.{one_wish}
 use Rattle.bw_args.specs.declared.CommandLine.{CommandLine}
 use Rattle.bw_args.specs.declared.CommandLine.TheVariants.{Run, BadValue as Bad, Report}
-use Rattle.bw_args.specs.declared.Task.TheVariants.{Inspect, Replay}
+use Rattle.bw_args.specs.declared.Task.TheVariants.{Replay}
 
 -- a digit is no hyphen, so the word is read as a value
 pub no_hyphen : (d : ℕ) (ds : Text) → IsNumber (d ∷ ds) → (d == 45) ≡ false
@@ -107,12 +105,6 @@ replays limit fuse (Run task) e = cc
 replays limit fuse (Bad value) e = absurd e
 replays limit fuse (Report error) e = absurd e
 
-inspects : (path : Text) (line : CommandLine) → RunsFor (Inspecting path) line → Inspects path line
-inspects path (Run (Inspect file)) e = cc
-inspects path (Run task) e = cc
-inspects path (Bad value) e = absurd e
-inspects path (Report error) e = absurd e
-
 -- words that ask for a replay run it
 asked_replays : (words asking : List Text) (line : CommandLine) (limit : ℕ) (fuse : Option ℕ) → IsLineOf words line
     → words ≡ asking → AsksFor (as_read asking) (Replaying limit fuse) → line ≡ Run (Replay limit fuse)
@@ -161,61 +153,3 @@ plain_byte d plain = go (d == 45) refl
     go : (b : Bool) → (d == 45) ≡ b → b ≡ false
     go false e = refl
     go true e = absurd (plain (eqb-true d 45 e))
-
-file_asks : (program path : Text) → IsPlain path → AsksFor (program ∷ codes "inspect" ∷ path ∷ []) (Inspecting path)
-unfolding clap_on_literals
-file_asks program [] plain = asks refl (refl, record { from = refl; prints = refl })
-file_asks program (d ∷ ds) plain =
-    let value = plain_byte d plain in
-    asks (rw (value, value) (refl {a = []})) (simp value (refl, record { from = refl; prints = refl }))
-
-json_asks : (program path : Text) → IsPlain path
-    → AsksFor (program ∷ codes "inspect" ∷ codes "--json" ∷ path ∷ [])
-    (InspectingFiles (record (inspection_of (path ∷ [])) { json = true }))
-unfolding clap_on_literals
-json_asks program [] plain = asks refl (refl, record { from = refl; prints = refl }, refl)
-json_asks program (d ∷ ds) plain =
-    let value = plain_byte d plain in
-    asks (rw (value, value) (refl {a = []})) (simp value (refl, record { from = refl; prints = refl }, refl))
-
-two_ask : (program path other : Text) → IsPlain path → IsPlain other
-    → AsksFor (program ∷ codes "inspect" ∷ path ∷ other ∷ []) (InspectingFiles (inspection_of (path ∷ other ∷ [])))
-unfolding clap_on_literals
-two_ask program [] [] p q = asks refl (refl, record { from = refl; prints = refl }, refl)
-two_ask program [] (d ∷ ds) p q =
-    let w = plain_byte d q in
-    asks (rw (w, w) (refl {a = []})) (simp w (refl, record { from = refl; prints = refl }, refl))
-two_ask program (c ∷ cs) [] p q =
-    let v = plain_byte c p in
-    asks (rw (v, v) (refl {a = []})) (simp v (refl, record { from = refl; prints = refl }, refl))
-two_ask program (c ∷ cs) (d ∷ ds) p q =
-    let v = plain_byte c p in
-    let w = plain_byte d q in
-    asks (rw (v, v, w, w) (refl {a = []})) (simp (v, w) (refl, record { from = refl; prints = refl }, refl))
-
-json_last_asks : (program path other : Text) → IsPlain path → IsPlain other
-    → AsksFor (program ∷ codes "inspect" ∷ path ∷ other ∷ codes "--json" ∷ [])
-    (InspectingFiles (record (inspection_of (path ∷ other ∷ [])) { json = true }))
-unfolding clap_on_literals
-json_last_asks program [] [] p q = asks refl (refl, record { from = refl; prints = refl }, refl)
-json_last_asks program [] (d ∷ ds) p q =
-    let w = plain_byte d q in
-    asks (rw (w, w) (refl {a = []})) (simp w (refl, record { from = refl; prints = refl }, refl))
-json_last_asks program (c ∷ cs) [] p q =
-    let v = plain_byte c p in
-    asks (rw (v, v) (refl {a = []})) (simp v (refl, record { from = refl; prints = refl }, refl))
-json_last_asks program (c ∷ cs) (d ∷ ds) p q =
-    let v = plain_byte c p in
-    let w = plain_byte d q in
-    asks (rw (v, v, w, w) (refl {a = []})) (simp (v, w) (refl, record { from = refl; prints = refl }, refl))
-
-pub runs_inspect : (words : List Text) (line : CommandLine) → IsLineOf words line → RunsInspect words line
-unfolding clap_on_literals
-runs_inspect words line is = record {
-  file = λ program path plain e.
-      inspects path line (asked_runs words _ line _ is e (file_asks program path plain));
-  none = λ program e. asked_reports MissingRequiredArgument words _ line is e refl;
-  two = λ program path other p q e. asked_runs words _ line _ is e (two_ask program path other p q);
-  json = λ program path p e. asked_runs words _ line _ is e (json_asks program path p);
-  json_last = λ program path other p q e. asked_runs words _ line _ is e (json_last_asks program path other p q);
-}

@@ -2,8 +2,10 @@ pub mod AddressLemmas
 pub mod BuilderLemmas
 pub mod WishLemmas
 pub mod Asked
+pub mod CommandLemmas
 pub mod LineLemmas
 pub mod FormLemmas
+pub mod InspectLemmas
 pub mod ValueLemmas
 pub mod RehearsalLemmas
 pub mod ServerLemmas
@@ -11,5 +13,6 @@ pub mod SenderLemmas
 pub mod PeerValueLemmas
 pub mod FileLemmas
 pub mod PcmLemmas
+pub mod PictureLemmas
 pub mod RepairLemmas
 pub mod FolderLemmas

@@ -3,7 +3,7 @@ use Rattle.std.proofs.Common.{◌≡◌, ℕ, List, [], ◌∷◌, ◌++◌, fal
 use Rattle.clap.specs.Words.{Row, Text}
 use Rattle.clap.proofs.OnLiterals.{clap_on_literals}
 use Rattle.bw_args.specs.Numbers.{IsCountText, IsNumber, default_timeout, most_block, most_fruitless, most_seconds}
-use Rattle.bw_args.specs.Numbers.{number_written}
+use Rattle.bw_args.specs.Numbers.{most_rate, number_written}
 use Rattle.bw_args.specs.Sources.{GivesSource, is_mixed}
 use Rattle.bw_args.specs.PcmSources.{GivesFormat, GivesSamples, IsFormatText, fruitless_of}
 use Rattle.bw_args.specs.Lines.{GivesAddress, GivesCount, GivesCountOr, GivesName, GivesPcmUpload, IsLineOf, PcmUpload}
@@ -26,9 +26,10 @@ pcm_by : {options : List Row} {sender : PcmUpload} (count : Option ℕ)
     sender.connect
     → GivesName (given_on_line options (codes "name")) sender.name → GivesSource options sender.source
     → GivesCountOr default_timeout most_seconds (given_on_line options (codes "timeout")) sender.timeout
-    → sender.log ≡ is_set (given_on_line options (codes "log")) → is_mixed (given_on_line options) ≡ false
-    → GivesPcmUpload options sender
-pcm_by count counts ends samples connects named takes waits reports unmixed = record {
+    → sender.log ≡ is_set (given_on_line options (codes "log"))
+    → GivesCount most_rate (given_on_line options (codes "rate")) sender.rate
+    → is_mixed (given_on_line options) ≡ false → GivesPcmUpload options sender
+pcm_by count counts ends samples connects named takes waits reports paced unmixed = record {
   connects = connects;
   named = named;
   takes = takes;
@@ -38,6 +39,7 @@ pcm_by count counts ends samples connects named takes waits reports unmixed = re
   counts = counts;
   ends = ends;
   reports = reports;
+  paced = paced;
   unmixed = unmixed;
 }
 
@@ -49,7 +51,7 @@ alone_sends path text format given program connect name address at named =
     asks refl (
       refl,
       pcm_by None refl refl (samples_by (Some format) None None given refl refl refl refl) at (named, refl)
-          (record { from = refl; sets = refl; refuses = refl }) (None, refl, refl) refl refl,
+          (record { from = refl; sets = refl; refuses = refl }) (None, refl, refl) refl refl refl,
     )
 
 skip_sends : (path text bytes : Text) (format : WrittenFormat) → IsFormatText text format → IsNumber bytes
@@ -62,7 +64,7 @@ skip_sends path text bytes format given number program connect name address at n
       refl,
       pcm_by None refl refl (samples_by (Some format) (Some (number_written bytes)) None given (number, refl) refl
           refl refl) at (named, refl)
-          (record { from = refl; sets = refl; refuses = refl }) (None, refl, refl) refl refl,
+          (record { from = refl; sets = refl; refuses = refl }) (None, refl, refl) refl refl refl,
     )
 
 block_sends : (path text frames : Text) (format : WrittenFormat) → IsFormatText text format
@@ -76,7 +78,7 @@ block_sends path text frames format given number program connect name address at
       refl,
       pcm_by None refl refl (samples_by (Some format) None (Some (number_written frames)) given refl (number, refl)
           refl refl) at (named, refl)
-          (record { from = refl; sets = refl; refuses = refl }) (None, refl, refl) refl refl,
+          (record { from = refl; sets = refl; refuses = refl }) (None, refl, refl) refl refl refl,
     )
 
 follow_sends : (path text end : Text) (format : WrittenFormat) → IsFormatText text format
@@ -88,7 +90,7 @@ follow_sends path text end format given program connect name address at named =
     asks refl (
       refl,
       pcm_by None refl refl (samples_by (Some format) None None given refl refl refl refl) at (named, refl)
-          (record { from = refl; sets = refl; refuses = refl }) (None, refl, refl) refl refl,
+          (record { from = refl; sets = refl; refuses = refl }) (None, refl, refl) refl refl refl,
     )
 
 fruitless_sends : (path text end count : Text) (format : WrittenFormat) → IsFormatText text format
@@ -106,7 +108,18 @@ fruitless_sends path text end count format given number program connect name add
       refl,
       pcm_by (Some (number_written count)) (number, refl) refl
           (samples_by (Some format) None None given refl refl refl refl) at (named, refl)
-          (record { from = refl; sets = refl; refuses = refl }) (None, refl, refl) refl refl,
+          (record { from = refl; sets = refl; refuses = refl }) (None, refl, refl) refl refl refl,
+    )
+
+rate_sends : (path text bytes : Text) (format : WrittenFormat) → IsFormatText text format
+    → IsCountText most_rate bytes → AsksSender false (with_pcm path text ((codes "--rate=" ++ bytes) ∷ []))
+    (λ a n. SendingPcm (record (plain_pcm_upload a n path format) { rate = Some (number_written bytes) }))
+unfolding clap_on_literals
+rate_sends path text bytes format given number program connect name address at named =
+    asks refl (
+      refl,
+      pcm_by None refl refl (samples_by (Some format) None None given refl refl refl refl) at (named, refl)
+          (record { from = refl; sets = refl; refuses = refl }) (None, refl, refl) refl (number, refl) refl,
     )
 
 pub runs_pcm_sender : (words : List Text) (line : CommandLine) → IsLineOf words line → RunsPcmSender words line
@@ -120,6 +133,8 @@ runs_pcm_sender words line is = record {
       (follow_sends f t u m given p c n a at named);
   fruitless = λ f t u k m given number p c n a at named e. asked_runs words _ line _ is e
       (fruitless_sends f t u k m given number p c n a at named);
+  rate = λ f t b m given number p c n a at named e. asked_runs words _ line _ is e
+      (rate_sends f t b m given number p c n a at named);
 }
 
 -- a text that is no format gives none
@@ -134,7 +149,8 @@ unfolding clap_on_literals
 bad_format path text none program connect name address at named = (
   refl,
   (address, at) and_then (name, (named, refl)) and_then nothing and_then nothing and_then nothing
-      and_then refl and_then bad (λ good. no_format text good.0 none good.1),
+      and_then nothing and_then refl
+      and_then bad (λ good. no_format text good.0 none good.1),
 )
 
 bad_skip : (path text bytes : Text) (format : WrittenFormat) → IsFormatText text format → ¬ IsNumber bytes
@@ -143,7 +159,8 @@ unfolding clap_on_literals
 bad_skip path text bytes format given none program connect name address at named = (
   refl,
   (address, at) and_then (name, (named, refl)) and_then nothing and_then nothing and_then nothing
-      and_then refl and_then (Some format, given) and_then bad (λ good. none good.1.0),
+      and_then nothing and_then refl
+      and_then (Some format, given) and_then bad (λ good. none good.1.0),
 )
 
 bad_block : (path text frames : Text) (format : WrittenFormat) → IsFormatText text format
@@ -153,7 +170,8 @@ unfolding clap_on_literals
 bad_block path text frames format given none program connect name address at named = (
   refl,
   (address, at) and_then (name, (named, refl)) and_then nothing and_then nothing and_then nothing
-      and_then refl and_then (Some format, given) and_then nothing and_then bad (λ good. none good.1.0),
+      and_then nothing and_then refl
+      and_then (Some format, given) and_then nothing and_then bad (λ good. none good.1.0),
 )
 
 mixed_fileless : (text : Text) (format : WrittenFormat) → IsFormatText text format
@@ -162,7 +180,8 @@ unfolding clap_on_literals
 mixed_fileless text format given program connect name address at named = (
   refl,
   (address, at) and_then (name, (named, refl)) and_then nothing and_then nothing and_then nothing
-      and_then refl and_then (Some format, given) and_then nothing and_then nothing and_then bad not_mixed,
+      and_then nothing and_then refl
+      and_then (Some format, given) and_then nothing and_then nothing and_then bad not_mixed,
 )
 
 mixed_follow : (path text : Text) (format : WrittenFormat) → IsFormatText text format
@@ -171,7 +190,8 @@ unfolding clap_on_literals
 mixed_follow path text format given program connect name address at named = (
   refl,
   (address, at) and_then (name, (named, refl)) and_then nothing and_then nothing and_then nothing
-      and_then refl and_then (Some format, given) and_then nothing and_then nothing and_then bad not_mixed,
+      and_then nothing and_then refl
+      and_then (Some format, given) and_then nothing and_then nothing and_then bad not_mixed,
 )
 
 mixed_until : (path text end : Text) (format : WrittenFormat) → IsFormatText text format
@@ -180,7 +200,18 @@ unfolding clap_on_literals
 mixed_until path text end format given program connect name address at named = (
   refl,
   (address, at) and_then (name, (named, refl)) and_then nothing and_then nothing and_then nothing
-      and_then refl and_then (Some format, given) and_then nothing and_then nothing and_then bad not_mixed,
+      and_then nothing and_then refl
+      and_then (Some format, given) and_then nothing and_then nothing and_then bad not_mixed,
+)
+
+mixed_state : (path text state : Text) (format : WrittenFormat) → IsFormatText text format
+    → LacksSender (with_pcm path text ((codes "--state=" ++ state) ∷ [])) MixedSamples
+unfolding clap_on_literals
+mixed_state path text state format given program connect name address at named = (
+  refl,
+  (address, at) and_then (name, (named, refl)) and_then nothing and_then nothing and_then nothing
+      and_then nothing and_then refl
+      and_then (Some format, given) and_then nothing and_then nothing and_then bad not_mixed,
 )
 
 mixed_skip : (path bytes : Text) → IsNumber bytes
@@ -189,7 +220,8 @@ unfolding clap_on_literals
 mixed_skip path bytes number program connect name address at named = (
   refl,
   (address, at) and_then (name, (named, refl)) and_then nothing and_then nothing and_then nothing
-      and_then refl and_then nothing and_then (Some (number_written bytes), (number, refl)) and_then nothing
+      and_then nothing and_then refl
+      and_then nothing and_then (Some (number_written bytes), (number, refl)) and_then nothing
       and_then bad not_mixed,
 )
 
@@ -206,6 +238,8 @@ refuses_samples words line is = record {
       (mixed_follow f t m given p c n a at named);
   until = λ f t u m given p c n a at named e. reported words _ line MixedSamples is e
       (mixed_until f t u m given p c n a at named);
+  state = λ f t s m given p c n a at named e. reported words _ line MixedSamples is e
+      (mixed_state f t s m given p c n a at named);
   formatless = λ f b number p c n a at named e. reported words _ line MixedSamples is e
       (mixed_skip f b number p c n a at named);
 }

@@ -9,17 +9,18 @@ use Rattle.std.specs.declared.net.socket_addr.SocketAddr.{SocketAddr}
 use Rattle.std.proofs.NetLemmas.Theorems.{IsSocketText_unique}
 use Rattle.clap.specs.Words.{Row, Text, first_of}
 use Rattle.bw_args.specs.Given.{GivesAddress, GivesCount, GivesCountOr, GivesEnd, GivesFolder, GivesFuse, GivesLimit}
-use Rattle.bw_args.specs.Given.{GivesName, GivesRecorders, IsEnd, IsJournaling, IsRecorders, given_on_line}
+use Rattle.bw_args.specs.Given.{GivesName, GivesRecorders, IsEnd, IsJournaling, IsRecorders, IsWork, given_on_line}
 use Rattle.bw_args.specs.Sources.{GivesSource, PlainSource}
 use Rattle.bw_args.specs.PcmSources.{GivesFormat, GivesNumber, GivesSamples, IsFormatText, PlainPcm, at_comma}
 use Rattle.bw_args.specs.PcmSources.{fruitless_of, samples_with}
 use Rattle.bw_args.specs.declared.commands.samples.WrittenFormat.{WrittenFormat}
 use Rattle.bw_args.specs.Lines.{GivesPcmUpload, GivesSender, GivesServer, GivesUpload, IsWishOf, Service}
 use Rattle.bw_args.specs.Lines.{FileUpload, PcmUpload, Wish, Inspecting, Packing, Rehearsing, Replaying}
-use Rattle.bw_args.specs.Lines.{Sending, SendingPcm, Serving, Uploading, InspectingFiles, Repairing, Listing}
-use Rattle.bw_args.specs.Numbers.{most_block, most_exchanges, most_fruitless, most_recorders, most_seconds}
+use Rattle.bw_args.specs.Lines.{Sending, SendingPcm, Serving, Uploading, InspectingFiles, Repairing, Listing, Picturing}
+use Rattle.bw_args.specs.Numbers.{most_block, most_exchanges, most_fruitless, most_rate, most_recorders, most_seconds}
 use Rattle.bw_args.specs.Numbers.{number_written}
-use Rattle.bw_args.specs.Inspecting.{GivesInspection, PlainInspection, is_alone}
+use Rattle.bw_args.specs.Inspecting.{GivesInspection, PlainInspection, has_option, is_alone, one_file}
+use Rattle.bw_args.specs.declared.folders.FolderWork.{FolderWork}
 use Rattle.bw_args.specs.declared.peers.End.{End}
 use Rattle.bw_args.specs.declared.peers.Journaling.{Journaling}
 use Rattle.bw_args.specs.declared.peers.Recorders.{Recorders as Way}
@@ -46,6 +47,14 @@ one_address network (Some text) a b x y = IsSocketText_unique text a b x.spelled
 one_folder : (text : Option Text) (a b : Text) → GivesFolder text a → GivesFolder text b → a ≡ b
 one_folder None a b x y = absurd x
 one_folder (Some text) a b x y = x.1 ∙ sym y.1
+
+-- one thing is done with the takes of a folder
+one_work : (check json : Bool) (text : Option Text) (a b : FolderWork) → IsWork check json text a
+    → IsWork check json text b → a ≡ b
+one_work check json None a b x y = x ∙ sym y
+one_work false false (Some text) a b x y = x.1 ∙ sym y.1
+one_work false true (Some text) a b x y = absurd x
+one_work true json (Some text) a b x y = absurd x
 
 pub one_count : (most : ℕ) (text : Option Text) (a b : Option ℕ) → GivesCount most text a → GivesCount most text b
     → a ≡ b
@@ -138,6 +147,8 @@ one_upload options a b x y = λ i. record {
   timeout = one_count_or _ _ _ a.timeout b.timeout x.waits y.waits i;
   fruitless = one_count_or _ _ _ a.fruitless b.fruitless x.ends y.ends i;
   log = (x.reports ∙ sym y.reports) i;
+  state = (x.states ∙ sym y.states) i;
+  rate = one_count most_rate _ a.rate b.rate x.paced y.paced i;
 }
 
 one_number : (text : Option Text) (a b : Option ℕ) → GivesNumber text a → GivesNumber text b → a ≡ b
@@ -203,6 +214,7 @@ one_pcm_upload options a b x y =
       timeout = one_count_or _ _ _ a.timeout b.timeout x.waits y.waits i;
       fruitless = ends i;
       log = (x.reports ∙ sym y.reports) i;
+      rate = one_count most_rate _ a.rate b.rate x.paced y.paced i;
     }
 
 -- samples are described, or none
@@ -215,15 +227,19 @@ one_inspection : (options : List Row) (a b : PlainInspection) → GivesInspectio
 one_inspection options a b x y =
     let from : Some a.files ≡ Some b.files = sym x.from ∙ y.from in
     let files : a.files ≡ b.files = cc in
-    λ i. record { files = files i; json = (x.prints ∙ sym y.prints) i }
+    let prints = x.prints ∙ sym y.prints in
+    let explains = x.explains ∙ sym y.explains in
+    let digests = x.digests ∙ sym y.digests in
+    λ i. record { files = files i; json = prints i; human = explains i; digest = digests i }
 
 -- one file is reported as it always is, or not
 not_alone : (options : List Row) (path : Text) (inspection : PlainInspection)
-    → GivesInspection options (record { files = path ∷ []; json = false }) → GivesInspection options inspection
-    → ¬ (is_alone inspection.files inspection.json ≡ false)
+    → GivesInspection options (one_file path) → GivesInspection options inspection
+    → ¬ (is_alone inspection.files (has_option inspection) ≡ false)
 not_alone options path inspection one other several =
-    let same = one_inspection options (record { files = path ∷ []; json = false }) inspection one other in
-    let bad : true ≡ false = subst (λ (i : PlainInspection). is_alone i.files i.json ≡ false) (sym same) several in cc
+    let same = one_inspection options (one_file path) inspection one other in
+    let bad : true ≡ false =
+    subst (λ (i : PlainInspection). is_alone i.files (has_option i) ≡ false) (sym same) several in cc
 
 -- a recording's file is given, or none
 no_lines : (options : List Row) (sender : Sender) (upload : FileUpload) → GivesSender (given_on_line options) sender
@@ -265,10 +281,14 @@ one_wish (Some command) (Uploading a) (SendingPcm b) x y =
 one_wish (Some command) (SendingPcm a) (Uploading b) x y =
     some_samples (given_on_line command.1) a.pcm y.1.unsampled x.1.samples
 one_wish (Some command) (Packing a) (Packing b) x y = ap Packing (one_source command.1 a b x.1 y.1)
+one_wish (Some command) (Picturing a) (Picturing b) x y =
+    let same : Some a ≡ Some b = sym x.1 ∙ y.1 in cc
 one_wish (Some command) (Repairing a v) (Repairing b w) x y =
     let same : Some a ≡ Some b = sym x.1 ∙ y.1 in
     let writes : v ≡ w = x.2 ∙ sym y.2 in cc
 one_wish (Some command) (Sending a) (Uploading b) x y = absurd (no_lines command.1 a b x.1 y.1)
 one_wish (Some command) (Uploading a) (Sending b) x y = absurd (no_lines command.1 b a y.1 x.1)
-one_wish (Some command) (Listing a) (Listing b) x y = ap Listing (one_folder _ a b x.1 y.1)
+one_wish (Some command) (Listing a v) (Listing b w) x y =
+    let folders : a ≡ b = one_folder _ a b x.1 y.1 in
+    let works : v ≡ w = one_work _ _ _ v w x.2 y.2 in cc
 one_wish (Some command) a b x y = other_name x.0 y.0 refl

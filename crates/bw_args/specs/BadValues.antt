@@ -5,9 +5,9 @@ use Rattle.bw_args.specs.declared.bad_value.BadValue.{BadValue}
 use Rattle.bw_args.specs.declared.bad_value.BadValue.TheVariants.{Name, Limit, Fuse, Listen}
 use Rattle.bw_args.specs.declared.bad_value.BadValue.TheVariants.{Folder, Exchanges, Timeout}
 use Rattle.bw_args.specs.declared.bad_value.BadValue.TheVariants.{Recorders, Idle, Wait}
-use Rattle.bw_args.specs.declared.bad_value.BadValue.TheVariants.{UntilStopped, Sync, Connect, Rounds}
-use Rattle.bw_args.specs.declared.bad_value.BadValue.TheVariants.{Fruitless, Mixed, Pcm, Skip, Block}
-use Rattle.bw_args.specs.declared.bad_value.BadValue.TheVariants.{MixedSamples}
+use Rattle.bw_args.specs.declared.bad_value.BadValue.TheVariants.{UntilStopped, Sync, GiveUp, Connect}
+use Rattle.bw_args.specs.declared.bad_value.BadValue.TheVariants.{Rounds, Fruitless, Mixed, Pcm, Skip, Block}
+use Rattle.bw_args.specs.declared.bad_value.BadValue.TheVariants.{Rate, MixedSamples, Inspection}
 
 -- what an address is
 abbrev pub address_wanted : Text
@@ -34,20 +34,26 @@ fault_said Wait = codes "'--idle <SECONDS>' is for '--recorders <N>', and "
     ++ codes "'--timeout <SECONDS>' for a server without it"
 fault_said UntilStopped = codes "'--until-stopped' can't be given beside '--exchanges <N>'"
 fault_said Sync = codes "'--sync' is for '--journal'"
+fault_said GiveUp = codes "'--give-up <NAME>' takes 1 to 32 bytes of a-z, 0-9, '-' and '_', "
+    ++ codes "without '--check' and '--json'"
 fault_said Connect = codes "'--connect <ADDR>' takes " ++ address_wanted
 fault_said Rounds = codes "'--rounds <N>' takes a number from 1 to 1000, in at most ten digits"
 fault_said Fruitless =
     codes "'--fruitless <N>' takes a number from 1 to 1000000, in at most ten digits"
-fault_said Mixed = codes "'--set', '--strict', '--fruitless' and '--log' are for '--file <FILE>', and "
-    ++ codes "'--rounds <N>' for a sender without it"
+fault_said Rate =
+    codes "'--rate <BYTES>' takes a number from 1 to 4294967295, in at most ten digits"
+fault_said Mixed = codes "'--set', '--strict', '--fruitless', '--log', '--state' and '--rate' are "
+    ++ codes "for '--file <FILE>', and '--rounds <N>' for a sender without it"
 fault_said Pcm = codes "'--pcm <RATE,CHANNELS,BITS>' takes three numbers with commas between them, "
     ++ codes "each from 0 to 4294967295, in at most ten digits"
 fault_said Skip =
     codes "'--skip <BYTES>' takes a number from 0 to 4294967295, in at most ten digits"
 fault_said Block =
     codes "'--block <FRAMES>' takes a number from 1 to 4294967295, in at most ten digits"
-fault_said MixedSamples = codes "'--pcm' is for '--file <FILE>', '--skip', '--block', '--follow' for "
-    ++ codes "'--pcm'; '--follow' goes with '--until <END>'"
+fault_said MixedSamples = codes "'--pcm' is for '--file <FILE>' without '--state'; '--skip', '--block', "
+    ++ codes "'--follow' for '--pcm'; '--follow' goes with '--until <END>'"
+fault_said Inspection = codes "'--json' can't be given beside '--human', and '-', which is read once, "
+    ++ codes "beside another file or '--digest'"
 
 -- the end of a line, and an empty line
 abbrev pub line_and_gap : Text

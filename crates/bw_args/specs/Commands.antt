@@ -72,9 +72,21 @@ files_argument = record file_argument { action = Some Append }
 abbrev pub json_flag : Rule
 json_flag = flag (codes "json")
 
--- `inspect`, with the files and its option
+-- `--human`
+abbrev pub human_flag : Rule
+human_flag = flag (codes "human")
+
+-- `--digest`
+abbrev pub digest_flag : Rule
+digest_flag = flag (codes "digest")
+
+-- `inspect`, with the files and `--json`
+abbrev pub inspect_texts : App
+inspect_texts = with_rule (with_rule (new_app (codes "inspect")) files_argument) json_flag
+
+-- .. and its other options
 abbrev pub inspect_command : App
-inspect_command = with_rule (with_rule (new_app (codes "inspect")) files_argument) json_flag
+inspect_command = with_rule (with_rule inspect_texts human_flag) digest_flag
 
 -- `--listen ADDR`
 abbrev pub listen_option : Rule
@@ -162,6 +174,14 @@ strict_flag = flag (codes "strict")
 abbrev pub fruitless_option : Rule
 fruitless_option = option (codes "fruitless")
 
+-- `--state STATE`
+abbrev pub state_option : Rule
+state_option = option (codes "state")
+
+-- `--rate BYTES`
+abbrev pub rate_option : Rule
+rate_option = option (codes "rate")
+
 -- `send` with the options that say where to, and under which name
 abbrev pub send_where : App
 send_where = with_rule
@@ -204,15 +224,23 @@ send_samples = with_rule (with_rule (with_rule send_source pcm_option) skip_opti
 abbrev pub send_followed : App
 send_followed = with_rule (with_rule send_samples follow_flag) until_option
 
--- `send`, with its fifteen options
+-- and when it gives up, and what it reports
+abbrev pub send_report : App
+send_report = with_rule (with_rule send_followed fruitless_option) log_flag
+
+-- `send`, with its seventeen options
 abbrev pub send_command : App
-send_command = with_rule (with_rule send_followed fruitless_option) log_flag
+send_command = with_rule (with_rule send_report state_option) rate_option
 
 -- `pack`, with the file and its two options
 abbrev pub pack_command : App
 pack_command = with_rule
     (with_rule (with_rule (new_app (codes "pack")) file_argument) set_option)
     strict_flag
+
+-- `picture`, with the file
+abbrev pub picture_command : App
+picture_command = with_rule (new_app (codes "picture")) file_argument
 
 -- `--write`
 abbrev pub write_flag : Rule
@@ -222,9 +250,21 @@ write_flag = flag (codes "write")
 abbrev pub repair_command : App
 repair_command = with_rule (with_rule (new_app (codes "repair")) file_argument) write_flag
 
--- `takes`, with its option
+-- `--check`
+abbrev pub check_flag : Rule
+check_flag = flag (codes "check")
+
+-- `--give-up NAME`
+abbrev pub give_up_option : Rule
+give_up_option = option (codes "give-up")
+
+-- `takes` with the folder, and how far its takes are looked at
+abbrev pub takes_where : App
+takes_where = with_rule (with_rule (new_app (codes "takes")) folder_option) check_flag
+
+-- `takes`, with its four options
 abbrev pub takes_command : App
-takes_command = with_rule (new_app (codes "takes")) folder_option
+takes_command = with_rule (with_rule takes_where json_flag) give_up_option
 
 -- the program, which has a version and requires a command
 abbrev pub program : App
@@ -240,9 +280,9 @@ offline =
     inspect_command.top)
     pack_command.top
 
--- .. and those that change files in place
+-- .. and those that draw a file or change it in place
 abbrev pub on_files : App
-on_files = with_subcommand offline repair_command.top
+on_files = with_subcommand (with_subcommand offline picture_command.top) repair_command.top
 
 -- .. and the one on a folder of takes
 abbrev pub on_folders : App

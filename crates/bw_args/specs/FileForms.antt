@@ -1,16 +1,16 @@
 -- The forms of `pack` and of `send` with a recording, in plain words, and what each results in.
-use Rattle.std.specs.Prelude.{◌≡◌, true, false, List, [], ◌∷◌, ◌++◌, codes}
+use Rattle.std.specs.Prelude.{◌≡◌, true, false, Some, None, List, [], ◌∷◌, ◌++◌, codes}
 use Rattle.std.specs.declared.net.socket_addr.SocketAddr.{SocketAddr}
 use Rattle.clap.specs.Walk.{Text}
 use Rattle.clap.specs.declared.error.ErrorKind.TheVariants.{MissingRequiredArgument}
 use Rattle.bw_args.specs.Numbers.{IsCountText, default_fruitless, default_timeout, most_fruitless}
-use Rattle.bw_args.specs.Numbers.{most_rounds, most_seconds, number_written}
+use Rattle.bw_args.specs.Numbers.{most_rate, most_rounds, most_seconds, number_written}
 use Rattle.bw_args.specs.Sources.{PlainSource}
 use Rattle.bw_args.specs.Lines.{Packing, FileUpload, Uploading}
 use Rattle.bw_args.specs.Forms.{IsPlain, IsReportedAs, RunsFor}
 use Rattle.bw_args.specs.PeerForms.{ForSender, ReportsBad}
 use Rattle.bw_args.specs.declared.CommandLine.{CommandLine}
-use Rattle.bw_args.specs.declared.bad_value.BadValue.TheVariants.{Fruitless, Mixed}
+use Rattle.bw_args.specs.declared.bad_value.BadValue.TheVariants.{Fruitless, Mixed, Rate}
 
 -- a file of which nothing else is said
 abbrev pub source_at : Text → PlainSource
@@ -42,6 +42,8 @@ plain_upload address name path = record {
   timeout = default_timeout;
   fruitless = default_fruitless;
   log = false;
+  state = None;
+  rate = None;
 }
 
 -- `--file=FILE`, and what follows
@@ -76,6 +78,14 @@ pub record RunsFileSender (words : List Text) (line : CommandLine) : Type 0 wher
   -- with `--log`
   pub log : (path : Text) → ForSender false words (with_file path (codes "--log" ∷ []))
       (AsksToUpload line path (λ s. record s { log = true }))
+  -- with `--state=STATE`
+  pub state : (path state : Text)
+      → ForSender false words (with_file path ((codes "--state=" ++ state) ∷ []))
+      (AsksToUpload line path (λ s. record s { state = Some state }))
+  -- with `--rate=BYTES`
+  pub rate : (path bytes : Text) → IsCountText most_rate bytes
+      → ForSender false words (with_file path ((codes "--rate=" ++ bytes) ∷ []))
+      (AsksToUpload line path (λ s. record s { rate = Some (number_written bytes) }))
   -- with `--network`
   pub network : (path : Text) → ForSender true words (with_file path (codes "--network" ∷ []))
       (AsksToUpload line path (λ s. s))
@@ -92,6 +102,12 @@ pub record RefusesFiles (words : List Text) (line : CommandLine) : Type 0 where
   pub strict : ForSender false words (codes "--strict" ∷ []) (ReportsBad line Mixed)
   -- `--log`
   pub log : ForSender false words (codes "--log" ∷ []) (ReportsBad line Mixed)
+  -- `--state=STATE`
+  pub state : (state : Text) → ForSender false words ((codes "--state=" ++ state) ∷ [])
+      (ReportsBad line Mixed)
+  -- `--rate=BYTES`
+  pub rate : (bytes : Text) → IsCountText most_rate bytes
+      → ForSender false words ((codes "--rate=" ++ bytes) ∷ []) (ReportsBad line Mixed)
   -- `--fruitless=N`
   pub fruitless : (count : Text) → IsCountText most_fruitless count
       → ForSender false words ((codes "--fruitless=" ++ count) ∷ []) (ReportsBad line Mixed)
@@ -99,3 +115,7 @@ pub record RefusesFiles (words : List Text) (line : CommandLine) : Type 0 where
   pub bad_fruitless : (path count : Text) → ¬ IsCountText most_fruitless count
       → ForSender false words (with_file path ((codes "--fruitless=" ++ count) ∷ []))
       (ReportsBad line Fruitless)
+  -- with `--file=FILE --rate=BYTES`, where BYTES is no such number
+  pub bad_rate : (path bytes : Text) → ¬ IsCountText most_rate bytes
+      → ForSender false words (with_file path ((codes "--rate=" ++ bytes) ∷ []))
+      (ReportsBad line Rate)

@@ -1,23 +1,45 @@
 -- The forms of `takes`, in plain words, and what each results in.
-use Rattle.std.specs.Prelude.{◌≡◌, ◌≢◌, List, [], ◌∷◌, ◌++◌, codes}
+use Rattle.std.specs.Prelude.{◌≡◌, ◌≢◌, true, false, List, [], ◌∷◌, ◌++◌, codes}
 use Rattle.clap.specs.Walk.{Text}
 use Rattle.clap.specs.declared.error.ErrorKind.TheVariants.{MissingRequiredArgument}
-use Rattle.bw_args.specs.Lines.{Listing}
+use Rattle.bw_args.specs.Lines.{IsName, Listing}
 use Rattle.bw_args.specs.Forms.{IsReportedAs, RunsFor}
 use Rattle.bw_args.specs.declared.CommandLine.{CommandLine}
 use Rattle.bw_args.specs.declared.CommandLine.TheVariants.{BadValue as Bad}
-use Rattle.bw_args.specs.declared.bad_value.BadValue.TheVariants.{Folder}
+use Rattle.bw_args.specs.declared.bad_value.BadValue.TheVariants.{Folder, GiveUp as BadGiveUp}
+use Rattle.bw_args.specs.declared.folders.FolderWork.TheVariants.{Report, GiveUp}
 
--- `takes --folder DIR` runs, whatever the program's name; a DIR may begin with a hyphen
+-- `takes --folder DIR` runs, with its options, whatever the program's name; a DIR may begin with a
+-- hyphen. A take is given up by its name alone
 pub record RunsTakes (words : List Text) (line : CommandLine) : Type 0 where
   -- `takes --folder=DIR`
   pub joined : (program folder : Text) → folder ≢ []
       → words ≡ program ∷ codes "takes" ∷ (codes "--folder=" ++ folder) ∷ []
-      → RunsFor (Listing folder) line
+      → RunsFor (Listing folder (Report false false)) line
   -- `takes --folder DIR`
   pub apart : (program folder : Text) → folder ≢ []
       → words ≡ program ∷ codes "takes" ∷ codes "--folder" ∷ folder ∷ []
-      → RunsFor (Listing folder) line
+      → RunsFor (Listing folder (Report false false)) line
+  -- `takes --folder DIR --check --json`
+  pub checked : (program folder : Text) → folder ≢ []
+      → words ≡ program ∷ codes "takes" ∷ codes "--folder" ∷ folder ∷ codes "--check"
+      ∷ codes "--json" ∷ []
+      → RunsFor (Listing folder (Report true true)) line
+  -- `takes --folder DIR --give-up=NAME`
+  pub given_up : (program folder name : Text) → folder ≢ [] → IsName name
+      → words ≡ program ∷ codes "takes" ∷ codes "--folder" ∷ folder
+      ∷ (codes "--give-up=" ++ name) ∷ []
+      → RunsFor (Listing folder (GiveUp name)) line
+  -- .. of something that is no name
+  pub unnamed : (program folder text : Text) → folder ≢ [] → ¬ IsName text
+      → words ≡ program ∷ codes "takes" ∷ codes "--folder" ∷ folder
+      ∷ (codes "--give-up=" ++ text) ∷ []
+      → line ≡ Bad BadGiveUp
+  -- `takes --folder DIR --json --give-up=NAME`
+  pub mixed : (program folder name : Text) → folder ≢ []
+      → words ≡ program ∷ codes "takes" ∷ codes "--folder" ∷ folder ∷ codes "--json"
+      ∷ (codes "--give-up=" ++ name) ∷ []
+      → line ≡ Bad BadGiveUp
   -- `takes --folder=`
   pub empty : (program : Text) → words ≡ program ∷ codes "takes" ∷ codes "--folder=" ∷ []
       → line ≡ Bad Folder

@@ -12,7 +12,7 @@ use Rattle.bw_args.specs.Numbers.{IsLimitText, IsNumber, default_limit, number_w
 use Rattle.bw_args.specs.Lines.{InspectingFiles, IsName, Wish, wish_of}
 use Rattle.bw_args.specs.declared.CommandLine.{CommandLine}
 use Rattle.bw_args.specs.declared.CommandLine.TheVariants.{Run, BadValue as Bad, Report}
-use Rattle.bw_args.specs.declared.bad_value.BadValue.TheVariants.{Name, Limit, Fuse}
+use Rattle.bw_args.specs.declared.bad_value.BadValue.TheVariants.{Name, Limit, Fuse, Inspection}
 use Rattle.bw_args.specs.declared.Task.TheVariants.{Replay, Rehearse, Inspect}
 
 -- the line runs a task for this
@@ -141,9 +141,10 @@ IsPlain (byte ∷ bytes) = byte ≢ 45
 
 -- these files are inspected
 abbrev pub inspection_of : List Text → PlainInspection
-inspection_of files = record { files = files; json = false }
+inspection_of files = record { files = files; json = false; human = false; digest = false }
 
--- `inspect FILE..` runs, with its option, whatever the program's name; no file is a fault
+-- `inspect FILE..` runs, with its options, whatever the program's name; no file is a fault, and so
+-- are two ways to print, and standard input beside what can't be done with it
 pub record RunsInspect (words : List Text) (line : CommandLine) : Type 0 where
   pub file : (program path : Text) → IsPlain path
       → words ≡ program ∷ codes "inspect" ∷ path ∷ [] → Inspects path line
@@ -161,3 +162,26 @@ pub record RunsInspect (words : List Text) (line : CommandLine) : Type 0 where
   pub json_last : (program path other : Text) → IsPlain path → IsPlain other
       → words ≡ program ∷ codes "inspect" ∷ path ∷ other ∷ codes "--json" ∷ []
       → RunsFor (InspectingFiles (record (inspection_of (path ∷ other ∷ [])) { json = true })) line
+  -- `inspect --human FILE`
+  pub human : (program path : Text) → IsPlain path
+      → words ≡ program ∷ codes "inspect" ∷ codes "--human" ∷ path ∷ []
+      → RunsFor (InspectingFiles (record (inspection_of (path ∷ [])) { human = true })) line
+  -- `inspect --digest FILE`
+  pub digest : (program path : Text) → IsPlain path
+      → words ≡ program ∷ codes "inspect" ∷ codes "--digest" ∷ path ∷ []
+      → RunsFor (InspectingFiles (record (inspection_of (path ∷ [])) { digest = true })) line
+  -- `inspect -`
+  pub input : (program : Text) → words ≡ program ∷ codes "inspect" ∷ codes "-" ∷ []
+      → Inspects (codes "-") line
+  -- `inspect --json --human FILE`
+  pub both : (program path : Text) → IsPlain path
+      → words ≡ program ∷ codes "inspect" ∷ codes "--json" ∷ codes "--human" ∷ path ∷ []
+      → line ≡ Bad Inspection
+  -- `inspect --digest -`
+  pub input_twice : (program : Text)
+      → words ≡ program ∷ codes "inspect" ∷ codes "--digest" ∷ codes "-" ∷ []
+      → line ≡ Bad Inspection
+  -- `inspect - FILE`
+  pub input_beside : (program path : Text) → IsPlain path
+      → words ≡ program ∷ codes "inspect" ∷ codes "-" ∷ path ∷ []
+      → line ≡ Bad Inspection

@@ -9,6 +9,8 @@ use Rattle.bw_args.specs.Addresses.{IsAddress}
 use Rattle.bw_args.specs.Numbers.{IsCountText, IsLimitText, IsNumber, default_limit}
 use Rattle.bw_args.specs.Numbers.{default_idle, default_rounds, most_exchanges, most_recorders}
 use Rattle.bw_args.specs.Numbers.{most_rounds, most_seconds, number_written}
+use Rattle.bw_args.specs.declared.folders.FolderWork.{FolderWork}
+use Rattle.bw_args.specs.declared.folders.FolderWork.TheVariants.{Report, GiveUp}
 use Rattle.bw_args.specs.declared.peers.End.{End}
 use Rattle.bw_args.specs.declared.peers.End.TheVariants as when
 use Rattle.bw_args.specs.declared.peers.Journaling.{Journaling}
@@ -155,3 +157,22 @@ GivesCountOr default most text n =
 -- the rounds that an option gives, or the default
 abbrev pub GivesRounds : Option Text → ℕ → Type 0
 GivesRounds = GivesCountOr default_rounds most_rounds
+
+-- what is done with the takes of a folder: they are reported, with their samples or not and in JSON
+-- or not; or one is given up, which goes with neither
+abbrev pub IsWork : Bool → Bool → Option Text → FolderWork → Type 0
+IsWork check json None work = work ≡ Report check json
+IsWork false false (Some text) work = IsName text × (work ≡ GiveUp text)
+IsWork false true (Some text) work = ⊥
+IsWork true json (Some text) work = ⊥
+
+-- exactly that
+abbrev pub IsWorkGiven : Bool → Bool → Option Text → Option FolderWork → Type 0
+IsWorkGiven check json text (Some work) = IsWork check json text work
+IsWorkGiven check json text None = (work : FolderWork) → ¬ IsWork check json text work
+
+-- by the three options that say it
+abbrev pub GivesWork : (Text → Option Text) → FolderWork → Type 0
+GivesWork given work =
+    IsWork (is_set (given (codes "check"))) (is_set (given (codes "json")))
+    (given (codes "give-up")) work

@@ -6,11 +6,13 @@ pub mod BadValues
 pub mod Given
 pub mod Sources
 pub mod PcmSources
+pub mod Ranges
 pub mod Lines
 pub mod Forms
 pub mod PeerForms
 pub mod FileForms
 pub mod PcmForms
 pub mod Inspecting
+pub mod PictureForms
 pub mod RepairForms
 pub mod FolderForms

@@ -5,13 +5,14 @@ pub use Rattle.bw_args.specs.Given.{GivesAddress, IsAddressGiven, GivesFolder, I
 pub use Rattle.bw_args.specs.Given.{GivesCount, IsCountGiven, IsEnd, IsEndGiven, GivesEnd}
 pub use Rattle.bw_args.specs.Given.{IsRecorders, IsRecordersGiven, GivesRecorders, IsJournaling}
 pub use Rattle.bw_args.specs.Given.{IsJournalingGiven, GivesCountOr, GivesRounds}
-use Rattle.std.specs.Prelude.{◌≡◌, ◌≢◌, ◌⊎◌, ⊤, ℕ, ◌<◌, ◌≤◌, Bool}
+pub use Rattle.bw_args.specs.Given.{IsWork, IsWorkGiven, GivesWork}
+pub use Rattle.bw_args.specs.Ranges.{IsWithin, IsEndWithin, IsWayWithin, HasNumbersInRange}
+use Rattle.std.specs.Prelude.{◌≡◌, ◌≢◌, ◌⊎◌, ⊤, ℕ, Bool}
 use Rattle.std.specs.Prelude.{false, List, [], ◌∷◌, ◌++◌}
-use Rattle.std.specs.Prelude.{Option, Some, None, string_bytes, codes}
+use Rattle.std.specs.Prelude.{Option, Some, None, option_map, string_bytes, codes}
 use Rattle.std.specs.Prelude.{if◌then◌else◌}
 use Rattle.std.specs.Str.{bytes_eq}
 use Rattle.std.specs.declared.net.socket_addr.SocketAddr.{SocketAddr}
-use Rattle.std.specs.Net.Socket.{socket_port}
 use Rattle.clap.specs.Walk.{Row, Text, first_of}
 use Rattle.clap.specs.Simple.{subcommand_of}
 use Rattle.clap.specs.Faults.{fault_of}
@@ -19,10 +20,12 @@ use Rattle.clap.specs.Kinds.{IsAmong}
 use Rattle.clap.specs.Values.{kind_of}
 use Rattle.clap.specs.declared.error.ErrorKind.{ErrorKind}
 use Rattle.clap.specs.declared.error.ErrorKind.TheVariants.{OutOfMemory}
-use Rattle.bw_args.specs.Numbers.{IsLimitValue, default_fruitless, default_timeout, most_exchanges}
-use Rattle.bw_args.specs.Numbers.{most_block, most_fruitless, most_recorders, most_rounds, most_seconds}
+use Rattle.bw_args.specs.Numbers.{default_fruitless, default_timeout, most_block, most_exchanges}
+use Rattle.bw_args.specs.Numbers.{most_fruitless, most_rate, most_recorders, most_rounds}
+use Rattle.bw_args.specs.Numbers.{most_seconds}
 use Rattle.bw_args.specs.Commands.{command_line}
-use Rattle.bw_args.specs.Inspecting.{GivesInspection, PlainInspection, inspection_in_plain, is_alone}
+use Rattle.bw_args.specs.Inspecting.{GivesInspection, PlainInspection, has_option, inspection_in_plain}
+use Rattle.bw_args.specs.Inspecting.{is_alone, one_file}
 use Rattle.bw_args.specs.Sources.{GivesSource, PlainSource, in_plain, is_mixed}
 use Rattle.bw_args.specs.PcmSources.{GivesFormat, GivesNumber, GivesSamples, PlainPcm}
 use Rattle.bw_args.specs.PcmSources.{are_samples_mixed, fruitless_of, plain_pcm}
@@ -33,20 +36,19 @@ use Rattle.bw_args.specs.declared.bad_value.BadValue.{BadValue}
 use Rattle.bw_args.specs.declared.bad_value.BadValue.TheVariants.{Name, Limit, Fuse, Listen}
 use Rattle.bw_args.specs.declared.bad_value.BadValue.TheVariants.{Folder, Exchanges, Timeout}
 use Rattle.bw_args.specs.declared.bad_value.BadValue.TheVariants.{Recorders, Idle, Wait}
-use Rattle.bw_args.specs.declared.bad_value.BadValue.TheVariants.{UntilStopped, Sync, Connect, Rounds}
-use Rattle.bw_args.specs.declared.bad_value.BadValue.TheVariants.{Fruitless, Mixed, Pcm, Skip, Block}
-use Rattle.bw_args.specs.declared.bad_value.BadValue.TheVariants.{MixedSamples}
+use Rattle.bw_args.specs.declared.bad_value.BadValue.TheVariants.{UntilStopped, Sync, GiveUp, Connect}
+use Rattle.bw_args.specs.declared.bad_value.BadValue.TheVariants.{Rounds, Fruitless, Rate, Mixed, Pcm, Skip}
+use Rattle.bw_args.specs.declared.bad_value.BadValue.TheVariants.{Block, MixedSamples, Inspection}
+use Rattle.bw_args.specs.declared.folders.FolderWork.{FolderWork}
 use Rattle.bw_args.specs.declared.peers.End.{End}
-use Rattle.bw_args.specs.declared.peers.End.TheVariants as when
 use Rattle.bw_args.specs.declared.peers.Journaling.{Journaling}
 use Rattle.bw_args.specs.declared.peers.Recorders.{Recorders as Way}
-use Rattle.bw_args.specs.declared.peers.Recorders.TheVariants.{InTurn, AtOnce}
 use Rattle.bw_args.specs.declared.peers.Send.{Send as Sender}
 use Rattle.bw_args.specs.declared.Task.{Task}
 use Rattle.bw_args.specs.declared.commands.samples.WrittenFormat.{WrittenFormat}
 use Rattle.bw_args.specs.declared.commands.sending.Tries.{Tries}
 use Rattle.bw_args.specs.declared.Task.TheVariants.{Replay, Rehearse, Inspect, Serve, Send, SendFile, SendPcm}
-use Rattle.bw_args.specs.declared.Task.TheVariants.{Pack, InspectFiles, Repair, Takes}
+use Rattle.bw_args.specs.declared.Task.TheVariants.{Pack, InspectFiles, Picture, Repair, Takes}
 
 -- the server that a command line asks for
 pub record Service : Type 0 where
@@ -59,11 +61,12 @@ pub record Service : Type 0 where
   pub journal : Journaling
   pub one_name : Bool
 
--- how a sender tries, by the three options that say it
+-- how a sender tries, by the four options that say it
 pub record GivesTries (given : Text → Option Text) (tries : Tries) : Type 0 where
   pub rounds : GivesCount most_rounds (given (codes "rounds")) tries.rounds
   pub waits : GivesCount most_seconds (given (codes "timeout")) tries.timeout
   pub ends : GivesCount most_fruitless (given (codes "fruitless")) tries.fruitless
+  pub paced : GivesCount most_rate (given (codes "rate")) tries.rate
 
 -- the sender of a recording that a command line asks for
 pub record FileUpload : Type 0 where
@@ -73,6 +76,8 @@ pub record FileUpload : Type 0 where
   pub timeout : ℕ
   pub fruitless : ℕ
   pub log : Bool
+  pub state : Option Text
+  pub rate : Option ℕ
 
 -- the sender of headerless samples that a command line asks for
 pub record PcmUpload : Type 0 where
@@ -83,11 +88,13 @@ pub record PcmUpload : Type 0 where
   pub timeout : ℕ
   pub fruitless : Option ℕ
   pub log : Bool
+  pub rate : Option ℕ
 
 -- what may be asked for: a replay with this limit, in which the call of this number fails, or none;
 -- a rehearsal of the take of this name, with this limit; to inspect the file of this path, or files;
 -- a server or a sender; the sender of a recording, of headerless samples, or a recording's requests;
--- the sizes that the file of this path lacks, to be written or not; the takes of a folder
+-- the waveform of the file of this path; the sizes that it lacks, to be written or not; what is
+-- done with the takes of a folder
 pub data Wish : Type 0 where
   Replaying : ℕ → Option ℕ → Wish
   Rehearsing : Text → ℕ → Wish
@@ -98,8 +105,9 @@ pub data Wish : Type 0 where
   Uploading : FileUpload → Wish
   SendingPcm : PcmUpload → Wish
   Packing : PlainSource → Wish
+  Picturing : Text → Wish
   Repairing : Text → Bool → Wish
-  Listing : Text → Wish
+  Listing : Text → FolderWork → Wish
 
 -- what a task is about
 abbrev pub wish_of : Task → Wish
@@ -125,6 +133,8 @@ wish_of (SendFile sender) = Uploading (record {
   timeout = sender.timeout;
   fruitless = sender.fruitless;
   log = sender.log;
+  state = option_map string_bytes sender.state;
+  rate = sender.rate;
 })
 wish_of (SendPcm sender) = SendingPcm (record {
   connect = sender.connect;
@@ -134,10 +144,12 @@ wish_of (SendPcm sender) = SendingPcm (record {
   timeout = sender.timeout;
   fruitless = sender.fruitless;
   log = sender.log;
+  rate = sender.rate;
 })
 wish_of (Pack source) = Packing (in_plain source)
+wish_of (Picture file) = Picturing (string_bytes file)
 wish_of (Repair file write) = Repairing (string_bytes file) write
-wish_of (Takes listing) = Listing (string_bytes listing.folder)
+wish_of (Takes listing) = Listing (string_bytes listing.folder) listing.work
 
 -- what is given is this server
 pub record GivesServer (given : Text → Option Text) (server : Service) : Type 0 where
@@ -175,6 +187,8 @@ pub record GivesUpload (options : List Row) (sender : FileUpload) : Type 0 where
   pub ends : GivesCountOr default_fruitless most_fruitless
       (given_on_line options (codes "fruitless")) sender.fruitless
   pub reports : sender.log ≡ is_set (given_on_line options (codes "log"))
+  pub states : sender.state ≡ given_on_line options (codes "state")
+  pub paced : GivesCount most_rate (given_on_line options (codes "rate")) sender.rate
   pub unmixed : is_mixed (given_on_line options) ≡ false
   pub unsampled : GivesSamples (given_on_line options) None
 
@@ -191,6 +205,7 @@ pub record GivesPcmUpload (options : List Row) (sender : PcmUpload) : Type 0 whe
   pub counts : GivesCount most_fruitless (given_on_line options (codes "fruitless")) count
   pub ends : sender.fruitless ≡ fruitless_of sender.pcm.until count
   pub reports : sender.log ≡ is_set (given_on_line options (codes "log"))
+  pub paced : GivesCount most_rate (given_on_line options (codes "rate")) sender.rate
   pub unmixed : is_mixed (given_on_line options) ≡ false
 
 -- the command and its options ask for this
@@ -204,10 +219,10 @@ IsWishOf (Some command) (Rehearsing name limit) =
     × GivesLimit (first_of (codes "limit") command.1) limit
 IsWishOf (Some command) (Inspecting path) =
     (command.0 ≡ codes "inspect")
-    × GivesInspection command.1 (record { files = path ∷ []; json = false })
+    × GivesInspection command.1 (one_file path)
 IsWishOf (Some command) (InspectingFiles inspection) =
     (command.0 ≡ codes "inspect") × GivesInspection command.1 inspection
-    × (is_alone inspection.files inspection.json ≡ false)
+    × (is_alone inspection.files (has_option inspection) ≡ false)
 IsWishOf (Some command) (Serving server) =
     (command.0 ≡ codes "serve") × GivesServer (given_on_line command.1) server
 IsWishOf (Some command) (Sending sender) =
@@ -218,11 +233,14 @@ IsWishOf (Some command) (SendingPcm sender) =
     (command.0 ≡ codes "send") × GivesPcmUpload command.1 sender
 IsWishOf (Some command) (Packing source) =
     (command.0 ≡ codes "pack") × GivesSource command.1 source
+IsWishOf (Some command) (Picturing path) =
+    (command.0 ≡ codes "picture") × (first_of (codes "file") command.1 ≡ Some path)
 IsWishOf (Some command) (Repairing path write) =
     (command.0 ≡ codes "repair") × (first_of (codes "file") command.1 ≡ Some path)
     × (write ≡ is_set (first_of (codes "write") command.1))
-IsWishOf (Some command) (Listing folder) =
+IsWishOf (Some command) (Listing folder work) =
     (command.0 ≡ codes "takes") × GivesFolder (given_on_line command.1 (codes "folder")) folder
+    × GivesWork (given_on_line command.1) work
 
 -- they ask for nothing
 abbrev pub AsksNothing : Option (Text × List Row) → Type 0
@@ -239,8 +257,9 @@ HasPath (Sending sender) = ⊥
 HasPath (Uploading sender) = ⊤
 HasPath (SendingPcm sender) = ⊤
 HasPath (Packing source) = ⊤
+HasPath (Picturing path) = ⊤
 HasPath (Repairing path write) = ⊤
-HasPath (Listing folder) = ⊤
+HasPath (Listing folder work) = ⊤
 
 -- they ask for something of which a path is kept
 abbrev pub AsksForPath : Option (Text × List Row) → Type 0
@@ -265,16 +284,19 @@ IsGood UntilStopped given = (end : End)
     × GivesEnd (given (codes "exchanges")) (is_set (given (codes "until-stopped"))) end
 IsGood Sync given = (journal : Journaling)
     × IsJournaling (is_set (given (codes "journal"))) (is_set (given (codes "sync"))) journal
+IsGood GiveUp given = (work : FolderWork) × GivesWork given work
 IsGood Connect given = (address : SocketAddr)
     × GivesAddress (is_set (given (codes "network"))) (given (codes "connect")) address
 IsGood Rounds given = (count : Option ℕ) × GivesCount most_rounds (given (codes "rounds")) count
 IsGood Fruitless given = (count : Option ℕ)
     × GivesCount most_fruitless (given (codes "fruitless")) count
+IsGood Rate given = (count : Option ℕ) × GivesCount most_rate (given (codes "rate")) count
 IsGood Mixed given = is_mixed given ≡ false
 IsGood Pcm given = (format : Option WrittenFormat) × GivesFormat (given (codes "pcm")) format
 IsGood Skip given = (bytes : Option ℕ) × GivesNumber (given (codes "skip")) bytes
 IsGood Block given = (frames : Option ℕ) × GivesCount most_block (given (codes "block")) frames
 IsGood MixedSamples given = are_samples_mixed given ≡ false
+IsGood Inspection given = ⊤
 
 -- the values that say how recorders are served, in the order in which they are looked at
 abbrev pub looked_at_waiting : List BadValue
@@ -282,7 +304,7 @@ looked_at_waiting = Timeout ∷ Recorders ∷ Idle ∷ Wait ∷ []
 
 -- the values that say how a sender tries, in the order in which they are looked at
 abbrev pub looked_at_trying : List BadValue
-looked_at_trying = Rounds ∷ Timeout ∷ Fruitless ∷ []
+looked_at_trying = Rounds ∷ Timeout ∷ Fruitless ∷ Rate ∷ []
 
 -- the values that describe headerless samples, in the order in which they are looked at
 abbrev pub looked_at_samples : List BadValue
@@ -296,7 +318,7 @@ looked_at command = if bytes_eq command (codes "replay") then Limit ∷ Fuse ∷
     then Listen ∷ Folder ∷ Exchanges ∷ Limit ∷ (looked_at_waiting ++ UntilStopped ∷ Sync ∷ [])
     else (if bytes_eq command (codes "send")
     then Connect ∷ Name ∷ (looked_at_trying ++ Mixed ∷ looked_at_samples)
-    else (if bytes_eq command (codes "takes") then Folder ∷ [] else []))))
+    else (if bytes_eq command (codes "takes") then Folder ∷ GiveUp ∷ [] else []))))
 
 -- of these values, in this order, it is the first that is bad
 abbrev pub IsFirstBad : List BadValue → (Text → Option Text) → BadValue → Type 0
@@ -304,12 +326,16 @@ IsFirstBad [] given value = ⊥
 IsFirstBad (first ∷ later) given value = (¬ IsGood first given × (value ≡ first))
     ⊎ (IsGood first given × IsFirstBad later given value)
 
--- the value for which they ask for nothing; where no value is looked at, a limit stands for what
--- `clap` doesn't let through
+-- what is bad of a command of which no value is looked at: of `inspect`, what is asked for
+-- together; elsewhere a limit stands for what `clap` doesn't let through
+abbrev pub bad_unlooked : Text → BadValue
+bad_unlooked command = if bytes_eq command (codes "inspect") then Inspection else Limit
+
+-- the value for which they ask for nothing
 abbrev pub Lacks : Option (Text × List Row) → BadValue → Type 0
 Lacks None value = value ≡ Limit
 Lacks (Some command) value = IsFirstBad (looked_at command.0) (given_on_line command.1) value
-    ⊎ ((looked_at command.0 ≡ []) × (value ≡ Limit))
+    ⊎ ((looked_at command.0 ≡ []) × (value ≡ bad_unlooked command.0))
 
 -- exactly the line that they result in
 abbrev pub IsLineFor : Option (Text × List Row) → CommandLine → Type 0
@@ -343,42 +369,3 @@ IsLineRead words (Report error) = IsReportedOf words (kind_of error)
 -- what the words result in
 abbrev pub IsLineOf : List Text → CommandLine → Type 0
 IsLineOf words line = IsLineRead (as_read words) line
-
--- no number, or one from 1 to the most
-abbrev pub IsWithin : ℕ → Option ℕ → Type 0
-IsWithin most None = ⊤
-IsWithin most (Some count) = (1 ≤ count) × (count ≤ most)
-
--- it ends after at most as many exchanges as may be asked for, or when it is stopped
-abbrev pub IsEndWithin : End → Type 0
-IsEndWithin (when.Exchanges count) = (1 ≤ count) × (count ≤ most_exchanges)
-IsEndWithin when.UntilStopped = ⊤
-
--- how recorders are served is in the ranges of what may be asked for
-abbrev pub IsWayWithin : Way → Type 0
-IsWayWithin (InTurn timeout) = IsWithin most_seconds timeout
-IsWayWithin (AtOnce most idle) = ((1 ≤ most) × (most ≤ most_recorders))
-    × ((1 ≤ idle) × (idle ≤ most_seconds))
-
--- if a task runs, its numbers are in their ranges
-abbrev pub HasNumbersInRange : CommandLine → Type 0
-HasNumbersInRange (Run (Replay limit fuse)) = IsLimitValue limit
-HasNumbersInRange (Run (Rehearse name limit)) = IsLimitValue limit
-HasNumbersInRange (Run (Inspect file)) = ⊤
-HasNumbersInRange (Run (InspectFiles inspection)) = ⊤
-HasNumbersInRange (Run (Serve server)) = (0 < socket_port server.listen) × IsEndWithin server.end
-    × IsLimitValue server.limit × IsWayWithin server.recorders
-HasNumbersInRange (Run (Send sender)) = (0 < socket_port sender.connect)
-    × ((1 ≤ sender.rounds) × (sender.rounds ≤ most_rounds))
-    × IsWithin most_seconds sender.timeout
-HasNumbersInRange (Run (SendFile sender)) = (0 < socket_port sender.connect)
-    × ((1 ≤ sender.timeout) × (sender.timeout ≤ most_seconds))
-    × ((1 ≤ sender.fruitless) × (sender.fruitless ≤ most_fruitless))
-HasNumbersInRange (Run (SendPcm sender)) = (0 < socket_port sender.connect)
-    × ((1 ≤ sender.timeout) × (sender.timeout ≤ most_seconds))
-    × IsWithin most_fruitless sender.fruitless × IsWithin most_block sender.pcm.block
-HasNumbersInRange (Run (Pack source)) = ⊤
-HasNumbersInRange (Run (Repair file write)) = ⊤
-HasNumbersInRange (Run (Takes listing)) = ⊤
-HasNumbersInRange (Bad value) = ⊤
-HasNumbersInRange (Report error) = ⊤

@@ -64,6 +64,10 @@ default_idle = 60
 abbrev pub most_block : ℕ
 most_block = 4294967295
 
+-- the most bytes a second that a sender of a recording may be asked to send
+abbrev pub most_rate : ℕ
+most_rate = 4294967295
+
 -- the longest time for which a peer may be waited for, in seconds: a day
 abbrev pub most_seconds : ℕ
 most_seconds = 86400

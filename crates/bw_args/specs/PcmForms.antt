@@ -3,7 +3,7 @@ use Rattle.std.specs.Prelude.{false, List, [], ◌∷◌, ◌++◌, Some, None, 
 use Rattle.std.specs.declared.net.socket_addr.SocketAddr.{SocketAddr}
 use Rattle.clap.specs.Walk.{Text}
 use Rattle.bw_args.specs.Numbers.{IsCountText, IsNumber, default_fruitless, default_timeout}
-use Rattle.bw_args.specs.Numbers.{most_block, most_fruitless, number_written}
+use Rattle.bw_args.specs.Numbers.{most_block, most_fruitless, most_rate, number_written}
 use Rattle.bw_args.specs.PcmSources.{IsFormatText, samples_with}
 use Rattle.bw_args.specs.Lines.{PcmUpload, SendingPcm}
 use Rattle.bw_args.specs.Forms.{RunsFor}
@@ -23,6 +23,7 @@ plain_pcm_upload address name path format = record {
   timeout = default_timeout;
   fruitless = Some default_fruitless;
   log = false;
+  rate = None;
 }
 
 -- `--file=FILE --pcm=RATE,CHANNELS,BITS`, and what follows
@@ -64,6 +65,11 @@ pub record RunsPcmSender (words : List Text) (line : CommandLine) : Type 0 where
       (codes "--follow" ∷ (codes "--until=" ++ end) ∷ (codes "--fruitless=" ++ count) ∷ []))
       (AsksToSendPcm line path format (λ s.
       record s { pcm = record s.pcm { until = Some end }; fruitless = Some (number_written count) }))
+  -- with `--rate=BYTES`
+  pub rate : (path text bytes : Text) (format : WrittenFormat) → IsFormatText text format
+      → IsCountText most_rate bytes
+      → ForSender false words (with_pcm path text ((codes "--rate=" ++ bytes) ∷ []))
+      (AsksToSendPcm line path format (λ s. record s { rate = Some (number_written bytes) }))
 
 -- options that don't belong together, and bad values, are faults
 pub record RefusesSamples (words : List Text) (line : CommandLine) : Type 0 where
@@ -88,6 +94,10 @@ pub record RefusesSamples (words : List Text) (line : CommandLine) : Type 0 wher
   -- with `--until=END` alone
   pub until : (path text end : Text) (format : WrittenFormat) → IsFormatText text format
       → ForSender false words (with_pcm path text ((codes "--until=" ++ end) ∷ []))
+      (ReportsBad line MixedSamples)
+  -- with `--state=STATE`
+  pub state : (path text state : Text) (format : WrittenFormat) → IsFormatText text format
+      → ForSender false words (with_pcm path text ((codes "--state=" ++ state) ∷ []))
       (ReportsBad line MixedSamples)
   -- with `--file=FILE --skip=BYTES` alone
   pub formatless : (path bytes : Text) → IsNumber bytes

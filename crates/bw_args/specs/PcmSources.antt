@@ -86,8 +86,8 @@ abbrev pub IsNumberGiven : {E : Type 0} → Option Text → Result (Option ℕ) 
 IsNumberGiven text (Ok number) = GivesNumber text number
 IsNumberGiven text (Err fault) = (number : Option ℕ) → ¬ GivesNumber text number
 
--- options that aren't for one sender: a format without a file, what is said about samples without
--- their format, and one of `--follow` and `--until` without the other
+-- options that aren't for one sender: a format without a file, or with a state, what is said about
+-- samples without their format, and one of `--follow` and `--until` without the other
 abbrev pub is_unpaired : (Text → Option Text) → Bool
 is_unpaired given =
     if is_set (given (codes "follow")) then not (is_some (given (codes "until")))
@@ -95,7 +95,9 @@ is_unpaired given =
 
 abbrev pub are_samples_mixed : (Text → Option Text) → Bool
 are_samples_mixed given =
-    if is_some (given (codes "pcm")) then not (is_some (given (codes "file"))) || is_unpaired given
+    if is_some (given (codes "pcm"))
+    then not (is_some (given (codes "file")))
+    || (is_some (given (codes "state")) || is_unpaired given)
     else is_some (given (codes "skip")) || (is_some (given (codes "block"))
     || (is_set (given (codes "follow")) || is_some (given (codes "until"))))
 

@@ -34,5 +34,6 @@ pub record GivesSource (options : List Row) (source : PlainSource) : Type 0 wher
 abbrev pub is_mixed : (Text → Option Text) → Bool
 is_mixed given = if is_some (given (codes "file")) then is_some (given (codes "rounds"))
     else is_some (given (codes "set"))
-    || (is_some (given (codes "fruitless"))
-    || (is_set (given (codes "strict")) || is_set (given (codes "log"))))
+    || (is_some (given (codes "fruitless")) || (is_some (given (codes "state"))
+    || (is_some (given (codes "rate"))
+    || (is_set (given (codes "strict")) || is_set (given (codes "log"))))))

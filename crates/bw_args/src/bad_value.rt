@@ -29,12 +29,16 @@ pub enum BadValue {
     UntilStopped,
     /// `--sync` without `--journal`.
     Sync,
+    /// The name of a take that is given up, or other options of `takes` beside it.
+    GiveUp,
     /// The address of the server that requests are sent to.
     Connect,
     /// How many exchanges a sender makes.
     Rounds,
     /// After how many links that settle nothing a sender gives up.
     Fruitless,
+    /// How many bytes a second a sender sends at most.
+    Rate,
     /// An option for a recording without `--file`, or `--rounds` with it.
     Mixed,
     /// The format of headerless samples.
@@ -43,9 +47,11 @@ pub enum BadValue {
     Skip,
     /// How many frames a block of headerless samples has.
     Block,
-    /// An option for headerless samples without `--pcm`, that without `--file`, or one of `--follow`
-    /// and `--until` without the other.
+    /// An option for headerless samples without `--pcm`, that without `--file` or with `--state`, or
+    /// one of `--follow` and `--until` without the other.
     MixedSamples,
+    /// `--json` together with `--human`, or standard input (`-`) beside another file or `--digest`.
+    Inspection,
 }
 
 impl BadValue {
@@ -66,14 +72,17 @@ impl BadValue {
             BadValue::Wait => BAD_WAIT,
             BadValue::UntilStopped => BAD_UNTIL_STOPPED,
             BadValue::Sync => BAD_SYNC,
+            BadValue::GiveUp => BAD_GIVE_UP,
             BadValue::Connect => BAD_CONNECT,
             BadValue::Rounds => BAD_ROUNDS,
             BadValue::Fruitless => BAD_FRUITLESS,
+            BadValue::Rate => BAD_RATE,
             BadValue::Mixed => BAD_MIXED,
             BadValue::Pcm => BAD_PCM,
             BadValue::Skip => BAD_SKIP,
             BadValue::Block => BAD_BLOCK,
             BadValue::MixedSamples => BAD_MIXED_SAMPLES,
+            BadValue::Inspection => BAD_INSPECTION,
         }
     }
 }
@@ -174,6 +183,14 @@ Usage: bwingest <COMMAND>
 For more information, try '--help'.
 ";
 
+const BAD_GIVE_UP: &str = "\
+error: '--give-up <NAME>' takes 1 to 32 bytes of a-z, 0-9, '-' and '_', without '--check' and '--json'
+
+Usage: bwingest <COMMAND>
+
+For more information, try '--help'.
+";
+
 const BAD_CONNECT: &str = "\
 error: '--connect <ADDR>' takes 127.0.0.1:PORT, or any IP:PORT with '--network'; PORT is 1 to 65535
 
@@ -198,8 +215,16 @@ Usage: bwingest <COMMAND>
 For more information, try '--help'.
 ";
 
+const BAD_RATE: &str = "\
+error: '--rate <BYTES>' takes a number from 1 to 4294967295, in at most ten digits
+
+Usage: bwingest <COMMAND>
+
+For more information, try '--help'.
+";
+
 const BAD_MIXED: &str = "\
-error: '--set', '--strict', '--fruitless' and '--log' are for '--file <FILE>', and '--rounds <N>' for a sender without it
+error: '--set', '--strict', '--fruitless', '--log', '--state' and '--rate' are for '--file <FILE>', and '--rounds <N>' for a sender without it
 
 Usage: bwingest <COMMAND>
 
@@ -231,7 +256,15 @@ For more information, try '--help'.
 ";
 
 const BAD_MIXED_SAMPLES: &str = "\
-error: '--pcm' is for '--file <FILE>', '--skip', '--block', '--follow' for '--pcm'; '--follow' goes with '--until <END>'
+error: '--pcm' is for '--file <FILE>' without '--state'; '--skip', '--block', '--follow' for '--pcm'; '--follow' goes with '--until <END>'
+
+Usage: bwingest <COMMAND>
+
+For more information, try '--help'.
+";
+
+const BAD_INSPECTION: &str = "\
+error: '--json' can't be given beside '--human', and '-', which is read once, beside another file or '--digest'
 
 Usage: bwingest <COMMAND>
 

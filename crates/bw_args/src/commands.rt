@@ -13,6 +13,7 @@ mod listing;
 mod network;
 mod options;
 mod packing;
+mod picturing;
 mod repairing;
 mod samples;
 mod sending;
@@ -45,11 +46,13 @@ fn on_folders<'a>(alloc: Global) -> Result<Command<'a>, AllocError>
     on_files(alloc)?.subcommand(listing::takes(alloc)?)
 }
 
-/// The program with these, and those that change files in place.
+/// The program with these, and those that draw a file or change it in place.
 fn on_files<'a>(alloc: Global) -> Result<Command<'a>, AllocError>
     ensures { IfOk result (λ c. app_of c ≡ on_files) }
 {
-    offline(alloc)?.subcommand(repairing::repair(alloc)?)
+    offline(alloc)?
+        .subcommand(picturing::picture(alloc)?)?
+        .subcommand(repairing::repair(alloc)?)
 }
 
 /// The program with the commands that use no network.
@@ -90,6 +93,7 @@ fn replay<'a>(alloc: Global) -> Result<Command<'a>, AllocError>
         "replay",
         "Runs each line of standard input as an exchange, and prints replies and files",
     )
+    .after_help("Example: bwingest replay --fuse 3 < requests.hex")
     .arg(limit_option(alloc))?
     .arg(fuse_option(alloc))
 }
@@ -102,6 +106,7 @@ fn rehearse<'a>(alloc: Global) -> Result<Command<'a>, AllocError>
         "rehearse",
         "Plays a recorder and a server by hand, by the events on standard input",
     )
+    .after_help("Example: bwingest rehearse --name a1 < events.txt")
     .arg(name_option(alloc))?
     .arg(limit_option(alloc))
 }
@@ -119,6 +124,7 @@ pub fn line(alloc: Global, matches: &ArgMatches<'_>) -> Result<CommandLine, Allo
         Some(("serve", options)) => serving::serve_line(alloc, options),
         Some(("send", options)) => sending::send_line(alloc, options),
         Some(("pack", options)) => packing::pack_line(alloc, options),
+        Some(("picture", options)) => picturing::picture_line(alloc, options),
         Some(("repair", options)) => repairing::repair_line(alloc, options),
         Some(("takes", options)) => listing::takes_line(alloc, options),
         // `clap` refuses words without a command of ours.

@@ -1,8 +1,21 @@
 //! Folders of takes as a command line asks for them.
+use bw_request::Name;
 
-/// The folder whose takes are reported.
+/// The folder whose takes are reported, or of which one is given up.
 #[derive(Debug, PartialEq, Eq, Drop)]
 pub struct TakesFolder {
     /// Its path, as it was given.
     pub folder: String,
+    /// What is done there.
+    pub work: FolderWork,
+}
+
+/// What is done in a folder of takes.
+#[derive(Debug, PartialEq, Eq, Drop)]
+pub enum FolderWork {
+    /// The takes are reported: with `check` their samples are compared with their journals, and with
+    /// `json` each is a line of JSON.
+    Report { check: bool, json: bool },
+    /// The take of this name is given up.
+    GiveUp(Name),
 }

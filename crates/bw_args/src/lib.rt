@@ -10,6 +10,7 @@ ghost use Rattle.bw_args.specs.PeerForms.{RefusesPeers, RunsSender, RunsServer, 
 ghost use Rattle.bw_args.specs.FileForms.{RefusesFiles, RunsFileSender, RunsPack};
 ghost use Rattle.bw_args.specs.PcmForms.{RefusesSamples, RunsPcmSender};
 ghost use Rattle.bw_args.specs.FolderForms.{RunsTakes};
+ghost use Rattle.bw_args.specs.PictureForms.{RunsPicture};
 ghost use Rattle.bw_args.specs.RepairForms.{RunsRepair};
 
 mod addresses;
@@ -26,7 +27,7 @@ pub use bad_value::BadValue;
 use bw_request::Name;
 use clap::Error;
 use clap::error::ErrorKind;
-pub use folders::TakesFolder;
+pub use folders::{FolderWork, TakesFolder};
 pub use inspection::Inspection;
 pub use peers::{End, Journaling, Recorders, Send, Serve};
 pub use recordings::{FileSender, PcmSender, PcmSource, SourceFile};
@@ -56,9 +57,11 @@ pub enum Task {
     SendPcm(PcmSender),
     /// Print the requests of a recording.
     Pack(SourceFile),
+    /// Draw the waveform of the recording in the file at this path.
+    Picture { file: String },
     /// Report which sizes the file at this path lacks; write them into it, if `write` says so.
     Repair { file: String, write: bool },
-    /// Report the takes of a folder.
+    /// Report the takes of a folder, or give one of them up.
     Takes(TakesFolder),
 }
 
@@ -76,12 +79,12 @@ pub enum CommandLine {
 /// Parses a command line, whose first word is the program's own name.
 ///
 /// Which words run a task, and of what kind an error is, follows from `clap`'s own contract
-/// (`line`). In plain terms the contract says of forty-eight forms that they run (`replay`,
-/// `rehearse`, `inspect`, `repair`, `serve`, `send`, `send_pcm`, `takes`), of thirty which value is a
-/// fault (`values`, `peers`, `samples`, `takes`) and of fourteen what they print (`help`, `rehearse`,
-/// `inspect`, `repair`, `wanted`, `takes`). Examples
-/// test that options may be given in all their forms and orders, and that all else is refused,
-/// except `--` at the end or before a file.
+/// (`line`). In plain terms the contract says of seventy forms that they run (`replay`, `rehearse`,
+/// `inspect`, `pack`, `picture`, `repair`, `serve`, `send`, `send_file`, `send_pcm`, `takes`), of
+/// forty-six which value is a fault (`values`, `inspect`, `peers`, `files`, `samples`, `takes`) and of
+/// seventeen what they print (`help`, `rehearse`, `inspect`, `pack`, `picture`, `repair`, `wanted`,
+/// `takes`). Examples test that options may be given in all their forms and orders, and that all else
+/// is refused, except `--` at the end or before a file.
 ///
 /// # Errors
 /// `AllocError` if memory was refused.
@@ -102,6 +105,7 @@ pub fn parse(alloc: Global, words: &[String]) -> Result<CommandLine, AllocError>
     ensures peers { IfOk result (RefusesPeers (map string_bytes words.now)) }
     ensures wanted { IfOk result (WantsPeers (map string_bytes words.now)) }
     ensures pack { IfOk result (RunsPack (map string_bytes words.now)) }
+    ensures picture { IfOk result (RunsPicture (map string_bytes words.now)) }
     ensures repair { IfOk result (RunsRepair (map string_bytes words.now)) }
     ensures send_file { IfOk result (RunsFileSender (map string_bytes words.now)) }
     ensures files { IfOk result (RefusesFiles (map string_bytes words.now)) }

@@ -38,6 +38,9 @@ pub(crate) const DEFAULT_TIMEOUT: u32 = 30;
 /// The most frames that a block of headerless samples may be asked to have.
 pub(crate) const MOST_BLOCK: u32 = 4_294_967_295;
 
+/// The most bytes a second that a sender of a recording may be asked to send.
+pub(crate) const MOST_RATE: u32 = 4_294_967_295;
+
 /// The longest time for which a peer may be waited for, in seconds: a day.
 pub(crate) const MOST_SECONDS: u32 = 86_400;
 

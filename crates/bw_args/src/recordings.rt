@@ -51,6 +51,8 @@ pub struct PcmSender {
     pub fruitless: Option<u32>,
     /// Whether each change of the link is reported in a line on standard error.
     pub log: bool,
+    /// How many bytes a second it sends at most, at least 1; None for any number.
+    pub rate: Option<u32>,
 }
 
 /// The sender of a recording that a command line asks for.
@@ -68,4 +70,8 @@ pub struct FileSender {
     pub fruitless: u32,
     /// Whether each change of the link is reported in a line on standard error.
     pub log: bool,
+    /// The path of the file of its state, if it keeps one, as it was given.
+    pub state: Option<String>,
+    /// How many bytes a second it sends at most, at least 1; None for any number.
+    pub rate: Option<u32>,
 }

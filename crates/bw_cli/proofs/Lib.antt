@@ -1,1 +1,3 @@
 pub mod ProgramLemmas
+mod InspectionLemmas
+mod UploadLemmas

@@ -17,7 +17,7 @@ use Rattle.bw_cli.specs.declared.outside.Outside.{Outside}
 use Rattle.bw_args.specs.declared.CommandLine.{CommandLine}
 use Rattle.bw_args.specs.declared.CommandLine.TheVariants.{Run, BadValue as Bad, Report}
 use Rattle.bw_args.specs.declared.Task.TheVariants.{Replay, Inspect, Rehearse, Serve, Send, SendFile, SendPcm}
-use Rattle.bw_args.specs.declared.Task.TheVariants.{Pack, InspectFiles, Repair, Takes}
+use Rattle.bw_args.specs.declared.Task.TheVariants.{Pack, Picture, InspectFiles, Repair, Takes}
 use Rattle.bw_cli.specs.Programs.{DoesAlone, IsDoneFor, IsProgram, IsReporting, IsUnread}
 use Rattle.bw_console.specs.declared.exit.Exit.{Exit}
 use Rattle.bw_console.specs.declared.exit.Exit.TheVariants as exits
@@ -52,7 +52,7 @@ reported-help texts.DisplayVersion outcome text out reported n p t =
     record { outcome = outcome; exit_is = refl; reads = refl; text = text; prints = p; reports = t }
 reported-help _ outcome text out reported n p t = absurd (n ((λ e. cc), (λ e. cc)))
 
-module _ {S T F H G M Ed DK DF N X Y Z P R W L K D A B U J Q I O E V C : Type 0} (host : HostSide S T F H G M Ed DK DF I O E)
+module _ {S T F H G M Ed LK DK DF N X Y Z P R W L K D A B U J Q I O E V C : Type 0} (host : HostSide S T F H G M Ed LK DK DF I O E)
     (server_side : ServerSide X Y Z P R W L K N) (sender_side : SenderSide D A B)
     (upload_side : UploadSide U J Q) (network : NetworkGhosts N X P D R W A B) (listener_setup : ListenerSetupGhosts N L K)
     (starter : StartGhosts N (Server X Y server_side.store server_side.journal)) where
@@ -88,6 +88,7 @@ module _ {S T F H G M Ed DK DF N X Y Z P R W L K D A B U J Q I O E V C : Type 0}
       done_for (Run (SendFile sender)) done = done
       done_for (Run (SendPcm sender)) done = done
       done_for (Run (Pack source)) done = done
+      done_for (Run (Picture file)) done = done
       done_for (Run (Repair file write)) done = done
       done_for (Run (Takes listing)) done = done
       done_for (Bad value) done = record { does = done.does; unused = done.unused; unread = done.unread; unpaused = done.unpaused; kept = done.kept }

@@ -2,6 +2,7 @@ pub mod Inspected
 pub mod Programs
 pub mod Remote
 pub mod Packed
+pub mod Drawn
 pub mod Listed
 pub mod Sides
 pub mod Uploads

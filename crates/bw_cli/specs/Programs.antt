@@ -12,12 +12,11 @@ use Rattle.bw_args.specs.declared.CommandLine.{CommandLine}
 use Rattle.bw_args.specs.declared.CommandLine.TheVariants.{Run, BadValue as Bad, Report}
 use Rattle.bw_args.specs.declared.Task.{Task}
 use Rattle.bw_args.specs.declared.Task.TheVariants.{Replay, Inspect, Rehearse, Serve, Send, SendFile, SendPcm}
-use Rattle.bw_args.specs.declared.Task.TheVariants.{Pack, InspectFiles, Repair, Takes}
+use Rattle.bw_args.specs.declared.Task.TheVariants.{Pack, Picture, InspectFiles, Repair, Takes}
 use Rattle.bw_console.specs.Outcomes.{Outcome, Does, IsOutOfMemory}
 use Rattle.bw_commands.specs.Replays.{IsReplay}
 use Rattle.bw_console.specs.Faults.{IsReportedBy, exit_of}
 use Rattle.bw_commands.specs.Inspections.{IsPrintOfText}
-use Rattle.bw_commands.specs.Looks.{IsLook}
 use Rattle.bw_console.specs.Printing.{Nothing, IsOf}
 use Rattle.bw_commands.specs.Rehearsals.{IsRehearsal}
 use Rattle.bw_console.specs.BadArgv.{IsBadArgv}
@@ -28,13 +27,14 @@ use Rattle.bw_ports.specs.declared.network.Network.{Ghosts as NetworkGhosts}
 use Rattle.bw_ports.specs.declared.listener_setup.ListenerSetup.{Ghosts as ListenerSetupGhosts}
 use Rattle.bw_ports.specs.declared.starts.Starts.{Ghosts as StartGhosts}
 use Rattle.bw_session.specs.declared.server.Server.{Server}
-use Rattle.bw_cli.specs.Inspected.{InspectsFiles}
-use Rattle.bw_cli.specs.Listed.{ShowsTakes}
+use Rattle.bw_cli.specs.Inspected.{InspectsFiles, IsInspectedAt}
+use Rattle.bw_cli.specs.Listed.{WorksOnTakes, folder_side}
+use Rattle.bw_cli.specs.Drawn.{DrawsFile}
 use Rattle.bw_cli.specs.Packed.{Packs}
 use Rattle.bw_cli.specs.Repaired.{RepairsFile}
 use Rattle.bw_cli.specs.Remote.{Sends, ServesByRule}
 use Rattle.bw_cli.specs.PcmUploads.{SendsPcm}
-use Rattle.bw_cli.specs.Uploads.{SendsRecording}
+use Rattle.bw_cli.specs.Uploads.{SendsByState}
 use Rattle.bw_cli.specs.Sides.{HostSide, SenderSide, ServerSide, UploadSide}
 use Rattle.bw_cli.specs.declared.outside.Outside.{Outside}
 
@@ -75,7 +75,7 @@ abbrev pub IsTaskDone : (Text → Option (List ℕ)) → Option (List ℕ) → T
 IsTaskDone file_at input (Replay limit fuse) gives_all did =
     IsReplay limit fuse input did × (gives_all ≡ true)
 IsTaskDone file_at input (Inspect file) gives_all did =
-    IsLook (file_at (string_bytes file)) (string_bytes file) gives_all did
+    IsInspectedAt file_at input (string_bytes file) gives_all did
 IsTaskDone file_at input (Rehearse name limit) gives_all did =
     IsRehearsal name limit input did × (gives_all ≡ true)
 IsTaskDone file_at input (InspectFiles inspection) gives_all did = ⊥
@@ -84,6 +84,7 @@ IsTaskDone file_at input (Send sender) gives_all did = ⊥
 IsTaskDone file_at input (SendFile sender) gives_all did = ⊥
 IsTaskDone file_at input (SendPcm sender) gives_all did = ⊥
 IsTaskDone file_at input (Pack source) gives_all did = ⊥
+IsTaskDone file_at input (Picture file) gives_all did = ⊥
 IsTaskDone file_at input (Repair file write) gives_all did = ⊥
 IsTaskDone file_at input (Takes listing) gives_all did = ⊥
 
@@ -101,7 +102,7 @@ abbrev pub IsUnread : Bool → Outcome → Type 0
 IsUnread true did = IsOutOfMemory did
 IsUnread false did = (kind : ErrorKind) × IsBadArgv kind did
 
-module _ {S T F H G M Ed DK DF N X Y Z P R W L K D A B U J Q I O E V C : Type 0} (host : HostSide S T F H G M Ed DK DF I O E)
+module _ {S T F H G M Ed LK DK DF N X Y Z P R W L K D A B U J Q I O E V C : Type 0} (host : HostSide S T F H G M Ed LK DK DF I O E)
     (server_side : ServerSide X Y Z P R W L K N) (sender_side : SenderSide D A B)
     (upload_side : UploadSide U J Q) (network : NetworkGhosts N X P D R W A B) (listener_setup : ListenerSetupGhosts N L K)
     (starter : StartGhosts N (Server X Y server_side.store server_side.journal)) where
@@ -135,7 +136,7 @@ module _ {S T F H G M Ed DK DF N X Y Z P R W L K D A B U J Q I O E V C : Type 0}
       × IsHostWell failed x' × (x'.files ≡ x.files) × (x'.network ≡ x.network)
       × (x'.pause ≡ x.pause) × (x'.disk ≡ x.disk)
   IsDoneFor file_at failed (Run (SendFile sender)) exit x x' =
-      SendsRecording upload_side sender_side network host.files host.out host.reported sender exit
+      SendsByState upload_side sender_side network host.files host.out host.reported host.kept_at sender exit
       x.files x'.files x.network x.pause x'.pause x.out x'.out x.faults x'.faults
       × IsHostWell failed x' × (x'.network ≡ x.network) × (x'.input ≡ x.input) × (x'.disk ≡ x.disk)
   IsDoneFor file_at failed (Run (SendPcm sender)) exit x x' =
@@ -148,8 +149,12 @@ module _ {S T F H G M Ed DK DF N X Y Z P R W L K D A B U J Q I O E V C : Type 0}
       × IsHostWell failed x' × (x'.network ≡ x.network) × (x'.input ≡ x.input)
       × (x'.pause ≡ x.pause) × (x'.disk ≡ x.disk)
   IsDoneFor file_at failed (Run (InspectFiles inspection)) exit x x' =
-      InspectsFiles host.out host.reported (host.files.file_at x.files) inspection exit
-      (host.files.failures x.files) (host.files.failures x'.files) x.out x'.out x.faults x'.faults
+      InspectsFiles host.files host.input host.out host.reported inspection exit
+      x.files x'.files x.input x'.input x.out x'.out x.faults x'.faults
+      × IsHostWell failed x' × (x'.network ≡ x.network) × (x'.pause ≡ x.pause) × (x'.disk ≡ x.disk)
+  IsDoneFor file_at failed (Run (Picture file)) exit x x' =
+      DrawsFile host.files host.out host.reported (string_bytes file) exit
+      x.files x'.files x.out x'.out x.faults x'.faults
       × IsHostWell failed x' × (x'.network ≡ x.network) × (x'.input ≡ x.input)
       × (x'.pause ≡ x.pause) × (x'.disk ≡ x.disk)
   IsDoneFor file_at failed (Run (Repair file write)) exit x x' =
@@ -158,9 +163,9 @@ module _ {S T F H G M Ed DK DF N X Y Z P R W L K D A B U J Q I O E V C : Type 0}
       × IsHostWell failed x' × (x'.network ≡ x.network) × (x'.input ≡ x.input)
       × (x'.pause ≡ x.pause) × (x'.disk ≡ x.disk)
   IsDoneFor file_at failed (Run (Takes listing)) exit x x' =
-      ShowsTakes host.disk host.out host.reported listing exit
-      x.disk x'.disk x.out x'.out x.faults x'.faults
-      × IsHostWell failed x' × (x'.files ≡ x.files) × (x'.network ≡ x.network)
+      WorksOnTakes (folder_side host.disk host.locks host.out host.reported) listing exit
+      x.disk x'.disk x.files x'.files x.out x'.out x.faults x'.faults
+      × IsHostWell failed x' × (x'.network ≡ x.network)
       × (x'.input ≡ x.input) × (x'.pause ≡ x.pause)
   IsDoneFor file_at failed line exit x x' =
       DoesAlone (IsLineDone file_at (host.input.left x.input) line) exit failed x x'

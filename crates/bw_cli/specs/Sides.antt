@@ -1,5 +1,5 @@
 -- What the parts of the program's outside say of themselves, in groups.
-use Rattle.std.specs.Prelude.{Option}
+use Rattle.std.specs.Prelude.{ℕ, List, Option}
 use Rattle.bw_stream.specs.declared.sink.Sink.{Ghosts as Writer}
 use Rattle.bw_stream.specs.declared.source.Source.{Ghosts as Reader}
 use Rattle.bw_store.specs.declared.store.TakeStore.{Ghosts as StoreGhosts}
@@ -12,29 +12,35 @@ use Rattle.bw_ports.specs.declared.peers.Peers.{Ghosts as PeerGhosts}
 use Rattle.bw_ports.specs.declared.reactor.Reactor.{Ghosts as ReactorGhosts}
 use Rattle.bw_ports.specs.declared.recording_files.RecordingFiles.{Ghosts as FileGhosts}
 use Rattle.bw_edit.specs.declared.edited_files.EditedFiles.{Ghosts as EditGhosts}
+use Rattle.bw_lock.specs.declared.folder_locks.FolderLocks.{Ghosts as LockGhosts}
 use Rattle.bw_ports.specs.declared.system.System.{Ghosts as SystemGhosts}
 use Rattle.bw_ports.specs.declared.pause.Pause.{Ghosts as PauseGhosts}
 use Rattle.bw_ports.specs.declared.recording_files.FileStamp.{FileStamp}
 use Rattle.bw_send_file.specs.declared.fault.FeedFault.{FeedFault}
 use Rattle.bw_upload.specs.declared.feed.Feed.{Ghosts as FeedGhosts}
 
--- the system, the files of recordings, how they are changed in place, the disk of servers' folders,
--- and the process's streams
-pub record HostSide (S T F H G M J DK DF I O E : Type 0) : Type 1 where
+-- the system, the files of recordings, what the states of their senders have, how files are changed
+-- in place, the locks and the disk of servers' folders, and the process's streams
+pub record HostSide (S T F H G M J LK DK DF I O E : Type 0) : Type 1 where
   pub system : SystemGhosts S T
   pub files : FileGhosts F H G M
+  pub kept_at : F → List ℕ → Option (List ℕ)
   pub edits : EditGhosts F J
+  pub locks : LockGhosts F LK
   pub disk : DiskGhosts DK DF
   pub input : Reader I
   pub out : Writer O
   pub reported : Writer E
 
-abbrev pub host_side : {S T F H G M J DK DF I O E : Type 0} → SystemGhosts S T → FileGhosts F H G M → EditGhosts F J →
-    DiskGhosts DK DF → Reader I → Writer O → Writer E → HostSide S T F H G M J DK DF I O E
-host_side system files edits disk input out reported = record {
+abbrev pub host_side : {S T F H G M J LK DK DF I O E : Type 0} → SystemGhosts S T → FileGhosts F H G M →
+    (F → List ℕ → Option (List ℕ)) → EditGhosts F J → LockGhosts F LK → DiskGhosts DK DF → Reader I → Writer O →
+    Writer E → HostSide S T F H G M J LK DK DF I O E
+host_side system files kept_at edits locks disk input out reported = record {
   system = system;
   files = files;
+  kept_at = kept_at;
   edits = edits;
+  locks = locks;
   disk = disk;
   input = input;
   out = out;

@@ -1,23 +1,53 @@
-//! The command on a folder of takes, as a command line asks for it.
-ghost use Rattle.bw_cli.specs.Listed.{ShowsTakes};
+//! The commands on a folder of takes, as a command line asks for them.
+ghost use Rattle.std.specs.Prelude.{◌≡◌};
+ghost use Rattle.bw_cli.specs.Listed.{WorksOnTakes, depth_if, folder_side, style_if};
 
-use bw_args::TakesFolder;
+use bw_args::{FolderWork, TakesFolder};
 use bw_console::Exit;
 use bw_disk::Volume;
+use bw_lock::FolderLocks;
 use bw_stream::Sink;
-use bw_takes::show_takes;
+use bw_takes::{Depth, LineStyle, give_up_locked, show_takes};
 use std::alloc::Global;
 
-/// Reports the takes of the folder that the command line names.
-pub(crate) fn list_takes<D: Volume, W: Sink, E: Sink>(
+/// Reports the takes of the folder that the command line names, or gives one of them up.
+pub(crate) fn work_on_takes<D: Volume, L: FolderLocks, W: Sink, E: Sink>(
     alloc: Global,
     listing: &TakesFolder,
     disk: &mut D,
+    locks: &mut L,
     out: &mut W,
     faults: &mut E,
 ) -> Exit
-    ensures { ShowsTakes D.Disk W.Sink E.Sink listing.now result disk.old disk.new out.old out.new
-        faults.old faults.new }
+    ensures { WorksOnTakes (folder_side D.Disk L.FolderLocks W.Sink E.Sink) listing.now result
+        disk.old disk.new locks.old locks.new out.old out.new faults.old faults.new }
 {
-    show_takes(alloc, disk, listing.folder.as_str(), out, faults)
+    let folder = listing.folder.as_str();
+    match &listing.work {
+        FolderWork::Report { check, json } => {
+            let (style, depth) = (style_of(*json), depth_of(*check));
+            show_takes(alloc, disk, folder, style, depth, out, faults)
+        }
+        FolderWork::GiveUp(name) => give_up_locked(alloc, disk, locks, folder, name, out, faults),
+    }
+}
+
+fn style_of(json: bool) -> LineStyle
+    ensures { result ≡ style_if json }
+{
+    if json {
+        LineStyle::Json
+    } else {
+        LineStyle::Words
+    }
+}
+
+fn depth_of(check: bool) -> Depth
+    ensures { result ≡ depth_if check }
+{
+    if check {
+        Depth::Samples
+    } else {
+        Depth::Journals
+    }
 }

@@ -10,25 +10,29 @@ ghost use Rattle.bw_send_file.specs.FileLooks.{LooksAt};
 ghost use Rattle.bw_cli.specs.Programs.{IsDoneFor, IsProgram, IsReporting};
 ghost use Rattle.bw_cli.specs.Sides.{host_side, sender_side, server_side, upload_side};
 
-use crate::folders::list_takes;
-use crate::inspections::inspect_as;
+use crate::folders::work_on_takes;
+use crate::inspections::{inspect_as, inspect_one};
 use crate::outside::Outside;
 use crate::recordings::pack_as;
 use crate::remote::{send_as, serve_as};
 use crate::samples::send_pcm_as;
 use crate::uploads::send_file_as;
 use bw_args::{CommandLine, Task, parse};
+use bw_commands::rehearse_run;
 use bw_commands::replay::{replay, replay_fused};
-use bw_commands::{inspect_file, rehearse_run};
 use bw_console::print::{give_up, print, print_diagnostic};
 use bw_console::{Exit, Fault, report_bad_argv};
 use bw_disk::Volume;
+use bw_draw::draw_file;
 use bw_edit::EditedFiles;
 use bw_journal::{Journal, NoJournal};
 use bw_layout::Limit;
+use bw_lock::FolderLocks;
 use bw_one_name::NameRule;
+use bw_pace::PacedNetwork;
 use bw_ports::{ListenerSetup, Network, Pause, RecordingFiles, Starts, System, Watch};
 use bw_repair_file::repair_file;
+use bw_resume::StateKeeping;
 use bw_send_file::PlanFeed;
 use bw_send_pcm::PcmFeed;
 use bw_session::Server;
@@ -47,10 +51,10 @@ use std::process::ExitCode;
 /// - The texts of help, version and usage errors.
 pub fn start<
     S: System,
-    F: RecordingFiles + EditedFiles,
+    F: RecordingFiles + StateKeeping + EditedFiles + FolderLocks,
     D: Volume,
     J: Journal,
-    N: Network + ListenerSetup + Starts<Server<N::Store, J>> + NameRule,
+    N: PacedNetwork + ListenerSetup + Starts<Server<N::Store, J>> + NameRule,
     P: Pause,
     R: Source,
     W: Sink,
@@ -59,7 +63,7 @@ pub fn start<
     G: Observer,
 >(alloc: Global, outside: &mut Outside<S, F, D, N, P, R, W, E, V, G>) -> ExitCode
     ensures { (exit : Exit) × (exit_status result ≡ status_of exit) × IsProgram
-        (host_side S.System F.RecordingFiles F.EditedFiles D.Disk R.Source W.Sink E.Sink)
+        (host_side S.System F.RecordingFiles F.kept_at F.EditedFiles F.FolderLocks D.Disk R.Source W.Sink E.Sink)
         (server_side N.Store.TakeStore J.Journal ⟦<NoJournal as Journal>⟧ N.Peers.Peers
         N.Peers.Reader.Source N.Peers.Writer.Sink N.Reactor.Reactor N.Reactor.Link.Link N.NameRule)
         (sender_side N.Dial.Dial N.Dial.Reader.Source N.Dial.Writer.Sink)
@@ -73,10 +77,10 @@ pub fn start<
 /// Reads the command line, and does what it asks for.
 fn obey<
     S: System,
-    F: RecordingFiles + EditedFiles,
+    F: RecordingFiles + StateKeeping + EditedFiles + FolderLocks,
     D: Volume,
     J: Journal,
-    N: Network + ListenerSetup + Starts<Server<N::Store, J>> + NameRule,
+    N: PacedNetwork + ListenerSetup + Starts<Server<N::Store, J>> + NameRule,
     P: Pause,
     R: Source,
     W: Sink,
@@ -84,7 +88,7 @@ fn obey<
     V: Watch,
     G: Observer,
 >(alloc: Global, outside: &mut Outside<S, F, D, N, P, R, W, E, V, G>) -> Exit
-    ensures { IsProgram (host_side S.System F.RecordingFiles F.EditedFiles D.Disk R.Source W.Sink E.Sink)
+    ensures { IsProgram (host_side S.System F.RecordingFiles F.kept_at F.EditedFiles F.FolderLocks D.Disk R.Source W.Sink E.Sink)
         (server_side N.Store.TakeStore J.Journal ⟦<NoJournal as Journal>⟧ N.Peers.Peers
         N.Peers.Reader.Source N.Peers.Writer.Sink N.Reactor.Reactor N.Reactor.Link.Link N.NameRule)
         (sender_side N.Dial.Dial N.Dial.Reader.Source N.Dial.Writer.Sink)
@@ -101,10 +105,10 @@ fn obey<
 /// Does what these words ask for.
 fn answer<
     S: System,
-    F: RecordingFiles + EditedFiles,
+    F: RecordingFiles + StateKeeping + EditedFiles + FolderLocks,
     D: Volume,
     J: Journal,
-    N: Network + ListenerSetup + Starts<Server<N::Store, J>> + NameRule,
+    N: PacedNetwork + ListenerSetup + Starts<Server<N::Store, J>> + NameRule,
     P: Pause,
     R: Source,
     W: Sink,
@@ -112,7 +116,7 @@ fn answer<
     V: Watch,
     G: Observer,
 >(alloc: Global, words: &[String], outside: &mut Outside<S, F, D, N, P, R, W, E, V, G>) -> Exit
-    ensures { IsProgram (host_side S.System F.RecordingFiles F.EditedFiles D.Disk R.Source W.Sink E.Sink)
+    ensures { IsProgram (host_side S.System F.RecordingFiles F.kept_at F.EditedFiles F.FolderLocks D.Disk R.Source W.Sink E.Sink)
         (server_side N.Store.TakeStore J.Journal ⟦<NoJournal as Journal>⟧ N.Peers.Peers
         N.Peers.Reader.Source N.Peers.Writer.Sink N.Reactor.Reactor N.Reactor.Link.Link N.NameRule)
         (sender_side N.Dial.Dial N.Dial.Reader.Source N.Dial.Writer.Sink)
@@ -129,10 +133,10 @@ fn answer<
 /// Does what a command line asks for.
 fn perform<
     S: System,
-    F: RecordingFiles + EditedFiles,
+    F: RecordingFiles + StateKeeping + EditedFiles + FolderLocks,
     D: Volume,
     J: Journal,
-    N: Network + ListenerSetup + Starts<Server<N::Store, J>> + NameRule,
+    N: PacedNetwork + ListenerSetup + Starts<Server<N::Store, J>> + NameRule,
     P: Pause,
     R: Source,
     W: Sink,
@@ -141,7 +145,7 @@ fn perform<
     G: Observer,
 >(alloc: Global, line: &CommandLine, outside: &mut Outside<S, F, D, N, P, R, W, E, V, G>) -> Exit
     requires { HasNumbersInRange line.now }
-    ensures { IsDoneFor (host_side S.System F.RecordingFiles F.EditedFiles D.Disk R.Source W.Sink E.Sink)
+    ensures { IsDoneFor (host_side S.System F.RecordingFiles F.kept_at F.EditedFiles F.FolderLocks D.Disk R.Source W.Sink E.Sink)
         (server_side N.Store.TakeStore J.Journal ⟦<NoJournal as Journal>⟧ N.Peers.Peers
         N.Peers.Reader.Source N.Peers.Writer.Sink N.Reactor.Reactor N.Reactor.Link.Link N.NameRule)
         (sender_side N.Dial.Dial N.Dial.Reader.Source N.Dial.Writer.Sink)
@@ -163,10 +167,10 @@ fn perform<
 /// Runs a task.
 fn run<
     S: System,
-    F: RecordingFiles + EditedFiles,
+    F: RecordingFiles + StateKeeping + EditedFiles + FolderLocks,
     D: Volume,
     J: Journal,
-    N: Network + ListenerSetup + Starts<Server<N::Store, J>> + NameRule,
+    N: PacedNetwork + ListenerSetup + Starts<Server<N::Store, J>> + NameRule,
     P: Pause,
     R: Source,
     W: Sink,
@@ -175,7 +179,7 @@ fn run<
     G: Observer,
 >(alloc: Global, task: &Task, outside: &mut Outside<S, F, D, N, P, R, W, E, V, G>) -> Exit
     requires { HasNumbersInRange (CommandLine.Run task.now) }
-    ensures { IsDoneFor (host_side S.System F.RecordingFiles F.EditedFiles D.Disk R.Source W.Sink E.Sink)
+    ensures { IsDoneFor (host_side S.System F.RecordingFiles F.kept_at F.EditedFiles F.FolderLocks D.Disk R.Source W.Sink E.Sink)
         (server_side N.Store.TakeStore J.Journal ⟦<NoJournal as Journal>⟧ N.Peers.Peers
         N.Peers.Reader.Source N.Peers.Writer.Sink N.Reactor.Reactor N.Reactor.Link.Link N.NameRule)
         (sender_side N.Dial.Dial N.Dial.Reader.Source N.Dial.Writer.Sink)
@@ -202,8 +206,10 @@ fn run<
             (Some(limit), None) => replay(alloc, limit, input, out, faults),
             (None, _) => unreachable!(),
         },
-        Task::Inspect { file } => inspect_file(alloc, system, file.as_str(), out, faults),
-        Task::InspectFiles(inspection) => inspect_as(alloc, inspection, files, out, faults),
+        Task::Inspect { file } => { inspect_one(alloc, system, input, file.as_str(), out, faults) }
+        Task::InspectFiles(inspection) => {
+            inspect_as(alloc, inspection, files, input, out, faults)
+        }
         Task::Rehearse { name, limit } => match Limit::new(*limit) {
             Some(limit) => rehearse_run(alloc, name.copy(), limit, input, out, faults),
             None => unreachable!(),
@@ -225,10 +231,11 @@ fn run<
             send_pcm_as(alloc, sender, files, network, pause, observer, out, faults)
         }
         Task::Pack(source) => pack_as(alloc, source, files, out, faults),
+        Task::Picture { file } => draw_file(alloc, files, file.as_str(), out, faults),
         Task::Repair { file, write } => {
             repair_file(alloc, files, file.as_str(), *write, out, faults)
         }
-        Task::Takes(listing) => list_takes(alloc, listing, disk, out, faults),
+        Task::Takes(listing) => work_on_takes(alloc, listing, disk, files, out, faults),
     }
 }
 

@@ -6,6 +6,7 @@ ghost use Rattle.bw_cli.specs.Sides.{sender_side, upload_side};
 
 use bw_args::PcmSender;
 use bw_console::Exit;
+use bw_pace::PacedNetwork;
 use bw_plan::Pcm;
 use bw_ports::{Network, Pause, RecordingFiles};
 use bw_recorder::RecordingFile;
@@ -17,7 +18,14 @@ use std::alloc::Global;
 
 /// Sends the headerless samples that the command line names, and reports each change of the link to
 /// the observer.
-pub(crate) fn send_pcm_as<F: RecordingFiles, N: Network, P: Pause, G: Observer, W: Sink, E: Sink>(
+pub(crate) fn send_pcm_as<
+    F: RecordingFiles,
+    N: PacedNetwork,
+    P: Pause,
+    G: Observer,
+    W: Sink,
+    E: Sink,
+>(
     alloc: Global,
     sender: &PcmSender,
     files: &mut F,
@@ -34,7 +42,7 @@ pub(crate) fn send_pcm_as<F: RecordingFiles, N: Network, P: Pause, G: Observer, 
         F.RecordingFiles W.Sink E.Sink sender.now result files.old files.new network.now
         pause.old pause.new out.old out.new faults.old faults.new }
 {
-    let mut dial = network.dial(sender.connect, Some(sender.timeout));
+    let mut dial = network.dial_paced(sender.connect, Some(sender.timeout), sender.rate);
     let file = pcm_file_of(sender);
     let recorder = recorder_of(sender);
     match &sender.pcm.until {

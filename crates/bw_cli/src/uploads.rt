@@ -2,21 +2,114 @@
 ghost use Rattle.std.specs.Prelude.{◌≡◌, Some};
 ghost use Rattle.bw_send_file.specs.FileLooks.{LooksAt};
 ghost use Rattle.bw_cli.specs.Sides.{sender_side, upload_side};
-ghost use Rattle.bw_cli.specs.Uploads.{IsRecorderOf, SendsRecording};
+ghost use Rattle.bw_cli.specs.Uploads.{IsRecorderOf, SendsByState, SendsKept, SendsRecording};
 
 use crate::recordings::recording_of;
 use bw_args::FileSender;
-use bw_console::Exit;
+use bw_console::print::give_up;
+use bw_console::{Exit, Fault};
+use bw_pace::PacedNetwork;
 use bw_ports::{Network, Pause, RecordingFiles};
+use bw_resume::StateKeeping;
 use bw_send_file::{PlanFeed, Recorder, send_file};
 use bw_send_pcm::PcmFeed;
+use bw_send_state::{StatePlace, send_file_on};
 use bw_stream::Sink;
 use bw_upload::{Feed, Observer};
 use std::alloc::Global;
 
-/// Sends the recording that the command line names, and reports each change of the link to the
-/// observer.
-pub(crate) fn send_file_as<F: RecordingFiles, N: Network, P: Pause, G: Observer, W: Sink, E: Sink>(
+/// Sends the recording that the command line names, with a state if that names one too, and reports
+/// each change of the link to the observer.
+pub(crate) fn send_file_as<
+    F: RecordingFiles + StateKeeping,
+    N: PacedNetwork,
+    P: Pause,
+    G: Observer,
+    W: Sink,
+    E: Sink,
+>(
+    alloc: Global,
+    sender: &FileSender,
+    files: &mut F,
+    network: &N,
+    pause: &mut P,
+    observer: &mut G,
+    out: &mut W,
+    faults: &mut E,
+) -> Exit
+    ensures { SendsByState
+        (upload_side ⟦<PlanFeed<F::File, F::Stamped> as Feed>⟧ (LooksAt F.Stamped.Stamped)
+        ⟦<PcmFeed<F::Growing> as Feed>⟧ P.Pause)
+        (sender_side N.Dial.Dial N.Dial.Reader.Source N.Dial.Writer.Sink) N.Network
+        F.RecordingFiles W.Sink E.Sink F.kept_at sender.now result files.old files.new network.now
+        pause.old pause.new out.old out.new faults.old faults.new }
+{
+    match &sender.state {
+        None => send_new(alloc, sender, files, network, pause, observer, out, faults),
+        Some(state) => {
+            let state = state.as_str();
+            send_kept(
+                alloc, sender, state, files, network, pause, observer, out, faults,
+            )
+        }
+    }
+}
+
+/// Sends the recording with the state at a path.
+fn send_kept<
+    F: RecordingFiles + StateKeeping,
+    N: PacedNetwork,
+    P: Pause,
+    G: Observer,
+    W: Sink,
+    E: Sink,
+>(
+    alloc: Global,
+    sender: &FileSender,
+    state: &str,
+    files: &mut F,
+    network: &N,
+    pause: &mut P,
+    observer: &mut G,
+    out: &mut W,
+    faults: &mut E,
+) -> Exit
+    ensures { result ≡ Exit.Done → SendsKept
+        (upload_side ⟦<PlanFeed<F::File, F::Stamped> as Feed>⟧ (LooksAt F.Stamped.Stamped)
+        ⟦<PcmFeed<F::Growing> as Feed>⟧ P.Pause)
+        (sender_side N.Dial.Dial N.Dial.Reader.Source N.Dial.Writer.Sink) N.Network
+        F.RecordingFiles W.Sink E.Sink F.kept_at state.now sender.now files.old network.now
+        pause.new }
+{
+    let Ok(address) = sender.connect.to_string(alloc) else {
+        return give_up(faults, &Fault::Memory);
+    };
+    let place = StatePlace {
+        path: state,
+        address: address.as_str(),
+    };
+    let mut links = network.dial_paced(sender.connect, Some(sender.timeout), sender.rate);
+    let mut states = files.states();
+    let mut stopwatch = files.stopwatch();
+    let file = recording_of(&sender.source);
+    send_file_on(
+        alloc,
+        &recorder_of(sender),
+        &file,
+        &place,
+        files,
+        &mut states,
+        &mut stopwatch,
+        pause,
+        &mut links,
+        observer,
+        out,
+        faults,
+    )
+}
+
+/// Sends the recording without a state.
+fn send_new<F: RecordingFiles, N: PacedNetwork, P: Pause, G: Observer, W: Sink, E: Sink>(
     alloc: Global,
     sender: &FileSender,
     files: &mut F,
@@ -33,7 +126,7 @@ pub(crate) fn send_file_as<F: RecordingFiles, N: Network, P: Pause, G: Observer,
         F.RecordingFiles W.Sink E.Sink sender.now result files.old files.new network.now
         pause.old pause.new out.old out.new faults.old faults.new }
 {
-    let mut dial = network.dial(sender.connect, Some(sender.timeout));
+    let mut dial = network.dial_paced(sender.connect, Some(sender.timeout), sender.rate);
     let file = recording_of(&sender.source);
     send_file(
         alloc,

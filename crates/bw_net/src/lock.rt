@@ -1,5 +1,5 @@
 //! The lock of a server's folder.
-use bw_ports::StartRefusal;
+use bw_lock::LockRefusal;
 use std::alloc::Global;
 use std::fs::{File, OpenOptions, TryLockError};
 use std::io;
@@ -24,15 +24,15 @@ impl FolderLock {
     /// # Not specified
     /// Anything: it has no contract. That a second server is refused, and that a kill frees the
     /// lock, is tested.
-    pub fn take(rt: &HostRuntime, alloc: Global, folder: &str) -> Result<FolderLock, StartRefusal> {
+    pub fn take(rt: &HostRuntime, alloc: Global, folder: &str) -> Result<FolderLock, LockRefusal> {
         let Ok(path) = format!(in alloc; "{folder}/{LOCK}") else {
-            return Err(StartRefusal::Memory);
+            return Err(LockRefusal::Memory);
         };
-        let file = open_lock(rt, path.as_str()).map_err(StartRefusal::Unusable)?;
+        let file = open_lock(rt, path.as_str()).map_err(LockRefusal::Unusable)?;
         match file.try_lock() {
             Ok(()) => Ok(FolderLock { _file: file }),
-            Err(TryLockError::WouldBlock) => Err(StartRefusal::Running),
-            Err(TryLockError::Error(error)) => Err(StartRefusal::Unusable(error)),
+            Err(TryLockError::WouldBlock) => Err(LockRefusal::Running),
+            Err(TryLockError::Error(error)) => Err(LockRefusal::Unusable(error)),
         }
     }
 }

@@ -10,6 +10,7 @@ use crate::reactor::TcpReactor;
 use crate::tcp::{TcpDial, TcpPeers};
 use bw_disk::SystemDisk;
 use bw_folder::FolderStore;
+use bw_pace::PacedNetwork;
 use bw_ports::{ListenerSetup, Network, StartRefusal};
 use std::alloc::Global;
 use std::io;
@@ -140,7 +141,18 @@ impl<'a> Network for TcpNetwork<'a> {
     }
 
     fn dial(&self, address: SocketAddr, timeout: Option<u32>) -> TcpDial<'a, HostRuntime> {
-        TcpDial::new(self.rt, address, span(timeout))
+        TcpDial::new(self.rt, address, span(timeout), None)
+    }
+}
+
+impl<'a> PacedNetwork for TcpNetwork<'a> {
+    fn dial_paced(
+        &self,
+        address: SocketAddr,
+        timeout: Option<u32>,
+        rate: Option<u32>,
+    ) -> TcpDial<'a, HostRuntime> {
+        TcpDial::new(self.rt, address, span(timeout), rate)
     }
 }
 

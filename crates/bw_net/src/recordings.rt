@@ -3,7 +3,10 @@ ghost use Rattle.std.specs.Prelude.{◌≡◌, None};
 
 use crate::followed::FollowedFile;
 use crate::host::open_source;
+use crate::states::HostStates;
+use crate::stopwatch::ClockStopwatch;
 use bw_ports::{FileStamp, RecordingFiles, Stamped};
+use bw_resume::StateKeeping;
 use bw_stream::SeekSource;
 use std::alloc::AllocError;
 use std::fs::{self, File};
@@ -82,6 +85,22 @@ impl<'a> RecordingFiles for HostRecordings<'a> {
             path,
             failures: 0,
         })
+    }
+}
+
+impl<'a> StateKeeping for HostRecordings<'a> {
+    type States = HostStates<'a>;
+
+    type Watch = ClockStopwatch<&'a HostRuntime>;
+
+    ghost kept_at = { λ s path. None };
+
+    fn states(&self) -> HostStates<'a> {
+        HostStates::new(self.rt)
+    }
+
+    fn stopwatch(&self) -> ClockStopwatch<&'a HostRuntime> {
+        ClockStopwatch::new(self.rt)
     }
 }
 

@@ -9,6 +9,7 @@ use crate::terminal::Terminal;
 use bw_disk::SystemDisk;
 use bw_folder::{FolderJournal, FolderStore};
 use bw_layout::Limit;
+use bw_lock::LockRefusal;
 use bw_ports::{StartRefusal, Starts};
 use bw_session::Server;
 use bw_start::{StartFault, start};
@@ -57,7 +58,16 @@ impl<'a> Starts<FolderServer<'a>> for TcpNetwork<'a> {
 /// The lock of a folder in which files can be made.
 fn lock_usable(rt: &HostRuntime, alloc: Global, folder: &str) -> Result<FolderLock, StartRefusal> {
     check_folder(rt, alloc, folder).map_err(StartRefusal::Unusable)?;
-    FolderLock::take(rt, alloc, folder)
+    FolderLock::take(rt, alloc, folder).map_err(refusal_by_lock)
+}
+
+/// Why a server isn't started whose folder isn't locked.
+fn refusal_by_lock(refusal: LockRefusal) -> StartRefusal {
+    match refusal {
+        LockRefusal::Running => StartRefusal::Running,
+        LockRefusal::Unusable(error) => StartRefusal::Unusable(error),
+        LockRefusal::Memory => StartRefusal::Memory,
+    }
 }
 
 /// Why a server isn't started, with a line for each name that can't be resumed.

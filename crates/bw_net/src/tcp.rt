@@ -2,13 +2,16 @@
 ghost use Rattle.std.specs.Prelude.{◌≡◌, IfOk, None};
 
 use crate::folder::has_folder;
+use crate::pause::ClockPause;
+use crate::stopwatch::ClockStopwatch;
+use bw_pace::PacedSink;
 use bw_ports::{AcceptFault, Dial, DialFault, Duplex, Peer, Peers};
 use bw_stream::StdIo;
 use std::fs::Files;
 use std::io;
 use std::io::{Read, Write};
 use std::net::{Net, OpenListener, OpenStream, SocketAddr, TcpListener, TcpStream};
-use std::time::Duration;
+use std::time::{Clock, Duration};
 
 /// Opens links to a server. It says nothing of what they give, since no clause of std says what
 /// comes over a socket.
@@ -18,43 +21,65 @@ pub struct TcpDial<'a, R> {
     address: SocketAddr,
     /// How long a call may wait, if there is a limit.
     timeout: Option<Duration>,
+    /// How many bytes a second go over a link at most, if there is a limit.
+    rate: Option<u32>,
     failures: u64,
 }
 
 impl<'a, R> TcpDial<'a, R> {
-    /// Opens links to this address; it has not failed yet.
+    /// Opens links to this address, over each of which so many bytes a second go at most, if a rate
+    /// is given; it has not failed yet.
     ///
     /// # Not specified
     /// - That its runtime is the one that was given.
     /// - That its links go to the address, and what they give.
-    pub fn new(rt: &'a R, address: SocketAddr, timeout: Option<Duration>) -> TcpDial<'a, R>
+    pub fn new(
+        rt: &'a R,
+        address: SocketAddr,
+        timeout: Option<Duration>,
+        rate: Option<u32>,
+    ) -> TcpDial<'a, R>
         ensures failures { result.failures ≡ 0 }
         ensures address { result.address ≡ address }
         ensures timeout { result.timeout ≡ timeout }
+        ensures rate { result.rate ≡ rate }
     {
         TcpDial {
             rt,
             address,
             timeout,
+            rate,
             failures: 0,
         }
     }
 }
 
-impl<R: Net> Dial for TcpDial<'_, R> {
+/// Writes to a server, no faster than it is asked for.
+type PacedStream<'a, R, S> = PacedSink<StdIo<S>, ClockPause<&'a R>, ClockStopwatch<&'a R>>;
+
+impl<'a, R: Net + Clock> Dial for TcpDial<'a, R> {
     type Reader = StdIo<R::Stream>;
 
-    type Writer = StdIo<R::Stream>;
+    type Writer = PacedStream<'a, R, R::Stream>;
 
     ghost links = { λ d. None };
 
     ghost failures = { λ d. d.failures };
 
-    ghost dials = { λ d result d'. (d'.address ≡ d.address) × (d'.timeout ≡ d.timeout) };
+    ghost dials = { λ d result d'. (d'.address ≡ d.address) × (d'.timeout ≡ d.timeout)
+        × (d'.rate ≡ d.rate) };
 
-    fn dial(&mut self) -> Result<Duplex<StdIo<R::Stream>, StdIo<R::Stream>>, DialFault> {
+    fn dial(
+        &mut self,
+    ) -> Result<Duplex<StdIo<R::Stream>, PacedStream<'a, R, R::Stream>>, DialFault> {
         match connect(self.rt, self.address, self.timeout) {
-            Ok(link) => Ok(link),
+            Ok(link) => {
+                let Duplex { reader, writer } = link;
+                let pause = ClockPause::new(self.rt);
+                let stopwatch = ClockStopwatch::new(self.rt);
+                let writer = PacedSink::new(writer, self.rate, pause, stopwatch);
+                Ok(Duplex { reader, writer })
+            }
             Err(_) => {
                 self.failures = self.failures.saturating_add(1);
                 Err(DialFault)

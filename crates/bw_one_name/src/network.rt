@@ -5,6 +5,7 @@ ghost use Rattle.bw_one_name.specs.Wrapping.{ListensFiltered, OpensFiltered};
 use crate::peers::FilteredPeers;
 use crate::reactor::FilteredReactor;
 use bw_layout::Limit;
+use bw_pace::PacedNetwork;
 use bw_ports::{ListenerSetup, Network, StartRefusal, Starts};
 use std::io;
 use std::net::SocketAddr;
@@ -86,6 +87,12 @@ impl<N: Network> Network for FilteredNetwork<N> {
 
     fn dial(&self, address: SocketAddr, timeout: Option<u32>) -> N::Dial {
         self.network.dial(address, timeout)
+    }
+}
+
+impl<N: PacedNetwork> PacedNetwork for FilteredNetwork<N> {
+    fn dial_paced(&self, address: SocketAddr, timeout: Option<u32>, rate: Option<u32>) -> N::Dial {
+        self.network.dial_paced(address, timeout, rate)
     }
 }
 

@@ -1,10 +1,13 @@
 -- Strokes of the same levels.
 use Rattle.std.proofs.Common.{◌≡◌, ℕ, zero, suc, ◌+◌, ◌*◌, ◌<◌, ◌≤◌, List, ◌++◌, length, refl, ◌∙◌, ap, arith}
 use Rattle.bw_picture.specs.Columns.{channel_height, stroke, strokes}
-use Rattle.std.proofs.Common.{Option, subst}
+use Rattle.std.proofs.Common.{IsTrue, Option, subst}
 use Rattle.std.specs.Prelude.{replicate, slice_index}
 use Rattle.std.proofs.lemmas.List.{get_or-replicate, length-replicate}
 use Rattle.bw_picture.specs.Peaks.{greatest_of, least_of}
+use Rattle.std.proofs.Math.Nat.{mul-le-mul_right}
+use Rattle.bw_inspect.specs.Faults.{is_of_bytes}
+use Rattle.bw_inspect.specs.declared.fault.InspectKind.{InspectKind}
 use Rattle.bw_picture.specs.Reads.{HasWidened, file_level}
 use Rattle.bw_picture.specs.Drawings.{DrawsColumn, frame_bytes, column_frames, column_high, column_low, column_place}
 use Rattle.bw_picture.specs.declared.drawing.Shape.{Shape}
@@ -39,19 +42,23 @@ pub column_drawn : (b : List ℕ) (s : Shape) (column place count align : ℕ) (
     DrawsColumn b s column old new left
 column_drawn b s column place count align lows highs lows' highs' old new left p n a l h widened long drawn =
     let at = subst (λ (k : ℕ). HasWidened b k count s.width align lows highs lows' highs' left) p widened in
-    let for = subst (λ (k : ℕ). HasWidened b (column_place s column) k s.width align lows highs lows' highs' left) n at in
-    let is = subst (λ (k : ℕ). HasWidened b (column_place s column) (column_frames s column) s.width k lows highs lows' highs' left) a for in
+    let for = subst (λ (k : ℕ). HasWidened b (column_place s column) k s.width align lows highs lows' highs' left) n at
+    in
+    let is = subst (λ (k : ℕ). HasWidened b (column_place s column)
+    (column_frames s column) s.width k lows highs lows' highs' left) a for in
     let width : length lows ≡ s.channels = ap length l ∙ length-replicate s.channels 4294967295 in
     let wide : length lows' ≡ s.channels = long ∙ width in
     let low : (c : ℕ) → c < length lows' → slice_index lows' c ≡ column_low b s column c =
     λ c under. let below : c < s.channels = omega (arith, under, wide) in
     is.lows_are c (omega (arith, below, width))
-    ∙ ap (λ (v : ℕ). least_of (file_level s.width b (column_place s column) (frame_bytes s) c) v (column_frames s column))
+    ∙ ap (λ (v : ℕ). least_of (file_level s.width b (column_place s column) (frame_bytes s) c) v
+    (column_frames s column))
     (ap (λ (z : List ℕ). slice_index z c) l ∙ get_or-replicate s.channels c 4294967295 0 below) in
     let high : (c : ℕ) → c < length lows' → slice_index highs' c ≡ column_high b s column c =
     λ c under. let below : c < s.channels = omega (arith, under, wide) in
     is.highs_are c (omega (arith, below, width))
-    ∙ ap (λ (v : ℕ). greatest_of (file_level s.width b (column_place s column) (frame_bytes s) c) v (column_frames s column))
+    ∙ ap (λ (v : ℕ). greatest_of (file_level s.width b (column_place s column) (frame_bytes s) c) v
+    (column_frames s column))
     (ap (λ (z : List ℕ). slice_index z c) h ∙ get_or-replicate s.channels c 0 0 below) in
     record {
       text = drawn
@@ -71,5 +78,23 @@ next_column s column h =
     ≡ s.place + (column + 1) * s.wide * frame_bytes s = omega arith in at)
 
 -- each column has a frame
-pub column_within : (column columns wide frames : ℕ) → column < columns → columns * wide < frames + wide → column * wide < frames
+pub column_within : (column columns wide frames : ℕ) → column < columns → columns * wide < frames + wide
+    → column * wide < frames
 column_within column columns wide frames h filled = grind (arith, h, filled)
+
+frames_after : (place before n align : ℕ) → place + before * align + n * align ≡ place + (before + n) * align
+frames_after place before n align = omega arith
+
+-- the frames of a column are among all frames
+pub column_lacks : (b : List ℕ) (s : Shape) (column place count align : ℕ) (kind : InspectKind) →
+    place ≡ column_place s column → count ≡ column_frames s column → align ≡ frame_bytes s →
+    column * s.wide ≤ s.frames → (IsTrue (is_of_bytes kind) → length b < place + count * align) →
+    IsTrue (is_of_bytes kind) → length b < s.place + s.frames * frame_bytes s
+column_lacks b s column place count align kind p n a within lacks own =
+    let short : length b < place + count * align = lacks own in
+    let few : column * s.wide + column_frames s column ≤ s.frames = omega (arith, within) in
+    let all : (column * s.wide + column_frames s column) * frame_bytes s ≤ s.frames * frame_bytes s =
+    mul-le-mul_right (frame_bytes s) few in
+    let same : place + count * align ≡ s.place + (column * s.wide + column_frames s column) * frame_bytes s =
+    rw (p, n, a) (frames_after s.place (column * s.wide) (column_frames s column) (frame_bytes s)) in
+    omega (arith, short, all, same)

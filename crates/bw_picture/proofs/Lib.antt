@@ -1,4 +1,4 @@
 pub mod Pieces
 pub mod DrawingLaws
 mod TextLemmas
-mod FittingLaws
+pub mod FittingLaws

@@ -1,6 +1,8 @@
 -- Levels that are read piece by piece.
-use Rattle.std.proofs.Common.{◌≡◌, ℕ, zero, suc, ◌+◌, ◌*◌, ◌/◌, ◌%◌, ◌≤◌, ◌<◌, List, length, drop, Option, Some, refl, sym, ◌∙◌, ap, arith}
+use Rattle.std.proofs.Common.{◌≡◌, ℕ, zero, suc, ◌+◌, ◌*◌, ◌/◌, ◌%◌, ◌≤◌, ◌<◌, List, length, drop, Option, Some, refl}
+use Rattle.std.proofs.Common.{sym, ◌∙◌, ap, arith}
 use Rattle.std.proofs.Common.{add_assoc, add-zero, add-suc}
+use Rattle.std.proofs.Math.Nat.{mul-le-mul_right}
 use Rattle.std.specs.Prelude.{slice_range, slice_index, min, max}
 use Rattle.bw_inspect.specs.Places.{IsGiven}
 use Rattle.bw_inspect.proofs.PartialReads.{part_at}
@@ -15,7 +17,8 @@ least-add f low m zero = ap (least_of f low) (add-zero m)
 least-add f low m (suc n) =
     ap (least_of f low) (add-suc m n) ∙ ap (λ (k : ℕ). min k (f (m + n))) (least-add f low m n)
 
-greatest-add : (f : ℕ → ℕ) (high m n : ℕ) → greatest_of f high (m + n) ≡ greatest_of (λ k. f (m + k)) (greatest_of f high m) n
+greatest-add : (f : ℕ → ℕ) (high m n : ℕ) → greatest_of f high (m + n)
+    ≡ greatest_of (λ k. f (m + k)) (greatest_of f high m) n
 greatest-add f high m zero = ap (greatest_of f high) (add-zero m)
 greatest-add f high m (suc n) =
     ap (greatest_of f high) (add-suc m n) ∙ ap (λ (k : ℕ). max k (f (m + n))) (greatest-add f high m n)
@@ -64,7 +67,8 @@ same_level w b piece place done count align c k n e h fits below =
     let frames : k * align + align ≤ count * align = room k align count (count * align) below (omega arith) in
     let ends : k * align + c * size + size ≤ count * align = omega (arith, within, frames) in
     level_part w b piece (place + done * align) (count * align) (k * align + c * size) e ends
-    ∙ ap (level_at w b) (let at : place + done * align + (k * align + c * size) ≡ place + (done + k) * align + c * size =
+    ∙ ap (level_at w b) (let at : place + done * align + (k * align + c * size)
+    ≡ place + (done + k) * align + c * size =
     omega arith in at)
 
 -- further frames are taken
@@ -78,7 +82,8 @@ pub widened_more : (b : List ℕ) (place done count : ℕ) (w : SampleWidth) (al
     ((c : ℕ) → c < length lows' → slice_index highs'' c ≡
     greatest_of (frame_level w piece align (c * bytes_of w)) (slice_index highs' c) count) →
     HasWidened b place (done + count) w align lows highs lows'' highs'' left'
-widened_more b place done count w align lows highs lows' highs' lows'' highs'' piece left left' fits long h given lo hi =
+widened_more b place done count w align lows highs lows' highs' lows'' highs'' piece left left' fits long h given lo hi
+    =
     record {
       lows_are = λ c below.
           let below' : c < length lows' = omega (arith, long, below) in
@@ -97,3 +102,10 @@ widened_more b place done count w align lows highs lows' highs' lows'' highs'' p
       rest = given.rest ∙ ap (λ (k : ℕ). Some (drop k b))
           (let at : place + done * align + count * align ≡ place + (done + count) * align = omega arith in at);
     }
+
+-- some of the frames aren't there
+pub frames_end_before : (b : List ℕ) (place done count frames align n : ℕ) → n ≡ count * align → done + count ≤ frames →
+    length b < place + done * align + n → length b < place + frames * align
+frames_end_before b place done count frames align n is within short =
+    let all : (done + count) * align ≤ frames * align = mul-le-mul_right align within in
+    omega (arith, is, all, short)

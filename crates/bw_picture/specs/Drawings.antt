@@ -1,9 +1,11 @@
 -- What is drawn of a file.
-use Rattle.std.specs.Prelude.{◌≡◌, ℕ, zero, suc, ◌+◌, ◌-◌, ◌*◌, min, List, [], ◌++◌, drop, Option, Some}
+use Rattle.std.specs.Prelude.{◌≡◌, ℕ, zero, suc, ◌+◌, ◌-◌, ◌*◌, min, List, [], ◌++◌, drop}
+use Rattle.std.specs.Prelude.{Option, Some}
 use Rattle.bw_picture.specs.Columns.{strokes}
 use Rattle.bw_picture.specs.Levels.{bytes_of}
 use Rattle.bw_picture.specs.Peaks.{greatest_of, least_of}
-use Rattle.bw_picture.specs.Reads.{file_level}
+use Rattle.bw_inspect.specs.declared.fault.InspectFault.{InspectFault}
+use Rattle.bw_picture.specs.Reads.{LacksBytes, file_level}
 use Rattle.bw_picture.specs.declared.drawing.Shape.{Shape}
 
 -- bytes of a frame
@@ -24,8 +26,8 @@ column_low b s column c = least_of (file_level s.width b (column_place s column)
     0xFFFF_FFFF (column_frames s column)
 
 abbrev pub column_high : List ℕ → Shape → ℕ → ℕ → ℕ
-column_high b s column c = greatest_of (file_level s.width b (column_place s column) (frame_bytes s) c)
-    0 (column_frames s column)
+column_high b s column c =
+    greatest_of (file_level s.width b (column_place s column) (frame_bytes s) c) 0 (column_frames s column)
 
 -- its strokes
 abbrev pub column_strokes : List ℕ → Shape → ℕ → List ℕ
@@ -42,3 +44,7 @@ pub record DrawsColumn (b : List ℕ) (s : Shape) (column : ℕ) (old new : List
     (left : Option (List ℕ)) : Type 0 where
   pub text : new ≡ old ++ column_strokes b s column
   pub rest : left ≡ Some (drop (column_place s column + column_frames s column * frame_bytes s) b)
+
+-- frames are reported to be missing only where b ends before the last one does
+abbrev pub LacksFrames : List ℕ → Shape → InspectFault → Type 0
+LacksFrames b s f = LacksBytes b s.place (s.frames * frame_bytes s) f

@@ -1,5 +1,5 @@
 -- How the samples of a file are drawn, by the numbers of its header.
-use Rattle.std.specs.Prelude.{◌≡◌, ℕ, ◌+◌, ◌*◌, ◌/◌, ◌^◌, ◌<◌, ◌≤◌, ◌==◌, ◌&&◌, nat_lt, max, Bool}
+use Rattle.std.specs.Prelude.{ℕ, ◌+◌, ◌*◌, ◌/◌, ◌^◌, ◌<◌, ◌≤◌, ◌==◌, ◌&&◌, nat_lt, max, Bool}
 use Rattle.std.specs.Prelude.{Option, Some, None, option_and_then, if◌then◌else◌}
 use Rattle.std.specs.Int.{div_ceil}
 use Rattle.bw_model.specs.Report.{Report}
@@ -36,7 +36,8 @@ shape_for w channels place frames = record {
 -- a frame is a sample of this width for each channel; there are fewer than 2^43 frames, and fewer
 -- than 2^60 bytes before them
 abbrev pub is_fit : Report → SampleWidth → Bool
-is_fit r w = nat_lt 0 r.fmt.channels && (nat_lt 0 r.fmt.align && (r.fmt.align == r.fmt.channels * bytes_of w)
+is_fit r w = nat_lt 0 r.fmt.channels
+    && (nat_lt 0 r.fmt.align && (r.fmt.align == r.fmt.channels * bytes_of w)
     && nat_lt (r.data_size / r.fmt.align) (2 ^ 43) && nat_lt r.data_at (2 ^ 60))
 
 -- how the samples are drawn

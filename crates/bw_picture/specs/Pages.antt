@@ -1,10 +1,10 @@
 -- A picture, part by part.
-use Rattle.std.specs.Prelude.{ℕ, zero, suc, ◌+◌, ◌*◌, ◌/◌, nat_lt, List, [], ◌++◌, codes, decimal, flat_map}
-use Rattle.std.specs.Prelude.{if◌then◌else◌}
+use Rattle.std.specs.Prelude.{ℕ, zero, suc, ◌+◌, ◌*◌, ◌/◌, nat_lt, List, [], ◌++◌, codes, decimal}
+use Rattle.std.specs.Prelude.{flat_map, if◌then◌else◌}
 use Rattle.bw_model.specs.Report.{RawCue}
 use Rattle.bw_picture.specs.Columns.{channel_height}
 use Rattle.bw_picture.specs.Drawings.{all_strokes}
-use Rattle.bw_picture.specs.TimeTexts.{time_text}
+use Rattle.bw_picture.specs.TimeTexts.{frame_time}
 use Rattle.bw_picture.specs.declared.drawing.Shape.{Shape}
 
 -- how high all channels are
@@ -12,8 +12,8 @@ abbrev pub height_of : Shape → ℕ
 height_of s = s.channels * channel_height
 
 -- the size of the document
-abbrev pub size_text : ℕ → ℕ → List ℕ
-size_text wide high = decimal wide ++ codes " " ++ decimal high
+abbrev pub view_size : ℕ → ℕ → List ℕ
+view_size wide high = decimal wide ++ codes " " ++ decimal high
 
 -- how texts look, and the background
 abbrev pub look : List ℕ
@@ -23,7 +23,7 @@ look = codes "' font-family='sans-serif' font-size='11' text-anchor='middle'>\n"
 -- the head of the document, with room around the channels
 abbrev pub opening : Shape → List ℕ
 opening s = codes "<svg xmlns='http://www.w3.org/2000/svg' viewBox='-40 -20 "
-    ++ size_text (s.columns + 80) (height_of s + 44) ++ look
+    ++ view_size (s.columns + 80) (height_of s + 44) ++ look
 
 -- a line across all columns
 abbrev pub line_across : ℕ → ℕ → List ℕ
@@ -43,7 +43,8 @@ waveform strokes = codes "<path stroke='#246' d='" ++ strokes ++ codes "'/>\n"
 
 -- the line of the time axis
 abbrev pub axis_line : Shape → List ℕ
-axis_line s = codes "<path stroke='#000' d='" ++ line_across (height_of s) s.columns ++ codes "'/>\n"
+axis_line s =
+    codes "<path stroke='#000' d='" ++ line_across (height_of s) s.columns ++ codes "'/>\n"
 
 -- the start of a group that is shifted
 abbrev pub shift : ℕ → ℕ → List ℕ
@@ -52,7 +53,7 @@ shift x y = codes "<g transform='translate(" ++ decimal x ++ codes " " ++ decima
 -- the time of a frame on the axis
 abbrev pub tick : ℕ → ℕ → ℕ → ℕ → List ℕ
 tick x y frame rate = shift x y ++ codes "<path stroke='#000' d='M0 0v5'/><text y='16'>"
-    ++ time_text frame rate ++ codes "</text></g>\n"
+    ++ frame_time frame rate ++ codes "</text></g>\n"
 
 -- the first n of them: at every 150th column, the time of its first frame
 abbrev pub ticks : Shape → ℕ → ℕ → List ℕ
@@ -67,8 +68,8 @@ abbrev pub axis : Shape → ℕ → List ℕ
 axis s rate = axis_line s ++ ticks s rate (tick_count s)
 
 -- a marker's line
-abbrev pub marker_line : ℕ → List ℕ
-marker_line height = codes "<path stroke='#c30' d='M0 0V" ++ decimal height ++ codes "'/>"
+abbrev pub marker_stroke : ℕ → List ℕ
+marker_stroke height = codes "<path stroke='#c30' d='M0 0V" ++ decimal height ++ codes "'/>"
 
 -- its identifier
 abbrev pub marker_name : ℕ → List ℕ
@@ -76,11 +77,12 @@ marker_name id = codes "<text y='-6' fill='#c30'>" ++ decimal id ++ codes "</tex
 
 -- both at a place
 abbrev pub marker_at : ℕ → ℕ → ℕ → List ℕ
-marker_at x height id = shift x 0 ++ marker_line height ++ marker_name id
+marker_at x height id = shift x 0 ++ marker_stroke height ++ marker_name id
 
 -- .. at the column of its frame, unless that is after the last one
 abbrev pub marker : Shape → RawCue → List ℕ
-marker s c = if nat_lt c.offset s.frames then marker_at (c.offset / s.wide) (height_of s) c.id else []
+marker s c =
+    if nat_lt c.offset s.frames then marker_at (c.offset / s.wide) (height_of s) c.id else []
 
 -- the picture with these strokes
 abbrev pub page : List ℕ → Shape → ℕ → List RawCue → List ℕ

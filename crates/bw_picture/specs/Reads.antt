@@ -1,5 +1,8 @@
 -- What the levels of some frames of a file come to.
-use Rattle.std.specs.Prelude.{◌≡◌, ℕ, ◌+◌, ◌*◌, ◌<◌, List, length, slice_index, drop, Option, Some}
+use Rattle.std.specs.Prelude.{◌≡◌, ℕ, ◌+◌, ◌*◌, ◌<◌, IsTrue, List, length, slice_index, drop}
+use Rattle.std.specs.Prelude.{Option, Some}
+use Rattle.bw_inspect.specs.Faults.{is_of_bytes}
+use Rattle.bw_inspect.specs.declared.fault.InspectFault.{InspectFault}
 use Rattle.bw_picture.specs.Levels.{bytes_of, level_at}
 use Rattle.bw_picture.specs.Peaks.{greatest_of, least_of}
 use Rattle.bw_picture.specs.declared.level.SampleWidth.{SampleWidth}
@@ -16,3 +19,7 @@ pub record HasWidened (b : List ℕ) (place frames : ℕ) (w : SampleWidth) (ali
   pub highs_are : (c : ℕ) → c < length lows → slice_index highs' c ≡
       greatest_of (file_level w b place align c) (slice_index highs c) frames
   pub rest : left ≡ Some (drop (place + frames * align) b)
+
+-- bytes are reported to be missing only where b ends before
+abbrev pub LacksBytes : List ℕ → ℕ → ℕ → InspectFault → Type 0
+LacksBytes b place size f = IsTrue (is_of_bytes f.kind) → length b < place + size

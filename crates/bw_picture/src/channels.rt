@@ -20,9 +20,11 @@ pub fn widen_all(
     requires whole { count * align ≤ length frames.now }
     requires within { length lows.old * bytes_of width ≤ align }
     ensures lows { (c : ℕ) → c < length lows.old → slice_index lows.new c ≡
-        least_of (frame_level width frames.now align (c * bytes_of width)) (slice_index lows.old c) count }
+        least_of (frame_level width frames.now align (c * bytes_of width))
+        (slice_index lows.old c) count }
     ensures highs { (c : ℕ) → c < length lows.old → slice_index highs.new c ≡
-        greatest_of (frame_level width frames.now align (c * bytes_of width)) (slice_index highs.old c)
+        greatest_of (frame_level width frames.now align (c * bytes_of width))
+        (slice_index highs.old c)
         count }
 {
     let size = width.bytes();

@@ -1,7 +1,9 @@
 //! The strokes of all columns of a file.
-ghost use Rattle.std.specs.Prelude.{◌≡◌, ◌+◌, ◌*◌, ◌≤◌, ◌<◌, ◌^◌, length, replicate, IfOk, OnOk};
+ghost use Rattle.std.specs.Prelude.{◌≡◌, ◌+◌, ◌*◌, ◌≤◌, ◌<◌, ◌^◌, length, replicate, IfErr, IfOk};
+ghost use Rattle.std.specs.Prelude.{OnOk};
 ghost use Rattle.bw_inspect.specs.Places.{AtPlace};
-ghost use Rattle.bw_picture.specs.Drawings.{DrawsColumn, frame_bytes, all_strokes, column_place};
+ghost use Rattle.bw_picture.specs.Drawings.{DrawsColumn, LacksFrames, frame_bytes, all_strokes};
+ghost use Rattle.bw_picture.specs.Drawings.{column_place};
 
 use crate::level::SampleWidth;
 use crate::reading::read_frames;
@@ -38,6 +40,8 @@ pub fn draw<R: Source>(
     requires filled { shape.now.columns * shape.now.wide < shape.now.frames + shape.now.wide }
     ensures ok { IfOk result (λ text. AtPlace (R.left reader.old) shape.now.place (λ b.
         text.items ≡ all_strokes b shape.now shape.now.columns)) }
+    ensures err { IfErr result (λ f. AtPlace (R.left reader.old) shape.now.place (λ b.
+        LacksFrames b shape.now f)) }
 {
     let align = shape.width.bytes() * shape.channels as usize;
     let mut text = Vec::new(alloc);
@@ -69,6 +73,8 @@ fn draw_column<R: Source>(
     requires fits { frame_bytes shape.now ≤ length buf.old }
     ensures ok { OnOk result (AtPlace (R.left reader.old) (column_place shape.now column) (λ b.
         DrawsColumn b shape.now column text.old.items text.new.items (R.left reader.new))) }
+    ensures err { IfErr result (λ f. AtPlace (R.left reader.old)
+        (column_place shape.now column) (λ b. LacksFrames b shape.now f)) }
 {
     let size = shape.width.bytes();
     let align = size * shape.channels as usize;

@@ -1,9 +1,12 @@
 //! A picture: the waveform, with its time axis and the file's markers (SVG 1.1).
-ghost use Rattle.std.specs.Prelude.{◌≡◌, ◌+◌, ◌*◌, ◌^◌, ◌<◌, ◌++◌, flat_map, length, IfOk, OnOk};
+ghost use Rattle.std.specs.Prelude.{◌≡◌, ◌+◌, ◌*◌, ◌^◌, ◌<◌, ◌++◌, flat_map, length, IfErr, IfOk};
+ghost use Rattle.std.specs.Prelude.{OnOk};
 ghost use Rattle.bw_inspect.specs.Places.{AtPlace};
-ghost use Rattle.bw_picture.specs.Pages.{axis, axis_line, height_of as full_height, look, marker, marker_at};
-ghost use Rattle.bw_picture.specs.Pages.{marker_line, marker_name, line_across, middles, middles_line, opening, page};
-ghost use Rattle.bw_picture.specs.Pages.{picture_text, shift, size_text, tick, tick_count, ticks, waveform};
+ghost use Rattle.bw_picture.specs.Drawings.{LacksFrames};
+ghost use Rattle.bw_picture.specs.Pages.{axis, axis_line, height_of as full_height, line_across};
+ghost use Rattle.bw_picture.specs.Pages.{look, marker, marker_at, marker_stroke, marker_name};
+ghost use Rattle.bw_picture.specs.Pages.{middles, middles_line, opening, page, picture_text, shift};
+ghost use Rattle.bw_picture.specs.Pages.{view_size, tick, tick_count, ticks, waveform};
 
 use crate::drawing::{Shape, draw, no_memory};
 use crate::time_text::{put_number, put_time};
@@ -33,6 +36,8 @@ pub fn picture<R: Source>(
     requires span { shape.now.columns * shape.now.wide < 2 ^ 54 }
     ensures ok { IfOk result (λ text. AtPlace (R.left reader.old) shape.now.place (λ b.
         text.items ≡ picture_text b shape.now rate cues.now)) }
+    ensures err { IfErr result (λ f. AtPlace (R.left reader.old) shape.now.place (λ b.
+        LacksFrames b shape.now f)) }
 {
     let strokes = draw(alloc, reader, shape)?;
     match page_of(alloc, shape, rate, cues, strokes.as_slice()) {
@@ -74,7 +79,7 @@ fn put_opening(text: &mut Vec<u8>, shape: &Shape) -> Result<(), AllocError>
 }
 
 fn put_size(text: &mut Vec<u8>, wide: u64, high: u64) -> Result<(), AllocError>
-    ensures { OnOk result (text.new.items ≡ text.old.items ++ size_text wide high) }
+    ensures { OnOk result (text.new.items ≡ text.old.items ++ view_size wide high) }
 {
     put_number(text, wide)?;
     text.extend_from_slice(b" ")?;
@@ -224,7 +229,7 @@ fn put_marker_at(text: &mut Vec<u8>, x: u64, height: u64, id: u32) -> Result<(),
 }
 
 fn put_marker_line(text: &mut Vec<u8>, height: u64) -> Result<(), AllocError>
-    ensures { OnOk result (text.new.items ≡ text.old.items ++ marker_line height) }
+    ensures { OnOk result (text.new.items ≡ text.old.items ++ marker_stroke height) }
 {
     text.extend_from_slice(b"<path stroke='#c30' d='M0 0V")?;
     put_number(text, height)?;

@@ -31,7 +31,8 @@ impl Peak {
     )
         requires whole { count * align ≤ length frames.now }
         requires within { at + bytes_of width ≤ align }
-        ensures low { self.new.low ≡ least_of (frame_level width frames.now align at) self.old.low count }
+        ensures low { self.new.low ≡ least_of
+            (frame_level width frames.now align at) self.old.low count }
         ensures high { self.new.high ≡
             greatest_of (frame_level width frames.now align at) self.old.high count }
     {

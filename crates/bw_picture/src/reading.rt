@@ -1,8 +1,9 @@
 //! The levels of a file's samples, a column at a time.
-ghost use Rattle.std.specs.Prelude.{◌≡◌, ◌+◌, ◌-◌, ◌*◌, ◌/◌, ◌≤◌, ◌<◌, ◌^◌, ℕ, length, drop, slice_index, Some, OnOk};
+ghost use Rattle.std.specs.Prelude.{◌≡◌, ◌+◌, ◌-◌, ◌*◌, ◌/◌, ◌≤◌, ◌<◌, ◌^◌, ℕ, length, drop};
+ghost use Rattle.std.specs.Prelude.{slice_index, Some, IfErr, OnOk};
 ghost use Rattle.bw_inspect.specs.Places.{AtPlace};
 ghost use Rattle.bw_picture.specs.Levels.{bytes_of};
-ghost use Rattle.bw_picture.specs.Reads.{HasWidened};
+ghost use Rattle.bw_picture.specs.Reads.{LacksBytes, HasWidened};
 
 use crate::channels::widen_all;
 use crate::level::SampleWidth;
@@ -31,6 +32,8 @@ pub fn read_frames<R: Source>(
     ensures ok { OnOk result (AtPlace (R.left reader.old) place (λ b.
         HasWidened b place frames width align lows.old highs.old lows.new highs.new
         (R.left reader.new))) }
+    ensures err { IfErr result (λ f. AtPlace (R.left reader.old) place (λ b.
+        LacksBytes b place (frames * align) f)) }
 {
     let most = buf.len() / align;
     let mut done = 0;

@@ -1,6 +1,6 @@
 //! Numbers and times as text.
 ghost use Rattle.std.specs.Prelude.{◌≡◌, ◌+◌, ◌^◌, ◌<◌, ◌++◌, OnOk, decimal};
-ghost use Rattle.bw_picture.specs.TimeTexts.{clock_text, three_digits, time_text, two_digits};
+ghost use Rattle.bw_picture.specs.TimeTexts.{axis_clock, three_places, frame_time, two_places};
 
 use itoa::Buffer;
 use std::alloc::AllocError;
@@ -18,7 +18,7 @@ pub(crate) fn put_number(text: &mut Vec<u8>, number: u64) -> Result<(), AllocErr
 /// seconds: `1:02:03.456`; `unknown` for a rate of 0.
 pub(crate) fn put_time(text: &mut Vec<u8>, frame: u64, rate: u32) -> Result<(), AllocError>
     requires { frame < 2 ^ 54 }
-    ensures { OnOk result (text.new.items ≡ text.old.items ++ time_text frame rate) }
+    ensures { OnOk result (text.new.items ≡ text.old.items ++ frame_time frame rate) }
 {
     if rate == 0 {
         text.extend_from_slice(b"unknown")?;
@@ -28,7 +28,7 @@ pub(crate) fn put_time(text: &mut Vec<u8>, frame: u64, rate: u32) -> Result<(), 
 }
 
 fn put_clock(text: &mut Vec<u8>, ms: u64) -> Result<(), AllocError>
-    ensures { OnOk result (text.new.items ≡ text.old.items ++ clock_text ms) }
+    ensures { OnOk result (text.new.items ≡ text.old.items ++ axis_clock ms) }
 {
     put_number(text, ms / 3_600_000)?;
     text.extend_from_slice(b":")?;
@@ -41,7 +41,7 @@ fn put_clock(text: &mut Vec<u8>, ms: u64) -> Result<(), AllocError>
 
 fn put_two_digits(text: &mut Vec<u8>, number: u64) -> Result<(), AllocError>
     requires { number < 100 }
-    ensures { OnOk result (text.new.items ≡ text.old.items ++ two_digits number) }
+    ensures { OnOk result (text.new.items ≡ text.old.items ++ two_places number) }
 {
     text.extend_from_slice(&[digit(number / 10), digit(number % 10)])?;
     Ok(())
@@ -49,7 +49,7 @@ fn put_two_digits(text: &mut Vec<u8>, number: u64) -> Result<(), AllocError>
 
 fn put_three_digits(text: &mut Vec<u8>, number: u64) -> Result<(), AllocError>
     requires { number < 1000 }
-    ensures { OnOk result (text.new.items ≡ text.old.items ++ three_digits number) }
+    ensures { OnOk result (text.new.items ≡ text.old.items ++ three_places number) }
 {
     let digits = [
         digit(number / 100),

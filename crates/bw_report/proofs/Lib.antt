@@ -1,3 +1,5 @@
 mod Utf8Texts
 pub mod JsonShapes
 pub mod LookLemmas
+pub mod Hashed
+pub mod EntryLemmas

@@ -1,30 +1,70 @@
 -- One more file after those that were looked at.
-use Rattle.std.proofs.Common.{◌≡◌, ◌∙◌, ℕ, ◌+◌, ◌<◌, List, [], ◌∷◌}
-use Rattle.std.proofs.Common.{◌++◌, length, map, get_or, take, drop, Option, Ok, Err}
-use Rattle.std.proofs.Common.{refl, sym, ap, subst, arith, string_bytes, String}
-use Rattle.std.specs.Prelude.{All}
+use Rattle.std.proofs.Common.{◌≡◌, ◌∙◌, ◌⊎◌, inl, inr, Bool, true, ℕ, ◌+◌, ◌<◌, List, [], ◌∷◌, ◌++◌, length, map, fold}
+use Rattle.std.proofs.Common.{get_or, take, drop, Option, Some, None, Ok, Err}
+use Rattle.std.proofs.Common.{refl, sym, ap, subst, arith, string_bytes, String, append_assoc}
+use Rattle.std.specs.Prelude.{All, option_map}
 use Rattle.std.specs.declared.alloc.Global.{Global}
-use Rattle.std.proofs.lemmas.List.{map-append, take-append-drop, take_more}
+use Rattle.std.proofs.lemmas.List.{map-append, take-append-drop, take_more, append-nil}
 use Rattle.std.proofs.lemmas.List.Elements.{All-append, All-cons}
 use Rattle.std.proofs.lemmas.List.Sums.{fold-append}
+use Rattle.std.proofs.Math.Seq.{drop-cons}
 use Rattle.bw_stream.specs.declared.sink.Sink.{Ghosts as Writer}
+use Rattle.bw_model.specs.Reading.{Fault as BytesFault, FaultKind}
+use Rattle.bw_inspect.specs.Faults.{bytes_fault, kind_of}
+use Rattle.bw_inspect.specs.declared.fault.InspectFault.{InspectFault}
+use Rattle.bw_inspect.specs.declared.fault.InspectKind.{InspectKind}
+use Rattle.bw_inspect.specs.declared.fault.InspectKind.TheVariants.{Read as FailedRead}
 use Rattle.bw_commands.specs.Inspections.{IsPrintOfText}
+use Rattle.std.specs.declared.io.ErrorKind.{ErrorKind}
 use Rattle.bw_console.specs.Faults.{exit_on, input_fault_text}
+use Rattle.bw_console.specs.Openings.{IsUnopened}
+use Rattle.bw_console.specs.Outcomes.{IsOutOfMemory, Outcome}
 use Rattle.bw_console.specs.Printing.{IsOf, IsPrint, Print, Whole, failures_if}
 use Rattle.bw_console.specs.Text.{as_line}
 use Rattle.bw_console.specs.declared.exit.Exit.{Exit}
-use Rattle.bw_console.specs.declared.exit.Exit.TheVariants.{Done}
+use Rattle.bw_console.specs.declared.exit.Exit.TheVariants.{Done, Refused, Usage, Device, Memory as OutOfMemory}
 use Rattle.bw_console.specs.declared.fault.Fault.{Fault}
 use Rattle.bw_report.specs.Entries.{entry_text}
 use Rattle.bw_report.specs.Findings.{exit_of_found, worse}
+use Rattle.bw_report.specs.FileLooks.{IsReportedUnopened}
 use Rattle.bw_report.specs.FileLooks.{ArePrints, IsStoppedEarly, IsFoundAt, IsLookAt, IsShown, Look, look_entry}
 use Rattle.bw_report.specs.FileLooks.{failures_after_looks, worst}
-use Rattle.bw_report.specs.declared.entry.Style.{Style}
+use Rattle.bw_report.specs.declared.entry.Wanted.{Wanted}
 use Rattle.bw_report.specs.declared.found.Found.{Found}
+
+-- what is reported of a file that can't be opened, without the kind of the error
+pub unopened : (path : List ℕ) (kind : ErrorKind) (did : Outcome) → IsUnopened path kind did ⊎ IsOutOfMemory did
+    → IsReportedUnopened path did
+unopened path kind did (inl is) = inl (kind, is)
+unopened path kind did (inr is) = inr is
+
+-- a fault of reading is none of the bytes
+pub no_bytes_fault : (f : InspectFault) (met : BytesFault) → f.kind ≡ FailedRead → bytes_fault f ≡ Some met → ⊥
+no_bytes_fault f met is same =
+    let none : bytes_fault f ≡ None =
+    ap (λ (k : InspectKind). option_map (λ (x : FaultKind). record { kind = x; offset = f.offset }) (kind_of k)) is in
+    let bad : None ≡ Some met = sym none ∙ same in cc
+
+-- no exit is better than that of what succeeded
+pub none_worse : (exit : Exit) → exit ≡ worse exit Done
+none_worse Done = refl
+none_worse Refused = refl
+none_worse Usage = refl
+none_worse Device = refl
+none_worse OutOfMemory = refl
+
+-- what is found at a second look, after an opening that changed nothing
+pub found_again : {E : Type 0} (reported : Writer E) (file_at there : List ℕ → Option (List ℕ)) (digest : Bool)
+    (path : List ℕ)
+    (found : Found) (n n1 n2 : ℕ) (e e1 : E) → there ≡ file_at → n1 ≡ n → digest ≡ true
+    → IsFoundAt reported there true path found n1 n2 e e1 → IsFoundAt reported file_at digest path found n n2 e e1
+found_again reported file_at there digest path found n n1 n2 e e1 files counts asked is =
+    rw (asked, ← files, ← counts) is
 
 -- one more print after these
 prints_more : {S : Type 0} (w : Writer S) (ps : List Print) (p : Print) (a b c : S) → ArePrints w ps a b
-    → IsPrint w p b c → ArePrints w (ps ++ p ∷ []) a c
+    → IsPrint w p b c
+    → ArePrints w (ps ++ p ∷ []) a c
 prints_more {S} w [] p a b c same print =
     let P : S → Type 0 = λ s. IsPrint w p s c in
     (c, (subst P same print, refl))
@@ -37,13 +77,13 @@ one_looked : {X : Type 0} (P : X → Type 0) (x : X) → P x → All P (x ∷ []
 one_looked P x p = All-cons P x [] p (none_looked P)
 
 module _ {W E : Type 0} (out : Writer W) (reported : Writer E) (file_at : List ℕ → Option (List ℕ))
-    (style : Style) where
+    (wanted : Wanted) where
   -- nothing was looked at yet
-  pub none_shown : (n : ℕ) (o : W) (e : E) → IsShown out reported file_at [] style Done n n o o e e
+  pub none_shown : (n : ℕ) (o : W) (e : E) → IsShown out reported file_at [] wanted Done n n o o e e
   none_shown n o e = record {
     looks = [];
     at = refl;
-    are = none_looked (IsLookAt file_at);
+    are = none_looked (IsLookAt file_at wanted.digest);
     ends = refl;
     failures = refl;
     prints = refl;
@@ -52,22 +92,21 @@ module _ {W E : Type 0} (out : Writer W) (reported : Writer E) (file_at : List �
 
   module _ (paths : List (List ℕ)) (path : List ℕ) (found : Found) (exit : Exit) (n n1 n2 : ℕ) (o o1 o2 : W)
       (e e1 e2 : E)
-      (before : IsShown out reported file_at paths style exit n n1 o o1 e e1)
-      (now : IsFoundAt reported file_at path found n1 n2 e1 e2) where
+      (before : IsShown out reported file_at paths wanted exit n n1 o o1 e e1)
+      (now : IsFoundAt reported file_at wanted.digest path found n1 n2 e1 e2) where
     all_at : map (λ (l : Look). l.path) (before.looks ++ now.look ∷ []) ≡ paths ++ path ∷ []
     all_at = map-append (λ (l : Look). l.path) before.looks (now.look ∷ [])
         ∙ ap (λ (ps : List (List ℕ)). ps ++ now.look.path ∷ []) before.at
         ∙ ap (λ (p : List ℕ). paths ++ p ∷ []) now.at
 
-    all_are : All (IsLookAt file_at) (before.looks ++ now.look ∷ [])
-    all_are = All-append (IsLookAt file_at) before.looks (now.look ∷ []) before.are
-        (one_looked (IsLookAt file_at) now.look now.is)
+    all_are : All (IsLookAt file_at wanted.digest) (before.looks ++ now.look ∷ [])
+    all_are = All-append (IsLookAt file_at wanted.digest) before.looks (now.look ∷ []) before.are
+        (one_looked (IsLookAt file_at wanted.digest) now.look now.is)
 
     all_end : worse exit (exit_of_found found) ≡ worst (before.looks ++ now.look ∷ [])
     all_end = ap (λ (x : Exit). worse x (exit_of_found found)) before.ends
         ∙ ap (λ (f : Found). worse (worst before.looks) (exit_of_found f)) (sym now.has)
-        ∙ sym (fold-append (λ (x : Exit) (l : Look). worse x (exit_of_found l.found)) Done before.looks
-        (now.look ∷ []))
+        ∙ sym (fold-append (λ (x : Exit) (l : Look). worse x (exit_of_found l.found)) Done before.looks (now.look ∷ []))
 
     all_fail : n2 ≡ failures_after_looks (before.looks ++ now.look ∷ []) n
     all_fail = now.failures ∙ ap (failures_if now.look.is_opened) before.failures
@@ -79,15 +118,15 @@ module _ {W E : Type 0} (out : Writer W) (reported : Writer E) (file_at : List �
         subst P (sym (map-append (λ (l : Look). l.reported) before.looks (now.look ∷ [])))
         (prints_more reported _ now.look.reported e e1 e2 before.reports now.reports)
 
-    same_entry : entry_text style path found ≡ look_entry style now.look
-    same_entry = ap (λ (p : List ℕ). entry_text style p found) (sym now.at)
-        ∙ ap (entry_text style now.look.path) (sym now.has)
+    same_entry : entry_text wanted.style wanted.named path found ≡ look_entry wanted now.look
+    same_entry = ap (λ (p : List ℕ). entry_text wanted.style wanted.named p found) (sym now.at)
+        ∙ ap (entry_text wanted.style wanted.named now.look.path) (sym now.has)
 
     -- the entry was printed
-    pub one_shown : IsPrint out (Whole (entry_text style path found)) o1 o2
-        → IsShown out reported file_at (paths ++ path ∷ []) style (worse exit (exit_of_found found)) n n2 o o2 e e2
+    pub one_shown : IsPrint out (Whole (entry_text wanted.style wanted.named path found)) o1 o2
+        → IsShown out reported file_at (paths ++ path ∷ []) wanted (worse exit (exit_of_found found)) n n2 o o2 e e2
     one_shown print =
-        let whole : IsPrint out (Whole (look_entry style now.look)) o1 o2 =
+        let whole : IsPrint out (Whole (look_entry wanted now.look)) o1 o2 =
         subst (λ (t : List ℕ). IsPrint out (Whole t) o1 o2) same_entry print in
         let P : List Print → Type 0 = λ ps. ArePrints out ps o o2 in
         record {
@@ -96,17 +135,18 @@ module _ {W E : Type 0} (out : Writer W) (reported : Writer E) (file_at : List �
           are = all_are;
           ends = all_end;
           failures = all_fail;
-          prints = subst P (sym (map-append (λ (l : Look). Whole (look_entry style l)) before.looks (now.look ∷ [])))
+          prints = subst P (sym (map-append (λ (l : Look). Whole (look_entry wanted l)) before.looks (now.look ∷ [])))
               (prints_more out _ _ o o1 o2 before.prints whole);
           reports = all_reported;
         }
 
     -- it wasn't
     pub one_cut : (later all : List (List ℕ)) (fault : Fault) (part line : Print) (e3 : E)
-        → (paths ++ path ∷ []) ++ later ≡ all → IsPrintOfText (entry_text style path found) (Err fault) part
+        → (paths ++ path ∷ []) ++ later ≡ all → IsPrintOfText (entry_text wanted.style wanted.named path found)
+        (Err fault) part
         → IsPrint out part o1 o2 → IsOf (as_line (input_fault_text fault)) line → IsPrint reported line e2 e3
-        → IsStoppedEarly out reported file_at all style (worse (worse exit (exit_of_found found)) (exit_on fault)) n
-        n2 o o2 e e3
+        → IsStoppedEarly out reported file_at all wanted
+        (worse (worse exit (exit_of_found found)) (exit_on fault)) n n2 o o2 e e3
     one_cut later all fault part line e3 at part_is print line_is print_line = record {
       looks = before.looks;
       last = now.look;
@@ -126,58 +166,62 @@ module _ {W E : Type 0} (out : Writer W) (reported : Writer E) (file_at : List �
 
 -- the same, by what the steps say: the entry of the next path was printed
 pub next_shown : {W E : Type 0} (out : Writer W) (reported : Writer E) (file_at there : List ℕ → Option (List ℕ))
-    (style : Style) (paths all : List (List ℕ)) (path at name : List ℕ) (found : Found) (exit ended next : Exit)
-    (n n1 n2 : ℕ) (o o1 o2 : W) (e e1 e2 : E) (print : Print)
-    → IsShown out reported file_at paths style exit n n1 o o1 e e1 → IsFoundAt reported there at found n1 n2 e1 e2
+    (wanted : Wanted)
+    (paths all : List (List ℕ)) (path at name : List ℕ) (found : Found) (exit ended next : Exit) (n n1 n2 : ℕ)
+    (o o1 o2 : W)
+    (e e1 e2 : E) (print : Print)
+    → IsShown out reported file_at paths wanted exit n n1 o o1 e e1
+    → IsFoundAt reported there wanted.digest at found n1 n2 e1 e2
     → there ≡ file_at → at ≡ path → name ≡ path → paths ++ path ∷ [] ≡ all → ended ≡ exit_of_found found
-    → next ≡ worse exit ended → IsPrintOfText (entry_text style name found) (Ok tt) print
+    → next ≡ worse exit ended → IsPrintOfText (entry_text wanted.style wanted.named name found) (Ok tt) print
     → IsPrint out print o1 o2
-    → IsShown out reported file_at all style next n n2 o o2 e e2
-next_shown out reported file_at there style paths all path at name found exit ended next n n1 n2 o o1 o2 e e1 e2
-    print before
+    → IsShown out reported file_at all wanted next n n2 o o2 e e2
+next_shown out reported file_at there wanted paths all path at name found exit ended next n n1 n2 o o1 o2 e e1 e2 print
+    before
     now same_files same_path same_name paths_is ended_is next_is print_is printed =
     let here = rw (same_files, same_path) at now in
     let whole = rw (print_is, same_name) at printed in
     rw (next_is, ended_is, ← paths_is)
-    (one_shown out reported file_at style paths path found exit n n1 n2 o o1 o2 e e1 e2 before here whole)
+    (one_shown out reported file_at wanted paths path found exit n n1 n2 o o1 o2 e e1 e2 before here whole)
 
 -- .. or wasn't
 pub next_cut : {W E : Type 0} (out : Writer W) (reported : Writer E) (file_at there : List ℕ → Option (List ℕ))
-    (style : Style) (paths later all : List (List ℕ)) (path at name : List ℕ) (found : Found) (exit ended worst_yet
-    given_up next : Exit)
+    (wanted : Wanted)
+    (paths later all : List (List ℕ)) (path at name : List ℕ) (found : Found)
+    (exit ended worst_yet given_up next : Exit)
     (n n1 n2 : ℕ) (o o1 o2 : W) (e e1 e2 e3 : E) (fault : Fault) (print line : Print)
-    → IsShown out reported file_at paths style exit n n1 o o1 e e1 → IsFoundAt reported there at found n1 n2 e1 e2
+    → IsShown out reported file_at paths wanted exit n n1 o o1 e e1
+    → IsFoundAt reported there wanted.digest at found n1 n2 e1 e2
     → there ≡ file_at → at ≡ path → name ≡ path → (paths ++ path ∷ []) ++ later ≡ all → ended ≡ exit_of_found found
     → worst_yet ≡ worse exit ended → given_up ≡ exit_on fault → next ≡ worse worst_yet given_up
-    → IsPrintOfText (entry_text style name found) (Err fault) print → IsPrint out print o1 o2
+    → IsPrintOfText (entry_text wanted.style wanted.named name found) (Err fault) print → IsPrint out print o1 o2
     → IsOf (as_line (input_fault_text fault)) line → IsPrint reported line e2 e3
-    → IsStoppedEarly out reported file_at all style next n n2 o o2 e e3
-next_cut out reported file_at there style paths later all path at name found exit ended worst_yet given_up next n n1
+    → IsStoppedEarly out reported file_at all wanted next n n2 o o2 e e3
+next_cut out reported file_at there wanted paths later all path at name found exit ended worst_yet given_up next n n1
     n2 o o1 o2
     e e1 e2 e3 fault print line before now same_files same_path same_name all_is ended_is worst_is given_is next_is
     print_is
     printed line_is reported_line =
     let here = rw (same_files, same_path) at now in
-    let part = subst (λ (m : List ℕ). IsPrintOfText (entry_text style m found) (Err fault) print) same_name print_is in
+    let part = subst (λ (m : List ℕ). IsPrintOfText (entry_text wanted.style wanted.named m found)
+    (Err fault) print) same_name print_is in
     rw (next_is, worst_is, given_is, ended_is)
-    (one_cut out reported file_at style paths path found exit n n1 n2 o o1 o2 e e1 e2 before here later all fault
+    (one_cut out reported file_at wanted paths path found exit n n1 n2 o o1 o2 e e1 e2 before here later all fault
     print line e3
     all_is part printed line_is reported_line)
 
 -- the paths before one and this one
-pub paths_to : (paths : List (String Global)) (i : ℕ) (x : String Global) → i < length paths
-    → x ≡ get_or paths i x → map string_bytes (take i paths) ++ string_bytes x ∷ [] ≡ map string_bytes (take (i + 1)
-    paths)
+pub paths_to : (paths : List (String Global)) (i : ℕ) (x : String Global) → i < length paths → x ≡ get_or paths i x
+    → map string_bytes (take i paths) ++ string_bytes x ∷ [] ≡ map string_bytes (take (i + 1) paths)
 paths_to paths i x h is = sym (ap (map string_bytes)
     (take_more paths i x h ∙ ap (λ (y : String Global). take i paths ++ y ∷ []) (sym is))
     ∙ map-append string_bytes (take i paths) (x ∷ []))
 
 -- and those after it
-pub paths_after : (paths : List (String Global)) (i : ℕ) (x : String Global) → i < length paths
-    → x ≡ get_or paths i x → (map string_bytes (take i paths) ++ string_bytes x ∷ []) ++ map string_bytes (drop (i +
-    1) paths)
+pub paths_after : (paths : List (String Global)) (i : ℕ) (x : String Global) → i < length paths → x ≡ get_or paths i x
+    → (map string_bytes (take i paths) ++ string_bytes x ∷ []) ++ map string_bytes (drop (i + 1) paths)
     ≡ map string_bytes paths
-paths_after paths i x h is =
-    ap (λ (ps : List (List ℕ)). ps ++ map string_bytes (drop (i + 1) paths)) (paths_to paths i x h is)
+paths_after paths i x h is = ap (λ (ps : List (List ℕ)). ps ++ map string_bytes (drop (i + 1) paths))
+    (paths_to paths i x h is)
     ∙ sym (map-append string_bytes (take (i + 1) paths) (drop (i + 1) paths))
     ∙ ap (map string_bytes) (take-append-drop (i + 1) paths)

@@ -15,7 +15,7 @@ use Rattle.bw_console.specs.declared.exit.Exit.TheVariants.{Done}
 use Rattle.bw_console.specs.declared.fault.Fault.{Fault}
 use Rattle.bw_report.specs.Entries.{entry_text}
 use Rattle.bw_report.specs.Findings.{IsFoundInBytes, exit_of_found, worse}
-use Rattle.bw_report.specs.declared.entry.Style.{Style}
+use Rattle.bw_report.specs.declared.entry.Wanted.{Wanted}
 use Rattle.bw_report.specs.declared.found.Found.{Found}
 use Rattle.bw_report.specs.declared.found.Found.TheVariants.{Read, Faulty, Unopened}
 
@@ -38,9 +38,9 @@ IsOpening (Faulty f) l = (l.is_opened ≡ true) × (l.reported ≡ Nothing)
 IsOpening (Unopened exit) l = (l.is_opened ≡ false) × ((did : Outcome) × ((did.exit ≡ exit)
     × ((did.faults ≡ l.reported) × IsReportedUnopened l.path did)))
 
--- the look is right, where the paths have these files
-pub record IsLookAt (file_at : List ℕ → Option (List ℕ)) (l : Look) : Type 0 where
-  pub right : Of (file_at l.path) (λ b. IsFoundInBytes b l.found)
+-- the look is right, where the paths have these files and digests are asked for or not
+pub record IsLookAt (file_at : List ℕ → Option (List ℕ)) (digest : Bool) (l : Look) : Type 0 where
+  pub right : Of (file_at l.path) (λ b. IsFoundInBytes b digest l.found)
   pub opening : IsOpening l.found l
 
 -- these were printed, one after another
@@ -57,52 +57,52 @@ abbrev pub worst : List Look → Exit
 worst looks = fold (λ exit l. worse exit (exit_of_found l.found)) Done looks
 
 -- the entry of a look
-abbrev pub look_entry : Style → Look → List ℕ
-look_entry style l = entry_text style l.path l.found
+abbrev pub look_entry : Wanted → Look → List ℕ
+look_entry wanted l = entry_text wanted.style wanted.named l.path l.found
 
 -- this was found at a path and reported, and the system's failures are these
 pub record IsFoundAt {E : Type 0} (reported : Writer E) (file_at : List ℕ → Option (List ℕ))
-    (path : List ℕ) (found : Found) (n n' : ℕ) (e e' : E) : Type 0 where
+    (digest : Bool) (path : List ℕ) (found : Found) (n n' : ℕ) (e e' : E) : Type 0 where
   pub look : Look
   pub at : look.path ≡ path
   pub has : look.found ≡ found
-  pub is : IsLookAt file_at look
+  pub is : IsLookAt file_at digest look
   pub failures : n' ≡ failures_if look.is_opened n
   pub reports : IsPrint reported look.reported e e'
 
 module _ {W E : Type 0} (out : Writer W) (reported : Writer E) where
   -- each file was looked at, and its entry printed
-  pub record IsShown (file_at : List ℕ → Option (List ℕ)) (paths : List (List ℕ)) (style : Style)
+  pub record IsShown (file_at : List ℕ → Option (List ℕ)) (paths : List (List ℕ)) (wanted : Wanted)
       (exit : Exit) (n n' : ℕ) (o o' : W) (e e' : E) : Type 0 where
     pub looks : List Look
     pub at : map (λ l. l.path) looks ≡ paths
-    pub are : All (IsLookAt file_at) looks
+    pub are : All (IsLookAt file_at wanted.digest) looks
     pub ends : exit ≡ worst looks
     pub failures : n' ≡ failures_after_looks looks n
-    pub prints : ArePrints out (map (λ l. Whole (look_entry style l)) looks) o o'
+    pub prints : ArePrints out (map (λ l. Whole (look_entry wanted l)) looks) o o'
     pub reports : ArePrints reported (map (λ l. l.reported) looks) e e'
 
   -- an entry wasn't made or printed, for a fault that was reported, and no later file was looked at
   pub record IsStoppedEarly (file_at : List ℕ → Option (List ℕ)) (paths : List (List ℕ))
-      (style : Style) (exit : Exit) (n n' : ℕ) (o o' : W) (e e' : E) : Type 0 where
+      (wanted : Wanted) (exit : Exit) (n n' : ℕ) (o o' : W) (e e' : E) : Type 0 where
     pub looks : List Look
     pub last : Look
     pub later : List (List ℕ)
     pub at : map (λ l. l.path) (looks ++ last ∷ []) ++ later ≡ paths
-    pub are : All (IsLookAt file_at) (looks ++ last ∷ [])
+    pub are : All (IsLookAt file_at wanted.digest) (looks ++ last ∷ [])
     pub fault : Fault
     pub ends : exit ≡ worse (worst (looks ++ last ∷ [])) (exit_on fault)
     pub failures : n' ≡ failures_after_looks (looks ++ last ∷ []) n
     pub part : Print
-    pub part_is : IsPrintOfText (look_entry style last) (Err fault) part
-    pub prints : ArePrints out (map (λ l. Whole (look_entry style l)) looks ++ part ∷ []) o o'
+    pub part_is : IsPrintOfText (look_entry wanted last) (Err fault) part
+    pub prints : ArePrints out (map (λ l. Whole (look_entry wanted l)) looks ++ part ∷ []) o o'
     pub line : Print
     pub line_is : IsOf (as_line (input_fault_text fault)) line
     pub reports : ArePrints reported (map (λ l. l.reported) (looks ++ last ∷ []) ++ line ∷ []) e e'
 
   -- the files at these paths were inspected
-  abbrev pub AreInspected : (List ℕ → Option (List ℕ)) → List (List ℕ) → Style → Exit → ℕ → ℕ →
+  abbrev pub AreInspected : (List ℕ → Option (List ℕ)) → List (List ℕ) → Wanted → Exit → ℕ → ℕ →
       W → W → E → E → Type 0
-  AreInspected file_at paths style exit n n' o o' e e' =
-      IsShown file_at paths style exit n n' o o' e e'
-      ⊎ IsStoppedEarly file_at paths style exit n n' o o' e e'
+  AreInspected file_at paths wanted exit n n' o o' e e' =
+      IsShown file_at paths wanted exit n n' o o' e e'
+      ⊎ IsStoppedEarly file_at paths wanted exit n n' o o' e e'

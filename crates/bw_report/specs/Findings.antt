@@ -1,15 +1,16 @@
 -- What is found in the bytes of a file, and how a command ends by it.
-use Rattle.std.specs.Prelude.{◌≡◌, ⊤, List, ℕ, Some, nat_lt, if◌then◌else◌}
+use Rattle.std.specs.Prelude.{◌≡◌, ⊤, Bool, List, ℕ, Option, Some, None, nat_lt, if◌then◌else◌}
 use Rattle.bw_model.specs.Reading.{Fault, IsFault}
 use Rattle.bw_model.specs.Report.{report_of}
 use Rattle.bw_inspect.specs.Faults.{bytes_fault}
-use Rattle.bw_inspect.specs.Readings.{HasReading}
+use Rattle.bw_inspect.specs.Readings.{GivesReport, HasReading}
 use Rattle.bw_inspect.specs.Reports.{reported_by}
 use Rattle.bw_inspect.specs.declared.report.Report.{Report}
 use Rattle.bw_commands.specs.Inspections.{exit_for_fault}
 use Rattle.bw_console.specs.Exits.{status_of}
 use Rattle.bw_console.specs.declared.exit.Exit.{Exit}
 use Rattle.bw_console.specs.declared.exit.Exit.TheVariants.{Done}
+use Rattle.bw_report.specs.Digests.{digest_at}
 use Rattle.bw_report.specs.declared.found.Found.{Found}
 use Rattle.bw_report.specs.declared.found.Found.TheVariants.{Read, Faulty, Unopened}
 
@@ -18,11 +19,20 @@ pub record IsReportIn (b : List ℕ) (r : Report) : Type 0 where
   pub reading_is : HasReading b
   pub is : reported_by r ≡ report_of b reading_is.form reading_is.entries
 
+-- the inspector gave this report of the bytes
+abbrev pub IsGivenOf : List ℕ → Report → Type 0
+IsGivenOf b r = (left : Option (List ℕ)) × GivesReport b r left
+
+-- the digest of the samples that the report gives, if it is asked for
+abbrev pub IsDigestIn : List ℕ → Report → Bool → Option (List ℕ) → Type 0
+IsDigestIn b r asked digest =
+    digest ≡ (if asked then Some (digest_at b r.data_at r.data_size) else None)
+
 -- this is found in the bytes: a fault of the bytes is their first
-abbrev pub IsFoundInBytes : List ℕ → Found → Type 0
-IsFoundInBytes b (Read r digest) = IsReportIn b r
-IsFoundInBytes b (Faulty f) = (met : Fault) → bytes_fault f ≡ Some met → IsFault b met
-IsFoundInBytes b (Unopened exit) = ⊤
+abbrev pub IsFoundInBytes : List ℕ → Bool → Found → Type 0
+IsFoundInBytes b asked (Read r digest) = IsReportIn b r × IsDigestIn b r asked digest
+IsFoundInBytes b asked (Faulty f) = (met : Fault) → bytes_fault f ≡ Some met → IsFault b met
+IsFoundInBytes b asked (Unopened exit) = ⊤
 
 -- how a command ends by this file
 abbrev pub exit_of_found : Found → Exit

@@ -1,6 +1,11 @@
 pub mod Times
+pub mod UnitTexts
+pub mod ShownTexts
 pub mod Values
 pub mod Objects
+pub mod HumanTexts
+pub mod Digests
 pub mod Findings
 pub mod Entries
 pub mod FileLooks
+pub mod Inputs

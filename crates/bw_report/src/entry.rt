@@ -1,11 +1,15 @@
 //! What is printed for a file.
-ghost use Rattle.std.specs.Prelude.{◌≡◌, ◌++◌, IfOk, OnOk};
+ghost use Rattle.std.specs.Prelude.{◌≡◌, ◌++◌, Some, IfOk, false};
 ghost use Rattle.bw_model.specs.Report.{report_text};
 ghost use Rattle.bw_inspect.specs.Reports.{reported_by};
-ghost use Rattle.bw_report.specs.Entries.{entry_text, fault_entry, name_byte, name_line};
+ghost use Rattle.bw_report.specs.Entries.{digest_text, entry_text, fault_entry};
+ghost use Rattle.bw_report.specs.Entries.{heading as heading_of};
+ghost use Rattle.bw_report.specs.HumanTexts.{human_text};
 
 use crate::found::Found;
+use crate::human::put_report;
 use crate::json::json_line;
+use crate::shown::put_name;
 use bw_inspect::{InspectFault, Report, write_report};
 use bw_stream::MemorySink;
 use std::alloc::{AllocError, Global};
@@ -13,13 +17,26 @@ use std::alloc::{AllocError, Global};
 /// How what is found is printed.
 #[derive(Clone, Copy, Debug, PartialEq, Eq)]
 pub enum Style {
-    /// As lines of words, below a line with the file's name.
+    /// As lines of words and whole numbers.
     Plain,
+    /// As lines for people: with units, times and levels.
+    Human,
     /// As one line of JSON.
     Json,
 }
 
-/// What is printed for what is found under a name.
+/// What is wanted of each file.
+#[derive(Clone, Copy, Debug, PartialEq, Eq)]
+pub struct Wanted {
+    /// How it is printed.
+    pub style: Style,
+    /// Whether its lines stand below a line with its name. In JSON the name is in the object.
+    pub named: bool,
+    /// Whether the SHA-256 of its samples is among it.
+    pub digest: bool,
+}
+
+/// What is printed for what is found under a name; `named` as in `Wanted`.
 ///
 /// # Errors
 /// `AllocError` if memory was refused.
@@ -29,19 +46,21 @@ pub enum Style {
 pub fn entry_of(
     alloc: Global,
     style: Style,
+    named: bool,
     name: &str,
     found: &Found,
 ) -> Result<Vec<u8>, AllocError>
-    ensures { IfOk result (λ v. v.items ≡ entry_text style name.now found.now) }
+    ensures { IfOk result (λ v. v.items ≡ entry_text style named name.now found.now) }
 {
     match style {
-        Style::Plain => plain_entry(alloc, name, found),
+        Style::Plain => plain_entry(alloc, named, name, found),
+        Style::Human => people_entry(alloc, named, name, found),
         Style::Json => json_entry(alloc, name, found),
     }
 }
 
 fn json_entry(alloc: Global, name: &str, found: &Found) -> Result<Vec<u8>, AllocError>
-    ensures { IfOk result (λ v. v.items ≡ entry_text Style.Json name.now found.now) }
+    ensures { IfOk result (λ v. v.items ≡ entry_text Style.Json false name.now found.now) }
 {
     let line = json_line(alloc, name, found)?;
     let mut text = Vec::new(alloc);
@@ -50,16 +69,73 @@ fn json_entry(alloc: Global, name: &str, found: &Found) -> Result<Vec<u8>, Alloc
     Ok(text)
 }
 
-fn plain_entry(alloc: Global, name: &str, found: &Found) -> Result<Vec<u8>, AllocError>
-    ensures { IfOk result (λ v. v.items ≡ entry_text Style.Plain name.now found.now) }
+fn plain_entry(alloc: Global, named: bool, name: &str, found: &Found) -> Result<Vec<u8>, AllocError>
+    ensures { IfOk result (λ v. v.items ≡ entry_text Style.Plain named name.now found.now) }
 {
-    let mut text = Vec::new(alloc);
-    put_name(alloc, &mut text, name)?;
+    let text = heading(alloc, named, name)?;
     match found {
-        Found::Read { report, .. } => with_report(text, report),
+        Found::Read { report, digest } => {
+            let text = with_report(text, report)?;
+            with_digest(alloc, text, digest)
+        }
         Found::Faulty(fault) => with_fault(alloc, text, fault),
         Found::Unopened(_) => with_line(text, "fault Open\n"),
     }
+}
+
+fn people_entry(
+    alloc: Global,
+    named: bool,
+    name: &str,
+    found: &Found,
+) -> Result<Vec<u8>, AllocError>
+    ensures { IfOk result (λ v. v.items ≡ entry_text Style.Human named name.now found.now) }
+{
+    let text = heading(alloc, named, name)?;
+    match found {
+        Found::Read { report, digest } => {
+            let text = with_lines(alloc, text, report)?;
+            with_digest(alloc, text, digest)
+        }
+        Found::Faulty(fault) => with_fault(alloc, text, fault),
+        Found::Unopened(_) => with_line(text, "fault Open\n"),
+    }
+}
+
+/// A text that begins with the line of a name, or an empty one.
+fn heading(alloc: Global, named: bool, name: &str) -> Result<Vec<u8>, AllocError>
+    ensures { IfOk result (λ v. v.items ≡ heading_of named name.now) }
+{
+    let mut text = Vec::new(alloc);
+    if !named {
+        return Ok(text);
+    }
+    put_name(alloc, &mut text, name)?;
+    Ok(text)
+}
+
+/// The text with the line of a digest below it, if there is one.
+fn with_digest(
+    alloc: Global,
+    text: Vec<u8>,
+    digest: &Option<[u8; 32]>,
+) -> Result<Vec<u8>, AllocError>
+    ensures { IfOk result (λ v. v.items ≡ text.items ++ digest_text digest.now) }
+{
+    match digest {
+        Some(digest) => with_digits(alloc, text, digest),
+        None => Ok(text),
+    }
+}
+
+fn with_digits(alloc: Global, mut text: Vec<u8>, digest: &[u8]) -> Result<Vec<u8>, AllocError>
+    ensures { IfOk result (λ v. v.items ≡ text.items ++ digest_text (Some digest.now)) }
+{
+    let digits = hex::encode(alloc, digest)?;
+    text.extend_from_slice(b"sha256=")?;
+    text.extend_from_slice(digits.as_bytes())?;
+    text.extend_from_slice(b"\n")?;
+    Ok(text)
 }
 
 /// The text with the lines of a report below it.
@@ -71,6 +147,14 @@ fn with_report(text: Vec<u8>, report: &Report) -> Result<Vec<u8>, AllocError>
         Ok(()) => Ok(sink.into_bytes()),
         Err(_) => Err(AllocError),
     }
+}
+
+/// The text with the lines of a report for people below it.
+fn with_lines(alloc: Global, mut text: Vec<u8>, report: &Report) -> Result<Vec<u8>, AllocError>
+    ensures { IfOk result (λ v. v.items ≡ text.items ++ human_text (reported_by report.now)) }
+{
+    put_report(alloc, &mut text, report)?;
+    Ok(text)
 }
 
 /// The text with the line of a fault below it.
@@ -86,30 +170,4 @@ fn with_line(mut text: Vec<u8>, line: &str) -> Result<Vec<u8>, AllocError>
 {
     text.extend_from_slice(line.as_bytes())?;
     Ok(text)
-}
-
-/// Appends the line of a name. Control characters and backslashes are `\x` and two digits, so that
-/// no name ends its line or writes to a terminal.
-fn put_name(alloc: Global, text: &mut Vec<u8>, name: &str) -> Result<(), AllocError>
-    ensures { OnOk result (text.new.items ≡ text.old.items ++ name_line name.now) }
-{
-    text.extend_from_slice(b"file ")?;
-    for byte in name.as_bytes() {
-        put_name_byte(alloc, text, *byte)?;
-    }
-    text.extend_from_slice(b"\n")?;
-    Ok(())
-}
-
-fn put_name_byte(alloc: Global, text: &mut Vec<u8>, byte: u8) -> Result<(), AllocError>
-    ensures { OnOk result (text.new.items ≡ text.old.items ++ name_byte byte) }
-{
-    if byte < 32 || byte == 127 || byte == b'\\' {
-        let digits = hex::encode(alloc, &[byte])?;
-        text.extend_from_slice(b"\\x")?;
-        text.extend_from_slice(digits.as_bytes())?;
-    } else {
-        text.push(byte)?;
-    }
-    Ok(())
 }

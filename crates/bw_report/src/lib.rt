@@ -1,18 +1,26 @@
-//! Reports of files, one after another: plain, or as lines of JSON (RFC 8259).
+//! Reports of files, one after another: plain, for people, or as lines of JSON (RFC 8259).
 #![tactic(auto)]
 
 mod bext;
+mod digest;
 mod entry;
 mod exits;
 mod files;
 mod found;
+mod human;
+mod input;
 mod json;
 mod parts;
+mod shown;
 mod time;
+mod units;
 mod value;
 
-pub use entry::{Style, entry_of};
+pub use digest::samples_digest;
+pub use entry::{Style, Wanted, entry_of};
 pub use files::inspect_files;
 pub use found::Found;
+pub use input::inspect_input;
 pub use json::json_line;
 pub use time::milliseconds;
+pub use units::{put_number, put_time};

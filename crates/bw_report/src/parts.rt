@@ -78,7 +78,7 @@ pub(crate) fn samples_value(
 }
 
 /// How many whole frames this many bytes are; 0 if a frame has no bytes.
-fn whole_frames(size: u64, align: u16) -> u64
+pub(crate) fn whole_frames(size: u64, align: u16) -> u64
     ensures { result ≡ frames_of size align }
 {
     size.checked_div(align.into()).unwrap_or(0)

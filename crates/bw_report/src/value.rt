@@ -69,7 +69,7 @@ pub(crate) fn put_text(
 }
 
 /// A field's bytes before its first zero byte.
-fn text_before_zero(field: &[u8]) -> &[u8]
+pub(crate) fn text_before_zero(field: &[u8]) -> &[u8]
     ensures { result.now ≡ take_while (λ c. not (c == 0)) field.now }
 {
     &field[..text_len(field)]

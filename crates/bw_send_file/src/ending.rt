@@ -79,8 +79,15 @@ const CHANGED: &[u8] = b"Changed: the file isn't any more what it was\n";
 
 const UNSENDABLE: &[u8] = b"Unsendable: no message carries the next request\n";
 
-/// Reports why the file at a path gives no more requests. Returns how the command ends.
-fn report_file_fault<E: Sink>(alloc: Global, path: &str, fault: &FeedFault, faults: &mut E) -> Exit
+/// Reports why the file at a path gives no more requests. Returns how the command ends: `Refused` for
+/// Changed, Unsendable and a fault of the recording; `Device` if the system failed; `Memory` if memory
+/// was refused. A failure to write the line is ignored.
+pub fn report_file_fault<E: Sink>(
+    alloc: Global,
+    path: &str,
+    fault: &FeedFault,
+    faults: &mut E,
+) -> Exit
     ensures { (print : Print) × IsFileReport path.now fault.now result print
         × IsPrint E.Sink print faults.old faults.new }
 {

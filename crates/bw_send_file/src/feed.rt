@@ -48,6 +48,13 @@ impl<R: Source + Drop, S: Stamped + Drop> PlanFeed<R, S> {
             stamp,
         }
     }
+
+    /// How the file stood before it was opened.
+    pub fn stamp(&self) -> FileStamp
+        ensures { result ≡ self.now.stamp }
+    {
+        self.stamp
+    }
 }
 
 impl<R: Source + Drop, S: Stamped + Drop> Feed for PlanFeed<R, S> {

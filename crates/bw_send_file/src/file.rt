@@ -79,10 +79,11 @@ pub fn send_file<F: RecordingFiles, P: Pause, D: Dial, V: Observer, W: Sink, E: 
 
 /// A recording's file that can be sent.
 #[derive(Drop)]
-struct Sendable<R, S> {
-    feed: PlanFeed<R, S>,
+pub struct Sendable<R, S> {
+    /// Gives its requests.
+    pub feed: PlanFeed<R, S>,
     /// A line for each thing that the recording loses of its file.
-    warnings: Vec<u8>,
+    pub warnings: Vec<u8>,
 }
 
 /// Memory was refused before the file was opened.
@@ -95,7 +96,11 @@ const NO_MEMORY: RecordingFault = RecordingFault {
 ///
 /// # Errors
 /// Why there is none.
-fn open_feed<F: RecordingFiles>(
+///
+/// # Not specified
+/// - When the system fails, and which error it gives.
+/// - Of a file whose bytes aren't reported, which bytes the requests are of.
+pub fn open_feed<F: RecordingFiles>(
     alloc: Global,
     files: &mut F,
     path: &str,
@@ -108,6 +113,8 @@ fn open_feed<F: RecordingFiles>(
         (F.Stamped.stamp_of x.feed.stamped) x.feed.stamp) }
     ensures err { IfErr result (λ e. Of (F.file_at files.old path.now) (λ b.
         RefusesAs b options.now e)) }
+    ensures files { F.file_at files.new ≡ F.file_at files.old }
+    ensures stamps { F.stamp_at files.new ≡ F.stamp_at files.old }
     ensures count { F.failures files.new ≡ failures_if (is_system_well result) (F.failures files.old) }
 {
     let Ok(stamped) = files.stamped(path) else {

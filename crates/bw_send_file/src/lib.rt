@@ -11,9 +11,10 @@ mod link_log;
 mod resuming;
 mod sending;
 
+pub use ending::report_file_fault;
 pub use fault::FeedFault;
 pub use feed::{PlanFeed, is_close};
-pub use file::send_file;
+pub use file::{Sendable, open_feed, send_file};
 pub use job::Recorder;
 pub use link_log::LinkLog;
 pub use resuming::send_feed_after;

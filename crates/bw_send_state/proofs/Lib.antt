@@ -1,2 +1,3 @@
 mod ReadSteps
 mod FeedSteps
+mod RestSteps

@@ -1,10 +1,8 @@
 //! Which number a server expects next under a name.
 ghost use Rattle.std.specs.Prelude.{◌≡◌, ◌∷◌, [], IfSome, IfOk, length};
 ghost use Rattle.bw_exchange.specs.Served.{HasGiven};
-ghost use Rattle.bw_send_state.specs.Asks.{AnswersAsk, GivesReply, SaysNext};
+ghost use Rattle.bw_send_state.specs.Asks.{AnswersAsk, GivesReply, HasAnswered, SaysNext};
 ghost use Rattle.bw_wire.specs.Replies.{reply_of};
-ghost use Rattle.bw_ports.specs.declared.dial.Duplex.{Duplex};
-ghost use Rattle.std.specs.Prelude.{Ok};
 
 use bw_bytes::read_u32;
 use bw_ports::{Dial, Duplex, Pause};
@@ -44,8 +42,7 @@ pub fn ask_server<P: Pause, D: Dial>(
     pause: &mut P,
     dial: &mut D,
 ) -> Result<u32, NotAsked>
-    ensures { IfOk result (λ next. (link : Duplex D.Reader D.Writer) × (before : D) × (after : D)
-        × D.dials before (Ok link) after × AnswersAsk name.now next (D.Reader.left link.reader)) }
+    ensures { IfOk result (HasAnswered D.Dial D.Reader.Source name.now) }
 {
     for fruitless in 0..u64::MAX {
         if is_spent(most, fruitless) {
@@ -67,9 +64,7 @@ pub fn ask_server<P: Pause, D: Dial>(
 /// # Errors
 /// Memory.
 fn ask_once<D: Dial>(alloc: Global, name: &Name, dial: &mut D) -> Result<Option<u32>, NotAsked>
-    ensures { IfOk result (λ answer. IfSome answer (λ next. (link : Duplex D.Reader D.Writer) × (before : D)
-        × (after : D) × D.dials before (Ok link) after
-        × AnswersAsk name.now next (D.Reader.left link.reader))) }
+    ensures { IfOk result (λ answer. IfSome answer (HasAnswered D.Dial D.Reader.Source name.now)) }
 {
     let Ok(frame) = encode_ask(alloc, name, 0) else {
         return Err(NotAsked::Memory);

@@ -1,16 +1,20 @@
-//! Parts of `send --file` with a state, which goes on where an earlier sender of the same file
-//! stopped: what a state is about, what is passed over, what is asked of the server, and which
-//! counts are noted. No command uses them yet.
+//! `send --file` with a state: it goes on where an earlier sender of the same file stopped.
 #![tactic(auto)]
 
 mod asking;
+mod beginning;
+mod file;
 mod keeper;
 mod observers;
 mod opening;
+mod place;
+mod reports;
 mod skipping;
 
 pub use asking::{NotAsked, ask_server};
+pub use file::send_file_on;
 pub use keeper::StateKeeper;
 pub use observers::Observers;
 pub use opening::{Opening, opening_of};
+pub use place::StatePlace;
 pub use skipping::skip;

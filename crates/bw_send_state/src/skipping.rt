@@ -3,7 +3,9 @@ ghost use Rattle.std.specs.Prelude.{◌≡◌, List, IfOk, true};
 ghost use Rattle.bw_model.specs.Take.{Request as Message};
 ghost use Rattle.bw_send_state.specs.SkippedRequests.{SkipsFirst};
 
-use bw_send_file::is_close;
+use bw_ports::{FileStamp, Stamped};
+use bw_send_file::{FeedFault, PlanFeed, is_close};
+use bw_stream::Source;
 use bw_upload::{Feed, Given};
 
 /// Passes over the first requests of a feed, so many. Returns whether it gave that many, and no
@@ -30,4 +32,25 @@ pub fn skip<X: Feed>(feed: &mut X, count: u32) -> Result<bool, X::Fault>
         }
     }
     Ok(true)
+}
+
+/// Passes over the first requests of a file's recording, so many. Returns whether the file still
+/// stands as it did first, and gave that many, with no CLOSE among them.
+///
+/// # Errors
+/// The feed's fault.
+pub(crate) fn pass_over<R: Source + Drop, S: Stamped + Drop>(
+    feed: &mut PlanFeed<R, S>,
+    first: &FileStamp,
+    count: u32,
+) -> Result<bool, FeedFault>
+    ensures { IfOk result (λ all. all ≡ true → (requests : List Message) →
+        ⟦<PlanFeed<R, S> as Feed>⟧.left feed.old requests →
+        SkipsFirst count requests (⟦<PlanFeed<R, S> as Feed>⟧.left feed.new)) }
+{
+    let now = feed.stamp();
+    if now.len != first.len || now.changed != first.changed {
+        return Ok(false);
+    }
+    skip(feed, count)
 }

@@ -23,6 +23,7 @@ pub use fault::FileFault;
 pub use finding::{Begun, Finding, NameFault, look};
 pub use listing::{FoundName, journal_name, list_names, look_at_each};
 pub use mending::mend;
+pub use paths::path_in;
 pub use reading::{FileRead, read_take};
 pub use restoring::{RefusedName, StartFault, restore_folder};
 pub use resuming::{adopt_file, cut_journal, restore_name};

@@ -11,12 +11,7 @@ use std::alloc::Global;
 /// # Errors
 /// `Memory` if memory was refused.
 #[tactic(auto, unfolding(crate::specs::Paths::path_with))]
-pub(crate) fn path_in(
-    alloc: Global,
-    folder: &str,
-    name: &Name,
-    ending: &str,
-) -> Result<String, ReadFault>
+pub fn path_in(alloc: Global, folder: &str, name: &Name, ending: &str) -> Result<String, ReadFault>
     ensures { IfOk result (λ p. string_bytes p ≡ path_with folder.now ending.now name.now) }
 {
     let Ok(text) = std::str::from_utf8(name.as_bytes()) else {

@@ -7,9 +7,9 @@ ghost use Rattle.bw_take_files.specs.GivenUp.{PutsTakeAside, PutsTakeAsideAt, St
 ghost use Rattle.bw_take_files.specs.GivenUp.{AreTakePathsApart, AreWaysClear, FailsWith, ForbidsAside, IsBarred, IsWayClear, StopsBoth};
 ghost use Rattle.bw_take_files.specs.GivenUp.{is_disk_failure, paths_in, paths_of};
 
-use crate::paths::path_in;
 use bw_disk::{ReadFault, Volume};
 use bw_request::Name;
+use bw_start::path_in;
 use std::alloc::Global;
 use thiserror::Error;
 

@@ -3,7 +3,6 @@
 #![tactic(auto)]
 
 mod giving_up;
-mod paths;
 mod samples;
 
 pub use giving_up::{GiveUpFault, give_up_take};

@@ -1,3 +1,4 @@
 pub mod TakeNameLemmas
 pub mod FindingLemmas
 pub mod ListingLemmas
+pub mod TakeShapes

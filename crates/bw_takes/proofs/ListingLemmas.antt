@@ -7,6 +7,8 @@ use Rattle.std.proofs.lemmas.List.Concat.{flat_map-append}
 use Rattle.std.proofs.lemmas.List.Folds.{list_all-append}
 use Rattle.bw_disk.specs.DiskSteps.{StaysWhole}
 use Rattle.bw_disk.specs.declared.disk.Disk.{Ghosts}
+use Rattle.bw_takes.specs.declared.listing.LineStyle.{LineStyle}
+use Rattle.bw_takes.specs.declared.comparing.Depth.{Depth}
 use Rattle.bw_takes.specs.TakeReports.{line_in, is_sound_in}
 
 -- the names that were lent so far
@@ -28,24 +30,24 @@ more_sound p ys y =
     ap (list_all p) (map-append (λ (b : Bor (List ℕ)). b.now) ys (y ∷ [])) ∙ list_all-append p (lent ys) (y.now ∷ [])
     ∙ ap (λ (v : Bool). list_all p (lent ys) && v) (and_true (p y.now))
 
-module _ {D F : Type 0} (G : Ghosts D F) (folder : List ℕ) (d e : D) (same : StaysWhole G d e) (honest : IsTrue (G.honest d))
-    (ys : List (Bor (List ℕ))) (y : Bor (List ℕ)) where
+module _ {D F : Type 0} (G : Ghosts D F) (style : LineStyle) (depth : Depth) (folder : List ℕ) (d e : D)
+    (same : StaysWhole G d e) (honest : IsTrue (G.honest d)) (ys : List (Bor (List ℕ))) (y : Bor (List ℕ)) where
   -- one more line, on a disk that is as it was
-  pub line_next : (before after : List ℕ) → before ≡ flat_map (line_in folder (G.contents d)) (lent ys) →
-      (IsTrue (G.honest e) → after ≡ before ++ line_in folder (G.contents e) y.now) →
-      after ≡ flat_map (line_in folder (G.contents d)) (lent (ys ++ y ∷ []))
+  pub line_next : (before after : List ℕ) → before ≡ flat_map (line_in style depth folder (G.contents d)) (lent ys) →
+      (IsTrue (G.honest e) → after ≡ before ++ line_in style depth folder (G.contents e) y.now) →
+      after ≡ flat_map (line_in style depth folder (G.contents d)) (lent (ys ++ y ∷ []))
   line_next before after so next =
       next (subst IsTrue (sym same.honest) honest)
-      ∙ ap (λ (c : List ℕ → _). before ++ line_in folder c y.now) (fun_ext (same.contents honest))
-      ∙ ap (λ (z : List ℕ). z ++ line_in folder (G.contents d) y.now) so
-      ∙ sym (more_lines (line_in folder (G.contents d)) ys y)
+      ∙ ap (λ (c : List ℕ → _). before ++ line_in style depth folder c y.now) (fun_ext (same.contents honest))
+      ∙ ap (λ (z : List ℕ). z ++ line_in style depth folder (G.contents d) y.now) so
+      ∙ sym (more_lines (line_in style depth folder (G.contents d)) ys y)
 
   -- and one more take with which nothing is wrong, or something is
-  pub sound_next : (before after : Bool) → before ≡ list_all (is_sound_in folder (G.contents d)) (lent ys) →
-      (IsTrue (G.honest e) → after ≡ (before && is_sound_in folder (G.contents e) y.now)) →
-      after ≡ list_all (is_sound_in folder (G.contents d)) (lent (ys ++ y ∷ []))
+  pub sound_next : (before after : Bool) → before ≡ list_all (is_sound_in depth folder (G.contents d)) (lent ys) →
+      (IsTrue (G.honest e) → after ≡ (before && is_sound_in depth folder (G.contents e) y.now)) →
+      after ≡ list_all (is_sound_in depth folder (G.contents d)) (lent (ys ++ y ∷ []))
   sound_next before after so next =
       next (subst IsTrue (sym same.honest) honest)
-      ∙ ap (λ (c : List ℕ → _). before && is_sound_in folder c y.now) (fun_ext (same.contents honest))
-      ∙ ap (λ (v : Bool). v && is_sound_in folder (G.contents d) y.now) so
-      ∙ sym (more_sound (is_sound_in folder (G.contents d)) ys y)
+      ∙ ap (λ (c : List ℕ → _). before && is_sound_in depth folder c y.now) (fun_ext (same.contents honest))
+      ∙ ap (λ (v : Bool). v && is_sound_in depth folder (G.contents d) y.now) so
+      ∙ sym (more_sound (is_sound_in depth folder (G.contents d)) ys y)

@@ -7,7 +7,9 @@ use Rattle.bw_console.specs.Text.{as_line}
 use Rattle.bw_console.specs.declared.exit.Exit.{Exit}
 use Rattle.bw_console.specs.declared.exit.Exit.TheVariants as exits
 use Rattle.bw_console.specs.declared.fault.Fault.TheVariants as faults
+use Rattle.bw_takes.specs.declared.listing.LineStyle.{LineStyle}
 use Rattle.bw_takes.specs.TakeReports.{ReportsTakes}
+use Rattle.bw_takes.specs.declared.comparing.Depth.{Depth}
 
 -- how the command ends that has printed its lines
 abbrev pub exit_for : Bool → Exit
@@ -30,11 +32,11 @@ pub record PrintsPart (lines : List ℕ) (did : Outcome) : Type 0 where
   pub exit_is : did.exit ≡ exits.Device
 
 -- the takes of a folder are reported
-pub record ShowsReport (honest : Bool) (folder : List ℕ) (contents : List ℕ → Option (List ℕ))
-    (did : Outcome) : Type 0 where
+pub record ShowsReport (style : LineStyle) (depth : Depth) (honest : Bool) (folder : List ℕ)
+    (contents : List ℕ → Option (List ℕ)) (did : Outcome) : Type 0 where
   pub lines : List ℕ
   pub sound : Bool
-  pub is : IsTrue honest → ReportsTakes folder contents lines sound
+  pub is : IsTrue honest → ReportsTakes style depth folder contents lines sound
   pub printed : PrintsAll lines sound did ⊎ PrintsPart lines did
   pub reads : did.reads_all ≡ true
 
@@ -46,6 +48,8 @@ pub record IsFolderUnread (folder : List ℕ) (did : Outcome) : Type 0 where
   pub reads : did.reads_all ≡ true
 
 -- what the command did over a folder, where the disk is as honest as this, and has these contents
-abbrev pub IsShowing : Bool → List ℕ → (List ℕ → Option (List ℕ)) → Outcome → Type 0
-IsShowing honest folder contents did =
-    ShowsReport honest folder contents did ⊎ IsFolderUnread folder did ⊎ IsOutOfMemory did
+abbrev pub IsShowing : LineStyle → Depth → Bool → List ℕ → (List ℕ → Option (List ℕ)) → Outcome →
+    Type 0
+IsShowing style depth honest folder contents did =
+    ShowsReport style depth honest folder contents did ⊎ IsFolderUnread folder did
+    ⊎ IsOutOfMemory did

@@ -1,4 +1,4 @@
--- What is found of a take.
+-- What is found of a take without its samples.
 use Rattle.std.specs.Prelude.{◌≡◌, ℕ, Option, Some, None, IsSome, Result, Ok, Err, List, length}
 use Rattle.bw_journal.specs.Replays.{Story, JournalFault, NotBegun, replay}
 use Rattle.bw_journal.specs.Stories.{story_of}
@@ -6,7 +6,7 @@ use Rattle.bw_start.specs.Findings.{cause_of}
 use Rattle.bw_start.specs.Names.{NameFault, fault_beside}
 use Rattle.bw_takes.specs.TakeLines.{own_limit}
 use Rattle.bw_takes.specs.declared.finding.TakeFinding.{TakeFinding}
-use Rattle.bw_takes.specs.declared.finding.TakeFinding.TheVariants.{Stood, Unbegun, Refused, Begun}
+use Rattle.bw_takes.specs.declared.finding.TakeFinding.TheVariants.{Stood, Unbegun, Refused, Begun, Changed}
 
 -- how many bytes a file has, if there is one
 abbrev pub IsLengthOf : Option (List ℕ) → ℕ → Type 0
@@ -19,6 +19,7 @@ IsFoundBy reported fault Stood = ⊥
 IsFoundBy reported fault Unbegun = (reported ≡ Err NotBegun) × (fault ≡ None)
 IsFoundBy reported fault (Refused cause) = (fault ≡ cause_of cause) × IsSome (cause_of cause)
 IsFoundBy reported fault (Begun r) = (reported ≡ Ok (story_of r)) × (fault ≡ None)
+IsFoundBy reported fault (Changed number) = ⊥
 
 -- the same by what its journal says, and its file
 abbrev pub IsFoundBeside : ℕ → Result Story JournalFault → Option (List ℕ) → TakeFinding → Type 0

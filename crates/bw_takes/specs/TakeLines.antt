@@ -1,14 +1,12 @@
--- The line of a take, by its journal and its file.
-use Rattle.std.specs.Prelude.{◌/◌, ◌%◌, ◌*◌, ◌==◌, ◌&&◌, ℕ, Bool, Option, Some, None}
-use Rattle.std.specs.Prelude.{Result, Ok, Err, List, [], ◌∷◌, ◌++◌, codes, decimal, length, take, drop}
+-- The parts of the line of a take, and what it is judged by.
+use Rattle.std.specs.Prelude.{◌/◌, ◌%◌, ◌*◌, ◌==◌, ◌&&◌, ℕ, Bool}
+use Rattle.std.specs.Prelude.{List, [], ◌∷◌, ◌++◌, codes, decimal, length, take, drop}
 use Rattle.std.specs.Prelude.{min, nat_le, if◌then◌else◌}
 use Rattle.bw_model.specs.Bytes.{u32_at}
-use Rattle.bw_model.specs.Take.{Parts, Format, frames}
-use Rattle.bw_journal.specs.Replays.{Story, JournalFault, NotBegun, NotAJournal, OtherName, OtherLimit}
-use Rattle.bw_journal.specs.Replays.{OtherVerdict, NotAnEntry, Damaged, replay}
-use Rattle.bw_journal.specs.Rows.{row_count}
+use Rattle.bw_journal.specs.Replays.{JournalFault, NotBegun, NotAJournal, OtherName, OtherLimit}
+use Rattle.bw_journal.specs.Replays.{OtherVerdict, NotAnEntry, Damaged}
 use Rattle.bw_start.specs.FaultLines.{file_cause_text}
-use Rattle.bw_start.specs.Names.{NameFault, OfJournal, OfFile, name_fault}
+use Rattle.bw_start.specs.Names.{NameFault, OfJournal, OfFile}
 
 -- the largest limit
 abbrev pub largest_limit : ℕ
@@ -63,19 +61,14 @@ abbrev pub opened_line : List ℕ → List ℕ → ℕ → ℕ → ℕ → List 
 opened_line name word count rate next =
     timed_start name word count (count / rate) ++ timed_end (thousandths count rate) next
 
+-- the line of a take with which this is wrong at a number
+unfoldable pub numbered_line : List ℕ → List ℕ → ℕ → List ℕ
+numbered_line name word number =
+    name ++ codes " " ++ word ++ codes " number " ++ decimal number ++ codes "\n"
+
 -- whether a take is closed
 abbrev pub state_word : Bool → List ℕ
 state_word closed = if closed then codes "closed" else codes "open"
-
--- the line of a take by its format
-abbrev pub format_line : List ℕ → Parts → Option Format → ℕ → List ℕ
-format_line name p None next = next_line name (codes "unopened") next
-format_line name p (Some f) next = opened_line name (state_word p.closed) (frames p) f.rate next
-
--- what a journal says of its take; one whose name existed before has no file of the server's
-abbrev pub story_line : List ℕ → Parts → ℕ → List ℕ
-story_line name p next = if p.taken then next_line name (codes "stood") next
-    else format_line name p p.format next
 
 -- what is wrong with a journal
 abbrev pub journal_fault_text : JournalFault → List ℕ
@@ -91,20 +84,3 @@ journal_fault_text Damaged = codes "Damaged"
 abbrev pub take_fault_text : NameFault → List ℕ
 take_fault_text (OfJournal f) = journal_fault_text f
 take_fault_text (OfFile f) = file_cause_text f
-
--- the line of a take whose journal says this, and with which this is wrong
-abbrev pub judged_line : List ℕ → Result Story JournalFault → Option NameFault → List ℕ
-judged_line name reported (Some fault) = word_line name (take_fault_text fault)
-judged_line name (Ok s) None = story_line name s.parts (row_count s.table)
-judged_line name (Err f) None = next_line name (codes "unopened") 0
-
--- what is wrong with a take, by the limit in its journal; nothing if it has none
-abbrev pub take_fault : List ℕ → Option (List ℕ) → Option (List ℕ) → Option NameFault
-take_fault name None file = None
-take_fault name (Some journal) file = name_fault (own_limit journal) name journal file
-
--- the line of a take with this journal, if it has one, and this file
-abbrev pub take_line : List ℕ → Option (List ℕ) → Option (List ℕ) → List ℕ
-take_line name None file = next_line name (codes "stood") 0
-take_line name (Some journal) file = judged_line name (replay (own_limit journal) name journal)
-    (name_fault (own_limit journal) name journal file)

@@ -12,13 +12,12 @@ ghost use Rattle.bw_takes.specs.TakeFindings.{IsTakeFound, IsFoundBeside, IsLeng
 ghost use Rattle.bw_takes.specs.TakeLines.{own_limit as limit_in};
 
 use crate::beginning::is_take_at;
-use crate::paths::path_in;
 use bw_bytes::read_u32;
 use bw_disk::{ReadFault, Volume, read_file};
 use bw_journal::{ReplayFault, Replayed, replay};
 use bw_layout::Limit;
 use bw_request::Name;
-use bw_start::{FileRead, NameFault, data_end, header_of, judge_file, read_take};
+use bw_start::{FileRead, NameFault, data_end, header_of, judge_file, path_in, read_take};
 use bw_take::TakeState;
 use std::alloc::Global;
 
@@ -39,10 +38,13 @@ pub enum TakeFinding {
     Refused(NameFault),
     /// Its journal says this, and its file fits.
     Begun(Replayed),
+    /// The samples of this number, the first one, aren't those that its journal has the digest of;
+    /// all else fits.
+    Changed(u32),
 }
 
-/// What is found of a take in a folder, by the limit that its journal begins with. Nothing is
-/// changed.
+/// What is found of a take in a folder, by the limit that its journal begins with; no sample is
+/// read. Nothing is changed.
 ///
 /// A server may be writing meanwhile: a file that only grew after its journal was read isn't too
 /// long.
@@ -54,7 +56,7 @@ pub enum TakeFinding {
 /// # Not specified
 /// - When memory is refused.
 /// - What is found while others write.
-pub fn look_at_take<D: Volume>(
+pub(crate) fn look_at_take<D: Volume>(
     alloc: Global,
     disk: &mut D,
     folder: &str,

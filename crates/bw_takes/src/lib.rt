@@ -1,16 +1,21 @@
-//! The takes of a folder, by their journals and files: a line for each. Nothing is changed.
+//! The takes of a folder: a line for each, by its journal and its file; and one that is given up.
 #![tactic(auto)]
 
 mod beginning;
+mod comparing;
 mod finding;
+mod json;
 mod line;
 mod listing;
+mod locked;
 mod naming;
-mod paths;
 mod printing;
 
-pub use finding::{TakeFinding, look_at_take};
+pub use comparing::{Depth, examine_take};
+pub use finding::TakeFinding;
+pub use json::take_json;
 pub use line::put_take_line;
-pub use listing::{TakesReport, report_takes};
+pub use listing::{LineStyle, TakesReport, report_takes};
+pub use locked::give_up_locked;
 pub use naming::{take_of, takes_in};
 pub use printing::show_takes;

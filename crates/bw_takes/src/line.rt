@@ -2,9 +2,10 @@
 ghost use Rattle.std.specs.Prelude.{◌≡◌, ◌++◌, ◌≤◌, OnOk};
 ghost use Rattle.bw_journal.specs.Rows.{row_count};
 ghost use Rattle.bw_start.specs.FaultLines.{journal_text, file_cause_text};
-ghost use Rattle.bw_takes.specs.TakeLines.{next_line, opened_line, story_line, timed_end, timed_start, word_line};
-ghost use Rattle.bw_takes.specs.TakeLines.{state_word as word_of};
-ghost use Rattle.bw_takes.specs.TakeReports.{cause_word as word_of_cause, finding_line};
+ghost use Rattle.bw_takes.specs.TakeLines.{next_line, numbered_line, opened_line, word_line};
+ghost use Rattle.bw_takes.specs.TakeLines.{timed_end, timed_start, state_word as word_of};
+ghost use Rattle.bw_takes.specs.TakeReports.{cause_word as word_of_cause, finding_summary, summary_line};
+ghost use Rattle.bw_takes.specs.TakeSummaries.{story_summary};
 
 use crate::finding::TakeFinding;
 use bw_journal::{ReplayFault, Replayed};
@@ -14,7 +15,8 @@ use std::alloc::{AllocError, Global};
 
 /// Appends the line of a take, ended by a line feed: its name; whether it is open, closed or not
 /// opened, or stood before the server's; of one with samples of the server's its frames and seconds;
-/// and its next number. Of one with which something is wrong it is the name and the cause.
+/// and its next number. Of one with which something is wrong it is the name and the cause, and of one
+/// with other samples than its journal has the digests of, the first such number.
 ///
 /// # Errors
 /// `AllocError` if memory was refused.
@@ -24,7 +26,8 @@ pub fn put_take_line(
     finding: &TakeFinding,
     lines: &mut Vec<u8>,
 ) -> Result<(), AllocError>
-    ensures { OnOk result (lines.new.items ≡ lines.old.items ++ finding_line name.now finding.now) }
+    ensures { OnOk result (lines.new.items
+        ≡ lines.old.items ++ summary_line name.now (finding_summary finding.now)) }
 {
     let Ok(name) = std::str::from_utf8(name.as_bytes()) else {
         return Err(AllocError);
@@ -34,6 +37,9 @@ pub fn put_take_line(
         TakeFinding::Unbegun => put_next(alloc, name, "unopened", 0, lines),
         TakeFinding::Refused(fault) => put_word(alloc, name, cause_word(fault), lines),
         TakeFinding::Begun(replayed) => put_begun(alloc, name, replayed, lines),
+        TakeFinding::Changed(number) => {
+            put_numbered(alloc, name, "ChangedBlock", u64::from(*number), lines)
+        }
     }
 }
 
@@ -44,8 +50,8 @@ fn put_begun(
     replayed: &Replayed,
     lines: &mut Vec<u8>,
 ) -> Result<(), AllocError>
-    ensures { OnOk result (lines.new.items ≡ lines.old.items
-        ++ story_line name.now replayed.now.state.parts (row_count replayed.now.table.items)) }
+    ensures { OnOk result (lines.new.items ≡ lines.old.items ++ summary_line name.now
+        (story_summary replayed.now.state.parts (row_count replayed.now.table.items))) }
 {
     let state = &replayed.state;
     let next = replayed.table.len() / 33;
@@ -72,6 +78,22 @@ fn put_word(alloc: Global, name: &str, word: &str, lines: &mut Vec<u8>) -> Resul
     ensures { OnOk result (lines.new.items ≡ lines.old.items ++ word_line name.now word.now) }
 {
     let line = format!(in alloc; "{name} {word}\n")?;
+    lines.extend_from_slice(line.as_bytes())
+}
+
+/// Appends the line of a take with which this is wrong at a number.
+#[tactic(auto, unfolding(crate::specs::TakeLines::numbered_line))]
+fn put_numbered(
+    alloc: Global,
+    name: &str,
+    word: &str,
+    number: u64,
+    lines: &mut Vec<u8>,
+) -> Result<(), AllocError>
+    ensures { OnOk result (lines.new.items
+        ≡ lines.old.items ++ numbered_line name.now word.now number) }
+{
+    let line = format!(in alloc; "{name} {word} number {number}\n")?;
     lines.extend_from_slice(line.as_bytes())
 }
 
@@ -138,14 +160,14 @@ fn put_end(alloc: Global, part: u64, next: usize, lines: &mut Vec<u8>) -> Result
 }
 
 /// Whether a take is closed.
-fn state_word(closed: bool) -> &'static str
+pub(crate) fn state_word(closed: bool) -> &'static str
     ensures { result.now ≡ word_of closed }
 {
     if closed { "closed" } else { "open" }
 }
 
 /// What is wrong with a take, in a word.
-fn cause_word(fault: &NameFault) -> &'static str
+pub(crate) fn cause_word(fault: &NameFault) -> &'static str
     ensures { result.now ≡ word_of_cause fault.now }
 {
     match fault {

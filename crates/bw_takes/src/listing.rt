@@ -1,14 +1,26 @@
 //! The lines of a folder's takes.
 ghost use Rattle.std.specs.Prelude.{◌≡◌, ◌++◌, ◌&&◌, IsTrue, IfOk, OnOk};
 ghost use Rattle.bw_disk.specs.DiskSteps.{StaysWhole};
-ghost use Rattle.bw_takes.specs.TakeReports.{ReportsTakes, line_in, is_sound_in, is_finding_sound};
+ghost use Rattle.bw_takes.specs.TakeReports.{ReportsTakes, finding_summary, line_in, is_sound_in, styled_line};
+ghost use Rattle.bw_takes.specs.TakeSummaries.{is_sound_summary};
 
-use crate::finding::{TakeFinding, look_at_take};
+use crate::comparing::{Depth, examine_take};
+use crate::finding::TakeFinding;
+use crate::json::take_json;
 use crate::line::put_take_line;
 use crate::naming::takes_in;
 use bw_disk::{ReadFault, Volume};
 use bw_request::Name;
-use std::alloc::Global;
+use std::alloc::{AllocError, Global};
+
+/// How a take is reported.
+#[derive(Clone, Copy, Debug, PartialEq, Eq)]
+pub enum LineStyle {
+    /// By a line of words.
+    Words,
+    /// By a line of JSON.
+    Json,
+}
 
 /// What is reported of a folder's takes.
 #[derive(Drop)]
@@ -19,7 +31,8 @@ pub struct TakesReport {
     pub sound: bool,
 }
 
-/// A line for each take of a folder, in the order of their names' bytes. Nothing is changed.
+/// A line for each take of a folder, of words or of JSON, in the order of their names' bytes. Nothing
+/// is changed.
 ///
 /// # Errors
 /// `Disk` if a call of the disk failed; `Memory` if memory was refused.
@@ -30,10 +43,12 @@ pub fn report_takes<D: Volume>(
     alloc: Global,
     disk: &mut D,
     folder: &str,
+    style: LineStyle,
+    depth: Depth,
 ) -> Result<TakesReport, ReadFault>
     ensures disk { StaysWhole D.Disk disk.old disk.new }
     ensures report { IsTrue (D.honest disk.old) → IfOk result (λ report.
-        ReportsTakes folder.now (D.contents disk.old) report.lines.items report.sound) }
+        ReportsTakes style depth folder.now (D.contents disk.old) report.lines.items report.sound) }
 {
     let names = takes_in(alloc, disk, folder)?;
     let mut report = TakesReport {
@@ -41,7 +56,7 @@ pub fn report_takes<D: Volume>(
         sound: true,
     };
     for name in &names {
-        put_take(alloc, disk, folder, name, &mut report)?;
+        put_take(alloc, disk, folder, name, style, depth, &mut report)?;
     }
     Ok(report)
 }
@@ -52,30 +67,66 @@ fn put_take<D: Volume>(
     disk: &mut D,
     folder: &str,
     name: &Name,
+    style: LineStyle,
+    depth: Depth,
     report: &mut TakesReport,
 ) -> Result<(), ReadFault>
     ensures disk { StaysWhole D.Disk disk.old disk.new }
     ensures line { IsTrue (D.honest disk.old) → OnOk result (report.new.lines.items
-        ≡ report.old.lines.items ++ line_in folder.now (D.contents disk.old) name.now) }
+        ≡ report.old.lines.items ++ line_in style depth folder.now (D.contents disk.old) name.now) }
     ensures sound { IsTrue (D.honest disk.old) → OnOk result (report.new.sound
-        ≡ (report.old.sound && is_sound_in folder.now (D.contents disk.old) name.now)) }
+        ≡ (report.old.sound && is_sound_in depth folder.now (D.contents disk.old) name.now)) }
 {
-    let finding = look_at_take(alloc, disk, folder, name)?;
+    let finding = examine_take(alloc, disk, folder, name, depth)?;
     report.sound = report.sound && is_sound(&finding);
-    match put_take_line(alloc, name, &finding, &mut report.lines) {
+    match put_entry(alloc, style, name, &finding, &mut report.lines) {
         Ok(()) => Ok(()),
         Err(_) => Err(ReadFault::Memory),
     }
 }
 
+/// Appends the line of a take of which this is found.
+fn put_entry(
+    alloc: Global,
+    style: LineStyle,
+    name: &Name,
+    finding: &TakeFinding,
+    lines: &mut Vec<u8>,
+) -> Result<(), AllocError>
+    ensures { OnOk result (lines.new.items
+        ≡ lines.old.items ++ styled_line style name.now (finding_summary finding.now)) }
+{
+    match style {
+        LineStyle::Words => put_take_line(alloc, name, finding, lines),
+        LineStyle::Json => put_json(alloc, name, finding, lines),
+    }
+}
+
+/// The same of a line of JSON.
+#[tactic(auto, using(std::proofs::lemmas::List::append_assoc))]
+fn put_json(
+    alloc: Global,
+    name: &Name,
+    finding: &TakeFinding,
+    lines: &mut Vec<u8>,
+) -> Result<(), AllocError>
+    ensures { OnOk result (lines.new.items
+        ≡ lines.old.items ++ styled_line LineStyle.Json name.now (finding_summary finding.now)) }
+{
+    let line = take_json(alloc, name, finding)?;
+    lines.extend_from_slice(line.as_bytes())?;
+    lines.extend_from_slice(b"\n")
+}
+
 /// Whether nothing is wrong with a take of which this is found.
 fn is_sound(finding: &TakeFinding) -> bool
-    ensures { result ≡ is_finding_sound finding.now }
+    ensures { result ≡ is_sound_summary (finding_summary finding.now) }
 {
     match finding {
         TakeFinding::Stood => true,
         TakeFinding::Unbegun => true,
         TakeFinding::Refused(_) => false,
         TakeFinding::Begun(_) => true,
+        TakeFinding::Changed(_) => false,
     }
 }

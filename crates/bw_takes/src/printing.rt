@@ -6,15 +6,16 @@ ghost use Rattle.bw_disk.specs.DiskSteps.{StaysWhole};
 ghost use Rattle.bw_takes.specs.Showings.{IsShowing, IsFolderUnread, PrintsAll, PrintsPart};
 ghost use Rattle.bw_takes.specs.Showings.{exit_for as exit_when, unread_text};
 
-use crate::listing::{TakesReport, report_takes};
+use crate::comparing::Depth;
+use crate::listing::{LineStyle, TakesReport, report_takes};
 use bw_console::print::{give_up, print, print_diagnostic};
 use bw_console::{Exit, Fault};
 use bw_disk::{ReadFault, Volume};
 use bw_stream::Sink;
 use std::alloc::{AllocError, Global};
 
-/// Prints a line for each take of a folder, in the order of their names' bytes. Nothing is locked,
-/// and nothing changed.
+/// Prints a line for each take of a folder, of words or of JSON, in the order of their names' bytes.
+/// Nothing is locked, and nothing changed.
 ///
 /// `Done` if nothing is wrong with any take, `Refused` if something is; `Device` if the folder can't
 /// be read, which is a line on `faults` and nothing else, or the lines can't be written; `Memory` if
@@ -27,15 +28,17 @@ pub fn show_takes<D: Volume, W: Sink, E: Sink>(
     alloc: Global,
     disk: &mut D,
     folder: &str,
+    style: LineStyle,
+    depth: Depth,
     out: &mut W,
     faults: &mut E,
 ) -> Exit
     ensures { (did : Outcome) × (did.exit ≡ result)
-        × IsShowing (D.honest disk.old) folder.now (D.contents disk.old) did
+        × IsShowing style depth (D.honest disk.old) folder.now (D.contents disk.old) did
         × StaysWhole D.Disk disk.old disk.new
         × HasWritten W.Sink E.Sink did out.old out.new faults.old faults.new }
 {
-    match report_takes(alloc, disk, folder) {
+    match report_takes(alloc, disk, folder, style, depth) {
         Ok(report) => print_report(&report, out, faults),
         Err(ReadFault::Disk) => report_unread(alloc, folder, faults),
         Err(ReadFault::Memory) => give_up(faults, &Fault::Memory),
@@ -62,7 +65,7 @@ fn exit_for(sound: bool) -> Exit
 }
 
 /// Reports that a folder can't be read.
-fn report_unread<E: Sink>(alloc: Global, folder: &str, faults: &mut E) -> Exit
+pub(crate) fn report_unread<E: Sink>(alloc: Global, folder: &str, faults: &mut E) -> Exit
     ensures { (did : Outcome) × (did.exit ≡ result)
         × (IsFolderUnread folder.now did ⊎ IsOutOfMemory did)
         × IsPrint E.Sink did.faults faults.old faults.new }

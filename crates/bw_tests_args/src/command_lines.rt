@@ -27,7 +27,7 @@ fn a_rehearsal_has_a_name(rt: HostRuntime) -> Result<(), AllocError> {
     lines_come_to(&rt, rt.alloc(), &["bwingest", "rehearse"], &REHEARSALS)
 }
 
-static LINES: [Line; 51] = [
+static LINES: [Line; 61] = [
     (&[], Outcome::Refuses),
     (&["bwingest"], Outcome::Refuses),
     (&["bwingest", "help"], Outcome::Shows),
@@ -94,15 +94,46 @@ static LINES: [Line; 51] = [
     (&["bwingest", "inspect", "-x"], Outcome::Refuses),
     (
         &["bwingest", "inspect", "a.wav", "b.wav"],
-        Outcome::InspectsFiles(2, false),
+        Outcome::InspectsFiles(2, [false, false, false]),
     ),
     (
         &["bwingest", "inspect", "a.wav", "--json", "--", "-b", "c"],
-        Outcome::InspectsFiles(3, true),
+        Outcome::InspectsFiles(3, [true, false, false]),
     ),
     (
         &["bwingest", "inspect", "--json", "a.wav"],
-        Outcome::InspectsFiles(1, true),
+        Outcome::InspectsFiles(1, [true, false, false]),
+    ),
+    (
+        &["bwingest", "inspect", "--human", "a.wav"],
+        Outcome::InspectsFiles(1, [false, true, false]),
+    ),
+    (
+        &["bwingest", "inspect", "a.wav", "--digest", "-b", "--json"],
+        Outcome::Refuses,
+    ),
+    (
+        &["bwingest", "inspect", "a.wav", "--digest", "b", "--json"],
+        Outcome::InspectsFiles(2, [true, false, true]),
+    ),
+    (
+        &["bwingest", "inspect", "--human", "--digest", "a.wav"],
+        Outcome::InspectsFiles(1, [false, true, true]),
+    ),
+    (
+        &["bwingest", "inspect", "--json", "-"],
+        Outcome::InspectsFiles(1, [true, false, false]),
+    ),
+    (
+        &["bwingest", "inspect", "--json", "--human", "a.wav"],
+        Outcome::Refuses,
+    ),
+    (&["bwingest", "inspect", "--digest", "-"], Outcome::Refuses),
+    (&["bwingest", "inspect", "-", "a.wav"], Outcome::Refuses),
+    (&["bwingest", "inspect", "-", "-"], Outcome::Refuses),
+    (
+        &["bwingest", "inspect", "--digest", "--digest", "a.wav"],
+        Outcome::Refuses,
     ),
     (&["bwingest", "inspect", "--json"], Outcome::Refuses),
     (
@@ -128,18 +159,35 @@ fn each_line_runs_or_reports(rt: HostRuntime) -> Result<(), AllocError> {
     lines_come_to(&rt, rt.alloc(), &[], &LINES)
 }
 
-static TAKES: [Line; 6] = [
-    (&["bwingest", "takes", "--folder", "-d"], Outcome::Lists),
-    (&["bwingest", "takes", "--folder=-d"], Outcome::Lists),
-    (&["bwingest", "takes", "--help"], Outcome::Shows),
-    (&["bwingest", "takes"], Outcome::Refuses),
-    (&["bwingest", "takes", "-d"], Outcome::Refuses),
-    (&["bwingest", "takes", "--folder"], Outcome::Refuses),
+static TAKES: [Line; 17] = [
+    (&["--folder", "-d"], Outcome::Lists([false, false])),
+    (&["--folder=-d"], Outcome::Lists([false, false])),
+    (&["--check", "--folder=-d"], Outcome::Lists([true, false])),
+    (&["--folder", "-d", "--json"], Outcome::Lists([false, true])),
+    (
+        &["--json", "--folder", "-d", "--check"],
+        Outcome::Lists([true, true]),
+    ),
+    (&["--folder", "-d", "--give-up=-a"], Outcome::GivesUp),
+    (&["--give-up=-a", "--folder=-d"], Outcome::GivesUp),
+    (&["--help"], Outcome::Shows),
+    (&[], Outcome::Refuses),
+    (&["-d"], Outcome::Refuses),
+    (&["--folder"], Outcome::Refuses),
+    (&["--folder=", "--check"], Outcome::Refuses),
+    (&["--folder=-d", "--check", "--check"], Outcome::Refuses),
+    (&["--folder=-d", "--give-up=A"], Outcome::Refuses),
+    (&["--folder=-d", "--give-up="], Outcome::Refuses),
+    (
+        &["--folder=-d", "--check", "--give-up=-a"],
+        Outcome::Refuses,
+    ),
+    (&["--folder=-d", "--json", "--give-up=-a"], Outcome::Refuses),
 ];
 
 #[test]
-fn takes_of_a_folder_are_listed(rt: HostRuntime) -> Result<(), AllocError> {
-    lines_come_to(&rt, rt.alloc(), &[], &TAKES)
+fn takes_of_a_folder_are_listed_or_given_up(rt: HostRuntime) -> Result<(), AllocError> {
+    lines_come_to(&rt, rt.alloc(), &["bwingest", "takes"], &TAKES)
 }
 
 static VALUES: [(&str, Outcome); 28] = [
@@ -379,7 +427,7 @@ static SENDERS: [Line; 10] = [
 
 const PLAINLY: Said = Said::Nothing { is_strict: false };
 
-static FILE_SENDERS: [Line; 21] = [
+static FILE_SENDERS: [Line; 30] = [
     (&["--file=-f"], Outcome::SendsFile(30, 10, PLAINLY)),
     (
         &["--strict", "--file=-f"],
@@ -414,6 +462,30 @@ static FILE_SENDERS: [Line; 21] = [
         Outcome::SendsFile(1, 1_000_000, PLAINLY),
     ),
     (&["--log", "--file=-f"], Outcome::SendsFile(30, 10, PLAINLY)),
+    (
+        &["--state=-s", "--file=-f"],
+        Outcome::SendsWithState(30, 10, PLAINLY),
+    ),
+    (
+        &["--file=-f", "--state=-s", "--log", "--fruitless=7"],
+        Outcome::SendsWithState(30, 7, PLAINLY),
+    ),
+    (&["--state=-s"], Outcome::Refuses),
+    (
+        &["--rate", "4294967295", "--file=-f"],
+        Outcome::SendsAtMost(4_294_967_295),
+    ),
+    (
+        &["--file=-f", "--state=-s", "--rate=1"],
+        Outcome::SendsAtMost(1),
+    ),
+    (&["--file=-f", "--rate=0"], Outcome::Refuses),
+    (&["--file=-f", "--rate=4294967296"], Outcome::Refuses),
+    (&["--rate=1"], Outcome::Refuses),
+    (
+        &["--file=-f", "--state=-s", "--pcm=48000,2,24"],
+        Outcome::Refuses,
+    ),
     (&["--file=-f", "--fruitless", "0"], Outcome::Refuses),
     (&["--file=-f", "--fruitless", "1000001"], Outcome::Refuses),
     (&["--file=-f", "--fruitless", "-1"], Outcome::Refuses),
@@ -430,7 +502,7 @@ static FILE_SENDERS: [Line; 21] = [
     (&["--fruitless", "10"], Outcome::Refuses),
 ];
 
-static PCM_SENDERS: [Line; 19] = [
+static PCM_SENDERS: [Line; 20] = [
     (
         &["--pcm=48000,2,24", "--file=-f"],
         Outcome::SendsPcm(0, None, Some(10)),
@@ -456,6 +528,10 @@ static PCM_SENDERS: [Line; 19] = [
             "--until=-e",
         ],
         Outcome::Follows(0, None, Some(3)),
+    ),
+    (
+        &["--file=-f", "--rate=1000", "--pcm=48000,2,24"],
+        Outcome::SendsAtMost(1_000),
     ),
     (&["--file=-f", "--pcm", "48000,2"], Outcome::Refuses),
     (&["--file=-f", "--pcm", "48000,2,24,"], Outcome::Refuses),
@@ -554,6 +630,20 @@ fn a_repair_takes_a_file_and_a_flag(rt: HostRuntime) -> Result<(), AllocError> {
     lines_come_to(&rt, rt.alloc(), &["bwingest", "repair"], &REPAIR_LINES)
 }
 
+static PICTURES: [Line; 6] = [
+    (&["--", "-f"], Outcome::Draws),
+    (&["--help"], Outcome::Shows),
+    (&[], Outcome::Refuses),
+    (&["-f"], Outcome::Refuses),
+    (&["--", "-f", "-f"], Outcome::Refuses),
+    (&["--json", "--", "-f"], Outcome::Refuses),
+];
+
+#[test]
+fn a_picture_takes_a_file(rt: HostRuntime) -> Result<(), AllocError> {
+    lines_come_to(&rt, rt.alloc(), &["bwingest", "picture"], &PICTURES)
+}
+
 /// Addresses, with the outcome without `--network` and with it.
 static ADDRESSES: [(&str, Outcome, Outcome); 20] = [
     ("127.0.0.1:4100", PLAIN, PLAIN),
@@ -620,7 +710,7 @@ fn an_address_is_local_without_leave_for_the_network(rt: HostRuntime) -> Result<
     Ok(())
 }
 
-static TEXTS: [(&[&str], &str); 13] = [
+static TEXTS: [(&[&str], &str); 17] = [
     (&["/tmp/x", "--version"], "bwingest 1.0.0\n"),
     (&["/tmp/x", "--help"], "Usage: bwingest <COMMAND>\n"),
     (&["/tmp/x"], "Usage: bwingest <COMMAND>\n"),
@@ -657,6 +747,22 @@ static TEXTS: [(&[&str], &str); 13] = [
         "Example: bwingest pack take.wav --set description='River at dawn' > take.hex\n",
     ),
     (&["/tmp/x", "pack"], "Usage: bwingest pack "),
+    (
+        &["/tmp/x", "picture", "--help"],
+        "Example: bwingest picture take.wav > take.svg\n",
+    ),
+    (
+        &["/tmp/x", "inspect", "--help"],
+        "RIFF WAVE, BW64 or RF64 files, or - for standard input\n",
+    ),
+    (
+        &["/tmp/x", "inspect", "--jsn", "a.wav"],
+        "tip: a similar argument exists: '--json'\n",
+    ),
+    (
+        &["/tmp/x", "inspct"],
+        "tip: a similar subcommand exists: 'inspect'\n",
+    ),
     (
         &["/tmp/x", "send", "--help"],
         "Example: bwingest send --connect 127.0.0.1:4100 --name a1 < requests.hex\n",

@@ -1,7 +1,7 @@
 //! The outcomes of command lines, in small values, and how tests compare them.
 use bw_args::{
-    CommandLine, End, FileSender, Journaling, PcmSender, Recorders, Send, Serve, SourceFile, Task,
-    parse,
+    CommandLine, End, FileSender, FolderWork, Journaling, PcmSender, Recorders, Send, Serve,
+    SourceFile, Task, parse,
 };
 use bw_request::Name;
 use clap::Error;
@@ -19,8 +19,8 @@ pub(crate) enum Outcome {
     Rehearses(u64),
     /// Inspects the file that the last word names.
     Inspects,
-    /// Inspects so many files, in JSON or not.
-    InspectsFiles(usize, bool),
+    /// Inspects so many files: whether in JSON, for people, and with digests.
+    InspectsFiles(usize, [bool; 3]),
     /// Serves at the address and in the folder that the rows' first words give: until this end, with
     /// this limit, recorders in this way.
     Serves(End, u64, Recorders),
@@ -38,6 +38,10 @@ pub(crate) enum Outcome {
     /// Sends the recording `-f` to the address and under the name that the rows' first words give,
     /// with this timeout, until so many links settle nothing.
     SendsFile(u32, u32, Said),
+    /// The same with the state `-s`.
+    SendsWithState(u32, u32, Said),
+    /// Sends so many bytes a second of a recording or of samples.
+    SendsAtMost(u32),
     /// Sends the samples of two channels and 24 bits at 48 kHz in the file `-f`, after so many bytes,
     /// in blocks of so many frames, to the address and under the name that the rows' first words
     /// give, until so many links settle nothing.
@@ -46,10 +50,14 @@ pub(crate) enum Outcome {
     Follows(u32, Option<u32>, Option<u32>),
     /// Packs the recording `-f`.
     Packs(Said),
+    /// Draws the file `-f`.
+    Draws,
     /// Repairs the file `-f`, and writes it or doesn't.
     Repairs { is_written: bool },
-    /// Reports the takes of the folder `-d`.
-    Lists,
+    /// Reports the takes of the folder `-d`: whether their samples are compared, and in JSON.
+    Lists([bool; 2]),
+    /// Gives up the take `-a` of the folder `-d`.
+    GivesUp,
     /// Text on standard output, status 0.
     Shows,
     /// Text on standard error, status 2.
@@ -97,7 +105,9 @@ fn run_outcome(task: &Task, words: &[&str]) -> Outcome {
         Task::Rehearse { .. } => Outcome::Confuses,
         Task::Inspect { file } if words.last() == Some(&file.as_str()) => Outcome::Inspects,
         Task::Inspect { .. } => Outcome::Confuses,
-        Task::InspectFiles(asked) => Outcome::InspectsFiles(asked.files.len(), asked.json),
+        Task::InspectFiles(asked) => {
+            Outcome::InspectsFiles(asked.files.len(), [asked.json, asked.human, asked.digest])
+        }
         Task::Serve(server) => server_outcome(server),
         Task::Send(sender) => sender_outcome(sender),
         Task::SendFile(sender) => file_sender_outcome(sender),
@@ -106,12 +116,22 @@ fn run_outcome(task: &Task, words: &[&str]) -> Outcome {
             Some(said) => Outcome::Packs(said),
             None => Outcome::Confuses,
         },
+        Task::Picture { file } if file.as_str() == "-f" => Outcome::Draws,
+        Task::Picture { .. } => Outcome::Confuses,
         Task::Repair { file, write } if file.as_str() == "-f" => Outcome::Repairs {
             is_written: *write,
         },
         Task::Repair { .. } => Outcome::Confuses,
-        Task::Takes(asked) if asked.folder.as_str() == "-d" => Outcome::Lists,
+        Task::Takes(asked) if asked.folder.as_str() == "-d" => work_outcome(&asked.work),
         Task::Takes(_) => Outcome::Confuses,
+    }
+}
+
+fn work_outcome(work: &FolderWork) -> Outcome {
+    match work {
+        FolderWork::Report { check, json } => Outcome::Lists([*check, *json]),
+        FolderWork::GiveUp(name) if name.as_bytes() == b"-a".as_slice() => Outcome::GivesUp,
+        FolderWork::GiveUp(_) => Outcome::Confuses,
     }
 }
 
@@ -139,9 +159,18 @@ fn file_sender_outcome(sender: &FileSender) -> Outcome {
     if sender.connect.port() != 4100 || sender.name.as_bytes() != b"-a".as_slice() {
         return Outcome::SendsElsewhere;
     }
-    match said_of(&sender.source) {
-        Some(said) => Outcome::SendsFile(sender.timeout, sender.fruitless, said),
-        None => Outcome::Confuses,
+    let Some(said) = said_of(&sender.source) else {
+        return Outcome::Confuses;
+    };
+    if let Some(rate) = sender.rate {
+        return Outcome::SendsAtMost(rate);
+    }
+    match &sender.state {
+        None => Outcome::SendsFile(sender.timeout, sender.fruitless, said),
+        Some(state) if state.as_str() == "-s" => {
+            Outcome::SendsWithState(sender.timeout, sender.fruitless, said)
+        }
+        Some(_) => Outcome::Confuses,
     }
 }
 
@@ -153,6 +182,9 @@ fn pcm_sender_outcome(sender: &PcmSender) -> Outcome {
     let is_as_given = pcm.rate == 48_000 && pcm.channels == 2 && pcm.bits == 24;
     if !is_as_given || said_of(&sender.source).is_none() {
         return Outcome::Confuses;
+    }
+    if let Some(rate) = sender.rate {
+        return Outcome::SendsAtMost(rate);
     }
     match &pcm.until {
         Some(until) if until.as_str() == "-e" => {

@@ -4,8 +4,10 @@ use Rattle.bw_args.specs.ReadWords.{as_read}
 use Rattle.bw_args.proofs.Asked.{line_limit}
 use Rattle.bw_args.proofs.FileLemmas.{refuses_files, runs_file_sender, runs_pack}
 use Rattle.bw_args.proofs.FolderLemmas.{runs_takes}
+use Rattle.bw_args.proofs.PictureLemmas.{runs_picture}
 use Rattle.bw_args.proofs.RepairLemmas.{runs_repair}
-use Rattle.bw_args.proofs.FormLemmas.{runs_inspect, runs_replay, reports_help}
+use Rattle.bw_args.proofs.FormLemmas.{runs_replay, reports_help}
+use Rattle.bw_args.proofs.InspectLemmas.{runs_inspect}
 use Rattle.bw_args.proofs.LineLemmas.{line_asked, line_of_read, reported_line, reported_result}
 use Rattle.bw_args.proofs.RehearsalLemmas.{runs_rehearsal}
 use Rattle.bw_args.proofs.ValueLemmas.{refuses_values}
@@ -92,6 +94,12 @@ returns-in-Ok-clause-pack c = IfOk-weaker c.line.result _ _ (runs_pack _) (retur
 
 pub returns-clause-pack : goal.returns-clause-pack
 returns-clause-pack c = IfOk-weaker c.reported.result _ _ (runs_pack _) (returns-clause-line c)
+
+pub returns-in-Ok-clause-picture : goal.returns-in-Ok-clause-picture
+returns-in-Ok-clause-picture c = IfOk-weaker c.line.result _ _ (runs_picture _) (returns-in-Ok-clause-line c)
+
+pub returns-clause-picture : goal.returns-clause-picture
+returns-clause-picture c = IfOk-weaker c.reported.result _ _ (runs_picture _) (returns-clause-line c)
 
 pub returns-in-Ok-clause-repair : goal.returns-in-Ok-clause-repair
 returns-in-Ok-clause-repair c = IfOk-weaker c.line.result _ _ (runs_repair _) (returns-in-Ok-clause-line c)

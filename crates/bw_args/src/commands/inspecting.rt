@@ -1,14 +1,15 @@
 //! The command `inspect`.
-ghost use Rattle.std.specs.Prelude.{◌≡◌, ◌∷◌, [], false, map, codes, Some, IfOk, IfNone, IfSome};
+ghost use Rattle.std.specs.Prelude.{◌≡◌, ◌||◌, ◌∷◌, [], false, map, codes, Some, IfOk, IfNone, IfSome};
 ghost use Rattle.std.specs.Prelude.{OnErr};
+ghost use Rattle.std.specs.List.{list_any};
 ghost use Rattle.clap.specs.Words.{found_of, rows_of};
-ghost use Rattle.bw_args.specs.Commands.{IsCommand, inspect_command};
-ghost use Rattle.bw_args.specs.Inspecting.{is_alone};
+ghost use Rattle.bw_args.specs.Commands.{IsCommand, inspect_command, inspect_texts};
+ghost use Rattle.bw_args.specs.Inspecting.{is_alone, is_input, is_possible};
 ghost use Rattle.bw_args.specs.Lines.{AsksForPath, IsLineFor};
 
 use super::named;
 use super::network::flag_given;
-use super::options::{files_argument, json_flag};
+use super::options::{digest_flag, files_argument, human_flag, json_flag};
 use super::sources::copies_of;
 use crate::{BadValue, CommandLine, Inspection, Task};
 use clap::{ArgMatches, Command};
@@ -17,12 +18,21 @@ use std::alloc::{AllocError, Global};
 pub(crate) fn inspect<'a>(alloc: Global) -> Result<Command<'a>, AllocError>
     ensures { IfOk result (IsCommand inspect_command) }
 {
+    inspect_texts(alloc)?
+        .arg(human_flag(alloc))?
+        .arg(digest_flag(alloc))
+}
+
+/// The command with its texts, the files and `--json`.
+fn inspect_texts<'a>(alloc: Global) -> Result<Command<'a>, AllocError>
+    ensures { IfOk result (IsCommand inspect_texts) }
+{
     named(
         alloc,
         "inspect",
         "Tells what is in files, or their first faults and where these are",
     )
-    .after_help("Example: bwingest inspect --json takes/*.wav")
+    .after_help("Examples: bwingest inspect --human take.wav; bwingest inspect --json takes/*.wav")
     .arg(files_argument(alloc))?
     .arg(json_flag(alloc))
 }
@@ -38,28 +48,71 @@ pub(crate) fn inspect_line(
 {
     // `clap` refuses words without a file.
     let Some(paths) = options.get_raw("file") else {
-        return Ok(CommandLine::BadValue(BadValue::Limit));
+        return Ok(CommandLine::BadValue(BadValue::Inspection));
     };
     let json = flag_given(options, "json");
-    match only_path(paths, json) {
+    let human = flag_given(options, "human");
+    let digest = flag_given(options, "digest");
+    if !is_possible(paths, json, human, digest) {
+        return Ok(CommandLine::BadValue(BadValue::Inspection));
+    }
+    match only_path(paths, has_option(json, human, digest)) {
         Some(path) => {
             let file = String::from_str(alloc, path)?;
             Ok(CommandLine::Run(Task::Inspect { file }))
         }
         None => {
             let files = copies_of(alloc, paths)?;
-            Ok(CommandLine::Run(Task::InspectFiles(Inspection { files, json })))
+            let inspection = Inspection {
+                files,
+                json,
+                human,
+                digest,
+            };
+            Ok(CommandLine::Run(Task::InspectFiles(inspection)))
         }
     }
 }
 
-/// The path that is given, if it is the only one and no option is.
-fn only_path<'a>(paths: &[&'a str], json: bool) -> Option<&'a str>
-    ensures alone { IfSome result (λ path.
-        (map (λ p. p.now) paths.now ≡ path.now ∷ []) × (json ≡ false)) }
-    ensures others { IfNone result (is_alone (map (λ p. p.now) paths.now) json ≡ false) }
+/// Whether files can be inspected so: in JSON or for people, and standard input (`-`) alone and
+/// without a digest, since it can be read once.
+fn is_possible(paths: &[&str], json: bool, human: bool, digest: bool) -> bool
+    ensures { result ≡ is_possible (map (λ p. p.now) paths.now) json human digest }
 {
-    if json {
+    if json && human {
+        return false;
+    }
+    if paths.len() == 1 && !digest {
+        return true;
+    }
+    !names_input(paths)
+}
+
+/// Whether standard input is among these.
+fn names_input(paths: &[&str]) -> bool
+    ensures { result ≡ list_any is_input (map (λ p. p.now) paths.now) }
+{
+    for path in paths {
+        if *path == "-" {
+            return true;
+        }
+    }
+    false
+}
+
+fn has_option(json: bool, human: bool, digest: bool) -> bool
+    ensures { result ≡ (json || (human || digest)) }
+{
+    json || human || digest
+}
+
+/// The path that is given, if it is the only one and no option is.
+fn only_path<'a>(paths: &[&'a str], optioned: bool) -> Option<&'a str>
+    ensures alone { IfSome result (λ path.
+        (map (λ p. p.now) paths.now ≡ path.now ∷ []) × (optioned ≡ false)) }
+    ensures others { IfNone result (is_alone (map (λ p. p.now) paths.now) optioned ≡ false) }
+{
+    if optioned {
         return None;
     }
     match paths {

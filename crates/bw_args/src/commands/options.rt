@@ -7,7 +7,8 @@ ghost use Rattle.bw_args.specs.Commands.{file_option, fruitless_option, journal_
 ghost use Rattle.bw_args.specs.Commands.{rounds_option, set_option, strict_flag, sync_flag};
 ghost use Rattle.bw_args.specs.Commands.{timeout_option, until_stopped_flag, block_option, follow_flag};
 ghost use Rattle.bw_args.specs.Commands.{pcm_option, skip_option, until_option, files_argument, json_flag};
-ghost use Rattle.bw_args.specs.Commands.{write_flag};
+ghost use Rattle.bw_args.specs.Commands.{check_flag, digest_flag, give_up_option, human_flag, rate_option};
+ghost use Rattle.bw_args.specs.Commands.{state_option, write_flag};
 
 use clap::{Arg, ArgAction};
 use std::alloc::Global;
@@ -83,7 +84,9 @@ pub(crate) fn file_argument<'a>(alloc: Global) -> Arg<'a>
 pub(crate) fn files_argument<'a>(alloc: Global) -> Arg<'a>
     ensures { IsOption files_argument result }
 {
-    file_argument(alloc).action(ArgAction::Append)
+    file_argument(alloc)
+        .action(ArgAction::Append)
+        .help("RIFF WAVE, BW64 or RF64 files, or - for standard input")
 }
 
 pub(crate) fn json_flag<'a>(alloc: Global) -> Arg<'a>
@@ -91,6 +94,42 @@ pub(crate) fn json_flag<'a>(alloc: Global) -> Arg<'a>
 {
     let help = "Prints a line of JSON for each file";
     flag_option(alloc, "json", help)
+}
+
+pub(crate) fn human_flag<'a>(alloc: Global) -> Arg<'a>
+    ensures { IsOption human_flag result }
+{
+    let help = "Prints for people: times, sizes and levels with their units";
+    flag_option(alloc, "human", help)
+}
+
+pub(crate) fn digest_flag<'a>(alloc: Global) -> Arg<'a>
+    ensures { IsOption digest_flag result }
+{
+    let help = "Adds the SHA-256 of the samples alone; reads them";
+    flag_option(alloc, "digest", help)
+}
+
+/// `--json` for the takes of a folder.
+pub(crate) fn take_json_flag<'a>(alloc: Global) -> Arg<'a>
+    ensures { IsOption json_flag result }
+{
+    let help = "Prints a line of JSON for each take";
+    flag_option(alloc, "json", help)
+}
+
+pub(crate) fn check_flag<'a>(alloc: Global) -> Arg<'a>
+    ensures { IsOption check_flag result }
+{
+    let help = "Compares the samples of each file with the digests in its journal";
+    flag_option(alloc, "check", help)
+}
+
+pub(crate) fn give_up_option<'a>(alloc: Global) -> Arg<'a>
+    ensures { IsOption give_up_option result }
+{
+    let help = "Renames the journal and the file of this take, so that its name is free again";
+    value_option(alloc, "give-up", "NAME", help)
 }
 
 pub(crate) fn timeout_option<'a>(alloc: Global) -> Arg<'a>
@@ -229,6 +268,21 @@ pub(crate) fn strict_flag<'a>(alloc: Global) -> Arg<'a>
 {
     let help = "Refuses a recording whose fields would have to be cleaned";
     flag_option(alloc, "strict", help)
+}
+
+pub(crate) fn state_option<'a>(alloc: Global) -> Arg<'a>
+    ensures { IsOption state_option result }
+{
+    let help = "With --file: notes in STATE how far it is, and goes on there when it is run again";
+    value_option(alloc, "state", "STATE", help)
+}
+
+pub(crate) fn rate_option<'a>(alloc: Global) -> Arg<'a>
+    ensures { IsOption rate_option result }
+{
+    let help =
+        "With --file: sends at most so many bytes a second, 1 to 4294967295 [default: any number]";
+    value_option(alloc, "rate", "BYTES", help)
 }
 
 pub(crate) fn fruitless_option<'a>(alloc: Global) -> Arg<'a>

@@ -129,7 +129,9 @@ fn are_mixed(options: &ArgMatches<'_>) -> bool
     ensures { result ≡ are_samples_mixed (first_value (found_of options.now)) }
 {
     if options.get_str("pcm").is_some() {
-        return options.get_str("file").is_none() || is_unpaired(options);
+        return options.get_str("file").is_none()
+            || options.get_str("state").is_some()
+            || is_unpaired(options);
     }
     options.get_str("skip").is_some()
         || options.get_str("block").is_some()
@@ -180,6 +182,7 @@ pub(crate) fn samples_line(
         timeout: tries.timeout.unwrap_or(numbers::DEFAULT_TIMEOUT),
         fruitless: most_fruitless(samples, tries.fruitless),
         log,
+        rate: tries.rate,
     })))
 }
 

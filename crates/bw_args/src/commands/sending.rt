@@ -2,7 +2,7 @@
 ghost use Rattle.std.specs.Prelude.{◌≡◌, codes, false, Some, None, IfOk, IfErr, OnErr};
 ghost use Rattle.clap.specs.Words.{first_value, found_of, rows_of};
 ghost use Rattle.bw_args.specs.Commands.{IsCommand, send_command, send_followed, send_how};
-ghost use Rattle.bw_args.specs.Commands.{send_samples, send_source, send_where};
+ghost use Rattle.bw_args.specs.Commands.{send_report, send_samples, send_source, send_where};
 ghost use Rattle.bw_args.specs.Given.{GivesAddress, GivesName, is_set};
 ghost use Rattle.bw_args.specs.Lines.{AsksForPath, GivesTries, IsFirstBad, IsLineFor};
 ghost use Rattle.bw_args.specs.Lines.{looked_at_trying};
@@ -12,11 +12,11 @@ ghost use Rattle.bw_args.specs.Sources.{is_mixed};
 use super::network::{address_given, count_given, flag_given};
 use super::options::{
     block_option, connect_option, file_option, follow_flag, fruitless_option, link_log_flag,
-    name_option, network_flag, patience_option, pcm_option, rounds_option, set_option, skip_option,
-    strict_flag, until_option,
+    name_option, network_flag, patience_option, pcm_option, rate_option, rounds_option, set_option,
+    skip_option, state_option, strict_flag, until_option,
 };
 use super::samples::{samples_given, samples_line};
-use super::sources::{is_mixed, source_given};
+use super::sources::{is_mixed, source_given, state_given};
 use super::{name_given, named};
 use crate::{BadValue, CommandLine, FileSender, Send, Task, numbers};
 use bw_request::Name;
@@ -26,6 +26,15 @@ use std::net::SocketAddr;
 
 pub(crate) fn send<'a>(alloc: Global) -> Result<Command<'a>, AllocError>
     ensures { IfOk result (IsCommand send_command) }
+{
+    send_report(alloc)?
+        .arg(state_option(alloc))?
+        .arg(rate_option(alloc))
+}
+
+/// The command with these and the options that say when it gives up, and what it reports.
+fn send_report<'a>(alloc: Global) -> Result<Command<'a>, AllocError>
+    ensures { IfOk result (IsCommand send_report) }
 {
     send_followed(alloc)?
         .arg(fruitless_option(alloc))?
@@ -149,6 +158,7 @@ fn file_line(
 {
     let log = flag_given(options, "log");
     let source = source_given(alloc, options, path)?;
+    let state = state_given(alloc, options)?;
     Ok(CommandLine::Run(Task::SendFile(FileSender {
         connect,
         name,
@@ -156,6 +166,8 @@ fn file_line(
         timeout: tries.timeout.unwrap_or(numbers::DEFAULT_TIMEOUT),
         fruitless: tries.fruitless.unwrap_or(numbers::DEFAULT_FRUITLESS),
         log,
+        state,
+        rate: tries.rate,
     })))
 }
 
@@ -165,12 +177,13 @@ pub(crate) struct Tries {
     pub(crate) rounds: Option<u32>,
     pub(crate) timeout: Option<u32>,
     pub(crate) fruitless: Option<u32>,
+    pub(crate) rate: Option<u32>,
 }
 
 /// How the options say that a sender tries.
 ///
 /// # Errors
-/// The first of these that is bad: the rounds, the timeout, the fruitless links.
+/// The first of these that is bad: the rounds, the timeout, the fruitless links, the rate.
 fn tries_given(options: &ArgMatches<'_>) -> Result<Tries, BadValue>
     ensures ok { IfOk result (GivesTries (first_value (found_of options.now))) }
     ensures err { IfErr result (IsFirstBad looked_at_trying (first_value (found_of options.now))) }
@@ -184,9 +197,13 @@ fn tries_given(options: &ArgMatches<'_>) -> Result<Tries, BadValue>
     let Ok(fruitless) = count_given(options, "fruitless", numbers::MOST_FRUITLESS) else {
         return Err(BadValue::Fruitless);
     };
+    let Ok(rate) = count_given(options, "rate", numbers::MOST_RATE) else {
+        return Err(BadValue::Rate);
+    };
     Ok(Tries {
         rounds,
         timeout,
         fruitless,
+        rate,
     })
 }

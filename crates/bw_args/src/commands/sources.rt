@@ -1,5 +1,5 @@
 //! The file of a recording, as `send` and `pack` take it.
-ghost use Rattle.std.specs.Prelude.{◌≡◌, codes, map, string_bytes, IfOk};
+ghost use Rattle.std.specs.Prelude.{◌≡◌, codes, map, option_map, string_bytes, IfOk};
 ghost use Rattle.clap.specs.Words.{first_value, found_of, rows_of};
 ghost use Rattle.bw_args.specs.Given.{is_set};
 ghost use Rattle.bw_args.specs.Sources.{is_mixed, settings_on_line};
@@ -25,6 +25,20 @@ pub(crate) fn source_given(
         settings: settings_given(alloc, options)?,
         strict: flag_given(options, "strict"),
     })
+}
+
+/// The path of the file of a sender's state, if the options give one.
+pub(crate) fn state_given(
+    alloc: Global,
+    options: &ArgMatches<'_>,
+) -> Result<Option<String>, AllocError>
+    ensures { IfOk result (λ state.
+        option_map string_bytes state ≡ first_value (found_of options.now) (codes "state")) }
+{
+    match options.get_str("state") {
+        Some(path) => Ok(Some(String::from_str(alloc, path)?)),
+        None => Ok(None),
+    }
 }
 
 /// What the options set, in their order.
@@ -60,6 +74,8 @@ pub(crate) fn is_mixed(options: &ArgMatches<'_>) -> bool
     }
     options.get_str("set").is_some()
         || options.get_str("fruitless").is_some()
+        || options.get_str("state").is_some()
+        || options.get_str("rate").is_some()
         || flag_given(options, "strict")
         || flag_given(options, "log")
 }

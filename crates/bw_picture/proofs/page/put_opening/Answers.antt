@@ -1,7 +1,7 @@
 use Rattle.std.proofs.Common.{codes}
 use Rattle.std.specs.Prelude.{◌+◌}
 use Rattle.bw_picture.proofs.TextLemmas.{three_more}
-use Rattle.bw_picture.specs.Pages.{height_of, look, size_text}
+use Rattle.bw_picture.specs.Pages.{height_of, look, view_size}
 use Rattle.bw_picture.proofs.page.put_opening.Goals as goal
 
 pub returns : goal.returns
@@ -11,4 +11,4 @@ returns c = rw (
   c.in_ok-extend_from_slice.ensures.items,
   c.height_of.ensures.value,
 ) (three_more _ (codes "<svg xmlns='http://www.w3.org/2000/svg' viewBox='-40 -20 ")
-    (size_text (c.args.shape.now.columns + 80) (height_of c.args.shape.now + 44)) look)
+    (view_size (c.args.shape.now.columns + 80) (height_of c.args.shape.now + 44)) look)

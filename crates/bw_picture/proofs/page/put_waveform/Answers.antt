@@ -1,4 +1,4 @@
-use Rattle.std.proofs.Common.{codes, decimal}
+use Rattle.std.proofs.Common.{codes}
 use Rattle.bw_picture.proofs.TextLemmas.{three_more}
 use Rattle.bw_picture.proofs.page.put_waveform.Goals as goal
 

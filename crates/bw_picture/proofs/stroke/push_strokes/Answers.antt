@@ -15,6 +15,7 @@ loop-c-preserved c =
     ∙ ap (λ (z : List ℕ). z ++ c.as_bytes.result.now) c.loop-c.invariant
     ∙ append_assoc text (strokes c.args.width c.args.column (slice_index c.args.lows.now)
     (slice_index c.args.highs.now) i) c.as_bytes.result.now
-    ∙ ap (λ (z : List ℕ). text ++ (strokes c.args.width c.args.column (slice_index c.args.lows.now) (slice_index c.args.highs.now) i ++ z)) is
+    ∙ ap (λ (z : List ℕ). text ++ (strokes c.args.width c.args.column (slice_index c.args.lows.now)
+    (slice_index c.args.highs.now) i ++ z)) is
     ∙ ap (λ (n : ℕ). text ++ strokes c.args.width c.args.column (slice_index c.args.lows.now)
     (slice_index c.args.highs.now) n) (sym (add-one i))

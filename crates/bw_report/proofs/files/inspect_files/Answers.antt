@@ -1,5 +1,5 @@
-use Rattle.std.proofs.Common.{◌<◌, ◌∙◌, length, arith, inr}
-use Rattle.bw_report.proofs.LookLemmas.{next_cut, next_shown, paths_after, paths_to}
+use Rattle.std.proofs.Common.{◌<◌, ◌∙◌, length, arith, inr, refl}
+use Rattle.bw_report.proofs.LookLemmas.{next_cut, next_shown, none_shown, paths_after, paths_to}
 use Rattle.bw_report.proofs.files.inspect_files.Goals as goal
 
 pub returns-in-Err : goal.returns-in-Err
@@ -25,3 +25,6 @@ loop-path-preserved g c =
           (paths_to c.args.paths.now c.loop-path.path-index c.path-item.result inside c.path-item.is) c.exit.ensures
           c.worse-worst.ensures p.1 p.2;
     }
+
+pub loop-path-init : goal.loop-path-init
+loop-path-init g c = record { files = refl; shown = none_shown g.W.Sink g.E.Sink _ _ _ _ _ }

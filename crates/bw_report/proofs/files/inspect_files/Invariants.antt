@@ -6,6 +6,6 @@ abbrev pub invariant-loop-path : goal.invariant-loop-path
 invariant-loop-path g l = record {
   files : g.F.RecordingFiles.file_at l.files ≡ g.F.RecordingFiles.file_at l.fn.files;
   shown : IsShown g.W.Sink g.E.Sink (g.F.RecordingFiles.file_at l.fn.files)
-      (map string_bytes (take l.path-index l.paths)) l.style l.worst (g.F.RecordingFiles.failures l.fn.files)
+      (map string_bytes (take l.path-index l.paths)) l.wanted l.worst (g.F.RecordingFiles.failures l.fn.files)
       (g.F.RecordingFiles.failures l.files) l.fn.out l.out l.fn.faults l.faults;
 }

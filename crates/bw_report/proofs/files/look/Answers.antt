@@ -1,17 +1,16 @@
-use Rattle.std.proofs.Common.{ℕ, List, ◌⊎◌, inl, inr, true, false, refl}
-use Rattle.std.specs.declared.io.ErrorKind.{ErrorKind}
-use Rattle.bw_console.specs.Openings.{IsUnopened}
-use Rattle.bw_console.specs.Outcomes.{IsOutOfMemory, Outcome}
+use Rattle.std.proofs.Common.{true, false, refl, ap, sym, ◌∙◌}
 use Rattle.bw_console.specs.Printing.{Nothing}
-use Rattle.bw_report.specs.FileLooks.{IsReportedUnopened}
 use Rattle.bw_report.specs.declared.found.Found.TheVariants.{Read, Faulty, Unopened}
+use Rattle.bw_report.proofs.LookLemmas.{found_again, unopened}
 use Rattle.bw_report.proofs.files.look.Goals as goal
 
--- the kind of the error
-unopened : (path : List ℕ) (kind : ErrorKind) (did : Outcome) → IsUnopened path kind did ⊎ IsOutOfMemory did
-    → IsReportedUnopened path did
-unopened path kind did (inl is) = inl (kind, is)
-unopened path kind did (inr is) = inr is
+pub returns-then-digest-clause-found : goal.returns-then-digest-clause-found
+returns-then-digest-clause-found g c =
+    found_again g.E.Sink _ _ c.args.digest _ _ _ _ _ _ _ c.in-Ok.ensures.files c.in-Ok.ensures.count c.if-digest.true
+    (c.look_again.ensures.found (λ b e. (
+      _,
+      c.in-Ok-inspect.ensures.ok b (c.in-Ok.ensures.ok b (ap (λ f. f c.args.path.now) (sym c.in-Ok.ensures.files) ∙ e)),
+    )))
 
 pub returns-in-Ok-inspect-clause-found : goal.returns-in-Ok-inspect-clause-found
 returns-in-Ok-inspect-clause-found g c = record {
@@ -21,7 +20,7 @@ returns-in-Ok-inspect-clause-found g c = record {
   is = record {
     right = λ b e.
         let gives = c.in-Ok-inspect.ensures.ok b (c.in-Ok.ensures.ok b e) in
-        record { reading_is = gives.reading_is; is = gives.reports };
+        (record { reading_is = gives.reading_is; is = gives.reports }, rw c.if-digest.false refl);
     opening = (refl, refl);
   };
   failures = c.in-Ok.ensures.count;

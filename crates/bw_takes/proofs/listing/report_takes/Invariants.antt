@@ -10,7 +10,8 @@ abbrev pub invariant-loop-name : goal.invariant-loop-name
 invariant-loop-name g l = record {
   disk : StaysWhole g.D.Disk l.fn.disk l.disk;
   lines : IsTrue (g.D.Disk.honest l.fn.disk) →
-      l.report.lines.items ≡ flat_map (line_in l.fn.folder (g.D.Disk.contents l.fn.disk)) (lent l.yielded);
+      l.report.lines.items
+      ≡ flat_map (line_in l.fn.style l.fn.depth l.fn.folder (g.D.Disk.contents l.fn.disk)) (lent l.yielded);
   sound : IsTrue (g.D.Disk.honest l.fn.disk) →
-      l.report.sound ≡ list_all (is_sound_in l.fn.folder (g.D.Disk.contents l.fn.disk)) (lent l.yielded);
+      l.report.sound ≡ list_all (is_sound_in l.fn.depth l.fn.folder (g.D.Disk.contents l.fn.disk)) (lent l.yielded);
 }

@@ -1,7 +1,7 @@
-use Rattle.bw_args.proofs.BuilderLemmas.{command_after_help, one_option}
+use Rattle.bw_args.proofs.BuilderLemmas.{two_options}
 use Rattle.bw_args.proofs.commands.listing.takes.Goals as goal
 
 pub returns : goal.returns
-returns c = one_option c.after_help.result c.arg.result c.folder_option.result _ _
-    (command_after_help c.named.result c.after_help.result _ _ c.named.ensures c.after_help.ensures)
-    c.folder_option.ensures c.arg.ensures
+returns c = two_options c.in_ok-takes_where.field-0 c.in_ok-arg.field-0 c.arg-2.result c.take_json_flag.result
+    c.give_up_option.result _ _ _ c.in_ok-takes_where.ensures
+    c.take_json_flag.ensures c.in_ok-arg.ensures c.give_up_option.ensures c.arg-2.ensures

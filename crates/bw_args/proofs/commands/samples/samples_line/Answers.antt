@@ -27,4 +27,4 @@ returns-clause-ok c =
     c.requires.tries.ends
     (c.most_fruitless.ensures
     ∙ ap (λ (p : PlainPcm). fruitless_of p.until c.args.tries.fruitless) (sym same))
-    c.flag_given-log.ensures c.requires.unmixed
+    c.flag_given-log.ensures c.requires.tries.paced c.requires.unmixed

@@ -1,0 +1,60 @@
+-- A command of another name, which `clap` doesn't let through.
+use Rattle.std.proofs.Common.{◌≡◌, List, [], Bool, true, false, Option, Some, None, codes, refl, subst, sym, ◌∙◌, inr}
+use Rattle.std.specs.Prelude.{if◌then◌else◌}
+use Rattle.std.specs.Str.{bytes_eq}
+use Rattle.std.proofs.lemmas.Slice.Eq.{bytes_eq-Decides}
+use Rattle.clap.specs.Words.{Row, Text}
+use Rattle.bw_args.specs.Lines.{AsksNothing, IsLineFor, looked_at}
+use Rattle.bw_args.specs.Lines.{Replaying, Rehearsing, Inspecting, InspectingFiles, Serving, Sending, Uploading}
+use Rattle.bw_args.specs.Lines.{SendingPcm, Packing, Picturing, Repairing, Listing}
+use Rattle.bw_args.specs.declared.CommandLine.TheVariants.{BadValue as Bad}
+use Rattle.bw_args.specs.declared.bad_value.BadValue.{BadValue}
+use Rattle.bw_args.specs.declared.bad_value.BadValue.TheVariants.{Limit, Inspection}
+
+-- a name that isn't this one
+not_named : {P : Type 0} (name command : Text) → bytes_eq name command ≡ false → name ≡ command → P
+not_named name command apart is =
+    let same : bytes_eq name command ≡ true = (bytes_eq-Decides name command).1 is in
+    let bad : true ≡ false = sym same ∙ apart in cc
+
+-- nothing is looked at where no test holds
+none_of : (a b c d e : List BadValue) (p q r s t : Bool) → p ≡ false → q ≡ false → r ≡ false → s ≡ false → t ≡ false
+    → (if p then a else (if q then b else (if r then c else (if s then d else (if t then e else []))))) ≡ []
+none_of a b c d e p q r s t is_p is_q is_r is_s is_t = rw (is_p, is_q, is_r, is_s, is_t) refl
+
+a_limit : (p : Bool) → p ≡ false → Limit ≡ (if p then Inspection else Limit)
+a_limit p is = rw is refl
+
+-- without a command nothing is asked for
+pub no_command_line : (command : Option (Text × List Row)) → None ≡ command → IsLineFor command (Bad Limit)
+no_command_line command same = subst (λ c. IsLineFor c (Bad Limit)) same ((λ wish asked. asked), refl)
+
+-- nor with one of another name
+pub unknown_line : (command : Option (Text × List Row)) (name : Text) (options : List Row)
+    → Some (name, options) ≡ command → bytes_eq name (codes "replay") ≡ false
+    → bytes_eq name (codes "rehearse") ≡ false → bytes_eq name (codes "inspect") ≡ false
+    → bytes_eq name (codes "serve") ≡ false → bytes_eq name (codes "send") ≡ false
+    → bytes_eq name (codes "pack") ≡ false → bytes_eq name (codes "picture") ≡ false
+    → bytes_eq name (codes "repair") ≡ false → bytes_eq name (codes "takes") ≡ false
+    → IsLineFor command (Bad Limit)
+unknown_line command name options same replay rehearse inspect serve send pack picture repair takes =
+    subst (λ c. IsLineFor c (Bad Limit)) same (nothing, inr (unlooked, a_limit _ inspect))
+  where
+    unlooked : looked_at name ≡ []
+    unlooked = none_of _ _ _ _ _ (bytes_eq name (codes "replay")) (bytes_eq name (codes "rehearse"))
+        (bytes_eq name (codes "serve")) (bytes_eq name (codes "send")) (bytes_eq name (codes "takes"))
+        replay rehearse serve send takes
+
+    nothing : AsksNothing (Some (name, options))
+    nothing (Replaying limit fuse) asked = not_named name (codes "replay") replay asked.0
+    nothing (Rehearsing take limit) asked = not_named name (codes "rehearse") rehearse asked.0
+    nothing (Inspecting path) asked = not_named name (codes "inspect") inspect asked.0
+    nothing (InspectingFiles inspection) asked = not_named name (codes "inspect") inspect asked.0
+    nothing (Serving server) asked = not_named name (codes "serve") serve asked.0
+    nothing (Sending sender) asked = not_named name (codes "send") send asked.0
+    nothing (Uploading sender) asked = not_named name (codes "send") send asked.0
+    nothing (SendingPcm sender) asked = not_named name (codes "send") send asked.0
+    nothing (Packing source) asked = not_named name (codes "pack") pack asked.0
+    nothing (Picturing path) asked = not_named name (codes "picture") picture asked.0
+    nothing (Repairing path write) asked = not_named name (codes "repair") repair asked.0
+    nothing (Listing folder work) asked = not_named name (codes "takes") takes asked.0

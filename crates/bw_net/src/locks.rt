@@ -1,0 +1,23 @@
+//! The locks of folders of this machine.
+use crate::lock::FolderLock;
+use crate::recordings::HostRecordings;
+use bw_lock::{FolderLocks, LockRefusal};
+
+/// The lock that a server with journals takes.
+///
+/// No clause says when a call succeeds: that two processes don't have it is tested.
+impl FolderLocks for HostRecordings<'_> {
+    type Lock = FolderLock;
+
+    ghost lock_failures = { λ s. s.failures };
+
+    ghost locks = { λ s folder result s'. Unit {0} };
+
+    fn lock(&mut self, folder: &str) -> Result<FolderLock, LockRefusal> {
+        let taken = FolderLock::take(self.rt, self.rt.alloc(), folder);
+        if taken.is_err() {
+            self.failures = self.failures.saturating_add(1);
+        }
+        taken
+    }
+}

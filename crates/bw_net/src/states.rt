@@ -1,0 +1,126 @@
+//! Files of senders' states, by the calls of std.
+ghost use Rattle.std.specs.Prelude.{◌≡◌, None};
+
+use bw_resume::{StateFiles, StateLog};
+use std::fs::{File, OpenOptions};
+use std::io::{self, ErrorKind, Read, Write};
+use std::path::Path;
+
+/// The files of states on this machine. It reports no bytes, since no clause of std says what a
+/// file holds.
+#[derive(Drop)]
+pub struct HostStates<'a> {
+    rt: &'a HostRuntime,
+    failures: u64,
+}
+
+impl<'a> HostStates<'a> {
+    /// The files of this runtime's system, which has not failed yet.
+    ///
+    /// # Not specified
+    /// What the files hold: no clause of std says it.
+    pub fn new(rt: &'a HostRuntime) -> HostStates<'a>
+        ensures { result.failures ≡ 0 }
+    {
+        HostStates { rt, failures: 0 }
+    }
+}
+
+impl StateFiles for HostStates<'_> {
+    type Log = StateFile;
+
+    ghost state_at = { λ s path. None };
+
+    ghost failures = { λ s. s.failures };
+
+    fn read(&mut self, path: &str, most: usize) -> io::Result<Vec<u8>> {
+        let found = first_bytes(self.rt, path, most);
+        if found.is_err() {
+            self.failures = self.failures.saturating_add(1);
+        }
+        found
+    }
+
+    fn begin(&mut self, path: &str, bytes: &[u8]) -> io::Result<StateFile> {
+        let begun = begin(self.rt, path, bytes);
+        if begun.is_err() {
+            self.failures = self.failures.saturating_add(1);
+        }
+        begun
+    }
+
+    fn go_on(&mut self, path: &str) -> io::Result<StateFile> {
+        match OpenOptions::new().append(true).open(self.rt, path) {
+            Ok(file) => Ok(StateFile { file, failures: 0 }),
+            Err(error) => {
+                self.failures = self.failures.saturating_add(1);
+                Err(error)
+            }
+        }
+    }
+}
+
+/// The first bytes of the file at a path; none where there is no file.
+fn first_bytes(rt: &HostRuntime, path: &str, most: usize) -> io::Result<Vec<u8>> {
+    let mut bytes = Vec::new(rt.alloc());
+    let file = match File::open(rt, path) {
+        Ok(file) => file,
+        Err(error) if error.kind() == ErrorKind::NotFound => return Ok(bytes),
+        Err(error) => return Err(error),
+    };
+    file.take(most as u64).read_to_end(&mut bytes)?;
+    Ok(bytes)
+}
+
+/// A file with just these bytes, which are synced, and its folder too.
+fn begin(rt: &HostRuntime, path: &str, bytes: &[u8]) -> io::Result<StateFile> {
+    let mut file = OpenOptions::new()
+        .write(true)
+        .create(true)
+        .truncate(true)
+        .open(rt, path)?;
+    file.write_all(bytes)?;
+    file.sync_data()?;
+    // Some file systems can't sync a folder. Without it a loss of power may take the state away, and
+    // all is sent again.
+    let _ = sync_folder_of(rt, path);
+    Ok(StateFile { file, failures: 0 })
+}
+
+/// Syncs the folder of the file at a path, so that the file's name is in it after a loss of power.
+fn sync_folder_of(rt: &HostRuntime, path: &str) -> io::Result<()> {
+    let folder = match Path::new(path).parent() {
+        Some(folder) if !folder.as_os_str().is_empty() => folder,
+        _ => Path::new("."),
+    };
+    File::open(rt, folder)?.sync_all()
+}
+
+/// A state's file of this machine, which is written at its end.
+#[derive(Drop)]
+pub struct StateFile {
+    file: File,
+    failures: u64,
+}
+
+impl StateLog for StateFile {
+    ghost written = { λ f. None };
+
+    ghost failures = { λ f. f.failures };
+
+    fn append(&mut self, bytes: &[u8]) -> io::Result<()> {
+        let written = self.file.write_all(bytes);
+        if written.is_err() {
+            self.failures = self.failures.saturating_add(1);
+        }
+        written
+    }
+
+    fn sync(&mut self) -> io::Result<()> {
+        let synced = self.file.sync_data();
+        if synced.is_err() {
+            self.failures = self.failures.saturating_add(1);
+        }
+        synced
+    }
+}

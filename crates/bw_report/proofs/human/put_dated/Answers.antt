@@ -1,0 +1,12 @@
+use Rattle.std.proofs.Common.{append_assoc, refl}
+use Rattle.bw_report.proofs.human.put_dated.Goals as goal
+
+pub returns : goal.returns
+returns c =
+    rw (
+      ← c.fields.view_is,
+      c.in_ok-put_time_line.ensures,
+      c.milliseconds.ensures,
+      c.in_ok-put_text-2.ensures,
+      c.in_ok-put_text.ensures,
+    ) (simp append_assoc refl)

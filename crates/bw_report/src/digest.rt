@@ -1,0 +1,60 @@
+//! The digest of a file's samples.
+ghost use Rattle.std.specs.Prelude.{◌≡◌, ◌+◌, ◌^◌, ◌<◌, ◌≤◌, IsTrue, IfOk, IfErr};
+ghost use Rattle.bw_inspect.specs.Faults.{is_of_bytes, stopped};
+ghost use Rattle.bw_inspect.specs.Places.{AtPlace};
+ghost use Rattle.bw_stream.specs.Readers.{Of};
+ghost use Rattle.bw_report.specs.Digests.{EndsBefore, digest_at};
+
+use bw_inspect::{InspectFault, InspectKind, read_at, skip_at};
+use bw_stream::Source;
+use sha2::{Digest, Sha256};
+
+/// The SHA-256 of this many bytes from a place on, of a reader at its start.
+///
+/// # Errors
+/// Truncated, at the place, if the reader's bytes end before; Read.
+pub fn samples_digest<R: Source>(
+    reader: &mut R,
+    place: u64,
+    size: u64,
+) -> Result<[u8; 32], InspectFault>
+    requires { place + size < 2 ^ 64 }
+    ensures ok { IfOk result (λ d. Of (R.left reader.old) (λ b. d ≡ digest_at b place size)) }
+    ensures err { IfErr result (λ f. Of (R.left reader.old) (λ b. EndsBefore b place size f)) }
+{
+    let cut = InspectFault {
+        kind: InspectKind::Truncated,
+        offset: place,
+    };
+    skip_at(reader, 0, place, cut)?;
+    digest_from(reader, place, size, cut)
+}
+
+/// The SHA-256 of this many bytes of a reader that stands at their place.
+///
+/// # Errors
+/// `cut` if the reader's bytes end before; Read.
+fn digest_from<R: Source>(
+    reader: &mut R,
+    place: u64,
+    size: u64,
+    cut: InspectFault,
+) -> Result<[u8; 32], InspectFault>
+    requires room { place + size < 2 ^ 64 }
+    requires cut { IsTrue (is_of_bytes cut.kind) }
+    ensures ok { IfOk result (λ d. AtPlace (R.left reader.old) place (λ b.
+        d ≡ digest_at b place size)) }
+    ensures err { IfErr result (λ f. AtPlace (R.left reader.old) place (λ b.
+        EndsBefore b place size f)) }
+{
+    let mut hasher = Sha256::new();
+    let mut piece = [0; 65_536];
+    let mut done = 0;
+    while done < size {
+        let count = (size - done).min(65_536) as usize;
+        read_at(reader, place + done, &mut piece[..count], cut)?;
+        hasher.update(&piece[..count]);
+        done += count as u64;
+    }
+    Ok(hasher.finalize())
+}

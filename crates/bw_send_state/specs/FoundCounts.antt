@@ -1,0 +1,43 @@
+-- What is found at a state's path, and where a sender begins by it.
+use Rattle.std.specs.Prelude.{◌≡◌, ◌⊎◌, ℕ, zero, suc, Option, Some, List, [], ◌∷◌, nat_lt, take, unwrap_or}
+use Rattle.std.specs.Prelude.{if◌then◌else◌, Bool, ◌||◌, nat_eq, codes}
+use Rattle.std.specs.List.{starts_with}
+use Rattle.bw_stream.specs.Moves.{Keeps}
+use Rattle.bw_plan.specs.Cleaning.{are_zero}
+use Rattle.bw_resume.specs.Reading.{settled_in}
+use Rattle.bw_resume.specs.States.{state_bytes}
+
+-- so many bytes of a state are read at most
+abbrev pub most_bytes : ℕ
+most_bytes = 16777216
+
+-- these may be the first bytes of a state: they begin as one does, are cut before that, or are all
+-- zero, as a loss of power may leave them
+abbrev pub may_begin_state : List ℕ → Bool
+may_begin_state bytes = starts_with nat_eq bytes (codes "bwingest-state-1 ")
+    || starts_with nat_eq (codes "bwingest-state-1 ") bytes || are_zero bytes
+
+-- how many requests are settled by the first bytes of a state, if its header is this one; else none
+abbrev pub count_found : List ℕ → List ℕ → ℕ
+count_found header bytes = unwrap_or (settled_in header (take most_bytes bytes)) 0
+
+-- the file at the state's path says this for this header, if its bytes are reported
+abbrev pub IsCountFound : Option (List ℕ) → List ℕ → ℕ → Type 0
+IsCountFound file header found =
+    (bytes : List ℕ) → file ≡ Some bytes → found ≡ count_found header bytes
+
+-- A sender that found this count begins at that one: at 0 if none was found; else the server was
+-- asked, and at 0 if it expects less.
+abbrev pub ResumesAt : ℕ → (ℕ → Type 0) → ℕ → Type 0
+ResumesAt found answers count = ((found ≡ 0) × (count ≡ 0))
+    ⊎ ((next : ℕ) × answers next × (count ≡ (if nat_lt next found then 0 else found)))
+
+-- the counts of a state that begins at this one
+abbrev pub counts_begun : ℕ → List ℕ
+counts_begun zero = []
+counts_begun (suc n) = suc n ∷ []
+
+-- a state is gone on with, or begun with this count
+abbrev pub IsLogBegun : Option (List ℕ) → List ℕ → ℕ → Option (List ℕ) → Type 0
+IsLogBegun file header count log = Keeps file log
+    ⊎ ((bytes : List ℕ) → log ≡ Some bytes → bytes ≡ state_bytes header (counts_begun count))

@@ -1,0 +1,24 @@
+use Rattle.std.proofs.Common.{true, refl, sym}
+use Rattle.bw_console.specs.Printing.{Nothing, IsOf}
+use Rattle.bw_console.specs.declared.exit.Exit.TheVariants.{Device, Memory}
+use Rattle.bw_takes.specs.GiveUpShowings.{running_text}
+use Rattle.bw_takes.proofs.locked.report_locked.Goals as goal
+
+pub returns-in-Running : goal.returns-in-Running
+returns-in-Running g c =
+    let l = c.print_diagnostic.ensures in
+    let reported : IsOf running_text l.0 = rw c.as_bytes.ensures.value at l.1 in (
+      record { reads_all = true; out = Nothing; faults = l.0; exit = Device },
+      refl,
+      rw c.in-Running.is (record { prints = refl; reports = reported; exit_is = refl; reads = refl }),
+      l.2,
+    )
+
+pub returns-in-Memory : goal.returns-in-Memory
+returns-in-Memory g c =
+    let l = c.give_up.ensures.line in (
+      record { reads_all = true; out = Nothing; faults = l.0; exit = Memory },
+      sym c.give_up.ensures.exit,
+      rw c.in-Memory.is (record { exit_is = refl; reads = refl; prints = refl; reports = l.1 }),
+      l.2,
+    )

@@ -1,0 +1,123 @@
+//! What is found of a take, as far as it is to be looked at.
+ghost use Rattle.std.specs.Prelude.{◌≡◌, IsTrue, IfOk};
+ghost use Rattle.bw_disk.specs.DiskSteps.{StaysWhole};
+ghost use Rattle.bw_journal.specs.Rows.{row_count};
+ghost use Rattle.bw_start.specs.Paths.{wave_path, notes_path};
+ghost use Rattle.bw_takes.specs.TakeFindings.{IsTakeFound};
+ghost use Rattle.bw_takes.specs.TakeReports.{finding_summary, summary_in};
+ghost use Rattle.bw_takes.specs.TakeSummaries.{changed_beside, checked_summary, story_summary};
+
+use crate::finding::{TakeFinding, look_at_take};
+use bw_disk::{ReadFault, Volume, read_file};
+use bw_journal::Replayed;
+use bw_request::Name;
+use bw_start::path_in;
+use bw_take::TakeState;
+use bw_take_files::find_changed;
+use std::alloc::Global;
+
+/// How far takes are looked at.
+#[derive(Clone, Copy, Debug, PartialEq, Eq)]
+pub enum Depth {
+    /// Their journals, and of their files what a start reads: no sample.
+    Journals,
+    /// The samples too, which are compared with the digests in the journals.
+    Samples,
+}
+
+/// What is found of a take in a folder, by the limit that its journal begins with. Nothing is
+/// changed.
+///
+/// If the samples are compared, the journal is read again: a number that a server notes meanwhile has
+/// its samples in the file before.
+///
+/// # Errors
+/// `Disk` if a call of the disk failed; `Memory` if memory was refused, or the journal has more than
+/// 2^40 bytes or 2^32 numbers.
+///
+/// # Not specified
+/// - When memory is refused.
+/// - What is found while others write.
+pub fn examine_take<D: Volume>(
+    alloc: Global,
+    disk: &mut D,
+    folder: &str,
+    name: &Name,
+    depth: Depth,
+) -> Result<TakeFinding, ReadFault>
+    ensures disk { StaysWhole D.Disk disk.old disk.new }
+    ensures found { IsTrue (D.honest disk.old) → IfOk result (λ found. finding_summary found
+        ≡ summary_in depth folder.now (D.contents disk.old) name.now) }
+{
+    let found = look_at_take(alloc, disk, folder, name)?;
+    match depth {
+        Depth::Journals => Ok(found),
+        Depth::Samples => compare(alloc, disk, folder, name, found),
+    }
+}
+
+/// What is found of a take of which this was found without its samples.
+fn compare<D: Volume>(
+    alloc: Global,
+    disk: &mut D,
+    folder: &str,
+    name: &Name,
+    found: TakeFinding,
+) -> Result<TakeFinding, ReadFault>
+    ensures disk { StaysWhole D.Disk disk.old disk.new }
+    ensures found { IsTrue (D.honest disk.old) → IfOk result (λ after.
+        IsTakeFound name.now (D.contents disk.old (notes_path folder.now name.now))
+        (D.contents disk.old (wave_path folder.now name.now)) found →
+        finding_summary after ≡ summary_in Depth.Samples folder.now (D.contents disk.old) name.now) }
+{
+    match found {
+        TakeFinding::Begun(replayed) => compare_begun(alloc, disk, folder, name, replayed),
+        TakeFinding::Stood => Ok(TakeFinding::Stood),
+        TakeFinding::Unbegun => Ok(TakeFinding::Unbegun),
+        TakeFinding::Refused(fault) => Ok(TakeFinding::Refused(fault)),
+        TakeFinding::Changed(number) => Ok(TakeFinding::Changed(number)),
+    }
+}
+
+/// The same of a take whose journal says this.
+fn compare_begun<D: Volume>(
+    alloc: Global,
+    disk: &mut D,
+    folder: &str,
+    name: &Name,
+    replayed: Replayed,
+) -> Result<TakeFinding, ReadFault>
+    ensures disk { StaysWhole D.Disk disk.old disk.new }
+    ensures found { IsTrue (D.honest disk.old) → IfOk result (λ after. finding_summary after
+        ≡ checked_summary (changed_beside name.now replayed.state.parts
+        (D.contents disk.old (notes_path folder.now name.now))
+        (D.contents disk.old (wave_path folder.now name.now)))
+        (story_summary replayed.state.parts (row_count replayed.table.items))) }
+{
+    match look_at_samples(alloc, disk, folder, name, &replayed.state)? {
+        Some(number) => Ok(TakeFinding::Changed(number)),
+        None => Ok(TakeFinding::Begun(replayed)),
+    }
+}
+
+/// The first number of a take whose samples aren't in its file, by its journal.
+fn look_at_samples<D: Volume>(
+    alloc: Global,
+    disk: &mut D,
+    folder: &str,
+    name: &Name,
+    state: &TakeState,
+) -> Result<Option<u32>, ReadFault>
+    ensures disk { StaysWhole D.Disk disk.old disk.new }
+    ensures value { IsTrue (D.honest disk.old) → IfOk result (λ v. v
+        ≡ changed_beside name.now state.now.parts
+        (D.contents disk.old (notes_path folder.now name.now))
+        (D.contents disk.old (wave_path folder.now name.now))) }
+{
+    let wave = path_in(alloc, folder, name, ".wav")?;
+    let notes = path_in(alloc, folder, name, ".journal")?;
+    match read_file(disk, alloc, notes.as_str())? {
+        Some(journal) => find_changed(alloc, disk, wave.as_str(), name, &journal, state),
+        None => Ok(None),
+    }
+}
