@@ -3,8 +3,7 @@ ghost use Rattle.std.specs.Prelude.{◌≡◌, Bool};
 ghost use Rattle.bw_console.specs.Outcomes.{HasWritten, Outcome};
 ghost use Rattle.bw_console.specs.Printing.{failures_if};
 ghost use Rattle.bw_args.specs.Inspecting.{is_input};
-ghost use Rattle.bw_cli.specs.Inspected.{InspectsFiles, IsInspectedAt, is_input_alone};
-ghost use Rattle.bw_cli.specs.Inspected.{style_of, wanted_of};
+ghost use Rattle.bw_cli.specs.Inspected.{InspectsFiles, IsInspectedAt, is_input_alone, wanted_of};
 
 use bw_args::Inspection;
 use bw_commands::{inspect_file, inspect_run};

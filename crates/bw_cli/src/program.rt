@@ -235,7 +235,7 @@ fn run<
         Task::Repair { file, write } => {
             repair_file(alloc, files, file.as_str(), *write, out, faults)
         }
-        Task::Takes(listing) => work_on_takes(alloc, listing, disk, files, out, faults),
+        Task::Takes(listing) => work_on_takes(alloc, listing, disk, files, pause, out, faults),
     }
 }
 

@@ -78,8 +78,7 @@ fn send_kept<
         (upload_side ⟦<PlanFeed<F::File, F::Stamped> as Feed>⟧ (LooksAt F.Stamped.Stamped)
         ⟦<PcmFeed<F::Growing> as Feed>⟧ P.Pause)
         (sender_side N.Dial.Dial N.Dial.Reader.Source N.Dial.Writer.Sink) N.Network
-        F.RecordingFiles W.Sink E.Sink F.kept_at state.now sender.now files.old network.now
-        pause.new }
+        F.RecordingFiles F.kept_at state.now sender.now files.old network.now pause.new }
 {
     let Ok(address) = sender.connect.to_string(alloc) else {
         return give_up(faults, &Fault::Memory);

@@ -4,7 +4,7 @@ use Rattle.bw_cli.proofs.inspections.inspect_as.Goals as goal
 
 pub returns-then-is_input_alone : goal.returns-then-is_input_alone
 returns-then-is_input_alone g c =
-    let i = rw c.wanted_of-wanted.ensures at c.inspect_input.ensures in
+    let i = rw c.wanted_of.ensures at c.inspect_input.ensures in
     inspects_input g.F.RecordingFiles g.R.Source g.W.Sink g.E.Sink _ _ _ _ _ _ _ _ _ _ _
     (sym c.is_input_alone.ensures ∙ c.if-is_input_alone.true)
     (record { did = i.0; ends = i.1; is = i.2; reads = i.3; writes = i.4 }) refl
@@ -12,4 +12,4 @@ returns-then-is_input_alone g c =
 pub returns : goal.returns
 returns g c = inspects_files g.F.RecordingFiles g.R.Source g.W.Sink g.E.Sink _ _ _ _ _ _ _ _ _ _ _
     (sym c.is_input_alone.ensures ∙ c.if-is_input_alone.false)
-    (rw (c.wanted_of-wanted.ensures, c.as_slice.ensures.value) at c.inspect_files.ensures) refl
+    (rw (c.wanted_of.ensures, c.as_slice.ensures.value) at c.inspect_files.ensures) refl

@@ -4,8 +4,8 @@ pub returns-in-Some : goal.returns-in-Some
 returns-in-Some g c =
     let s = c.follow_samples.ensures in
     record {
-      first = c.dial_paced-dial.result;
-      calls = c.dial_paced-dial.ensures.received;
+      first = c.dial-dial.result;
+      calls = c.dial-dial.ensures.received;
       last = c.follow_samples.new.dial;
       recorder = c.recorder_of-recorder.result;
       recorder_is = c.recorder_of-recorder.ensures;
@@ -22,8 +22,8 @@ pub returns : goal.returns
 returns g c =
     let s = c.send_samples.ensures in
     record {
-      first = c.dial_paced-dial.result;
-      calls = c.dial_paced-dial.ensures.received;
+      first = c.dial-dial.result;
+      calls = c.dial-dial.ensures.received;
       last = c.send_samples.new.dial;
       recorder = c.recorder_of-recorder.result;
       recorder_is = c.recorder_of-recorder.ensures;
