@@ -1,0 +1,3 @@
+pub mod LeftFolders
+pub mod StoppedLives
+pub mod ExamplesOfLeft

@@ -1,0 +1,41 @@
+//! What a running server leaves in its folder is what the next start takes over: laws of the
+//! relations that both contracts state. No function runs.
+#![tactic(auto)]
+
+ghost use Rattle.bw_left.specs.ExamplesOfLeft.{CutNoteExample, WholeNoteExample};
+ghost use Rattle.bw_left.specs.LeftFolders.{CutAnswersAreNotLeft, CutBooksAreQuiet};
+ghost use Rattle.bw_left.specs.LeftFolders.{LaterBooksForgetNothing};
+ghost use Rattle.bw_left.specs.LeftFolders.{LeftNamesAreInFolders, OrderedServersAreLeft};
+ghost use Rattle.bw_left.specs.LeftFolders.{QuietServersAreLeft};
+ghost use Rattle.bw_left.specs.StoppedLives.{VerdictsOutliveStops};
+
+use bw_journal::Journal;
+use bw_store::TakeStore;
+
+/// Wherever a server is stopped, what its relations say of its store and its journal is what `start`
+/// of `bw_start` takes as its premise: between turns that met no failure of its very book; within a
+/// turn, or after a failure, of that book or of one in which numbers that waited are done, if each
+/// was written in order. Such a book has every done number, with its verdict; and no server leaves a
+/// journal in which an entry that was answered is cut.
+pub fn law_left<S: TakeStore, J: Journal>()
+    ensures quiet { QuietServersAreLeft S.TakeStore J.Journal }
+    ensures ordered { OrderedServersAreLeft S.TakeStore J.Journal }
+    ensures verdicts { LaterBooksForgetNothing }
+    ensures again { CutBooksAreQuiet }
+    ensures uncut { CutAnswersAreNotLeft }
+    ensures folder { LeftNamesAreInFolders }
+{}
+
+/// Servers follow one another over a folder, each stopped wherever it was, and each begins from what
+/// the one before left: every verdict that any of them ever gave is that of a number that is done in
+/// the last book.
+pub fn law_lives()
+    ensures { VerdictsOutliveStops }
+{}
+
+/// Worked rows: a server that is killed while it notes a BLOCK, in the middle of the entry and at its
+/// end.
+pub fn examples_of_left()
+    ensures cut { CutNoteExample }
+    ensures whole { WholeNoteExample }
+{}
