@@ -1,0 +1,10 @@
+pub mod Cleaned
+pub mod ReadValues
+pub mod Carried
+pub mod FileContents
+pub mod CopiedFiles
+pub mod FittingRequests
+pub mod SpelledSettings
+pub mod EqualCopies
+pub mod ExamplesOfCopies
+pub mod SentCopies

@@ -1,0 +1,11 @@
+use Rattle.bw_copies.proofs.ExamplesOfCopies as rows
+use Rattle.bw_copies.proofs.examples_of_copies.Goals as goal
+
+pub returns : goal.returns
+returns c = record {
+  same_file = rows.same_file;
+  extensible = rows.extensible;
+  cleaned = rows.cleaned;
+  not_given = rows.not_given;
+  pcm = rows.pcm;
+}

@@ -1,0 +1,3 @@
+pub mod Copies
+pub mod ExamplesOfCopies
+pub mod SentCopies
