@@ -3,8 +3,8 @@ use Rattle.std.proofs.Common.{◌≡◌, refl, ap, ℕ, List, [], Result, Ok, Er
 use Rattle.bw_model.specs.ExampleWords.{hex}
 use Rattle.bw_plan.proofs.Computing.{computing}
 use Rattle.bw_plan.specs.Recordings.{Recording, FaultAt, value_under}
-use Rattle.bw_copies.specs.ExamplesOfCopies.{SameFileExample, ExtensibleCopyExample, CleanedCopyExample, NotGivenExample}
-use Rattle.bw_copies.specs.ExamplesOfCopies.{PcmCopyExample}
+use Rattle.bw_copies.specs.ExamplesOfCopies.{SameFileExample, ExtensibleCopyExample, CleanedCopyExample}
+use Rattle.bw_copies.specs.ExamplesOfCopies.{NotGivenExample, PcmCopyExample}
 
 pub same_file : SameFileExample
 unfolding computing

@@ -1,6 +1,8 @@
 pub mod Cleaned
 pub mod ReadValues
+pub mod ReadFields
 pub mod Carried
+pub mod CarriedNumbers
 pub mod FileContents
 pub mod CopiedFiles
 pub mod FittingRequests

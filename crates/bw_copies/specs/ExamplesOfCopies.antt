@@ -1,5 +1,6 @@
 -- Worked rows: files, and the files of their recordings' takes.
-use Rattle.std.specs.Prelude.{◌≡◌, ℕ, false, Option, Some, None, Result, Ok, Err, List, [], ◌∷◌, codes}
+use Rattle.std.specs.Prelude.{◌≡◌, ℕ, false, Option, Some, None, Result, Ok, Err, List, [], ◌∷◌}
+use Rattle.std.specs.Prelude.{codes}
 use Rattle.bw_model.specs.Take.{Open, Block, SetField, Close}
 use Rattle.bw_model.specs.File.{file_of}
 use Rattle.bw_model.specs.Book.{made_by}
