@@ -10,3 +10,4 @@ pub mod SpelledSettings
 pub mod EqualCopies
 pub mod ExamplesOfCopies
 pub mod SentCopies
+pub mod SentSamples

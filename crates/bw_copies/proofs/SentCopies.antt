@@ -68,10 +68,10 @@ refused_ends e = cc
 device_ends : exits.Device ≡ exits.Done → ⊥
 device_ends e = cc
 
-memory_ends : exits.Memory ≡ exits.Done → ⊥
+pub memory_ends : exits.Memory ≡ exits.Done → ⊥
 memory_ends e = cc
 
-usage_ends : exits.Usage ≡ exits.Done → ⊥
+pub usage_ends : exits.Usage ≡ exits.Done → ⊥
 usage_ends e = cc
 
 unread_ends : (k : InspectKind) → exit_unread k ≡ exits.Done → ⊥
@@ -87,7 +87,7 @@ unopened_ends : (k : ErrorKind) → exit_unopened k ≡ exits.Done → ⊥
 unopened_ends errors.OutOfMemory e = memory_ends e
 unopened_ends _ e = device_ends e
 
-open_ends : (command path : List ℕ) (fault : OpenFault) (exit : Exit) (print : Print) →
+pub open_ends : (command path : List ℕ) (fault : OpenFault) (exit : Exit) (print : Print) →
     IsOpenReport command path fault exit print → exit ≡ exits.Done → ⊥
 open_ends command path (Unopened error) exit print (did, same, faults, inl x) done =
     unopened_ends (error_kind error) (sym x.exit_is ∙ same ∙ done)

@@ -5,7 +5,8 @@ ghost use Rattle.bw_copies.specs.Copies.{CleansOnce, CopiesAreEqual, PcmCopiesAr
 ghost use Rattle.bw_copies.specs.Copies.{PcmRecordingsAreCopied, RecordingsAreCopied, RequestsFit};
 ghost use Rattle.bw_copies.specs.ExamplesOfCopies.{CleanedCopyExample, ExtensibleCopyExample};
 ghost use Rattle.bw_copies.specs.ExamplesOfCopies.{NotGivenExample, PcmCopyExample};
-ghost use Rattle.bw_copies.specs.ExamplesOfCopies.{SameFileExample};
+ghost use Rattle.bw_copies.specs.ExamplesOfCopies.{ReadAgainExample, SameFileExample};
+ghost use Rattle.bw_copies.specs.SentSamples.{FinishedSamplesAreCopied, FollowedSamplesAreCopied};
 ghost use Rattle.bw_copies.specs.SentCopies.{FileUploadsAreCopied, PcmUploadsAreCopied};
 ghost use Rattle.bw_copies.specs.SentCopies.{SentFilesAreCopied};
 
@@ -47,11 +48,25 @@ pub fn law_copied_sent<F: Feed<Fault = FeedFault>, P: Pause, D: Dial, S: TakeSto
     bw_end_to_end::law_promise::<S, J>();
 }
 
+/// If `send --file --pcm` ended with status 0, its file has a recording of headerless samples, and
+/// the server has a file that reads as that one, as `law_copied_sent` says of an upload; with
+/// `--follow`, where what the file has at its end is a recording.
+pub fn law_copied_samples<F: Feed<Fault = FeedFault>, P: Pause, D: Dial, S: TakeStore, J: Journal>()
+    ensures finished { FinishedSamplesAreCopied F.Feed P.Pause D.Dial D.Reader.Source D.Writer.Sink
+        S.TakeStore J.Journal }
+    ensures followed { FollowedSamplesAreCopied F.Feed P.Pause D.Dial D.Reader.Source D.Writer.Sink
+        S.TakeStore J.Journal }
+{
+    bw_end_to_end::law_file_sent::<F, P, D>();
+    law_copied_sent::<F, P, D, S, J>();
+}
+
 /// Worked rows: files, and what a server has of them.
 pub fn examples_of_copies()
     ensures same_file { SameFileExample }
     ensures extensible { ExtensibleCopyExample }
     ensures cleaned { CleanedCopyExample }
+    ensures again { ReadAgainExample }
     ensures not_given { NotGivenExample }
     ensures pcm { PcmCopyExample }
 {}
