@@ -1,20 +1,23 @@
 -- Cleaning what is clean changes nothing.
 use mathlib.Core.Logic.{inl, inr}
-use Rattle.std.proofs.Common.{◌≡◌, ◌⊎◌, ℕ, zero, suc, ◌≤◌, Bool, true, false, cond, not, List, [], ◌∷◌, ◌++◌}
-use Rattle.std.proofs.Common.{length, map, take, refl, sym, ◌∙◌, ap, subst, arith, append-nil, append_assoc, length-take}
+use Rattle.std.proofs.Common.{◌≡◌, ◌⊎◌, ℕ, zero, suc, ◌≤◌, Bool, true, false, cond, not, List, [], ◌∷◌, ◌++◌, length}
+use Rattle.std.proofs.Common.{map, take, refl, sym, ◌∙◌, ap, subst, arith, append-nil, append_assoc, length-take}
 use Rattle.std.specs.Prelude.{◌&&◌, ◌||◌, ◌==◌, fold, nat_le, nat_lt}
 use Rattle.std.specs.List.{list_all, list_any}
 use Rattle.std.specs.Char.{is_ascii_digit}
 use Rattle.std.specs.Str.{bytes_eq}
-use Rattle.std.proofs.lemmas.Bool.{and_parts, and_from, or_cases, leb-true, eqb-true, ne_eqb, false≢true, not_from_false}
+use Rattle.std.proofs.lemmas.Bool.{and_parts, and_from, or_cases, leb-true, eqb-true, ne_eqb, false≢true}
+use Rattle.std.proofs.lemmas.Bool.{not_from_false}
 use Rattle.std.proofs.lemmas.List.{take_all, length-map}
 use Rattle.std.proofs.lemmas.List.Sums.{take_while-cons}
 use Rattle.bw_model.specs.Bytes.{zeros}
 use Rattle.bw_model.specs.Limits.{longest_history}
-use Rattle.bw_model.specs.Take.{Shape, Text, Digits, Whole, Maybe, Level, shapes, is_printable, is_history_byte, matches, not_given}
+use Rattle.bw_model.specs.Take.{Shape, Text, Digits, Whole, Maybe, Level, shapes, is_printable, is_history_byte}
+use Rattle.bw_model.specs.Take.{matches, not_given}
 use Rattle.bw_model.specs.ReadBack.{reported_cue}
-use Rattle.bw_plan.specs.Cleaning.{text_cleaned_of, printable_byte, history_byte, history_of, is_separator, is_like_at, is_like}
-use Rattle.bw_plan.specs.Cleaning.{placed, with_separators, are_zero, value_of, values_of, with_cue, markers_of}
+use Rattle.bw_plan.specs.Cleaning.{text_cleaned_of, printable_byte, history_byte, history_of, is_separator, is_like_at}
+use Rattle.bw_plan.specs.Cleaning.{is_like, placed, with_separators, are_zero, value_of, values_of, with_cue}
+use Rattle.bw_plan.specs.Cleaning.{markers_of}
 use Rattle.bw_plan.specs.PlanLaws.{are_markers}
 use Rattle.bw_plan.proofs.CleanParts.{history_clean, markers_clean}
 use Rattle.bw_copies.specs.Copies.{CleansOnce}

@@ -1,10 +1,12 @@
 -- The file of a recording's take reads as the recording.
 use Rattle.std.proofs.Common.{◌≡◌, ℕ, suc, ◌+◌, ◌*◌, ◌<◌, ◌≤◌, Bool, true, false, cond, not, List, [], ◌∷◌, ◌++◌}
-use Rattle.std.proofs.Common.{length, map, min, max, Some, None, Ok, refl, sym, ◌∙◌, ap, subst, arith, length-append, ◌⊎◌, inl, inr}
+use Rattle.std.proofs.Common.{length, map, min, max, Some, None, Ok, refl, sym, ◌∙◌, ap, subst, arith, length-append}
+use Rattle.std.proofs.Common.{◌⊎◌, inl, inr}
 use Rattle.std.specs.Prelude.{◌&&◌, ◌||◌, ◌==◌, ◌/◌, ◌%◌, nat_le, nat_lt, codes, unwrap_or, option_map}
 use Rattle.std.specs.List.{list_all, list_any}
 use Rattle.std.proofs.Math.Bool.{and-false}
-use Rattle.std.proofs.lemmas.Bool.{and_parts, and_from, le-leb, leb-true, leb-false, ltb-true, le-ltb, eq-eqb, not_from_true, or_cases, eqb-true}
+use Rattle.std.proofs.lemmas.Bool.{and_parts, and_from, le-leb, leb-true, leb-false, ltb-true, le-ltb, eq-eqb}
+use Rattle.std.proofs.lemmas.Bool.{not_from_true, or_cases, eqb-true}
 use Rattle.std.proofs.lemmas.Grind.{div_ceil_times}
 use Rattle.std.proofs.lemmas.List.{length-map}
 use Rattle.std.proofs.lemmas.List.Sums.{sum_by-cons}
@@ -22,15 +24,17 @@ use Rattle.bw_model.proofs.HeaderLaws.{form_len-form_size}
 use Rattle.bw_plan.specs.Cleaning.{text_cleaned_of, values_of, markers_of}
 use Rattle.bw_plan.specs.PlanLaws.{take_made_of, fields_of, are_markers}
 use Rattle.bw_plan.specs.Recordings.{Options, Outline, Recording, FileNotes, recording_of, outline, outline_of}
-use Rattle.bw_plan.specs.Recordings.{format_faults, faults_of_content, bext_fields, given_count, piece_count, request_count, block_frames}
-use Rattle.bw_plan.specs.Recordings.{head_place, samples_of, notes_of, is_bext_kept}
+use Rattle.bw_plan.specs.Recordings.{format_faults, faults_of_content, bext_fields, given_count, piece_count}
+use Rattle.bw_plan.specs.Recordings.{request_count, block_frames, head_place, samples_of, notes_of, is_bext_kept}
 use Rattle.bw_plan.proofs.FaultLists.{outlined, fits_block}
 use Rattle.bw_plan.proofs.Openings.{reads_as, recorded_as}
 use Rattle.bw_plan.proofs.PlanLaws.{align_is_some, pieces_hold, plans_make_takes}
 use Rattle.bw_copies.specs.Copies.{is_not_given, given_value, given_values, copy_of, read_again, IsCopied}
 use Rattle.bw_copies.proofs.Cleaned.{history_text, history-same, markers-same}
-use Rattle.bw_copies.proofs.ReadValues.{values-read, texts_are_kept, fields-widths}
-use Rattle.bw_copies.proofs.Carried.{IsCarried, HasNumbers}
+use Rattle.bw_copies.proofs.ReadValues.{fields-widths}
+use Rattle.bw_copies.proofs.ReadFields.{values-read, texts_are_kept}
+use Rattle.bw_copies.proofs.Carried.{IsCarried}
+use Rattle.bw_copies.proofs.CarriedNumbers.{HasNumbers}
 use Rattle.bw_copies.proofs.FileContents.{samples_stand, notes_with, file_notes}
 
 -- How many requests a recording has.
@@ -96,8 +100,10 @@ copy_few o r strict some few =
     let one : 1 ≤ old = omega arith in
     let bytes : old * align ≤ new * align = mul-le old align new align frames (omega arith) in
     let size : 1 ≤ old * align = mul-le 1 1 old align one some in
-    let pieces : piece_count (new * align) len ≤ piece_count (old * align) len = fewer_pieces (old * align) (new * align) len size bytes in
-    let given : given_count (given_values shapes r.outline.values) ≤ given_count r.outline.values = fewer_given shapes r.outline.values in
+    let pieces : piece_count (new * align) len ≤ piece_count (old * align) len =
+    fewer_pieces (old * align) (new * align) len size bytes in
+    let given : given_count (given_values shapes r.outline.values) ≤ given_count r.outline.values =
+    fewer_given shapes r.outline.values in
     omega (arith, few, pieces, given)
 
 -- The take is within the limits.
@@ -122,13 +128,15 @@ few_samples o r some low few =
     let fits : frames * align ≤ 32768 = fits_block (unwrap_or o.frames most) align some low in
     let one : 1 ≤ frames = omega arith in
     let size : 1 ≤ frames * align = mul-le 1 1 frames align one some in
-    let hold : r.samples_len ≤ piece_count (frames * align) r.samples_len * (frames * align) = pieces_hold (frames * align) r.samples_len size in
+    let hold : r.samples_len ≤ piece_count (frames * align) r.samples_len * (frames * align) =
+    pieces_hold (frames * align) r.samples_len size in
     let pieces : piece_count (frames * align) r.samples_len ≤ 16777216 = omega (arith, few) in
     let all : piece_count (frames * align) r.samples_len * (frames * align) ≤ 16777216 * 32768 =
     mul-le (piece_count (frames * align) r.samples_len) (frames * align) 16777216 32768 pieces fits in
     omega (arith, hold, all)
 
-within_limits : (o : Options) (r : Recording) → IsCarried o r → HasNumbers r.outline → block_align r.outline.format ≤ 32768 →
+within_limits : (o : Options) (r : Recording) → IsCarried o r → HasNumbers r.outline →
+    block_align r.outline.format ≤ 32768 →
     IsWithinLimits r.outline.format (take_made_of r)
 within_limits o r c n low =
     let f : Format = r.outline.format in
@@ -136,7 +144,8 @@ within_limits o r c n low =
     let clean = c.whole.clean in
     let fields = fields-widths shapes r.outline.values clean.values in
     let marks : length r.outline.markers ≤ 1024 =
-    let m = few_markers (length r.samples / block_align f) [] r.outline.markers clean.markers (omega arith) in omega (arith, m) in
+    let m = few_markers (length r.samples / block_align f) [] r.outline.markers clean.markers (omega arith) in
+    omega (arith, m) in
     let size = form_len-form_size f t fields in
     let history = c.room.history in
     let samples = few_samples o r.outline (align_is_some f clean.format) low c.few in
@@ -161,7 +170,8 @@ within_limits o r c n low =
 
 -- Nothing is refused.
 
-no_format_fault : (f : Format) (p : ℕ) → is_format f ≡ true → first_that_holds (format_faults (reported_fmt f) [] p) ≡ None
+no_format_fault : (f : Format) (p : ℕ) → is_format f ≡ true →
+    first_that_holds (format_faults (reported_fmt f) [] p) ≡ None
 no_format_fault f p h =
     let rate = is_within 1 768000 f.rate in
     let channels = is_within 1 64 f.channels in
@@ -175,7 +185,8 @@ no_format_fault f p h =
         (
           refl,
           (
-            not_from_true (f.channels * (f.bits / 8) == f.channels * (f.bits / 8)) (eq-eqb (f.channels * (f.bits / 8)) (f.channels * (f.bits / 8)) refl),
+            not_from_true (f.channels * (f.bits / 8) == f.channels * (f.bits / 8)) (eq-eqb (f.channels *
+                (f.bits / 8)) (f.channels * (f.bits / 8)) refl),
             (not_from_true rate first.0, (not_from_true channels first.1, tt)),
           ),
         ),
@@ -209,7 +220,11 @@ no_content_fault o r limit strict c =
         (
           ap (λ (v : Bool). strict && v) (le-ltb (length ms) (length (map reported_cue ms))
               (let l = length-map ms reported_cue in omega (arith, l))) ∙ and-false strict,
-          (le-ltb 16777216 (request_count (block_frames (read_again strict) r.outline.format) (copy_of r).outline) few, tt),
+          (
+            le-ltb 16777216 (request_count (block_frames (read_again strict) r.outline.format)
+                (copy_of r).outline) few,
+            tt,
+          ),
         ),
       ),
     )
@@ -228,7 +243,8 @@ outline_read o r limit c n =
     (markers_of (length r.samples / block_align f) (map reported_cue r.outline.markers)) (length r.samples)) history
     ∙ ap (λ (v : List (List ℕ)). made r.outline.history v
     (markers_of (length r.samples / block_align f) (map reported_cue r.outline.markers)) (length r.samples)) values
-    ∙ ap (λ (m : List (ℕ × ℕ)). made r.outline.history (given_values shapes r.outline.values) m (length r.samples)) markers
+    ∙ ap (λ (m : List (ℕ × ℕ)). made r.outline.history (given_values shapes r.outline.values) m
+    (length r.samples)) markers
     ∙ ap (made r.outline.history (given_values shapes r.outline.values) r.outline.markers) (sym c.whole.samples)
   where
     made : List ℕ → List (List ℕ) → List (ℕ × ℕ) → ℕ → Outline
@@ -256,7 +272,8 @@ file_read o r limit strict c n low below =
     outlined (read_again strict) (copy_notes r limit) (copy_of r).outline
     (no_format_fault f (head_place (codes "fmt ") (read_chunks f t limit)) c.whole.clean.format) (sym same)
     (no_content_fault o r limit strict c) in
-    let noted : outline_of (read_again strict) (notes_of b (read_form f t limit) (read_chunks f t limit)) ≡ Ok (copy_of r).outline =
+    let noted : outline_of (read_again strict) (notes_of b (read_form f t limit) (read_chunks f t limit)) ≡ Ok
+    (copy_of r).outline =
     ap (outline_of (read_again strict)) (file_notes f t limit within back) ∙ out in
     recorded_as b (read_again strict) (read_form f t limit) (read_chunks f t limit) (copy_of r).outline
     (reads_as b (read_form f t limit) (read_chunks f t limit) back.reading) noted

@@ -1,6 +1,6 @@
 -- Where nothing is set to mean that it isn't given, the copy of a recording is the recording.
-use Rattle.std.proofs.Common.{◌≡◌, ◌⊎◌, inl, inr, ℕ, zero, suc, ◌-◌, Bool, true, false, cond, not, List, [], ◌∷◌, length}
-use Rattle.std.proofs.Common.{refl, ap, subst, arith}
+use Rattle.std.proofs.Common.{◌≡◌, ◌⊎◌, inl, inr, ℕ, zero, suc, ◌-◌, Bool, true, false, cond, not, List, [], ◌∷◌}
+use Rattle.std.proofs.Common.{length, refl, ap, subst, arith}
 use Rattle.std.specs.Prelude.{◌||◌, ◌==◌, fold, slice_get, slice_set, option_map, unwrap_or}
 use Rattle.std.specs.List.{list_all}
 use Rattle.std.specs.Str.{bytes_eq}
@@ -8,8 +8,8 @@ use Rattle.std.proofs.lemmas.Bool.{and_parts, or_cases, eqb-true, not-true}
 use Rattle.bw_model.specs.Take.{Shape, Text, Digits, Whole, Maybe, Level, shapes, not_given}
 use Rattle.bw_plan.specs.Cleaning.{are_zero, value_of, values_of}
 use Rattle.bw_plan.specs.PcmRecordings.{pcm_format}
-use Rattle.bw_plan.specs.Recordings.{Setting, Field, History, Outline, Recording, FileNotes, notes_of}
-use Rattle.bw_plan.specs.Recordings.{outline, with_setting, raw_fields}
+use Rattle.bw_plan.specs.Recordings.{Setting, Field, History, Outline, Recording, FileNotes, notes_of, outline}
+use Rattle.bw_plan.specs.Recordings.{with_setting, raw_fields}
 use Rattle.bw_plan.proofs.PcmRecordings.{pcm_comes}
 use Rattle.bw_plan.proofs.WholeRecordings.{outlines}
 use Rattle.bw_copies.specs.Copies.{is_not_given, given_value, given_values, copy_of, is_given_or_left_out}
@@ -77,7 +77,8 @@ setting_given r (Field zero v) h k = k
 setting_given r (Field (suc n) v) h k = given_set shapes r.values n v h k
 setting_given r (History v) h k = k
 
-settings_given : (r : Outline) (ss : List Setting) → list_all is_given_or_left_out ss ≡ true → AllGiven shapes r.values →
+settings_given : (r : Outline) (ss : List Setting) → list_all is_given_or_left_out ss ≡ true →
+    AllGiven shapes r.values →
     AllGiven shapes (fold with_setting r ss).values
 settings_given r [] h k = k
 settings_given r (s ∷ ss) h k =

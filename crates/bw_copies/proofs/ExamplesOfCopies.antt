@@ -3,8 +3,8 @@ use Rattle.std.proofs.Common.{◌≡◌, refl, ap, ℕ, List, [], Result, Ok, Er
 use Rattle.bw_model.specs.ExampleWords.{hex}
 use Rattle.bw_plan.proofs.Computing.{computing}
 use Rattle.bw_plan.specs.Recordings.{Recording, FaultAt, value_under}
-use Rattle.bw_copies.specs.ExamplesOfCopies.{SameFileExample, ExtensibleCopyExample, CleanedCopyExample, NotGivenExample}
-use Rattle.bw_copies.specs.ExamplesOfCopies.{PcmCopyExample}
+use Rattle.bw_copies.specs.ExamplesOfCopies.{SameFileExample, ExtensibleCopyExample, CleanedCopyExample}
+use Rattle.bw_copies.specs.ExamplesOfCopies.{NotGivenExample, PcmCopyExample, ReadAgainExample}
 
 pub same_file : SameFileExample
 unfolding computing
@@ -17,6 +17,10 @@ extensible = refl
 pub cleaned : CleanedCopyExample
 unfolding computing
 cleaned = (refl, refl)
+
+pub read_again : ReadAgainExample
+unfolding computing
+read_again = refl
 
 -- the time of a recording
 abbrev time_in : Result Recording FaultAt → List ℕ

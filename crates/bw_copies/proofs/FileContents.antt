@@ -1,6 +1,6 @@
 -- What a take's file has of a recording: the notes of its reading, and its samples.
-use Rattle.std.proofs.Common.{◌≡◌, ℕ, ◌+◌, ◌-◌, ◌≤◌, Bool, true, false, cond, List, [], ◌∷◌, ◌++◌, length, take}
-use Rattle.std.proofs.Common.{Option, Some, refl, sym, ◌∙◌, ap, arith, append_assoc, length-append}
+use Rattle.std.proofs.Common.{◌≡◌, ℕ, ◌+◌, ◌-◌, ◌≤◌, Bool, true, false, cond, List, [], ◌∷◌, ◌++◌, length, take, Option}
+use Rattle.std.proofs.Common.{Some, refl, sym, ◌∙◌, ap, arith, append_assoc, length-append}
 use Rattle.std.specs.Prelude.{codes, flat_map, nat_le, slice_range, min}
 use Rattle.std.proofs.lemmas.List.{take_all, drop_at}
 use Rattle.bw_model.specs.Bytes.{even_up, unsaid}
@@ -9,7 +9,8 @@ use Rattle.bw_model.specs.Layout.{head, chunk, pad, bext_fixed}
 use Rattle.bw_model.specs.File.{file_with, header, form_size, fmt_chunk, bext_chunk, junk_chunk, ds64_chunk}
 use Rattle.bw_model.specs.File.{chunks_after, cues, data_place}
 use Rattle.bw_model.specs.Reading.{Entry, entry_of}
-use Rattle.bw_model.specs.ReadBack.{IsWithinLimits, ReadsBack, read_form, read_chunks, read_cues, reported_report, is_narrow}
+use Rattle.bw_model.specs.ReadBack.{IsWithinLimits, ReadsBack, read_form, read_chunks, read_cues, reported_report}
+use Rattle.bw_model.specs.ReadBack.{is_narrow}
 use Rattle.bw_model.specs.Report.{Report}
 use Rattle.bw_model.proofs.HeaderLaws.{header_of_file, length-header}
 use Rattle.bw_model.proofs.StandingChunks.{range-whole}
@@ -81,20 +82,26 @@ has_content f t limit = go (nat_le size limit)
         (head (codes "BW64") unsaid ++ codes "WAVE" ++ chunk (ds64_chunk size (length t.samples))
         ++ (chunk (fmt_chunk f) ++ chunk (bext_chunk t.fields t.history)) ++ head (codes "data") unsaid)) (content t)
     go true = record {
-      before = head (codes "RIFF") size ++ (codes "WAVE" ++ (chunk junk_chunk ++ (chunk (fmt_chunk f) ++ head (codes "bext") n)));
+      before = head (codes "RIFF") size ++ (codes "WAVE" ++ (chunk junk_chunk ++ (chunk (fmt_chunk f) ++ head
+          (codes "bext") n)));
       after = pad n ++ head (codes "data") (length t.samples);
-      place = long (head (codes "RIFF") size) (codes "WAVE") (chunk junk_chunk) (chunk (fmt_chunk f)) (head (codes "bext") n)
+      place = long (head (codes "RIFF") size) (codes "WAVE") (chunk junk_chunk) (chunk (fmt_chunk f)) (head
+          (codes "bext") n)
           refl refl refl refl refl;
-      bytes = joined (head (codes "RIFF") size) (codes "WAVE") (chunk junk_chunk) (chunk (fmt_chunk f)) (head (codes "bext") n)
+      bytes = joined (head (codes "RIFF") size) (codes "WAVE") (chunk junk_chunk) (chunk (fmt_chunk f)) (head
+          (codes "bext") n)
           (content t) (pad n) (head (codes "data") (length t.samples));
     }
     go false = record {
       before = head (codes "BW64") unsaid
-          ++ (codes "WAVE" ++ (chunk (ds64_chunk size (length t.samples)) ++ (chunk (fmt_chunk f) ++ head (codes "bext") n)));
+          ++ (codes "WAVE" ++ (chunk (ds64_chunk size (length t.samples)) ++ (chunk (fmt_chunk f) ++ head
+          (codes "bext") n)));
       after = pad n ++ head (codes "data") unsaid;
-      place = long (head (codes "BW64") unsaid) (codes "WAVE") (chunk (ds64_chunk size (length t.samples))) (chunk (fmt_chunk f))
+      place = long (head (codes "BW64") unsaid) (codes "WAVE") (chunk (ds64_chunk size (length t.samples))) (chunk
+          (fmt_chunk f))
           (head (codes "bext") n) refl refl refl refl refl;
-      bytes = joined (head (codes "BW64") unsaid) (codes "WAVE") (chunk (ds64_chunk size (length t.samples))) (chunk (fmt_chunk f))
+      bytes = joined (head (codes "BW64") unsaid) (codes "WAVE") (chunk (ds64_chunk size (length t.samples))) (chunk
+          (fmt_chunk f))
           (head (codes "bext") n) (content t) (pad n) (head (codes "data") unsaid);
     }
 
@@ -172,9 +179,11 @@ file_notes f t limit within back =
     let b : List ℕ = file_with f t limit in
     let n : ℕ = length t.history in
     let es : List Entry = read_chunks f t limit in
-    ap (λ (r : Report). notes_with r (extension_at b (entry_of (codes "fmt ") es)) (history_at b (entry_of (codes "bext") es)))
+    ap (λ (r : Report). notes_with r (extension_at b (entry_of (codes "fmt ") es)) (history_at b (entry_of
+    (codes "bext") es)))
     back.report
-    ∙ ap (λ (e : Option Entry). notes_with (reported_report f t limit) (extension_at b e) (history_at b (entry_of (codes "bext") es)))
+    ∙ ap (λ (e : Option Entry). notes_with (reported_report f t limit) (extension_at b e) (history_at b (entry_of
+    (codes "bext") es)))
     (fmt_found (is_narrow f t limit) n (more_entries t))
     ∙ ap (λ (e : Option Entry). notes_with (reported_report f t limit) [] (history_at b e))
     (bext_found (is_narrow f t limit) n (more_entries t))

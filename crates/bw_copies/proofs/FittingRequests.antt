@@ -1,7 +1,8 @@
 -- Each request of a recording's plan fits in a message.
 use mathlib.Core.Logic.{inl, inr}
-use Rattle.std.proofs.Common.{◌≡◌, ◌⊎◌, ℕ, zero, suc, ◌+◌, ◌-◌, ◌*◌, ◌^◌, ◌<◌, ◌≤◌, Bool, true, false, cond, List, [], ◌∷◌, ◌++◌}
-use Rattle.std.proofs.Common.{length, map, take, drop, min, max, refl, ◌∙◌, ap, subst, arith, length-append, length-take, length-drop}
+use Rattle.std.proofs.Common.{◌≡◌, ◌⊎◌, ℕ, zero, suc, ◌+◌, ◌-◌, ◌*◌, ◌^◌, ◌<◌, ◌≤◌, Bool, true, false, cond, List, []}
+use Rattle.std.proofs.Common.{◌∷◌, ◌++◌, length, map, take, drop, min, max, refl, ◌∙◌, ap, subst, arith, length-append}
+use Rattle.std.proofs.Common.{length-take, length-drop}
 use Rattle.std.specs.Prelude.{◌&&◌, ◌||◌, ◌==◌, ◌/◌, nat_le, unwrap_or}
 use Rattle.std.specs.List.{list_all}
 use Rattle.std.specs.Char.{is_ascii_digit}
@@ -12,8 +13,9 @@ use Rattle.std.proofs.lemmas.List.Folds.{list_all-append}
 use Rattle.std.proofs.lemmas.Nat.{mul-le}
 use Rattle.bw_model.specs.Bytes.{is_within, zeros}
 use Rattle.bw_model.specs.ReadBack.{is_marker}
-use Rattle.bw_model.specs.Take.{Format, Shape, Text, Digits, Whole, Maybe, Level, shapes, width, field_bytes, matches, is_printable}
-use Rattle.bw_model.specs.Take.{is_format, is_history_byte, block_align, Request, Open, Block, SetField, Close}
+use Rattle.bw_model.specs.Take.{Format, Shape, Text, Digits, Whole, Maybe, Level, shapes, width, field_bytes, matches}
+use Rattle.bw_model.specs.Take.{is_printable, is_format, is_history_byte, block_align, Request, Open, Block, SetField}
+use Rattle.bw_model.specs.Take.{Close}
 use Rattle.bw_model.specs.Wire.{is_below, are_bytes, is_request}
 use Rattle.bw_model.proofs.ByteNumbers.{are_bytes-parts}
 use Rattle.bw_model.proofs.FieldLaws.{length-field_bytes}
@@ -24,8 +26,10 @@ use Rattle.bw_plan.proofs.CleanParts.{is_value}
 use Rattle.bw_plan.proofs.FaultLists.{fits_block}
 use Rattle.bw_plan.proofs.PlanLaws.{align_is_some}
 use Rattle.bw_copies.proofs.Cleaned.{all-weaker}
-use Rattle.bw_copies.proofs.ReadValues.{allowed, RawBytes, AllRawBytes}
-use Rattle.bw_copies.proofs.Carried.{IsCarried, HasNumbers}
+use Rattle.bw_copies.proofs.ReadValues.{allowed}
+use Rattle.bw_copies.proofs.ReadFields.{RawBytes, AllRawBytes}
+use Rattle.bw_copies.proofs.Carried.{IsCarried}
+use Rattle.bw_copies.proofs.CarriedNumbers.{HasNumbers}
 use Rattle.bw_copies.proofs.CopiedFiles.{low_align, few_samples}
 
 -- Bytes of texts.
@@ -89,7 +93,8 @@ field_whole (Whole w) c cs = refl
 field_whole (Maybe w) c cs = refl
 field_whole Level c cs = refl
 
-value_short : (s : Shape) (c : ℕ) (cs : List ℕ) → fits_message s ≡ true → is_value s (c ∷ cs) ≡ true → length (c ∷ cs) ≤ 256
+value_short : (s : Shape) (c : ℕ) (cs : List ℕ) → fits_message s ≡ true → is_value s (c ∷ cs) ≡ true →
+    length (c ∷ cs) ≤ 256
 value_short s c cs f h =
     let n = narrow s f in
     let whole = length-field_bytes s (c ∷ cs) (allowed s c cs h).long in
@@ -156,7 +161,8 @@ format_fits f h =
     let both = and_parts (is_within 1 768000 f.rate && is_within 1 64 f.channels)
     ((f.bits == 16) || (f.bits == 24) || (f.bits == 32)) h in
     let first = and_parts (is_within 1 768000 f.rate) (is_within 1 64 f.channels) both.0 in
-    let rate : f.rate ≤ 768000 = leb-true f.rate 768000 (and_parts (nat_le 1 f.rate) (nat_le f.rate 768000) first.0).1 in
+    let rate : f.rate ≤ 768000 =
+    leb-true f.rate 768000 (and_parts (nat_le 1 f.rate) (nat_le f.rate 768000) first.0).1 in
     let channels : f.channels ≤ 64 =
     leb-true f.channels 64 (and_parts (nat_le 1 f.channels) (nat_le f.channels 64) first.1).1 in
     let bits : f.bits ≤ 32 = go (or_cases ((f.bits == 16) || (f.bits == 24)) (f.bits == 32) both.1) in
@@ -209,7 +215,8 @@ plan_fits o r c n bytes =
     (le-leb (length r.outline.history) 4096 c.room.history))
     (all-weaker is_history_byte (is_below 256) history_below r.outline.history c.whole.clean.history) in
     let sets = fields_fit shapes 1 r.outline.values (omega (arith, long)) refl c.whole.clean.values n.values in
-    let blocks = blocks_fit (piece_count size len) size r.samples size_some small bytes (div_ceil_times len size size_some).1 in
+    let blocks = blocks_fit (piece_count size len) size r.samples size_some small bytes
+    (div_ceil_times len size size_some).1 in
     let marks = marks_fit r.outline.markers n.markers in
     let close : is_request (Close (len / align)) ≡ true =
     lt-ltb (len / align) (2 ^ 64) (omega (arith, total, few, counted)) in
@@ -218,6 +225,7 @@ plan_fits o r c n bytes =
     (joined (Open f r.outline.history ∷ field_requests 1 r.outline.values ++ block_requests size r.samples)
     (map mark_request r.outline.markers)
     (joined (Open f r.outline.history ∷ field_requests 1 r.outline.values) (block_requests size r.samples)
-    (and_from (is_request (Open f r.outline.history)) (list_all is_request (field_requests 1 r.outline.values)) open_fits
+    (and_from (is_request (Open f r.outline.history)) (list_all is_request
+    (field_requests 1 r.outline.values)) open_fits
     sets) blocks) marks)
     (and_from (is_request (Close (len / align))) true close refl)

@@ -1,6 +1,8 @@
 pub mod Cleaned
 pub mod ReadValues
+pub mod ReadFields
 pub mod Carried
+pub mod CarriedNumbers
 pub mod FileContents
 pub mod CopiedFiles
 pub mod FittingRequests
@@ -8,3 +10,4 @@ pub mod SpelledSettings
 pub mod EqualCopies
 pub mod ExamplesOfCopies
 pub mod SentCopies
+pub mod SentSamples

@@ -1,8 +1,7 @@
 -- A file that was sent with status 0 is copied.
-use Rattle.std.proofs.Common.{◌≡◌, inl, inr, ℕ, ◌≤◌, Bool, true, false, List, [], ◌∷◌, ◌++◌, length, map}
-use Rattle.std.proofs.Common.{Option, Some, refl, sym, ◌∙◌, ap, arith}
-use Rattle.std.specs.Prelude.{◌||◌, ◌/◌, ◌*◌, option_map, codes}
-use Rattle.std.specs.Prelude.{string_bytes}
+use Rattle.std.proofs.Common.{◌≡◌, inl, inr, ℕ, ◌≤◌, Bool, true, false, List, [], ◌∷◌, ◌++◌, length, map, Option, Some}
+use Rattle.std.proofs.Common.{refl, sym, ◌∙◌, ap, arith}
+use Rattle.std.specs.Prelude.{◌||◌, ◌/◌, ◌*◌, option_map, codes, string_bytes}
 use Rattle.std.specs.IoError.{error_kind}
 use Rattle.std.specs.List.{list_any}
 use Rattle.std.specs.declared.io.ErrorKind.{ErrorKind}
@@ -38,9 +37,9 @@ use Rattle.bw_end_to_end.specs.Promises.{ServesSender, ClosedTakesHaveFiles}
 use Rattle.bw_end_to_end.specs.SentFiles.{DoneFeedsAreStored}
 use Rattle.bw_end_to_end.specs.UploadedLinks.{UploadsSendRequests}
 use Rattle.bw_copies.specs.Copies.{read_again}
-use Rattle.bw_copies.specs.SentCopies.{UploadsAreCopied, FileUploadsAreCopied, PcmUploadsAreCopied}
-use Rattle.bw_copies.specs.SentCopies.{SentFilesAreCopied}
-use Rattle.bw_copies.proofs.Carried.{IsCarried, HasNumbers, file_carried, file_numbers, samples_bytes, pcm_carried, pcm_numbers, pcm_bytes}
+use Rattle.bw_copies.specs.SentCopies.{UploadsAreCopied, FileUploadsAreCopied, PcmUploadsAreCopied, SentFilesAreCopied}
+use Rattle.bw_copies.proofs.Carried.{IsCarried, file_carried, pcm_carried}
+use Rattle.bw_copies.proofs.CarriedNumbers.{HasNumbers, file_numbers, samples_bytes, pcm_numbers, pcm_bytes}
 use Rattle.bw_copies.proofs.CopiedFiles.{copied}
 use Rattle.bw_copies.proofs.FittingRequests.{plan_fits}
 use Rattle.bw_copies.proofs.SpelledSettings.{options_spelled}
@@ -69,10 +68,10 @@ refused_ends e = cc
 device_ends : exits.Device ≡ exits.Done → ⊥
 device_ends e = cc
 
-memory_ends : exits.Memory ≡ exits.Done → ⊥
+pub memory_ends : exits.Memory ≡ exits.Done → ⊥
 memory_ends e = cc
 
-usage_ends : exits.Usage ≡ exits.Done → ⊥
+pub usage_ends : exits.Usage ≡ exits.Done → ⊥
 usage_ends e = cc
 
 unread_ends : (k : InspectKind) → exit_unread k ≡ exits.Done → ⊥
@@ -88,7 +87,7 @@ unopened_ends : (k : ErrorKind) → exit_unopened k ≡ exits.Done → ⊥
 unopened_ends errors.OutOfMemory e = memory_ends e
 unopened_ends _ e = device_ends e
 
-open_ends : (command path : List ℕ) (fault : OpenFault) (exit : Exit) (print : Print) →
+pub open_ends : (command path : List ℕ) (fault : OpenFault) (exit : Exit) (print : Print) →
     IsOpenReport command path fault exit print → exit ≡ exits.Done → ⊥
 open_ends command path (Unopened error) exit print (did, same, faults, inl x) done =
     unopened_ends (error_kind error) (sym x.exit_is ∙ same ∙ done)
@@ -112,35 +111,37 @@ module _ {F P D R W X Y : Type 0} (feed : FeedGhosts F FeedFault) (pause : Pause
 
   upload_copied : (o : Options) (r : Recording) → IsCarried o r → HasNumbers r.outline → are_bytes r.samples ≡ true →
       UploadsAreCopied feed pause dial reader writer S J o r
-  upload_copied o r carried numbers bytes e f f' old new did stores first links trace server later last more named serves after
-      strict =
+  upload_copied o r carried numbers bytes e f f' old new did stores first links trace server later last more named
+      serves after strict =
       let fit = plan_fits o r carried numbers bytes in
       let frames : ℕ = block_frames o r.outline.format in
       let requests : List Request = plan frames r in
       let went = stores.sent.went in
-      let serves_sender : ServesSender S J first e.name requests went.last.filling.sender.verdicts links trace server later = record {
+      let verdicts = went.last.filling.sender.verdicts in
+      let serves_sender : ServesSender S J first e.name requests verdicts links trace server later = record {
         honest = serves.honest;
         book = serves.book;
         held = serves.held;
         had = serves.had;
         by_server = serves.by_server;
         linked = record {
-          sends = uploads e.most e.name stores.sent.sender stores.sent.outcome f f' old.pause new.pause old.dial new.dial
-              went requests [] links stores.all named fit serves.ends;
+          sends = uploads e.most e.name stores.sent.sender stores.sent.outcome f f' old.pause new.pause old.dial
+              new.dial went requests [] links stores.all named fit serves.ends;
           unchanged = serves.unchanged;
           answers = serves.answers;
           others = serves.others;
         };
       } in
-      let contents = files first e.name requests went.last.filling.sender.verdicts links trace server later serves_sender
-      stores.stored (plan_closes frames r) more last after in
+      let contents = files first e.name requests verdicts links trace server later serves_sender stores.stored
+      (plan_closes frames r) more last after in
       let some : 1 ≤ frames = omega arith in
       ap (option_map (λ (x : List ℕ). recording_of x (read_again strict))) contents
       ∙ copied o r carried numbers frames server.limit some serves.limit strict
 
   pub file_uploads : FileUploadsAreCopied feed pause dial reader writer S J
   file_uploads b o r bytes allowed of_bytes is =
-      upload_copied o r (file_carried b o r allowed is) (file_numbers b o r bytes of_bytes is) (samples_bytes b o r bytes is)
+      upload_copied o r (file_carried b o r allowed is) (file_numbers b o r bytes of_bytes is)
+      (samples_bytes b o r bytes is)
 
   pub pcm_uploads : PcmUploadsAreCopied feed pause dial reader writer S J
   pcm_uploads b o p r bytes allowed of_bytes is =
@@ -157,14 +158,14 @@ module _ {F P D R W X Y : Type 0} (feed : FeedGhosts F FeedFault) (pause : Pause
       let stores = done_feeds e went.begun went.ended old new went.sent went.sends (sym went.exit_is ∙ done)
       (plan (block_frames o fed.recording.outline.format) fed.recording) fed.gives in
       record {
-        options = o;
+        o = o;
         asked = asked;
         recording = fed.recording;
         is = fed.is;
         begun = went.begun;
         ended = went.ended;
-        sent = went.sent;
+        did = went.sent;
         stores = stores;
-        copy = file_uploads b o fed.recording bytes spelled.allowed spelled.of_bytes fed.is e went.begun went.ended old new
-            went.sent stores;
+        copy = file_uploads b o fed.recording bytes spelled.allowed spelled.of_bytes fed.is e went.begun went.ended
+            old new went.sent stores;
       }

@@ -1,10 +1,12 @@
 -- Settings that texts spell are allowed, and of bytes.
-use Rattle.std.proofs.Common.{◌≡◌, ◌⊎◌, inl, inr, ℕ, zero, suc, ◌+◌, ◌-◌, ◌*◌, ◌<◌, ◌≤◌, Bool, true, false, cond, List, [], ◌∷◌, ◌++◌}
-use Rattle.std.proofs.Common.{length, take, drop, Option, Some, None, Result, Ok, Err, refl, subst, arith, ◌∙◌}
+use Rattle.std.proofs.Common.{◌≡◌, ◌⊎◌, inl, inr, ℕ, zero, suc, ◌+◌, ◌-◌, ◌*◌, ◌<◌, ◌≤◌, Bool, true, false, cond, List}
+use Rattle.std.proofs.Common.{[], ◌∷◌, ◌++◌, length, take, drop, Option, Some, None, Result, Ok, Err, refl, subst}
+use Rattle.std.proofs.Common.{arith, ◌∙◌}
 use Rattle.std.specs.Prelude.{◌&&◌, ◌==◌, ◌%◌, nat_le, option_map, option_and_then, codes, not}
 use Rattle.std.specs.List.{list_all, prefix_len}
 use Rattle.std.specs.Str.{bytes_eq}
-use Rattle.std.proofs.lemmas.Bool.{and_parts, and_from, or_cases, leb-true, leb-false, lt-ltb, eqb-true, eqb-false, false≢true}
+use Rattle.std.proofs.lemmas.Bool.{and_parts, and_from, or_cases, leb-true, leb-false, lt-ltb, eqb-true, eqb-false}
+use Rattle.std.proofs.lemmas.Bool.{false≢true}
 use Rattle.std.proofs.lemmas.List.Folds.{list_all-append}
 use Rattle.hex.specs.Hex.{decode_of, decode_pairs, pair_value, digit_or_error, hex_digit_value, ◌>>=◌}
 use Rattle.hex.specs.declared.error.FromHexError.{FromHexError}
@@ -15,12 +17,12 @@ use Rattle.bw_model.specs.Wire.{is_below, are_bytes}
 use Rattle.bw_model.proofs.Elements.{some_inj}
 use Rattle.bw_plan.specs.AllowedSettings.{is_setting, are_settings}
 use Rattle.bw_plan.specs.Recordings.{Setting, Field, History, Options}
-use Rattle.bw_plan.specs.SettingTexts.{setting_of, spelled_setting, spelled_field, spelled_value, decoded_value, number_of, level_of}
-use Rattle.bw_plan.specs.SettingTexts.{tag_of, allowed}
+use Rattle.bw_plan.specs.SettingTexts.{setting_of, spelled_setting, spelled_field, spelled_value, decoded_value}
+use Rattle.bw_plan.specs.SettingTexts.{number_of, level_of, tag_of, allowed}
 use Rattle.bw_plan.proofs.WholeRecordings.{not_ok, ok_inj}
 use Rattle.bw_recorder.specs.SettingLists.{settings_after, options_of}
 use Rattle.bw_copies.specs.Copies.{is_setting_of_bytes}
-use Rattle.bw_copies.proofs.Carried.{time_bytes, level_bytes}
+use Rattle.bw_copies.proofs.CarriedNumbers.{time_bytes, level_bytes}
 use Rattle.bw_copies.proofs.FittingRequests.{value_bytes}
 
 none_some : {X : Type 0} {x : X} → None ≡ Some x → ⊥
@@ -29,7 +31,8 @@ none_some h = cc
 -- Bytes of hex digits.
 
 digit_small : (c v : ℕ) → hex_digit_value c ≡ Some v → v ≤ 15
-digit_small c v h = go (nat_le 65 c && nat_le c 70) refl (nat_le 97 c && nat_le c 102) refl (nat_le 48 c && nat_le c 57) refl h
+digit_small c v h = go (nat_le 65 c && nat_le c 70) refl (nat_le 97 c && nat_le c 102) refl
+    (nat_le 48 c && nat_le c 57) refl h
   where
     high : (low top : ℕ) → nat_le low c && nat_le c top ≡ true → c ≤ top
     high low top e = leb-true c top (and_parts (nat_le low c) (nat_le c top) e).1
@@ -39,7 +42,8 @@ digit_small c v h = go (nat_le 65 c && nat_le c 70) refl (nat_le 97 c && nat_le 
         cond x (Some (c - 55)) (cond y (Some (c - 87)) (cond z (Some (c - 48)) None)) ≡ Some v → v ≤ 15
     go true e y f z g h = let top = high 65 70 e in let same : c - 55 ≡ v = some_inj h in omega (arith, top, same)
     go false e true f z g h = let top = high 97 102 f in let same : c - 87 ≡ v = some_inj h in omega (arith, top, same)
-    go false e false f true g h = let top = high 48 57 g in let same : c - 48 ≡ v = some_inj h in omega (arith, top, same)
+    go false e false f true g h = let top = high 48 57 g in let same : c - 48 ≡ v = some_inj h in omega
+        (arith, top, same)
     go false e false f false g h = absurd (none_some h)
 
 pair_below : (high low i byte : ℕ) → pair_value high low i ≡ Ok byte → is_below 256 byte ≡ true

@@ -4,7 +4,8 @@ use Rattle.std.specs.Prelude.{IsTrue, Option, Some, option_map, unwrap_or, Ok, L
 use Rattle.std.specs.Prelude.{length, map}
 use Rattle.std.specs.List.{list_all}
 use Rattle.std.specs.Str.{bytes_eq}
-use Rattle.bw_model.specs.Take.{Shape, Text, Digits, Whole, Maybe, Level, shapes, shape_of, not_given}
+use Rattle.bw_model.specs.Take.{Request, Shape, Text, Digits, Whole, Maybe, Level, shapes, shape_of}
+use Rattle.bw_model.specs.Take.{not_given}
 use Rattle.bw_model.specs.Wire.{are_bytes, is_request}
 use Rattle.bw_model.specs.Report.{RawCue}
 use Rattle.bw_model.specs.ReadBack.{reported_cue}
@@ -14,8 +15,8 @@ use Rattle.bw_plan.specs.AllowedSettings.{are_settings}
 use Rattle.bw_plan.specs.Cleaning.{are_zero, history_of, values_of, markers_of}
 use Rattle.bw_plan.specs.PcmRecordings.{pcm_recording_of}
 use Rattle.bw_plan.specs.Plans.{plan}
-use Rattle.bw_plan.specs.Recordings.{Options, no_options, Recording, Setting, Field, History, recording_of}
-use Rattle.bw_plan.specs.Recordings.{block_frames}
+use Rattle.bw_plan.specs.Recordings.{Options, no_options, Recording, Setting, Field, History}
+use Rattle.bw_plan.specs.Recordings.{recording_of, block_frames}
 use Rattle.bw_plan.specs.declared.pcm.Pcm.{Pcm}
 
 -- the bytes of a field mean that it isn't given: a time or a UMID of zero, a level of 7FFFh
@@ -39,7 +40,8 @@ given_values (s ∷ ss) (v ∷ values) = given_value s v ∷ given_values ss val
 -- The recording, without what was set to mean that it isn't given: a file has the same bytes for
 -- that as for nothing.
 abbrev pub copy_of : Recording → Recording
-copy_of r = record r { outline = record r.outline { values = given_values shapes r.outline.values } }
+copy_of r =
+    record r { outline = record r.outline { values = given_values shapes r.outline.values } }
 
 -- a setting leaves a field out, or gives it a value that doesn't mean that it isn't given
 abbrev pub is_given_or_left_out : Setting → Bool
@@ -87,14 +89,18 @@ CopiesAreEqual = (b : List ℕ) (o : Options) (r : Recording) →
 -- .. of headerless samples
 abbrev pub PcmCopiesAreEqual : Type 0
 PcmCopiesAreEqual = (b : List ℕ) (o : Options) (p : Pcm) (r : Recording) →
-    IsTrue (list_all is_given_or_left_out o.settings) → pcm_recording_of b o p ≡ Ok r → copy_of r ≡ r
+    IsTrue (list_all is_given_or_left_out o.settings) → pcm_recording_of b o p ≡ Ok r →
+    copy_of r ≡ r
 
--- In blocks as a sender makes them, each request of such a recording fits in a message.
+-- the requests that bring a recording, in blocks as a sender makes them
+abbrev pub plan_by : Options → Recording → List Request
+plan_by o r = plan (block_frames o r.outline.format) r
+
+-- Each of those of a recording of bytes fits in a message.
 abbrev pub RequestsFit : Type 0
 RequestsFit = (b : List ℕ) (o : Options) (r : Recording) → IsTrue (are_bytes b) →
     IsTrue (are_settings o.settings) → IsTrue (list_all is_setting_of_bytes o.settings) →
-    recording_of b o ≡ Ok r →
-    IsTrue (list_all is_request (plan (block_frames o r.outline.format) r))
+    recording_of b o ≡ Ok r → IsTrue (list_all is_request (plan_by o r))
 
 -- What was cleaned stays as it is where it's cleaned again.
 pub record CleansOnce : Type 0 where

@@ -1,5 +1,6 @@
 -- Worked rows: files, and the files of their recordings' takes.
-use Rattle.std.specs.Prelude.{◌≡◌, ℕ, false, Option, Some, None, Result, Ok, Err, List, [], ◌∷◌, codes}
+use Rattle.std.specs.Prelude.{◌≡◌, ℕ, true, false, Option, Some, None, Result, Ok, Err, List, []}
+use Rattle.std.specs.Prelude.{◌∷◌, codes}
 use Rattle.bw_model.specs.Take.{Open, Block, SetField, Close}
 use Rattle.bw_model.specs.File.{file_of}
 use Rattle.bw_model.specs.Book.{made_by}
@@ -8,6 +9,7 @@ use Rattle.bw_plan.specs.Plans.{plan}
 use Rattle.bw_plan.specs.Recordings.{Options, no_options, Field, Recording, FaultAt, recording_of}
 use Rattle.bw_plan.specs.PcmRecordings.{pcm_recording_of}
 use Rattle.bw_plan.specs.ExamplesOfPlans.{planned, changed, extensible_file, mono_after}
+use Rattle.bw_copies.specs.Copies.{read_again}
 
 -- the file of the take that a recording makes in blocks of one frame, if there is a recording
 abbrev pub file_by : Result Recording FaultAt → Option (List ℕ)
@@ -36,6 +38,12 @@ abbrev pub CleanedCopyExample : Type 0
 CleanedCopyExample =
     CopiesTo (changed 80 (hex "4dc3bc72")) (changed 80 (codes "M??r"))
     × CopiesTo (changed 400 (codes "2024.05:01")) (changed 400 (codes "2024-05-01"))
+
+-- the file of what is cleaned reads as the cleaned recording, also where nothing may be cleaned
+abbrev pub ReadAgainExample : Type 0
+ReadAgainExample =
+    recording_of (changed 80 (codes "M??r")) (read_again true)
+    ≡ recording_of (changed 80 (hex "4dc3bc72")) no_options
 
 -- A time that is set to zero is sent, but its file is the one without it, and reads so: there the
 -- copy isn't the recording.

@@ -1,3 +1,4 @@
 pub mod Copies
 pub mod ExamplesOfCopies
 pub mod SentCopies
+pub mod SentSamples

@@ -1,5 +1,6 @@
 -- What a file that was sent with status 0 is at the server.
-use Rattle.std.specs.Prelude.{◌≡◌, ◌≤◌, ◌⊎◌, ℕ, Option, Some, None, Ok, IsTrue, List, map, string_bytes}
+use Rattle.std.specs.Prelude.{◌≡◌, ◌≤◌, ◌⊎◌, ℕ, Option, Some, None, Ok, IsTrue, List, map}
+use Rattle.std.specs.Prelude.{string_bytes}
 use Rattle.std.specs.List.{AllByRecursion, Contains, list_all}
 use Rattle.bw_model.specs.Take.{Request}
 use Rattle.bw_model.specs.Wire.{is_name, are_bytes}
@@ -19,8 +20,7 @@ use Rattle.bw_ports.specs.declared.pause.Pause.{Ghosts as PauseGhosts}
 use Rattle.bw_connections.specs.Keeping.{Tagged, all_answered, own}
 use Rattle.bw_plan.specs.AllowedSettings.{are_settings}
 use Rattle.bw_plan.specs.PcmRecordings.{pcm_recording_of}
-use Rattle.bw_plan.specs.Plans.{plan}
-use Rattle.bw_plan.specs.Recordings.{Options, Recording, recording_of, block_frames}
+use Rattle.bw_plan.specs.Recordings.{Options, Recording, recording_of}
 use Rattle.bw_plan.specs.declared.pcm.Pcm.{Pcm}
 use Rattle.bw_recorder.specs.Packs.{Packing}
 use Rattle.bw_recorder.specs.SettingLists.{options_of}
@@ -36,7 +36,7 @@ use Rattle.bw_delivery.specs.Deliveries.{LinkBytes, IsTrueLink, AnswersOver, IsO
 use Rattle.bw_end_to_end.specs.SentFiles.{StoresFeed}
 use Rattle.bw_end_to_end.specs.UploadedLinks.{links_in_course}
 use Rattle.bw_end_to_end.specs.UsedLinks.{UsedLink, AreSenderEnds}
-use Rattle.bw_copies.specs.Copies.{ReadsAsRecording, copy_of, is_setting_of_bytes}
+use Rattle.bw_copies.specs.Copies.{ReadsAsRecording, copy_of, is_setting_of_bytes, plan_by}
 
 module _ {F P D R W X Y : Type 0} (feed : FeedGhosts F FeedFault) (pause : PauseGhosts P)
     (dial : DialGhosts D R W) (reader : Reader R) (writer : Writer W) (S : StoreGhosts X)
@@ -62,7 +62,8 @@ module _ {F P D R W X Y : Type 0} (feed : FeedGhosts F FeedFault) (pause : Pause
 
   -- the links of an upload that stored these requests
   abbrev pub links_used : (e : Errand) (f f' : F) (old new : Ways P D) (did : Did)
-      (requests : List Request) → StoresFeed feed pause dial reader writer e f f' old new did requests →
+      (requests : List Request) →
+      StoresFeed feed pause dial reader writer e f f' old new did requests →
       List (UsedLink R W)
   links_used e f f' old new did requests stores =
       let went = stores.sent.went in
@@ -83,10 +84,9 @@ module _ {F P D R W X Y : Type 0} (feed : FeedGhosts F FeedFault) (pause : Pause
   -- So it is in each upload that stored all requests of the recording.
   abbrev pub UploadsAreCopied : Options → Recording → Type 0
   UploadsAreCopied o r =
-      let requests = plan (block_frames o r.outline.format) r in
       (e : Errand) (f f' : F) (old new : Ways P D) (did : Did)
-      (stores : StoresFeed feed pause dial reader writer e f f' old new did requests) →
-      HasCopy e.name requests (links_used e f f' old new did requests stores) (copy_of r)
+      (stores : StoresFeed feed pause dial reader writer e f f' old new did (plan_by o r)) →
+      HasCopy e.name (plan_by o r) (links_used e f f' old new did (plan_by o r) stores) (copy_of r)
 
   -- .. of a recording in a file's bytes
   abbrev pub FileUploadsAreCopied : Type 0
@@ -101,27 +101,27 @@ module _ {F P D R W X Y : Type 0} (feed : FeedGhosts F FeedFault) (pause : Pause
       IsTrue (list_all is_setting_of_bytes o.settings) → pcm_recording_of b o p ≡ Ok r →
       UploadsAreCopied o r
 
-  -- The bytes have a recording, each request of its plan is stored, and the server's file is its copy.
-  pub record SendsCopy (recorder : Recorder) (file : RecordingFile) (b : List ℕ) (old new : Ways P D)
-      : Type 0 where
-    pub options : Options
-    pub asked : options_of (map string_bytes file.settings.now) file.is_strict file.frames ≡ Some options
+  -- The bytes have a recording, each request of its plan is stored, and the server's file is its
+  -- copy.
+  pub record SendsCopy (recorder : Recorder) (file : RecordingFile) (b : List ℕ)
+      (old new : Ways P D) : Type 0 where
+    pub o : Options
+    pub asked : options_of (map string_bytes file.settings.now) file.is_strict file.frames ≡ Some o
     pub recording : Recording
-    pub is : recording_of b options ≡ Ok recording
+    pub is : recording_of b o ≡ Ok recording
     pub begun : F
     pub ended : F
-    pub sent : Did
-    pub stores : StoresFeed feed pause dial reader writer (errand_of recorder file) begun ended old new
-        sent (plan (block_frames options recording.outline.format) recording)
-    pub copy : HasCopy recorder.name.now (plan (block_frames options recording.outline.format) recording)
-        (links_used (errand_of recorder file) begun ended old new sent
-        (plan (block_frames options recording.outline.format) recording) stores)
+    pub did : Did
+    pub stores : StoresFeed feed pause dial reader writer (errand_of recorder file) begun ended old
+        new did (plan_by o recording)
+    pub copy : HasCopy recorder.name.now (plan_by o recording)
+        (links_used (errand_of recorder file) begun ended old new did (plan_by o recording) stores)
         (copy_of recording)
 
-  -- It is so of a file of these bytes, if `send --file` ended with status 0, whatever its feed looks
-  -- at again.
+  -- It is so of a file of these bytes, if `send --file` ended with status 0, whatever its feed
+  -- looks at again.
   abbrev pub SentFilesAreCopied : Type 0
-  SentFilesAreCopied = (recorder : Recorder) (file : RecordingFile) (b : List ℕ) (old new : Ways P D)
-      (did : Packing) → IsTrue (are_bytes b) →
+  SentFilesAreCopied = (recorder : Recorder) (file : RecordingFile) (b : List ℕ)
+      (old new : Ways P D) (did : Packing) → IsTrue (are_bytes b) →
       IsFileSent feed pause dial reader writer recorder file (Some b) (λ f. Unit {0}) old new did →
       did.exit ≡ Done → SendsCopy recorder file b old new

@@ -4,8 +4,11 @@
 ghost use Rattle.bw_copies.specs.Copies.{CleansOnce, CopiesAreEqual, PcmCopiesAreEqual};
 ghost use Rattle.bw_copies.specs.Copies.{PcmRecordingsAreCopied, RecordingsAreCopied, RequestsFit};
 ghost use Rattle.bw_copies.specs.ExamplesOfCopies.{CleanedCopyExample, ExtensibleCopyExample};
-ghost use Rattle.bw_copies.specs.ExamplesOfCopies.{NotGivenExample, PcmCopyExample, SameFileExample};
-ghost use Rattle.bw_copies.specs.SentCopies.{FileUploadsAreCopied, PcmUploadsAreCopied, SentFilesAreCopied};
+ghost use Rattle.bw_copies.specs.ExamplesOfCopies.{NotGivenExample, PcmCopyExample};
+ghost use Rattle.bw_copies.specs.ExamplesOfCopies.{ReadAgainExample, SameFileExample};
+ghost use Rattle.bw_copies.specs.SentSamples.{FinishedSamplesAreCopied, FollowedSamplesAreCopied};
+ghost use Rattle.bw_copies.specs.SentCopies.{FileUploadsAreCopied, PcmUploadsAreCopied};
+ghost use Rattle.bw_copies.specs.SentCopies.{SentFilesAreCopied};
 
 use bw_journal::Journal;
 use bw_ports::{Dial, Pause};
@@ -15,8 +18,8 @@ use bw_upload::Feed;
 
 /// The file of the take that a recording's requests make reads as that recording: the same format,
 /// samples, history and markers, and the same fields, whatever the size of the blocks and the limit
-/// of RIFF. Nothing of it has to be cleaned. What was set to mean that a field isn't given (a time or
-/// a UMID of zero, a level of 7FFFh) reads as nothing, which has the same bytes; without that the
+/// of RIFF. Nothing of it has to be cleaned. What was set to mean that a field isn't given (a time
+/// or UMID of zero, a level of 7FFFh) reads as nothing, which has the same bytes; without that the
 /// copy is the recording itself. Each request fits in a message. What was cleaned once stays as it
 /// is.
 pub fn law_copied()
@@ -28,15 +31,15 @@ pub fn law_copied()
     ensures once { CleansOnce }
 {}
 
-/// Where an upload stored each request of a recording, of a file or of headerless samples, the server
-/// has a file that reads as that recording: over links that give each end a prefix of what the other
-/// wrote, and over an honest store; then, and after whatever comes later. If `send --file` ended with
-/// status 0, its upload is such a one.
+/// Where an upload stored each request of a recording, of a file or of headerless samples, the
+/// server has a file that reads as that recording: over links that give each end a prefix of what
+/// the other wrote, and an honest store; then, and after whatever comes later. If `send --file`
+/// ended with status 0, its upload is such a one.
 pub fn law_copied_sent<F: Feed<Fault = FeedFault>, P: Pause, D: Dial, S: TakeStore, J: Journal>()
     ensures uploads { FileUploadsAreCopied F.Feed P.Pause D.Dial D.Reader.Source D.Writer.Sink
         S.TakeStore J.Journal }
-    ensures pcm { PcmUploadsAreCopied F.Feed P.Pause D.Dial D.Reader.Source D.Writer.Sink S.TakeStore
-        J.Journal }
+    ensures pcm { PcmUploadsAreCopied F.Feed P.Pause D.Dial D.Reader.Source D.Writer.Sink
+        S.TakeStore J.Journal }
     ensures commands { SentFilesAreCopied F.Feed P.Pause D.Dial D.Reader.Source D.Writer.Sink
         S.TakeStore J.Journal }
 {
@@ -45,11 +48,25 @@ pub fn law_copied_sent<F: Feed<Fault = FeedFault>, P: Pause, D: Dial, S: TakeSto
     bw_end_to_end::law_promise::<S, J>();
 }
 
+/// If `send --file --pcm` ended with status 0, its file has a recording of headerless samples, and
+/// the server has a file that reads as that one, as `law_copied_sent` says of an upload; with
+/// `--follow`, where what the file has at its end is a recording.
+pub fn law_copied_samples<F: Feed<Fault = FeedFault>, P: Pause, D: Dial, S: TakeStore, J: Journal>()
+    ensures finished { FinishedSamplesAreCopied F.Feed P.Pause D.Dial D.Reader.Source D.Writer.Sink
+        S.TakeStore J.Journal }
+    ensures followed { FollowedSamplesAreCopied F.Feed P.Pause D.Dial D.Reader.Source D.Writer.Sink
+        S.TakeStore J.Journal }
+{
+    bw_end_to_end::law_file_sent::<F, P, D>();
+    law_copied_sent::<F, P, D, S, J>();
+}
+
 /// Worked rows: files, and what a server has of them.
 pub fn examples_of_copies()
     ensures same_file { SameFileExample }
     ensures extensible { ExtensibleCopyExample }
     ensures cleaned { CleanedCopyExample }
+    ensures again { ReadAgainExample }
     ensures not_given { NotGivenExample }
     ensures pcm { PcmCopyExample }
 {}

@@ -6,6 +6,7 @@ returns c = record {
   same_file = rows.same_file;
   extensible = rows.extensible;
   cleaned = rows.cleaned;
+  again = rows.read_again;
   not_given = rows.not_given;
   pcm = rows.pcm;
 }

@@ -1,4 +1,5 @@
-use Rattle.bw_copies.proofs.Carried.{file_carried, file_numbers, pcm_carried, pcm_numbers, samples_bytes}
+use Rattle.bw_copies.proofs.Carried.{file_carried, pcm_carried}
+use Rattle.bw_copies.proofs.CarriedNumbers.{file_numbers, pcm_numbers, samples_bytes}
 use Rattle.bw_copies.proofs.Cleaned.{cleans_once}
 use Rattle.bw_copies.proofs.CopiedFiles.{copied}
 use Rattle.bw_copies.proofs.FittingRequests.{plan_fits}
