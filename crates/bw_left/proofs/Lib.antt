@@ -3,6 +3,9 @@ pub mod LeftEntries
 pub mod LeftBooks
 pub mod LeftServers
 pub mod LifeSteps
+pub mod StoppedServers
+pub mod KilledServers
+pub mod KilledFolders
 pub mod CutAnswers
 pub mod LeftPaths
 pub mod ExamplesOfLeft

@@ -1,3 +1,5 @@
 pub mod LeftFolders
 pub mod StoppedLives
+pub mod StoppedTurns
+pub mod KilledFolders
 pub mod ExamplesOfLeft

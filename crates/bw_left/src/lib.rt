@@ -3,12 +3,16 @@
 #![tactic(auto)]
 
 ghost use Rattle.bw_left.specs.ExamplesOfLeft.{CutNoteExample, WholeNoteExample};
+ghost use Rattle.bw_left.specs.KilledFolders.{KilledFoldersAreLeft};
 ghost use Rattle.bw_left.specs.LeftFolders.{CutAnswersAreNotLeft, CutBooksAreQuiet};
 ghost use Rattle.bw_left.specs.LeftFolders.{LaterBooksForgetNothing};
 ghost use Rattle.bw_left.specs.LeftFolders.{LeftNamesAreInFolders, OrderedServersAreLeft};
 ghost use Rattle.bw_left.specs.LeftFolders.{QuietServersAreLeft};
 ghost use Rattle.bw_left.specs.StoppedLives.{VerdictsOutliveStops};
+ghost use Rattle.bw_left.specs.StoppedTurns.{KilledServersAreLeft, StoppedTurnsAreLeft};
 
+use bw_disk::Volume;
+use bw_folder::{FolderJournal, FolderStore};
 use bw_journal::Journal;
 use bw_store::TakeStore;
 
@@ -24,6 +28,20 @@ pub fn law_left<S: TakeStore, J: Journal>()
     ensures again { CutBooksAreQuiet }
     ensures uncut { CutAnswersAreNotLeft }
     ensures folder { LeftNamesAreInFolders }
+{}
+
+/// Whichever call of store or journal fails in a turn, as in a disk that dies in it, the folder is one
+/// that a start takes over; and so a server that is killed leaves one, if no call failed before.
+pub fn law_stopped<S: TakeStore, J: Journal>()
+    ensures turn { StoppedTurnsAreLeft S.TakeStore J.Journal }
+    ensures killed { KilledServersAreLeft S.TakeStore J.Journal }
+{}
+
+/// The same by the disks of a folder, as those that die in a chosen call (`MortalDisk` of `bw_disk`):
+/// a server that is killed in a turn leaves on them what `start` takes as its premise.
+pub fn law_killed<D: Volume, E: Volume>()
+    ensures { KilledFoldersAreLeft D.Disk E.Disk ⟦<FolderStore<D> as TakeStore>⟧
+        ⟦<FolderJournal<E> as Journal>⟧ }
 {}
 
 /// Servers follow one another over a folder, each stopped wherever it was, and each begins from what

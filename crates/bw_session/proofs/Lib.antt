@@ -7,6 +7,8 @@ pub mod LogSteps
 pub mod PrefixForms
 pub mod NumberForms
 pub mod NoteForms
+pub mod OrderForms
+pub mod OrderSteps
 pub mod DrainForms
 pub mod NewForms
 pub mod AdmitForms

@@ -75,7 +75,7 @@ entries_push existed s name n (Some x ∷ xs) r e =
     ∙ ap (λ (k : ℕ). entries_from existed s name (suc n) xs ++ done_entry existed s name k r ∷ []) place)
 
 -- the journal of one more done number
-journal_next : (h : Header) (name : List ℕ) (log : Log) (r : Request) (finished : List (List ℕ × Verdict)) →
+pub journal_next : (h : Header) (name : List ℕ) (log : Log) (r : Request) (finished : List (List ℕ × Verdict)) →
     length finished ≡ log.done →
     finished ≡ finished_from h.existed log.admitted name 0 (take log.done log.admitted) →
     at log.admitted log.done ≡ Some r →
@@ -174,3 +174,6 @@ module _ (first : Option (List ℕ)) (h : Header) (log : Log) (v : Verdict) (p :
       IsNoted h name log offset found
   carried_in_part offset before found place stands notes =
       noted_in_part h name log offset before found v r digest place stands next judged notes
+
+  pub carried_entry : noted_of v digest r ≡ next_entry h.existed name log
+  carried_entry = entry_noted h.existed name log v r digest next judged

@@ -1,9 +1,9 @@
 -- What a server has to do with a book that it may hold.
-use Rattle.std.specs.Prelude.{◌≡◌, ℕ, Option, Some, None, is_some, IsTrue, List, map, drop, count_by}
-use Rattle.std.specs.Prelude.{if◌then◌else◌}
+use Rattle.std.specs.Prelude.{◌≡◌, ℕ, true, false, Option, Some, None, is_some, IsTrue, List, map}
+use Rattle.std.specs.Prelude.{drop, count_by, if◌then◌else◌}
 use Rattle.bw_model.specs.Wire.{Message, Says}
 use Rattle.bw_model.specs.Book.{Log, Book, log_of, is_known}
-use Rattle.bw_model.specs.CountedTurn.{IsTurn, book_reported}
+use Rattle.bw_model.specs.CountedTurn.{IsTurn, book_reported, is_pending}
 use Rattle.bw_model.specs.Holds.{Holds}
 use Rattle.bw_store.specs.declared.store.TakeStore.{Ghosts as StoreGhosts}
 use Rattle.bw_model.specs.Replies.{Reply as ModelReply}
@@ -16,6 +16,7 @@ use Rattle.bw_session.specs.Asking.{AsksInTurn}
 use Rattle.bw_session.specs.Serving.{UsesBoth}
 use Rattle.bw_session.specs.Servers.{kept_in, done_in, part_in, store_since}
 use Rattle.bw_session.specs.Journaled.{NotesNames}
+use Rattle.bw_session.specs.Ordering.{IsInOrder}
 use Rattle.bw_session.specs.declared.server.Server.{Server}
 
 module _ {X Y : Type 0} (S : StoreGhosts X) (J : JournalGhosts Y) where
@@ -58,6 +59,20 @@ module _ {X Y : Type 0} (S : StoreGhosts X) (J : JournalGhosts Y) where
       NotesBook first old book →
       NotesBook first new (book_reported book m (map reply_of replies) (done_in new.sessions m.name))
 
+  -- If nothing waited under the message's name, and something waits afterwards, it was written in
+  -- order: its file, then its entry.
+  abbrev pub OrdersBooks : Server X Y S J → Server X Y S J → Message → List Reply → Type 0
+  OrdersBooks old new m replies = IsTrue (S.honest old.stores.store) →
+      IsTrue (J.honest old.stores.journal) →
+      (first : List ℕ → Option (List ℕ)) (book : Book) → HoldsBook first old book →
+      NotesBook first old book → is_pending (log_of book m.name) ≡ false →
+      (log : Log) →
+      log ≡ log_of (book_reported book m (map reply_of replies) (done_in new.sessions m.name))
+      m.name →
+      is_pending log ≡ true →
+      IsInOrder (J.header old.stores.journal m.name) (first m.name) m.name log old.limit
+      (J.notes new.stores.journal m.name) (S.contents new.stores.store m.name)
+
   -- With these replies each book that the server holds over an honest store is as it was.
   abbrev pub KeepsBooks : Server X Y S J → Message → List ModelReply → Type 0
   KeepsBooks s m replies = IsTrue (S.honest s.stores.store) →
@@ -99,6 +114,8 @@ module _ {X Y : Type 0} (S : StoreGhosts X) (J : JournalGhosts Y) where
     pub turned : TurnsBooks old new m replies
     -- an honest journal has of each name what the later book says
     pub noted : NotesBooks old new m replies
+    -- a number that waits was written in order
+    pub ordered : OrdersBooks old new m replies
 
 -- what a known name's log says
 abbrev pub of_known : {A : Type 0} → Book → List ℕ → (Log → A) → Option A

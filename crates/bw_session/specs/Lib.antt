@@ -7,6 +7,7 @@ pub mod Keeping
 pub mod Prefixes
 pub mod Numbered
 pub mod Noting
+pub mod Ordering
 pub mod Draining
 pub mod Admitting
 pub mod Sessions

@@ -22,6 +22,7 @@ impl Session {
     ghost use Rattle.bw_session.specs.Sessions.{KeepsTake, part_of};
     ghost use Rattle.bw_session.specs.Promises.{KeepsStores, RefusesMessage};
     ghost use Rattle.bw_session.specs.Promises.{ForSessionLogs, KeepsSessionNotes};
+    ghost use Rattle.bw_session.specs.Ordering.{OrdersLogs};
 
     /// Does the number of a message that is the next and isn't held. Its body is copied, into a
     /// buffer allocated before, only if a call failed.
@@ -59,6 +60,9 @@ impl Session {
         ensures noted { IfOk result (λ answer. KeepsSessionNotes S.TakeStore J.Journal
             self.old stores.old self.new stores.new
             (λ log. drained_log (drained_by answer) (with_message log (message_of message.now)))) }
+        ensures ordered { IfOk result (λ answer. OrdersLogs S.TakeStore J.Journal (is_err answer)
+            (part_of self.old) (λ log. with_message log (message_of message.now))
+            self.old.progress stores.old self.new.progress stores.new) }
     {
         let room = self.make_room(stores.alloc, message)?;
         let request = message.request();

@@ -129,6 +129,7 @@ impl Progress {
     ghost use Rattle.bw_session.specs.Promises.{KeepsStores};
     ghost use Rattle.bw_session.specs.Numbering.{MayTry, KeepsPlaces, KeepsNumber, LeavesNumber};
     ghost use Rattle.bw_session.specs.Numbering.{ForNext, NotesNext};
+    ghost use Rattle.bw_session.specs.Ordering.{OrdersNext};
 
     /// Does the next number: its request is carried out in the file, then noted in the journal,
     /// then kept in memory.
@@ -163,6 +164,8 @@ impl Progress {
             self.new.ledger.outcomes (meaning request.now) self.new.growing
             (S.contents stores.new.store self.old.name)) }
         ensures noted { NotesNext S.TakeStore J.Journal result
+            self.old stores.old (meaning request.now) digest.now self.new stores.new }
+        ensures ordered { OrdersNext S.TakeStore J.Journal result
             self.old stores.old (meaning request.now) digest.now self.new stores.new }
     {
         begin_notes(&mut stores.journal, &self.name, self.ledger.len())?;

@@ -75,7 +75,7 @@ impl<S: TakeStore> Server<S> {
 impl<S: TakeStore, J: Journal> Server<S, J> {
     ghost use Rattle.bw_session.specs.Books.{HoldsBook, NotesBook, TurnsBooks, NotesBooks};
     ghost use Rattle.bw_session.specs.Books.{KeepsBooks, LeavesServer, UsesInTurn, AsksTurn};
-    ghost use Rattle.bw_session.specs.Books.{SameStores, Turned};
+    ghost use Rattle.bw_session.specs.Books.{SameStores, Turned, OrdersBooks};
     ghost use Rattle.bw_session.specs.Books.{of_known, count_waiting};
 
     /// Creates a server that knows no name, over a store and a journal.
@@ -130,7 +130,9 @@ impl<S: TakeStore, J: Journal> Server<S, J> {
     /// order; for one whose store call failed, the first of these calls.
     ///
     /// A held message is done when those before it have come; after a failure of the store or the
-    /// journal, when the next message of its name comes.
+    /// journal, when the next message of its name comes. If nothing waited under the name before such
+    /// a failure, what waits then was written in order: nothing to its file before its journal is
+    /// begun, and its whole entry only over the file with its request.
     ///
     /// # Not specified
     /// - When a growth is refused, as NoRoom reports it.
@@ -157,6 +159,8 @@ impl<S: TakeStore, J: Journal> Server<S, J> {
             out.new.items }
         ensures noted { NotesBooks S.TakeStore J.Journal self.old self.new (message_of message.now)
             out.new.items }
+        ensures ordered { OrdersBooks S.TakeStore J.Journal self.old self.new
+            (message_of message.now) out.new.items }
     {
         out.clear();
         let name = message.name();

@@ -105,3 +105,19 @@ returns-in-Err-clause-asked g c =
     (meaning c.request-request.result) (sym c.in-Some.ensures.value)
     (c.request-request.ensures.value ∙ ap (λ m. m.request) c.message-message.ensures.value)
     (c.in-Err.ensures.asked.0, c.in-Err.ensures.asked.1.begun) (ap (λ l. l.outcomes) c.in-Err.ensures.left.ledger) refl
+
+pub returns-in-Ok-clause-ordered : goal.returns-in-Ok-clause-ordered
+returns-in-Ok-clause-ordered g c = λ honest honest_notes first log h existed noted untried.
+    let r : Request = meaning c.request-request.result in
+    let prefix = prefix_here first log c.args.progress.now c.args.window.now _ h (message_of c.message-message.result) r
+    c.digest.result.now c.in-Some.body.now (sym c.in-Some.ensures.value) c.message-message.ensures.spelled
+    c.request-request.ensures.value c.request-request.ensures.fits c.digest.ensures in
+    c.in-Ok.ensures.ordered honest honest_notes first log prefix.0 prefix.1 existed noted untried
+
+pub returns-in-Err-clause-ordered : goal.returns-in-Err-clause-ordered
+returns-in-Err-clause-ordered g c = λ honest honest_notes first log h existed noted untried.
+    let r : Request = meaning c.request-request.result in
+    let prefix = prefix_here first log c.args.progress.now c.args.window.now _ h (message_of c.message-message.result) r
+    c.digest.result.now c.in-Some.body.now (sym c.in-Some.ensures.value) c.message-message.ensures.spelled
+    c.request-request.ensures.value c.request-request.ensures.fits c.digest.ensures in
+    c.in-Err.ensures.ordered honest honest_notes first log prefix.0 prefix.1 existed noted untried

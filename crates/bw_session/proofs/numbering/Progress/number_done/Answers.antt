@@ -12,6 +12,11 @@ use Rattle.bw_store.proofs.Asked.{gets_all}
 use Rattle.bw_session.specs.Carrying.{judged_plan, AsksJudged}
 use Rattle.bw_store.specs.StoreSteps.{WasAskedFirst}
 use Rattle.bw_session.proofs.AskForms.{verdict_by, keeps_judged}
+use Rattle.bw_model.specs.Take.{after}
+use Rattle.bw_file.specs.Growing.{Growing}
+use Rattle.bw_session.specs.Prefixes.{take_done, FileFollows}
+use Rattle.bw_session.proofs.NoteForms.{carried_entry}
+use Rattle.bw_session.proofs.OrderForms.{order_unbegun, order_unwritten, order_unnoted, noted_ends}
 use Rattle.bw_session.proofs.numbering.Progress.number_done.Goals as goal
 
 pub returns-in_default-clause-done : goal.returns-in_default-clause-done
@@ -191,3 +196,88 @@ returns-in_err-verdict-clause-left g c =
       again = search rules;
       unnoted = search rules;
     })
+
+pub returns-in_err-begin_notes-clause-ordered : goal.returns-in_err-begin_notes-clause-ordered
+returns-in_err-begin_notes-clause-ordered g c = λ honest honest_notes first log n h existed noted untried.
+    let answer = err_from_is_err_and c.from_residual.result c.from_residual.ensures.1 in
+    let none : log.done ≡ 0 = sym (c.len.ensures.value ∙ h.memory.done) ∙ c.in_err-begin_notes.ensures.first in
+    rw answer.1 (order_unbegun first (g.J.Journal.header c.args.stores.now.journal c.args.self.now.name) log
+    c.args.self.now.state.parts c.args.self.now.ledger.outcomes (meaning c.args.request.now)
+    c.args.self.now.growing.name c.args.self.now.name c.args.digest.now existed c.args.self.now.same_name h.memory n
+    c.args.self.now.growing c.args.self.now.growing.limit c.args.self.now.noted _ _ _ noted untried.ends none
+    (c.in_err-begin_notes.ensures.failed honest_notes) h.file untried.clean)
+
+pub returns-in_err-verdict-clause-ordered : goal.returns-in_err-verdict-clause-ordered
+returns-in_err-verdict-clause-ordered g c = λ honest honest_notes first log n h existed noted untried.
+    let answer = err_from_is_err_and c.from_residual-in_err-verdict.result c.from_residual-in_err-verdict.ensures.1 in
+    let done : c.len.result ≡ log.done = c.len.ensures.value ∙ h.memory.done in
+    rw answer.1 (order_unwritten first (g.J.Journal.header c.args.stores.now.journal c.args.self.now.name) log
+    c.args.self.now.state.parts c.args.self.now.ledger.outcomes (meaning c.args.request.now)
+    c.args.self.now.growing.name c.args.self.now.name c.args.digest.now existed c.args.self.now.same_name h.memory n
+    c.args.self.now.growing.limit c.args.self.now.noted _ _ _ noted untried.ends
+    (begun_notes (g.J.Journal.header c.args.stores.now.journal c.args.self.now.name)
+    c.args.self.now.name log c.args.self.now.noted _ _ noted
+    (λ none. c.in_ok-begin_notes.ensures.begun (done ∙ none) honest_notes)
+    (λ some. ap (λ j. g.J.Journal.notes j c.args.self.now.name)
+    (c.in_ok-begin_notes.ensures.later (subst (λ (k : ℕ). 1 ≤ k) (sym done) some))))
+    (λ none. c.in_ok-begin_notes.ensures.begun (done ∙ none) honest_notes)
+    (λ some. ap (λ j. g.J.Journal.notes j c.args.self.now.name)
+    (c.in_ok-begin_notes.ensures.later (subst (λ (k : ℕ). 1 ≤ k) (sym done) some))))
+
+pub returns-in_default-clause-ordered : goal.returns-in_default-clause-ordered
+returns-in_default-clause-ordered g c = λ honest honest_notes first log n h existed noted untried.
+    let r : Request = meaning c.args.request.now in
+    let v : Verdict = verdict_meaning c.in_ok-verdict.verdict in
+    let finished : List (List ℕ × Verdict) = c.args.self.now.ledger.outcomes in
+    let name : c.args.self.now.growing.name ≡ c.args.self.now.name = c.args.self.now.same_name in
+    let later : c.carry_out.new.growing.name ≡ c.args.self.now.name = search rules in
+    let carried = c.in_ok-verdict.ensures.prefix honest first log finished
+    (subst (λ (x : List ℕ). HoldsPrefix first log c.args.self.now.state.parts finished r c.args.self.now.growing
+    (g.S.TakeStore.contents c.args.stores.now.store x)) (sym name) h) in
+    let done : c.len.result ≡ log.done = c.len.ensures.value ∙ h.memory.done in
+    let entries = begun_notes (g.J.Journal.header c.args.stores.now.journal c.args.self.now.name)
+    c.args.self.now.name log c.args.self.now.noted _ _ noted
+    (λ none. c.in_ok-begin_notes.ensures.begun (done ∙ none) honest_notes)
+    (λ some. ap (λ j. g.J.Journal.notes j c.args.self.now.name)
+    (c.in_ok-begin_notes.ensures.later (subst (λ (k : ℕ). 1 ≤ k) (sym done) some))) in
+    let left : NotesInPart c.args.self.now.noted (noted_of v c.args.digest.now r)
+    (g.J.Journal.notes c.begin_notes.new.journal c.args.self.now.name)
+    (g.J.Journal.notes c.note.new.self.journal c.args.self.now.name) =
+    let failed = c.in_default.ensures.failed (c.begin_notes.ensures.journal.honest ∙ honest_notes) in search rules in
+    let file = subst (λ (x : List ℕ). FileFollows first (after (take_done first log) r) c.carry_out.new.growing
+    (g.S.TakeStore.contents c.note.new.self.store x)) name
+    (subst (λ s. FileFollows first (after (take_done first log) r) c.carry_out.new.growing
+    (g.S.TakeStore.contents s c.args.self.now.growing.name)) (sym c.note.ensures.store) carried.file) in
+    order_unnoted first (g.J.Journal.header c.args.stores.now.journal c.args.self.now.name) log
+    c.args.self.now.state.parts finished r c.args.self.now.growing.name c.args.self.now.name c.args.digest.now existed name
+    h.memory n c.carry_out.new.growing c.args.self.now.growing.limit c.args.self.now.noted
+    (noted_of v c.args.digest.now r) _ _ _ noted.offset_is entries
+    (carried_entry first (g.J.Journal.header c.args.stores.now.journal c.args.self.now.name) log v
+    c.carry_out.new.state.parts finished r c.carry_out.new.growing _ c.args.self.now.name c.args.digest.now existed later
+    carried n) left file (ap (λ (x : Growing). x.limit) c.in_ok-verdict.ensures.known)
+
+pub returns-clause-ordered : goal.returns-clause-ordered
+returns-clause-ordered g c = λ honest honest_notes first log n h existed noted untried.
+    let r : Request = meaning c.args.request.now in
+    let v : Verdict = verdict_meaning c.in_ok-verdict.verdict in
+    let finished : List (List ℕ × Verdict) = c.args.self.now.ledger.outcomes in
+    let name : c.args.self.now.growing.name ≡ c.args.self.now.name = c.args.self.now.same_name in
+    let later : c.carry_out.new.growing.name ≡ c.args.self.now.name = search rules in
+    let carried = c.in_ok-verdict.ensures.prefix honest first log finished
+    (subst (λ (x : List ℕ). HoldsPrefix first log c.args.self.now.state.parts finished r c.args.self.now.growing
+    (g.S.TakeStore.contents c.args.stores.now.store x)) (sym name) h) in
+    let done : c.len.result ≡ log.done = c.len.ensures.value ∙ h.memory.done in
+    let entries = begun_notes (g.J.Journal.header c.args.stores.now.journal c.args.self.now.name)
+    c.args.self.now.name log c.args.self.now.noted _ _ noted
+    (λ none. c.in_ok-begin_notes.ensures.begun (done ∙ none) honest_notes)
+    (λ some. ap (λ j. g.J.Journal.notes j c.args.self.now.name)
+    (c.in_ok-begin_notes.ensures.later (subst (λ (k : ℕ). 1 ≤ k) (sym done) some))) in
+    record {
+      clean = c.in_ok-verdict.ensures.clean;
+      ends = noted_ends (g.J.Journal.header c.args.stores.now.journal c.args.self.now.name) c.args.self.now.name log
+          c.args.self.now.noted c.in-Ok.len (noted_of v c.args.digest.now r) _ _ noted.offset_is entries
+          (carried_entry first (g.J.Journal.header c.args.stores.now.journal c.args.self.now.name) log v
+          c.carry_out.new.state.parts finished r c.carry_out.new.growing _ c.args.self.now.name c.args.digest.now existed
+          later carried n) c.in-Ok.ensures.value
+          (c.in-Ok.ensures.noted (c.begin_notes.ensures.journal.honest ∙ honest_notes));
+    }

@@ -22,6 +22,9 @@ use Rattle.bw_session.proofs.JournalForms.{reported_away, away_either}
 use Rattle.bw_session.proofs.UseForms.{timely_push, timely_notice}
 use Rattle.std.proofs.Common.{inr}
 use Rattle.bw_session.specs.Servers.{part_in}
+use Rattle.std.proofs.lemmas.Bool.{false≢true}
+use Rattle.bw_model.specs.Book.{Log, log_of}
+use Rattle.bw_model.specs.CountedTurn.{is_pending}
 use Rattle.bw_session.proofs.server.Server.meet.Goals as goal
 
 pub returns-in_default-clause-uncalled : goal.returns-in_default-clause-uncalled
@@ -93,4 +96,15 @@ returns-in-Err-clause-turned g c =
           (session_in c.try_meet.new.self.sessions) book) (sym e.left.journal)
           (subst (λ (t : _). NotesNames (g.J.Journal.header c.args.self.now.stores.journal)
           (g.J.Journal.notes c.args.self.now.stores.journal) first (session_in t) book) (sym e.left.sessions) n));
+      ordered = λ honest honest_notes first book h n quiet log is waits.
+          let fresh = subst (λ (k : List ℕ). session_in c.args.self.now.sessions k ≡ None) (sym c.requires.name)
+          c.requires.fresh in
+          let unknown = unknown_here c.args.self.now.limit (store_since g.S.TakeStore first c.args.self.now.stores.store)
+          (session_in c.args.self.now.sessions) book h honest m.name fresh in
+          let away = away_either book m (map reply_of c.push.new.self.items) unknown
+          (ap (λ (rs : List model.Reply). is_turned_away rs || nat_le window m.number) reported ∙ e.away) in
+          let same = reported_away book m (map reply_of c.push.new.self.items)
+          (done_in c.try_meet.new.self.sessions m.name) away in
+          absurd (false≢true (sym quiet ∙ ap (λ (b : Book). is_pending (log_of b m.name)) (sym same)
+          ∙ ap (λ (l : Log). is_pending l) (sym is) ∙ waits));
     }

@@ -11,6 +11,9 @@ use Rattle.bw_session.specs.Noting.{IsNoted}
 use Rattle.bw_session.specs.Serving.{Answers, log_after}
 use Rattle.bw_session.proofs.AnswerForms.{answers_served, answers_refused, same_part, served_here, none_away}
 use Rattle.bw_session.proofs.UseForms.{timely_push, timely_notice}
+use Rattle.std.proofs.lemmas.Bool.{false≢true}
+use Rattle.bw_model.specs.CountedTurn.{is_pending}
+use Rattle.bw_session.specs.Ordering.{IsInOrder}
 use Rattle.bw_session.proofs.session.Session.answer.Goals as goal
 
 pub returns-in_default-clause-answers : goal.returns-in_default-clause-answers
@@ -85,3 +88,28 @@ returns-in_default-clause-uncalled g c = λ away. served_here c.serve.new.out.it
 
 pub returns-in-Err-clause-uncalled : goal.returns-in-Err-clause-uncalled
 returns-in-Err-clause-uncalled g c = λ away. c.in-Err.ensures.refused.left
+
+pub returns-in_default-clause-ordered : goal.returns-in_default-clause-ordered
+returns-in_default-clause-ordered g c = λ honest honest_notes first log h existed noted quiet.
+    let m : Message = message_of c.args.message.now in
+    subst (λ (b : Bool).
+    is_pending (cond b log (log_after log m (length c.serve.new.self.progress.ledger.outcomes))) ≡ true →
+    IsInOrder (g.J.Journal.header c.args.stores.now.journal c.args.self.now.progress.name) first
+    c.args.self.now.progress.name
+    (cond b log (log_after log m (length c.serve.new.self.progress.ledger.outcomes)))
+    c.args.self.now.progress.growing.limit (g.J.Journal.notes c.serve.new.stores.journal c.args.self.now.progress.name)
+    (g.S.TakeStore.contents c.serve.new.stores.store c.args.self.now.progress.name))
+    (sym (none_away c.serve.new.out.items c.in_default.ensures.reported))
+    (c.in_default.ensures.ordered honest honest_notes first log h existed noted quiet)
+
+pub returns-in-Err-clause-ordered : goal.returns-in-Err-clause-ordered
+returns-in-Err-clause-ordered g c = λ honest honest_notes first log h existed noted quiet waits.
+    let m : Message = message_of c.args.message.now in
+    let e = c.in-Err.ensures in
+    let reported : map reply_of c.push.new.self.items ≡ reply_of c.notice.result ∷ [] =
+    ap (map reply_of) (c.push.ensures.items ∙ ap (λ (rs : List Reply). rs ++ c.notice.result ∷ []) e.unreported) in
+    let away : is_turned_away (map reply_of c.push.new.self.items) ≡ true =
+    ap is_turned_away (reported ∙ ap (λ (r : model.Reply). r ∷ []) c.notice.ensures.value) in
+    absurd (false≢true (sym quiet
+    ∙ ap (λ (b : Bool).
+    is_pending (cond b log (log_after log m (length c.serve.new.self.progress.ledger.outcomes)))) (sym away) ∙ waits))

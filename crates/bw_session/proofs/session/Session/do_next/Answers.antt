@@ -28,6 +28,9 @@ use Rattle.bw_session.specs.Sessions.{part_of}
 use Rattle.bw_session.specs.KeptParts.{Part}
 use Rattle.bw_session.specs.Asking.{DoesFirst, TriesFirst}
 use Rattle.bw_session.proofs.AskForms.{does_first, tries_first, window_next}
+use Rattle.bw_session.specs.Ordering.{IsInOrder, IsUntried}
+use Rattle.bw_session.proofs.OrderForms.{step_then}
+use Rattle.bw_session.proofs.OrderSteps.{untried_kept}
 use Rattle.bw_session.proofs.session.Session.do_next.Goals as goal
 
 pub make_room-requires : goal.make_room-requires
@@ -274,3 +277,60 @@ returns-in_err-room-clause-refused g c =
       left = record { store = refl; journal = refl; progress = search rules; window = search rules };
       refused = search rules;
     })
+
+pub returns-in-Ok-clause-ordered : goal.returns-in-Ok-clause-ordered
+returns-in-Ok-clause-ordered g c = λ honest honest_notes first log h existed noted untried.
+    let m : Message = message_of c.args.message.now in
+    let w : List (Option (List ℕ)) = c.args.self.now.window in
+    let kept = c.in_ok-room.ensures.progress in
+    let here = next_prefix first log c.args.self.now c.make_room.new.self (g.S.TakeStore.contents c.args.stores.now.store)
+    m (meaning c.request-request.result) c.args.digest h kept c.requires.name c.requires.next c.requires.free
+    c.requires.slots c.request-request.ensures.value c.request-request.ensures.fits c.requires.digest in
+    let prefix = here.1 in
+    let next = c.requires.next in
+    let put = subst (λ (n : ℕ). IsNoted (g.J.Journal.header c.args.stores.now.journal c.args.self.now.progress.name)
+    c.args.self.now.progress.name (with_message log m) n
+    (g.J.Journal.notes c.args.stores.now.journal c.args.self.now.progress.name)) (sym kept.noted)
+    (notes_put first log c.args.self.now.progress.state.parts c.args.self.now.progress.ledger.outcomes w
+    c.args.self.now.progress.growing _ h m 0 _ c.args.self.now.progress.name c.args.self.now.progress.noted _
+    (omega (arith, next)) (omega arith) c.requires.free noted) in
+    let tried = untried_kept g.S.TakeStore g.J.Journal c.args.self.now.progress c.make_room.new.self.progress
+    c.args.stores.now kept untried in
+    step_then (λ hd x. IsUntried g.S.TakeStore g.J.Journal c.number_done.new.self c.number_done.new.stores)
+    c.make_room.new.self.progress.name c.args.self.now.progress.name (g.J.Journal.header c.args.stores.now.journal) _
+    first (with_message log m) c.make_room.new.self.progress.noted (g.J.Journal.notes c.args.stores.now.journal)
+    kept.name refl
+    (λ e n. c.in-Ok.ensures.ordered honest honest_notes first (with_message log m) prefix.0 prefix.1 e n tried)
+    existed put
+
+pub returns-in-Err-clause-ordered : goal.returns-in-Err-clause-ordered
+returns-in-Err-clause-ordered g c = λ honest honest_notes first log h existed noted untried.
+    let m : Message = message_of c.args.message.now in
+    let w : List (Option (List ℕ)) = c.args.self.now.window in
+    let kept = c.in_ok-room.ensures.progress in
+    let here = next_prefix first log c.args.self.now c.make_room.new.self (g.S.TakeStore.contents c.args.stores.now.store)
+    m (meaning c.request-request.result) c.args.digest h kept c.requires.name c.requires.next c.requires.free
+    c.requires.slots c.request-request.ensures.value c.request-request.ensures.fits c.requires.digest in
+    let prefix = here.1 in
+    let next = c.requires.next in
+    let put = subst (λ (n : ℕ). IsNoted (g.J.Journal.header c.args.stores.now.journal c.args.self.now.progress.name)
+    c.args.self.now.progress.name (with_message log m) n
+    (g.J.Journal.notes c.args.stores.now.journal c.args.self.now.progress.name)) (sym kept.noted)
+    (notes_put first log c.args.self.now.progress.state.parts c.args.self.now.progress.ledger.outcomes w
+    c.args.self.now.progress.growing _ h m 0 _ c.args.self.now.progress.name c.args.self.now.progress.noted _
+    (omega (arith, next)) (omega arith) c.requires.free noted) in
+    let tried = untried_kept g.S.TakeStore g.J.Journal c.args.self.now.progress c.make_room.new.self.progress
+    c.args.stores.now kept untried in
+    step_then (λ hd x. IsInOrder hd first x (with_message log m) c.args.self.now.progress.growing.limit
+    (g.J.Journal.notes c.number_done.new.stores.journal x) (g.S.TakeStore.contents c.number_done.new.stores.store x))
+    c.make_room.new.self.progress.name c.args.self.now.progress.name (g.J.Journal.header c.args.stores.now.journal) _
+    first (with_message log m) c.make_room.new.self.progress.noted (g.J.Journal.notes c.args.stores.now.journal)
+    kept.name refl
+    (λ e n. subst (λ (k : ℕ). IsInOrder
+    (g.J.Journal.header c.args.stores.now.journal c.make_room.new.self.progress.name) first
+    c.make_room.new.self.progress.name (with_message log m) k
+    (g.J.Journal.notes c.number_done.new.stores.journal c.make_room.new.self.progress.name)
+    (g.S.TakeStore.contents c.number_done.new.stores.store c.make_room.new.self.progress.name))
+    (ap (λ (x : Growing). x.limit) kept.growing)
+    (c.in-Err.ensures.ordered honest honest_notes first (with_message log m) prefix.0 prefix.1 e n tried))
+    existed put

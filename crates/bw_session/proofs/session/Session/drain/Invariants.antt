@@ -4,6 +4,7 @@ use Rattle.bw_model.specs.Book.{Log}
 use Rattle.bw_session.specs.Numbered.{KeepsBoth}
 use Rattle.bw_session.specs.Asking.{DoesConsecutively}
 use Rattle.bw_session.specs.Noting.{IsNoted}
+use Rattle.bw_session.specs.Ordering.{IsUntried}
 use Rattle.bw_session.specs.Reporting.{IsServing, IsTimely}
 use Rattle.bw_session.specs.Sessions.{CallsFew, KeepsTake, part_of}
 use Rattle.bw_session.specs.Runs.{with_more_done, HasDrained}
@@ -34,4 +35,13 @@ invariant-loop-slot g l = record {
       IsNoted (g.J.Journal.header l.fn.stores.journal l.fn.self.progress.name) l.fn.self.progress.name
       (with_more_done log (length l.out.items)) l.self.progress.noted
       (g.J.Journal.notes l.stores.journal l.fn.self.progress.name);
+  ordered : IsTrue (g.S.TakeStore.honest l.fn.stores.store) → IsTrue (g.J.Journal.honest l.fn.stores.journal) →
+      (first : Option (List ℕ)) (log : Log) →
+      HasDrained first log l.fn.out.items (part_of l.fn.self) (g.S.TakeStore.contents l.fn.stores.store l.fn.self.progress.name) →
+      (g.J.Journal.header l.fn.stores.journal l.fn.self.progress.name).existed ≡ is_some first →
+      IsNoted (g.J.Journal.header l.fn.stores.journal l.fn.self.progress.name) l.fn.self.progress.name
+      (with_more_done log (length l.fn.out.items)) l.fn.self.progress.noted
+      (g.J.Journal.notes l.fn.stores.journal l.fn.self.progress.name) →
+      IsUntried g.S.TakeStore g.J.Journal l.fn.self.progress l.fn.stores →
+      IsUntried g.S.TakeStore g.J.Journal l.self.progress l.stores;
 }

@@ -1,0 +1,41 @@
+-- A server over a folder that is killed leaves what a start takes as its premise.
+use Rattle.std.proofs.Common.{◌≡◌, ℕ, List, Option, ◌∙◌, ap, subst}
+use Rattle.std.specs.Prelude.{string_bytes}
+use Rattle.bw_store.specs.declared.store.TakeStore.{Ghosts as StoreGhosts}
+use Rattle.bw_disk.specs.declared.disk.Disk.{Ghosts as DiskGhosts}
+use Rattle.bw_journal.specs.declared.journal.Journal.{Ghosts as JournalGhosts}
+use Rattle.bw_folder.specs.Folders.{take_content}
+use Rattle.bw_folder.specs.Journals.{notes_at}
+use Rattle.bw_folder.specs.declared.folder.FolderStore.{FolderStore}
+use Rattle.bw_folder.specs.declared.journal.FolderJournal.{FolderJournal}
+use Rattle.bw_start.specs.LeftNames.{IsLeft}
+use Rattle.bw_left.specs.KilledFolders.{KilledFoldersAreLeft}
+use Rattle.bw_left.proofs.KilledServers.{killed_servers}
+use Rattle.bw_left.proofs.LeftPaths.{in_folders}
+
+-- where store and journal have of each name what is at its paths
+pub killed_folders : {D E F H : Type 0} (G : DiskGhosts D F) (K : DiskGhosts E H)
+    (S : StoreGhosts (FolderStore D F G)) (J : JournalGhosts (FolderJournal E H K)) →
+    ((x : FolderStore D F G) → S.contents x ≡ take_content (G.contents x.disk) (string_bytes x.folder)) →
+    ((x : FolderJournal E H K) → J.notes x ≡ notes_at (K.contents x.disk) (string_bytes x.folder)) →
+    KilledFoldersAreLeft G K S J
+killed_folders G K S J stores journals first old mid new book ts m replies r quiet small went same h one =
+    let x = killed_servers S J first old mid new book ts m replies r quiet small went same h in
+    let k = x.1 in
+    let files = stores new.stores.store in
+    let notes = journals new.stores.journal
+    ∙ ap (λ (f : List ℕ). notes_at (K.contents new.stores.journal.disk) f) one.folder in (
+      x.0,
+      record {
+        began = k.began;
+        frames = k.frames;
+        ahead = k.ahead;
+        left = in_folders new.limit (string_bytes new.stores.store.folder) first x.0.left
+            (K.contents new.stores.journal.disk) (G.contents new.stores.store.disk)
+            (subst (λ (c : List ℕ → Option (List ℕ)). IsLeft new.limit first x.0.left
+            (notes_at (K.contents new.stores.journal.disk) (string_bytes new.stores.store.folder)) c) files
+            (subst (λ (n : List ℕ → Option (List ℕ)). IsLeft new.limit first x.0.left n
+            (S.contents new.stores.store)) notes k.left))
+            one.alike;
+      },
+    )

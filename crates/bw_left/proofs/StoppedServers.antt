@@ -1,0 +1,292 @@
+-- A server that is stopped within a turn leaves a folder that a start takes over.
+use Rattle.std.proofs.Common.{◌≡◌, ◌⊎◌, inl, inr, ℕ, ◌<◌, ◌≤◌, Bool, true, false, cond, not, ◌&&◌, ◌||◌, List, [], ◌∷◌}
+use Rattle.std.proofs.Common.{length, take, map, Option, Some, None, is_some, refl, sym, ◌∙◌, ap, subst}
+use Rattle.std.proofs.Common.{arith, length-append}
+use Rattle.std.specs.Prelude.{IsTrue, nat_le, IsSome}
+use Rattle.std.specs.Str.{bytes_eq}
+use Rattle.std.proofs.lemmas.Bool.{and_parts, cases_lt}
+use Rattle.bw_model.specs.Counts.{Counts, last_count}
+use Rattle.bw_model.specs.Wire.{Message, Says, Second, is_name, is_request, last_number}
+use Rattle.std.specs.Option.{option_map_or}
+use Rattle.bw_model.specs.Book.{Log, Book, log_of, is_known, with_log, made}
+use Rattle.bw_model.specs.Replies.{Reply as ModelReply}
+use Rattle.bw_model.specs.Turn.{admitted_after, is_turned_away, window}
+use Rattle.bw_model.specs.CountedTurn.{IsTurn, is_pending, book_reported}
+use Rattle.bw_model.proofs.BookLemmas.{same_name, log-with_log_other}
+use Rattle.bw_model.proofs.TurnLaws.{quiet_drains}
+use Rattle.bw_store.specs.declared.store.TakeStore.{Ghosts as StoreGhosts}
+use Rattle.bw_wire.specs.declared.reply.Reply.{Reply}
+use Rattle.bw_wire.specs.Replies.{reply_of}
+use Rattle.bw_journal.specs.JournalHeaders.{Header, header_bytes, header_len}
+use Rattle.bw_journal.specs.Entries.{sealed_entries}
+use Rattle.bw_journal.specs.Noted.{entries_from, journal_of}
+use Rattle.bw_journal.specs.declared.journal.Journal.{Ghosts as JournalGhosts}
+use Rattle.bw_journal.proofs.Lengths.{length-header_bytes}
+use Rattle.bw_session.specs.Books.{failures_of, NotesBook, TurnsBook}
+use Rattle.bw_session.specs.Noting.{next_entry}
+use Rattle.bw_session.specs.Numbered.{with_done}
+use Rattle.bw_session.specs.Ordering.{IsInOrder, file_due}
+use Rattle.bw_session.specs.Servers.{done_in, store_since}
+use Rattle.bw_session.specs.Tables.{session_in}
+use Rattle.bw_session.specs.declared.session.Session.{Session}
+use Rattle.bw_session.specs.declared.server.Server.{Server}
+use Rattle.bw_session.proofs.ServerAnswers.{done_is, later_reported}
+use Rattle.bw_session.proofs.JournalForms.{reported_away}
+use Rattle.bw_session.proofs.ServerForms.{apart_names}
+use Rattle.bw_delivery.proofs.ClosedLaws.{done_stays}
+use Rattle.bw_start.specs.Left.{wanted_file}
+use Rattle.bw_start.specs.Names.{begins_take}
+use Rattle.bw_start.specs.LeftNames.{header_beside}
+use Rattle.bw_left.specs.LeftFolders.{IsOwnFolder, IsWrittenInOrder, EachIsInOrder, RunsOver, LeavesLater}
+use Rattle.bw_left.specs.StoppedTurns.{RunsHonestly, HadTurn, StoppedTurnsAreLeft}
+use Rattle.bw_left.proofs.LeftServers.{Stands, header_is, ordered_servers}
+
+-- a message changes no other name's log
+other_log : (book : Book) (m : Message) (replies : List ModelReply) (done : ℕ) (name : List ℕ) →
+    bytes_eq m.name name ≡ false → log_of (book_reported book m replies done) name ≡ log_of book name
+other_log book m replies done name apart =
+    go ((not (is_known book m.name) && nat_le window m.number) || is_turned_away replies)
+  where
+    log : Log
+    log = record { admitted = admitted_after (log_of book m.name) m; done = done }
+
+    go : (v : Bool) → log_of (cond v book (with_log book m.name log)) name ≡ log_of book name
+    go true = refl
+    go false = log-with_log_other book m.name name log apart
+
+-- a journal with a done number is no shorter than a header
+begun_long : (h : Header) (name : List ℕ) (log : Log) (journal : List ℕ) → Stands h name log (Some journal) →
+    length journal < header_len → log.done ≡ 0
+begun_long h name log journal (inl p) short = p.0
+begun_long h name log journal (inr (count, e)) short =
+    let same = ap length (some_same e) in
+    let long = length-header_bytes name h in
+    let one = length-append (journal_of h name log) (take count (next_entry h.existed name log)) in
+    let two = length-append (header_bytes name h)
+    (sealed_entries (entries_from h.existed log.admitted name 0 (take log.done log.admitted))) in
+    absurd (omega (arith, same, long, one, two, short))
+  where
+    some_same : {A : Type 0} {x y : A} → Some x ≡ Some y → x ≡ y
+    some_same e = cc
+
+-- what a store is to have of a name, in the words of a start
+due_wanted : (first : Option (List ℕ)) (log : Log) (limit : ℕ) →
+    file_due first log limit ≡ wanted_file first (made (is_some first) log.admitted log.done) limit
+due_wanted None log limit = refl
+due_wanted (Some bytes) log limit = refl
+
+-- in the words of a start
+in_order : (h : Header) (first : Option (List ℕ)) (name : List ℕ) (log : Log) (limit : ℕ) (journal file : Option (List ℕ)) →
+    h ≡ header_beside limit first → IsInOrder h first name log limit journal file →
+    IsWrittenInOrder limit first name log journal file
+in_order h first name log limit journal file e o =
+    let p = subst (λ (x : Header). IsInOrder x first name log limit journal file) e o in
+    record { begun = p.begun; noted = λ is. p.noted is ∙ due_wanted first (with_done log) limit }
+
+-- a number that waits under another name is as it was
+same_order : (limit : ℕ) (first : Option (List ℕ)) (name : List ℕ) (log log' : Log) (notes notes' file file' : Option (List ℕ)) →
+    log' ≡ log → notes' ≡ notes → file' ≡ file → IsWrittenInOrder limit first name log notes file →
+    IsWrittenInOrder limit first name log' notes' file'
+same_order limit first name log log' notes notes' file file' a b c o =
+    subst (λ (l : Log). IsWrittenInOrder limit first name l notes' file') (sym a)
+    (subst (λ (n : Option (List ℕ)). IsWrittenInOrder limit first name log n file') (sym b)
+    (subst (λ (x : Option (List ℕ)). IsWrittenInOrder limit first name log notes x) (sym c) o))
+
+or_true : (v : Bool) → v || true ≡ true
+or_true true = refl
+or_true false = refl
+
+-- a count never falls
+no_less : (a b : ℕ) (fails : Bool) → Counts a b fails → a ≤ b
+no_less a b false c = let e = c.quiet refl in omega (arith, e)
+no_less a b true c = go (cases_lt a last_count)
+  where
+    go : (a < last_count) ⊎ (last_count ≤ a) → a ≤ b
+    go (inl small) = let e = c.rises refl small in omega (arith, e)
+    go (inr large) = let e = c.stays large in omega (arith, e)
+
+pub fails_no_less : {X Y : Type 0} (S : StoreGhosts X) (J : JournalGhosts Y) (old new : Server X Y S J) (m : Message)
+    (replies : List Reply) → HadTurn S J old new m replies → failures_of S J old ≤ failures_of S J new
+fails_no_less S J old new m replies h = no_less (failures_of S J old) (failures_of S J new) h.both.0 h.both.1.failures
+
+module _ {X Y : Type 0} (S : StoreGhosts X) (J : JournalGhosts Y) (first : List ℕ → Option (List ℕ))
+    (old new : Server X Y S J) (book : Book) (m : Message) (replies : List Reply)
+    (r : RunsHonestly S J first old book) (waiting : EachIsInOrder S J first old book)
+    (quiet : is_pending (log_of book m.name) ≡ false) (h : HadTurn S J old new m replies) where
+  -- the turn of the book
+  abbrev pub turn_had : TurnsBook S J first old new book m replies
+  turn_had = h.turned r.runs.honest first book r.runs.held
+
+  reported : book_reported book m (map reply_of replies) (done_in new.sessions m.name) ≡ turn_had.later
+  reported =
+      later_reported (λ name. is_some (first name)) (failures_of S J old) (failures_of S J new) book m
+      (map reply_of replies) turn_had.later (done_in new.sessions m.name) turn_had.turned
+      (done_is new.limit (store_since S first new.stores.store) (session_in new.sessions) turn_had.later turn_had.held m.name)
+
+  now_noted : NotesBook S J first new turn_had.later
+  now_noted =
+      subst (λ (b : Book). NotesBook S J first new b) reported
+      (h.noted r.runs.honest r.honest_notes first book r.runs.held r.runs.noted)
+
+  others : (name : List ℕ) → bytes_eq m.name name ≡ false → log_of turn_had.later name ≡ log_of book name
+  others name apart =
+      ap (λ (b : Book). log_of b name) (sym reported)
+      ∙ other_log book m (map reply_of replies) (done_in new.sessions m.name) name apart
+
+  note_other : (name : List ℕ) → bytes_eq m.name name ≡ false →
+      J.notes new.stores.journal name ≡ J.notes old.stores.journal name
+  note_other name apart = h.both.1.other_notes r.honest_notes name (apart_names m.name name apart)
+
+  file_other : (name : List ℕ) → bytes_eq m.name name ≡ false →
+      S.contents new.stores.store name ≡ S.contents old.stores.store name
+  file_other name apart = h.both.1.others r.runs.honest name (apart_names m.name name apart)
+
+  headers : (name : List ℕ) → J.header new.stores.journal name ≡ J.header old.stores.journal name
+  headers name = h.both.1.headers r.honest_notes name
+
+  limits : (name : List ℕ) → (J.header new.stores.journal name).limit ≡ new.limit
+  limits name = ap (λ (x : Header). x.limit) (headers name) ∙ r.runs.own.limits name ∙ sym h.limit
+
+  is_head : J.header old.stores.journal m.name ≡ header_beside new.limit (first m.name)
+  is_head =
+      header_is (J.header old.stores.journal m.name) new.limit (first m.name)
+      (r.runs.own.limits m.name ∙ sym h.limit) (r.runs.noted.existed m.name)
+
+  is_named : IsTrue (is_name m.name)
+  is_named =
+      (and_parts (is_name m.name) (nat_le m.number (last_number Second))
+      (and_parts (is_name m.name && nat_le m.number (last_number Second)) (is_request m.request) h.fits).0).0
+
+  earlier_none : (name : List ℕ) → (log_of turn_had.later name).done ≡ 0 → (log_of book name).done ≡ 0
+  earlier_none name e =
+      let up = done_stays (λ n. is_some (first n)) book ((Says m, turn_had.turned.faults) ∷ []) name in
+      let same = ap (λ (b : Book). (log_of b name).done) turn_had.turned.left in
+      omega (arith, up, same, e)
+
+  own : IsOwnFolder new.limit first (J.header new.stores.journal) (J.notes new.stores.journal)
+  own = record {
+    limits = limits;
+    names = λ name some. by_name name some (bytes_eq m.name name) refl;
+    foreign = λ name journal bytes is short stood. by_file name journal bytes is short stood (bytes_eq m.name name) refl;
+  }
+    where
+      by_name : (name : List ℕ) → IsSome (J.notes new.stores.journal name) → (v : Bool) → bytes_eq m.name name ≡ v →
+          IsTrue (is_name name)
+      by_name name some true e = subst (λ (x : List ℕ). IsTrue (is_name x)) (same_name m.name name e) is_named
+      by_name name some false e = r.runs.own.names name (subst IsSome (note_other name e) some)
+
+      here : (journal bytes : List ℕ) → J.notes new.stores.journal m.name ≡ Some journal →
+          length journal < header_len → first m.name ≡ Some bytes → begins_take bytes ≡ false
+      here journal bytes is short stood =
+          let s = stands_now (session_in new.sessions m.name) refl in
+          let none = begun_long (J.header new.stores.journal m.name) m.name (log_of turn_had.later m.name) journal
+          (subst (Stands (J.header new.stores.journal m.name) m.name (log_of turn_had.later m.name)) is s) short in
+          r.foreign m.name bytes (earlier_none m.name none) stood
+        where
+          stands_now : (o : Option Session) → session_in new.sessions m.name ≡ o →
+              Stands (J.header new.stores.journal m.name) m.name (log_of turn_had.later m.name)
+              (J.notes new.stores.journal m.name)
+          stands_now (Some x) e = (now_noted.known m.name x e).stands
+          stands_now None e = inl (
+            done_is new.limit (store_since S first new.stores.store) (session_in new.sessions) turn_had.later turn_had.held m.name
+                ∙ ap (λ (o : Option Session). option_map_or (λ s. length s.progress.ledger.outcomes) o 0) e,
+            now_noted.unknown m.name e,
+          )
+
+      by_file : (name journal bytes : List ℕ) → J.notes new.stores.journal name ≡ Some journal →
+          length journal < header_len → first name ≡ Some bytes → (v : Bool) → bytes_eq m.name name ≡ v →
+          begins_take bytes ≡ false
+      by_file name journal bytes is short stood true e =
+          let back = sym (same_name m.name name e) in
+          here journal bytes (subst (λ (x : List ℕ). J.notes new.stores.journal x ≡ Some journal) back is) short
+          (subst (λ (x : List ℕ). first x ≡ Some bytes) back stood)
+      by_file name journal bytes is short stood false e =
+          r.runs.own.foreign name journal bytes (sym (note_other name e) ∙ is) short stood
+
+  runs : RunsOver S J first new turn_had.later
+  runs = record { honest = h.both.1.honest ∙ r.runs.honest; held = turn_had.held; noted = now_noted; own = own }
+
+  order : (name : List ℕ) → is_pending (log_of turn_had.later name) ≡ true →
+      IsWrittenInOrder new.limit (first name) name (log_of turn_had.later name) (J.notes new.stores.journal name)
+      (S.contents new.stores.store name)
+  order name waits = go (bytes_eq m.name name) refl
+    where
+      at_name : is_pending (log_of turn_had.later m.name) ≡ true →
+          IsWrittenInOrder new.limit (first m.name) m.name (log_of turn_had.later m.name) (J.notes new.stores.journal m.name)
+          (S.contents new.stores.store m.name)
+      at_name w =
+          in_order (J.header old.stores.journal m.name) (first m.name) m.name (log_of turn_had.later m.name) new.limit _ _ is_head
+          (subst (λ (l : ℕ). IsInOrder (J.header old.stores.journal m.name) (first m.name) m.name
+          (log_of turn_had.later m.name) l (J.notes new.stores.journal m.name) (S.contents new.stores.store m.name)) (sym h.limit)
+          (h.ordered r.runs.honest r.honest_notes first book r.runs.held r.runs.noted quiet
+          (log_of turn_had.later m.name) (ap (λ (b : Book). log_of b m.name) (sym reported)) w))
+
+      go : (v : Bool) → bytes_eq m.name name ≡ v →
+          IsWrittenInOrder new.limit (first name) name (log_of turn_had.later name) (J.notes new.stores.journal name)
+          (S.contents new.stores.store name)
+      go true e =
+          subst (λ (x : List ℕ). is_pending (log_of turn_had.later x) ≡ true →
+          IsWrittenInOrder new.limit (first x) x (log_of turn_had.later x) (J.notes new.stores.journal x)
+          (S.contents new.stores.store x)) (same_name m.name name e) at_name waits
+      go false e =
+          same_order new.limit (first name) name (log_of book name) (log_of turn_had.later name)
+          (J.notes old.stores.journal name) (J.notes new.stores.journal name) (S.contents old.stores.store name)
+          (S.contents new.stores.store name) (others name e) (note_other name e) (file_other name e)
+          (subst (λ (l : ℕ). IsWrittenInOrder l (first name) name (log_of book name) (J.notes old.stores.journal name)
+          (S.contents old.stores.store name)) (sym h.limit)
+          (waiting name (ap (λ (l : Log). is_pending l) (sym (others name e)) ∙ waits)))
+
+  honestly : RunsHonestly S J first new turn_had.later
+  honestly = record {
+    runs = runs;
+    honest_notes = h.both.1.honest_notes ∙ r.honest_notes;
+    foreign = λ name bytes none stood. r.foreign name bytes (earlier_none name none) stood;
+  }
+
+  pub stops : IsTurn (λ name. is_some (first name)) (failures_of S J old) (failures_of S J new) book (Says m)
+      (map reply_of replies) turn_had.later
+      × RunsHonestly S J first new turn_had.later × EachIsInOrder S J first new turn_had.later
+      × LeavesLater new.limit first turn_had.later (J.notes new.stores.journal) (S.contents new.stores.store)
+  stops = (turn_had.turned, honestly, order, ordered_servers S J first new turn_had.later runs order)
+
+  pub stopped : (later : Book)
+      × IsTurn (λ name. is_some (first name)) (failures_of S J old) (failures_of S J new) book (Says m)
+      (map reply_of replies) later
+      × RunsHonestly S J first new later × EachIsInOrder S J first new later
+      × LeavesLater new.limit first later (J.notes new.stores.journal) (S.contents new.stores.store)
+  stopped = (turn_had.later, stops.0, stops.1, stops.2, stops.3)
+
+  -- if no call failed, nothing waits afterwards
+  pub quiet_after : ((name : List ℕ) → is_pending (log_of book name) ≡ false) → failures_of S J old < last_count →
+      failures_of S J new ≡ failures_of S J old → (name : List ℕ) → is_pending (log_of turn_had.later name) ≡ false
+  quiet_after still small same name = go (bytes_eq m.name name) refl
+    where
+      turn_of : IsTurn (λ n. is_some (first n)) (failures_of S J old) (failures_of S J old) book (Says m)
+          (map reply_of replies) turn_had.later
+      turn_of =
+          subst (λ (k : ℕ). IsTurn (λ n. is_some (first n)) (failures_of S J old) k book (Says m) (map reply_of replies)
+          turn_had.later) same turn_had.turned
+
+      here : (v : Bool) → is_turned_away (map reply_of replies) ≡ v → is_pending (log_of turn_had.later m.name) ≡ false
+      here false e =
+          quiet_drains (λ n. is_some (first n)) (failures_of S J old) book m (map reply_of replies) turn_had.later turn_of
+          small e
+      here true e =
+          let book_is : turn_had.later ≡ book = sym reported
+          ∙ reported_away book m (map reply_of replies) (done_in new.sessions m.name) (away e) in
+          ap (λ (b : Book). is_pending (log_of b m.name)) book_is ∙ still m.name
+        where
+          away : is_turned_away (map reply_of replies) ≡ true →
+              ((not (is_known book m.name) && nat_le window m.number) || is_turned_away (map reply_of replies)) ≡ true
+          away e =
+              ap (λ (v : Bool). (not (is_known book m.name) && nat_le window m.number) || v) e
+              ∙ or_true (not (is_known book m.name) && nat_le window m.number)
+
+      go : (v : Bool) → bytes_eq m.name name ≡ v → is_pending (log_of turn_had.later name) ≡ false
+      go true e = subst (λ (x : List ℕ). is_pending (log_of turn_had.later x) ≡ false) (same_name m.name name e)
+          (here (is_turned_away (map reply_of replies)) refl)
+      go false e = ap (λ (l : Log). is_pending l) (others name e) ∙ still name
+
+pub stopped_turns : {X Y : Type 0} (S : StoreGhosts X) (J : JournalGhosts Y) → StoppedTurnsAreLeft S J
+stopped_turns S J first old new book m replies r waiting quiet h =
+    stopped S J first old new book m replies r waiting quiet h

@@ -1,0 +1,57 @@
+-- What a server over a folder leaves on its disks that is killed.
+use Rattle.std.specs.Prelude.{◌≡◌, ◌<◌, ℕ, false, Option, is_some, List, [], ◌∷◌, ◌++◌, map}
+use Rattle.std.specs.Prelude.{string_bytes}
+use Rattle.bw_model.specs.Counts.{last_count}
+use Rattle.bw_model.specs.Wire.{Message, Says}
+use Rattle.bw_model.specs.Book.{Book, log_of}
+use Rattle.bw_model.specs.Turn.{book_after}
+use Rattle.bw_model.specs.CountedTurn.{is_pending}
+use Rattle.bw_store.specs.declared.store.TakeStore.{Ghosts as StoreGhosts}
+use Rattle.bw_disk.specs.declared.disk.Disk.{Ghosts as DiskGhosts}
+use Rattle.bw_journal.specs.declared.journal.Journal.{Ghosts as JournalGhosts}
+use Rattle.bw_wire.specs.declared.reply.Reply.{Reply}
+use Rattle.bw_folder.specs.Folders.{take_path}
+use Rattle.bw_folder.specs.declared.folder.FolderStore.{FolderStore}
+use Rattle.bw_folder.specs.declared.journal.FolderJournal.{FolderJournal}
+use Rattle.bw_session.specs.Books.{failures_of}
+use Rattle.bw_session.specs.declared.server.Server.{Server}
+use Rattle.bw_start.specs.Started.{IsLeftIn}
+use Rattle.bw_left.specs.LeftFolders.{GoesAhead}
+use Rattle.bw_left.specs.StoppedLives.{StoppedLife}
+use Rattle.bw_left.specs.StoppedTurns.{RunsHonestly, HadTurn, HadTurns}
+
+module _ {D E F H : Type 0} (G : DiskGhosts D F) (K : DiskGhosts E H)
+    (S : StoreGhosts (FolderStore D F G)) (J : JournalGhosts (FolderJournal E H K)) where
+  -- the server's store and journal are of one folder, and their disks show alike whether something
+  -- is at the path of a take
+  pub record IsOverOneFolder (s : Server (FolderStore D F G) (FolderJournal E H K) S J) :
+      Type 0 where
+    pub folder : string_bytes s.stores.journal.folder ≡ string_bytes s.stores.store.folder
+    pub alike : (name : List ℕ) →
+        is_some (K.contents s.stores.journal.disk
+        (take_path (string_bytes s.stores.store.folder) name))
+        ≡ is_some (G.contents s.stores.store.disk
+        (take_path (string_bytes s.stores.store.folder) name))
+
+  -- A server was killed: these messages had their turns, from this book, and its disks have what
+  -- `start` takes as its premise, from the book that the life left.
+  pub record IsKilledOver (first : List ℕ → Option (List ℕ)) (book : Book) (messages : List Message)
+      (new : Server (FolderStore D F G) (FolderJournal E H K) S J) (life : StoppedLife) :
+      Type 0 where
+    pub began : life.began ≡ book
+    pub frames : map (λ t. t.0) life.turns ≡ map Says messages
+    pub ahead : GoesAhead (book_after (λ name. is_some (first name)) book life.turns) life.left
+    pub left : IsLeftIn new.limit (string_bytes new.stores.store.folder) first life.left
+        (K.contents new.stores.journal.disk) (G.contents new.stores.store.disk)
+
+  -- Whatever its disks are, as those that die in a call, if they are honest: a server under none of
+  -- whose names a number waits, and none of whose calls fails before its last turn, leaves that.
+  abbrev pub KilledFoldersAreLeft : Type 0
+  KilledFoldersAreLeft = (first : List ℕ → Option (List ℕ))
+      (old mid new : Server (FolderStore D F G) (FolderJournal E H K) S J) (book : Book)
+      (ts : List (Message × List Reply)) (m : Message) (replies : List Reply) →
+      RunsHonestly S J first old book → ((name : List ℕ) → is_pending (log_of book name) ≡ false) →
+      failures_of S J old < last_count → HadTurns S J old ts mid →
+      failures_of S J mid ≡ failures_of S J old → HadTurn S J mid new m replies →
+      IsOverOneFolder new →
+      (life : StoppedLife) × IsKilledOver first book (map (λ t. t.0) ts ++ m ∷ []) new life

@@ -1,0 +1,79 @@
+-- What a server leaves in its folder that is stopped within a turn, by what `turn` of bw_session
+-- states.
+use Rattle.std.specs.Prelude.{◌≡◌, ◌<◌, ℕ, false, Option, Some, is_some, IsTrue, List, [], ◌∷◌}
+use Rattle.std.specs.Prelude.{◌++◌, map}
+use Rattle.bw_model.specs.Counts.{last_count}
+use Rattle.bw_model.specs.Wire.{Message, Says, Second, is_frame}
+use Rattle.bw_model.specs.Book.{Book, log_of}
+use Rattle.bw_model.specs.Turn.{book_after}
+use Rattle.bw_model.specs.CountedTurn.{IsTurn, is_pending}
+use Rattle.bw_store.specs.declared.store.TakeStore.{Ghosts as StoreGhosts}
+use Rattle.bw_journal.specs.declared.journal.Journal.{Ghosts as JournalGhosts}
+use Rattle.bw_wire.specs.declared.reply.Reply.{Reply}
+use Rattle.bw_wire.specs.Replies.{reply_of}
+use Rattle.bw_session.specs.Books.{failures_of, TurnsBooks, NotesBooks, OrdersBooks, UsesInTurn}
+use Rattle.bw_session.specs.declared.server.Server.{Server}
+use Rattle.bw_start.specs.Names.{begins_take}
+use Rattle.bw_start.specs.LeftNames.{IsLeft}
+use Rattle.bw_left.specs.LeftFolders.{RunsOver, EachIsInOrder, LeavesLater, GoesAhead}
+use Rattle.bw_left.specs.StoppedLives.{StoppedLife}
+
+module _ {X Y : Type 0} (S : StoreGhosts X) (J : JournalGhosts Y) where
+  -- The server holds the book over an honest store, and an honest journal has what the book says.
+  -- No file that begins as this server's existed under a name of which nothing is done.
+  pub record RunsHonestly (first : List ℕ → Option (List ℕ)) (s : Server X Y S J) (book : Book) :
+      Type 0 where
+    pub runs : RunsOver S J first s book
+    pub honest_notes : IsTrue (J.honest s.stores.journal)
+    pub foreign : (name bytes : List ℕ) → (log_of book name).done ≡ 0 → first name ≡ Some bytes →
+        begins_take bytes ≡ false
+
+  -- A message had its turn: what `turn` states of it.
+  pub record HadTurn (old new : Server X Y S J) (m : Message) (replies : List Reply) : Type 0 where
+    pub fits : IsTrue (is_frame Second (Says m))
+    pub turned : TurnsBooks S J old new m replies
+    pub noted : NotesBooks S J old new m replies
+    pub ordered : OrdersBooks S J old new m replies
+    pub both : UsesInTurn S J old new m replies
+    pub limit : new.limit ≡ old.limit
+
+  -- messages had their turns, one after another
+  abbrev pub HadTurns : Server X Y S J → List (Message × List Reply) → Server X Y S J → Type 0
+  HadTurns old [] new = new ≡ old
+  HadTurns old (t ∷ ts) new = (mid : Server X Y S J) × HadTurn old mid t.0 t.1 × HadTurns mid ts new
+
+  -- Whichever call fails in a turn, as in a disk that dies in it, the folder is one that a start
+  -- takes over, from a book that this turn leads to, or from that with numbers done that wait; if
+  -- nothing waited under the message's name, and each number that waits was written in order, as it
+  -- is again.
+  abbrev pub StoppedTurnsAreLeft : Type 0
+  StoppedTurnsAreLeft = (first : List ℕ → Option (List ℕ)) (old new : Server X Y S J) (book : Book)
+      (m : Message) (replies : List Reply) → RunsHonestly first old book →
+      EachIsInOrder S J first old book → is_pending (log_of book m.name) ≡ false →
+      HadTurn old new m replies →
+      (later : Book)
+      × IsTurn (λ name. is_some (first name)) (failures_of S J old) (failures_of S J new) book
+      (Says m) (map reply_of replies) later
+      × RunsHonestly first new later × EachIsInOrder S J first new later
+      × LeavesLater new.limit first later (J.notes new.stores.journal) (S.contents new.stores.store)
+
+  -- A server was killed, and left this: these messages had their turns, from this book, and the
+  -- folder is one that a start takes over from the book that the life left.
+  pub record IsKilled (first : List ℕ → Option (List ℕ)) (book : Book) (messages : List Message)
+      (new : Server X Y S J) (life : StoppedLife) : Type 0 where
+    pub began : life.began ≡ book
+    pub frames : map (λ t. t.0) life.turns ≡ map Says messages
+    pub ahead : GoesAhead (book_after (λ name. is_some (first name)) book life.turns) life.left
+    pub left : IsLeft new.limit first life.left (J.notes new.stores.journal)
+        (S.contents new.stores.store)
+
+  -- A server under none of whose names a number waits, as each that was started, and none of whose
+  -- calls fails before its last turn, as of a process that is killed in it, leaves what a start
+  -- takes over: whichever calls fail in that turn.
+  abbrev pub KilledServersAreLeft : Type 0
+  KilledServersAreLeft = (first : List ℕ → Option (List ℕ)) (old mid new : Server X Y S J)
+      (book : Book) (ts : List (Message × List Reply)) (m : Message) (replies : List Reply) →
+      RunsHonestly first old book → ((name : List ℕ) → is_pending (log_of book name) ≡ false) →
+      failures_of S J old < last_count → HadTurns old ts mid →
+      failures_of S J mid ≡ failures_of S J old → HadTurn mid new m replies →
+      (life : StoppedLife) × IsKilled first book (map (λ t. t.0) ts ++ m ∷ []) new life
