@@ -1,5 +1,5 @@
 -- A server is asked, link after link.
-use Rattle.std.proofs.Common.{◌≡◌, ◌+◌, ◌∙◌, ℕ, suc, false, List, [], ◌∷◌, ◌++◌, Option, Some, None, Result, Ok, Err, IfSome, OnErr, OnOk, ap, sym, refl, arith, append_assoc, append-nil, subst}
+use Rattle.std.proofs.Common.{◌≡◌, ◌+◌, ◌∙◌, ℕ, suc, false, List, [], ◌++◌, Option, Some, None, Result, Ok, Err, IfSome, OnErr, OnOk, ap, sym, refl, arith, append_assoc, append-nil, subst}
 use Rattle.bw_stream.specs.Moves.{Begins, Writes}
 use Rattle.bw_stream.specs.declared.sink.Sink.{Ghosts as Writer}
 use Rattle.bw_stream.specs.declared.source.Source.{Ghosts as Reader}
@@ -11,7 +11,7 @@ use Rattle.bw_upload.specs.Backoff.{is_spent}
 use Rattle.bw_send_file.specs.Sendings.{Ways}
 use Rattle.bw_send_state.specs.declared.asking.NotAsked.{NotAsked}
 use Rattle.bw_send_state.specs.declared.asking.NotAsked.TheVariants.{Fruitless, Memory}
-use Rattle.bw_send_state.specs.Asks.{AnswersAsk, AnswersOver, AsksInVain, AsksOnce, AsksServer, DialsToAsk, HasAnswered, IsAnswered, WaitsToAsk}
+use Rattle.bw_send_state.specs.Asks.{AnswersAsk, AnswersOver, AsksInVain, AsksServer, DialsToAsk, HasAnswered, IsAnswered, WaitsToAsk}
 
 -- more may come after a text of which a prefix was written
 pub begins_more : (old new : Option (List ℕ)) (a b : List ℕ) → Begins old a new → Begins old (a ++ b) new

@@ -1,10 +1,9 @@
 -- A keeper of a state is told how far its sender is.
-use Rattle.std.proofs.Common.{◌≡◌, ◌∙◌, ℕ, Bool, true, false, List, Option, ap, sym, refl, inl, inr, subst}
+use Rattle.std.proofs.Common.{◌≡◌, ◌∙◌, Bool, true, false, ap, sym, refl}
 use Rattle.std.specs.Prelude.{is_none}
 use Rattle.bw_console.specs.Printing.{failures_if}
-use Rattle.bw_model.specs.World.{Sender}
 use Rattle.bw_resume.specs.declared.state_files.StateLog.{Ghosts as LogGhosts}
-use Rattle.bw_send_state.specs.NotedCounts.{KeepsFault, NotesCount}
+use Rattle.bw_send_state.specs.NotedCounts.{KeepsFault}
 use Rattle.bw_send_state.specs.declared.keeper.StateKeeper.{StateKeeper}
 
 module _ {L T : Type 0} (log : LogGhosts L) where

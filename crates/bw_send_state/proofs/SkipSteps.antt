@@ -1,5 +1,5 @@
 -- A feed gives requests, one after another.
-use Rattle.std.proofs.Common.{◌≡◌, ◌≢◌, ◌⊎◌, ◌≤◌, ◌<◌, ◌+◌, ◌∙◌, ℕ, Bool, true, false, List, [], ◌∷◌, ◌++◌, Ok, Err, length, ap, sym, refl, arith, inl, inr, subst, length-append}
+use Rattle.std.proofs.Common.{◌≡◌, ◌<◌, ◌+◌, ◌∙◌, ℕ, Bool, true, false, List, [], ◌∷◌, ◌++◌, Ok, Err, length, ap, sym, refl, arith, inl, inr, subst, length-append}
 use Rattle.std.specs.Prelude.{◌||◌}
 use Rattle.std.specs.List.{list_any, AllByRecursion}
 use Rattle.std.proofs.lemmas.List.Folds.{list_any-append}
@@ -12,7 +12,7 @@ use Rattle.bw_upload.specs.declared.feed.Given.TheVariants as gives
 use Rattle.bw_ports.specs.declared.recording_files.FileStamp.{FileStamp}
 use Rattle.bw_send_file.specs.declared.fault.FeedFault.{FeedFault}
 use Rattle.bw_send_state.specs.TakeOpenings.{IsNoBlock, StopsAt, StopsOpening}
-use Rattle.bw_send_state.specs.SkippedRequests.{FailsFirst, GivesFirst, LacksFirst, PassesBy, PassesFirst, SkipsBy}
+use Rattle.bw_send_state.specs.SkippedRequests.{FailsFirst, GivesFirst, LacksFirst, PassesBy, PassesFirst}
 
 module _ {F X : Type 0} (feed : FeedGhosts F X) where
   pub gives_more : (given : List Request) (f g h : F) (r : Request) → GivesFirst feed given f g →

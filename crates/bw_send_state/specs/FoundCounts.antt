@@ -1,6 +1,6 @@
 -- What is found at a state's path, and where a sender begins by it.
 use Rattle.std.specs.Prelude.{◌≡◌, ◌⊎◌, ◌-◌, ℕ, zero, suc, Option, Some, List, [], ◌∷◌, nat_lt, take, unwrap_or, length}
-use Rattle.std.specs.Prelude.{if◌then◌else◌, Bool, true, false, ◌||◌, ◌&&◌, ◌==◌, nat_eq, not, is_none, is_some, codes}
+use Rattle.std.specs.Prelude.{if◌then◌else◌, Bool, true, false, ◌||◌, ◌&&◌, ◌==◌, nat_eq, is_none, is_some, codes}
 use Rattle.std.specs.List.{starts_with, slice_index}
 use Rattle.bw_stream.specs.Moves.{Keeps}
 use Rattle.bw_stream.specs.Readers.{Of}

@@ -1,5 +1,5 @@
 //! Where a state is, and what it says.
-ghost use Rattle.std.specs.Prelude.{◌≡◌, ◌≤◌, ◌⊎◌, true, false, ℕ, List, Some, IfOk, OnOk, OnErr, take};
+ghost use Rattle.std.specs.Prelude.{◌≡◌, ◌≤◌, ◌⊎◌, true, false, IfOk, OnOk, OnErr, take};
 ghost use Rattle.bw_stream.specs.Moves.{one_more};
 ghost use Rattle.bw_stream.specs.Readers.{Of};
 ghost use Rattle.bw_plan.specs.Cleaning.{are_zero as are_bytes_zero};
@@ -47,13 +47,14 @@ pub(crate) fn find_count<B: StateFiles>(
     path: &str,
     header: &[u8],
 ) -> io::Result<Found>
-    ensures found { IfOk result (λ found. IsFound (B.state_at states.old path.now) header.now found) }
+    ensures found { IfOk result (λ found.
+        IsFound (B.state_at states.old path.now) header.now found) }
     ensures range { IfOk result (λ found. found.count ≤ most_settled) }
     ensures kept { B.state_at states.new ≡ B.state_at states.old }
     ensures count { OnOk result (B.failures states.new ≡ B.failures states.old) }
     ensures err { OnErr result ((B.failures states.new ≡ one_more (B.failures states.old))
-        ⊎ ((B.failures states.new ≡ B.failures states.old) × Of (B.state_at states.old path.now) (λ xs.
-        may_begin_state (take most_bytes xs) ≡ false))) }
+        ⊎ ((B.failures states.new ≡ B.failures states.old)
+        × Of (B.state_at states.old path.now) (λ xs. may_begin_state (take most_bytes xs) ≡ false))) }
 {
     let bytes = states.read(path, MOST_BYTES)?;
     if !may_be_state(bytes.as_slice()) {

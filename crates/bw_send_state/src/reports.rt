@@ -2,7 +2,8 @@
 ghost use Rattle.std.specs.Prelude.{◌≡◌, ℕ, List, IfOk, MatchOption, string_bytes};
 ghost use Rattle.std.specs.IoError.{error_kind};
 ghost use Rattle.bw_console.specs.Printing.{IsPrint, Nothing, Print};
-ghost use Rattle.bw_send_state.specs.StateReports.{ReportsStart, ReportsUnkept, start_text, unkept_text};
+ghost use Rattle.bw_send_state.specs.StateReports.{ReportsStart, ReportsUnkept};
+ghost use Rattle.bw_send_state.specs.StateReports.{start_text, unkept_text};
 
 use bw_console::print::{give_up, print_diagnostic};
 use bw_console::{Exit, Fault};
@@ -51,7 +52,8 @@ pub(crate) fn report_unkept<E: Sink>(
 }
 
 fn unkept_line(alloc: Global, path: &str, error: &io::Error) -> Result<String, AllocError>
-    ensures { IfOk result (λ line. (reason : List ℕ) × (string_bytes line ≡ unkept_text path.now reason)) }
+    ensures { IfOk result (λ line. (reason : List ℕ)
+        × (string_bytes line ≡ unkept_text path.now reason)) }
 {
     let reason = format!(in alloc; "{error}")?;
     line_with(alloc, path, reason.as_str())

@@ -43,8 +43,8 @@ pub(crate) fn send_rest<F: RecordingFiles, P: Pause, D: Dial, V: Observer, W: Si
         D.Writer.Sink job.now.recorder options.now count b (ways pause.new dial.new) }
     ensures did { (did : Packing) × (did.exit ≡ result)
         × SendsFrom (sending_side ⟦<PlanFeed<F::File, F::Stamped> as Feed>⟧
-        (LooksAt F.Stamped.Stamped) P.Pause D.Dial D.Reader.Source D.Writer.Sink) job.now options.now
-        (file_of job.now (F.file_at files.old) (F.stamp_at files.old)) count
+        (LooksAt F.Stamped.Stamped) P.Pause D.Dial D.Reader.Source D.Writer.Sink) job.now
+        options.now (file_of job.now (F.file_at files.old) (F.stamp_at files.old)) count
         (ways pause.old dial.old) (ways pause.new dial.new) did
         × (F.failures files.new ≡ failures_if did.is_system_well (F.failures files.old))
         × HasPacked W.Sink E.Sink did out.old out.new faults.old faults.new }

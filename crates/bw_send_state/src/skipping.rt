@@ -49,9 +49,10 @@ pub(crate) fn pass_over<R: Source + Drop, S: Stamped + Drop>(
     ensures known { IfOk result (λ all. all ≡ true → (requests : List Message) →
         ⟦<PlanFeed<R, S> as Feed>⟧.left feed.old requests →
         SkipsFirst count requests (⟦<PlanFeed<R, S> as Feed>⟧.left feed.new)) }
-    ensures ok { IfOk result (λ all. PassesBy ⟦<PlanFeed<R, S> as Feed>⟧ all feed.old.stamp first.now count
-        feed.old feed.new) }
-    ensures err { IfErr result (λ fault. FailsFirst ⟦<PlanFeed<R, S> as Feed>⟧ count feed.old fault) }
+    ensures ok { IfOk result (λ all. PassesBy ⟦<PlanFeed<R, S> as Feed>⟧ all
+        feed.old.stamp first.now count feed.old feed.new) }
+    ensures err { IfErr result (λ fault.
+        FailsFirst ⟦<PlanFeed<R, S> as Feed>⟧ count feed.old fault) }
 {
     let now = feed.stamp();
     if now.len != first.len || now.changed != first.changed {

@@ -1,4 +1,4 @@
-use Rattle.std.proofs.Common.{◌∙◌, inl, inr, refl, rules, sym, true}
+use Rattle.std.proofs.Common.{inl, inr, refl, rules, sym, true}
 use Rattle.bw_console.specs.Printing.{Nothing}
 use Rattle.bw_console.specs.declared.exit.Exit.TheVariants as exits
 use Rattle.bw_send_state.proofs.starting.begin_at.Goals as goal
