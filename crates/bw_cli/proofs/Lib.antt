@@ -1,3 +1,2 @@
 pub mod ProgramLemmas
 mod InspectionLemmas
-mod UploadLemmas

@@ -102,7 +102,7 @@ abbrev pub IsUnread : Bool → Outcome → Type 0
 IsUnread true did = IsOutOfMemory did
 IsUnread false did = (kind : ErrorKind) × IsBadArgv kind did
 
-module _ {S T F H G M Ed LK DK DF N X Y Z P R W L K D A B U J Q I O E V C : Type 0} (host : HostSide S T F H G M Ed LK DK DF I O E)
+module _ {S T F H G M SB SL Ed LK DK DF N X Y Z P R W L K D A B U J Q I O E V C : Type 0} (host : HostSide S T F H G M SB SL Ed LK DK DF I O E)
     (server_side : ServerSide X Y Z P R W L K N) (sender_side : SenderSide D A B)
     (upload_side : UploadSide U J Q) (network : NetworkGhosts N X P D R W A B) (listener_setup : ListenerSetupGhosts N L K)
     (starter : StartGhosts N (Server X Y server_side.store server_side.journal)) where
@@ -136,7 +136,7 @@ module _ {S T F H G M Ed LK DK DF N X Y Z P R W L K D A B U J Q I O E V C : Type
       × IsHostWell failed x' × (x'.files ≡ x.files) × (x'.network ≡ x.network)
       × (x'.pause ≡ x.pause) × (x'.disk ≡ x.disk)
   IsDoneFor file_at failed (Run (SendFile sender)) exit x x' =
-      SendsByState upload_side sender_side network host.files host.out host.reported host.kept_at sender exit
+      SendsByState upload_side sender_side network host.files host.states host.out host.reported sender exit
       x.files x'.files x.network x.pause x'.pause x.out x'.out x.faults x'.faults
       × IsHostWell failed x' × (x'.network ≡ x.network) × (x'.input ≡ x.input) × (x'.disk ≡ x.disk)
   IsDoneFor file_at failed (Run (SendPcm sender)) exit x x' =

@@ -16,15 +16,27 @@ use Rattle.bw_lock.specs.declared.folder_locks.FolderLocks.{Ghosts as LockGhosts
 use Rattle.bw_ports.specs.declared.system.System.{Ghosts as SystemGhosts}
 use Rattle.bw_ports.specs.declared.pause.Pause.{Ghosts as PauseGhosts}
 use Rattle.bw_ports.specs.declared.recording_files.FileStamp.{FileStamp}
+use Rattle.bw_resume.specs.declared.state_files.StateFiles.{Ghosts as StateGhosts}
+use Rattle.bw_resume.specs.declared.state_files.StateLog.{Ghosts as LogGhosts}
 use Rattle.bw_send_file.specs.declared.fault.FeedFault.{FeedFault}
 use Rattle.bw_upload.specs.declared.feed.Feed.{Ghosts as FeedGhosts}
 
--- the system, the files of recordings, what the states of their senders have, how files are changed
--- in place, the locks and the disk of servers' folders, and the process's streams
-pub record HostSide (S T F H G M J LK DK DF I O E : Type 0) : Type 1 where
+-- what the states of senders have, and the files that they are kept in
+pub record StateSide (F B L : Type 0) : Type 1 where
+  pub kept_at : F → List ℕ → Option (List ℕ)
+  pub files : StateGhosts B L
+  pub log : LogGhosts L
+
+abbrev pub state_side : {F B L : Type 0} → (F → List ℕ → Option (List ℕ)) → StateGhosts B L → LogGhosts L →
+    StateSide F B L
+state_side kept_at files log = record { kept_at = kept_at; files = files; log = log }
+
+-- the system, the files of recordings, the states of their senders, how files are changed in place,
+-- the locks and the disk of servers' folders, and the process's streams
+pub record HostSide (S T F H G M SB SL J LK DK DF I O E : Type 0) : Type 1 where
   pub system : SystemGhosts S T
   pub files : FileGhosts F H G M
-  pub kept_at : F → List ℕ → Option (List ℕ)
+  pub states : StateSide F SB SL
   pub edits : EditGhosts F J
   pub locks : LockGhosts F LK
   pub disk : DiskGhosts DK DF
@@ -32,13 +44,13 @@ pub record HostSide (S T F H G M J LK DK DF I O E : Type 0) : Type 1 where
   pub out : Writer O
   pub reported : Writer E
 
-abbrev pub host_side : {S T F H G M J LK DK DF I O E : Type 0} → SystemGhosts S T → FileGhosts F H G M →
-    (F → List ℕ → Option (List ℕ)) → EditGhosts F J → LockGhosts F LK → DiskGhosts DK DF → Reader I → Writer O →
-    Writer E → HostSide S T F H G M J LK DK DF I O E
-host_side system files kept_at edits locks disk input out reported = record {
+abbrev pub host_side : {S T F H G M SB SL J LK DK DF I O E : Type 0} → SystemGhosts S T → FileGhosts F H G M →
+    StateSide F SB SL → EditGhosts F J → LockGhosts F LK → DiskGhosts DK DF → Reader I → Writer O →
+    Writer E → HostSide S T F H G M SB SL J LK DK DF I O E
+host_side system files states edits locks disk input out reported = record {
   system = system;
   files = files;
-  kept_at = kept_at;
+  states = states;
   edits = edits;
   locks = locks;
   disk = disk;

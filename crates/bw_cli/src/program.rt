@@ -8,7 +8,7 @@ ghost use Rattle.bw_console.specs.declared.exit.Exit.{Exit};
 ghost use Rattle.bw_console.specs.Exits.{status_of};
 ghost use Rattle.bw_send_file.specs.FileLooks.{LooksAt};
 ghost use Rattle.bw_cli.specs.Programs.{IsDoneFor, IsProgram, IsReporting};
-ghost use Rattle.bw_cli.specs.Sides.{host_side, sender_side, server_side, upload_side};
+ghost use Rattle.bw_cli.specs.Sides.{host_side, sender_side, server_side, state_side, upload_side};
 
 use crate::folders::work_on_takes;
 use crate::inspections::{inspect_as, inspect_one};
@@ -63,7 +63,8 @@ pub fn start<
     G: Observer,
 >(alloc: Global, outside: &mut Outside<S, F, D, N, P, R, W, E, V, G>) -> ExitCode
     ensures { (exit : Exit) × (exit_status result ≡ status_of exit) × IsProgram
-        (host_side S.System F.RecordingFiles F.kept_at F.EditedFiles F.FolderLocks D.Disk R.Source W.Sink E.Sink)
+        (host_side S.System F.RecordingFiles (state_side F.kept_at F.States.StateFiles F.States.Log.StateLog)
+        F.EditedFiles F.FolderLocks D.Disk R.Source W.Sink E.Sink)
         (server_side N.Store.TakeStore J.Journal ⟦<NoJournal as Journal>⟧ N.Peers.Peers
         N.Peers.Reader.Source N.Peers.Writer.Sink N.Reactor.Reactor N.Reactor.Link.Link N.NameRule)
         (sender_side N.Dial.Dial N.Dial.Reader.Source N.Dial.Writer.Sink)
@@ -88,7 +89,8 @@ fn obey<
     V: Watch,
     G: Observer,
 >(alloc: Global, outside: &mut Outside<S, F, D, N, P, R, W, E, V, G>) -> Exit
-    ensures { IsProgram (host_side S.System F.RecordingFiles F.kept_at F.EditedFiles F.FolderLocks D.Disk R.Source W.Sink E.Sink)
+    ensures { IsProgram (host_side S.System F.RecordingFiles (state_side F.kept_at F.States.StateFiles F.States.Log.StateLog)
+        F.EditedFiles F.FolderLocks D.Disk R.Source W.Sink E.Sink)
         (server_side N.Store.TakeStore J.Journal ⟦<NoJournal as Journal>⟧ N.Peers.Peers
         N.Peers.Reader.Source N.Peers.Writer.Sink N.Reactor.Reactor N.Reactor.Link.Link N.NameRule)
         (sender_side N.Dial.Dial N.Dial.Reader.Source N.Dial.Writer.Sink)
@@ -116,7 +118,8 @@ fn answer<
     V: Watch,
     G: Observer,
 >(alloc: Global, words: &[String], outside: &mut Outside<S, F, D, N, P, R, W, E, V, G>) -> Exit
-    ensures { IsProgram (host_side S.System F.RecordingFiles F.kept_at F.EditedFiles F.FolderLocks D.Disk R.Source W.Sink E.Sink)
+    ensures { IsProgram (host_side S.System F.RecordingFiles (state_side F.kept_at F.States.StateFiles F.States.Log.StateLog)
+        F.EditedFiles F.FolderLocks D.Disk R.Source W.Sink E.Sink)
         (server_side N.Store.TakeStore J.Journal ⟦<NoJournal as Journal>⟧ N.Peers.Peers
         N.Peers.Reader.Source N.Peers.Writer.Sink N.Reactor.Reactor N.Reactor.Link.Link N.NameRule)
         (sender_side N.Dial.Dial N.Dial.Reader.Source N.Dial.Writer.Sink)
@@ -145,7 +148,8 @@ fn perform<
     G: Observer,
 >(alloc: Global, line: &CommandLine, outside: &mut Outside<S, F, D, N, P, R, W, E, V, G>) -> Exit
     requires { HasNumbersInRange line.now }
-    ensures { IsDoneFor (host_side S.System F.RecordingFiles F.kept_at F.EditedFiles F.FolderLocks D.Disk R.Source W.Sink E.Sink)
+    ensures { IsDoneFor (host_side S.System F.RecordingFiles (state_side F.kept_at F.States.StateFiles F.States.Log.StateLog)
+        F.EditedFiles F.FolderLocks D.Disk R.Source W.Sink E.Sink)
         (server_side N.Store.TakeStore J.Journal ⟦<NoJournal as Journal>⟧ N.Peers.Peers
         N.Peers.Reader.Source N.Peers.Writer.Sink N.Reactor.Reactor N.Reactor.Link.Link N.NameRule)
         (sender_side N.Dial.Dial N.Dial.Reader.Source N.Dial.Writer.Sink)
@@ -179,7 +183,8 @@ fn run<
     G: Observer,
 >(alloc: Global, task: &Task, outside: &mut Outside<S, F, D, N, P, R, W, E, V, G>) -> Exit
     requires { HasNumbersInRange (CommandLine.Run task.now) }
-    ensures { IsDoneFor (host_side S.System F.RecordingFiles F.kept_at F.EditedFiles F.FolderLocks D.Disk R.Source W.Sink E.Sink)
+    ensures { IsDoneFor (host_side S.System F.RecordingFiles (state_side F.kept_at F.States.StateFiles F.States.Log.StateLog)
+        F.EditedFiles F.FolderLocks D.Disk R.Source W.Sink E.Sink)
         (server_side N.Store.TakeStore J.Journal ⟦<NoJournal as Journal>⟧ N.Peers.Peers
         N.Peers.Reader.Source N.Peers.Writer.Sink N.Reactor.Reactor N.Reactor.Link.Link N.NameRule)
         (sender_side N.Dial.Dial N.Dial.Reader.Source N.Dial.Writer.Sink)

@@ -1,8 +1,8 @@
 //! The command that sends a recording's file, as a command line asks for it.
-ghost use Rattle.std.specs.Prelude.{◌≡◌, Some};
+ghost use Rattle.std.specs.Prelude.{Some};
 ghost use Rattle.bw_send_file.specs.FileLooks.{LooksAt};
-ghost use Rattle.bw_cli.specs.Sides.{sender_side, upload_side};
-ghost use Rattle.bw_cli.specs.Uploads.{IsRecorderOf, SendsByState, SendsKept, SendsRecording};
+ghost use Rattle.bw_cli.specs.Sides.{sender_side, state_side, upload_side};
+ghost use Rattle.bw_cli.specs.Uploads.{IsRecorderOf, SendsByState, SendsOrGivesUp, SendsRecording};
 
 use crate::recordings::recording_of;
 use bw_args::FileSender;
@@ -13,7 +13,7 @@ use bw_ports::{Network, Pause, RecordingFiles};
 use bw_resume::StateKeeping;
 use bw_send_file::{PlanFeed, Recorder, send_file};
 use bw_send_pcm::PcmFeed;
-use bw_send_state::{StatePlace, send_file_on};
+use bw_send_state::{Job, StatePlace, send_file_on};
 use bw_stream::Sink;
 use bw_upload::{Feed, Observer};
 use std::alloc::Global;
@@ -40,8 +40,9 @@ pub(crate) fn send_file_as<
     ensures { SendsByState
         (upload_side ⟦<PlanFeed<F::File, F::Stamped> as Feed>⟧ (LooksAt F.Stamped.Stamped)
         ⟦<PcmFeed<F::Growing> as Feed>⟧ P.Pause)
-        (sender_side N.Dial.Dial N.Dial.Reader.Source N.Dial.Writer.Sink) N.Network
-        F.RecordingFiles W.Sink E.Sink F.kept_at sender.now result files.old files.new network.now
+        (sender_side N.Dial.Dial N.Dial.Reader.Source N.Dial.Writer.Sink) N.Network F.RecordingFiles
+        (state_side F.kept_at F.States.StateFiles F.States.Log.StateLog) W.Sink E.Sink
+        sender.now result files.old files.new network.now
         pause.old pause.new out.old out.new faults.old faults.new }
 {
     match &sender.state {
@@ -74,29 +75,31 @@ fn send_kept<
     out: &mut W,
     faults: &mut E,
 ) -> Exit
-    ensures { result ≡ Exit.Done → SendsKept
+    ensures { SendsOrGivesUp
         (upload_side ⟦<PlanFeed<F::File, F::Stamped> as Feed>⟧ (LooksAt F.Stamped.Stamped)
         ⟦<PcmFeed<F::Growing> as Feed>⟧ P.Pause)
-        (sender_side N.Dial.Dial N.Dial.Reader.Source N.Dial.Writer.Sink) N.Network
-        F.RecordingFiles W.Sink E.Sink F.kept_at state.now sender.now files.old network.now
-        pause.new }
+        (sender_side N.Dial.Dial N.Dial.Reader.Source N.Dial.Writer.Sink) N.Network F.RecordingFiles
+        (state_side F.kept_at F.States.StateFiles F.States.Log.StateLog) W.Sink E.Sink
+        state.now sender.now result files.old files.new network.now
+        pause.old pause.new out.old out.new faults.old faults.new }
 {
     let Ok(address) = sender.connect.to_string(alloc) else {
         return give_up(faults, &Fault::Memory);
     };
-    let place = StatePlace {
-        path: state,
-        address: address.as_str(),
-    };
     let mut links = network.dial_paced(sender.connect, Some(sender.timeout), sender.rate);
     let mut states = files.states();
     let mut stopwatch = files.stopwatch();
-    let file = recording_of(&sender.source);
+    let job = Job {
+        recorder: recorder_of(sender),
+        file: recording_of(&sender.source),
+        place: StatePlace {
+            path: state,
+            address: address.as_str(),
+        },
+    };
     send_file_on(
         alloc,
-        &recorder_of(sender),
-        &file,
-        &place,
+        &job,
         files,
         &mut states,
         &mut stopwatch,

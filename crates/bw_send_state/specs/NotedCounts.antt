@@ -1,9 +1,12 @@
 -- Which counts of a sender's requests may be noted.
-use Rattle.std.specs.Prelude.{◌≡◌, ◌≢◌, ◌⊎◌, ◌≤◌, ◌<◌, ℕ, Option, List, [], length}
+use Rattle.std.specs.Prelude.{◌≡◌, ◌≢◌, ◌⊎◌, ◌≤◌, ◌<◌, ℕ, Option, List, [], length, true, false, is_none}
 use Rattle.bw_model.specs.World.{Sender, refused, settled}
 use Rattle.bw_console.specs.Text.{as_line}
-use Rattle.bw_stream.specs.Moves.{Begins, Writes}
+use Rattle.bw_console.specs.Printing.{failures_if}
+use Rattle.bw_stream.specs.Moves.{Begins, Writes, one_more}
 use Rattle.bw_resume.specs.Counts.{settled_text}
+use Rattle.bw_resume.specs.declared.state_files.StateLog.{Ghosts as LogGhosts}
+use Rattle.bw_send_state.specs.declared.keeper.StateKeeper.{StateKeeper}
 
 -- the first so many requests are settled, and stored, and the last that was offered isn't one of them
 pub record CountsStored (s : Sender) (n : ℕ) : Type 0 where
@@ -20,3 +23,22 @@ abbrev pub NotesCount : Sender → Option (List ℕ) → Option (List ℕ) → T
 NotesCount s old new = (new ≡ old)
     ⊎ ((n : ℕ) × CountsStored s n
     × (Writes old (as_line (settled_text n)) new ⊎ Begins old (as_line (settled_text n)) new))
+
+module _ {L T : Type 0} (log : LogGhosts L) where
+  -- Of the calls on the state's file the last one failed, or none. After one has failed there are no
+  -- more, and what was wrong with it is kept.
+  pub record KeepsFault (old new : StateKeeper L T) : Type 0 where
+    pub counts : is_none old.fault ≡ true →
+        log.failures new.log ≡ failures_if (is_none new.fault) (log.failures old.log)
+    pub stops : is_none old.fault ≡ false → (new.log ≡ old.log) × (new.fault ≡ old.fault)
+
+  -- a keeper was told how far the sender is
+  pub record Notes (s : Sender) (old new : StateKeeper L T) : Type 0 where
+    pub count : NotesCount s (log.written old.log) (log.written new.log)
+    pub fault : KeepsFault old new
+
+  -- what was wrong is told, and nothing else: a call before, or the last one
+  pub record TellsFault {E : Type 0} (keeper : StateKeeper L T) (told : Option E) : Type 0 where
+    pub heard : is_none keeper.fault ≡ false → is_none told ≡ false
+    pub rightly : is_none told ≡ false → (is_none keeper.fault ≡ false)
+        ⊎ ((after : L) × (log.failures after ≡ one_more (log.failures keeper.log)))

@@ -1,7 +1,7 @@
 -- What is stored once a recording was sent from where its state says.
 use Rattle.std.specs.Prelude.{◌≡◌, ℕ, List, Option, Some, Ok, map, string_bytes, take}
 use Rattle.sha2.specs.Sha256.{sha256}
-use Rattle.bw_model.specs.Take.{Request}
+use Rattle.bw_model.specs.Take.{Request, Stored}
 use Rattle.bw_model.specs.World.{Sender as Defined}
 use Rattle.bw_stream.specs.declared.sink.Sink.{Ghosts as Writer}
 use Rattle.bw_stream.specs.declared.source.Source.{Ghosts as Reader}
@@ -31,6 +31,11 @@ pub record WasStoredBefore (name : List ℕ) (count : ℕ) (requests : List Requ
     : Type 0 where
   pub has : HasStored name count s
   pub first : s.offered ≡ take count requests
+
+-- the sender to which these requests were offered, each of them stored by that premise
+abbrev pub stored_sender : List ℕ → List Request → Defined
+stored_sender name first =
+    record { name = name; offered = first; verdicts = map (λ r. Some Stored) first }
 
 -- what the state is about of a take with these requests, sent to this address from a file with this
 -- stamp

@@ -1,7 +1,10 @@
 //! Which number a server expects next under a name.
-ghost use Rattle.std.specs.Prelude.{◌≡◌, ◌∷◌, [], IfSome, IfOk, length};
+ghost use Rattle.std.specs.Prelude.{◌≡◌, ◌∷◌, [], IfSome, IfOk, IfErr, length};
 ghost use Rattle.bw_exchange.specs.Served.{HasGiven};
-ghost use Rattle.bw_send_state.specs.Asks.{AnswersAsk, GivesReply, HasAnswered, SaysNext};
+ghost use Rattle.bw_send_state.specs.Asks.{AnswersAsk, AsksServer, DialsToAsk, GivesReply};
+ghost use Rattle.bw_send_state.specs.Asks.{SaysNext, WaitsToAsk, WritesAsk};
+ghost use Rattle.bw_send_state.specs.FilesSentOn.{ways};
+ghost use Rattle.bw_send_state.specs.declared.asking.NotAsked.TheVariants.{Memory};
 ghost use Rattle.bw_wire.specs.Replies.{reply_of};
 
 use bw_bytes::read_u32;
@@ -42,15 +45,14 @@ pub fn ask_server<P: Pause, D: Dial>(
     pause: &mut P,
     dial: &mut D,
 ) -> Result<u32, NotAsked>
-    ensures { IfOk result (HasAnswered D.Dial D.Reader.Source name.now) }
+    ensures { AsksServer P.Pause D.Dial D.Reader.Source D.Writer.Sink name.now most result
+        (ways pause.old dial.old) (ways pause.new dial.new) }
 {
     for fruitless in 0..u64::MAX {
         if is_spent(most, fruitless) {
             return Err(NotAsked::Fruitless);
         }
-        if fruitless > 0 {
-            pause.pause(backoff(fruitless));
-        }
+        wait_to_ask(fruitless, pause);
         match ask_once(alloc, name, dial)? {
             Some(next) => return Ok(next),
             None => {}
@@ -59,12 +61,23 @@ pub fn ask_server<P: Pause, D: Dial>(
     Err(NotAsked::Fruitless)
 }
 
+/// Waits before the next link, unless it is the first.
+fn wait_to_ask<P: Pause>(fruitless: u64, pause: &mut P)
+    ensures { WaitsToAsk P.Pause fruitless pause.old pause.new }
+{
+    if fruitless > 0 {
+        pause.pause(backoff(fruitless));
+    }
+}
+
 /// Asks over one link. None if there is no answer.
 ///
 /// # Errors
-/// Memory.
+/// Memory: no link was asked for.
 fn ask_once<D: Dial>(alloc: Global, name: &Name, dial: &mut D) -> Result<Option<u32>, NotAsked>
-    ensures { IfOk result (λ answer. IfSome answer (HasAnswered D.Dial D.Reader.Source name.now)) }
+    ensures ok { IfOk result (λ answer. DialsToAsk D.Dial D.Reader.Source D.Writer.Sink name.now
+        answer dial.old dial.new) }
+    ensures err { IfErr result (λ e. (e ≡ Memory) × (dial.new ≡ dial.old)) }
 {
     let Ok(frame) = encode_ask(alloc, name, 0) else {
         return Err(NotAsked::Memory);
@@ -82,11 +95,13 @@ fn ask_over<R: Source + Drop, W: Sink + Drop>(
     frame: &[u8],
     link: Duplex<R, W>,
 ) -> Option<u32>
-    ensures { IfSome result (λ next. AnswersAsk name.now next (R.left link.reader)) }
+    ensures answer { IfSome result (λ next. AnswersAsk name.now next (R.left link.reader)) }
+    ensures writes { WritesAsk W.Sink frame.now link.writer }
 {
     let mut link = link;
-    if write_all(&mut link.writer, frame).is_err() {
-        return None;
+    match write_all(&mut link.writer, frame) {
+        Ok(()) => {}
+        Err(_failed) => return None,
     }
     let reply = read_reply(alloc, &mut link.reader)?;
     let _ = write_all(&mut link.writer, &BYE);

@@ -1,153 +1,105 @@
-//! Where a sender begins: what its state says, and what the server answers.
-ghost use Rattle.std.specs.Prelude.{◌≡◌, ◌≢◌, IfOk, IfErr, List, Some, ℕ};
-ghost use Rattle.bw_model.specs.Take.{Request as Message};
-ghost use Rattle.bw_resume.specs.Headers.{state_header};
+//! Where a sender begins, and the file of its state that it goes on with.
+ghost use Rattle.std.specs.Prelude.{◌≡◌, ◌≤◌, ◌⊎◌, IfOk, IfErr, OnOk, Some};
+ghost use Rattle.std.specs.IoError.{error_kind};
+ghost use Rattle.std.specs.declared.io.ErrorKind.TheVariants.{OutOfMemory};
+ghost use Rattle.bw_console.specs.Printing.{IsPrint, Print, failures_if};
+ghost use Rattle.bw_ports.specs.declared.recording_files.FileStamp.{FileStamp as StampValue};
+ghost use Rattle.bw_resume.specs.Counts.{most_settled};
 ghost use Rattle.bw_resume.specs.States.{state_bytes};
-ghost use Rattle.bw_send_state.specs.Asks.{HasAnswered};
-ghost use Rattle.bw_send_state.specs.FoundCounts.{ResumesAt, IsLogBegun, counts_begun};
-ghost use Rattle.bw_send_state.specs.SentOn.{IsHeaderFor, origin_for};
+ghost use Rattle.bw_send_file.specs.FileLooks.{LooksAt};
+ghost use Rattle.bw_send_state.specs.FilesSentOn.{BeginsState, Continuation, HasReported};
+ghost use Rattle.bw_send_state.specs.FilesSentOn.{StopsBeforeSending, file_of, outside_of};
+ghost use Rattle.bw_send_state.specs.FilesSentOn.{sending_side, ways};
+ghost use Rattle.bw_send_state.specs.FoundCounts.{BeginsLog, counts_begun, goes_on as is_gone_on};
+ghost use Rattle.bw_stream.specs.Moves.{one_more};
 
-use crate::asking::{NotAsked, ask_server};
-use crate::opening::opening_of;
-use crate::place::{Found, StatePlace};
-use crate::reports::report_start;
-use bw_console::print::{give_up, print_diagnostic};
-use bw_console::{Exit, Fault};
+use crate::header::read_header;
+use crate::job::Job;
+use crate::place::{Found, find_count};
+use crate::reports::report_unkept;
+use crate::starting::begin_at;
+use bw_console::Exit;
 use bw_plan::Options;
-use bw_ports::{Dial, FileStamp, Pause, RecordingFiles, Stamped};
-use bw_recorder::{RecordingFile, report_open_fault};
-use bw_request::Name;
-use bw_resume::{StateFiles, Subject, header_text, settled_line};
-use bw_send_file::{FeedFault, PlanFeed, Recorder, open_feed, report_file_fault};
-use bw_stream::{Sink, Source};
+use bw_ports::{Dial, FileStamp, Pause, RecordingFiles};
+use bw_resume::{StateFiles, settled_line};
+use bw_send_file::PlanFeed;
+use bw_stream::Sink;
 use bw_upload::Feed;
 use std::alloc::{AllocError, Global};
 use std::io;
 
-/// The header of the state of a recording in a file.
+/// Where a sender begins.
 #[derive(Drop)]
-pub(crate) struct FileHeader {
-    /// Without the line feed that ends it.
-    pub(crate) text: Vec<u8>,
-    /// How the file stood before it was opened.
+pub(crate) struct Beginning<L> {
+    /// The file of its state.
+    pub(crate) log: L,
+    /// How many requests are passed over.
+    pub(crate) count: u32,
+    /// How the recording's file stood when its header was read.
     pub(crate) stamp: FileStamp,
 }
 
-/// The header of the state of a recording in a file.
+/// Reads the state, asks the server, and opens the state's file to be written on.
 ///
 /// # Errors
-/// How the command ends, where there is none.
-pub(crate) fn read_header<F: RecordingFiles, E: Sink>(
+/// How the command ends, if nothing can be sent: why is reported.
+pub(crate) fn begin<F: RecordingFiles, B: StateFiles, P: Pause, D: Dial, E: Sink>(
     alloc: Global,
-    recorder: &Recorder<'_>,
-    file: &RecordingFile<'_>,
-    place: &StatePlace<'_>,
+    job: &Job<'_>,
     options: &Options,
     files: &mut F,
-    faults: &mut E,
-) -> Result<FileHeader, Exit>
-    ensures ok { IfOk result (λ header. (b : List ℕ) → F.file_at files.old file.now.path.now ≡ Some b →
-        IsHeaderFor recorder.now.name.now place.now.address.now
-        (F.stamp_at files.old file.now.path.now) options.now b header.text.items) }
-    ensures files { F.file_at files.new ≡ F.file_at files.old }
-    ensures err { IfErr result (λ exit. exit ≢ Exit.Done) }
-{
-    match open_feed(alloc, files, file.path, options) {
-        Ok(mut opened) => {
-            let stamp = opened.feed.stamp();
-            match header_of(alloc, recorder.name, place.address, &mut opened.feed) {
-                Ok(text) => Ok(FileHeader { text, stamp }),
-                Err(fault) => Err(report_file_fault(alloc, file.path, &fault, faults)),
-            }
-        }
-        Err(fault) => Err(report_open_fault(alloc, "send", file.path, &fault, faults)),
-    }
-}
-
-/// The header of the state of an opened recording.
-///
-/// # Errors
-/// Why the file gives no opening; Memory.
-fn header_of<R: Source + Drop, S: Stamped + Drop>(
-    alloc: Global,
-    name: &Name,
-    address: &str,
-    feed: &mut PlanFeed<R, S>,
-) -> Result<Vec<u8>, FeedFault>
-    ensures { IfOk result (λ header. (requests : List Message) →
-        ⟦<PlanFeed<R, S> as Feed>⟧.left feed.old requests →
-        header.items ≡ state_header (origin_for name.now address.now feed.old.stamp requests)) }
-{
-    let stamp = feed.stamp();
-    let opening = opening_of(alloc, name, feed)?;
-    let digest = opening.digest;
-    let subject = Subject {
-        name: name.as_bytes(),
-        address: address.as_bytes(),
-        len: stamp.len,
-        changed: stamp.changed,
-        block: opening.block,
-        opening: digest,
-    };
-    match header_text(alloc, &subject) {
-        Ok(header) => Ok(header),
-        Err(_) => Err(FeedFault::Memory),
-    }
-}
-
-/// At which number a sender begins: the count that was found, unless the server expects less.
-///
-/// # Errors
-/// How the command ends, if the server hasn't answered.
-pub(crate) fn begin_at<P: Pause, D: Dial, E: Sink>(
-    alloc: Global,
-    recorder: &Recorder<'_>,
-    place: &StatePlace<'_>,
-    found: Found,
+    states: &mut B,
     pause: &mut P,
     dial: &mut D,
     faults: &mut E,
-) -> Result<u32, Exit>
-    ensures count { IfOk result (ResumesAt found.count
-        (HasAnswered D.Dial D.Reader.Source recorder.now.name.now)) }
-    ensures err { IfErr result (λ exit. exit ≢ Exit.Done) }
+) -> Result<Beginning<B::Log>, Exit>
+    ensures range { IfOk result (λ x. x.count ≤ most_settled) }
+    ensures stamp { IfOk result (λ x. (now : StampValue) →
+        F.stamp_at files.old job.now.file.path.now ≡ Some now → x.stamp ≡ now) }
+    ensures files { F.file_at files.new ≡ F.file_at files.old }
+    ensures stamps { F.stamp_at files.new ≡ F.stamp_at files.old }
+    ensures ok { IfOk result (λ x. (began : Print)
+        × BeginsState (sending_side ⟦<PlanFeed<F::File, F::Stamped> as Feed>⟧
+        (LooksAt F.Stamped.Stamped) P.Pause D.Dial D.Reader.Source D.Writer.Sink) job.now
+        options.now (outside_of (file_of job.now (F.file_at files.old) (F.stamp_at files.old))
+        (B.state_at states.old) (B.state_at states.new)) x.count (B.Log.written x.log)
+        (ways pause.old dial.old) (ways pause.new dial.new) began
+        × (F.failures files.new ≡ F.failures files.old)
+        × (B.failures states.new ≡ B.failures states.old)
+        × IsPrint E.Sink began faults.old faults.new) }
+    ensures err { IfErr result (λ exit. (did : Continuation) × (did.exit ≡ exit)
+        × StopsBeforeSending (sending_side ⟦<PlanFeed<F::File, F::Stamped> as Feed>⟧
+        (LooksAt F.Stamped.Stamped) P.Pause D.Dial D.Reader.Source D.Writer.Sink) job.now
+        options.now (outside_of (file_of job.now (F.file_at files.old) (F.stamp_at files.old))
+        (B.state_at states.old) (B.state_at states.new)) (ways pause.old dial.old)
+        (ways pause.new dial.new) did
+        × (F.failures files.new ≡ failures_if did.sent.is_system_well (F.failures files.old))
+        × (B.failures states.new ≡ failures_if did.is_state_well (B.failures states.old))
+        × HasReported E.Sink did faults.old faults.new) }
 {
-    if found.is_other {
-        report_start(alloc, place.path, "another state, begins at", 0, faults);
-    }
-    if found.count == 0 {
-        return Ok(0);
-    }
-    match ask_server(alloc, recorder.name, recorder.fruitless, pause, dial) {
-        Ok(next) if next < found.count => {
-            report_start(
-                alloc,
-                place.path,
-                "the server expects less, begins at",
-                0,
-                faults,
-            );
-            Ok(0)
-        }
-        Ok(_next) => {
-            report_start(alloc, place.path, "goes on at", found.count, faults);
-            Ok(found.count)
-        }
-        Err(NotAsked::Fruitless) => {
-            print_diagnostic(faults, FRUITLESS);
-            Err(Exit::Device)
-        }
-        Err(NotAsked::Memory) => Err(give_up(faults, &Fault::Memory)),
+    let path = job.place.path;
+    let header = read_header(alloc, job, options, files, faults)?;
+    let found = match find_count(states, path, header.text.as_slice()) {
+        Ok(found) => found,
+        Err(error) => return Err(report_unkept(alloc, path, &error, faults)),
+    };
+    let count = begin_at(alloc, job, found, pause, dial, faults)?;
+    let text = header.text.as_slice();
+    match open_log(alloc, states, path, text, found, count) {
+        Ok(log) => Ok(Beginning {
+            log,
+            count,
+            stamp: header.stamp,
+        }),
+        Err(error) => Err(report_unkept(alloc, path, &error, faults)),
     }
 }
-
-const FRUITLESS: &[u8] = b"Fruitless: as many links in a row as are allowed settled nothing\n";
 
 /// The state's file, to which counts above this one can be written.
 ///
 /// # Errors
 /// If the system failed; `OutOfMemory` if memory was refused.
-pub(crate) fn open_log<B: StateFiles>(
+fn open_log<B: StateFiles>(
     alloc: Global,
     states: &mut B,
     path: &str,
@@ -155,8 +107,11 @@ pub(crate) fn open_log<B: StateFiles>(
     found: Found,
     count: u32,
 ) -> io::Result<B::Log>
-    ensures { IfOk result (λ log. IsLogBegun (B.state_at states.old path.now) header.now count
-        (B.Log.written log)) }
+    ensures ok { IfOk result (λ log. BeginsLog (is_gone_on found count)
+        (B.state_at states.old path.now) header.now count (B.Log.written log)) }
+    ensures count { OnOk result (B.failures states.new ≡ B.failures states.old) }
+    ensures err { IfErr result (λ e. (B.failures states.new ≡ one_more (B.failures states.old))
+        ⊎ ((B.failures states.new ≡ B.failures states.old) × (error_kind e ≡ OutOfMemory))) }
 {
     if count > 0 && found.is_whole {
         return states.go_on(path);

@@ -1,8 +1,9 @@
 //! How far a sender is, noted in its state.
-ghost use Rattle.std.specs.Prelude.{◌≡◌, MatchOption, IsSome};
+ghost use Rattle.std.specs.Prelude.{◌≡◌, MatchOption};
 ghost use Rattle.bw_model.specs.World.{Sender as Defined};
 ghost use Rattle.bw_sender.specs.Senders.{IsSender};
-ghost use Rattle.bw_send_state.specs.NotedCounts.{CountsStored, CountsNothing, NotesCount};
+ghost use Rattle.bw_send_state.specs.NotedCounts.{CountsNothing, CountsStored, KeepsFault};
+ghost use Rattle.bw_send_state.specs.NotedCounts.{Notes, NotesCount, TellsFault};
 
 use bw_resume::{StateLog, Stopwatch, settled_line};
 use bw_sender::Sender;
@@ -48,8 +49,10 @@ impl<'a, L: StateLog + Drop, T: Stopwatch> StateKeeper<'a, L, T> {
     /// Syncs the file. Returns why the state isn't kept, if a call of the file has failed.
     ///
     /// # Not specified
-    /// The error.
-    pub fn finish(self) -> Option<io::Error> {
+    /// Which error.
+    pub fn finish(self) -> Option<io::Error>
+        ensures { TellsFault L.StateLog self.entry result }
+    {
         let mut keeper = self;
         keeper.sync();
         keeper.fault
@@ -57,8 +60,9 @@ impl<'a, L: StateLog + Drop, T: Stopwatch> StateKeeper<'a, L, T> {
 
     /// Notes how many requests are settled and stored, if that is more than before.
     fn note(&mut self, sender: &Sender)
-        ensures { (s : Defined) → IsSender s sender.now →
+        ensures count { (s : Defined) → IsSender s sender.now →
             NotesCount s (L.written self.old.log) (L.written self.new.log) }
+        ensures fault { KeepsFault L.StateLog self.old self.new }
     {
         if self.fault.is_some() {
             return;
@@ -75,9 +79,35 @@ impl<'a, L: StateLog + Drop, T: Stopwatch> StateKeeper<'a, L, T> {
         }
     }
 
+    /// Notes as `note` does, unless it is too early for a line.
+    fn note_if_due(&mut self, now: u64, sender: &Sender)
+        ensures count { (s : Defined) → IsSender s sender.now →
+            NotesCount s (L.written self.old.log) (L.written self.new.log) }
+        ensures fault { KeepsFault L.StateLog self.old self.new }
+    {
+        if now.saturating_sub(self.written) < BETWEEN_LINES {
+            return;
+        }
+        self.note(sender);
+        self.written = now;
+    }
+
+    /// Syncs the file, unless it is too early for that.
+    fn sync_if_due(&mut self, now: u64)
+        ensures kept { L.written self.new.log ≡ L.written self.old.log }
+        ensures fault { KeepsFault L.StateLog self.old self.new }
+    {
+        if now.saturating_sub(self.synced) < BETWEEN_SYNCS {
+            return;
+        }
+        self.sync();
+        self.synced = now;
+    }
+
     /// Syncs the file.
     fn sync(&mut self)
-        ensures { L.written self.new.log ≡ L.written self.old.log }
+        ensures kept { L.written self.new.log ≡ L.written self.old.log }
+        ensures fault { KeepsFault L.StateLog self.old self.new }
     {
         if self.fault.is_some() {
             return;
@@ -89,20 +119,18 @@ impl<'a, L: StateLog + Drop, T: Stopwatch> StateKeeper<'a, L, T> {
 }
 
 impl<L: StateLog + Drop, T: Stopwatch> Observer for StateKeeper<'_, L, T> {
-    fn link(&mut self, _event: LinkEvent, sender: &Sender) {
+    fn link(&mut self, _event: LinkEvent, sender: &Sender)
+        ensures { (s : Defined) → IsSender s sender.now → Notes L.StateLog s self.old self.new }
+    {
         self.note(sender);
     }
 
-    fn settled(&mut self, sender: &Sender) {
+    fn settled(&mut self, sender: &Sender)
+        ensures { (s : Defined) → IsSender s sender.now → Notes L.StateLog s self.old self.new }
+    {
         let now = self.stopwatch.look();
-        if now.saturating_sub(self.written) >= BETWEEN_LINES {
-            self.note(sender);
-            self.written = now;
-        }
-        if now.saturating_sub(self.synced) >= BETWEEN_SYNCS {
-            self.sync();
-            self.synced = now;
-        }
+        self.note_if_due(now, sender);
+        self.sync_if_due(now);
     }
 }
 

@@ -4,15 +4,20 @@
 mod asking;
 mod beginning;
 mod file;
+mod header;
+mod job;
 mod keeper;
 mod observers;
 mod opening;
 mod place;
 mod reports;
+mod rest;
 mod skipping;
+mod starting;
 
 pub use asking::{NotAsked, ask_server};
 pub use file::send_file_on;
+pub use job::Job;
 pub use keeper::StateKeeper;
 pub use observers::Observers;
 pub use opening::{Opening, opening_of};

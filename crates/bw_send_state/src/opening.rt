@@ -1,10 +1,12 @@
 //! What comes before the first block of a take.
-ghost use Rattle.std.specs.Prelude.{◌≡◌, ◌≤◌, ◌++◌, ℕ, List, IfOk, OnOk, MatchOption, length};
+ghost use Rattle.std.specs.Prelude.{◌≡◌, ◌≤◌, ◌++◌, ℕ, List, length};
+ghost use Rattle.std.specs.Prelude.{IfOk, IfErr, OnOk, MatchOption};
 ghost use Rattle.sha2.specs.Sha256.{sha256};
 ghost use Rattle.bw_model.specs.Take.{Block, Request as Message};
 ghost use Rattle.bw_model.specs.Wire.{Second, last_number, body, framed};
 ghost use Rattle.bw_wire.specs.Encoded.{said};
-ghost use Rattle.bw_send_state.specs.TakeOpenings.{IsNoBlock, IsOpeningOf};
+ghost use Rattle.bw_send_file.specs.declared.fault.FeedFault.TheVariants.{Memory};
+ghost use Rattle.bw_send_state.specs.TakeOpenings.{IsNoBlock, IsOpeningOf, StopsOpening};
 
 use bw_request::{Name, Request, RequestRef};
 use bw_send_file::FeedFault;
@@ -38,8 +40,9 @@ pub fn opening_of<X: Feed<Fault = FeedFault>>(
     name: &Name,
     feed: &mut X,
 ) -> Result<Opening, FeedFault>
-    ensures { IfOk result (λ opening. (requests : List Message) → X.left feed.old requests →
+    ensures ok { IfOk result (λ opening. (requests : List Message) → X.left feed.old requests →
         IsOpeningOf name.now requests opening) }
+    ensures err { IfErr result (λ fault. StopsOpening X.Feed feed.old fault) }
 {
     let mut frames = Vec::new(alloc);
     for number in 0..MOST_REQUESTS {
@@ -91,8 +94,9 @@ fn put_frame(
     request: &Request,
 ) -> Result<(), FeedFault>
     requires { number ≤ last_number Second }
-    ensures { OnOk result (frames.new.items ≡
+    ensures ok { OnOk result (frames.new.items ≡
         frames.old.items ++ framed (body (said name.now number request.now))) }
+    ensures err { IfErr result (λ fault. fault ≡ Memory) }
 {
     match append_frame(alloc, frames, name, number, request) {
         Ok(()) => Ok(()),

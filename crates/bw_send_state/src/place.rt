@@ -1,9 +1,11 @@
 //! Where a state is, and what it says.
-ghost use Rattle.std.specs.Prelude.{◌≡◌, ◌≤◌, true, ℕ, List, Some, IfOk, take, unwrap_or};
+ghost use Rattle.std.specs.Prelude.{◌≡◌, ◌≤◌, ◌⊎◌, true, false, IfOk, OnOk, OnErr, take};
+ghost use Rattle.bw_stream.specs.Moves.{one_more};
+ghost use Rattle.bw_stream.specs.Readers.{Of};
 ghost use Rattle.bw_plan.specs.Cleaning.{are_zero as are_bytes_zero};
 ghost use Rattle.bw_resume.specs.Counts.{most_settled};
-ghost use Rattle.bw_resume.specs.Reading.{settled_in as settled_by};
-ghost use Rattle.bw_send_state.specs.FoundCounts.{IsCountFound, may_begin_state, most_bytes};
+ghost use Rattle.bw_send_state.specs.FoundCounts.{IsFound, SaysOfTake, may_begin_state, most_bytes};
+ghost use Rattle.bw_send_state.specs.FoundCounts.{ends_line as is_line_ended};
 
 use bw_resume::{StateFiles, settled_in};
 use std::io::{self, ErrorKind};
@@ -46,11 +48,13 @@ pub(crate) fn find_count<B: StateFiles>(
     header: &[u8],
 ) -> io::Result<Found>
     ensures found { IfOk result (λ found.
-        IsCountFound (B.state_at states.old path.now) header.now found.count) }
+        IsFound (B.state_at states.old path.now) header.now found) }
     ensures range { IfOk result (λ found. found.count ≤ most_settled) }
     ensures kept { B.state_at states.new ≡ B.state_at states.old }
-    ensures foreign { IfOk result (λ _. (xs : List ℕ) → B.state_at states.old path.now ≡ Some xs →
-        may_begin_state (take most_bytes xs) ≡ true) }
+    ensures count { OnOk result (B.failures states.new ≡ B.failures states.old) }
+    ensures err { OnErr result ((B.failures states.new ≡ one_more (B.failures states.old))
+        ⊎ ((B.failures states.new ≡ B.failures states.old)
+        × Of (B.state_at states.old path.now) (λ xs. may_begin_state (take most_bytes xs) ≡ false))) }
 {
     let bytes = states.read(path, MOST_BYTES)?;
     if !may_be_state(bytes.as_slice()) {
@@ -75,13 +79,13 @@ fn are_zero(bytes: &[u8]) -> bool
 
 /// What a state's first bytes say for this header.
 fn found_in(header: &[u8], bytes: &[u8]) -> Found
-    ensures count { result.count ≡ unwrap_or (settled_by header.now bytes.now) 0 }
+    ensures says { SaysOfTake header.now bytes.now result }
     ensures range { result.count ≤ most_settled }
 {
     match settled_in(header, bytes) {
         Some(count) => Found {
             count,
-            is_whole: bytes.len() < MOST_BYTES && bytes.last() == Some(&b'\n'),
+            is_whole: bytes.len() < MOST_BYTES && ends_line(bytes),
             is_other: false,
         },
         None => Found {
@@ -90,4 +94,11 @@ fn found_in(header: &[u8], bytes: &[u8]) -> Found
             is_other: !bytes.is_empty(),
         },
     }
+}
+
+/// Whether the last of these bytes ends a line.
+fn ends_line(bytes: &[u8]) -> bool
+    ensures { result ≡ is_line_ended bytes.now }
+{
+    !bytes.is_empty() && bytes[bytes.len() - 1] == b'\n'
 }

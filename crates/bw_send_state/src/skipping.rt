@@ -1,7 +1,7 @@
 //! The first requests of a feed are passed over.
-ghost use Rattle.std.specs.Prelude.{◌≡◌, List, IfOk, true};
+ghost use Rattle.std.specs.Prelude.{◌≡◌, List, IfOk, IfErr, true};
 ghost use Rattle.bw_model.specs.Take.{Request as Message};
-ghost use Rattle.bw_send_state.specs.SkippedRequests.{SkipsFirst};
+ghost use Rattle.bw_send_state.specs.SkippedRequests.{FailsFirst, PassesBy, SkipsBy, SkipsFirst};
 
 use bw_ports::{FileStamp, Stamped};
 use bw_send_file::{FeedFault, PlanFeed, is_close};
@@ -17,8 +17,10 @@ use bw_upload::{Feed, Given};
 /// # Not specified
 /// What the feed still gives, unless true is returned.
 pub fn skip<X: Feed>(feed: &mut X, count: u32) -> Result<bool, X::Fault>
-    ensures { IfOk result (λ all. all ≡ true → (requests : List Message) →
+    ensures known { IfOk result (λ all. all ≡ true → (requests : List Message) →
         X.left feed.old requests → SkipsFirst count requests (X.left feed.new)) }
+    ensures ok { IfOk result (λ all. SkipsBy X.Feed all count feed.old feed.new) }
+    ensures err { IfErr result (λ fault. FailsFirst X.Feed count feed.old fault) }
 {
     for _skipped in 0..count {
         match feed.next()? {
@@ -44,9 +46,13 @@ pub(crate) fn pass_over<R: Source + Drop, S: Stamped + Drop>(
     first: &FileStamp,
     count: u32,
 ) -> Result<bool, FeedFault>
-    ensures { IfOk result (λ all. all ≡ true → (requests : List Message) →
+    ensures known { IfOk result (λ all. all ≡ true → (requests : List Message) →
         ⟦<PlanFeed<R, S> as Feed>⟧.left feed.old requests →
         SkipsFirst count requests (⟦<PlanFeed<R, S> as Feed>⟧.left feed.new)) }
+    ensures ok { IfOk result (λ all. PassesBy ⟦<PlanFeed<R, S> as Feed>⟧ all
+        feed.old.stamp first.now count feed.old feed.new) }
+    ensures err { IfErr result (λ fault.
+        FailsFirst ⟦<PlanFeed<R, S> as Feed>⟧ count feed.old fault) }
 {
     let now = feed.stamp();
     if now.len != first.len || now.changed != first.changed {

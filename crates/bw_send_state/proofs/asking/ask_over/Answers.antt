@@ -1,6 +1,23 @@
 use Rattle.bw_wire.specs.Replies.{reply_of}
+use Rattle.bw_send_state.specs.Asks.{bye_frame}
+use Rattle.bw_send_state.proofs.AskSteps.{begins_more, begun_by, writes_begins, written_begins}
 use Rattle.bw_send_state.proofs.ReadSteps.{if_some}
 use Rattle.bw_send_state.proofs.asking.ask_over.Goals as goal
 
-pub returns : goal.returns
-returns g c = if_some c.next_in.result _ _ c.next_in.ensures (λ n says. (reply_of c.in_ok-reply.reply, says, c.in_ok-reply.ensures))
+pub returns-clause-answer : goal.returns-clause-answer
+returns-clause-answer g c = if_some c.next_in.result _ _ c.next_in.ensures (λ n says. (reply_of c.in_ok-reply.reply, says, c.in_ok-reply.ensures))
+
+pub returns-in-Err-clause-writes : goal.returns-in-Err-clause-writes
+returns-in-Err-clause-writes g c =
+    (c.write_all.new.writer, begins_more _ _ c.args.frame.now bye_frame c.in-Err.ensures.err)
+
+pub returns-in_err-reply-clause-writes : goal.returns-in_err-reply-clause-writes
+returns-in_err-reply-clause-writes g c =
+    (c.write_all.new.writer, written_begins _ _ c.args.frame.now bye_frame c.in-Ok.ensures.ok)
+
+pub returns-clause-writes : goal.returns-clause-writes
+returns-clause-writes g c = (
+  c.write_all-2.new.writer,
+  writes_begins _ _ _ c.args.frame.now bye_frame c.in-Ok.ensures.ok
+      (begun_by c.write_all-2.result _ _ bye_frame c.write_all-2.ensures.ok c.write_all-2.ensures.err),
+)

@@ -4,8 +4,8 @@ use Rattle.bw_resume.specs.Counts.{settled_text}
 use Rattle.bw_stream.specs.Moves.{Begins}
 use Rattle.bw_send_state.proofs.keeper.StateKeeper.note.Goals as goal
 
-pub returns-in-Err : goal.returns-in-Err
-returns-in-Err g c = λ s is.
+pub returns-in-Err-clause-count : goal.returns-in-Err-clause-count
+returns-in-Err-clause-count g c = λ s is.
     let text : c.as_bytes.result.now ≡ as_line (settled_text c.in-Some.count) =
     c.as_bytes.ensures.value ∙ c.as_str.ensures.value ∙ c.settled_line.ensures in
     inr (

@@ -1,0 +1,61 @@
+use Rattle.std.proofs.Common.{inl, inr, refl, true}
+use Rattle.bw_console.specs.Printing.{Nothing}
+use Rattle.bw_plan.specs.Plans.{plan}
+use Rattle.bw_plan.specs.Recordings.{block_frames}
+use Rattle.bw_recorder.specs.Openings.{is_well_at}
+use Rattle.bw_send_state.proofs.header.read_header.Goals as goal
+
+pub returns-in-Ok-header_of-clause-ok : goal.returns-in-Ok-header_of-clause-ok
+returns-in-Ok-header_of-clause-ok g c = λ b at.
+    let r = c.in-Ok.ensures.ok b at in
+    record {
+      recording = r.recording;
+      is = r.is;
+      first = c.in-Ok.opened.feed.stamp;
+      stamped = c.in-Ok.ensures.looked.first_is;
+      header_is = c.in-Ok-header_of.ensures.ok
+          (plan (block_frames c.args.options.now r.recording.outline.format) r.recording) r.gives;
+    }
+
+pub returns-in-Ok-clause-err : goal.returns-in-Ok-clause-err
+returns-in-Ok-clause-err g c =
+    let r = c.report_file_fault.ensures in (
+      record { is_system_well = true; warned = Nothing; out = Nothing; faults = r.0; exit = c.report_file_fault.result },
+      refl,
+      inr (record {
+        begun = c.in-Ok.opened.feed;
+        text = c.in-Ok.opened.warnings.items;
+        opens = record { looked = c.in-Ok.ensures.looked; right = c.in-Ok.ensures.ok };
+        well = refl;
+        silent = record { warned = refl; prints = refl };
+        fault = c.in-Err-header_of.fault;
+        fails = c.in-Err-header_of.ensures.err;
+        reports = r.1;
+      }),
+      c.in-Ok.ensures.count,
+      r.2,
+    )
+
+pub returns-clause-err : goal.returns-clause-err
+returns-clause-err g c =
+    let r = c.report_open_fault.ensures in
+    let fault = c.in-Err.fault in (
+      record {
+        is_system_well = is_well_at fault;
+        warned = Nothing;
+        out = Nothing;
+        faults = r.0;
+        exit = c.report_open_fault.result;
+      },
+      refl,
+      inl (record {
+        fault = fault;
+        right = c.in-Err.ensures.err;
+        well = refl;
+        warned = refl;
+        prints = refl;
+        reports = r.1;
+      }),
+      c.in-Err.ensures.count,
+      r.2,
+    )

@@ -1,0 +1,24 @@
+use Rattle.std.proofs.Common.{inl, inr, refl, rules, sym, true}
+use Rattle.bw_console.specs.Printing.{Nothing}
+use Rattle.bw_console.specs.declared.exit.Exit.TheVariants as exits
+use Rattle.bw_send_state.proofs.starting.begin_at.Goals as goal
+
+pub returns-in-Err-Fruitless-clause-err : goal.returns-in-Err-Fruitless-clause-err
+returns-in-Err-Fruitless-clause-err g c =
+    let r = c.print_diagnostic.ensures in (
+      record { is_system_well = true; warned = Nothing; out = Nothing; faults = r.0; exit = exits.Device },
+      refl,
+      record { warned = refl; prints = refl },
+      record { some = search rules; well = refl; why = inl (search rules, (refl, r.1)) },
+      r.2,
+    )
+
+pub returns-in-Err-Memory-clause-err : goal.returns-in-Err-Memory-clause-err
+returns-in-Err-Memory-clause-err g c =
+    let r = c.give_up.ensures.line in (
+      record { is_system_well = true; warned = Nothing; out = Nothing; faults = r.0; exit = exits.Memory },
+      sym c.give_up.ensures.exit,
+      record { warned = refl; prints = refl },
+      record { some = search rules; well = refl; why = inr (search rules, (refl, r.1)) },
+      r.2,
+    )
