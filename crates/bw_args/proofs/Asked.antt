@@ -13,7 +13,7 @@ use Rattle.clap.proofs.WalkLemmas.{first_value-rows, raw_values-rows}
 use Rattle.bw_args.specs.Given.{GivesAddress, GivesCount, GivesCountOr, GivesEnd, GivesFolder, GivesFuse, GivesLimit, GivesName}
 use Rattle.bw_args.specs.Given.{GivesNoFuse, GivesRecorders, IsAddressGiven, IsEnd, IsEndGiven, IsLimitGiven, IsNameGiven}
 use Rattle.bw_args.specs.Given.{IsJournaling, IsJournalingGiven, IsRecorders, IsRecordersGiven, given_on_line, is_set}
-use Rattle.bw_args.specs.Given.{GivesWork, IsWork, IsWorkGiven}
+use Rattle.bw_args.specs.Given.{GivesWork, IsWork, IsWorkGiven, is_watch_mixed}
 use Rattle.bw_args.specs.Sources.{GivesSource, PlainSource, is_mixed, settings_on_line}
 use Rattle.bw_args.specs.Inspecting.{GivesInspection, PlainInspection, is_possible, one_file}
 use Rattle.bw_args.specs.Lines.{AsksForPath, AsksNothing, GivesSender, GivesServer, GivesTries, HasNumbersInRange}
@@ -122,6 +122,16 @@ no_samples given samples none g =
     go (Some text) (Some path) format is gives unmixed = let bad : Some path ≡ None = is in cc
     go (Some text) None format is gives unmixed = let bad : true ≡ false = unmixed in cc
 
+-- a test isn't passed and failed
+pub is_not : ¬ (true ≡ false)
+is_not bad = cc
+
+-- what is done goes with a watch
+watch_good : (watch check json : Bool) (name : Option Text) (work : FolderWork) → IsWork watch check json name work
+    → is_watch_mixed watch check json name ≡ false
+watch_good true check json name work is = is.0
+watch_good false check json name work is = refl
+
 -- what is asked for has good values alone
 pub wished_good : (name : Text) (options : List Row) (wish : Wish) → IsWishOf (Some (name, options)) wish
     → AllGood (looked_at name) (given_on_line options)
@@ -134,7 +144,8 @@ wished_good name options wish asked = go wish asked
     go : (w : Wish) → IsWishOf (Some (name, options)) w → AllGood (looked_at name) (given_on_line options)
     go (Replaying limit fuse) a = at (codes "replay") a.0 ((limit, a.1), ((fuse, a.2), tt))
     go (Rehearsing take_name limit) a = at (codes "rehearse") a.0 ((take_name, a.1), ((limit, a.2), tt))
-    go (Listing folder work) a = at (codes "takes") a.0 ((folder, a.1), ((work, a.2), tt))
+    go (Listing folder work) a =
+        at (codes "takes") a.0 ((folder, a.1), (watch_good _ _ _ _ work a.2, ((work, a.2), tt)))
     go (Serving server) a = at (codes "serve") a.0 (
       (server.listen, a.1.listens),
       (
@@ -624,24 +635,42 @@ no_journaling found is_kept is_synced kept synced none good =
     none good.0 (subst (λ s. IsJournaling is_kept s good.0) (sym synced)
     (subst (λ k. IsJournaling k (is_set (first_value found (codes "sync"))) good.0) (sym kept) good.1))
 
--- what is done in a folder, where its options were read before
-pub a_work : (found : Found) (check json : Bool) (name : Option Text) (work : FolderWork)
-    → check ≡ is_set (first_value found (codes "check")) → json ≡ is_set (first_value found (codes "json"))
-    → name ≡ first_value found (codes "give-up") → IsWork check json name work → GivesWork (first_value found) work
-a_work found check json name work checks prints names is =
-    subst (λ n. IsWork (is_set (first_value found (codes "check"))) (is_set (first_value found (codes "json"))) n work)
-    names (subst (λ j. IsWork (is_set (first_value found (codes "check"))) j name work) prints
-    (subst (λ c. IsWork c json name work) checks is))
+-- the same work of the same options
+works_at : (w c j : Bool) (n : Option Text) (w' c' j' : Bool) (n' : Option Text) (work : FolderWork)
+    → w ≡ w' → c ≡ c' → j ≡ j' → n ≡ n' → IsWork w c j n work → IsWork w' c' j' n' work
+works_at w c j n w' c' j' n' work ew ec ej en is =
+    subst (λ x. IsWork x c' j' n' work) ew (subst (λ x. IsWork w x j' n' work) ec
+    (subst (λ x. IsWork w c x n' work) ej (subst (λ x. IsWork w c j x work) en is)))
 
-pub no_work : (found : Found) (check json : Bool) (name : Option Text)
-    → check ≡ is_set (first_value found (codes "check")) → json ≡ is_set (first_value found (codes "json"))
-    → name ≡ first_value found (codes "give-up") → IsWorkGiven check json name None
-    → ¬ IsGood GiveUp (first_value found)
-no_work found check json name checks prints names none good =
-    none good.0 (subst (λ n. IsWork check json n good.0) (sym names)
-    (subst (λ j. IsWork check j (first_value found (codes "give-up")) good.0) (sym prints)
-    (subst (λ c. IsWork c (is_set (first_value found (codes "json"))) (first_value found (codes "give-up")) good.0)
-    (sym checks) good.1)))
+-- what is done in a folder, where its options were read before
+pub a_work : (found : Found) (watch check json : Bool) (name : Option Text) (work : FolderWork)
+    → watch ≡ is_set (first_value found (codes "watch")) → check ≡ is_set (first_value found (codes "check"))
+    → json ≡ is_set (first_value found (codes "json")) → name ≡ first_value found (codes "give-up")
+    → IsWork watch check json name work → GivesWork (first_value found) work
+a_work found watch check json name work watches checks prints names is =
+    works_at watch check json name _ _ _ _ work watches checks prints names is
+
+pub no_work : (found : Found) (watch check json : Bool) (name : Option Text)
+    → watch ≡ is_set (first_value found (codes "watch")) → check ≡ is_set (first_value found (codes "check"))
+    → json ≡ is_set (first_value found (codes "json")) → name ≡ first_value found (codes "give-up")
+    → IsWorkGiven watch check json name None → ¬ IsGood GiveUp (first_value found)
+no_work found watch check json name watches checks prints names none good =
+    none good.0 (works_at _ _ _ _ watch check json name good.0 (sym watches) (sym checks) (sym prints) (sym names) good.1)
+
+-- whether something is asked for beside the watch, where the options were read before
+pub watch_mixed : (found : Found) (watch check json : Bool) (name : Option Text) (mixed : Bool)
+    → watch ≡ is_set (first_value found (codes "watch")) → check ≡ is_set (first_value found (codes "check"))
+    → json ≡ is_set (first_value found (codes "json")) → name ≡ first_value found (codes "give-up")
+    → mixed ≡ is_watch_mixed watch check json name
+    → mixed ≡ is_watch_mixed (is_set (first_value found (codes "watch"))) (is_set (first_value found (codes "check")))
+    (is_set (first_value found (codes "json"))) (first_value found (codes "give-up"))
+watch_mixed found watch check json name mixed watches checks prints names is = is
+    ∙ ap (λ w. is_watch_mixed w check json name) watches
+    ∙ ap (λ c. is_watch_mixed (is_set (first_value found (codes "watch"))) c json name) checks
+    ∙ ap (λ j. is_watch_mixed (is_set (first_value found (codes "watch"))) (is_set (first_value found (codes "check"))) j name)
+    prints
+    ∙ ap (is_watch_mixed (is_set (first_value found (codes "watch"))) (is_set (first_value found (codes "check")))
+    (is_set (first_value found (codes "json")))) names
 
 -- the ways that were looked at are the only ones
 pub no_way : (found : Found) (timeout most idle : Option ℕ)

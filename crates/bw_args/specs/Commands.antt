@@ -262,9 +262,17 @@ give_up_option = option (codes "give-up")
 abbrev pub takes_where : App
 takes_where = with_rule (with_rule (new_app (codes "takes")) folder_option) check_flag
 
--- `takes`, with its four options
+-- `--watch`
+abbrev pub watch_flag : Rule
+watch_flag = flag (codes "watch")
+
+-- .. and how they are reported
+abbrev pub takes_how : App
+takes_how = with_rule (with_rule takes_where json_flag) watch_flag
+
+-- `takes`, with its five options
 abbrev pub takes_command : App
-takes_command = with_rule (with_rule takes_where json_flag) give_up_option
+takes_command = with_rule takes_how give_up_option
 
 -- the program, which has a version and requires a command
 abbrev pub program : App

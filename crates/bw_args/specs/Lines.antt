@@ -5,7 +5,7 @@ pub use Rattle.bw_args.specs.Given.{GivesAddress, IsAddressGiven, GivesFolder, I
 pub use Rattle.bw_args.specs.Given.{GivesCount, IsCountGiven, IsEnd, IsEndGiven, GivesEnd}
 pub use Rattle.bw_args.specs.Given.{IsRecorders, IsRecordersGiven, GivesRecorders, IsJournaling}
 pub use Rattle.bw_args.specs.Given.{IsJournalingGiven, GivesCountOr, GivesRounds}
-pub use Rattle.bw_args.specs.Given.{IsWork, IsWorkGiven, GivesWork}
+pub use Rattle.bw_args.specs.Given.{IsWork, IsWorkGiven, GivesWork, is_watch_mixed}
 pub use Rattle.bw_args.specs.Ranges.{IsWithin, IsEndWithin, IsWayWithin, HasNumbersInRange}
 use Rattle.std.specs.Prelude.{◌≡◌, ◌≢◌, ◌⊎◌, ⊤, ℕ, Bool}
 use Rattle.std.specs.Prelude.{false, List, [], ◌∷◌, ◌++◌}
@@ -37,6 +37,7 @@ use Rattle.bw_args.specs.declared.bad_value.BadValue.TheVariants.{Name, Limit, F
 use Rattle.bw_args.specs.declared.bad_value.BadValue.TheVariants.{Folder, Exchanges, Timeout}
 use Rattle.bw_args.specs.declared.bad_value.BadValue.TheVariants.{Recorders, Idle, Wait}
 use Rattle.bw_args.specs.declared.bad_value.BadValue.TheVariants.{UntilStopped, Sync, GiveUp, Connect}
+use Rattle.bw_args.specs.declared.bad_value.BadValue.TheVariants.{Watch}
 use Rattle.bw_args.specs.declared.bad_value.BadValue.TheVariants.{Rounds, Fruitless, Rate, Mixed, Pcm, Skip}
 use Rattle.bw_args.specs.declared.bad_value.BadValue.TheVariants.{Block, MixedSamples, Inspection}
 use Rattle.bw_args.specs.declared.folders.FolderWork.{FolderWork}
@@ -284,6 +285,8 @@ IsGood UntilStopped given = (end : End)
     × GivesEnd (given (codes "exchanges")) (is_set (given (codes "until-stopped"))) end
 IsGood Sync given = (journal : Journaling)
     × IsJournaling (is_set (given (codes "journal"))) (is_set (given (codes "sync"))) journal
+IsGood Watch given = is_watch_mixed (is_set (given (codes "watch")))
+    (is_set (given (codes "check"))) (is_set (given (codes "json"))) (given (codes "give-up")) ≡ false
 IsGood GiveUp given = (work : FolderWork) × GivesWork given work
 IsGood Connect given = (address : SocketAddr)
     × GivesAddress (is_set (given (codes "network"))) (given (codes "connect")) address
@@ -318,7 +321,7 @@ looked_at command = if bytes_eq command (codes "replay") then Limit ∷ Fuse ∷
     then Listen ∷ Folder ∷ Exchanges ∷ Limit ∷ (looked_at_waiting ++ UntilStopped ∷ Sync ∷ [])
     else (if bytes_eq command (codes "send")
     then Connect ∷ Name ∷ (looked_at_trying ++ Mixed ∷ looked_at_samples)
-    else (if bytes_eq command (codes "takes") then Folder ∷ GiveUp ∷ [] else []))))
+    else (if bytes_eq command (codes "takes") then Folder ∷ Watch ∷ GiveUp ∷ [] else []))))
 
 -- of these values, in this order, it is the first that is bad
 abbrev pub IsFirstBad : List BadValue → (Text → Option Text) → BadValue → Type 0

@@ -29,6 +29,8 @@ pub enum BadValue {
     UntilStopped,
     /// `--sync` without `--journal`.
     Sync,
+    /// Other options of `takes` beside `--watch`.
+    Watch,
     /// The name of a take that is given up, or other options of `takes` beside it.
     GiveUp,
     /// The address of the server that requests are sent to.
@@ -72,6 +74,7 @@ impl BadValue {
             BadValue::Wait => BAD_WAIT,
             BadValue::UntilStopped => BAD_UNTIL_STOPPED,
             BadValue::Sync => BAD_SYNC,
+            BadValue::Watch => BAD_WATCH,
             BadValue::GiveUp => BAD_GIVE_UP,
             BadValue::Connect => BAD_CONNECT,
             BadValue::Rounds => BAD_ROUNDS,
@@ -177,6 +180,14 @@ For more information, try '--help'.
 
 const BAD_SYNC: &str = "\
 error: '--sync' is for '--journal'
+
+Usage: bwingest <COMMAND>
+
+For more information, try '--help'.
+";
+
+const BAD_WATCH: &str = "\
+error: '--watch' can't be given beside '--check', '--json' and '--give-up <NAME>'
 
 Usage: bwingest <COMMAND>
 

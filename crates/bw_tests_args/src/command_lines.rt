@@ -159,7 +159,7 @@ fn each_line_runs_or_reports(rt: HostRuntime) -> Result<(), AllocError> {
     lines_come_to(&rt, rt.alloc(), &[], &LINES)
 }
 
-static TAKES: [Line; 17] = [
+static TAKES: [Line; 20] = [
     (&["--folder", "-d"], Outcome::Lists([false, false])),
     (&["--folder=-d"], Outcome::Lists([false, false])),
     (&["--check", "--folder=-d"], Outcome::Lists([true, false])),
@@ -168,6 +168,7 @@ static TAKES: [Line; 17] = [
         &["--json", "--folder", "-d", "--check"],
         Outcome::Lists([true, true]),
     ),
+    (&["--watch", "--folder", "-d"], Outcome::Watches),
     (&["--folder", "-d", "--give-up=-a"], Outcome::GivesUp),
     (&["--give-up=-a", "--folder=-d"], Outcome::GivesUp),
     (&["--help"], Outcome::Shows),
@@ -176,6 +177,11 @@ static TAKES: [Line; 17] = [
     (&["--folder"], Outcome::Refuses),
     (&["--folder=", "--check"], Outcome::Refuses),
     (&["--folder=-d", "--check", "--check"], Outcome::Refuses),
+    (&["--folder=-d", "--watch", "--json"], Outcome::Refuses),
+    (
+        &["--folder=-d", "--watch", "--give-up=-a"],
+        Outcome::Refuses,
+    ),
     (&["--folder=-d", "--give-up=A"], Outcome::Refuses),
     (&["--folder=-d", "--give-up="], Outcome::Refuses),
     (

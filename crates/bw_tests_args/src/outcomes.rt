@@ -56,6 +56,8 @@ pub(crate) enum Outcome {
     Repairs { is_written: bool },
     /// Reports the takes of the folder `-d`: whether their samples are compared, and in JSON.
     Lists([bool; 2]),
+    /// Shows the takes of the folder `-d` again and again.
+    Watches,
     /// Gives up the take `-a` of the folder `-d`.
     GivesUp,
     /// Text on standard output, status 0.
@@ -130,6 +132,7 @@ fn run_outcome(task: &Task, words: &[&str]) -> Outcome {
 fn work_outcome(work: &FolderWork) -> Outcome {
     match work {
         FolderWork::Report { check, json } => Outcome::Lists([*check, *json]),
+        FolderWork::Watch => Outcome::Watches,
         FolderWork::GiveUp(name) if name.as_bytes() == b"-a".as_slice() => Outcome::GivesUp,
         FolderWork::GiveUp(_) => Outcome::Confuses,
     }

@@ -8,7 +8,7 @@ ghost use Rattle.bw_args.specs.Commands.{rounds_option, set_option, strict_flag,
 ghost use Rattle.bw_args.specs.Commands.{timeout_option, until_stopped_flag, block_option, follow_flag};
 ghost use Rattle.bw_args.specs.Commands.{pcm_option, skip_option, until_option, files_argument, json_flag};
 ghost use Rattle.bw_args.specs.Commands.{check_flag, digest_flag, give_up_option, human_flag, rate_option};
-ghost use Rattle.bw_args.specs.Commands.{state_option, write_flag};
+ghost use Rattle.bw_args.specs.Commands.{state_option, watch_flag, write_flag};
 
 use clap::{Arg, ArgAction};
 use std::alloc::Global;
@@ -123,6 +123,13 @@ pub(crate) fn check_flag<'a>(alloc: Global) -> Arg<'a>
 {
     let help = "Compares the samples of each file with the digests in its journal";
     flag_option(alloc, "check", help)
+}
+
+pub(crate) fn watch_flag<'a>(alloc: Global) -> Arg<'a>
+    ensures { IsOption watch_flag result }
+{
+    let help = "Shows the takes each second, until it is stopped (Ctrl-C)";
+    flag_option(alloc, "watch", help)
 }
 
 pub(crate) fn give_up_option<'a>(alloc: Global) -> Arg<'a>
