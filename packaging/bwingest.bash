@@ -11,7 +11,7 @@ _bwingest() {
     esac
     case ${COMP_WORDS[1]} in
     serve) options='--listen --folder --exchanges --limit --timeout --network --recorders --idle --until-stopped --log --journal --sync --one-name --help' ;;
-    send) options='--connect --name --rounds --timeout --network --file --set --strict --fruitless --log --state --rate --pcm --skip --block --follow --until --help' ;;
+    send) options='--connect --name --rounds --timeout --network --file --set --strict --fruitless --log --state --rate --pcm --skip --block --follow --until --spool --help' ;;
     inspect) options='--json --human --digest --help' ;;
     pack) options='--set --strict --help' ;;
     picture) options='--help' ;;

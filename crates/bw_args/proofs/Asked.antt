@@ -14,14 +14,14 @@ use Rattle.bw_args.specs.Given.{GivesAddress, GivesCount, GivesCountOr, GivesEnd
 use Rattle.bw_args.specs.Given.{GivesNoFuse, GivesRecorders, IsAddressGiven, IsEnd, IsEndGiven, IsLimitGiven, IsNameGiven}
 use Rattle.bw_args.specs.Given.{IsJournaling, IsJournalingGiven, IsRecorders, IsRecordersGiven, given_on_line, is_set}
 use Rattle.bw_args.specs.Given.{GivesWork, IsWork, IsWorkGiven, is_watch_mixed}
-use Rattle.bw_args.specs.Sources.{GivesSource, PlainSource, is_mixed, settings_on_line}
+use Rattle.bw_args.specs.Sources.{GivesSource, PlainSource, is_mixed, path_given, settings_on_line}
 use Rattle.bw_args.specs.Inspecting.{GivesInspection, PlainInspection, is_possible, one_file}
 use Rattle.bw_args.specs.Lines.{AsksForPath, AsksNothing, GivesSender, GivesServer, GivesTries, HasNumbersInRange}
 use Rattle.bw_args.specs.Lines.{IsEndWithin, IsFirstBad, IsGood, IsLineFor, IsWayWithin, IsWishOf, IsWithin, Service}
 use Rattle.bw_args.specs.Lines.{FileUpload, Wish, looked_at, looked_at_trying, looked_at_waiting}
 use Rattle.bw_args.specs.Lines.{Replaying, Rehearsing, Inspecting, Packing, Sending, SendingPcm, Serving}
 use Rattle.bw_args.specs.Lines.{Uploading, PcmUpload, looked_at_samples, InspectingFiles, Repairing, Listing, Picturing}
-use Rattle.bw_args.specs.PcmSources.{GivesFormat, GivesSamples, PlainPcm, fruitless_of, is_unpaired}
+use Rattle.bw_args.specs.PcmSources.{GivesFormat, GivesSamples, PlainPcm, fruitless_of, is_live, is_unpaired}
 use Rattle.bw_args.specs.PcmSources.{samples_with}
 use Rattle.bw_args.specs.declared.commands.samples.WrittenFormat.{WrittenFormat}
 use Rattle.bw_args.specs.Numbers.{IsLimitValue, default_fruitless, default_rounds, default_timeout, most_exchanges}
@@ -60,10 +60,10 @@ AllGood [] given = ⊤
 AllGood (value ∷ values) given = IsGood value given × AllGood values given
 
 -- without a recording's file nothing is said of fruitless links, nor of a rate
-no_pace : (given : Text → Option Text) → given (codes "file") ≡ None → is_mixed given ≡ false
+no_pace : (given : Text → Option Text) → path_given given ≡ None → is_mixed given ≡ false
     → (given (codes "fruitless") ≡ None) × (given (codes "rate") ≡ None)
 no_pace given none unmixed =
-    go (given (codes "file")) (given (codes "set")) (given (codes "fruitless")) (given (codes "state"))
+    go (path_given given) (given (codes "set")) (given (codes "fruitless")) (given (codes "state"))
     (given (codes "rate")) none unmixed
   where
     go : (file set fruitless state rate : Option Text) → file ≡ None
@@ -79,9 +79,9 @@ no_pace given none unmixed =
     go None None None None None is unmixed = (refl, refl)
 
 -- with it nothing of rounds
-no_rounds : (given : Text → Option Text) (path : Text) → given (codes "file") ≡ Some path → is_mixed given ≡ false
+no_rounds : (given : Text → Option Text) (path : Text) → path_given given ≡ Some path → is_mixed given ≡ false
     → given (codes "rounds") ≡ None
-no_rounds given path has unmixed = go (given (codes "file")) (given (codes "rounds")) has unmixed
+no_rounds given path has unmixed = go (path_given given) (given (codes "rounds")) has unmixed
   where
     go : (file rounds : Option Text) → file ≡ Some path
         → (if is_some file then is_some rounds
@@ -104,19 +104,20 @@ samples_good : (given : Text → Option Text) (samples : Option PlainPcm) → Gi
 samples_good given samples g = ((g.format, g.formatted), ((g.skip, g.begins), ((g.block, g.blocks), (g.unmixed, tt))))
 
 -- without a file nothing describes samples
-pub no_samples : (given : Text → Option Text) (samples : Option PlainPcm) → given (codes "file") ≡ None
+pub no_samples : (given : Text → Option Text) (samples : Option PlainPcm) → path_given given ≡ None
     → GivesSamples given samples → GivesSamples given None
 no_samples given samples none g =
     let format : g.format ≡ None =
-    go (given (codes "pcm")) (given (codes "file")) g.format none g.formatted g.unmixed in
+    go (given (codes "pcm")) (path_given given) g.format none g.formatted g.unmixed in
     let same : samples ≡ None =
-    g.are ∙ ap (option_map (samples_with g.skip g.block (given (codes "until")))) format in
+    g.are ∙ ap (option_map (samples_with g.skip g.block (given (codes "until")) (is_some (given (codes "spool"))))) format in
     subst (GivesSamples given) same g
   where
     go : (pcm file : Option Text) (format : Option WrittenFormat) → file ≡ None → GivesFormat pcm format
         → (if is_some pcm then not (is_some file) || (is_some (given (codes "state")) || is_unpaired given)
         else (is_some (given (codes "skip")) || (is_some (given (codes "block"))
-        || (is_set (given (codes "follow")) || is_some (given (codes "until")))))) ≡ false
+        || (is_set (given (codes "follow")) || (is_some (given (codes "until"))
+        || is_some (given (codes "spool"))))))) ≡ false
         → format ≡ None
     go None file format is gives unmixed = gives
     go (Some text) (Some path) format is gives unmixed = let bad : Some path ≡ None = is in cc
@@ -397,11 +398,13 @@ clashing_line found files json human digest given prints explains digests clash 
 )
 
 -- the file to pack that is given is the one that is asked for
-pub source_asked : (found : Found) (path : Text) (source : PlainSource) → Some path ≡ first_value found (codes "file")
+pub source_asked : (found : Found) (path_in : (Text → Option Text) → Option Text) (path : Text) (source : PlainSource)
+    → Some path ≡ path_in (first_value found)
     → source.path ≡ path → source.settings ≡ settings_on_line (rows_of found)
-    → source.strict ≡ is_set (first_value found (codes "strict")) → GivesSource (rows_of found) source
-source_asked found path source given at sets strict = record {
-  from = sym (ap Some at ∙ given ∙ first_value-rows found (codes "file"));
+    → source.strict ≡ is_set (first_value found (codes "strict"))
+    → GivesSource (path_in (given_on_line (rows_of found))) (rows_of found) source
+source_asked found path_in path source given at sets strict = record {
+  from = sym (ap Some at ∙ by_rows found (λ g. Some path ≡ path_in g) given);
   sets = sets;
   refuses = by_rows found (λ g. source.strict ≡ is_set (g (codes "strict"))) strict;
 }
@@ -485,7 +488,8 @@ sender_asked found sender given = (refl, by_rows found (λ g. GivesSender g send
 -- and the sender of a recording
 pub upload_asked : (found : Found) (sender : FileUpload)
     → GivesAddress (is_set (first_value found (codes "network"))) (first_value found (codes "connect")) sender.connect
-    → GivesName (first_value found (codes "name")) sender.name → GivesSource (rows_of found) sender.source
+    → GivesName (first_value found (codes "name")) sender.name
+    → GivesSource (path_given (given_on_line (rows_of found))) (rows_of found) sender.source
     → GivesCountOr default_timeout most_seconds (first_value found (codes "timeout")) sender.timeout
     → GivesCountOr default_fruitless most_fruitless (first_value found (codes "fruitless")) sender.fruitless
     → sender.log ≡ is_set (first_value found (codes "log")) → sender.state ≡ first_value found (codes "state")
@@ -512,11 +516,12 @@ upload_asked found sender connects named takes waits ends reports states paced u
 -- and the sender of headerless samples
 pub pcm_asked : (found : Found) (sender : PcmUpload) (count : Option ℕ)
     → GivesAddress (is_set (first_value found (codes "network"))) (first_value found (codes "connect")) sender.connect
-    → GivesName (first_value found (codes "name")) sender.name → GivesSource (rows_of found) sender.source
+    → GivesName (first_value found (codes "name")) sender.name
+    → GivesSource (path_given (given_on_line (rows_of found))) (rows_of found) sender.source
     → GivesSamples (first_value found) (Some sender.pcm)
     → GivesCountOr default_timeout most_seconds (first_value found (codes "timeout")) sender.timeout
     → GivesCount most_fruitless (first_value found (codes "fruitless")) count
-    → sender.fruitless ≡ fruitless_of sender.pcm.until count
+    → sender.fruitless ≡ fruitless_of (is_live sender.pcm) count
     → sender.log ≡ is_set (first_value found (codes "log"))
     → GivesCount most_rate (first_value found (codes "rate")) sender.rate → is_mixed (first_value found) ≡ false
     → IsWishOf (Some (codes "send", rows_of found)) (SendingPcm sender)
@@ -541,7 +546,7 @@ pcm_asked found sender count connects named takes samples waits counts ends repo
 -- of a recording, or of samples, the file's path is kept
 pub upload_kept : (found : Found) (path name : Text) (connect : SocketAddr) (tries : Tries)
     → GivesAddress (is_set (first_value found (codes "network"))) (first_value found (codes "connect")) connect
-    → GivesName (first_value found (codes "name")) name → Some path ≡ first_value found (codes "file")
+    → GivesName (first_value found (codes "name")) name → Some path ≡ path_given (first_value found)
     → GivesTries (first_value found) tries → is_mixed (first_value found) ≡ false
     → GivesSamples (first_value found) None
     → AsksForPath (Some (codes "send", rows_of found))
@@ -557,14 +562,14 @@ upload_kept found path name connect tries connects named at given unmixed unsamp
     rate = tries.rate;
   }),
   tt,
-  upload_asked found _ connects named (source_asked found path (found_source found path) at refl refl refl)
+  upload_asked found _ connects named (source_asked found path_given path (found_source found path) at refl refl refl)
       (tries.timeout, given.waits, refl) (tries.fruitless, given.ends, refl) refl refl given.paced
       unmixed unsampled,
 )
 
 pub samples_kept : (found : Found) (path name : Text) (connect : SocketAddr) (tries : Tries) (pcm : PlainPcm)
     → GivesAddress (is_set (first_value found (codes "network"))) (first_value found (codes "connect")) connect
-    → GivesName (first_value found (codes "name")) name → Some path ≡ first_value found (codes "file")
+    → GivesName (first_value found (codes "name")) name → Some path ≡ path_given (first_value found)
     → GivesTries (first_value found) tries → is_mixed (first_value found) ≡ false
     → GivesSamples (first_value found) (Some pcm) → AsksForPath (Some (codes "send", rows_of found))
 samples_kept found path name connect tries pcm connects named at given unmixed samples = (
@@ -574,12 +579,12 @@ samples_kept found path name connect tries pcm connects named at given unmixed s
     source = found_source found path;
     pcm = pcm;
     timeout = unwrap_or tries.timeout default_timeout;
-    fruitless = fruitless_of pcm.until tries.fruitless;
+    fruitless = fruitless_of (is_live pcm) tries.fruitless;
     log = is_set (first_value found (codes "log"));
     rate = tries.rate;
   }),
   tt,
-  pcm_asked found _ tries.fruitless connects named (source_asked found path (found_source found path) at refl refl
+  pcm_asked found _ tries.fruitless connects named (source_asked found path_given path (found_source found path) at refl refl
       refl)
       samples (tries.timeout, given.waits, refl) given.ends refl refl given.paced unmixed,
 )
@@ -736,22 +741,23 @@ given_number : (default most : ℕ) (count : Option ℕ) (n : ℕ) → 1 ≤ def
 given_number default most None n least fits within is = rw is (least, fits)
 given_number default most (Some count) n least fits within is = rw is within
 
-given_fruitless : (until : Option Text) (count n : Option ℕ) → IsWithin most_fruitless count
-    → n ≡ fruitless_of until count → IsWithin most_fruitless n
-given_fruitless None None n within is = subst (IsWithin most_fruitless) (sym is) (omega arith, omega arith)
-given_fruitless None (Some count) n within is = subst (IsWithin most_fruitless) (sym is) within
-given_fruitless (Some until) count n within is = subst (IsWithin most_fruitless) (sym is) within
+given_fruitless : (is_live : Bool) (count n : Option ℕ) → IsWithin most_fruitless count
+    → n ≡ fruitless_of is_live count → IsWithin most_fruitless n
+given_fruitless false None n within is = subst (IsWithin most_fruitless) (sym is) (omega arith, omega arith)
+given_fruitless false (Some count) n within is = subst (IsWithin most_fruitless) (sym is) within
+given_fruitless true count n within is = subst (IsWithin most_fruitless) (sym is) within
 
 given_block : (given : Text → Option Text) (pcm : PlainPcm) → GivesSamples given (Some pcm)
     → IsWithin most_block pcm.block
 given_block given pcm g = go g.format g.are
   where
     go : (format : Option WrittenFormat)
-        → Some pcm ≡ option_map (samples_with g.skip g.block (given (codes "until"))) format
+        → Some pcm ≡ option_map
+        (samples_with g.skip g.block (given (codes "until")) (is_some (given (codes "spool")))) format
         → IsWithin most_block pcm.block
     go None is = let bad : Some pcm ≡ None = is in cc
     go (Some f) is =
-        let same : pcm ≡ samples_with g.skip g.block (given (codes "until")) f = cc in
+        let same : pcm ≡ samples_with g.skip g.block (given (codes "until")) (is_some (given (codes "spool"))) f = cc in
         subst (IsWithin most_block) (ap (λ (p : PlainPcm). p.block) (sym same))
         (given_count most_block (given (codes "block")) g.block g.blocks)
 

@@ -2,7 +2,7 @@
 use Rattle.std.proofs.Common.{◌≡◌, ℕ, List, [], Bool, true, false, Option, Some, None, codes, sym, ◌∙◌, ap}
 use Rattle.std.proofs.Common.{subst, ◌∷◌}
 use Rattle.std.proofs.Common.{refl, unwrap_or}
-use Rattle.std.specs.Prelude.{option_map}
+use Rattle.std.specs.Prelude.{is_some, option_map}
 use Rattle.std.specs.Str.{bytes_eq}
 use Rattle.std.proofs.lemmas.Slice.Eq.{bytes_eq-Decides}
 use Rattle.std.specs.declared.net.socket_addr.SocketAddr.{SocketAddr}
@@ -12,7 +12,7 @@ use Rattle.bw_args.specs.Given.{GivesAddress, GivesCount, GivesCountOr, GivesEnd
 use Rattle.bw_args.specs.Given.{GivesName, GivesRecorders, IsEnd, IsJournaling, IsRecorders, IsWork, given_on_line}
 use Rattle.bw_args.specs.Sources.{GivesSource, PlainSource}
 use Rattle.bw_args.specs.PcmSources.{GivesFormat, GivesNumber, GivesSamples, IsFormatText, PlainPcm, at_comma}
-use Rattle.bw_args.specs.PcmSources.{fruitless_of, samples_with}
+use Rattle.bw_args.specs.PcmSources.{fruitless_of, is_live, samples_with}
 use Rattle.bw_args.specs.declared.commands.samples.WrittenFormat.{WrittenFormat}
 use Rattle.bw_args.specs.Lines.{GivesPcmUpload, GivesSender, GivesServer, GivesUpload, IsWishOf, Service}
 use Rattle.bw_args.specs.Lines.{FileUpload, PcmUpload, Wish, Inspecting, Packing, Rehearsing, Replaying}
@@ -134,8 +134,9 @@ one_sender given a b x y = λ i. record {
   timeout = one_count _ _ a.timeout b.timeout x.waits y.waits i;
 }
 
-one_source : (options : List Row) (a b : PlainSource) → GivesSource options a → GivesSource options b → a ≡ b
-one_source options a b x y =
+one_source : (given : Option Text) (options : List Row) (a b : PlainSource) → GivesSource given options a
+    → GivesSource given options b → a ≡ b
+one_source given options a b x y =
     let from : Some a.path ≡ Some b.path = sym x.from ∙ y.from in
     let path : a.path ≡ b.path = cc in
     λ i. record { path = path i; settings = (x.sets ∙ sym y.sets) i; strict = (x.refuses ∙ sym y.refuses) i }
@@ -144,7 +145,7 @@ one_upload : (options : List Row) (a b : FileUpload) → GivesUpload options a �
 one_upload options a b x y = λ i. record {
   connect = one_address _ _ a.connect b.connect x.connects y.connects i;
   name = one_name _ a.name b.name x.named y.named i;
-  source = one_source options a.source b.source x.takes y.takes i;
+  source = one_source _ options a.source b.source x.takes y.takes i;
   timeout = one_count_or _ _ _ a.timeout b.timeout x.waits y.waits i;
   fruitless = one_count_or _ _ _ a.fruitless b.fruitless x.ends y.ends i;
   log = (x.reports ∙ sym y.reports) i;
@@ -193,10 +194,11 @@ one_samples given a b x y =
     let format = one_format (given (codes "pcm")) x.format y.format x.formatted y.formatted in
     let skip = one_number (given (codes "skip")) x.skip y.skip x.begins y.begins in
     let block = one_count most_block (given (codes "block")) x.block y.block x.blocks y.blocks in
+    let spooled = is_some (given (codes "spool")) in
     x.are
-    ∙ ap (λ (n : Option ℕ). option_map (samples_with n x.block (given (codes "until"))) x.format) skip
-    ∙ ap (λ (n : Option ℕ). option_map (samples_with y.skip n (given (codes "until"))) x.format) block
-    ∙ ap (option_map (samples_with y.skip y.block (given (codes "until")))) format
+    ∙ ap (λ (n : Option ℕ). option_map (samples_with n x.block (given (codes "until")) spooled) x.format) skip
+    ∙ ap (λ (n : Option ℕ). option_map (samples_with y.skip n (given (codes "until")) spooled) x.format) block
+    ∙ ap (option_map (samples_with y.skip y.block (given (codes "until")) spooled)) format
     ∙ sym y.are
 
 one_pcm_upload : (options : List Row) (a b : PcmUpload) → GivesPcmUpload options a → GivesPcmUpload options b → a ≡ b
@@ -205,12 +207,13 @@ one_pcm_upload options a b x y =
     one_samples (given_on_line options) (Some a.pcm) (Some b.pcm) x.samples y.samples in
     let pcm : a.pcm ≡ b.pcm = cc in
     let count = one_count most_fruitless _ x.count y.count x.counts y.counts in
-    let ends = x.ends ∙ ap (fruitless_of a.pcm.until) count ∙ ap (λ (s : PlainPcm). fruitless_of s.until y.count) pcm
+    let ends = x.ends ∙ ap (fruitless_of (is_live a.pcm)) count
+    ∙ ap (λ (s : PlainPcm). fruitless_of (is_live s) y.count) pcm
     ∙ sym y.ends in
     λ i. record {
       connect = one_address _ _ a.connect b.connect x.connects y.connects i;
       name = one_name _ a.name b.name x.named y.named i;
-      source = one_source options a.source b.source x.takes y.takes i;
+      source = one_source _ options a.source b.source x.takes y.takes i;
       pcm = pcm i;
       timeout = one_count_or _ _ _ a.timeout b.timeout x.waits y.waits i;
       fruitless = ends i;
@@ -281,7 +284,7 @@ one_wish (Some command) (Uploading a) (SendingPcm b) x y =
     some_samples (given_on_line command.1) b.pcm x.1.unsampled y.1.samples
 one_wish (Some command) (SendingPcm a) (Uploading b) x y =
     some_samples (given_on_line command.1) a.pcm y.1.unsampled x.1.samples
-one_wish (Some command) (Packing a) (Packing b) x y = ap Packing (one_source command.1 a b x.1 y.1)
+one_wish (Some command) (Packing a) (Packing b) x y = ap Packing (one_source _ command.1 a b x.1 y.1)
 one_wish (Some command) (Picturing a) (Picturing b) x y =
     let same : Some a ≡ Some b = sym x.1 ∙ y.1 in cc
 one_wish (Some command) (Repairing a v) (Repairing b w) x y =

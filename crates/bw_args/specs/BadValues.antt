@@ -46,15 +46,16 @@ fault_said Fruitless =
 fault_said Rate =
     codes "'--rate <BYTES>' takes a number from 1 to 4294967295, in at most ten digits"
 fault_said Mixed = codes "'--set', '--strict', '--fruitless', '--log', '--state' and '--rate' are "
-    ++ codes "for '--file <FILE>', and '--rounds <N>' for a sender without it"
+    ++ codes "for '--file <FILE>' or '--spool <SPOOL>', and '--rounds <N>' for a sender without these"
 fault_said Pcm = codes "'--pcm <RATE,CHANNELS,BITS>' takes three numbers with commas between them, "
     ++ codes "each from 0 to 4294967295, in at most ten digits"
 fault_said Skip =
     codes "'--skip <BYTES>' takes a number from 0 to 4294967295, in at most ten digits"
 fault_said Block =
     codes "'--block <FRAMES>' takes a number from 1 to 4294967295, in at most ten digits"
-fault_said MixedSamples = codes "'--pcm' is for '--file <FILE>' without '--state'; '--skip', '--block', "
-    ++ codes "'--follow' for '--pcm'; '--follow' goes with '--until <END>'"
+fault_said MixedSamples = codes "'--pcm' is for '--file <FILE>' or '--spool <SPOOL>', without "
+    ++ codes "'--state'; '--skip', '--block', '--follow' and '--spool' are for '--pcm'; '--follow' goes "
+    ++ codes "with '--until <END>', and neither with '--spool'"
 fault_said Inspection = codes "'--json' can't be given beside '--human', and '-', which is read once, "
     ++ codes "beside another file or '--digest'"
 

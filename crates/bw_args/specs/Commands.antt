@@ -220,15 +220,19 @@ until_option = option (codes "until")
 abbrev pub send_samples : App
 send_samples = with_rule (with_rule (with_rule send_source pcm_option) skip_option) block_option
 
+-- `--spool SPOOL`
+abbrev pub spool_option : Rule
+spool_option = option (codes "spool")
+
 -- and when it has ended, where it is still going on
 abbrev pub send_followed : App
-send_followed = with_rule (with_rule send_samples follow_flag) until_option
+send_followed = with_rule (with_rule (with_rule send_samples follow_flag) until_option) spool_option
 
 -- and when it gives up, and what it reports
 abbrev pub send_report : App
 send_report = with_rule (with_rule send_followed fruitless_option) log_flag
 
--- `send`, with its seventeen options
+-- `send`, with its eighteen options
 abbrev pub send_command : App
 send_command = with_rule (with_rule send_report state_option) rate_option
 

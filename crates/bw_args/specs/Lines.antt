@@ -26,9 +26,9 @@ use Rattle.bw_args.specs.Numbers.{most_seconds}
 use Rattle.bw_args.specs.Commands.{command_line}
 use Rattle.bw_args.specs.Inspecting.{GivesInspection, PlainInspection, has_option, inspection_in_plain}
 use Rattle.bw_args.specs.Inspecting.{is_alone, one_file}
-use Rattle.bw_args.specs.Sources.{GivesSource, PlainSource, in_plain, is_mixed}
+use Rattle.bw_args.specs.Sources.{GivesSource, PlainSource, in_plain, is_mixed, path_given}
 use Rattle.bw_args.specs.PcmSources.{GivesFormat, GivesNumber, GivesSamples, PlainPcm}
-use Rattle.bw_args.specs.PcmSources.{are_samples_mixed, fruitless_of, plain_pcm}
+use Rattle.bw_args.specs.PcmSources.{are_samples_mixed, fruitless_of, is_live, plain_pcm}
 use Rattle.bw_args.specs.ReadWords.{as_read}
 use Rattle.bw_args.specs.declared.CommandLine.{CommandLine}
 use Rattle.bw_args.specs.declared.CommandLine.TheVariants.{Run, BadValue as Bad, Report}
@@ -173,7 +173,7 @@ pub record GivesSender (given : Text → Option Text) (sender : Sender) : Type 0
   pub named : GivesName (given (codes "name")) sender.name
   pub tries : GivesRounds (given (codes "rounds")) sender.rounds
   pub waits : GivesCount most_seconds (given (codes "timeout")) sender.timeout
-  pub lines : given (codes "file") ≡ None
+  pub lines : path_given given ≡ None
   pub unmixed : is_mixed given ≡ false
   pub unsampled : GivesSamples given None
 
@@ -182,7 +182,7 @@ pub record GivesUpload (options : List Row) (sender : FileUpload) : Type 0 where
   pub connects : GivesAddress (is_set (given_on_line options (codes "network")))
       (given_on_line options (codes "connect")) sender.connect
   pub named : GivesName (given_on_line options (codes "name")) sender.name
-  pub takes : GivesSource options sender.source
+  pub takes : GivesSource (path_given (given_on_line options)) options sender.source
   pub waits : GivesCountOr default_timeout most_seconds (given_on_line options (codes "timeout"))
       sender.timeout
   pub ends : GivesCountOr default_fruitless most_fruitless
@@ -198,13 +198,13 @@ pub record GivesPcmUpload (options : List Row) (sender : PcmUpload) : Type 0 whe
   pub connects : GivesAddress (is_set (given_on_line options (codes "network")))
       (given_on_line options (codes "connect")) sender.connect
   pub named : GivesName (given_on_line options (codes "name")) sender.name
-  pub takes : GivesSource options sender.source
+  pub takes : GivesSource (path_given (given_on_line options)) options sender.source
   pub samples : GivesSamples (given_on_line options) (Some sender.pcm)
   pub waits : GivesCountOr default_timeout most_seconds (given_on_line options (codes "timeout"))
       sender.timeout
   pub count : Option ℕ
   pub counts : GivesCount most_fruitless (given_on_line options (codes "fruitless")) count
-  pub ends : sender.fruitless ≡ fruitless_of sender.pcm.until count
+  pub ends : sender.fruitless ≡ fruitless_of (is_live sender.pcm) count
   pub reports : sender.log ≡ is_set (given_on_line options (codes "log"))
   pub paced : GivesCount most_rate (given_on_line options (codes "rate")) sender.rate
   pub unmixed : is_mixed (given_on_line options) ≡ false
@@ -233,7 +233,8 @@ IsWishOf (Some command) (Uploading sender) =
 IsWishOf (Some command) (SendingPcm sender) =
     (command.0 ≡ codes "send") × GivesPcmUpload command.1 sender
 IsWishOf (Some command) (Packing source) =
-    (command.0 ≡ codes "pack") × GivesSource command.1 source
+    (command.0 ≡ codes "pack")
+    × GivesSource (given_on_line command.1 (codes "file")) command.1 source
 IsWishOf (Some command) (Picturing path) =
     (command.0 ≡ codes "picture") × (first_of (codes "file") command.1 ≡ Some path)
 IsWishOf (Some command) (Repairing path write) =

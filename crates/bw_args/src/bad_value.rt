@@ -41,7 +41,7 @@ pub enum BadValue {
     Fruitless,
     /// How many bytes a second a sender sends at most.
     Rate,
-    /// An option for a recording without `--file`, or `--rounds` with it.
+    /// An option for a recording without `--file` or `--spool`, or `--rounds` with one.
     Mixed,
     /// The format of headerless samples.
     Pcm,
@@ -49,8 +49,8 @@ pub enum BadValue {
     Skip,
     /// How many frames a block of headerless samples has.
     Block,
-    /// An option for headerless samples without `--pcm`, that without `--file` or with `--state`, or
-    /// one of `--follow` and `--until` without the other.
+    /// An option for headerless samples without `--pcm`, that without `--file` and `--spool`, with
+    /// both or with `--state`, or an end that isn't said in one way.
     MixedSamples,
     /// `--json` together with `--human`, or standard input (`-`) beside another file or `--digest`.
     Inspection,
@@ -235,7 +235,7 @@ For more information, try '--help'.
 ";
 
 const BAD_MIXED: &str = "\
-error: '--set', '--strict', '--fruitless', '--log', '--state' and '--rate' are for '--file <FILE>', and '--rounds <N>' for a sender without it
+error: '--set', '--strict', '--fruitless', '--log', '--state' and '--rate' are for '--file <FILE>' or '--spool <SPOOL>', and '--rounds <N>' for a sender without these
 
 Usage: bwingest <COMMAND>
 
@@ -267,7 +267,7 @@ For more information, try '--help'.
 ";
 
 const BAD_MIXED_SAMPLES: &str = "\
-error: '--pcm' is for '--file <FILE>' without '--state'; '--skip', '--block', '--follow' for '--pcm'; '--follow' goes with '--until <END>'
+error: '--pcm' is for '--file <FILE>' or '--spool <SPOOL>', without '--state'; '--skip', '--block', '--follow' and '--spool' are for '--pcm'; '--follow' goes with '--until <END>', and neither with '--spool'
 
 Usage: bwingest <COMMAND>
 

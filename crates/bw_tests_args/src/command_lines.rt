@@ -508,7 +508,7 @@ static FILE_SENDERS: [Line; 30] = [
     (&["--fruitless", "10"], Outcome::Refuses),
 ];
 
-static PCM_SENDERS: [Line; 20] = [
+static PCM_SENDERS: [Line; 30] = [
     (
         &["--pcm=48000,2,24", "--file=-f"],
         Outcome::SendsPcm(0, None, Some(10)),
@@ -538,6 +538,49 @@ static PCM_SENDERS: [Line; 20] = [
     (
         &["--file=-f", "--rate=1000", "--pcm=48000,2,24"],
         Outcome::SendsAtMost(1_000),
+    ),
+    (
+        &["--pcm=48000,2,24", "--spool=-f"],
+        Outcome::Spools(0, None, None),
+    ),
+    (
+        &[
+            "--spool=-f",
+            "--skip=44",
+            "--fruitless=3",
+            "--block=7",
+            "--pcm=48000,2,24",
+        ],
+        Outcome::Spools(44, Some(7), Some(3)),
+    ),
+    (
+        &["--spool=-f", "--rate=1000", "--pcm=48000,2,24"],
+        Outcome::SendsAtMost(1_000),
+    ),
+    (&["--spool=-f"], Outcome::Refuses),
+    (
+        &["--spool=-f", "--pcm=48000,2,24", "--file=-f"],
+        Outcome::Refuses,
+    ),
+    (
+        &["--spool=-f", "--pcm=48000,2,24", "--state=-s"],
+        Outcome::Refuses,
+    ),
+    (
+        &["--spool=-f", "--pcm=48000,2,24", "--rounds=2"],
+        Outcome::Refuses,
+    ),
+    (
+        &["--spool=-f", "--pcm=48000,2,24", "--follow", "--until=-e"],
+        Outcome::Refuses,
+    ),
+    (
+        &["--spool=-f", "--pcm=48000,2,24", "--follow"],
+        Outcome::Refuses,
+    ),
+    (
+        &["--spool=-f", "--pcm=48000,2,24", "--spool=-f"],
+        Outcome::Refuses,
     ),
     (&["--file=-f", "--pcm", "48000,2"], Outcome::Refuses),
     (&["--file=-f", "--pcm", "48000,2,24,"], Outcome::Refuses),

@@ -48,6 +48,8 @@ pub(crate) enum Outcome {
     SendsPcm(u32, Option<u32>, Option<u32>),
     /// The same, until the path `-e` exists.
     Follows(u32, Option<u32>, Option<u32>),
+    /// The same, with `-f` as the spool of standard input.
+    Spools(u32, Option<u32>, Option<u32>),
     /// Packs the recording `-f`.
     Packs(Said),
     /// Draws the file `-f`.
@@ -190,6 +192,8 @@ fn pcm_sender_outcome(sender: &PcmSender) -> Outcome {
         return Outcome::SendsAtMost(rate);
     }
     match &pcm.until {
+        None if pcm.is_spooled => Outcome::Spools(pcm.skip, pcm.block, sender.fruitless),
+        Some(_) if pcm.is_spooled => Outcome::Confuses,
         Some(until) if until.as_str() == "-e" => {
             Outcome::Follows(pcm.skip, pcm.block, sender.fruitless)
         }
