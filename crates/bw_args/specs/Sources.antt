@@ -1,5 +1,5 @@
 -- The file of a recording, as the options of a command line give it.
-use Rattle.std.specs.Prelude.{◌≡◌, ◌||◌, Bool, List, [], Option, Some, codes, is_some, unwrap_or}
+use Rattle.std.specs.Prelude.{◌≡◌, ◌||◌, Bool, List, [], Option, Some, None, codes, is_some, unwrap_or}
 use Rattle.std.specs.Prelude.{map, string_bytes, if◌then◌else◌}
 use Rattle.clap.specs.Walk.{Row, Text, all_of}
 use Rattle.bw_args.specs.Given.{given_on_line, is_set}
