@@ -1,5 +1,5 @@
 -- What a spool holds, and what is drawn into it.
-use Rattle.std.specs.Prelude.{◌≡◌, ◌≤◌, ◌⊎◌, ℕ, List, [], ◌++◌, Some, length}
+use Rattle.std.specs.Prelude.{◌≡◌, ◌≤◌, ℕ, List, [], ◌++◌, Some, length}
 use Rattle.bw_ports.specs.declared.link.Link.{Ghosts as LinkGhosts}
 use Rattle.bw_stream.specs.Moves.{Begins, Writes}
 use Rattle.bw_stream.specs.declared.sink.Sink.{Ghosts as Writer}

@@ -95,13 +95,13 @@ impl<L: Link + Drop, W: Sink + Drop> Spool<L, W> {
         ensures drawn { Draws L.Link W.Sink self.old result self.new }
     {
         match self.input.receive(self.piece.as_mut_slice()) {
-            Received::Bytes(count) => {
-                if write_all(&mut self.file, &self.piece[..count]).is_ok() {
-                    return Drawn::Bytes;
+            Received::Bytes(count) => match write_all(&mut self.file, &self.piece[..count]) {
+                Ok(()) => Drawn::Bytes,
+                Err(_failed) => {
+                    self.state = SpoolState::Failed;
+                    Drawn::Failed
                 }
-                self.state = SpoolState::Failed;
-                Drawn::Failed
-            }
+            },
             Received::Nothing => Drawn::Nothing,
             Received::Ended => {
                 self.state = SpoolState::Ended;
