@@ -13,7 +13,7 @@ use Rattle.clap.proofs.WalkLemmas.{first_value-rows, raw_values-rows}
 use Rattle.bw_args.specs.Given.{GivesAddress, GivesCount, GivesCountOr, GivesEnd, GivesFolder, GivesFuse, GivesLimit, GivesName}
 use Rattle.bw_args.specs.Given.{GivesNoFuse, GivesRecorders, IsAddressGiven, IsEnd, IsEndGiven, IsLimitGiven, IsNameGiven}
 use Rattle.bw_args.specs.Given.{IsJournaling, IsJournalingGiven, IsRecorders, IsRecordersGiven, given_on_line, is_set}
-use Rattle.bw_args.specs.Given.{GivesStatus, GivesWork, IsStatusGiven, IsWork, IsWorkGiven, is_watch_mixed}
+use Rattle.bw_args.specs.Given.{GivesStatus, GivesWork, IsWork, IsWorkGiven, is_watch_mixed}
 use Rattle.bw_args.specs.Sources.{GivesSource, PlainSource, is_mixed, path_given, settings_on_line}
 use Rattle.bw_args.specs.Inspecting.{GivesInspection, PlainInspection, is_possible, one_file}
 use Rattle.bw_args.specs.Lines.{AsksForPath, AsksNothing, GivesSender, GivesServer, GivesTries, HasNumbersInRange}
@@ -653,14 +653,22 @@ a_status found network status is given = subst
     (λ n. GivesStatus n (first_value found (codes "status")) (is_some (first_value found (codes "recorders"))) status)
     is given
 
-pub no_status : {E : Type 0} (found : Found) (network : Bool) (fault : E)
-    → network ≡ is_set (first_value found (codes "network"))
-    → IsStatusGiven network (first_value found (codes "status")) (is_some (first_value found (codes "recorders")))
-    (Err {T = Option SocketAddr} fault)
+pub no_status : (found : Found) (network : Bool) → network ≡ is_set (first_value found (codes "network"))
+    → ((status : Option SocketAddr) → ¬ GivesStatus network (first_value found (codes "status"))
+    (is_some (first_value found (codes "recorders"))) status)
     → ¬ IsGood Status (first_value found)
-no_status found network fault is none good = none good.0 (subst
+no_status found network is none good = none good.0 (subst
     (λ n. GivesStatus n (first_value found (codes "status")) (is_some (first_value found (codes "recorders"))) good.0)
     (sym is) good.1)
+
+-- where a text is given that is no address, there is none to show the status at
+pub no_place : (network : Bool) (text : Option Text) (of_many : Bool) → is_some text ≡ true
+    → ((address : SocketAddr) → ¬ GivesAddress network text address)
+    → (status : Option SocketAddr) → ¬ GivesStatus network text of_many status
+no_place network None of_many some none status given = is_not (sym some)
+no_place network (Some text) true some none (Some address) given = none address given
+no_place network (Some text) true some none None given = given
+no_place network (Some text) false some none status given = given
 
 -- the same work of the same options
 works_at : (w c j : Bool) (n : Option Text) (w' c' j' : Bool) (n' : Option Text) (work : FolderWork)

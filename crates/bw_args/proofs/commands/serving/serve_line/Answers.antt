@@ -1,4 +1,4 @@
-use Rattle.std.proofs.Common.{[], ◌∷◌, codes, subst, sym}
+use Rattle.std.proofs.Common.{codes, subst, sym}
 use Rattle.clap.specs.Words.{first_value, found_of}
 use Rattle.bw_args.specs.Lines.{GivesFolder, Serving, looked_at_serving, looked_at_waiting}
 use Rattle.bw_args.specs.declared.bad_value.BadValue.TheVariants.{Listen, Folder, Exchanges, Limit}
@@ -86,7 +86,7 @@ returns-in_default-status_given-clause-ok c = bad_line (found_of c.args.options.
       a_journaling (found_of c.args.options.now) _ _ _ c.flag_given-is_kept.ensures
           c.flag_given-is_synced.ensures c.in-Some-journaling.ensures,
     )
-    and_then bad (no_status (found_of c.args.options.now) _ _ c.flag_given-network.ensures
+    and_then bad (no_status (found_of c.args.options.now) _ c.flag_given-network.ensures
     c.in_default-status_given.ensures))
     )
 
