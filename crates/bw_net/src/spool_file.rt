@@ -1,5 +1,5 @@
 //! The file of a spool, by the calls of std.
-ghost use Rattle.std.specs.Prelude.{◌≡◌, None, true};
+ghost use Rattle.std.specs.Prelude.{◌≡◌, ◌≤◌, IfOk, None, length, true};
 
 use bw_stream::{IoFailed, Sink, StdIo, write_all};
 use std::alloc::Global;
@@ -29,10 +29,23 @@ impl SpoolFile {
         })
     }
 
-    fn report(&mut self, error: &io::Error) {
-        if let Ok(line) = format!(in self.alloc; "send: the spool can't be written: {error}\n") {
-            let _gone = write_all(&mut self.faults, line.as_bytes());
+    /// Writes with one call of the system, and reports why it fails.
+    fn write_once(&mut self, bytes: &[u8]) -> io::Result<usize>
+        ensures within { IfOk result (λ n. n ≤ length bytes.now) }
+        ensures kept { self.new.failures ≡ self.old.failures }
+    {
+        let written = self.file.write(bytes);
+        if let Err(error) = &written {
+            report(self.alloc, &mut self.faults, error);
         }
+        written
+    }
+}
+
+/// A line that says why the spool can't be written.
+fn report(alloc: Global, faults: &mut StdIo<Stderr>, error: &io::Error) {
+    if let Ok(line) = format!(in alloc; "send: the spool can't be written: {error}\n") {
+        let _gone = write_all(faults, line.as_bytes());
     }
 }
 
@@ -44,14 +57,9 @@ impl Sink for SpoolFile {
     ghost is_flushed = { λ f. true };
 
     fn write(&mut self, bytes: &[u8]) -> Result<usize, IoFailed> {
-        match self.file.write(bytes) {
+        match self.write_once(bytes) {
             Ok(count) if count > 0 || bytes.is_empty() => Ok(count),
-            Ok(_none) => {
-                self.failures = self.failures.saturating_add(1);
-                Err(IoFailed)
-            }
-            Err(error) => {
-                self.report(&error);
+            _ => {
                 self.failures = self.failures.saturating_add(1);
                 Err(IoFailed)
             }
