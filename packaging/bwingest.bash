@@ -10,13 +10,13 @@ _bwingest() {
     --folder) COMPREPLY=($(compgen -d -- "$word")) && return ;;
     esac
     case ${COMP_WORDS[1]} in
-    serve) options='--listen --folder --exchanges --limit --timeout --network --recorders --idle --until-stopped --log --journal --sync --one-name --help' ;;
-    send) options='--connect --name --rounds --timeout --network --file --set --strict --fruitless --log --state --rate --pcm --skip --block --follow --until --help' ;;
+    serve) options='--listen --folder --exchanges --limit --timeout --network --recorders --idle --until-stopped --log --journal --sync --one-name --status --help' ;;
+    send) options='--connect --name --rounds --timeout --network --file --set --strict --fruitless --log --state --rate --pcm --skip --block --follow --until --spool --help' ;;
     inspect) options='--json --human --digest --help' ;;
     pack) options='--set --strict --help' ;;
     picture) options='--help' ;;
     repair) options='--write --help' ;;
-    takes) options='--folder --check --json --give-up --help' ;;
+    takes) options='--folder --check --json --watch --give-up --help' ;;
     replay) options='--limit --fuse --help' ;;
     rehearse) options='--name --limit --help' ;;
     esac

@@ -13,15 +13,15 @@ use Rattle.clap.proofs.WalkLemmas.{first_value-rows, raw_values-rows}
 use Rattle.bw_args.specs.Given.{GivesAddress, GivesCount, GivesCountOr, GivesEnd, GivesFolder, GivesFuse, GivesLimit, GivesName}
 use Rattle.bw_args.specs.Given.{GivesNoFuse, GivesRecorders, IsAddressGiven, IsEnd, IsEndGiven, IsLimitGiven, IsNameGiven}
 use Rattle.bw_args.specs.Given.{IsJournaling, IsJournalingGiven, IsRecorders, IsRecordersGiven, given_on_line, is_set}
-use Rattle.bw_args.specs.Given.{GivesWork, IsWork, IsWorkGiven}
-use Rattle.bw_args.specs.Sources.{GivesSource, PlainSource, is_mixed, settings_on_line}
+use Rattle.bw_args.specs.Given.{GivesStatus, GivesWork, IsWork, IsWorkGiven, is_watch_mixed}
+use Rattle.bw_args.specs.Sources.{GivesSource, PlainSource, is_mixed, path_given, settings_on_line}
 use Rattle.bw_args.specs.Inspecting.{GivesInspection, PlainInspection, is_possible, one_file}
 use Rattle.bw_args.specs.Lines.{AsksForPath, AsksNothing, GivesSender, GivesServer, GivesTries, HasNumbersInRange}
-use Rattle.bw_args.specs.Lines.{IsEndWithin, IsFirstBad, IsGood, IsLineFor, IsWayWithin, IsWishOf, IsWithin, Service}
+use Rattle.bw_args.specs.Lines.{IsEndWithin, HasPort, IsFirstBad, IsGood, IsLineFor, IsWayWithin, IsWishOf, IsWithin, Service}
 use Rattle.bw_args.specs.Lines.{FileUpload, Wish, looked_at, looked_at_trying, looked_at_waiting}
 use Rattle.bw_args.specs.Lines.{Replaying, Rehearsing, Inspecting, Packing, Sending, SendingPcm, Serving}
 use Rattle.bw_args.specs.Lines.{Uploading, PcmUpload, looked_at_samples, InspectingFiles, Repairing, Listing, Picturing}
-use Rattle.bw_args.specs.PcmSources.{GivesFormat, GivesSamples, PlainPcm, fruitless_of, is_unpaired}
+use Rattle.bw_args.specs.PcmSources.{GivesFormat, GivesSamples, PlainPcm, fruitless_of, is_live, is_unpaired}
 use Rattle.bw_args.specs.PcmSources.{samples_with}
 use Rattle.bw_args.specs.declared.commands.samples.WrittenFormat.{WrittenFormat}
 use Rattle.bw_args.specs.Numbers.{IsLimitValue, default_fruitless, default_rounds, default_timeout, most_exchanges}
@@ -37,7 +37,7 @@ use Rattle.bw_args.specs.declared.peers.Journaling.{Journaling}
 use Rattle.bw_args.specs.declared.peers.Recorders.{Recorders as Way}
 use Rattle.bw_args.specs.declared.peers.Send.{Send as Sender}
 use Rattle.bw_args.specs.declared.bad_value.BadValue.{BadValue}
-use Rattle.bw_args.specs.declared.bad_value.BadValue.TheVariants.{Name, Limit, Fuse, UntilStopped, Sync, Wait, GiveUp}
+use Rattle.bw_args.specs.declared.bad_value.BadValue.TheVariants.{Name, Limit, Fuse, UntilStopped, Sync, Status, Wait, GiveUp}
 use Rattle.bw_args.specs.declared.bad_value.BadValue.TheVariants.{Inspection}
 
 -- the value that is looked at first is good, and one after it is bad
@@ -60,10 +60,10 @@ AllGood [] given = ⊤
 AllGood (value ∷ values) given = IsGood value given × AllGood values given
 
 -- without a recording's file nothing is said of fruitless links, nor of a rate
-no_pace : (given : Text → Option Text) → given (codes "file") ≡ None → is_mixed given ≡ false
+no_pace : (given : Text → Option Text) → path_given given ≡ None → is_mixed given ≡ false
     → (given (codes "fruitless") ≡ None) × (given (codes "rate") ≡ None)
 no_pace given none unmixed =
-    go (given (codes "file")) (given (codes "set")) (given (codes "fruitless")) (given (codes "state"))
+    go (path_given given) (given (codes "set")) (given (codes "fruitless")) (given (codes "state"))
     (given (codes "rate")) none unmixed
   where
     go : (file set fruitless state rate : Option Text) → file ≡ None
@@ -79,9 +79,9 @@ no_pace given none unmixed =
     go None None None None None is unmixed = (refl, refl)
 
 -- with it nothing of rounds
-no_rounds : (given : Text → Option Text) (path : Text) → given (codes "file") ≡ Some path → is_mixed given ≡ false
+no_rounds : (given : Text → Option Text) (path : Text) → path_given given ≡ Some path → is_mixed given ≡ false
     → given (codes "rounds") ≡ None
-no_rounds given path has unmixed = go (given (codes "file")) (given (codes "rounds")) has unmixed
+no_rounds given path has unmixed = go (path_given given) (given (codes "rounds")) has unmixed
   where
     go : (file rounds : Option Text) → file ≡ Some path
         → (if is_some file then is_some rounds
@@ -104,23 +104,34 @@ samples_good : (given : Text → Option Text) (samples : Option PlainPcm) → Gi
 samples_good given samples g = ((g.format, g.formatted), ((g.skip, g.begins), ((g.block, g.blocks), (g.unmixed, tt))))
 
 -- without a file nothing describes samples
-pub no_samples : (given : Text → Option Text) (samples : Option PlainPcm) → given (codes "file") ≡ None
+pub no_samples : (given : Text → Option Text) (samples : Option PlainPcm) → path_given given ≡ None
     → GivesSamples given samples → GivesSamples given None
 no_samples given samples none g =
     let format : g.format ≡ None =
-    go (given (codes "pcm")) (given (codes "file")) g.format none g.formatted g.unmixed in
+    go (given (codes "pcm")) (path_given given) g.format none g.formatted g.unmixed in
     let same : samples ≡ None =
-    g.are ∙ ap (option_map (samples_with g.skip g.block (given (codes "until")))) format in
+    g.are ∙ ap (option_map (samples_with g.skip g.block (given (codes "until")) (is_some (given (codes "spool"))))) format in
     subst (GivesSamples given) same g
   where
     go : (pcm file : Option Text) (format : Option WrittenFormat) → file ≡ None → GivesFormat pcm format
         → (if is_some pcm then not (is_some file) || (is_some (given (codes "state")) || is_unpaired given)
         else (is_some (given (codes "skip")) || (is_some (given (codes "block"))
-        || (is_set (given (codes "follow")) || is_some (given (codes "until")))))) ≡ false
+        || (is_set (given (codes "follow")) || (is_some (given (codes "until"))
+        || is_some (given (codes "spool"))))))) ≡ false
         → format ≡ None
     go None file format is gives unmixed = gives
     go (Some text) (Some path) format is gives unmixed = let bad : Some path ≡ None = is in cc
     go (Some text) None format is gives unmixed = let bad : true ≡ false = unmixed in cc
+
+-- a test isn't passed and failed
+pub is_not : ¬ (true ≡ false)
+is_not bad = cc
+
+-- what is done goes with a watch
+watch_good : (watch check json : Bool) (name : Option Text) (work : FolderWork) → IsWork watch check json name work
+    → is_watch_mixed watch check json name ≡ false
+watch_good true check json name work is = is.0
+watch_good false check json name work is = refl
 
 -- what is asked for has good values alone
 pub wished_good : (name : Text) (options : List Row) (wish : Wish) → IsWishOf (Some (name, options)) wish
@@ -134,7 +145,8 @@ wished_good name options wish asked = go wish asked
     go : (w : Wish) → IsWishOf (Some (name, options)) w → AllGood (looked_at name) (given_on_line options)
     go (Replaying limit fuse) a = at (codes "replay") a.0 ((limit, a.1), ((fuse, a.2), tt))
     go (Rehearsing take_name limit) a = at (codes "rehearse") a.0 ((take_name, a.1), ((limit, a.2), tt))
-    go (Listing folder work) a = at (codes "takes") a.0 ((folder, a.1), ((work, a.2), tt))
+    go (Listing folder work) a =
+        at (codes "takes") a.0 ((folder, a.1), (watch_good _ _ _ _ work a.2, ((work, a.2), tt)))
     go (Serving server) a = at (codes "serve") a.0 (
       (server.listen, a.1.listens),
       (
@@ -149,7 +161,10 @@ wished_good name options wish asked = go wish asked
                 (a.1.serves.most, a.1.serves.serves),
                 (
                   (a.1.serves.idle, a.1.serves.idles),
-                  ((server.recorders, a.1.serves), ((server.end, a.1.ends), ((server.journal, a.1.journals), tt))),
+                  (
+                    (server.recorders, a.1.serves),
+                    ((server.end, a.1.ends), ((server.journal, a.1.journals), ((server.status, a.1.shows), tt))),
+                  ),
                 ),
               ),
             ),
@@ -386,11 +401,13 @@ clashing_line found files json human digest given prints explains digests clash 
 )
 
 -- the file to pack that is given is the one that is asked for
-pub source_asked : (found : Found) (path : Text) (source : PlainSource) → Some path ≡ first_value found (codes "file")
+pub source_asked : (found : Found) (path_in : (Text → Option Text) → Option Text) (path : Text) (source : PlainSource)
+    → Some path ≡ path_in (first_value found)
     → source.path ≡ path → source.settings ≡ settings_on_line (rows_of found)
-    → source.strict ≡ is_set (first_value found (codes "strict")) → GivesSource (rows_of found) source
-source_asked found path source given at sets strict = record {
-  from = sym (ap Some at ∙ given ∙ first_value-rows found (codes "file"));
+    → source.strict ≡ is_set (first_value found (codes "strict"))
+    → GivesSource (path_in (given_on_line (rows_of found))) (rows_of found) source
+source_asked found path_in path source given at sets strict = record {
+  from = sym (ap Some at ∙ by_rows found (λ g. Some path ≡ path_in g) given);
   sets = sets;
   refuses = by_rows found (λ g. source.strict ≡ is_set (g (codes "strict"))) strict;
 }
@@ -474,7 +491,8 @@ sender_asked found sender given = (refl, by_rows found (λ g. GivesSender g send
 -- and the sender of a recording
 pub upload_asked : (found : Found) (sender : FileUpload)
     → GivesAddress (is_set (first_value found (codes "network"))) (first_value found (codes "connect")) sender.connect
-    → GivesName (first_value found (codes "name")) sender.name → GivesSource (rows_of found) sender.source
+    → GivesName (first_value found (codes "name")) sender.name
+    → GivesSource (path_given (given_on_line (rows_of found))) (rows_of found) sender.source
     → GivesCountOr default_timeout most_seconds (first_value found (codes "timeout")) sender.timeout
     → GivesCountOr default_fruitless most_fruitless (first_value found (codes "fruitless")) sender.fruitless
     → sender.log ≡ is_set (first_value found (codes "log")) → sender.state ≡ first_value found (codes "state")
@@ -501,11 +519,12 @@ upload_asked found sender connects named takes waits ends reports states paced u
 -- and the sender of headerless samples
 pub pcm_asked : (found : Found) (sender : PcmUpload) (count : Option ℕ)
     → GivesAddress (is_set (first_value found (codes "network"))) (first_value found (codes "connect")) sender.connect
-    → GivesName (first_value found (codes "name")) sender.name → GivesSource (rows_of found) sender.source
+    → GivesName (first_value found (codes "name")) sender.name
+    → GivesSource (path_given (given_on_line (rows_of found))) (rows_of found) sender.source
     → GivesSamples (first_value found) (Some sender.pcm)
     → GivesCountOr default_timeout most_seconds (first_value found (codes "timeout")) sender.timeout
     → GivesCount most_fruitless (first_value found (codes "fruitless")) count
-    → sender.fruitless ≡ fruitless_of sender.pcm.until count
+    → sender.fruitless ≡ fruitless_of (is_live sender.pcm) count
     → sender.log ≡ is_set (first_value found (codes "log"))
     → GivesCount most_rate (first_value found (codes "rate")) sender.rate → is_mixed (first_value found) ≡ false
     → IsWishOf (Some (codes "send", rows_of found)) (SendingPcm sender)
@@ -530,7 +549,7 @@ pcm_asked found sender count connects named takes samples waits counts ends repo
 -- of a recording, or of samples, the file's path is kept
 pub upload_kept : (found : Found) (path name : Text) (connect : SocketAddr) (tries : Tries)
     → GivesAddress (is_set (first_value found (codes "network"))) (first_value found (codes "connect")) connect
-    → GivesName (first_value found (codes "name")) name → Some path ≡ first_value found (codes "file")
+    → GivesName (first_value found (codes "name")) name → Some path ≡ path_given (first_value found)
     → GivesTries (first_value found) tries → is_mixed (first_value found) ≡ false
     → GivesSamples (first_value found) None
     → AsksForPath (Some (codes "send", rows_of found))
@@ -546,14 +565,14 @@ upload_kept found path name connect tries connects named at given unmixed unsamp
     rate = tries.rate;
   }),
   tt,
-  upload_asked found _ connects named (source_asked found path (found_source found path) at refl refl refl)
+  upload_asked found _ connects named (source_asked found path_given path (found_source found path) at refl refl refl)
       (tries.timeout, given.waits, refl) (tries.fruitless, given.ends, refl) refl refl given.paced
       unmixed unsampled,
 )
 
 pub samples_kept : (found : Found) (path name : Text) (connect : SocketAddr) (tries : Tries) (pcm : PlainPcm)
     → GivesAddress (is_set (first_value found (codes "network"))) (first_value found (codes "connect")) connect
-    → GivesName (first_value found (codes "name")) name → Some path ≡ first_value found (codes "file")
+    → GivesName (first_value found (codes "name")) name → Some path ≡ path_given (first_value found)
     → GivesTries (first_value found) tries → is_mixed (first_value found) ≡ false
     → GivesSamples (first_value found) (Some pcm) → AsksForPath (Some (codes "send", rows_of found))
 samples_kept found path name connect tries pcm connects named at given unmixed samples = (
@@ -563,12 +582,12 @@ samples_kept found path name connect tries pcm connects named at given unmixed s
     source = found_source found path;
     pcm = pcm;
     timeout = unwrap_or tries.timeout default_timeout;
-    fruitless = fruitless_of pcm.until tries.fruitless;
+    fruitless = fruitless_of (is_live pcm) tries.fruitless;
     log = is_set (first_value found (codes "log"));
     rate = tries.rate;
   }),
   tt,
-  pcm_asked found _ tries.fruitless connects named (source_asked found path (found_source found path) at refl refl
+  pcm_asked found _ tries.fruitless connects named (source_asked found path_given path (found_source found path) at refl refl
       refl)
       samples (tries.timeout, given.waits, refl) given.ends refl refl given.paced unmixed,
 )
@@ -624,24 +643,69 @@ no_journaling found is_kept is_synced kept synced none good =
     none good.0 (subst (λ s. IsJournaling is_kept s good.0) (sym synced)
     (subst (λ k. IsJournaling k (is_set (first_value found (codes "sync"))) good.0) (sym kept) good.1))
 
--- what is done in a folder, where its options were read before
-pub a_work : (found : Found) (check json : Bool) (name : Option Text) (work : FolderWork)
-    → check ≡ is_set (first_value found (codes "check")) → json ≡ is_set (first_value found (codes "json"))
-    → name ≡ first_value found (codes "give-up") → IsWork check json name work → GivesWork (first_value found) work
-a_work found check json name work checks prints names is =
-    subst (λ n. IsWork (is_set (first_value found (codes "check"))) (is_set (first_value found (codes "json"))) n work)
-    names (subst (λ j. IsWork (is_set (first_value found (codes "check"))) j name work) prints
-    (subst (λ c. IsWork c json name work) checks is))
+-- where the status is shown, where a flag was read before
+pub a_status : (found : Found) (network : Bool) (status : Option SocketAddr)
+    → network ≡ is_set (first_value found (codes "network"))
+    → GivesStatus network (first_value found (codes "status")) (is_some (first_value found (codes "recorders"))) status
+    → GivesStatus (is_set (first_value found (codes "network"))) (first_value found (codes "status"))
+    (is_some (first_value found (codes "recorders"))) status
+a_status found network status is given = subst
+    (λ n. GivesStatus n (first_value found (codes "status")) (is_some (first_value found (codes "recorders"))) status)
+    is given
 
-pub no_work : (found : Found) (check json : Bool) (name : Option Text)
-    → check ≡ is_set (first_value found (codes "check")) → json ≡ is_set (first_value found (codes "json"))
-    → name ≡ first_value found (codes "give-up") → IsWorkGiven check json name None
-    → ¬ IsGood GiveUp (first_value found)
-no_work found check json name checks prints names none good =
-    none good.0 (subst (λ n. IsWork check json n good.0) (sym names)
-    (subst (λ j. IsWork check j (first_value found (codes "give-up")) good.0) (sym prints)
-    (subst (λ c. IsWork c (is_set (first_value found (codes "json"))) (first_value found (codes "give-up")) good.0)
-    (sym checks) good.1)))
+pub no_status : (found : Found) (network : Bool) → network ≡ is_set (first_value found (codes "network"))
+    → ((status : Option SocketAddr) → ¬ GivesStatus network (first_value found (codes "status"))
+    (is_some (first_value found (codes "recorders"))) status)
+    → ¬ IsGood Status (first_value found)
+no_status found network is none good = none good.0 (subst
+    (λ n. GivesStatus n (first_value found (codes "status")) (is_some (first_value found (codes "recorders"))) good.0)
+    (sym is) good.1)
+
+-- where a text is given that is no address, there is none to show the status at
+pub no_place : (network : Bool) (text : Option Text) (of_many : Bool) → is_some text ≡ true
+    → ((address : SocketAddr) → ¬ GivesAddress network text address)
+    → (status : Option SocketAddr) → ¬ GivesStatus network text of_many status
+no_place network None of_many some none status given = is_not (sym some)
+no_place network (Some text) true some none (Some address) given = none address given
+no_place network (Some text) true some none None given = given
+no_place network (Some text) false some none status given = given
+
+-- the same work of the same options
+works_at : (w c j : Bool) (n : Option Text) (w' c' j' : Bool) (n' : Option Text) (work : FolderWork)
+    → w ≡ w' → c ≡ c' → j ≡ j' → n ≡ n' → IsWork w c j n work → IsWork w' c' j' n' work
+works_at w c j n w' c' j' n' work ew ec ej en is =
+    subst (λ x. IsWork x c' j' n' work) ew (subst (λ x. IsWork w x j' n' work) ec
+    (subst (λ x. IsWork w c x n' work) ej (subst (λ x. IsWork w c j x work) en is)))
+
+-- what is done in a folder, where its options were read before
+pub a_work : (found : Found) (watch check json : Bool) (name : Option Text) (work : FolderWork)
+    → watch ≡ is_set (first_value found (codes "watch")) → check ≡ is_set (first_value found (codes "check"))
+    → json ≡ is_set (first_value found (codes "json")) → name ≡ first_value found (codes "give-up")
+    → IsWork watch check json name work → GivesWork (first_value found) work
+a_work found watch check json name work watches checks prints names is =
+    works_at watch check json name _ _ _ _ work watches checks prints names is
+
+pub no_work : (found : Found) (watch check json : Bool) (name : Option Text)
+    → watch ≡ is_set (first_value found (codes "watch")) → check ≡ is_set (first_value found (codes "check"))
+    → json ≡ is_set (first_value found (codes "json")) → name ≡ first_value found (codes "give-up")
+    → IsWorkGiven watch check json name None → ¬ IsGood GiveUp (first_value found)
+no_work found watch check json name watches checks prints names none good =
+    none good.0 (works_at _ _ _ _ watch check json name good.0 (sym watches) (sym checks) (sym prints) (sym names) good.1)
+
+-- whether something is asked for beside the watch, where the options were read before
+pub watch_mixed : (found : Found) (watch check json : Bool) (name : Option Text) (mixed : Bool)
+    → watch ≡ is_set (first_value found (codes "watch")) → check ≡ is_set (first_value found (codes "check"))
+    → json ≡ is_set (first_value found (codes "json")) → name ≡ first_value found (codes "give-up")
+    → mixed ≡ is_watch_mixed watch check json name
+    → mixed ≡ is_watch_mixed (is_set (first_value found (codes "watch"))) (is_set (first_value found (codes "check")))
+    (is_set (first_value found (codes "json"))) (first_value found (codes "give-up"))
+watch_mixed found watch check json name mixed watches checks prints names is = is
+    ∙ ap (λ w. is_watch_mixed w check json name) watches
+    ∙ ap (λ c. is_watch_mixed (is_set (first_value found (codes "watch"))) c json name) checks
+    ∙ ap (λ j. is_watch_mixed (is_set (first_value found (codes "watch"))) (is_set (first_value found (codes "check"))) j name)
+    prints
+    ∙ ap (is_watch_mixed (is_set (first_value found (codes "watch"))) (is_set (first_value found (codes "check")))
+    (is_set (first_value found (codes "json")))) names
 
 -- the ways that were looked at are the only ones
 pub no_way : (found : Found) (timeout most idle : Option ℕ)
@@ -702,27 +766,35 @@ given_way None (Some most) None way t m i is = subst IsWayWithin (sym is) (m, (o
 given_way None (Some most) (Some idle) way t m i is = subst IsWayWithin (sym is) (m, i)
 given_way (Some timeout) (Some most) idle way t m i is = absurd is
 
+given_status : (network : Bool) (text : Option Text) (of_many : Bool) (status : Option SocketAddr)
+    → GivesStatus network text of_many status → HasPort status
+given_status network None of_many status given = subst HasPort (sym given) tt
+given_status network (Some text) true (Some address) given = given.port
+given_status network (Some text) true None given = absurd given
+given_status network (Some text) false status given = absurd given
+
 given_number : (default most : ℕ) (count : Option ℕ) (n : ℕ) → 1 ≤ default → default ≤ most → IsWithin most count
     → n ≡ unwrap_or count default → (1 ≤ n) × (n ≤ most)
 given_number default most None n least fits within is = rw is (least, fits)
 given_number default most (Some count) n least fits within is = rw is within
 
-given_fruitless : (until : Option Text) (count n : Option ℕ) → IsWithin most_fruitless count
-    → n ≡ fruitless_of until count → IsWithin most_fruitless n
-given_fruitless None None n within is = subst (IsWithin most_fruitless) (sym is) (omega arith, omega arith)
-given_fruitless None (Some count) n within is = subst (IsWithin most_fruitless) (sym is) within
-given_fruitless (Some until) count n within is = subst (IsWithin most_fruitless) (sym is) within
+given_fruitless : (is_live : Bool) (count n : Option ℕ) → IsWithin most_fruitless count
+    → n ≡ fruitless_of is_live count → IsWithin most_fruitless n
+given_fruitless false None n within is = subst (IsWithin most_fruitless) (sym is) (omega arith, omega arith)
+given_fruitless false (Some count) n within is = subst (IsWithin most_fruitless) (sym is) within
+given_fruitless true count n within is = subst (IsWithin most_fruitless) (sym is) within
 
 given_block : (given : Text → Option Text) (pcm : PlainPcm) → GivesSamples given (Some pcm)
     → IsWithin most_block pcm.block
 given_block given pcm g = go g.format g.are
   where
     go : (format : Option WrittenFormat)
-        → Some pcm ≡ option_map (samples_with g.skip g.block (given (codes "until"))) format
+        → Some pcm ≡ option_map
+        (samples_with g.skip g.block (given (codes "until")) (is_some (given (codes "spool")))) format
         → IsWithin most_block pcm.block
     go None is = let bad : Some pcm ≡ None = is in cc
     go (Some f) is =
-        let same : pcm ≡ samples_with g.skip g.block (given (codes "until")) f = cc in
+        let same : pcm ≡ samples_with g.skip g.block (given (codes "until")) (is_some (given (codes "spool"))) f = cc in
         subst (IsWithin most_block) (ap (λ (p : PlainPcm). p.block) (sym same))
         (given_count most_block (given (codes "block")) g.block g.blocks)
 
@@ -739,6 +811,7 @@ line_limit (Some command) (Run (Serve server)) asked = (
   given_limit _ server.limit asked.1.limited,
   given_way _ _ _ server.recorders (given_count _ _ _ asked.1.serves.waits) (given_count _ _ _ asked.1.serves.serves)
       (given_count _ _ _ asked.1.serves.idles) asked.1.serves.is,
+  given_status _ _ _ server.status asked.1.shows,
 )
 line_limit (Some command) (Run (Send sender)) asked = (
   given_port _ _ sender.connect asked.1.connects,

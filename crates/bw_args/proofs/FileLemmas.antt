@@ -6,7 +6,7 @@ use Rattle.clap.proofs.OnLiterals.{clap_on_literals}
 use Rattle.bw_args.specs.Numbers.{IsCountText, default_fruitless, default_timeout, most_fruitless, most_rounds, most_seconds}
 use Rattle.bw_args.specs.Numbers.{most_rate, number_written}
 use Rattle.bw_args.specs.ReadWords.{as_read}
-use Rattle.bw_args.specs.Sources.{GivesSource, PlainSource, is_mixed}
+use Rattle.bw_args.specs.Sources.{GivesSource, PlainSource, is_mixed, path_given}
 use Rattle.bw_args.specs.PcmSources.{GivesSamples}
 use Rattle.bw_args.specs.Lines.{AsksFor, GivesAddress, GivesCount, GivesCountOr, GivesName, GivesUpload, IsLineOf, Packing}
 use Rattle.bw_args.specs.Lines.{FileUpload, Uploading, given_on_line, is_set}
@@ -62,7 +62,8 @@ upload_by : {options : List Row} {sender : FileUpload}
     → GivesCountOr default_fruitless most_fruitless (given_on_line options (codes "fruitless")) sender.fruitless
     → GivesAddress (is_set (given_on_line options (codes "network"))) (given_on_line options (codes "connect"))
     sender.connect
-    → GivesName (given_on_line options (codes "name")) sender.name → GivesSource options sender.source
+    → GivesName (given_on_line options (codes "name")) sender.name
+    → GivesSource (path_given (given_on_line options)) options sender.source
     → sender.log ≡ is_set (given_on_line options (codes "log")) → sender.state ≡ given_on_line options (codes "state")
     → GivesCount most_rate (given_on_line options (codes "rate")) sender.rate
     → is_mixed (given_on_line options) ≡ false → GivesSamples (given_on_line options) None → GivesUpload options sender

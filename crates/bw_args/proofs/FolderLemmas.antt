@@ -7,10 +7,10 @@ use Rattle.bw_args.specs.ReadWords.{as_read}
 use Rattle.bw_args.specs.Lines.{AsksFor, IsLineOf, IsName, Listing}
 use Rattle.bw_args.specs.FolderForms.{RunsTakes}
 use Rattle.bw_args.specs.declared.CommandLine.{CommandLine}
-use Rattle.bw_args.specs.declared.bad_value.BadValue.TheVariants.{Folder, GiveUp as BadGiveUp}
-use Rattle.bw_args.specs.declared.folders.FolderWork.TheVariants.{Report, GiveUp}
+use Rattle.bw_args.specs.declared.bad_value.BadValue.TheVariants.{Folder, GiveUp as BadGiveUp, Watch as BadWatch}
+use Rattle.bw_args.specs.declared.folders.FolderWork.TheVariants.{Report, Watch, GiveUp}
 use Rattle.bw_args.proofs.FormLemmas.{asked_reports, asked_runs, asks}
-use Rattle.bw_args.proofs.Asked.{bad, ◌and_then◌}
+use Rattle.bw_args.proofs.Asked.{bad, is_not, ◌and_then◌}
 use Rattle.bw_args.proofs.ValueLemmas.{IsBadAt, reported}
 
 joined_lists : (program folder : Text) → folder ≢ []
@@ -31,6 +31,24 @@ checked_lists : (program folder : Text) → folder ≢ []
 unfolding clap_on_literals
 checked_lists program folder full = asks refl (refl, (full, refl), refl)
 
+watches : (program folder : Text) → folder ≢ []
+    → AsksFor (as_read (program ∷ codes "takes" ∷ codes "--folder" ∷ folder ∷ codes "--watch" ∷ []))
+    (Listing folder Watch)
+unfolding clap_on_literals
+watches program folder full = asks refl (refl, (full, refl), (refl, refl))
+
+bad_both : (program folder : Text) → folder ≢ []
+    → IsBadAt (as_read (program ∷ codes "takes" ∷ codes "--folder" ∷ folder ∷ codes "--check" ∷ codes "--watch" ∷ []))
+    BadWatch
+unfolding clap_on_literals
+bad_both program folder full = (refl, (folder, (full, refl)) and_then bad (λ good. is_not good))
+
+bad_beside : (program folder text : Text) → folder ≢ []
+    → IsBadAt (as_read (program ∷ codes "takes" ∷ codes "--folder" ∷ folder ∷ codes "--watch"
+    ∷ (codes "--give-up=" ++ text) ∷ [])) BadWatch
+unfolding clap_on_literals
+bad_beside program folder text full = (refl, (folder, (full, refl)) and_then bad (λ good. is_not good))
+
 gives_up : (program folder name : Text) → folder ≢ [] → IsName name
     → AsksFor (as_read (program ∷ codes "takes" ∷ codes "--folder" ∷ folder ∷ (codes "--give-up=" ++ name) ∷ []))
     (Listing folder (GiveUp name))
@@ -41,13 +59,13 @@ bad_name : (program folder text : Text) → folder ≢ [] → ¬ IsName text
     → IsBadAt (as_read (program ∷ codes "takes" ∷ codes "--folder" ∷ folder ∷ (codes "--give-up=" ++ text) ∷ []))
     BadGiveUp
 unfolding clap_on_literals
-bad_name program folder text full none = (refl, (folder, (full, refl)) and_then bad (λ good. none good.1.0))
+bad_name program folder text full none = (refl, (folder, (full, refl)) and_then refl and_then bad (λ good. none good.1.0))
 
 bad_mix : (program folder text : Text) → folder ≢ []
     → IsBadAt (as_read (program ∷ codes "takes" ∷ codes "--folder" ∷ folder ∷ codes "--json"
     ∷ (codes "--give-up=" ++ text) ∷ [])) BadGiveUp
 unfolding clap_on_literals
-bad_mix program folder text full = (refl, (folder, (full, refl)) and_then bad (λ good. good.1))
+bad_mix program folder text full = (refl, (folder, (full, refl)) and_then refl and_then bad (λ good. good.1))
 
 bad_folder : (program : Text) → IsBadAt (as_read (program ∷ codes "takes" ∷ codes "--folder=" ∷ [])) Folder
 unfolding clap_on_literals
@@ -59,6 +77,9 @@ runs_takes words line is = record {
   joined = λ p f full e. asked_runs words _ line _ is e (joined_lists p f full);
   apart = λ p f full e. asked_runs words _ line _ is e (apart_lists p f full);
   checked = λ p f full e. asked_runs words _ line _ is e (checked_lists p f full);
+  watched = λ p f full e. asked_runs words _ line _ is e (watches p f full);
+  both = λ p f full e. reported words _ line BadWatch is e (bad_both p f full);
+  beside = λ p f t full e. reported words _ line BadWatch is e (bad_beside p f t full);
   given_up = λ p f n full named e. asked_runs words _ line _ is e (gives_up p f n full named);
   unnamed = λ p f t full none e. reported words _ line BadGiveUp is e (bad_name p f t full none);
   mixed = λ p f t full e. reported words _ line BadGiveUp is e (bad_mix p f t full);

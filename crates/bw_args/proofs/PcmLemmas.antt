@@ -1,15 +1,15 @@
 -- The forms of `send` with headerless samples, at values that are not known.
-use Rattle.std.proofs.Common.{◌≡◌, ℕ, List, [], ◌∷◌, ◌++◌, false, Option, Some, None, codes, refl}
+use Rattle.std.proofs.Common.{◌≡◌, ℕ, List, [], ◌∷◌, ◌++◌, true, false, Option, Some, None, codes, refl}
 use Rattle.clap.specs.Words.{Row, Text}
 use Rattle.clap.proofs.OnLiterals.{clap_on_literals}
 use Rattle.bw_args.specs.Numbers.{IsCountText, IsNumber, default_timeout, most_block, most_fruitless, most_seconds}
 use Rattle.bw_args.specs.Numbers.{most_rate, number_written}
-use Rattle.bw_args.specs.Sources.{GivesSource, is_mixed}
-use Rattle.bw_args.specs.PcmSources.{GivesFormat, GivesSamples, IsFormatText, fruitless_of}
+use Rattle.bw_args.specs.Sources.{GivesSource, is_mixed, path_given}
+use Rattle.bw_args.specs.PcmSources.{GivesFormat, GivesSamples, IsFormatText, fruitless_of, is_live}
 use Rattle.bw_args.specs.Lines.{GivesAddress, GivesCount, GivesCountOr, GivesName, GivesPcmUpload, IsLineOf, PcmUpload}
 use Rattle.bw_args.specs.Lines.{SendingPcm, given_on_line, is_set}
 use Rattle.bw_args.specs.FileForms.{with_file}
-use Rattle.bw_args.specs.PcmForms.{RefusesSamples, RunsPcmSender, plain_pcm_upload, with_pcm}
+use Rattle.bw_args.specs.PcmForms.{RefusesSamples, RunsPcmSender, plain_pcm_upload, with_pcm, with_spool}
 use Rattle.bw_args.specs.declared.CommandLine.{CommandLine}
 use Rattle.bw_args.specs.declared.bad_value.BadValue.TheVariants.{Pcm, Skip, Block, MixedSamples}
 use Rattle.bw_args.specs.declared.commands.samples.WrittenFormat.{WrittenFormat}
@@ -21,10 +21,11 @@ use Rattle.bw_args.proofs.ValueLemmas.{LacksSender, not_mixed, nothing, reported
 -- what of a sender of samples is given says it
 pcm_by : {options : List Row} {sender : PcmUpload} (count : Option ℕ)
     → GivesCount most_fruitless (given_on_line options (codes "fruitless")) count
-    → sender.fruitless ≡ fruitless_of sender.pcm.until count → GivesSamples (given_on_line options) (Some sender.pcm)
+    → sender.fruitless ≡ fruitless_of (is_live sender.pcm) count → GivesSamples (given_on_line options) (Some sender.pcm)
     → GivesAddress (is_set (given_on_line options (codes "network"))) (given_on_line options (codes "connect"))
     sender.connect
-    → GivesName (given_on_line options (codes "name")) sender.name → GivesSource options sender.source
+    → GivesName (given_on_line options (codes "name")) sender.name
+    → GivesSource (path_given (given_on_line options)) options sender.source
     → GivesCountOr default_timeout most_seconds (given_on_line options (codes "timeout")) sender.timeout
     → sender.log ≡ is_set (given_on_line options (codes "log"))
     → GivesCount most_rate (given_on_line options (codes "rate")) sender.rate
@@ -111,6 +112,18 @@ fruitless_sends path text end count format given number program connect name add
           (record { from = refl; sets = refl; refuses = refl }) (None, refl, refl) refl refl refl,
     )
 
+spool_sends : (path text : Text) (format : WrittenFormat) → IsFormatText text format
+    → AsksSender false (with_spool path text [])
+    (λ a n. SendingPcm (record (plain_pcm_upload a n path format)
+    { pcm = record (plain_pcm_upload a n path format).pcm { is_spooled = true }; fruitless = None }))
+unfolding clap_on_literals
+spool_sends path text format given program connect name address at named =
+    asks refl (
+      refl,
+      pcm_by None refl refl (samples_by (Some format) None None given refl refl refl refl) at (named, refl)
+          (record { from = refl; sets = refl; refuses = refl }) (None, refl, refl) refl refl refl,
+    )
+
 rate_sends : (path text bytes : Text) (format : WrittenFormat) → IsFormatText text format
     → IsCountText most_rate bytes → AsksSender false (with_pcm path text ((codes "--rate=" ++ bytes) ∷ []))
     (λ a n. SendingPcm (record (plain_pcm_upload a n path format) { rate = Some (number_written bytes) }))
@@ -133,6 +146,8 @@ runs_pcm_sender words line is = record {
       (follow_sends f t u m given p c n a at named);
   fruitless = λ f t u k m given number p c n a at named e. asked_runs words _ line _ is e
       (fruitless_sends f t u k m given number p c n a at named);
+  spool = λ f t m given p c n a at named e. asked_runs words _ line _ is e
+      (spool_sends f t m given p c n a at named);
   rate = λ f t b m given number p c n a at named e. asked_runs words _ line _ is e
       (rate_sends f t b m given number p c n a at named);
 }
@@ -214,6 +229,35 @@ mixed_state path text state format given program connect name address at named =
       and_then (Some format, given) and_then nothing and_then nothing and_then bad not_mixed,
 )
 
+mixed_files : (path text spool : Text) (format : WrittenFormat) → IsFormatText text format
+    → LacksSender (with_pcm path text ((codes "--spool=" ++ spool) ∷ [])) MixedSamples
+unfolding clap_on_literals
+mixed_files path text spool format given program connect name address at named = (
+  refl,
+  (address, at) and_then (name, (named, refl)) and_then nothing and_then nothing and_then nothing
+      and_then nothing and_then refl
+      and_then (Some format, given) and_then nothing and_then nothing and_then bad not_mixed,
+)
+
+mixed_ends : (path text end : Text) (format : WrittenFormat) → IsFormatText text format
+    → LacksSender (with_spool path text (codes "--follow" ∷ (codes "--until=" ++ end) ∷ [])) MixedSamples
+unfolding clap_on_literals
+mixed_ends path text end format given program connect name address at named = (
+  refl,
+  (address, at) and_then (name, (named, refl)) and_then nothing and_then nothing and_then nothing
+      and_then nothing and_then refl
+      and_then (Some format, given) and_then nothing and_then nothing and_then bad not_mixed,
+)
+
+mixed_spool : (path : Text) → LacksSender ((codes "--spool=" ++ path) ∷ []) MixedSamples
+unfolding clap_on_literals
+mixed_spool path program connect name address at named = (
+  refl,
+  (address, at) and_then (name, (named, refl)) and_then nothing and_then nothing and_then nothing
+      and_then nothing and_then refl
+      and_then nothing and_then nothing and_then nothing and_then bad not_mixed,
+)
+
 mixed_skip : (path bytes : Text) → IsNumber bytes
     → LacksSender (with_file path ((codes "--skip=" ++ bytes) ∷ [])) MixedSamples
 unfolding clap_on_literals
@@ -240,6 +284,12 @@ refuses_samples words line is = record {
       (mixed_until f t u m given p c n a at named);
   state = λ f t s m given p c n a at named e. reported words _ line MixedSamples is e
       (mixed_state f t s m given p c n a at named);
+  two_files = λ f t s m given p c n a at named e. reported words _ line MixedSamples is e
+      (mixed_files f t s m given p c n a at named);
+  two_ends = λ f t u m given p c n a at named e. reported words _ line MixedSamples is e
+      (mixed_ends f t u m given p c n a at named);
+  unformatted = λ f p c n a at named e. reported words _ line MixedSamples is e
+      (mixed_spool f p c n a at named);
   formatless = λ f b number p c n a at named e. reported words _ line MixedSamples is e
       (mixed_skip f b number p c n a at named);
 }

@@ -1,6 +1,6 @@
 -- The forms of `send`, at values that are not known.
 use Rattle.std.proofs.Common.{◌≡◌, ℕ, Bool, List, [], ◌∷◌, ◌++◌, false, true, Option, Some, None, codes, refl, subst, sym}
-use Rattle.std.specs.Prelude.{option_map}
+use Rattle.std.specs.Prelude.{is_some, option_map}
 use Rattle.std.specs.declared.net.socket_addr.SocketAddr.{SocketAddr}
 use Rattle.std.specs.Net.Socket.{socket_port}
 use Rattle.clap.specs.Words.{Text}
@@ -8,7 +8,7 @@ use Rattle.clap.proofs.OnLiterals.{clap_on_literals}
 use Rattle.bw_args.specs.Addresses.{IsAddress, local}
 use Rattle.bw_args.specs.Numbers.{IsCountText, IsNumber, most_block, most_rounds, most_seconds, number_written}
 use Rattle.bw_args.specs.ReadWords.{as_read}
-use Rattle.bw_args.specs.Sources.{is_mixed}
+use Rattle.bw_args.specs.Sources.{is_mixed, path_given}
 use Rattle.bw_args.specs.PcmSources.{GivesFormat, GivesNumber, GivesSamples, PlainPcm, are_samples_mixed, samples_with}
 use Rattle.bw_args.specs.Lines.{AsksFor, GivesAddress, GivesCount, GivesName, GivesRounds, GivesSender, IsLineOf, IsName}
 use Rattle.bw_args.specs.Lines.{Sending, Wish, is_set}
@@ -23,7 +23,8 @@ use Rattle.bw_args.proofs.ServerLemmas.{IsReadApart, asks_apart, by_number}
 pub samples_by : {given : Text → Option Text} {samples : Option PlainPcm} (format : Option WrittenFormat)
     (skip block : Option ℕ) → GivesFormat (given (codes "pcm")) format → GivesNumber (given (codes "skip")) skip
     → GivesCount most_block (given (codes "block")) block → are_samples_mixed given ≡ false
-    → samples ≡ option_map (samples_with skip block (given (codes "until"))) format → GivesSamples given samples
+    → samples ≡ option_map (samples_with skip block (given (codes "until")) (is_some (given (codes "spool")))) format
+    → GivesSamples given samples
 samples_by format skip block formatted begins blocks unmixed are = record {
   format = format;
   skip = skip;
@@ -39,7 +40,7 @@ samples_by format skip block formatted begins blocks unmixed are = record {
 sender_by : {given : Text → Option Text} {sender : Sender} → GivesRounds (given (codes "rounds")) sender.rounds
     → GivesCount most_seconds (given (codes "timeout")) sender.timeout
     → GivesAddress (is_set (given (codes "network"))) (given (codes "connect")) sender.connect
-    → GivesName (given (codes "name")) sender.name → given (codes "file") ≡ None → is_mixed given ≡ false
+    → GivesName (given (codes "name")) sender.name → path_given given ≡ None → is_mixed given ≡ false
     → GivesSamples given None → GivesSender given sender
 sender_by tries waits connects named lines unmixed unsampled = record {
   connects = connects;

@@ -2,17 +2,17 @@
 use Rattle.std.proofs.Common.{◌≡◌, ℕ, List, [], Bool, true, false, Option, Some, None, codes, sym, ◌∙◌, ap}
 use Rattle.std.proofs.Common.{subst, ◌∷◌}
 use Rattle.std.proofs.Common.{refl, unwrap_or}
-use Rattle.std.specs.Prelude.{option_map}
+use Rattle.std.specs.Prelude.{is_some, option_map}
 use Rattle.std.specs.Str.{bytes_eq}
 use Rattle.std.proofs.lemmas.Slice.Eq.{bytes_eq-Decides}
 use Rattle.std.specs.declared.net.socket_addr.SocketAddr.{SocketAddr}
 use Rattle.std.proofs.NetLemmas.Theorems.{IsSocketText_unique}
 use Rattle.clap.specs.Words.{Row, Text, first_of}
 use Rattle.bw_args.specs.Given.{GivesAddress, GivesCount, GivesCountOr, GivesEnd, GivesFolder, GivesFuse, GivesLimit}
-use Rattle.bw_args.specs.Given.{GivesName, GivesRecorders, IsEnd, IsJournaling, IsRecorders, IsWork, given_on_line}
+use Rattle.bw_args.specs.Given.{GivesName, GivesRecorders, GivesStatus, IsEnd, IsJournaling, IsRecorders, IsWork, given_on_line}
 use Rattle.bw_args.specs.Sources.{GivesSource, PlainSource}
 use Rattle.bw_args.specs.PcmSources.{GivesFormat, GivesNumber, GivesSamples, IsFormatText, PlainPcm, at_comma}
-use Rattle.bw_args.specs.PcmSources.{fruitless_of, samples_with}
+use Rattle.bw_args.specs.PcmSources.{fruitless_of, is_live, samples_with}
 use Rattle.bw_args.specs.declared.commands.samples.WrittenFormat.{WrittenFormat}
 use Rattle.bw_args.specs.Lines.{GivesPcmUpload, GivesSender, GivesServer, GivesUpload, IsWishOf, Service}
 use Rattle.bw_args.specs.Lines.{FileUpload, PcmUpload, Wish, Inspecting, Packing, Rehearsing, Replaying}
@@ -49,12 +49,13 @@ one_folder None a b x y = absurd x
 one_folder (Some text) a b x y = x.1 ∙ sym y.1
 
 -- one thing is done with the takes of a folder
-one_work : (check json : Bool) (text : Option Text) (a b : FolderWork) → IsWork check json text a
-    → IsWork check json text b → a ≡ b
-one_work check json None a b x y = x ∙ sym y
-one_work false false (Some text) a b x y = x.1 ∙ sym y.1
-one_work false true (Some text) a b x y = absurd x
-one_work true json (Some text) a b x y = absurd x
+one_work : (watch check json : Bool) (text : Option Text) (a b : FolderWork) → IsWork watch check json text a
+    → IsWork watch check json text b → a ≡ b
+one_work true check json text a b x y = x.1 ∙ sym y.1
+one_work false check json None a b x y = x ∙ sym y
+one_work false false false (Some text) a b x y = x.1 ∙ sym y.1
+one_work false false true (Some text) a b x y = absurd x
+one_work false true json (Some text) a b x y = absurd x
 
 pub one_count : (most : ℕ) (text : Option Text) (a b : Option ℕ) → GivesCount most text a → GivesCount most text b
     → a ≡ b
@@ -113,6 +114,15 @@ one_journaling true false a b x y = x ∙ sym y
 one_journaling true true a b x y = x ∙ sym y
 one_journaling false true a b x y = absurd x
 
+one_status : (network : Bool) (text : Option Text) (of_many : Bool) (a b : Option SocketAddr)
+    → GivesStatus network text of_many a → GivesStatus network text of_many b → a ≡ b
+one_status network None of_many a b x y = x ∙ sym y
+one_status network (Some text) true (Some a) (Some b) x y =
+    ap Some (IsSocketText_unique text a b x.spelled y.spelled)
+one_status network (Some text) true None b x y = absurd x
+one_status network (Some text) true (Some a) None x y = absurd y
+one_status network (Some text) false a b x y = absurd x
+
 one_server : (given : Text → Option Text) (a b : Service) → GivesServer given a → GivesServer given b → a ≡ b
 one_server given a b x y = λ i. record {
   listen = one_address _ _ a.listen b.listen x.listens y.listens i;
@@ -123,6 +133,7 @@ one_server given a b x y = λ i. record {
   log = (x.reports ∙ sym y.reports) i;
   journal = one_journaling _ _ a.journal b.journal x.journals y.journals i;
   one_name = (x.names ∙ sym y.names) i;
+  status = one_status _ _ _ a.status b.status x.shows y.shows i;
 }
 
 one_sender : (given : Text → Option Text) (a b : Sender) → GivesSender given a → GivesSender given b → a ≡ b
@@ -133,8 +144,9 @@ one_sender given a b x y = λ i. record {
   timeout = one_count _ _ a.timeout b.timeout x.waits y.waits i;
 }
 
-one_source : (options : List Row) (a b : PlainSource) → GivesSource options a → GivesSource options b → a ≡ b
-one_source options a b x y =
+one_source : (given : Option Text) (options : List Row) (a b : PlainSource) → GivesSource given options a
+    → GivesSource given options b → a ≡ b
+one_source given options a b x y =
     let from : Some a.path ≡ Some b.path = sym x.from ∙ y.from in
     let path : a.path ≡ b.path = cc in
     λ i. record { path = path i; settings = (x.sets ∙ sym y.sets) i; strict = (x.refuses ∙ sym y.refuses) i }
@@ -143,7 +155,7 @@ one_upload : (options : List Row) (a b : FileUpload) → GivesUpload options a �
 one_upload options a b x y = λ i. record {
   connect = one_address _ _ a.connect b.connect x.connects y.connects i;
   name = one_name _ a.name b.name x.named y.named i;
-  source = one_source options a.source b.source x.takes y.takes i;
+  source = one_source _ options a.source b.source x.takes y.takes i;
   timeout = one_count_or _ _ _ a.timeout b.timeout x.waits y.waits i;
   fruitless = one_count_or _ _ _ a.fruitless b.fruitless x.ends y.ends i;
   log = (x.reports ∙ sym y.reports) i;
@@ -192,10 +204,11 @@ one_samples given a b x y =
     let format = one_format (given (codes "pcm")) x.format y.format x.formatted y.formatted in
     let skip = one_number (given (codes "skip")) x.skip y.skip x.begins y.begins in
     let block = one_count most_block (given (codes "block")) x.block y.block x.blocks y.blocks in
+    let spooled = is_some (given (codes "spool")) in
     x.are
-    ∙ ap (λ (n : Option ℕ). option_map (samples_with n x.block (given (codes "until"))) x.format) skip
-    ∙ ap (λ (n : Option ℕ). option_map (samples_with y.skip n (given (codes "until"))) x.format) block
-    ∙ ap (option_map (samples_with y.skip y.block (given (codes "until")))) format
+    ∙ ap (λ (n : Option ℕ). option_map (samples_with n x.block (given (codes "until")) spooled) x.format) skip
+    ∙ ap (λ (n : Option ℕ). option_map (samples_with y.skip n (given (codes "until")) spooled) x.format) block
+    ∙ ap (option_map (samples_with y.skip y.block (given (codes "until")) spooled)) format
     ∙ sym y.are
 
 one_pcm_upload : (options : List Row) (a b : PcmUpload) → GivesPcmUpload options a → GivesPcmUpload options b → a ≡ b
@@ -204,12 +217,13 @@ one_pcm_upload options a b x y =
     one_samples (given_on_line options) (Some a.pcm) (Some b.pcm) x.samples y.samples in
     let pcm : a.pcm ≡ b.pcm = cc in
     let count = one_count most_fruitless _ x.count y.count x.counts y.counts in
-    let ends = x.ends ∙ ap (fruitless_of a.pcm.until) count ∙ ap (λ (s : PlainPcm). fruitless_of s.until y.count) pcm
+    let ends = x.ends ∙ ap (fruitless_of (is_live a.pcm)) count
+    ∙ ap (λ (s : PlainPcm). fruitless_of (is_live s) y.count) pcm
     ∙ sym y.ends in
     λ i. record {
       connect = one_address _ _ a.connect b.connect x.connects y.connects i;
       name = one_name _ a.name b.name x.named y.named i;
-      source = one_source options a.source b.source x.takes y.takes i;
+      source = one_source _ options a.source b.source x.takes y.takes i;
       pcm = pcm i;
       timeout = one_count_or _ _ _ a.timeout b.timeout x.waits y.waits i;
       fruitless = ends i;
@@ -280,7 +294,7 @@ one_wish (Some command) (Uploading a) (SendingPcm b) x y =
     some_samples (given_on_line command.1) b.pcm x.1.unsampled y.1.samples
 one_wish (Some command) (SendingPcm a) (Uploading b) x y =
     some_samples (given_on_line command.1) a.pcm y.1.unsampled x.1.samples
-one_wish (Some command) (Packing a) (Packing b) x y = ap Packing (one_source command.1 a b x.1 y.1)
+one_wish (Some command) (Packing a) (Packing b) x y = ap Packing (one_source _ command.1 a b x.1 y.1)
 one_wish (Some command) (Picturing a) (Picturing b) x y =
     let same : Some a ≡ Some b = sym x.1 ∙ y.1 in cc
 one_wish (Some command) (Repairing a v) (Repairing b w) x y =
@@ -290,5 +304,5 @@ one_wish (Some command) (Sending a) (Uploading b) x y = absurd (no_lines command
 one_wish (Some command) (Uploading a) (Sending b) x y = absurd (no_lines command.1 b a y.1 x.1)
 one_wish (Some command) (Listing a v) (Listing b w) x y =
     let folders : a ≡ b = one_folder _ a b x.1 y.1 in
-    let works : v ≡ w = one_work _ _ _ v w x.2 y.2 in cc
+    let works : v ≡ w = one_work _ _ _ _ v w x.2 y.2 in cc
 one_wish (Some command) a b x y = other_name x.0 y.0 refl

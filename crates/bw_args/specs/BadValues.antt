@@ -6,6 +6,7 @@ use Rattle.bw_args.specs.declared.bad_value.BadValue.TheVariants.{Name, Limit, F
 use Rattle.bw_args.specs.declared.bad_value.BadValue.TheVariants.{Folder, Exchanges, Timeout}
 use Rattle.bw_args.specs.declared.bad_value.BadValue.TheVariants.{Recorders, Idle, Wait}
 use Rattle.bw_args.specs.declared.bad_value.BadValue.TheVariants.{UntilStopped, Sync, GiveUp, Connect}
+use Rattle.bw_args.specs.declared.bad_value.BadValue.TheVariants.{Watch, Status}
 use Rattle.bw_args.specs.declared.bad_value.BadValue.TheVariants.{Rounds, Fruitless, Mixed, Pcm, Skip, Block}
 use Rattle.bw_args.specs.declared.bad_value.BadValue.TheVariants.{Rate, MixedSamples, Inspection}
 
@@ -34,6 +35,9 @@ fault_said Wait = codes "'--idle <SECONDS>' is for '--recorders <N>', and "
     ++ codes "'--timeout <SECONDS>' for a server without it"
 fault_said UntilStopped = codes "'--until-stopped' can't be given beside '--exchanges <N>'"
 fault_said Sync = codes "'--sync' is for '--journal'"
+fault_said Status = codes "'--status <ADDR>' is for '--recorders <N>', and takes " ++ address_wanted
+fault_said Watch =
+    codes "'--watch' can't be given beside '--check', '--json' and '--give-up <NAME>'"
 fault_said GiveUp = codes "'--give-up <NAME>' takes 1 to 32 bytes of a-z, 0-9, '-' and '_', "
     ++ codes "without '--check' and '--json'"
 fault_said Connect = codes "'--connect <ADDR>' takes " ++ address_wanted
@@ -43,15 +47,16 @@ fault_said Fruitless =
 fault_said Rate =
     codes "'--rate <BYTES>' takes a number from 1 to 4294967295, in at most ten digits"
 fault_said Mixed = codes "'--set', '--strict', '--fruitless', '--log', '--state' and '--rate' are "
-    ++ codes "for '--file <FILE>', and '--rounds <N>' for a sender without it"
+    ++ codes "for '--file <FILE>' or '--spool <SPOOL>', and '--rounds <N>' for a sender without these"
 fault_said Pcm = codes "'--pcm <RATE,CHANNELS,BITS>' takes three numbers with commas between them, "
     ++ codes "each from 0 to 4294967295, in at most ten digits"
 fault_said Skip =
     codes "'--skip <BYTES>' takes a number from 0 to 4294967295, in at most ten digits"
 fault_said Block =
     codes "'--block <FRAMES>' takes a number from 1 to 4294967295, in at most ten digits"
-fault_said MixedSamples = codes "'--pcm' is for '--file <FILE>' without '--state'; '--skip', '--block', "
-    ++ codes "'--follow' for '--pcm'; '--follow' goes with '--until <END>'"
+fault_said MixedSamples = codes "'--pcm' is for '--file <FILE>' or '--spool <SPOOL>', without "
+    ++ codes "'--state'; '--skip', '--block', '--follow' and '--spool' are for '--pcm'; '--follow' goes "
+    ++ codes "with '--until <END>', and neither with '--spool'"
 fault_said Inspection = codes "'--json' can't be given beside '--human', and '-', which is read once, "
     ++ codes "beside another file or '--digest'"
 

@@ -128,6 +128,10 @@ sync_flag = flag (codes "sync")
 abbrev pub one_name_flag : Rule
 one_name_flag = flag (codes "one-name")
 
+-- `--status ADDR`
+abbrev pub status_option : Rule
+status_option = option (codes "status")
+
 -- `serve` with the options that say what is served and where
 abbrev pub serve_where : App
 serve_where =
@@ -146,9 +150,13 @@ serve_many = with_rule (with_rule serve_how recorders_option) idle_option
 abbrev pub serve_ends : App
 serve_ends = with_rule (with_rule serve_many until_stopped_flag) log_flag
 
--- `serve`, with its thirteen options
+-- and what it keeps beside the takes
+abbrev pub serve_keeps : App
+serve_keeps = with_rule (with_rule serve_ends journal_flag) sync_flag
+
+-- `serve`, with its fourteen options
 abbrev pub serve_command : App
-serve_command = with_rule (with_rule (with_rule serve_ends journal_flag) sync_flag) one_name_flag
+serve_command = with_rule (with_rule serve_keeps one_name_flag) status_option
 
 -- `--connect ADDR`
 abbrev pub connect_option : Rule
@@ -220,15 +228,19 @@ until_option = option (codes "until")
 abbrev pub send_samples : App
 send_samples = with_rule (with_rule (with_rule send_source pcm_option) skip_option) block_option
 
+-- `--spool SPOOL`
+abbrev pub spool_option : Rule
+spool_option = option (codes "spool")
+
 -- and when it has ended, where it is still going on
 abbrev pub send_followed : App
-send_followed = with_rule (with_rule send_samples follow_flag) until_option
+send_followed = with_rule (with_rule (with_rule send_samples follow_flag) until_option) spool_option
 
 -- and when it gives up, and what it reports
 abbrev pub send_report : App
 send_report = with_rule (with_rule send_followed fruitless_option) log_flag
 
--- `send`, with its seventeen options
+-- `send`, with its eighteen options
 abbrev pub send_command : App
 send_command = with_rule (with_rule send_report state_option) rate_option
 
@@ -262,9 +274,17 @@ give_up_option = option (codes "give-up")
 abbrev pub takes_where : App
 takes_where = with_rule (with_rule (new_app (codes "takes")) folder_option) check_flag
 
--- `takes`, with its four options
+-- `--watch`
+abbrev pub watch_flag : Rule
+watch_flag = flag (codes "watch")
+
+-- .. and how they are reported
+abbrev pub takes_how : App
+takes_how = with_rule (with_rule takes_where json_flag) watch_flag
+
+-- `takes`, with its five options
 abbrev pub takes_command : App
-takes_command = with_rule (with_rule takes_where json_flag) give_up_option
+takes_command = with_rule takes_how give_up_option
 
 -- the program, which has a version and requires a command
 abbrev pub program : App

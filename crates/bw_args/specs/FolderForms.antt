@@ -6,11 +6,11 @@ use Rattle.bw_args.specs.Lines.{IsName, Listing}
 use Rattle.bw_args.specs.Forms.{IsReportedAs, RunsFor}
 use Rattle.bw_args.specs.declared.CommandLine.{CommandLine}
 use Rattle.bw_args.specs.declared.CommandLine.TheVariants.{BadValue as Bad}
-use Rattle.bw_args.specs.declared.bad_value.BadValue.TheVariants.{Folder, GiveUp as BadGiveUp}
-use Rattle.bw_args.specs.declared.folders.FolderWork.TheVariants.{Report, GiveUp}
+use Rattle.bw_args.specs.declared.bad_value.BadValue.TheVariants.{Folder, GiveUp as BadGiveUp, Watch as BadWatch}
+use Rattle.bw_args.specs.declared.folders.FolderWork.TheVariants.{Report, Watch, GiveUp}
 
 -- `takes --folder DIR` runs, with its options, whatever the program's name; a DIR may begin with a
--- hyphen. A take is given up by its name alone
+-- hyphen. Takes are watched without other options, and a take is given up by its name alone
 pub record RunsTakes (words : List Text) (line : CommandLine) : Type 0 where
   -- `takes --folder=DIR`
   pub joined : (program folder : Text) → folder ≢ []
@@ -25,6 +25,19 @@ pub record RunsTakes (words : List Text) (line : CommandLine) : Type 0 where
       → words ≡ program ∷ codes "takes" ∷ codes "--folder" ∷ folder ∷ codes "--check"
       ∷ codes "--json" ∷ []
       → RunsFor (Listing folder (Report true true)) line
+  -- `takes --folder DIR --watch`
+  pub watched : (program folder : Text) → folder ≢ []
+      → words ≡ program ∷ codes "takes" ∷ codes "--folder" ∷ folder ∷ codes "--watch" ∷ []
+      → RunsFor (Listing folder Watch) line
+  -- `takes --folder DIR --check --watch`
+  pub both : (program folder : Text) → folder ≢ []
+      → words ≡ program ∷ codes "takes" ∷ codes "--folder" ∷ folder ∷ codes "--check" ∷ codes "--watch" ∷ []
+      → line ≡ Bad BadWatch
+  -- `takes --folder DIR --watch --give-up=NAME`
+  pub beside : (program folder name : Text) → folder ≢ []
+      → words ≡ program ∷ codes "takes" ∷ codes "--folder" ∷ folder ∷ codes "--watch"
+      ∷ (codes "--give-up=" ++ name) ∷ []
+      → line ≡ Bad BadWatch
   -- `takes --folder DIR --give-up=NAME`
   pub given_up : (program folder name : Text) → folder ≢ [] → IsName name
       → words ≡ program ∷ codes "takes" ∷ codes "--folder" ∷ folder

@@ -1,6 +1,6 @@
 -- What the options of a command line give.
 use Rattle.std.specs.Prelude.{◌≡◌, ◌≢◌, ℕ, Bool, true, false, List, [], Option, Some, None}
-use Rattle.std.specs.Prelude.{unwrap_or, Result, Ok, Err, codes, IsTrue}
+use Rattle.std.specs.Prelude.{unwrap_or, Result, Ok, Err, codes, IsTrue, is_some, ◌&&◌, ◌||◌}
 use Rattle.std.specs.Str.{bytes_eq}
 use Rattle.std.specs.declared.net.socket_addr.SocketAddr.{SocketAddr}
 use Rattle.clap.specs.Walk.{Row, Text, first_of}
@@ -10,7 +10,7 @@ use Rattle.bw_args.specs.Numbers.{IsCountText, IsLimitText, IsNumber, default_li
 use Rattle.bw_args.specs.Numbers.{default_idle, default_rounds, most_exchanges, most_recorders}
 use Rattle.bw_args.specs.Numbers.{most_rounds, most_seconds, number_written}
 use Rattle.bw_args.specs.declared.folders.FolderWork.{FolderWork}
-use Rattle.bw_args.specs.declared.folders.FolderWork.TheVariants.{Report, GiveUp}
+use Rattle.bw_args.specs.declared.folders.FolderWork.TheVariants.{Report, Watch, GiveUp}
 use Rattle.bw_args.specs.declared.peers.End.{End}
 use Rattle.bw_args.specs.declared.peers.End.TheVariants as when
 use Rattle.bw_args.specs.declared.peers.Journaling.{Journaling}
@@ -136,6 +136,21 @@ pub record GivesRecorders (given : Text → Option Text) (way : Way) : Type 0 wh
   pub idles : GivesCount most_seconds (given (codes "idle")) idle
   pub is : IsRecorders timeout most idle way
 
+-- where a server of many recorders shows its status, as an option gives it, or nowhere; the address
+-- may be any if the network is allowed
+abbrev pub GivesStatus : Bool → Option Text → Bool → Option SocketAddr → Type 0
+GivesStatus network None of_many status = status ≡ None
+GivesStatus network (Some text) true (Some address) = IsAddress network text address
+GivesStatus network (Some text) true None = ⊥
+GivesStatus network (Some text) false status = ⊥
+
+-- exactly that place; a fault if the option gives what is none
+abbrev pub IsStatusGiven : {E : Type 0} → Bool → Option Text → Bool → Result (Option SocketAddr) E
+    → Type 0
+IsStatusGiven network text of_many (Ok status) = GivesStatus network text of_many status
+IsStatusGiven network text of_many (Err fault) =
+    (status : Option SocketAddr) → ¬ GivesStatus network text of_many status
+
 -- whether a server keeps journals: one of which they are synced keeps them
 abbrev pub IsJournaling : Bool → Bool → Journaling → Type 0
 IsJournaling false false journal = journal ≡ Without
@@ -158,21 +173,25 @@ GivesCountOr default most text n =
 abbrev pub GivesRounds : Option Text → ℕ → Type 0
 GivesRounds = GivesCountOr default_rounds most_rounds
 
--- what is done with the takes of a folder: they are reported, with their samples or not and in JSON
--- or not; or one is given up, which goes with neither
-abbrev pub IsWork : Bool → Bool → Option Text → FolderWork → Type 0
-IsWork check json None work = work ≡ Report check json
-IsWork false false (Some text) work = IsName text × (work ≡ GiveUp text)
-IsWork false true (Some text) work = ⊥
-IsWork true json (Some text) work = ⊥
+-- takes are watched, and something else is asked for beside it
+abbrev pub is_watch_mixed : Bool → Bool → Bool → Option Text → Bool
+is_watch_mixed watch check json name = watch && (check || (json || is_some name))
+
+-- what is done with the takes of a folder: they are watched; they are reported, with their samples or
+-- not and in JSON or not; or one is given up. The first and the last go with nothing else
+abbrev pub IsWork : Bool → Bool → Bool → Option Text → FolderWork → Type 0
+IsWork true check json name work = (is_watch_mixed true check json name ≡ false) × (work ≡ Watch)
+IsWork false check json None work = work ≡ Report check json
+IsWork false false false (Some text) work = IsName text × (work ≡ GiveUp text)
+IsWork false false true (Some text) work = ⊥
+IsWork false true json (Some text) work = ⊥
 
 -- exactly that
-abbrev pub IsWorkGiven : Bool → Bool → Option Text → Option FolderWork → Type 0
-IsWorkGiven check json text (Some work) = IsWork check json text work
-IsWorkGiven check json text None = (work : FolderWork) → ¬ IsWork check json text work
+abbrev pub IsWorkGiven : Bool → Bool → Bool → Option Text → Option FolderWork → Type 0
+IsWorkGiven watch check json text (Some work) = IsWork watch check json text work
+IsWorkGiven watch check json text None = (work : FolderWork) → ¬ IsWork watch check json text work
 
--- by the three options that say it
+-- by the four options that say it
 abbrev pub GivesWork : (Text → Option Text) → FolderWork → Type 0
-GivesWork given work =
-    IsWork (is_set (given (codes "check"))) (is_set (given (codes "json")))
-    (given (codes "give-up")) work
+GivesWork given work = IsWork (is_set (given (codes "watch"))) (is_set (given (codes "check")))
+    (is_set (given (codes "json"))) (given (codes "give-up")) work

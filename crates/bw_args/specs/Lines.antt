@@ -5,12 +5,13 @@ pub use Rattle.bw_args.specs.Given.{GivesAddress, IsAddressGiven, GivesFolder, I
 pub use Rattle.bw_args.specs.Given.{GivesCount, IsCountGiven, IsEnd, IsEndGiven, GivesEnd}
 pub use Rattle.bw_args.specs.Given.{IsRecorders, IsRecordersGiven, GivesRecorders, IsJournaling}
 pub use Rattle.bw_args.specs.Given.{IsJournalingGiven, GivesCountOr, GivesRounds}
-pub use Rattle.bw_args.specs.Given.{IsWork, IsWorkGiven, GivesWork}
-pub use Rattle.bw_args.specs.Ranges.{IsWithin, IsEndWithin, IsWayWithin, HasNumbersInRange}
+pub use Rattle.bw_args.specs.Given.{GivesStatus, IsStatusGiven}
+pub use Rattle.bw_args.specs.Given.{IsWork, IsWorkGiven, GivesWork, is_watch_mixed}
+pub use Rattle.bw_args.specs.Ranges.{IsWithin, IsEndWithin, IsWayWithin, HasPort, HasNumbersInRange}
 use Rattle.std.specs.Prelude.{◌≡◌, ◌≢◌, ◌⊎◌, ⊤, ℕ, Bool}
 use Rattle.std.specs.Prelude.{false, List, [], ◌∷◌, ◌++◌}
 use Rattle.std.specs.Prelude.{Option, Some, None, option_map, string_bytes, codes}
-use Rattle.std.specs.Prelude.{if◌then◌else◌}
+use Rattle.std.specs.Prelude.{if◌then◌else◌, is_some}
 use Rattle.std.specs.Str.{bytes_eq}
 use Rattle.std.specs.declared.net.socket_addr.SocketAddr.{SocketAddr}
 use Rattle.clap.specs.Walk.{Row, Text, first_of}
@@ -26,9 +27,9 @@ use Rattle.bw_args.specs.Numbers.{most_seconds}
 use Rattle.bw_args.specs.Commands.{command_line}
 use Rattle.bw_args.specs.Inspecting.{GivesInspection, PlainInspection, has_option, inspection_in_plain}
 use Rattle.bw_args.specs.Inspecting.{is_alone, one_file}
-use Rattle.bw_args.specs.Sources.{GivesSource, PlainSource, in_plain, is_mixed}
+use Rattle.bw_args.specs.Sources.{GivesSource, PlainSource, in_plain, is_mixed, path_given}
 use Rattle.bw_args.specs.PcmSources.{GivesFormat, GivesNumber, GivesSamples, PlainPcm}
-use Rattle.bw_args.specs.PcmSources.{are_samples_mixed, fruitless_of, plain_pcm}
+use Rattle.bw_args.specs.PcmSources.{are_samples_mixed, fruitless_of, is_live, plain_pcm}
 use Rattle.bw_args.specs.ReadWords.{as_read}
 use Rattle.bw_args.specs.declared.CommandLine.{CommandLine}
 use Rattle.bw_args.specs.declared.CommandLine.TheVariants.{Run, BadValue as Bad, Report}
@@ -37,6 +38,7 @@ use Rattle.bw_args.specs.declared.bad_value.BadValue.TheVariants.{Name, Limit, F
 use Rattle.bw_args.specs.declared.bad_value.BadValue.TheVariants.{Folder, Exchanges, Timeout}
 use Rattle.bw_args.specs.declared.bad_value.BadValue.TheVariants.{Recorders, Idle, Wait}
 use Rattle.bw_args.specs.declared.bad_value.BadValue.TheVariants.{UntilStopped, Sync, GiveUp, Connect}
+use Rattle.bw_args.specs.declared.bad_value.BadValue.TheVariants.{Watch, Status}
 use Rattle.bw_args.specs.declared.bad_value.BadValue.TheVariants.{Rounds, Fruitless, Rate, Mixed, Pcm, Skip}
 use Rattle.bw_args.specs.declared.bad_value.BadValue.TheVariants.{Block, MixedSamples, Inspection}
 use Rattle.bw_args.specs.declared.folders.FolderWork.{FolderWork}
@@ -60,6 +62,7 @@ pub record Service : Type 0 where
   pub log : Bool
   pub journal : Journaling
   pub one_name : Bool
+  pub status : Option SocketAddr
 
 -- how a sender tries, by the four options that say it
 pub record GivesTries (given : Text → Option Text) (tries : Tries) : Type 0 where
@@ -124,6 +127,7 @@ wish_of (Serve server) = Serving (record {
   log = server.log;
   journal = server.journal;
   one_name = server.one_name;
+  status = server.status;
 })
 wish_of (Send sender) = Sending sender
 wish_of (SendFile sender) = Uploading (record {
@@ -164,6 +168,8 @@ pub record GivesServer (given : Text → Option Text) (server : Service) : Type 
   pub journals :
       IsJournaling (is_set (given (codes "journal"))) (is_set (given (codes "sync"))) server.journal
   pub names : server.one_name ≡ is_set (given (codes "one-name"))
+  pub shows : GivesStatus (is_set (given (codes "network"))) (given (codes "status"))
+      (is_some (given (codes "recorders"))) server.status
 
 -- what is given is this sender
 pub record GivesSender (given : Text → Option Text) (sender : Sender) : Type 0 where
@@ -172,7 +178,7 @@ pub record GivesSender (given : Text → Option Text) (sender : Sender) : Type 0
   pub named : GivesName (given (codes "name")) sender.name
   pub tries : GivesRounds (given (codes "rounds")) sender.rounds
   pub waits : GivesCount most_seconds (given (codes "timeout")) sender.timeout
-  pub lines : given (codes "file") ≡ None
+  pub lines : path_given given ≡ None
   pub unmixed : is_mixed given ≡ false
   pub unsampled : GivesSamples given None
 
@@ -181,7 +187,7 @@ pub record GivesUpload (options : List Row) (sender : FileUpload) : Type 0 where
   pub connects : GivesAddress (is_set (given_on_line options (codes "network")))
       (given_on_line options (codes "connect")) sender.connect
   pub named : GivesName (given_on_line options (codes "name")) sender.name
-  pub takes : GivesSource options sender.source
+  pub takes : GivesSource (path_given (given_on_line options)) options sender.source
   pub waits : GivesCountOr default_timeout most_seconds (given_on_line options (codes "timeout"))
       sender.timeout
   pub ends : GivesCountOr default_fruitless most_fruitless
@@ -197,13 +203,13 @@ pub record GivesPcmUpload (options : List Row) (sender : PcmUpload) : Type 0 whe
   pub connects : GivesAddress (is_set (given_on_line options (codes "network")))
       (given_on_line options (codes "connect")) sender.connect
   pub named : GivesName (given_on_line options (codes "name")) sender.name
-  pub takes : GivesSource options sender.source
+  pub takes : GivesSource (path_given (given_on_line options)) options sender.source
   pub samples : GivesSamples (given_on_line options) (Some sender.pcm)
   pub waits : GivesCountOr default_timeout most_seconds (given_on_line options (codes "timeout"))
       sender.timeout
   pub count : Option ℕ
   pub counts : GivesCount most_fruitless (given_on_line options (codes "fruitless")) count
-  pub ends : sender.fruitless ≡ fruitless_of sender.pcm.until count
+  pub ends : sender.fruitless ≡ fruitless_of (is_live sender.pcm) count
   pub reports : sender.log ≡ is_set (given_on_line options (codes "log"))
   pub paced : GivesCount most_rate (given_on_line options (codes "rate")) sender.rate
   pub unmixed : is_mixed (given_on_line options) ≡ false
@@ -232,7 +238,8 @@ IsWishOf (Some command) (Uploading sender) =
 IsWishOf (Some command) (SendingPcm sender) =
     (command.0 ≡ codes "send") × GivesPcmUpload command.1 sender
 IsWishOf (Some command) (Packing source) =
-    (command.0 ≡ codes "pack") × GivesSource command.1 source
+    (command.0 ≡ codes "pack")
+    × GivesSource (given_on_line command.1 (codes "file")) command.1 source
 IsWishOf (Some command) (Picturing path) =
     (command.0 ≡ codes "picture") × (first_of (codes "file") command.1 ≡ Some path)
 IsWishOf (Some command) (Repairing path write) =
@@ -284,6 +291,10 @@ IsGood UntilStopped given = (end : End)
     × GivesEnd (given (codes "exchanges")) (is_set (given (codes "until-stopped"))) end
 IsGood Sync given = (journal : Journaling)
     × IsJournaling (is_set (given (codes "journal"))) (is_set (given (codes "sync"))) journal
+IsGood Status given = (status : Option SocketAddr) × GivesStatus (is_set (given (codes "network")))
+    (given (codes "status")) (is_some (given (codes "recorders"))) status
+IsGood Watch given = is_watch_mixed (is_set (given (codes "watch")))
+    (is_set (given (codes "check"))) (is_set (given (codes "json"))) (given (codes "give-up")) ≡ false
 IsGood GiveUp given = (work : FolderWork) × GivesWork given work
 IsGood Connect given = (address : SocketAddr)
     × GivesAddress (is_set (given (codes "network"))) (given (codes "connect")) address
@@ -302,6 +313,11 @@ IsGood Inspection given = ⊤
 abbrev pub looked_at_waiting : List BadValue
 looked_at_waiting = Timeout ∷ Recorders ∷ Idle ∷ Wait ∷ []
 
+-- the values that say how a server ends, and what it does beside, in the order in which they are
+-- looked at
+abbrev pub looked_at_serving : List BadValue
+looked_at_serving = UntilStopped ∷ Sync ∷ Status ∷ []
+
 -- the values that say how a sender tries, in the order in which they are looked at
 abbrev pub looked_at_trying : List BadValue
 looked_at_trying = Rounds ∷ Timeout ∷ Fruitless ∷ Rate ∷ []
@@ -315,10 +331,10 @@ abbrev pub looked_at : Text → List BadValue
 looked_at command = if bytes_eq command (codes "replay") then Limit ∷ Fuse ∷ []
     else (if bytes_eq command (codes "rehearse") then Name ∷ Limit ∷ []
     else (if bytes_eq command (codes "serve")
-    then Listen ∷ Folder ∷ Exchanges ∷ Limit ∷ (looked_at_waiting ++ UntilStopped ∷ Sync ∷ [])
+    then Listen ∷ Folder ∷ Exchanges ∷ Limit ∷ (looked_at_waiting ++ looked_at_serving)
     else (if bytes_eq command (codes "send")
     then Connect ∷ Name ∷ (looked_at_trying ++ Mixed ∷ looked_at_samples)
-    else (if bytes_eq command (codes "takes") then Folder ∷ GiveUp ∷ [] else []))))
+    else (if bytes_eq command (codes "takes") then Folder ∷ Watch ∷ GiveUp ∷ [] else []))))
 
 -- of these values, in this order, it is the first that is bad
 abbrev pub IsFirstBad : List BadValue → (Text → Option Text) → BadValue → Type 0

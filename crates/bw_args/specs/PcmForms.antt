@@ -1,5 +1,5 @@
 -- The forms of `send` with headerless samples, in plain words, and what each results in.
-use Rattle.std.specs.Prelude.{false, List, [], ◌∷◌, ◌++◌, Some, None, codes}
+use Rattle.std.specs.Prelude.{true, false, List, [], ◌∷◌, ◌++◌, Some, None, codes}
 use Rattle.std.specs.declared.net.socket_addr.SocketAddr.{SocketAddr}
 use Rattle.clap.specs.Walk.{Text}
 use Rattle.bw_args.specs.Numbers.{IsCountText, IsNumber, default_fruitless, default_timeout}
@@ -19,7 +19,7 @@ plain_pcm_upload address name path format = record {
   connect = address;
   name = name;
   source = source_at path;
-  pcm = samples_with None None None format;
+  pcm = samples_with None None None false format;
   timeout = default_timeout;
   fruitless = Some default_fruitless;
   log = false;
@@ -29,6 +29,10 @@ plain_pcm_upload address name path format = record {
 -- `--file=FILE --pcm=RATE,CHANNELS,BITS`, and what follows
 abbrev pub with_pcm : Text → Text → List Text → List Text
 with_pcm path text more = with_file path ((codes "--pcm=" ++ text) ∷ more)
+
+-- `--spool=SPOOL --pcm=RATE,CHANNELS,BITS`, and what follows
+abbrev pub with_spool : Text → Text → List Text → List Text
+with_spool path text more = (codes "--spool=" ++ path) ∷ (codes "--pcm=" ++ text) ∷ more
 
 -- the line runs the plain sender of such samples with this change
 abbrev pub AsksToSendPcm : CommandLine → Text → WrittenFormat → (PcmUpload → PcmUpload) → SocketAddr →
@@ -65,6 +69,10 @@ pub record RunsPcmSender (words : List Text) (line : CommandLine) : Type 0 where
       (codes "--follow" ∷ (codes "--until=" ++ end) ∷ (codes "--fruitless=" ++ count) ∷ []))
       (AsksToSendPcm line path format (λ s.
       record s { pcm = record s.pcm { until = Some end }; fruitless = Some (number_written count) }))
+  -- `--spool=SPOOL --pcm=RATE,CHANNELS,BITS` in place of a file; it never gives up
+  pub spool : (path text : Text) (format : WrittenFormat) → IsFormatText text format
+      → ForSender false words (with_spool path text []) (AsksToSendPcm line path format (λ s.
+      record s { pcm = record s.pcm { is_spooled = true }; fruitless = None }))
   -- with `--rate=BYTES`
   pub rate : (path text bytes : Text) (format : WrittenFormat) → IsFormatText text format
       → IsCountText most_rate bytes
@@ -99,6 +107,18 @@ pub record RefusesSamples (words : List Text) (line : CommandLine) : Type 0 wher
   pub state : (path text state : Text) (format : WrittenFormat) → IsFormatText text format
       → ForSender false words (with_pcm path text ((codes "--state=" ++ state) ∷ []))
       (ReportsBad line MixedSamples)
+  -- with `--spool=SPOOL` beside the file
+  pub two_files : (path text spool : Text) (format : WrittenFormat) → IsFormatText text format
+      → ForSender false words (with_pcm path text ((codes "--spool=" ++ spool) ∷ []))
+      (ReportsBad line MixedSamples)
+  -- `--spool=SPOOL --pcm=RATE,CHANNELS,BITS` with `--follow --until=END`
+  pub two_ends : (path text end : Text) (format : WrittenFormat) → IsFormatText text format
+      → ForSender false words
+      (with_spool path text (codes "--follow" ∷ (codes "--until=" ++ end) ∷ []))
+      (ReportsBad line MixedSamples)
+  -- `--spool=SPOOL` alone
+  pub unformatted : (path : Text)
+      → ForSender false words ((codes "--spool=" ++ path) ∷ []) (ReportsBad line MixedSamples)
   -- with `--file=FILE --skip=BYTES` alone
   pub formatless : (path bytes : Text) → IsNumber bytes
       → ForSender false words (with_file path ((codes "--skip=" ++ bytes) ∷ []))

@@ -1,16 +1,17 @@
 -- Headerless samples, as the options of a command line describe them.
-use Rattle.std.specs.Prelude.{◌≡◌, ◌||◌, ◌==◌, not, ℕ, Bool, false, Option, Some, None, Result, Ok, Err}
+use Rattle.std.specs.Prelude.{◌≡◌, ◌||◌, ◌==◌, not, ℕ, Bool, true, false, Option, Some, None, Result, Ok, Err}
 use Rattle.std.specs.Prelude.{codes, is_some, if◌then◌else◌, length, nat_lt, option_map, string_bytes, unwrap_or}
 use Rattle.std.specs.List.{after_first, before_first, position_or_len}
 use Rattle.clap.specs.Walk.{Text}
 use Rattle.bw_args.specs.Given.{GivesCount, is_set}
+use Rattle.bw_args.specs.Sources.{path_given}
 use Rattle.bw_args.specs.Numbers.{IsNumber, default_fruitless, most_block, number_written}
 use Rattle.bw_args.specs.declared.commands.samples.Samples.{Samples}
 use Rattle.bw_args.specs.declared.commands.samples.WrittenFormat.{WrittenFormat}
 use Rattle.bw_args.specs.declared.recordings.PcmSource.{PcmSource}
 
--- the samples' format, their place in a file, the most frames of a block, and the path that exists
--- once the recording has ended
+-- the samples' format, their place in a file, the most frames of a block, the path that exists once
+-- the recording has ended, and whether it is read from standard input into the file
 pub record PlainPcm : Type 0 where
   pub rate : ℕ
   pub channels : ℕ
@@ -18,6 +19,7 @@ pub record PlainPcm : Type 0 where
   pub skip : ℕ
   pub block : Option ℕ
   pub until : Option Text
+  pub is_spooled : Bool
 
 -- the same in plain bytes
 abbrev pub plain_pcm : PcmSource → PlainPcm
@@ -28,6 +30,7 @@ plain_pcm s = record {
   skip = s.skip;
   block = s.block;
   until = option_map string_bytes s.until;
+  is_spooled = s.is_spooled;
 }
 
 abbrev pub plain_samples : Samples → PlainPcm
@@ -38,6 +41,7 @@ plain_samples s = record {
   skip = s.skip;
   block = s.block;
   until = option_map (λ path. path.now) s.until;
+  is_spooled = s.is_spooled;
 }
 
 -- is it a comma
@@ -86,30 +90,37 @@ abbrev pub IsNumberGiven : {E : Type 0} → Option Text → Result (Option ℕ) 
 IsNumberGiven text (Ok number) = GivesNumber text number
 IsNumberGiven text (Err fault) = (number : Option ℕ) → ¬ GivesNumber text number
 
--- options that aren't for one sender: a format without a file, or with a state, what is said about
--- samples without their format, and one of `--follow` and `--until` without the other
+-- options that don't say in one way when a recording has ended: beside `--spool` another file or one
+-- of `--follow` and `--until`, and without it one of these two without the other
 abbrev pub is_unpaired : (Text → Option Text) → Bool
-is_unpaired given =
-    if is_set (given (codes "follow")) then not (is_some (given (codes "until")))
+is_unpaired given = if is_some (given (codes "spool"))
+    then is_some (given (codes "file"))
+    || (is_set (given (codes "follow")) || is_some (given (codes "until")))
+    else if is_set (given (codes "follow")) then not (is_some (given (codes "until")))
     else is_some (given (codes "until"))
+
+-- options that aren't for one sender: a format without a file or a spool, or with a state, or with an
+-- end that isn't said in one way; and what is said about samples without their format
 
 abbrev pub are_samples_mixed : (Text → Option Text) → Bool
 are_samples_mixed given =
     if is_some (given (codes "pcm"))
-    then not (is_some (given (codes "file")))
+    then not (is_some (path_given given))
     || (is_some (given (codes "state")) || is_unpaired given)
     else is_some (given (codes "skip")) || (is_some (given (codes "block"))
-    || (is_set (given (codes "follow")) || is_some (given (codes "until"))))
+    || (is_set (given (codes "follow")) || (is_some (given (codes "until"))
+    || is_some (given (codes "spool")))))
 
 -- samples of a format, with what else is given
-abbrev pub samples_with : Option ℕ → Option ℕ → Option Text → WrittenFormat → PlainPcm
-samples_with skip block until format = record {
+abbrev pub samples_with : Option ℕ → Option ℕ → Option Text → Bool → WrittenFormat → PlainPcm
+samples_with skip block until is_spooled format = record {
   rate = format.rate;
   channels = format.channels;
   bits = format.bits;
   skip = unwrap_or skip 0;
   block = block;
   until = until;
+  is_spooled = is_spooled;
 }
 
 -- the samples that the options give, or none
@@ -121,10 +132,15 @@ pub record GivesSamples (given : Text → Option Text) (samples : Option PlainPc
   pub begins : GivesNumber (given (codes "skip")) skip
   pub blocks : GivesCount most_block (given (codes "block")) block
   pub unmixed : are_samples_mixed given ≡ false
-  pub are : samples ≡ option_map (samples_with skip block (given (codes "until"))) format
+  pub are : samples ≡ option_map
+      (samples_with skip block (given (codes "until")) (is_some (given (codes "spool")))) format
+
+-- the recording is still being made
+abbrev pub is_live : PlainPcm → Bool
+is_live pcm = is_some pcm.until || pcm.is_spooled
 
 -- after how many links in a row that settle nothing a sender of samples gives up: as many as are
--- given, else the default, and never while a recording is followed
-abbrev pub fruitless_of : Option Text → Option ℕ → Option ℕ
-fruitless_of None count = Some (unwrap_or count default_fruitless)
-fruitless_of (Some until) count = count
+-- given, else the default, and never while a recording is being made
+abbrev pub fruitless_of : Bool → Option ℕ → Option ℕ
+fruitless_of false count = Some (unwrap_or count default_fruitless)
+fruitless_of true count = count

@@ -1,5 +1,5 @@
 -- The file of a recording, as the options of a command line give it.
-use Rattle.std.specs.Prelude.{◌≡◌, ◌||◌, Bool, List, [], Option, Some, codes, is_some, unwrap_or}
+use Rattle.std.specs.Prelude.{◌≡◌, ◌||◌, Bool, List, [], Option, Some, None, codes, is_some, unwrap_or}
 use Rattle.std.specs.Prelude.{map, string_bytes, if◌then◌else◌}
 use Rattle.clap.specs.Walk.{Row, Text, all_of}
 use Rattle.bw_args.specs.Given.{given_on_line, is_set}
@@ -23,16 +23,25 @@ in_plain s = record {
 abbrev pub settings_on_line : List Row → List Text
 settings_on_line options = unwrap_or (all_of (codes "set") options) []
 
--- the options give this file, and say this about it
-pub record GivesSource (options : List Row) (source : PlainSource) : Type 0 where
-  pub from : given_on_line options (codes "file") ≡ Some source.path
+-- the first of two paths, where it is given
+abbrev pub path_of : Option Text → Option Text → Option Text
+path_of None spool = spool
+path_of (Some path) spool = Some path
+
+-- the path of what is sent: a recording's file, or the spool of standard input
+abbrev pub path_given : (Text → Option Text) → Option Text
+path_given given = path_of (given (codes "file")) (given (codes "spool"))
+
+-- the options say this about the file at a path, where one is given
+pub record GivesSource (path : Option Text) (options : List Row) (source : PlainSource) : Type 0 where
+  pub from : path ≡ Some source.path
   pub sets : source.settings ≡ settings_on_line options
   pub refuses : source.strict ≡ is_set (given_on_line options (codes "strict"))
 
--- options that aren't for one sender: a number of rounds beside the file of a recording, or what is
--- said about a recording without its file
+-- options that aren't for one sender: a number of rounds beside the file of a recording or a spool, or
+-- what is said about a recording without its file
 abbrev pub is_mixed : (Text → Option Text) → Bool
-is_mixed given = if is_some (given (codes "file")) then is_some (given (codes "rounds"))
+is_mixed given = if is_some (path_given given) then is_some (given (codes "rounds"))
     else is_some (given (codes "set"))
     || (is_some (given (codes "fruitless")) || (is_some (given (codes "state"))
     || (is_some (given (codes "rate"))

@@ -29,6 +29,10 @@ pub enum BadValue {
     UntilStopped,
     /// `--sync` without `--journal`.
     Sync,
+    /// The address at which a server of many recorders shows its status, or one for another server.
+    Status,
+    /// Other options of `takes` beside `--watch`.
+    Watch,
     /// The name of a take that is given up, or other options of `takes` beside it.
     GiveUp,
     /// The address of the server that requests are sent to.
@@ -39,7 +43,7 @@ pub enum BadValue {
     Fruitless,
     /// How many bytes a second a sender sends at most.
     Rate,
-    /// An option for a recording without `--file`, or `--rounds` with it.
+    /// An option for a recording without `--file` or `--spool`, or `--rounds` with one.
     Mixed,
     /// The format of headerless samples.
     Pcm,
@@ -47,8 +51,8 @@ pub enum BadValue {
     Skip,
     /// How many frames a block of headerless samples has.
     Block,
-    /// An option for headerless samples without `--pcm`, that without `--file` or with `--state`, or
-    /// one of `--follow` and `--until` without the other.
+    /// An option for headerless samples without `--pcm`, that without `--file` and `--spool`, with
+    /// both or with `--state`, or an end that isn't said in one way.
     MixedSamples,
     /// `--json` together with `--human`, or standard input (`-`) beside another file or `--digest`.
     Inspection,
@@ -72,6 +76,8 @@ impl BadValue {
             BadValue::Wait => BAD_WAIT,
             BadValue::UntilStopped => BAD_UNTIL_STOPPED,
             BadValue::Sync => BAD_SYNC,
+            BadValue::Status => BAD_STATUS,
+            BadValue::Watch => BAD_WATCH,
             BadValue::GiveUp => BAD_GIVE_UP,
             BadValue::Connect => BAD_CONNECT,
             BadValue::Rounds => BAD_ROUNDS,
@@ -183,6 +189,22 @@ Usage: bwingest <COMMAND>
 For more information, try '--help'.
 ";
 
+const BAD_STATUS: &str = "\
+error: '--status <ADDR>' is for '--recorders <N>', and takes 127.0.0.1:PORT, or any IP:PORT with '--network'; PORT is 1 to 65535
+
+Usage: bwingest <COMMAND>
+
+For more information, try '--help'.
+";
+
+const BAD_WATCH: &str = "\
+error: '--watch' can't be given beside '--check', '--json' and '--give-up <NAME>'
+
+Usage: bwingest <COMMAND>
+
+For more information, try '--help'.
+";
+
 const BAD_GIVE_UP: &str = "\
 error: '--give-up <NAME>' takes 1 to 32 bytes of a-z, 0-9, '-' and '_', without '--check' and '--json'
 
@@ -224,7 +246,7 @@ For more information, try '--help'.
 ";
 
 const BAD_MIXED: &str = "\
-error: '--set', '--strict', '--fruitless', '--log', '--state' and '--rate' are for '--file <FILE>', and '--rounds <N>' for a sender without it
+error: '--set', '--strict', '--fruitless', '--log', '--state' and '--rate' are for '--file <FILE>' or '--spool <SPOOL>', and '--rounds <N>' for a sender without these
 
 Usage: bwingest <COMMAND>
 
@@ -256,7 +278,7 @@ For more information, try '--help'.
 ";
 
 const BAD_MIXED_SAMPLES: &str = "\
-error: '--pcm' is for '--file <FILE>' without '--state'; '--skip', '--block', '--follow' for '--pcm'; '--follow' goes with '--until <END>'
+error: '--pcm' is for '--file <FILE>' or '--spool <SPOOL>', without '--state'; '--skip', '--block', '--follow' and '--spool' are for '--pcm'; '--follow' goes with '--until <END>', and neither with '--spool'
 
 Usage: bwingest <COMMAND>
 

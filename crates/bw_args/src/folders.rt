@@ -1,7 +1,7 @@
 //! Folders of takes as a command line asks for them.
 use bw_request::Name;
 
-/// The folder whose takes are reported, or of which one is given up.
+/// The folder whose takes are reported or watched, or of which one is given up.
 #[derive(Debug, PartialEq, Eq, Drop)]
 pub struct TakesFolder {
     /// Its path, as it was given.
@@ -16,6 +16,8 @@ pub enum FolderWork {
     /// The takes are reported: with `check` their samples are compared with their journals, and with
     /// `json` each is a line of JSON.
     Report { check: bool, json: bool },
+    /// The takes are reported again and again, until the program is stopped.
+    Watch,
     /// The take of this name is given up.
     GiveUp(Name),
 }

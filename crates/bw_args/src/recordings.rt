@@ -28,9 +28,12 @@ pub struct PcmSource {
     pub skip: u32,
     /// How many frames a block has at most, where that is given: at least 1.
     pub block: Option<u32>,
-    /// The path that exists once the recording has ended, as it was given; None for a file that is
-    /// sent as it is.
+    /// The path that exists once the recording has ended, as it was given, where another program
+    /// still writes the file.
     pub until: Option<String>,
+    /// Whether the file is a spool: standard input is appended to it, and its end is that of the
+    /// recording. No path says that then.
+    pub is_spooled: bool,
 }
 
 /// The sender of headerless samples that a command line asks for.
@@ -40,7 +43,7 @@ pub struct PcmSender {
     pub connect: SocketAddr,
     /// The take's name.
     pub name: Name,
-    /// The file, and what is said about it.
+    /// The file or the spool, and what is said about it.
     pub source: SourceFile,
     /// The samples in the file.
     pub pcm: PcmSource,

@@ -1,5 +1,5 @@
 -- What is done for the command lines that send headerless samples.
-use Rattle.std.specs.Prelude.{◌≡◌, ℕ, Option, Some, None, map, min, string_bytes}
+use Rattle.std.specs.Prelude.{◌≡◌, ℕ, Bool, true, false, Option, Some, None, map, min, string_bytes}
 use Rattle.bw_stream.specs.declared.sink.Sink.{Ghosts as Writer}
 use Rattle.bw_args.specs.declared.recordings.PcmSender.{PcmSender}
 use Rattle.bw_console.specs.Printing.{failures_if}
@@ -34,20 +34,27 @@ pub record IsPcmFileOf (sender : PcmSender) (file : PcmFile) : Type 0 where
   pub bits : file.pcm.bits ≡ min sender.pcm.bits most_in_field
   pub begins : file.pcm.skip ≡ sender.pcm.skip
 
+-- whether a path says that a recording that is still made has ended, or the end of standard input does;
+-- none where it has ended
+abbrev pub ended_by : {T : Type 0} → Bool → Option T → Option Bool
+ended_by true until = Some false
+ended_by false (Some until) = Some true
+ended_by false None = None
+
 module _ {U J F H G M Q N X P R W D A B O E : Type 0} (upload : UploadSide U J Q)
     (side : SenderSide D A B) (network : NetworkGhosts N X P D R W A B) (files : FileGhosts F H G M) (out : Writer O)
     (reported : Writer E) where
-  -- the samples were sent: of a file as it is; or, where a path says when the recording has ended, of
-  -- one that is still written
-  abbrev pub SendsSamples : {T : Type 0} → Option T → Recorder → PcmFile → F → Ways Q D → Ways Q D →
-      Packing → Type 0
+  -- the samples were sent: of a file as it is; or, of a recording that is still made, of one that is
+  -- still written, by another program or from standard input
+  abbrev pub SendsSamples : Option Bool → Recorder → PcmFile → F → Ways Q D → Ways Q D → Packing →
+      Type 0
   SendsSamples None recorder file f old new did =
       IsPcmSent upload.feed upload.pause side.dial side.replies side.requests recorder file
       (OpensSamples upload.feed upload.looks_at (files.file_at f file.file.path.now)
       (files.stamp_at f file.file.path.now) file.pcm) old new did
-  SendsSamples (Some until) recorder file f old new did =
+  SendsSamples (Some by_path) recorder file f old new did =
       IsPcmSent upload.follow upload.pause side.dial side.replies side.requests recorder file
-      (FollowsFile upload.follow (files.file_at f file.file.path.now) file.pcm) old new did
+      (FollowsFile upload.follow by_path (files.file_at f file.file.path.now) file.pcm) old new did
 
   -- they were sent over links that are made so, after such pauses
   pub record SendsPcm (sender : PcmSender) (exit : Exit) (f f' : F) (n : N) (q q' : Q) (o o' : O)
@@ -61,7 +68,7 @@ module _ {U J F H G M Q N X P R W D A B O E : Type 0} (upload : UploadSide U J Q
     pub file_is : IsPcmFileOf sender file
     pub did : Packing
     pub ends : did.exit ≡ exit
-    pub is : SendsSamples sender.pcm.until recorder file f (record { pause = q; dial = first })
-        (record { pause = q'; dial = last }) did
+    pub is : SendsSamples (ended_by sender.pcm.is_spooled sender.pcm.until) recorder file f
+        (record { pause = q; dial = first }) (record { pause = q'; dial = last }) did
     pub failures : files.failures f' ≡ failures_if did.is_system_well (files.failures f)
     pub writes : HasPacked out reported did o o' e e'

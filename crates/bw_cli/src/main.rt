@@ -11,7 +11,7 @@ mod samples;
 mod uploads;
 
 use bw_disk::SystemDisk;
-use bw_net::{ClockPause, Host, HostRecordings, TcpNetwork, Terminal};
+use bw_net::{Host, HostRecordings, SpoolCell, SpoolPause, TcpNetwork, Terminal};
 use bw_one_name::FilteredNetwork;
 use bw_send_file::LinkLog;
 use bw_stream::StdIo;
@@ -20,12 +20,13 @@ use program::start;
 use std::process::ExitCode;
 
 fn main(rt: HostRuntime) -> ExitCode {
+    let spool = SpoolCell::new();
     let mut outside = Outside {
         system: Host::new(&rt),
-        files: HostRecordings::new(&rt),
+        files: HostRecordings::new(&rt, &spool),
         disk: SystemDisk::new(&rt),
-        network: FilteredNetwork::new(TcpNetwork::new(&rt)),
-        pause: ClockPause::new(&rt),
+        network: FilteredNetwork::new(TcpNetwork::new(&rt, &spool)),
+        pause: SpoolPause::new(&rt, &spool),
         input: StdIo::new(rt.stdin()),
         out: StdIo::new(rt.stdout()),
         faults: StdIo::new(rt.stderr()),

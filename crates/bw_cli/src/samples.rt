@@ -1,7 +1,7 @@
 //! The command that sends headerless samples, as a command line asks for it.
-ghost use Rattle.std.specs.Prelude.{◌≡◌, min};
+ghost use Rattle.std.specs.Prelude.{◌≡◌, is_some, min, option_map};
 ghost use Rattle.bw_send_file.specs.FileLooks.{LooksAt};
-ghost use Rattle.bw_cli.specs.PcmUploads.{IsPcmFileOf, IsPcmRecorderOf, SendsPcm, most_in_field};
+ghost use Rattle.bw_cli.specs.PcmUploads.{IsPcmFileOf, IsPcmRecorderOf, SendsPcm, ended_by, most_in_field};
 ghost use Rattle.bw_cli.specs.Sides.{sender_side, upload_side};
 
 use bw_args::PcmSender;
@@ -45,22 +45,28 @@ pub(crate) fn send_pcm_as<
     let mut dial = network.dial_paced(sender.connect, Some(sender.timeout), sender.rate);
     let file = pcm_file_of(sender);
     let recorder = recorder_of(sender);
-    match &sender.pcm.until {
+    match ending_of(sender) {
         Some(until) => follow_samples(
-            alloc,
-            &recorder,
-            &file,
-            until.as_str(),
-            files,
-            pause,
-            &mut dial,
-            observer,
-            out,
-            faults,
+            alloc, &recorder, &file, until, files, pause, &mut dial, observer, out, faults,
         ),
         None => send_samples(
             alloc, &recorder, &file, files, pause, &mut dial, observer, out, faults,
         ),
+    }
+}
+
+/// What says that the recording has ended: the path, or none for the end of standard input; None of
+/// the whole where it has ended.
+fn ending_of(sender: &PcmSender) -> Option<Option<&str>>
+    ensures { option_map (λ until. is_some until) result
+        ≡ ended_by sender.now.pcm.is_spooled sender.now.pcm.until }
+{
+    if sender.pcm.is_spooled {
+        return Some(None);
+    }
+    match &sender.pcm.until {
+        Some(until) => Some(Some(until.as_str())),
+        None => None,
     }
 }
 

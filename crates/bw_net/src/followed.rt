@@ -1,7 +1,9 @@
 //! A file that another program is still writing.
 ghost use Rattle.std.specs.Prelude.{◌≡◌, None, IfOk, false};
 
+use crate::spool::SpoolCell;
 use bw_ports::Followed;
+use bw_spool::SpoolState;
 use bw_stream::IoFailed;
 use std::fs::{self, File};
 use std::io::{self, ErrorKind, Read, Seek, SeekFrom};
@@ -15,14 +17,22 @@ const LOOKS: u32 = 50;
 /// The milliseconds between two such looks.
 const BETWEEN_LOOKS: u64 = 100;
 
-/// A file that another program writes until a file stands at a path. It reports no bytes, since no
-/// clause of std says what a file holds.
+/// What says that all of a file is written.
+#[derive(Drop)]
+enum Ending<'a> {
+    /// A file at this path.
+    Path(String),
+    /// The end of standard input, which goes into this spool.
+    Input(&'a SpoolCell),
+}
+
+/// A file that another program writes until a file stands at a path, or that standard input is
+/// appended to until its end. It reports no bytes, since no clause of std says what a file holds.
 #[derive(Drop)]
 pub struct FollowedFile<'a> {
     rt: &'a HostRuntime,
     file: File,
-    /// The path of the file that says that all is written.
-    until: String,
+    ending: Ending<'a>,
     has_ended: bool,
     failures: u64,
 }
@@ -44,10 +54,48 @@ impl<'a> FollowedFile<'a> {
         Ok(FollowedFile {
             rt,
             file,
-            until,
+            ending: Ending::Path(until),
             has_ended: false,
             failures: 0,
         })
+    }
+
+    /// The file at a path, after its first `skip` bytes, to which standard input is appended from now
+    /// on. It is made if it isn't there.
+    pub(crate) fn spool(
+        rt: &'a HostRuntime,
+        path: &str,
+        skip: u64,
+        spool: &'a SpoolCell,
+    ) -> io::Result<FollowedFile<'a>>
+        ensures { IfOk result (λ file. (file.has_ended ≡ false) × (file.failures ≡ 0)) }
+    {
+        spool.begin(rt, path)?;
+        let mut file = File::open(rt, path)?;
+        file.seek(SeekFrom::Start(skip))?;
+        Ok(FollowedFile {
+            rt,
+            file,
+            ending: Ending::Input(spool),
+            has_ended: false,
+            failures: 0,
+        })
+    }
+
+    /// Whether all is written, as far as that is known now.
+    fn looks_ended(&self) -> io::Result<bool> {
+        match &self.ending {
+            Ending::Path(until) => fs::exists(self.rt, until.as_str()),
+            Ending::Input(spool) => Ok(spool.draw() == Some(SpoolState::Ended)),
+        }
+    }
+
+    /// Whether what is still to come can't be had any more.
+    fn is_broken(&self) -> bool {
+        match &self.ending {
+            Ending::Path(_until) => false,
+            Ending::Input(spool) => spool.draw() == Some(SpoolState::Failed),
+        }
     }
 }
 
@@ -75,7 +123,7 @@ impl Followed for FollowedFile<'_> {
     ghost failures = { λ f. f.failures };
 
     fn has_ended(&mut self) -> io::Result<bool> {
-        match fs::exists(self.rt, self.until.as_str()) {
+        match self.looks_ended() {
             Ok(stands) => {
                 self.has_ended = self.has_ended || stands;
                 Ok(self.has_ended)
@@ -89,8 +137,8 @@ impl Followed for FollowedFile<'_> {
 
     fn read_more(&mut self, buf: &mut [u8]) -> Result<usize, IoFailed> {
         match self.file.read(buf) {
-            Ok(count) => Ok(count),
-            Err(_) => {
+            Ok(count) if count > 0 || buf.is_empty() || !self.is_broken() => Ok(count),
+            _ => {
                 self.failures = self.failures.saturating_add(1);
                 Err(IoFailed)
             }

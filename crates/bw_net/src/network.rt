@@ -7,6 +7,7 @@ use crate::folder::check_folder;
 use crate::journals::refuse_journals;
 use crate::lock::FolderLock;
 use crate::reactor::TcpReactor;
+use crate::spool::SpoolCell;
 use crate::tcp::{TcpDial, TcpPeers};
 use bw_disk::SystemDisk;
 use bw_folder::FolderStore;
@@ -22,23 +23,27 @@ use std::time::Duration;
 #[derive(Drop)]
 pub struct TcpNetwork<'a> {
     pub(crate) rt: &'a HostRuntime,
+    /// Is filled while a link's calls wait, if there is one.
+    spool: &'a SpoolCell,
     pub(crate) failures: u64,
     /// The lock of the folder over which a server with journals was started.
     pub(crate) lock: Option<FolderLock>,
 }
 
 impl<'a> TcpNetwork<'a> {
-    /// The network of this runtime, which has not failed yet.
+    /// The network of this runtime, which has not failed yet. This spool is filled while the calls of
+    /// a link to a server wait.
     ///
     /// # Not specified
     /// - That its runtime is the one that was given.
     /// - That a folder is tried before its store is given, that it listens and calls at the
     ///   address, and when an error is returned.
-    pub fn new(rt: &'a HostRuntime) -> TcpNetwork<'a>
+    pub fn new(rt: &'a HostRuntime, spool: &'a SpoolCell) -> TcpNetwork<'a>
         ensures { result.failures ≡ 0 }
     {
         TcpNetwork {
             rt,
+            spool,
             failures: 0,
             lock: None,
         }
@@ -95,7 +100,7 @@ impl<'a> Network for TcpNetwork<'a> {
 
     type Peers = TcpPeers<'a, HostRuntime, TcpListener>;
 
-    type Dial = TcpDial<'a, HostRuntime>;
+    type Dial = TcpDial<'a>;
 
     ghost failures = { λ n. n.failures };
 
@@ -140,8 +145,8 @@ impl<'a> Network for TcpNetwork<'a> {
         peers
     }
 
-    fn dial(&self, address: SocketAddr, timeout: Option<u32>) -> TcpDial<'a, HostRuntime> {
-        TcpDial::new(self.rt, address, span(timeout), None)
+    fn dial(&self, address: SocketAddr, timeout: Option<u32>) -> TcpDial<'a> {
+        TcpDial::new(self.rt, self.spool, address, span(timeout), None)
     }
 }
 
@@ -151,8 +156,8 @@ impl<'a> PacedNetwork for TcpNetwork<'a> {
         address: SocketAddr,
         timeout: Option<u32>,
         rate: Option<u32>,
-    ) -> TcpDial<'a, HostRuntime> {
-        TcpDial::new(self.rt, address, span(timeout), rate)
+    ) -> TcpDial<'a> {
+        TcpDial::new(self.rt, self.spool, address, span(timeout), rate)
     }
 }
 

@@ -1,6 +1,7 @@
 //! Pauses, by the clock of the system.
 ghost use Rattle.std.specs.Prelude.{◌≡◌, ⊤};
 
+use crate::spool::SpoolCell;
 use bw_ports::Pause;
 use std::thread;
 use std::time::{Clock, Duration};
@@ -28,5 +29,34 @@ impl<R: Clock + Drop> Pause for ClockPause<R> {
 
     fn pause(&mut self, milliseconds: u32) {
         thread::sleep(&self.rt, Duration::from_millis(u64::from(milliseconds)));
+    }
+}
+
+/// Waits by the clock of a runtime, and fills the spool meanwhile, if there is one.
+#[derive(Drop)]
+pub struct SpoolPause<'a> {
+    rt: &'a HostRuntime,
+    spool: &'a SpoolCell,
+}
+
+impl<'a> SpoolPause<'a> {
+    /// Waits by this runtime's clock, and fills this spool.
+    ///
+    /// # Not specified
+    /// That so much time passes: no clause of std says it.
+    pub fn new(rt: &'a HostRuntime, spool: &'a SpoolCell) -> SpoolPause<'a> {
+        SpoolPause { rt, spool }
+    }
+}
+
+impl Pause for SpoolPause<'_> {
+    ghost waits = { λ _ _ _. ⊤ };
+
+    fn pause(&mut self, milliseconds: u32) {
+        let span = Duration::from_millis(u64::from(milliseconds));
+        if self.spool.is_open() && self.spool.wait(self.rt, span, false).is_ok() {
+            return;
+        }
+        thread::sleep(self.rt, span);
     }
 }

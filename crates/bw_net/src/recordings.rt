@@ -3,6 +3,7 @@ ghost use Rattle.std.specs.Prelude.{◌≡◌, None};
 
 use crate::followed::FollowedFile;
 use crate::host::open_source;
+use crate::spool::SpoolCell;
 use crate::states::HostStates;
 use crate::stopwatch::ClockStopwatch;
 use bw_ports::{FileStamp, RecordingFiles, Stamped};
@@ -10,7 +11,7 @@ use bw_resume::StateKeeping;
 use bw_stream::SeekSource;
 use std::alloc::AllocError;
 use std::fs::{self, File};
-use std::io::{self, ErrorKind};
+use std::io;
 use std::time::UNIX_EPOCH;
 
 /// The files of recordings on this machine. It reports neither their bytes nor their stamps, since
@@ -18,18 +19,25 @@ use std::time::UNIX_EPOCH;
 #[derive(Drop)]
 pub struct HostRecordings<'a> {
     pub(crate) rt: &'a HostRuntime,
+    /// Takes standard input where that is followed.
+    spool: &'a SpoolCell,
     pub(crate) failures: u64,
 }
 
 impl<'a> HostRecordings<'a> {
-    /// The files of this runtime's system, which has not failed yet.
+    /// The files of this runtime's system, which has not failed yet. Standard input goes into this
+    /// spool, where it is followed.
     ///
     /// # Not specified
     /// What the files hold, and when they were changed: no clause of std says it.
-    pub fn new(rt: &'a HostRuntime) -> HostRecordings<'a>
+    pub fn new(rt: &'a HostRuntime, spool: &'a SpoolCell) -> HostRecordings<'a>
         ensures { result.failures ≡ 0 }
     {
-        HostRecordings { rt, failures: 0 }
+        HostRecordings {
+            rt,
+            spool,
+            failures: 0,
+        }
     }
 }
 
@@ -62,7 +70,7 @@ impl<'a> RecordingFiles for HostRecordings<'a> {
     ) -> io::Result<FollowedFile<'a>> {
         let followed = match until {
             Some(until) => FollowedFile::open(self.rt, path, skip, until),
-            None => Err(io::Error::from(ErrorKind::Unsupported)),
+            None => FollowedFile::spool(self.rt, path, skip, self.spool),
         };
         if followed.is_err() {
             self.failures = self.failures.saturating_add(1);

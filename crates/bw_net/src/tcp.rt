@@ -2,7 +2,9 @@
 ghost use Rattle.std.specs.Prelude.{◌≡◌, IfOk, None};
 
 use crate::folder::has_folder;
-use crate::pause::ClockPause;
+use crate::link_stream::{LinkStream, connect};
+use crate::pause::SpoolPause;
+use crate::spool::SpoolCell;
 use crate::stopwatch::ClockStopwatch;
 use bw_pace::PacedSink;
 use bw_ports::{AcceptFault, Dial, DialFault, Duplex, Peer, Peers};
@@ -10,14 +12,16 @@ use bw_stream::StdIo;
 use std::fs::Files;
 use std::io;
 use std::io::{Read, Write};
-use std::net::{Net, OpenListener, OpenStream, SocketAddr, TcpListener, TcpStream};
-use std::time::{Clock, Duration};
+use std::net::{Net, OpenListener, OpenStream, SocketAddr, TcpListener};
+use std::time::Duration;
 
 /// Opens links to a server. It says nothing of what they give, since no clause of std says what
 /// comes over a socket.
 #[derive(Drop)]
-pub struct TcpDial<'a, R> {
-    rt: &'a R,
+pub struct TcpDial<'a> {
+    rt: &'a HostRuntime,
+    /// Is filled while a call waits, if there is one.
+    spool: &'a SpoolCell,
     address: SocketAddr,
     /// How long a call may wait, if there is a limit.
     timeout: Option<Duration>,
@@ -26,7 +30,7 @@ pub struct TcpDial<'a, R> {
     failures: u64,
 }
 
-impl<'a, R> TcpDial<'a, R> {
+impl<'a> TcpDial<'a> {
     /// Opens links to this address, over each of which so many bytes a second go at most, if a rate
     /// is given; it has not failed yet.
     ///
@@ -34,11 +38,12 @@ impl<'a, R> TcpDial<'a, R> {
     /// - That its runtime is the one that was given.
     /// - That its links go to the address, and what they give.
     pub fn new(
-        rt: &'a R,
+        rt: &'a HostRuntime,
+        spool: &'a SpoolCell,
         address: SocketAddr,
         timeout: Option<Duration>,
         rate: Option<u32>,
-    ) -> TcpDial<'a, R>
+    ) -> TcpDial<'a>
         ensures failures { result.failures ≡ 0 }
         ensures address { result.address ≡ address }
         ensures timeout { result.timeout ≡ timeout }
@@ -46,6 +51,7 @@ impl<'a, R> TcpDial<'a, R> {
     {
         TcpDial {
             rt,
+            spool,
             address,
             timeout,
             rate,
@@ -55,12 +61,16 @@ impl<'a, R> TcpDial<'a, R> {
 }
 
 /// Writes to a server, no faster than it is asked for.
-type PacedStream<'a, R, S> = PacedSink<StdIo<S>, ClockPause<&'a R>, ClockStopwatch<&'a R>>;
+type PacedStream<'a> = PacedSink<
+    StdIo<LinkStream<'a>>,
+    SpoolPause<'a>,
+    ClockStopwatch<&'a HostRuntime>,
+>;
 
-impl<'a, R: Net + Clock> Dial for TcpDial<'a, R> {
-    type Reader = StdIo<R::Stream>;
+impl<'a> Dial for TcpDial<'a> {
+    type Reader = StdIo<LinkStream<'a>>;
 
-    type Writer = PacedStream<'a, R, R::Stream>;
+    type Writer = PacedStream<'a>;
 
     ghost links = { λ d. None };
 
@@ -69,15 +79,13 @@ impl<'a, R: Net + Clock> Dial for TcpDial<'a, R> {
     ghost dials = { λ d result d'. (d'.address ≡ d.address) × (d'.timeout ≡ d.timeout)
         × (d'.rate ≡ d.rate) };
 
-    fn dial(
-        &mut self,
-    ) -> Result<Duplex<StdIo<R::Stream>, PacedStream<'a, R, R::Stream>>, DialFault> {
-        match connect(self.rt, self.address, self.timeout) {
-            Ok(link) => {
-                let Duplex { reader, writer } = link;
-                let pause = ClockPause::new(self.rt);
+    fn dial(&mut self) -> Result<Duplex<StdIo<LinkStream<'a>>, PacedStream<'a>>, DialFault> {
+        match connect(self.rt, self.spool, self.address, self.timeout) {
+            Ok((reader, writer)) => {
+                let reader = StdIo::new(reader);
+                let pause = SpoolPause::new(self.rt, self.spool);
                 let stopwatch = ClockStopwatch::new(self.rt);
-                let writer = PacedSink::new(writer, self.rate, pause, stopwatch);
+                let writer = PacedSink::new(StdIo::new(writer), self.rate, pause, stopwatch);
                 Ok(Duplex { reader, writer })
             }
             Err(_) => {
@@ -86,18 +94,6 @@ impl<'a, R: Net + Clock> Dial for TcpDial<'a, R> {
             }
         }
     }
-}
-
-fn connect<R: Net>(
-    rt: &R,
-    address: SocketAddr,
-    timeout: Option<Duration>,
-) -> io::Result<Duplex<StdIo<R::Stream>, StdIo<R::Stream>>> {
-    let stream = match timeout {
-        Some(most) => TcpStream::connect_timeout(rt, &address, most)?,
-        None => TcpStream::connect(rt, address)?,
-    };
-    link_over(stream, timeout)
 }
 
 /// A link over a stream: two handles of one socket. A batch's last bytes are sent at once.

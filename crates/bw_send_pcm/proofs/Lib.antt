@@ -1,2 +1,3 @@
 pub mod PcmFeedSteps
 pub mod OpenedSamples
+mod KnownLengths

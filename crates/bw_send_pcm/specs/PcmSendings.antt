@@ -1,5 +1,5 @@
 -- What the command `send --file --pcm` does.
-use Rattle.std.specs.Prelude.{◌≡◌, ◌⊎◌, ℕ, List, Option, Some, Result, Ok, Err, codes, length, map, string_bytes}
+use Rattle.std.specs.Prelude.{◌≡◌, ◌⊎◌, ◌≤◌, ℕ, Bool, true, false, List, Option, Some, Result, Ok, Err, codes, length, map, string_bytes}
 use Rattle.bw_model.specs.Take.{Request}
 use Rattle.bw_stream.specs.Readers.{Of}
 use Rattle.bw_stream.specs.declared.sink.Sink.{Ghosts as Writer}
@@ -47,6 +47,12 @@ RefusesPcm o p len (Unopened error) = Unit {0}
 RefusesPcm o p len (Refused fault) = PcmFaultOf o p len fault
 RefusesPcm o p len Changed = ⊥
 
+-- so many bytes a file that is followed is known to have: where a path says that it has ended, those
+-- before the samples; where standard input is appended to it, those that it has, these among them
+abbrev pub IsKnownLen : Bool → ℕ → ℕ → Type 0
+IsKnownLen true skip len = len ≡ skip
+IsKnownLen false skip len = skip ≤ len
+
 -- the file isn't opened, which is reported
 pub record ReportsNoSamples (path : List ℕ) (fault : OpenFault) (did : Packing) : Type 0 where
   pub warned : did.warned ≡ Nothing
@@ -63,11 +69,12 @@ module _ {F : Type 0} (feed : FeedGhosts F FeedFault) where
   OpensSamples looks_at file stamp p o (Err fault) =
       Of file (λ b. IsStampOf stamp b → RefusesPcm o p (length b) fault)
 
-  -- The file that will have these bytes, if they are reported, is followed; or why it can't be: for
-  -- a fault of the format, since nothing else is known of it.
-  abbrev pub FollowsFile : Option (List ℕ) → Pcm → Options → Result F OpenFault → Type 0
-  FollowsFile file p o (Ok f) = Of file (λ b. FollowsSamples b o p (feed.left f))
-  FollowsFile file p o (Err fault) = RefusesPcm o p p.skip fault
+  -- The file that will have these bytes, if they are reported, is followed, until a path exists or
+  -- without one; or why it can't be, by what is known of it.
+  abbrev pub FollowsFile : Bool → Option (List ℕ) → Pcm → Options → Result F OpenFault → Type 0
+  FollowsFile by_path file p o (Ok f) = Of file (λ b. FollowsSamples b o p (feed.left f))
+  FollowsFile by_path file p o (Err fault) =
+      (len : ℕ) × IsKnownLen by_path p.skip len × RefusesPcm o p len fault
 
 module _ {F P D R W : Type 0} (feed : FeedGhosts F FeedFault) (pause : PauseGhosts P)
     (dial : DialGhosts D R W) (reader : Reader R) (writer : Writer W) where

@@ -159,7 +159,7 @@ fn each_line_runs_or_reports(rt: HostRuntime) -> Result<(), AllocError> {
     lines_come_to(&rt, rt.alloc(), &[], &LINES)
 }
 
-static TAKES: [Line; 17] = [
+static TAKES: [Line; 20] = [
     (&["--folder", "-d"], Outcome::Lists([false, false])),
     (&["--folder=-d"], Outcome::Lists([false, false])),
     (&["--check", "--folder=-d"], Outcome::Lists([true, false])),
@@ -168,6 +168,7 @@ static TAKES: [Line; 17] = [
         &["--json", "--folder", "-d", "--check"],
         Outcome::Lists([true, true]),
     ),
+    (&["--watch", "--folder", "-d"], Outcome::Watches),
     (&["--folder", "-d", "--give-up=-a"], Outcome::GivesUp),
     (&["--give-up=-a", "--folder=-d"], Outcome::GivesUp),
     (&["--help"], Outcome::Shows),
@@ -176,6 +177,11 @@ static TAKES: [Line; 17] = [
     (&["--folder"], Outcome::Refuses),
     (&["--folder=", "--check"], Outcome::Refuses),
     (&["--folder=-d", "--check", "--check"], Outcome::Refuses),
+    (&["--folder=-d", "--watch", "--json"], Outcome::Refuses),
+    (
+        &["--folder=-d", "--watch", "--give-up=-a"],
+        Outcome::Refuses,
+    ),
     (&["--folder=-d", "--give-up=A"], Outcome::Refuses),
     (&["--folder=-d", "--give-up="], Outcome::Refuses),
     (
@@ -362,7 +368,7 @@ fn a_server_takes_its_options_in_any_order(rt: HostRuntime) -> Result<(), AllocE
     lines_come_to(&rt, rt.alloc(), &SERVE, &SERVERS)
 }
 
-static EVENT_LOOPS: [Line; 12] = [
+static EVENT_LOOPS: [Line; 20] = [
     (
         &["--recorders", "16"],
         Outcome::Serves(
@@ -398,6 +404,29 @@ static EVENT_LOOPS: [Line; 12] = [
     (&["--idle", "60"], Outcome::Refuses),
     (&["--recorders=2", "--timeout", "60"], Outcome::Refuses),
     (&["--recorders=2", "--recorders=2"], Outcome::Refuses),
+    (
+        &["--status=127.0.0.1:4200", "--recorders=2"],
+        Outcome::ShowsStatus(4_200),
+    ),
+    (
+        &["--recorders=2", "--status", "0.0.0.0:80", "--network"],
+        Outcome::ShowsStatus(80),
+    ),
+    (
+        &["--recorders=2", "--status", "0.0.0.0:80"],
+        Outcome::Refuses,
+    ),
+    (
+        &["--recorders=2", "--status", "127.0.0.1:0"],
+        Outcome::Refuses,
+    ),
+    (&["--recorders=2", "--status", "4200"], Outcome::Refuses),
+    (&["--recorders=2", "--status"], Outcome::Refuses),
+    (&["--status=127.0.0.1:4200"], Outcome::Refuses),
+    (
+        &["--status=127.0.0.1:4200", "--timeout=1"],
+        Outcome::Refuses,
+    ),
     (&["--recorders"], Outcome::Refuses),
 ];
 
@@ -502,7 +531,7 @@ static FILE_SENDERS: [Line; 30] = [
     (&["--fruitless", "10"], Outcome::Refuses),
 ];
 
-static PCM_SENDERS: [Line; 20] = [
+static PCM_SENDERS: [Line; 30] = [
     (
         &["--pcm=48000,2,24", "--file=-f"],
         Outcome::SendsPcm(0, None, Some(10)),
@@ -532,6 +561,49 @@ static PCM_SENDERS: [Line; 20] = [
     (
         &["--file=-f", "--rate=1000", "--pcm=48000,2,24"],
         Outcome::SendsAtMost(1_000),
+    ),
+    (
+        &["--pcm=48000,2,24", "--spool=-f"],
+        Outcome::Spools(0, None, None),
+    ),
+    (
+        &[
+            "--spool=-f",
+            "--skip=44",
+            "--fruitless=3",
+            "--block=7",
+            "--pcm=48000,2,24",
+        ],
+        Outcome::Spools(44, Some(7), Some(3)),
+    ),
+    (
+        &["--spool=-f", "--rate=1000", "--pcm=48000,2,24"],
+        Outcome::SendsAtMost(1_000),
+    ),
+    (&["--spool=-f"], Outcome::Refuses),
+    (
+        &["--spool=-f", "--pcm=48000,2,24", "--file=-f"],
+        Outcome::Refuses,
+    ),
+    (
+        &["--spool=-f", "--pcm=48000,2,24", "--state=-s"],
+        Outcome::Refuses,
+    ),
+    (
+        &["--spool=-f", "--pcm=48000,2,24", "--rounds=2"],
+        Outcome::Refuses,
+    ),
+    (
+        &["--spool=-f", "--pcm=48000,2,24", "--follow", "--until=-e"],
+        Outcome::Refuses,
+    ),
+    (
+        &["--spool=-f", "--pcm=48000,2,24", "--follow"],
+        Outcome::Refuses,
+    ),
+    (
+        &["--spool=-f", "--pcm=48000,2,24", "--spool=-f"],
+        Outcome::Refuses,
     ),
     (&["--file=-f", "--pcm", "48000,2"], Outcome::Refuses),
     (&["--file=-f", "--pcm", "48000,2,24,"], Outcome::Refuses),

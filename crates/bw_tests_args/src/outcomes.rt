@@ -28,6 +28,8 @@ pub(crate) enum Outcome {
     Logs(End, u64, Recorders),
     /// Serves there, and keeps these journals.
     Keeps(Journaling),
+    /// Serves there, and shows its status at this port.
+    ShowsStatus(u16),
     /// Serves at another address or in another folder.
     ServesElsewhere,
     /// Sends to the address and under the name that the rows' first words give, in at most this
@@ -48,6 +50,8 @@ pub(crate) enum Outcome {
     SendsPcm(u32, Option<u32>, Option<u32>),
     /// The same, until the path `-e` exists.
     Follows(u32, Option<u32>, Option<u32>),
+    /// The same, with `-f` as the spool of standard input.
+    Spools(u32, Option<u32>, Option<u32>),
     /// Packs the recording `-f`.
     Packs(Said),
     /// Draws the file `-f`.
@@ -56,6 +60,8 @@ pub(crate) enum Outcome {
     Repairs { is_written: bool },
     /// Reports the takes of the folder `-d`: whether their samples are compared, and in JSON.
     Lists([bool; 2]),
+    /// Shows the takes of the folder `-d` again and again.
+    Watches,
     /// Gives up the take `-a` of the folder `-d`.
     GivesUp,
     /// Text on standard output, status 0.
@@ -130,6 +136,7 @@ fn run_outcome(task: &Task, words: &[&str]) -> Outcome {
 fn work_outcome(work: &FolderWork) -> Outcome {
     match work {
         FolderWork::Report { check, json } => Outcome::Lists([*check, *json]),
+        FolderWork::Watch => Outcome::Watches,
         FolderWork::GiveUp(name) if name.as_bytes() == b"-a".as_slice() => Outcome::GivesUp,
         FolderWork::GiveUp(_) => Outcome::Confuses,
     }
@@ -138,6 +145,8 @@ fn work_outcome(work: &FolderWork) -> Outcome {
 fn server_outcome(server: &Serve) -> Outcome {
     if server.listen.port() != 4100 || !server.listen.is_ipv4() || server.folder.as_str() != "-d" {
         Outcome::ServesElsewhere
+    } else if let Some(status) = server.status {
+        Outcome::ShowsStatus(status.port())
     } else if server.journal != Journaling::Without {
         Outcome::Keeps(server.journal)
     } else if server.log {
@@ -187,6 +196,8 @@ fn pcm_sender_outcome(sender: &PcmSender) -> Outcome {
         return Outcome::SendsAtMost(rate);
     }
     match &pcm.until {
+        None if pcm.is_spooled => Outcome::Spools(pcm.skip, pcm.block, sender.fruitless),
+        Some(_) if pcm.is_spooled => Outcome::Confuses,
         Some(until) if until.as_str() == "-e" => {
             Outcome::Follows(pcm.skip, pcm.block, sender.fruitless)
         }

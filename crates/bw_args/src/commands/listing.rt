@@ -1,12 +1,13 @@
 //! The command `takes`.
-ghost use Rattle.std.specs.Prelude.{codes, option_map, Some, IfOk, OnErr};
+ghost use Rattle.std.specs.Prelude.{◌≡◌, false, codes, option_map, Some, IfOk, OnErr};
 ghost use Rattle.clap.specs.Words.{found_of, rows_of};
-ghost use Rattle.bw_args.specs.Commands.{IsCommand, takes_command, takes_where};
+ghost use Rattle.bw_args.specs.Commands.{IsCommand, takes_command, takes_how, takes_where};
 ghost use Rattle.bw_args.specs.Lines.{AsksForPath, IsLineFor, IsWorkGiven};
+ghost use Rattle.bw_args.specs.Lines.{is_watch_mixed};
 
 use super::named;
 use super::network::flag_given;
-use super::options::{check_flag, folder_option, give_up_option, take_json_flag};
+use super::options::{check_flag, folder_option, give_up_option, take_json_flag, watch_flag};
 use super::serving::folder_given;
 use crate::{BadValue, CommandLine, FolderWork, TakesFolder, Task};
 use bw_request::Name;
@@ -16,9 +17,16 @@ use std::alloc::{AllocError, Global};
 pub(crate) fn takes<'a>(alloc: Global) -> Result<Command<'a>, AllocError>
     ensures { IfOk result (IsCommand takes_command) }
 {
+    takes_how(alloc)?.arg(give_up_option(alloc))
+}
+
+/// The command, and how its takes are reported.
+fn takes_how<'a>(alloc: Global) -> Result<Command<'a>, AllocError>
+    ensures { IfOk result (IsCommand takes_how) }
+{
     takes_where(alloc)?
         .arg(take_json_flag(alloc))?
-        .arg(give_up_option(alloc))
+        .arg(watch_flag(alloc))
 }
 
 /// The command with its folder, and how far its takes are looked at.
@@ -44,18 +52,44 @@ pub(crate) fn takes_line(alloc: Global, options: &ArgMatches<'_>) -> Result<Comm
     let Some(path) = folder_given(options) else {
         return Ok(CommandLine::BadValue(BadValue::Folder));
     };
+    let watch = flag_given(options, "watch");
     let check = flag_given(options, "check");
     let json = flag_given(options, "json");
-    let Some(work) = work_of(check, json, options.get_str("give-up")) else {
+    let name = options.get_str("give-up");
+    if is_watch_mixed(watch, check, json, name) {
+        return Ok(CommandLine::BadValue(BadValue::Watch));
+    }
+    let Some(work) = work_of(watch, check, json, name) else {
         return Ok(CommandLine::BadValue(BadValue::GiveUp));
     };
     let folder = String::from_str(alloc, path)?;
     Ok(CommandLine::Run(Task::Takes(TakesFolder { folder, work })))
 }
 
-/// What is done in a folder; none if the name is malformed, or isn't the only option.
-fn work_of(check: bool, json: bool, name: Option<&str>) -> Option<FolderWork>
-    ensures { IsWorkGiven check json (option_map (λ text. text.now) name.entry) result }
+/// Whether takes are to be watched, and something else is asked for beside it.
+fn is_watch_mixed(watch: bool, check: bool, json: bool, name: Option<&str>) -> bool
+    ensures { result ≡ is_watch_mixed watch check json (option_map (λ text. text.now) name.entry) }
+{
+    watch && (check || json || name.is_some())
+}
+
+/// What is done in a folder; none if a name is malformed, or options are given that don't go
+/// together.
+fn work_of(watch: bool, check: bool, json: bool, name: Option<&str>) -> Option<FolderWork>
+    ensures { IsWorkGiven watch check json (option_map (λ text. text.now) name.entry) result }
+{
+    if is_watch_mixed(watch, check, json, name) {
+        return None;
+    }
+    if watch {
+        return Some(FolderWork::Watch);
+    }
+    report_or_give_up(check, json, name)
+}
+
+/// The same where takes aren't watched.
+fn report_or_give_up(check: bool, json: bool, name: Option<&str>) -> Option<FolderWork>
+    ensures { IsWorkGiven false check json (option_map (λ text. text.now) name.entry) result }
 {
     let Some(text) = name else {
         return Some(FolderWork::Report { check, json });

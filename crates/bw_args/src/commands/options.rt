@@ -8,7 +8,7 @@ ghost use Rattle.bw_args.specs.Commands.{rounds_option, set_option, strict_flag,
 ghost use Rattle.bw_args.specs.Commands.{timeout_option, until_stopped_flag, block_option, follow_flag};
 ghost use Rattle.bw_args.specs.Commands.{pcm_option, skip_option, until_option, files_argument, json_flag};
 ghost use Rattle.bw_args.specs.Commands.{check_flag, digest_flag, give_up_option, human_flag, rate_option};
-ghost use Rattle.bw_args.specs.Commands.{state_option, write_flag};
+ghost use Rattle.bw_args.specs.Commands.{spool_option, state_option, status_option, watch_flag, write_flag};
 
 use clap::{Arg, ArgAction};
 use std::alloc::Global;
@@ -125,6 +125,13 @@ pub(crate) fn check_flag<'a>(alloc: Global) -> Arg<'a>
     flag_option(alloc, "check", help)
 }
 
+pub(crate) fn watch_flag<'a>(alloc: Global) -> Arg<'a>
+    ensures { IsOption watch_flag result }
+{
+    let help = "Shows the takes each second, until it is stopped (Ctrl-C)";
+    flag_option(alloc, "watch", help)
+}
+
 pub(crate) fn give_up_option<'a>(alloc: Global) -> Arg<'a>
     ensures { IsOption give_up_option result }
 {
@@ -235,6 +242,14 @@ pub(crate) fn sync_flag<'a>(alloc: Global) -> Arg<'a>
     flag_option(alloc, "sync", help)
 }
 
+pub(crate) fn status_option<'a>(alloc: Global) -> Arg<'a>
+    ensures { IsOption status_option result }
+{
+    let help =
+        "With --recorders: shows its status over HTTP at 127.0.0.1:PORT, or any address with --network";
+    value_option(alloc, "status", "ADDR", help)
+}
+
 pub(crate) fn connect_option<'a>(alloc: Global) -> Arg<'a>
     ensures { IsOption connect_option result }
 {
@@ -296,7 +311,8 @@ pub(crate) fn fruitless_option<'a>(alloc: Global) -> Arg<'a>
 pub(crate) fn pcm_option<'a>(alloc: Global) -> Arg<'a>
     ensures { IsOption pcm_option result }
 {
-    let help = "With --file: the file has no header; samples of this format, as in 48000,2,24";
+    let help =
+        "With --file or --spool: the file has no header; samples of this format, as in 48000,2,24";
     value_option(alloc, "pcm", "RATE,CHANNELS,BITS", help)
 }
 
@@ -326,6 +342,14 @@ pub(crate) fn until_option<'a>(alloc: Global) -> Arg<'a>
 {
     let help = "With --follow: a path that exists once the recording has ended";
     value_option(alloc, "until", "END", help)
+}
+
+pub(crate) fn spool_option<'a>(alloc: Global) -> Arg<'a>
+    ensures { IsOption spool_option result }
+{
+    let help =
+        "With --pcm, in place of --file: appends standard input to SPOOL, and sends that until the input ends";
+    value_option(alloc, "spool", "SPOOL", help)
 }
 
 pub(crate) fn write_flag<'a>(alloc: Global) -> Arg<'a>

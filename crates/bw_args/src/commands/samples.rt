@@ -6,14 +6,14 @@ ghost use Rattle.bw_args.specs.Lines.{AsksForPath, GivesTries, IsFirstBad, IsLin
 ghost use Rattle.bw_args.specs.Lines.{looked_at_samples};
 ghost use Rattle.bw_args.specs.PcmSources.{GivesSamples, IsFormatGiven, IsFormatText, IsNumberGiven};
 ghost use Rattle.bw_args.specs.PcmSources.{are_samples_mixed, at_comma, fruitless_of, is_unpaired, plain_pcm};
-ghost use Rattle.bw_args.specs.PcmSources.{plain_samples};
-ghost use Rattle.bw_args.specs.Sources.{is_mixed};
+ghost use Rattle.bw_args.specs.PcmSources.{is_live, plain_samples};
+ghost use Rattle.bw_args.specs.Sources.{is_mixed, path_given};
 ghost use Rattle.bw_args.specs.declared.commands.samples.WrittenFormat.{WrittenFormat};
 
 use super::NoNumber;
 use super::network::{count_given, flag_given};
 use super::sending::Tries;
-use super::sources::source_given;
+use super::sources::{path_given, source_given};
 use crate::{BadValue, CommandLine, PcmSender, PcmSource, Task, numbers};
 use bw_request::Name;
 use clap::ArgMatches;
@@ -29,6 +29,7 @@ pub(crate) struct Samples<'a> {
     skip: u32,
     block: Option<u32>,
     until: Option<&'a str>,
+    is_spooled: bool,
 }
 
 /// A format as it is written: whether there is such a one isn't looked at.
@@ -74,6 +75,7 @@ pub(crate) fn samples_given<'o>(
         skip: skip.unwrap_or(0),
         block,
         until: options.get_str("until"),
+        is_spooled: options.get_str("spool").is_some(),
     }))
 }
 
@@ -129,7 +131,7 @@ fn are_mixed(options: &ArgMatches<'_>) -> bool
     ensures { result ≡ are_samples_mixed (first_value (found_of options.now)) }
 {
     if options.get_str("pcm").is_some() {
-        return options.get_str("file").is_none()
+        return path_given(options).is_none()
             || options.get_str("state").is_some()
             || is_unpaired(options);
     }
@@ -137,19 +139,26 @@ fn are_mixed(options: &ArgMatches<'_>) -> bool
         || options.get_str("block").is_some()
         || flag_given(options, "follow")
         || options.get_str("until").is_some()
+        || options.get_str("spool").is_some()
 }
 
-/// Whether one of `--follow` and `--until` is given without the other.
+/// Whether options are given that don't say in one way when the recording has ended: beside `--spool`
+/// another file, `--follow` or `--until`, and without it one of these two without the other.
 fn is_unpaired(options: &ArgMatches<'_>) -> bool
     ensures { result ≡ is_unpaired (first_value (found_of options.now)) }
 {
+    if options.get_str("spool").is_some() {
+        return options.get_str("file").is_some()
+            || flag_given(options, "follow")
+            || options.get_str("until").is_some();
+    }
     if flag_given(options, "follow") {
         return options.get_str("until").is_none();
     }
     options.get_str("until").is_some()
 }
 
-/// What `send` results in for samples in the file at a path.
+/// What `send` results in for samples in the file, or the spool, at a path.
 pub(crate) fn samples_line(
     alloc: Global,
     options: &ArgMatches<'_>,
@@ -162,7 +171,7 @@ pub(crate) fn samples_line(
     requires connects { GivesAddress (is_set (first_value (found_of options.now) (codes "network")))
         (first_value (found_of options.now) (codes "connect")) connect }
     requires named { GivesName (first_value (found_of options.now) (codes "name")) name }
-    requires takes { Some path.now ≡ first_value (found_of options.now) (codes "file") }
+    requires takes { Some path.now ≡ path_given (first_value (found_of options.now)) }
     requires tries { GivesTries (first_value (found_of options.now)) tries }
     requires unmixed { is_mixed (first_value (found_of options.now)) ≡ false }
     requires samples { GivesSamples (first_value (found_of options.now))
@@ -201,15 +210,16 @@ fn pcm_source(alloc: Global, samples: Samples<'_>) -> Result<PcmSource, AllocErr
         skip: samples.skip,
         block: samples.block,
         until,
+        is_spooled: samples.is_spooled,
     })
 }
 
 /// After how many links in a row that settle nothing a sender of these samples gives up.
 fn most_fruitless(samples: Samples<'_>, given: Option<u32>) -> Option<u32>
-    ensures { result ≡ fruitless_of (plain_samples samples.entry).until given }
+    ensures { result ≡ fruitless_of (is_live (plain_samples samples.entry)) given }
 {
-    match samples.until {
-        Some(_until) => given,
-        None => Some(given.unwrap_or(numbers::DEFAULT_FRUITLESS)),
+    if samples.until.is_some() || samples.is_spooled {
+        return given;
     }
+    Some(given.unwrap_or(numbers::DEFAULT_FRUITLESS))
 }

@@ -7,16 +7,16 @@ ghost use Rattle.bw_args.specs.Given.{GivesAddress, GivesName, is_set};
 ghost use Rattle.bw_args.specs.Lines.{AsksForPath, GivesTries, IsFirstBad, IsLineFor};
 ghost use Rattle.bw_args.specs.Lines.{looked_at_trying};
 ghost use Rattle.bw_args.specs.PcmSources.{GivesSamples};
-ghost use Rattle.bw_args.specs.Sources.{is_mixed};
+ghost use Rattle.bw_args.specs.Sources.{is_mixed, path_given};
 
 use super::network::{address_given, count_given, flag_given};
 use super::options::{
     block_option, connect_option, file_option, follow_flag, fruitless_option, link_log_flag,
     name_option, network_flag, patience_option, pcm_option, rate_option, rounds_option, set_option,
-    skip_option, state_option, strict_flag, until_option,
+    skip_option, spool_option, state_option, strict_flag, until_option,
 };
 use super::samples::{samples_given, samples_line};
-use super::sources::{is_mixed, source_given, state_given};
+use super::sources::{is_mixed, path_given, source_given, state_given};
 use super::{name_given, named};
 use crate::{BadValue, CommandLine, FileSender, Send, Task, numbers};
 use bw_request::Name;
@@ -47,7 +47,8 @@ fn send_followed<'a>(alloc: Global) -> Result<Command<'a>, AllocError>
 {
     send_samples(alloc)?
         .arg(follow_flag(alloc))?
-        .arg(until_option(alloc))
+        .arg(until_option(alloc))?
+        .arg(spool_option(alloc))
 }
 
 /// The command with these and the options that describe headerless samples.
@@ -122,7 +123,7 @@ pub(crate) fn send_line(alloc: Global, options: &ArgMatches<'_>) -> Result<Comma
         Ok(samples) => samples,
         Err(value) => return Ok(CommandLine::BadValue(value)),
     };
-    let Some(path) = options.get_str("file") else {
+    let Some(path) = path_given(options) else {
         return Ok(CommandLine::Run(Task::Send(Send {
             connect,
             name,
@@ -148,7 +149,7 @@ fn file_line(
     requires connects { GivesAddress (is_set (first_value (found_of options.now) (codes "network")))
         (first_value (found_of options.now) (codes "connect")) connect }
     requires named { GivesName (first_value (found_of options.now) (codes "name")) name }
-    requires takes { Some path.now ≡ first_value (found_of options.now) (codes "file") }
+    requires takes { Some path.now ≡ path_given (first_value (found_of options.now)) }
     requires tries { GivesTries (first_value (found_of options.now)) tries }
     requires unmixed { is_mixed (first_value (found_of options.now)) ≡ false }
     requires unsampled { GivesSamples (first_value (found_of options.now)) None }

@@ -2,7 +2,7 @@
 ghost use Rattle.std.specs.Prelude.{◌≡◌, codes, map, option_map, string_bytes, IfOk};
 ghost use Rattle.clap.specs.Words.{first_value, found_of, rows_of};
 ghost use Rattle.bw_args.specs.Given.{is_set};
-ghost use Rattle.bw_args.specs.Sources.{is_mixed, settings_on_line};
+ghost use Rattle.bw_args.specs.Sources.{is_mixed, path_given, settings_on_line};
 
 use super::network::flag_given;
 use crate::SourceFile;
@@ -25,6 +25,17 @@ pub(crate) fn source_given(
         settings: settings_given(alloc, options)?,
         strict: flag_given(options, "strict"),
     })
+}
+
+/// The path of what is sent, if the options give one: of the file of a recording, or of the spool of
+/// standard input.
+pub(crate) fn path_given<'a>(options: &ArgMatches<'a>) -> Option<&'a str>
+    ensures { option_map (λ path. path.now) result ≡ path_given (first_value (found_of options.now)) }
+{
+    match options.get_str("file") {
+        Some(path) => Some(path),
+        None => options.get_str("spool"),
+    }
 }
 
 /// The path of the file of a sender's state, if the options give one.
@@ -64,12 +75,12 @@ pub(crate) fn copies_of(alloc: Global, texts: &[&str]) -> Result<Vec<String>, Al
     Ok(copies)
 }
 
-/// Whether options are given that aren't for one sender: those of a recording without its file, or
-/// a number of rounds with it.
+/// Whether options are given that aren't for one sender: those of a recording without a file or a
+/// spool, or a number of rounds with one.
 pub(crate) fn is_mixed(options: &ArgMatches<'_>) -> bool
     ensures { result ≡ is_mixed (first_value (found_of options.now)) }
 {
-    if options.get_str("file").is_some() {
+    if path_given(options).is_some() {
         return options.get_str("rounds").is_some();
     }
     options.get_str("set").is_some()

@@ -1,3 +1,4 @@
+use Rattle.std.proofs.Common.{sym}
 use Rattle.bw_cli.proofs.samples.send_pcm_as.Goals as goal
 
 pub returns-in-Some : goal.returns-in-Some
@@ -13,7 +14,7 @@ returns-in-Some g c =
       file_is = c.pcm_file_of-file.ensures;
       did = s.0;
       ends = s.1;
-      is = rw c.in-Some.is s.2;
+      is = rw (sym c.ending_of.ensures, c.in-Some.is) s.2;
       failures = s.3;
       writes = s.4;
     }
@@ -31,7 +32,7 @@ returns g c =
       file_is = c.pcm_file_of-file.ensures;
       did = s.0;
       ends = s.1;
-      is = rw c.in-None.is s.2;
+      is = rw (sym c.ending_of.ensures, c.in-None.is) s.2;
       failures = s.3;
       writes = s.4;
     }

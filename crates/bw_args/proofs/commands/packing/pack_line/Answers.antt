@@ -1,4 +1,4 @@
-use Rattle.std.proofs.Common.{refl}
+use Rattle.std.proofs.Common.{codes, refl}
 use Rattle.clap.specs.Words.{found_of}
 use Rattle.bw_args.specs.Sources.{in_plain}
 use Rattle.bw_args.specs.Lines.{Packing}
@@ -11,7 +11,7 @@ returns-in_default-clause-ok c = no_packed_line (found_of c.args.options.now) c.
 pub returns-clause-ok : goal.returns-clause-ok
 returns-clause-ok c = (
   refl,
-  source_asked (found_of c.args.options.now) c.in-Some.path.now (in_plain c.in_ok-source.source) c.in-Some.ensures
+  source_asked (found_of c.args.options.now) (λ g. g (codes "file")) c.in-Some.path.now (in_plain c.in_ok-source.source) c.in-Some.ensures
       c.in_ok-source.ensures.0 c.in_ok-source.ensures.1 c.in_ok-source.ensures.2,
 )
 
@@ -21,7 +21,7 @@ returns-in_err-source-clause-err c = on_err c.from_residual.result (
   tt,
   (
     refl,
-    source_asked (found_of c.args.options.now) c.in-Some.path.now
+    source_asked (found_of c.args.options.now) (λ g. g (codes "file")) c.in-Some.path.now
         (found_source (found_of c.args.options.now) c.in-Some.path.now) c.in-Some.ensures refl refl refl,
   ),
 )

@@ -1,7 +1,7 @@
 use Rattle.std.proofs.Common.{◌∙◌, Some, sym, ap, subst}
 use Rattle.clap.specs.Words.{first_value, found_of}
-use Rattle.bw_args.specs.Sources.{in_plain}
-use Rattle.bw_args.specs.PcmSources.{GivesSamples, PlainPcm, fruitless_of}
+use Rattle.bw_args.specs.Sources.{in_plain, path_given}
+use Rattle.bw_args.specs.PcmSources.{GivesSamples, PlainPcm, fruitless_of, is_live}
 use Rattle.bw_args.proofs.Asked.{on_err, pcm_asked, samples_kept, source_asked}
 use Rattle.bw_args.proofs.commands.samples.samples_line.Goals as goal
 
@@ -19,12 +19,12 @@ pub returns-clause-ok : goal.returns-clause-ok
 returns-clause-ok c =
     let same = c.in_ok-pcm.ensures in
     pcm_asked (found_of c.args.options.now) _ c.args.tries.fruitless c.requires.connects c.requires.named
-    (source_asked (found_of c.args.options.now) c.args.path.now (in_plain c.in_ok-source.source)
+    (source_asked (found_of c.args.options.now) path_given c.args.path.now (in_plain c.in_ok-source.source)
     c.requires.takes c.in_ok-source.ensures.0 c.in_ok-source.ensures.1 c.in_ok-source.ensures.2)
     (subst (λ (p : PlainPcm). GivesSamples (first_value (found_of c.args.options.now)) (Some p)) (sym same)
     c.requires.samples)
     (c.args.tries.timeout, c.requires.tries.waits, c.unwrap_or.ensures)
     c.requires.tries.ends
     (c.most_fruitless.ensures
-    ∙ ap (λ (p : PlainPcm). fruitless_of p.until c.args.tries.fruitless) (sym same))
+    ∙ ap (λ (p : PlainPcm). fruitless_of (is_live p) c.args.tries.fruitless) (sym same))
     c.flag_given-log.ensures c.requires.tries.paced c.requires.unmixed

@@ -1,5 +1,5 @@
 use Rattle.clap.specs.Words.{found_of}
-use Rattle.bw_args.specs.Sources.{in_plain}
+use Rattle.bw_args.specs.Sources.{in_plain, path_given}
 use Rattle.bw_args.proofs.Asked.{on_err, source_asked, upload_asked, upload_kept}
 use Rattle.bw_args.proofs.commands.sending.file_line.Goals as goal
 
@@ -15,7 +15,7 @@ returns-in_err-state-clause-err c = on_err c.from_residual-in_err-state.result
 
 pub returns-clause-ok : goal.returns-clause-ok
 returns-clause-ok c = upload_asked (found_of c.args.options.now) _ c.requires.connects c.requires.named
-    (source_asked (found_of c.args.options.now) c.args.path.now (in_plain c.in_ok-source.source)
+    (source_asked (found_of c.args.options.now) path_given c.args.path.now (in_plain c.in_ok-source.source)
     c.requires.takes c.in_ok-source.ensures.0 c.in_ok-source.ensures.1 c.in_ok-source.ensures.2)
     (c.args.tries.timeout, c.requires.tries.waits, c.unwrap_or.ensures)
     (c.args.tries.fruitless, c.requires.tries.ends, c.unwrap_or-2.ensures)

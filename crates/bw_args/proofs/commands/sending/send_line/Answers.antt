@@ -35,16 +35,16 @@ returns-then-is_mixed-clause-ok c = bad_line (found_of c.args.options.now) (code
     (bad (λ good. let apart : true ≡ false = sym c.if-is_mixed.true ∙ c.is_mixed.ensures ∙ good in cc))
     )
 
-pub returns-in_default-get_str-clause-ok : goal.returns-in_default-get_str-clause-ok
-returns-in_default-get_str-clause-ok c = sender_asked (found_of c.args.options.now) _ (record {
+pub returns-in_default-path_given-clause-ok : goal.returns-in_default-path_given-clause-ok
+returns-in_default-path_given-clause-ok c = sender_asked (found_of c.args.options.now) _ (record {
   connects = an_address (found_of c.args.options.now) (codes "connect") _ _
       c.flag_given-network.ensures c.in-Some.ensures;
   named = c.in-Some-name_given.ensures;
   tries = (c.in-Ok.tries.rounds, c.in-Ok.ensures.ok.rounds, c.unwrap_or.ensures);
   waits = c.in-Ok.ensures.ok.waits;
-  lines = sym c.in_default-get_str.ensures;
+  lines = sym c.in_default-path_given.ensures;
   unmixed = sym c.is_mixed.ensures ∙ c.if-is_mixed.false;
-  unsampled = no_samples (first_value (found_of c.args.options.now)) _ (sym c.in_default-get_str.ensures)
+  unsampled = no_samples (first_value (found_of c.args.options.now)) _ (sym c.in_default-path_given.ensures)
       c.in-Ok-samples_given.ensures.ok;
 })
 
