@@ -28,7 +28,7 @@ use Rattle.bw_ports.specs.declared.listener_setup.ListenerSetup.{Ghosts as Liste
 use Rattle.bw_ports.specs.declared.starts.Starts.{Ghosts as StartGhosts}
 use Rattle.bw_session.specs.declared.server.Server.{Server}
 use Rattle.bw_cli.specs.Inspected.{InspectsFiles, IsInspectedAt}
-use Rattle.bw_cli.specs.Listed.{WorksOnTakes, folder_side}
+use Rattle.bw_cli.specs.Listed.{WorksOnTakes, folder_side, folder_world}
 use Rattle.bw_cli.specs.Drawn.{DrawsFile}
 use Rattle.bw_cli.specs.Packed.{Packs}
 use Rattle.bw_cli.specs.Repaired.{RepairsFile}
@@ -163,10 +163,10 @@ module _ {S T F H G M SB SL Ed LK DK DF N X Y Z P R W L K D A B U J Q I O E V C 
       × IsHostWell failed x' × (x'.network ≡ x.network) × (x'.input ≡ x.input)
       × (x'.pause ≡ x.pause) × (x'.disk ≡ x.disk)
   IsDoneFor file_at failed (Run (Takes listing)) exit x x' =
-      WorksOnTakes (folder_side host.disk host.locks host.out host.reported) listing exit
-      x.disk x'.disk x.files x'.files x.out x'.out x.faults x'.faults
-      × IsHostWell failed x' × (x'.network ≡ x.network)
-      × (x'.input ≡ x.input) × (x'.pause ≡ x.pause)
+      WorksOnTakes (folder_side host.disk host.locks upload_side.pause host.out host.reported)
+      x.screens listing exit (folder_world x.disk x.files x.pause x.out x.faults)
+      (folder_world x'.disk x'.files x'.pause x'.out x'.faults)
+      × IsHostWell failed x' × (x'.network ≡ x.network) × (x'.input ≡ x.input)
   IsDoneFor file_at failed line exit x x' =
       DoesAlone (IsLineDone file_at (host.input.left x.input) line) exit failed x x'
 

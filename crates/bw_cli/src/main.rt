@@ -15,8 +15,10 @@ use bw_net::{Host, HostRecordings, SpoolCell, SpoolPause, TcpNetwork, Terminal};
 use bw_one_name::FilteredNetwork;
 use bw_send_file::LinkLog;
 use bw_stream::StdIo;
+use bw_takes::ScreenStyle;
 use outside::Outside;
 use program::start;
+use std::io::IsTerminal;
 use std::process::ExitCode;
 
 fn main(rt: HostRuntime) -> ExitCode {
@@ -34,6 +36,16 @@ fn main(rt: HostRuntime) -> ExitCode {
         log: LinkLog {
             out: StdIo::new(rt.stderr()),
         },
+        screens: screen_style(&rt),
     };
     start(rt.alloc(), &mut outside)
+}
+
+/// What standard output shows screens on.
+fn screen_style(rt: &HostRuntime) -> ScreenStyle {
+    if rt.stdout().is_terminal() {
+        ScreenStyle::Terminal
+    } else {
+        ScreenStyle::Lines
+    }
 }

@@ -1,4 +1,5 @@
 //! What the program works over.
+use bw_takes::ScreenStyle;
 
 /// What the program works over, besides memory.
 #[derive(Drop)]
@@ -23,4 +24,6 @@ pub struct Outside<S, F, D, N, P, R, W, E, V, G> {
     pub watch: V,
     /// Whoever follows the links of a sender of recordings, where that is asked for.
     pub log: G,
+    /// What standard output shows screens on.
+    pub screens: ScreenStyle,
 }

@@ -204,6 +204,7 @@ fn run<
         faults,
         watch,
         log,
+        screens,
     } = outside;
     match task {
         Task::Replay { limit, fuse } => match (Limit::new(*limit), fuse) {
@@ -240,7 +241,9 @@ fn run<
         Task::Repair { file, write } => {
             repair_file(alloc, files, file.as_str(), *write, out, faults)
         }
-        Task::Takes(listing) => work_on_takes(alloc, listing, disk, files, out, faults),
+        Task::Takes(listing) => {
+            work_on_takes(alloc, listing, *screens, disk, files, pause, out, faults)
+        }
     }
 }
 

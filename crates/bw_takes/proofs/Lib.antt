@@ -2,3 +2,6 @@ pub mod TakeNameLemmas
 pub mod FindingLemmas
 pub mod ListingLemmas
 pub mod TakeShapes
+pub mod ProgressLemmas
+pub mod RoundLemmas
+pub mod WatchLemmas

@@ -6,3 +6,6 @@ pub mod TakeObjects
 pub mod TakeReports
 pub mod Showings
 pub mod GiveUpShowings
+pub mod FolderProgress
+pub mod Screens
+pub mod Watches

@@ -1,4 +1,5 @@
-//! The takes of a folder: a line for each, by its journal and its file; and one that is given up.
+//! The takes of a folder: a line for each, by its journal and its file; a screen that shows them each
+//! second; and one that is given up.
 #![tactic(auto)]
 
 mod beginning;
@@ -10,6 +11,10 @@ mod listing;
 mod locked;
 mod naming;
 mod printing;
+mod progress;
+mod row;
+mod screen;
+mod watching;
 
 pub use comparing::{Depth, examine_take};
 pub use finding::TakeFinding;
@@ -19,3 +24,6 @@ pub use listing::{LineStyle, TakesReport, report_takes};
 pub use locked::give_up_locked;
 pub use naming::{take_of, takes_in};
 pub use printing::show_takes;
+pub use progress::{ProgressReader, ProgressState, TakeProgress};
+pub use screen::{Row, ScreenStyle};
+pub use watching::{watch_by_reader, watch_takes};
