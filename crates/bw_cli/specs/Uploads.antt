@@ -12,7 +12,7 @@ use Rattle.bw_recorder.specs.declared.job.RecordingFile.{RecordingFile}
 use Rattle.bw_send_file.specs.FileSendings.{IsFileSent}
 use Rattle.bw_send_file.specs.declared.job.Recorder.{Recorder}
 use Rattle.bw_send_state.specs.FilesSentOn.{Continuation, HasContinued, IsFileSentOn}
-use Rattle.bw_send_state.specs.FilesSentOn.{file_of, outside_of, sending_side}
+use Rattle.bw_send_state.specs.FilesSentOn.{known_file_of, outside_of, sending_side}
 use Rattle.bw_send_state.specs.declared.job.Job.{Job}
 use Rattle.bw_cli.specs.Packed.{IsRecordingFile}
 use Rattle.bw_cli.specs.Sides.{SenderSide, StateSide, UploadSide}
@@ -67,7 +67,7 @@ module _ {U J F H G M S L Q N X P R W D A B O E : Type 0} (upload : UploadSide U
     pub did : Continuation
     pub ends : did.exit ≡ exit
     pub is : IsFileSentOn (sending_side upload.feed upload.looks_at upload.pause side.dial side.replies side.requests)
-        job states.log (outside_of (file_of job (files.file_at f) (files.stamp_at f))
+        job states.log (outside_of (known_file_of job (files.file_at f) (files.stamp_at f))
         (states.files.state_at opened) (states.files.state_at left))
         (record { pause = q; dial = first }) (record { pause = q'; dial = last }) did
     pub failures : files.failures f' ≡ failures_if did.sent.is_system_well (files.failures f)
@@ -75,7 +75,7 @@ module _ {U J F H G M S L Q N X P R W D A B O E : Type 0} (upload : UploadSide U
     pub writes : HasContinued out reported did o o' e e'
 
   -- memory was refused before anything was done
-  pub record GivesUp (exit : Exit) (f f' : F) (q q' : Q) (o o' : O) (e e' : E) : Type 0 where
+  pub record GivesUpState (exit : Exit) (f f' : F) (q q' : Q) (o o' : O) (e e' : E) : Type 0 where
     pub did : Packing
     pub ends : did.exit ≡ exit
     pub is : RunsOutOfMemory did
@@ -85,7 +85,7 @@ module _ {U J F H G M S L Q N X P R W D A B O E : Type 0} (upload : UploadSide U
 
   abbrev pub SendsOrGivesUp : List ℕ → FileSender → Exit → F → F → N → Q → Q → O → O → E → E → Type 0
   SendsOrGivesUp path sender exit f f' n q q' o o' e e' =
-      SendsKept path sender exit f f' n q q' o o' e e' ⊎ GivesUp exit f f' q q' o o' e e'
+      SendsKept path sender exit f f' n q q' o o' e e' ⊎ GivesUpState exit f f' q q' o o' e e'
 
   -- with a state or without
   abbrev pub SendsByState : FileSender → Exit → F → F → N → Q → Q → O → O → E → E → Type 0

@@ -11,7 +11,7 @@ use Rattle.bw_upload.specs.Backoff.{is_spent}
 use Rattle.bw_send_file.specs.Sendings.{Ways}
 use Rattle.bw_send_state.specs.declared.asking.NotAsked.{NotAsked}
 use Rattle.bw_send_state.specs.declared.asking.NotAsked.TheVariants.{Fruitless, Memory}
-use Rattle.bw_send_state.specs.Asks.{AnswersAsk, AnswersOver, AsksInVain, AsksServer, DialsToAsk, HasAnswered, IsAnswered, WaitsToAsk}
+use Rattle.bw_send_state.specs.Asks.{AnswersAsk, AnswersAskOver, AsksInVain, AsksServer, DialsToAsk, HasAnswered, IsAskAnswered, WaitsToAsk}
 
 -- more may come after a text of which a prefix was written
 pub begins_more : (old new : Option (List ℕ)) (a b : List ℕ) → Begins old a new → Begins old (a ++ b) new
@@ -50,7 +50,7 @@ begun_by (Err e) old new a whole part = part
 pub answers_over : {D R W : Type 0} (dial : DialGhosts D R W) (reader : Reader R) (writer : Writer W) (name : List ℕ)
     (answer : Option ℕ) (link : Duplex R W) →
     IfSome answer (λ next. AnswersAsk name next (reader.left link.reader)) →
-    AnswersOver dial reader writer name answer (Ok link)
+    AnswersAskOver dial reader writer name answer (Ok link)
 answers_over dial reader writer name None link h = tt
 answers_over dial reader writer name (Some next) link h = h
 
@@ -79,7 +79,7 @@ module _ {P D R W : Type 0} (pause : PauseGhosts P) (dial : DialGhosts D R W) (r
       AsksInVain pause dial reader writer name most n old (record { pause = p; dial = d }) →
       is_spent most n ≡ false → WaitsToAsk pause n p new.pause →
       DialsToAsk dial reader writer name answer d new.dial →
-      IsAnswered pause dial reader writer name most next old new
+      IsAskAnswered pause dial reader writer name most next old new
   answered_last n next answer old new p d some vain allowed waits dials = record {
     n = n;
     between = record { pause = p; dial = d };
@@ -92,7 +92,7 @@ module _ {P D R W : Type 0} (pause : PauseGhosts P) (dial : DialGhosts D R W) (r
   }
 
   answered_over : (next : ℕ) (made : Result (Duplex R W) DialFault) (d d' : D) → dial.dials d made d' →
-      AnswersOver dial reader writer name (Some next) made → HasAnswered dial reader name next
+      AnswersAskOver dial reader writer name (Some next) made → HasAnswered dial reader name next
   answered_over next (Ok link) d d' dials answer = (link, d, d', dials, answer)
   answered_over next (Err fault) d d' dials answer = absurd answer
 

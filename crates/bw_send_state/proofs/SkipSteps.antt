@@ -11,7 +11,7 @@ use Rattle.bw_upload.specs.declared.feed.Given.{Given}
 use Rattle.bw_upload.specs.declared.feed.Given.TheVariants as gives
 use Rattle.bw_ports.specs.declared.recording_files.FileStamp.{FileStamp}
 use Rattle.bw_send_file.specs.declared.fault.FeedFault.{FeedFault}
-use Rattle.bw_send_state.specs.TakeOpenings.{IsNoBlock, StopsAt, StopsOpening}
+use Rattle.bw_send_state.specs.TakeOpenings.{IsNoBlock, StopsSkippingAt, StopsOpening}
 use Rattle.bw_send_state.specs.SkippedRequests.{FailsFirst, GivesFirst, LacksFirst, PassesBy, PassesFirst}
 
 module _ {F X : Type 0} (feed : FeedGhosts F X) where
@@ -134,12 +134,12 @@ module _ {F : Type 0} (feed : FeedGhosts F FeedFault) where
     many = length-append old.given (r ∷ []) ∙ ap (λ (k : ℕ). k + 1) old.many;
   }
 
-  pub stops_opening : (n : ℕ) (f g : F) (fault : FeedFault) → GivesBlockless n f g → StopsAt feed n g fault →
+  pub stops_opening : (n : ℕ) (f g : F) (fault : FeedFault) → GivesBlockless n f g → StopsSkippingAt feed n g fault →
       StopsOpening feed f fault
   stops_opening n f g fault old why = record {
     given = old.given;
     at = g;
     went = old.went;
     blockless = old.blockless;
-    why = subst (λ (k : ℕ). StopsAt feed k g fault) (sym old.many) why;
+    why = subst (λ (k : ℕ). StopsSkippingAt feed k g fault) (sym old.many) why;
   }

@@ -19,8 +19,8 @@ use Rattle.bw_send_file.specs.Sendings.{Ways}
 use Rattle.bw_send_state.proofs.AskSteps.{has_answered}
 use Rattle.bw_send_state.specs.Asks.{HasAnswered}
 use Rattle.bw_send_state.specs.FilesSentOn.{Continuation, EndsKept, HasContinued, HasReported, IsUnsent, Outside, SendingSide, SendsFrom}
-use Rattle.bw_send_state.specs.FilesSentOn.{StartsAt, StopsBeforeSending, file_of}
-use Rattle.bw_send_state.specs.FoundCounts.{IsCountFound, IsFound, ResumesAt}
+use Rattle.bw_send_state.specs.FilesSentOn.{StartsAt, StopsBeforeSending, known_file_of}
+use Rattle.bw_send_state.specs.FoundCounts.{IsCountFound, IsStateFound, ResumesAt}
 use Rattle.bw_send_state.specs.StateReports.{ReportsUnkept}
 use Rattle.bw_send_state.specs.declared.job.Job.{Job}
 use Rattle.bw_send_state.specs.declared.place.Found.{Found}
@@ -47,7 +47,7 @@ kept_done path sent exit print (inl x) done = sym x.0 ∙ done
 kept_done path sent exit print (inr x) done = absurd (unkept_ends path x.0 exit print x.1 done)
 
 -- the count that was found is the one that the state says
-pub count_is : (file : Option (List ℕ)) (header : List ℕ) (found : Found) → IsFound file header found →
+pub count_is : (file : Option (List ℕ)) (header : List ℕ) (found : Found) → IsStateFound file header found →
     IsCountFound file header found.count
 count_is file header found says = λ bytes is. (says bytes is).1.count
 
@@ -96,8 +96,8 @@ module _ {F P D R W : Type 0} (side : SendingSide F P D R W) (job : Job) where
   -- the files are as they were when the state was read
   pub sends_same : (o : Options) (file file' : List ℕ → Option (List ℕ)) (stamp stamp' : List ℕ → Option FileStamp)
       (count : ℕ) (old new : Ways P D) (did : Packing) → file' ≡ file → stamp' ≡ stamp →
-      SendsFrom side job o (file_of job file' stamp') count old new did →
-      SendsFrom side job o (file_of job file stamp) count old new did
+      SendsFrom side job o (known_file_of job file' stamp') count old new did →
+      SendsFrom side job o (known_file_of job file stamp) count old new did
   sends_same o file file' stamp stamp' count old new did files stamps sends =
-      subst (λ (f : List ℕ → Option (List ℕ)). SendsFrom side job o (file_of job f stamp) count old new did) files
-      (subst (λ (t : List ℕ → Option FileStamp). SendsFrom side job o (file_of job file' t) count old new did) stamps sends)
+      subst (λ (f : List ℕ → Option (List ℕ)). SendsFrom side job o (known_file_of job f stamp) count old new did) files
+      (subst (λ (t : List ℕ → Option FileStamp). SendsFrom side job o (known_file_of job file' t) count old new did) stamps sends)

@@ -55,17 +55,17 @@ module _ {D R W : Type 0} (dial : DialGhosts D R W) (reader : Reader R) (writer 
   AsksOver (Err fault) = Unit {0}
 
   -- .. and it is answered
-  abbrev pub AnswersOver : Option ℕ → Result (Duplex R W) DialFault → Type 0
-  AnswersOver None made = Unit {0}
-  AnswersOver (Some next) (Ok link) = AnswersAsk name next (reader.left link.reader)
-  AnswersOver (Some next) (Err fault) = ⊥
+  abbrev pub AnswersAskOver : Option ℕ → Result (Duplex R W) DialFault → Type 0
+  AnswersAskOver None made = Unit {0}
+  AnswersAskOver (Some next) (Ok link) = AnswersAsk name next (reader.left link.reader)
+  AnswersAskOver (Some next) (Err fault) = ⊥
 
   -- a link was asked for, and brought this answer, or none
   pub record DialsToAsk (answer : Option ℕ) (d d' : D) : Type 0 where
     pub made : Result (Duplex R W) DialFault
     pub dials : dial.dials d made d'
     pub asks : AsksOver made
-    pub answers : AnswersOver answer made
+    pub answers : AnswersAskOver answer made
 
 -- before each link but the first it is waited as before one of an upload
 abbrev pub WaitsToAsk : {P : Type 0} → PauseGhosts P → ℕ → P → P → Type 0
@@ -75,7 +75,7 @@ WaitsToAsk pause (suc n) p p' = pause.waits p (backoff (suc n)) p'
 module _ {P D R W : Type 0} (pause : PauseGhosts P) (dial : DialGhosts D R W) (reader : Reader R)
     (writer : Writer W) (name : List ℕ) (most : Option ℕ) where
   -- after so many links it is asked over one more
-  pub record AsksOnce (n : ℕ) (answer : Option ℕ) (old new : Ways P D) : Type 0 where
+  pub record AsksOverOneLink (n : ℕ) (answer : Option ℕ) (old new : Ways P D) : Type 0 where
     pub allowed : is_spent most n ≡ false
     pub waits : WaitsToAsk pause n old.pause new.pause
     pub dials : DialsToAsk dial reader writer name answer old.dial new.dial
@@ -84,14 +84,14 @@ module _ {P D R W : Type 0} (pause : PauseGhosts P) (dial : DialGhosts D R W) (r
   abbrev pub AsksInVain : ℕ → Ways P D → Ways P D → Type 0
   AsksInVain zero old new = new ≡ old
   AsksInVain (suc n) old new =
-      (between : Ways P D) × AsksInVain n old between × AsksOnce n None between new
+      (between : Ways P D) × AsksInVain n old between × AsksOverOneLink n None between new
 
   -- the last link brought this answer
-  pub record IsAnswered (next : ℕ) (old new : Ways P D) : Type 0 where
+  pub record IsAskAnswered (next : ℕ) (old new : Ways P D) : Type 0 where
     pub n : ℕ
     pub between : Ways P D
     pub vain : AsksInVain n old between
-    pub last : AsksOnce n (Some next) between new
+    pub last : AsksOverOneLink n (Some next) between new
 
   -- as many links as allowed brought none
   pub record IsUnanswered (old new : Ways P D) : Type 0 where
@@ -100,7 +100,7 @@ module _ {P D R W : Type 0} (pause : PauseGhosts P) (dial : DialGhosts D R W) (r
     pub spent : (is_spent most n ≡ true) ⊎ (2 ^ 64 - 1 ≤ n)
 
   -- memory was refused before the next link was asked for
-  pub record LacksMemory (old new : Ways P D) : Type 0 where
+  pub record LacksAskMemory (old new : Ways P D) : Type 0 where
     pub n : ℕ
     pub between : Ways P D
     pub vain : AsksInVain n old between
@@ -108,6 +108,6 @@ module _ {P D R W : Type 0} (pause : PauseGhosts P) (dial : DialGhosts D R W) (r
     pub undialled : new.dial ≡ between.dial
 
   abbrev pub AsksServer : Result ℕ NotAsked → Ways P D → Ways P D → Type 0
-  AsksServer (Ok next) old new = IsAnswered next old new
+  AsksServer (Ok next) old new = IsAskAnswered next old new
   AsksServer (Err Fruitless) old new = IsUnanswered old new
-  AsksServer (Err Memory) old new = LacksMemory old new
+  AsksServer (Err Memory) old new = LacksAskMemory old new

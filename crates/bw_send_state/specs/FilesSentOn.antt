@@ -26,7 +26,7 @@ use Rattle.bw_send_file.specs.Sendings.{Ways}
 use Rattle.bw_send_file.specs.declared.fault.FeedFault.{FeedFault}
 use Rattle.bw_send_file.specs.declared.fault.FeedFault.TheVariants.{Changed}
 use Rattle.bw_send_state.specs.Asks.{AsksServer}
-use Rattle.bw_send_state.specs.FoundCounts.{BeginsLog, IsFound, goes_on, may_begin_state, most_bytes}
+use Rattle.bw_send_state.specs.FoundCounts.{BeginsLog, IsStateFound, goes_on, may_begin_state, most_bytes}
 use Rattle.bw_send_state.specs.SentOn.{IsHeaderFor, StoresRecording, stored_sender}
 use Rattle.bw_send_state.specs.SkippedRequests.{FailsFirst, LacksFirst, PassesFirst}
 use Rattle.bw_send_state.specs.StateReports.{ReportsAnswer, ReportsOther, ReportsUnkept}
@@ -41,8 +41,8 @@ pub record KnownFile : Type 0 where
   pub bytes : Option (List ℕ)
   pub stamp : Option FileStamp
 
-abbrev pub file_of : Job → (List ℕ → Option (List ℕ)) → (List ℕ → Option FileStamp) → KnownFile
-file_of job file_at stamp_at =
+abbrev pub known_file_of : Job → (List ℕ → Option (List ℕ)) → (List ℕ → Option FileStamp) → KnownFile
+known_file_of job file_at stamp_at =
     record { bytes = file_at job.file.path.now; stamp = stamp_at job.file.path.now }
 
 -- .. and the bytes of the states' files before the command, and after it
@@ -102,7 +102,7 @@ pub record StaysUnbegun (outside : Outside) (did : Continuation) : Type 0 where
   pub began : did.began ≡ Nothing
 
 -- .. and no link was asked for
-pub record IsUntouched {X : Type 0} (outside : Outside) (old new : X) (did : Continuation) : Type 0 where
+pub record IsStateUntouched {X : Type 0} (outside : Outside) (old new : X) (did : Continuation) : Type 0 where
   pub unsent : IsUnsent did
   pub unbegun : StaysUnbegun outside did
   pub unasked : new ≡ old
@@ -135,7 +135,7 @@ pub record KnowsState (job : Job) (o : Options) (outside : Outside) (header : Li
     : Type 0 where
   pub of_take : Of outside.file.bytes (λ b.
       IsHeaderFor job.recorder.name.now job.place.address.now outside.file.stamp o b header)
-  pub says : IsFound (outside.states job.place.path.now) header found
+  pub says : IsStateFound (outside.states job.place.path.now) header found
 
 module _ {F : Type 0} (feed : FeedGhosts F FeedFault) (looks_at : Option FileStamp → F → Type 0) (job : Job) where
   -- the opened file gives the recording's requests, and this says what it loses
@@ -162,16 +162,16 @@ module _ {F : Type 0} (feed : FeedGhosts F FeedFault) (looks_at : Option FileSta
 module _ {P D R W : Type 0} (pause : PauseGhosts P) (dial : DialGhosts D R W) (replies : Reader R)
     (requests : Writer W) (job : Job) where
   -- the server was asked which number it expects next, with this result
-  abbrev pub AsksNext : Result ℕ NotAsked → Ways P D → Ways P D → Type 0
-  AsksNext = AsksServer pause dial replies requests job.recorder.name.now job.recorder.fruitless
+  abbrev pub AsksForNext : Result ℕ NotAsked → Ways P D → Ways P D → Type 0
+  AsksForNext = AsksServer pause dial replies requests job.recorder.name.now job.recorder.fruitless
 
   -- the server was asked, and gave no answer
   pub record GetsNoAnswer (found : Found) (old new : Ways P D) (did : Packing) : Type 0 where
     pub some : 0 < found.count
     pub well : did.is_system_well ≡ true
-    pub why : (AsksNext (Err asks.Fruitless) old new
+    pub why : (AsksForNext (Err asks.Fruitless) old new
         × EndsWithLine fruitless_line exits.Device did.exit did.faults)
-        ⊎ (AsksNext (Err asks.Memory) old new × EndsWithLine memory_line exits.Memory did.exit did.faults)
+        ⊎ (AsksForNext (Err asks.Memory) old new × EndsWithLine memory_line exits.Memory did.exit did.faults)
 
   -- nothing is passed over
   pub record StartsAnew (found : Found) (count : ℕ) (old new : Ways P D) (print : Print) : Type 0 where
@@ -185,7 +185,7 @@ module _ {P D R W : Type 0} (pause : PauseGhosts P) (dial : DialGhosts D R W) (r
     where
       pub some : 0 < found.count
       pub next : ℕ
-      pub answers : AsksNext (Ok next) old new
+      pub answers : AsksForNext (Ok next) old new
       pub count_is : count ≡ (if nat_lt next found.count then 0 else found.count)
       pub reports : ReportsAnswer (nat_lt next found.count) job.place.path.now found.count print
 
@@ -247,7 +247,7 @@ module _ {F P D R W : Type 0} (side : SendingSide F P D R W) (job : Job) where
   -- doesn't answer, or the state can't be written
   abbrev pub StopsBeforeSending : Options → Outside → Ways P D → Ways P D → Continuation → Type 0
   StopsBeforeSending o outside old new did =
-      (IsUntouched outside old new did
+      (IsStateUntouched outside old new did
       × (GivesNoHeader side.feed side.looks_at job o outside.file did.sent ⊎ LacksState job outside did))
       ⊎ StopsAfterState o outside old new did
 
@@ -314,6 +314,6 @@ module _ {F P D R W : Type 0} (side : SendingSide F P D R W) (job : Job) where
 
   -- the command did this
   abbrev pub IsFileSentOn : {L : Type 0} → LogGhosts L → Outside → Ways P D → Ways P D → Continuation → Type 0
-  IsFileSentOn logs outside old new did = (IsUntouched outside old new did × RefusesJob did.sent)
+  IsFileSentOn logs outside old new did = (IsStateUntouched outside old new did × RefusesJob did.sent)
       ⊎ ((o : Options) × IsAskedFor job o
       × (StopsBeforeSending o outside old new did ⊎ SendsOn logs o outside old new did))

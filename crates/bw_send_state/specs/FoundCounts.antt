@@ -42,8 +42,8 @@ pub record SaysOfTake (header bytes : List ℕ) (found : Found) : Type 0 where
   pub other : found.is_other ≡ (is_none (settled_in header bytes) && nat_lt 0 (length bytes))
 
 -- the file at the state's path may be a state, and says this for this header
-abbrev pub IsFound : Option (List ℕ) → List ℕ → Found → Type 0
-IsFound file header found = Of file (λ bytes.
+abbrev pub IsStateFound : Option (List ℕ) → List ℕ → Found → Type 0
+IsStateFound file header found = Of file (λ bytes.
     (may_begin_state (take most_bytes bytes) ≡ true) × SaysOfTake header (take most_bytes bytes) found)
 
 -- A sender that found this count begins at that one: at 0 if none was found; else the server was

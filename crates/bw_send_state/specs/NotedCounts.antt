@@ -32,8 +32,8 @@ module _ {L T : Type 0} (log : LogGhosts L) where
         log.failures new.log ≡ failures_if (is_none new.fault) (log.failures old.log)
     pub stops : is_none old.fault ≡ false → (new.log ≡ old.log) × (new.fault ≡ old.fault)
 
-  -- a keeper was told how far the sender is
-  pub record Notes (s : Sender) (old new : StateKeeper L T) : Type 0 where
+  -- a keeper hears how far the sender is
+  pub record HearsProgress (s : Sender) (old new : StateKeeper L T) : Type 0 where
     pub count : NotesCount s (log.written old.log) (log.written new.log)
     pub fault : KeepsFault old new
 

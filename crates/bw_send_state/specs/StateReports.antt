@@ -21,8 +21,8 @@ ReportsUnkept path kind exit print =
 abbrev pub start_text : List ℕ → List ℕ → ℕ → List ℕ
 start_text path words n = path ++ (codes ": " ++ (words ++ (codes " " ++ (decimal n ++ 10 ∷ []))))
 
-abbrev pub other_text : List ℕ → List ℕ
-other_text path = start_text path (codes "another state, begins at") 0
+abbrev pub other_state_text : List ℕ → List ℕ
+other_state_text path = start_text path (codes "another state, begins at") 0
 
 abbrev pub less_text : List ℕ → List ℕ
 less_text path = start_text path (codes "the server expects less, begins at") 0
@@ -41,5 +41,5 @@ ReportsAnswer false path count print = ReportsStart (goes_on_text path count) pr
 
 -- another state that is replaced is reported
 abbrev pub ReportsOther : Bool → List ℕ → Print → Type 0
-ReportsOther true path print = ReportsStart (other_text path) print
+ReportsOther true path print = ReportsStart (other_state_text path) print
 ReportsOther false path print = print ≡ Nothing

@@ -38,8 +38,8 @@ pub record IsOpeningOf (name : List ℕ) (requests : List Request) (opening : Op
 module _ {F : Type 0} (feed : FeedGhosts F FeedFault) where
   -- why a feed gives no opening: it failed, it has nothing yet, it gives more requests than a take
   -- has, or memory was refused
-  abbrev pub StopsAt : ℕ → F → FeedFault → Type 0
-  StopsAt n at fault = ((after : F) × AsksFeed feed at (Err fault) after)
+  abbrev pub StopsSkippingAt : ℕ → F → FeedFault → Type 0
+  StopsSkippingAt n at fault = ((after : F) × AsksFeed feed at (Err fault) after)
       ⊎ ((after : F) × AsksFeed feed at (Ok gives.NotYet) after × (fault ≡ Unsendable))
       ⊎ ((16777216 ≤ n) × (fault ≡ Unsendable)) ⊎ (fault ≡ Memory)
 
@@ -49,4 +49,4 @@ module _ {F : Type 0} (feed : FeedGhosts F FeedFault) where
     pub at : F
     pub went : GivesFirst feed given f at
     pub blockless : AllByRecursion IsNoBlock given
-    pub why : StopsAt (length given) at fault
+    pub why : StopsSkippingAt (length given) at fault

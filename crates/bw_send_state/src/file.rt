@@ -3,7 +3,7 @@ ghost use Rattle.std.specs.Prelude.{◌≡◌};
 ghost use Rattle.bw_console.specs.Printing.{failures_if};
 ghost use Rattle.bw_send_file.specs.FileLooks.{LooksAt};
 ghost use Rattle.bw_send_state.specs.FilesSentOn.{Continuation, HasContinued, IsFileSentOn};
-ghost use Rattle.bw_send_state.specs.FilesSentOn.{file_of, outside_of, sending_side, ways};
+ghost use Rattle.bw_send_state.specs.FilesSentOn.{known_file_of, outside_of, sending_side, ways};
 
 use crate::beginning::{Beginning, begin};
 use crate::job::Job;
@@ -59,7 +59,7 @@ pub fn send_file_on<
     ensures { (did : Continuation) × (did.exit ≡ result)
         × IsFileSentOn (sending_side ⟦<PlanFeed<F::File, F::Stamped> as Feed>⟧
         (LooksAt F.Stamped.Stamped) P.Pause D.Dial D.Reader.Source D.Writer.Sink) job.now
-        B.Log.StateLog (outside_of (file_of job.now (F.file_at files.old) (F.stamp_at files.old))
+        B.Log.StateLog (outside_of (known_file_of job.now (F.file_at files.old) (F.stamp_at files.old))
         (B.state_at states.old) (B.state_at states.new))
         (ways pause.old dial.old) (ways pause.new dial.new) did
         × (F.failures files.new ≡ failures_if did.sent.is_system_well (F.failures files.old))

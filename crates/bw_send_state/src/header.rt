@@ -6,7 +6,7 @@ ghost use Rattle.bw_ports.specs.declared.recording_files.FileStamp.{FileStamp as
 ghost use Rattle.bw_recorder.specs.Packs.{Packing};
 ghost use Rattle.bw_resume.specs.Headers.{state_header};
 ghost use Rattle.bw_send_file.specs.FileLooks.{LooksAt};
-ghost use Rattle.bw_send_state.specs.FilesSentOn.{GivesNoHeader, file_of};
+ghost use Rattle.bw_send_state.specs.FilesSentOn.{GivesNoHeader, known_file_of};
 ghost use Rattle.bw_send_state.specs.SentOn.{IsHeaderFor, origin_for};
 ghost use Rattle.bw_send_state.specs.TakeOpenings.{StopsOpening};
 
@@ -55,7 +55,7 @@ pub(crate) fn read_header<F: RecordingFiles, E: Sink>(
     ensures quiet { OnOk result (faults.new ≡ faults.old) }
     ensures err { IfErr result (λ exit. (did : Packing) × (did.exit ≡ exit)
         × GivesNoHeader ⟦<PlanFeed<F::File, F::Stamped> as Feed>⟧ (LooksAt F.Stamped.Stamped)
-        job.now options.now (file_of job.now (F.file_at files.old) (F.stamp_at files.old)) did
+        job.now options.now (known_file_of job.now (F.file_at files.old) (F.stamp_at files.old)) did
         × (F.failures files.new ≡ failures_if did.is_system_well (F.failures files.old))
         × IsPrint E.Sink did.faults faults.old faults.new) }
 {

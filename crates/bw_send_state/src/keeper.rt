@@ -3,7 +3,7 @@ ghost use Rattle.std.specs.Prelude.{◌≡◌, MatchOption};
 ghost use Rattle.bw_model.specs.World.{Sender as Defined};
 ghost use Rattle.bw_sender.specs.Senders.{IsSender};
 ghost use Rattle.bw_send_state.specs.NotedCounts.{CountsNothing, CountsStored, KeepsFault};
-ghost use Rattle.bw_send_state.specs.NotedCounts.{Notes, NotesCount, TellsFault};
+ghost use Rattle.bw_send_state.specs.NotedCounts.{HearsProgress, NotesCount, TellsFault};
 
 use bw_resume::{StateLog, Stopwatch, settled_line};
 use bw_sender::Sender;
@@ -119,14 +119,16 @@ impl<'a, L: StateLog + Drop, T: Stopwatch> StateKeeper<'a, L, T> {
 }
 
 impl<L: StateLog + Drop, T: Stopwatch> Observer for StateKeeper<'_, L, T> {
+    /// Notes the count at each change of the link, however early.
     fn link(&mut self, _event: LinkEvent, sender: &Sender)
-        ensures { (s : Defined) → IsSender s sender.now → Notes L.StateLog s self.old self.new }
+        ensures { (s : Defined) → IsSender s sender.now → HearsProgress L.StateLog s self.old self.new }
     {
         self.note(sender);
     }
 
+    /// Notes the count, and syncs the file, if that is due.
     fn settled(&mut self, sender: &Sender)
-        ensures { (s : Defined) → IsSender s sender.now → Notes L.StateLog s self.old self.new }
+        ensures { (s : Defined) → IsSender s sender.now → HearsProgress L.StateLog s self.old self.new }
     {
         let now = self.stopwatch.look();
         self.note_if_due(now, sender);

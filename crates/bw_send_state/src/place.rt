@@ -4,7 +4,7 @@ ghost use Rattle.bw_stream.specs.Moves.{one_more};
 ghost use Rattle.bw_stream.specs.Readers.{Of};
 ghost use Rattle.bw_plan.specs.Cleaning.{are_zero as are_bytes_zero};
 ghost use Rattle.bw_resume.specs.Counts.{most_settled};
-ghost use Rattle.bw_send_state.specs.FoundCounts.{IsFound, SaysOfTake, may_begin_state, most_bytes};
+ghost use Rattle.bw_send_state.specs.FoundCounts.{IsStateFound, SaysOfTake, may_begin_state, most_bytes};
 ghost use Rattle.bw_send_state.specs.FoundCounts.{ends_line as is_line_ended};
 
 use bw_resume::{StateFiles, settled_in};
@@ -48,7 +48,7 @@ pub(crate) fn find_count<B: StateFiles>(
     header: &[u8],
 ) -> io::Result<Found>
     ensures found { IfOk result (λ found.
-        IsFound (B.state_at states.old path.now) header.now found) }
+        IsStateFound (B.state_at states.old path.now) header.now found) }
     ensures range { IfOk result (λ found. found.count ≤ most_settled) }
     ensures kept { B.state_at states.new ≡ B.state_at states.old }
     ensures count { OnOk result (B.failures states.new ≡ B.failures states.old) }

@@ -5,7 +5,7 @@ ghost use Rattle.bw_model.specs.Wire.{Second, last_number};
 ghost use Rattle.bw_ports.specs.declared.recording_files.FileStamp.{FileStamp as StampValue};
 ghost use Rattle.bw_recorder.specs.Packs.{HasPacked, Packing};
 ghost use Rattle.bw_send_file.specs.FileLooks.{LooksAt};
-ghost use Rattle.bw_send_state.specs.FilesSentOn.{SendsFrom, file_of, sending_side, ways};
+ghost use Rattle.bw_send_state.specs.FilesSentOn.{SendsFrom, known_file_of, sending_side, ways};
 ghost use Rattle.bw_send_state.specs.SentOn.{SendsRest};
 
 use crate::job::Job;
@@ -44,7 +44,7 @@ pub(crate) fn send_rest<F: RecordingFiles, P: Pause, D: Dial, V: Observer, W: Si
     ensures did { (did : Packing) × (did.exit ≡ result)
         × SendsFrom (sending_side ⟦<PlanFeed<F::File, F::Stamped> as Feed>⟧
         (LooksAt F.Stamped.Stamped) P.Pause D.Dial D.Reader.Source D.Writer.Sink) job.now
-        options.now (file_of job.now (F.file_at files.old) (F.stamp_at files.old)) count
+        options.now (known_file_of job.now (F.file_at files.old) (F.stamp_at files.old)) count
         (ways pause.old dial.old) (ways pause.new dial.new) did
         × (F.failures files.new ≡ failures_if did.is_system_well (F.failures files.old))
         × HasPacked W.Sink E.Sink did out.old out.new faults.old faults.new }

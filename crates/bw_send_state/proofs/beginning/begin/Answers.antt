@@ -2,7 +2,7 @@ use Rattle.std.proofs.Common.{◌∙◌, Bool, List, ℕ, ap, inl, inr, refl, su
 use Rattle.std.proofs.lemmas.Result.{err_from_is_err_and}
 use Rattle.std.specs.IoError.{error_kind}
 use Rattle.bw_console.specs.Printing.{IsPrint, Nothing, failures_if}
-use Rattle.bw_send_state.specs.FoundCounts.{IsFound}
+use Rattle.bw_send_state.specs.FoundCounts.{IsStateFound}
 use Rattle.bw_send_state.proofs.BeginSteps.{silent_of, well_of}
 use Rattle.bw_send_state.proofs.beginning.begin.Goals as goal
 
@@ -68,7 +68,7 @@ returns-in_err-count-clause-err g c =
         found = c.in-Ok.found;
         knows = record {
           of_take = c.in_ok-header.ensures.ok;
-          says = subst (λ (h : List ℕ). IsFound (g.B.StateFiles.state_at c.args.states.now c.args.job.now.place.path.now) h c.in-Ok.found) c.as_slice.ensures.value c.in-Ok.ensures.found;
+          says = subst (λ (h : List ℕ). IsStateFound (g.B.StateFiles.state_at c.args.states.now c.args.job.now.place.path.now) h c.in-Ok.found) c.as_slice.ensures.value c.in-Ok.ensures.found;
         };
         why = inl (b.3, record { states = c.in-Ok.ensures.kept; began = refl });
       }),
@@ -102,7 +102,7 @@ returns-clause-err g c =
         found = c.in-Ok.found;
         knows = record {
           of_take = c.in_ok-header.ensures.ok;
-          says = subst (λ (h : List ℕ). IsFound (g.B.StateFiles.state_at c.args.states.now c.args.job.now.place.path.now) h c.in-Ok.found) c.as_slice.ensures.value c.in-Ok.ensures.found;
+          says = subst (λ (h : List ℕ). IsStateFound (g.B.StateFiles.state_at c.args.states.now c.args.job.now.place.path.now) h c.in-Ok.found) c.as_slice.ensures.value c.in-Ok.ensures.found;
         };
         why = inr (record {
           count = c.in_ok-count.count;
