@@ -119,12 +119,14 @@ impl<'a, L: StateLog + Drop, T: Stopwatch> StateKeeper<'a, L, T> {
 }
 
 impl<L: StateLog + Drop, T: Stopwatch> Observer for StateKeeper<'_, L, T> {
+    /// Notes how far the sender is.
     fn link(&mut self, _event: LinkEvent, sender: &Sender)
         ensures { (s : Defined) → IsSender s sender.now → Notes L.StateLog s self.old self.new }
     {
         self.note(sender);
     }
 
+    /// Notes how far the sender is, and syncs the file, each if it is due.
     fn settled(&mut self, sender: &Sender)
         ensures { (s : Defined) → IsSender s sender.now → Notes L.StateLog s self.old self.new }
     {
