@@ -36,10 +36,10 @@ pub record IsPcmFileOf (sender : PcmSender) (file : PcmFile) : Type 0 where
 
 -- whether a path says that a recording that is still made has ended, or the end of standard input does;
 -- none where it has ended
-abbrev pub ending_of : {T : Type 0} → Bool → Option T → Option Bool
-ending_of true until = Some false
-ending_of false (Some until) = Some true
-ending_of false None = None
+abbrev pub awaited_end : {T : Type 0} → Bool → Option T → Option Bool
+awaited_end true until = Some false
+awaited_end false (Some until) = Some true
+awaited_end false None = None
 
 module _ {U J F H G M Q N X P R W D A B O E : Type 0} (upload : UploadSide U J Q)
     (side : SenderSide D A B) (network : NetworkGhosts N X P D R W A B) (files : FileGhosts F H G M) (out : Writer O)
@@ -68,7 +68,7 @@ module _ {U J F H G M Q N X P R W D A B O E : Type 0} (upload : UploadSide U J Q
     pub file_is : IsPcmFileOf sender file
     pub did : Packing
     pub ends : did.exit ≡ exit
-    pub is : SendsSamples (ending_of sender.pcm.is_spooled sender.pcm.until) recorder file f
+    pub is : SendsSamples (awaited_end sender.pcm.is_spooled sender.pcm.until) recorder file f
         (record { pause = q; dial = first }) (record { pause = q'; dial = last }) did
     pub failures : files.failures f' ≡ failures_if did.is_system_well (files.failures f)
     pub writes : HasPacked out reported did o o' e e'

@@ -1,7 +1,7 @@
 //! The command that sends headerless samples, as a command line asks for it.
 ghost use Rattle.std.specs.Prelude.{◌≡◌, is_some, min, option_map};
 ghost use Rattle.bw_send_file.specs.FileLooks.{LooksAt};
-ghost use Rattle.bw_cli.specs.PcmUploads.{IsPcmFileOf, IsPcmRecorderOf, SendsPcm, ending_of, most_in_field};
+ghost use Rattle.bw_cli.specs.PcmUploads.{IsPcmFileOf, IsPcmRecorderOf, SendsPcm, awaited_end, most_in_field};
 ghost use Rattle.bw_cli.specs.Sides.{sender_side, upload_side};
 
 use bw_args::PcmSender;
@@ -59,7 +59,7 @@ pub(crate) fn send_pcm_as<
 /// the whole where it has ended.
 fn ending_of(sender: &PcmSender) -> Option<Option<&str>>
     ensures { option_map (λ until. is_some until) result
-        ≡ ending_of sender.now.pcm.is_spooled sender.now.pcm.until }
+        ≡ awaited_end sender.now.pcm.is_spooled sender.now.pcm.until }
 {
     if sender.pcm.is_spooled {
         return Some(None);

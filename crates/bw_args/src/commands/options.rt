@@ -151,7 +151,7 @@ pub(crate) fn patience_option<'a>(alloc: Global) -> Arg<'a>
     ensures { IsOption timeout_option result }
 {
     let help =
-        "How long a silent server is waited for, 1 to 86400 [default: for good; with --file 30]";
+        "How long a silent server is waited for, 1 to 86400 [default: for good; with --file or --spool 30]";
     value_option(alloc, "timeout", "SECONDS", help)
 }
 
@@ -217,7 +217,8 @@ pub(crate) fn log_flag<'a>(alloc: Global) -> Arg<'a>
 pub(crate) fn link_log_flag<'a>(alloc: Global) -> Arg<'a>
     ensures { IsOption log_flag result }
 {
-    let help = "With --file: reports each change of the link in a line on standard error";
+    let help =
+        "With --file or --spool: reports each change of the link in a line on standard error";
     flag_option(alloc, "log", help)
 }
 
@@ -288,7 +289,7 @@ pub(crate) fn rate_option<'a>(alloc: Global) -> Arg<'a>
     ensures { IsOption rate_option result }
 {
     let help =
-        "With --file: sends at most so many bytes a second, 1 to 4294967295 [default: any number]";
+        "With --file or --spool: sends at most so many bytes a second, 1 to 4294967295 [default: any number]";
     value_option(alloc, "rate", "BYTES", help)
 }
 
@@ -296,7 +297,7 @@ pub(crate) fn fruitless_option<'a>(alloc: Global) -> Arg<'a>
     ensures { IsOption fruitless_option result }
 {
     let help =
-        "With --file: gives up after N links in a row that settle nothing, 1 to 1000000 [default: 10; with --follow never]";
+        "With --file or --spool: gives up after N links in a row that settle nothing, 1 to 1000000 [default: 10; with --follow or --spool never]";
     value_option(alloc, "fruitless", "N", help)
 }
 
