@@ -1,5 +1,5 @@
 -- What is done for the command lines that send recordings.
-use Rattle.std.specs.Prelude.{◌≡◌, ◌⊎◌, ℕ, List, Option, None, Some, string_bytes}
+use Rattle.std.specs.Prelude.{◌≡◌, ◌⊎◌, ℕ, List, None, Some, string_bytes}
 use Rattle.std.specs.Net.Text.{socket_text}
 use Rattle.bw_stream.specs.declared.sink.Sink.{Ghosts as Writer}
 use Rattle.bw_args.specs.declared.recordings.FileSender.{FileSender}

@@ -1,4 +1,4 @@
-use Rattle.std.proofs.Common.{◌≡◌, ap, inl, inr, refl, rules, sym, true}
+use Rattle.std.proofs.Common.{◌≡◌, inl, inr, refl, rules, sym, true}
 use Rattle.std.specs.Net.Text.{socket_text}
 use Rattle.bw_console.specs.Printing.{Nothing}
 use Rattle.bw_console.specs.declared.exit.Exit.TheVariants as exits
