@@ -75,13 +75,13 @@ module _ {F P D R W X Y : Type 0} (feed : FeedGhosts F FeedFault) (pause : Pause
       absurd (open_ends (codes "send") file.file.path.now fault did.exit did.faults unsent.0.reports done)
 
   pub followed_copied : FollowedSamplesAreCopied feed pause dial reader writer S J
-  followed_copied recorder file b old new did bytes (inl refused) done =
+  followed_copied by_path recorder file b old new did bytes (inl refused) done =
       absurd (options_end file old new did refused done)
-  followed_copied recorder file b old new did bytes (inr (o, Ok begun, asked, opens, went)) done = (
+  followed_copied by_path recorder file b old new did bytes (inr (o, Ok begun, asked, opens, went)) done = (
     o,
     asked,
     λ r is. samples_copied recorder file b old new did o begun r bytes asked went done is
         (opens b refl r is),
   )
-  followed_copied recorder file b old new did bytes (inr (o, Err fault, asked, opens, unsent)) done =
+  followed_copied by_path recorder file b old new did bytes (inr (o, Err fault, asked, opens, unsent)) done =
       absurd (open_ends (codes "send") file.file.path.now fault did.exit did.faults unsent.0.reports done)
