@@ -13,6 +13,8 @@ FUNCTION = re.compile(rf" *{PUB}(?:const |unsafe |final )*fn (\w+)")
 OWNER = re.compile(r" *(?:unsafe )?impl\b| *" + PUB + r"trait\b")
 ITEM = re.compile(rf"(?m)^ *{PUB}(?:const|static|enum|struct) (\w+)")
 MOST = 48  # bodies of a batch, so that their check stays small
+# Functions whose clauses grind and search alone don't prove, as `tools/wrong_bodies --right` says: a check tries more.
+PROVED_OTHERWISE = {"bw_plan": {"setting_text::key_len"}}
 UNNAMED = "()"  # a type without a name, as a tuple: what a check names its functions by isn't known
 
 
@@ -197,6 +199,8 @@ class Sources:
 
     def last_goals(self, body):
         """The goals at the end of a copy that has one clause alone, where the function has no tactics of its own."""
+        if body.copy_of in PROVED_OTHERWISE.get(self.crate.name, ()):
+            return []
         text, labels = self.text_of(body.copy_of), self.clauses(body.copy_of)
         if "#[tactic" in text or not body.clauses and len(labels) > 1:
             return []
