@@ -785,7 +785,7 @@ static TEXTS: [(&[&str], &str); 17] = [
     ),
     (
         &["/tmp/x", "send", "--help"],
-        "How long a silent server is waited for, 1 to 86400 [default: for good; with --file 30]",
+        "How long a silent server is waited for, 1 to 86400 [default: for good; with --file or --spool 30]",
     ),
     (
         &["/tmp/x", "send", "--help"],
