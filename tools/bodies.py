@@ -14,7 +14,10 @@ OWNER = re.compile(r" *(?:unsafe )?impl\b| *" + PUB + r"trait\b")
 ITEM = re.compile(rf"(?m)^ *{PUB}(?:const|static|enum|struct) (\w+)")
 MOST = 48  # bodies of a batch, so that their check stays small
 # Functions whose clauses grind and search alone don't prove, as `tools/wrong_bodies --right` says: a check tries more.
-PROVED_OTHERWISE = {"bw_plan": {"setting_text::key_len"}}
+PROVED_OTHERWISE = {
+    "bw_connections": {"connections::Connections::free_place"},
+    "bw_plan": {"setting_text::key_len"},
+}
 UNNAMED = "()"  # a type without a name, as a tuple: what a check names its functions by isn't known
 
 
