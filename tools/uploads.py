@@ -40,7 +40,8 @@ def serving(folder, *options):
 
 def long_recording(blocks, seed=9):
     """A recording of so many blocks of 32,768 bytes, with its file."""
-    recording = Recording(samples=random.Random(seed).randbytes(32_768 * blocks))
+    chance = random.Random(seed)
+    recording = Recording(samples=b"".join(chance.randbytes(32_768) for _ in range(blocks)))
     return recording, riff(fmt(recording), data(recording.samples))
 
 
