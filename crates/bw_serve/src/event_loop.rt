@@ -5,6 +5,7 @@ ghost use Rattle.bw_wire.specs.Held.{longest_message_piece};
 ghost use Rattle.bw_stream.specs.Moves.{failures_after};
 
 use crate::line::print_end;
+use crate::observing::{RoundObserver, RoundReport};
 use crate::peer_slot::{PeerSlot, empty_peer_slots, put_at, report_at, swap_at};
 use bw_connections::{Closed, Connections};
 use bw_exchange::{Metered, Turns};
@@ -79,6 +80,21 @@ impl<L: Link + Drop> EventLoop<L> {
             }
         }
         false
+    }
+
+    /// Shows a round's end to an observer.
+    pub(crate) fn show<T: Turns, V: RoundObserver<T>>(
+        &self,
+        server: &Metered<T>,
+        observer: &mut V,
+    ) {
+        let round = RoundReport {
+            places: self.connections.places(),
+            connections: self.connections.begun().saturating_sub(self.ended),
+            ended: self.ended,
+            peers: self.peer_slots.as_slice(),
+        };
+        observer.look(server.server(), &round);
     }
 
     /// Notes which links are ready.

@@ -17,7 +17,7 @@ use std::net::{Ipv4Addr, SocketAddr};
 /// The address of the peer at a place, and what was counted of it. Before the first peer the
 /// address is 0.0.0.0:0.
 #[derive(Drop)]
-pub(crate) struct PeerSlot {
+pub struct PeerSlot {
     address: SocketAddr,
     link_stats: LinkStats,
 }
@@ -32,6 +32,20 @@ impl PeerSlot {
             address,
             link_stats: LinkStats::new(),
         }
+    }
+
+    /// The peer's address.
+    pub fn address(&self) -> SocketAddr
+        ensures { result ≡ self.now.address }
+    {
+        self.address
+    }
+
+    /// What was counted of it.
+    pub fn link_stats(&self) -> &LinkStats
+        ensures { result.now ≡ self.now.link_stats }
+    {
+        &self.link_stats
     }
 
     /// Makes the server continue this peer's counts, and keeps those that it had.

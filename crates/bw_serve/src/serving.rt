@@ -8,6 +8,7 @@ ghost use Rattle.bw_serve.specs.Rounds.{IsShut, ServesRound, patience_of};
 ghost use Rattle.bw_serve.specs.Serving.{RunsEventLoop};
 
 use crate::event_loop::{EventLoop, Round, Shut};
+use crate::observing::{NoRoundObserver, RoundObserver};
 use bw_console::Exit;
 use bw_exchange::{MESSAGE_PIECE, Metered, Turns};
 use bw_ports::Reactor;
@@ -67,6 +68,25 @@ pub fn run_event_loop<B: Reactor, T: Turns, O: Sink, E: Sink>(
         server.old.server server.new.server reactor.old reactor.new out.old out.new faults.old
         faults.new }
 {
+    let observer = &mut NoRoundObserver;
+    run_observed(alloc, server, reactor, bounds, log, observer, out, faults)
+}
+
+/// The same, while someone looks at the server after each round.
+pub fn run_observed<B: Reactor, T: Turns, V: RoundObserver<T>, O: Sink, E: Sink>(
+    alloc: Global,
+    server: &mut Metered<T>,
+    reactor: &mut B,
+    bounds: &Bounds,
+    log: bool,
+    observer: &mut V,
+    out: &mut O,
+    faults: &mut E,
+) -> Exit
+    ensures { RunsEventLoop B.Reactor B.Link.Link T.answers O.Sink E.Sink log bounds.now result
+        server.old.server server.new.server reactor.old reactor.new out.old out.new faults.old
+        faults.new }
+{
     let Ok(mut event_loop) = EventLoop::new(alloc, bounds.places) else {
         return Exit::Memory;
     };
@@ -91,6 +111,7 @@ pub fn run_event_loop<B: Reactor, T: Turns, O: Sink, E: Sink>(
         ) else {
             return Exit::Device;
         };
+        event_loop.show(server, observer);
     }
     Exit::Device
 }

@@ -1,0 +1,10 @@
+//! `serve --status`: a server of many recorders that operators may ask what it is doing.
+#![tactic(auto)]
+
+mod hosting;
+mod observer;
+mod snapshots;
+mod tallied;
+mod tallies;
+
+pub use hosting::{serve_many_journaled_shown, serve_many_shown};
