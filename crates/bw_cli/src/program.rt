@@ -29,6 +29,7 @@ use bw_journal::{Journal, NoJournal};
 use bw_layout::Limit;
 use bw_lock::FolderLocks;
 use bw_one_name::NameRule;
+use bw_operators::StatusSetup;
 use bw_pace::PacedNetwork;
 use bw_ports::{ListenerSetup, Network, Pause, RecordingFiles, Starts, System, Watch};
 use bw_repair_file::repair_file;
@@ -54,7 +55,11 @@ pub fn start<
     F: RecordingFiles + StateKeeping + EditedFiles + FolderLocks,
     D: Volume,
     J: Journal,
-    N: PacedNetwork + ListenerSetup + Starts<Server<N::Store, J>> + NameRule,
+    N: PacedNetwork
+        + ListenerSetup
+        + Starts<Server<N::Store, J>>
+        + NameRule
+        + StatusSetup<N::Reactor>,
     P: Pause,
     R: Source,
     W: Sink,
@@ -80,7 +85,11 @@ fn obey<
     F: RecordingFiles + StateKeeping + EditedFiles + FolderLocks,
     D: Volume,
     J: Journal,
-    N: PacedNetwork + ListenerSetup + Starts<Server<N::Store, J>> + NameRule,
+    N: PacedNetwork
+        + ListenerSetup
+        + Starts<Server<N::Store, J>>
+        + NameRule
+        + StatusSetup<N::Reactor>,
     P: Pause,
     R: Source,
     W: Sink,
@@ -108,7 +117,11 @@ fn answer<
     F: RecordingFiles + StateKeeping + EditedFiles + FolderLocks,
     D: Volume,
     J: Journal,
-    N: PacedNetwork + ListenerSetup + Starts<Server<N::Store, J>> + NameRule,
+    N: PacedNetwork
+        + ListenerSetup
+        + Starts<Server<N::Store, J>>
+        + NameRule
+        + StatusSetup<N::Reactor>,
     P: Pause,
     R: Source,
     W: Sink,
@@ -136,7 +149,11 @@ fn perform<
     F: RecordingFiles + StateKeeping + EditedFiles + FolderLocks,
     D: Volume,
     J: Journal,
-    N: PacedNetwork + ListenerSetup + Starts<Server<N::Store, J>> + NameRule,
+    N: PacedNetwork
+        + ListenerSetup
+        + Starts<Server<N::Store, J>>
+        + NameRule
+        + StatusSetup<N::Reactor>,
     P: Pause,
     R: Source,
     W: Sink,
@@ -170,7 +187,11 @@ fn run<
     F: RecordingFiles + StateKeeping + EditedFiles + FolderLocks,
     D: Volume,
     J: Journal,
-    N: PacedNetwork + ListenerSetup + Starts<Server<N::Store, J>> + NameRule,
+    N: PacedNetwork
+        + ListenerSetup
+        + Starts<Server<N::Store, J>>
+        + NameRule
+        + StatusSetup<N::Reactor>,
     P: Pause,
     R: Source,
     W: Sink,

@@ -10,11 +10,13 @@ use bw_console::Exit;
 use bw_journal::{Journal, NoJournal};
 use bw_layout::Limit;
 use bw_one_name::NameRule;
+use bw_operators::StatusSetup;
 use bw_ports::{ListenerSetup, Network, Starts, Watch};
 use bw_send::send_watched;
 use bw_serve::{
     Bounds, Hosting, Serving, serve, serve_journaled, serve_many, serve_many_journaled,
 };
+use bw_serve_status::{serve_many_journaled_shown, serve_many_shown};
 use bw_session::Server;
 use bw_stream::{Sink, Source};
 use std::alloc::Global;
@@ -22,7 +24,7 @@ use std::alloc::Global;
 /// Serves as the command line asks for.
 pub(crate) fn serve_as<
     J: Journal,
-    N: Network + ListenerSetup + Starts<Server<N::Store, J>> + NameRule,
+    N: Network + ListenerSetup + Starts<Server<N::Store, J>> + NameRule + StatusSetup<N::Reactor>,
     W: Sink,
     E: Sink,
 >(alloc: Global, server: &Serve, network: &mut N, out: &mut W, faults: &mut E) -> Exit
@@ -46,7 +48,7 @@ pub(crate) fn serve_as<
 /// Serves without journals.
 fn serve_new<
     J: Journal,
-    N: Network + ListenerSetup + Starts<Server<N::Store, J>> + NameRule,
+    N: Network + ListenerSetup + Starts<Server<N::Store, J>> + NameRule + StatusSetup<N::Reactor>,
     W: Sink,
     E: Sink,
 >(alloc: Global, server: &Serve, limit: Limit, network: &mut N, out: &mut W, faults: &mut E) -> Exit
@@ -63,7 +65,10 @@ fn serve_new<
         }
         Recorders::AtOnce { most, idle } => {
             let hosting = hosting_of(server, limit, most, idle);
-            serve_many(alloc, network, &hosting, out, faults)
+            match server.status {
+                None => serve_many(alloc, network, &hosting, out, faults),
+                Some(status) => serve_many_shown(alloc, network, &hosting, status, out, faults),
+            }
         }
     }
 }
@@ -71,7 +76,7 @@ fn serve_new<
 /// Serves with journals, from what an earlier server left in the folder.
 fn serve_resumed<
     J: Journal,
-    N: Network + ListenerSetup + Starts<Server<N::Store, J>> + NameRule,
+    N: Network + ListenerSetup + Starts<Server<N::Store, J>> + NameRule + StatusSetup<N::Reactor>,
     W: Sink,
     E: Sink,
 >(
@@ -96,7 +101,12 @@ fn serve_resumed<
         }
         Recorders::AtOnce { most, idle } => {
             let hosting = hosting_of(server, limit, most, idle);
-            serve_many_journaled(alloc, network, &hosting, sync, out, faults)
+            match server.status {
+                None => serve_many_journaled(alloc, network, &hosting, sync, out, faults),
+                Some(status) => {
+                    serve_many_journaled_shown(alloc, network, &hosting, sync, status, out, faults)
+                }
+            }
         }
     }
 }
