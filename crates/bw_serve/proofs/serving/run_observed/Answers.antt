@@ -2,7 +2,7 @@ use Rattle.std.proofs.Common.{ℕ, ◌+◌, ◌≤◌, rules, arith, refl, sym, 
 use Rattle.bw_stream.specs.Moves.{one_more}
 use Rattle.bw_console.specs.declared.exit.Exit.TheVariants as exits
 use Rattle.bw_serve.proofs.Running.{all_ended, waited_more, runs_more, runs_none, runs_over, runs_shut}
-use Rattle.bw_serve.proofs.serving.run_event_loop.Goals as goal
+use Rattle.bw_serve.proofs.serving.run_observed.Goals as goal
 
 pub returns-in_default : goal.returns-in_default
 returns-in_default g c = (refl, refl, refl, refl)

@@ -3,7 +3,7 @@ use Rattle.bw_connections.specs.Places.{begun_of}
 use Rattle.bw_wire.specs.Held.{longest_message_piece}
 use Rattle.bw_serve.specs.EventLoops.{HasPeerSlots}
 use Rattle.bw_serve.proofs.Running.{Runs}
-use Rattle.bw_serve.proofs.serving.run_event_loop.Given as goal
+use Rattle.bw_serve.proofs.serving.run_observed.Given as goal
 
 abbrev pub invariant-loop-round : goal.invariant-loop-round
 invariant-loop-round g l = record {
