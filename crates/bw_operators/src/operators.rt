@@ -1,5 +1,6 @@
 //! The connections of operators: four at most.
-ghost use Rattle.std.specs.Prelude.{◌≡◌, ◌<◌, [], vec_len, IfOk, IfSome};
+ghost use Rattle.std.specs.Prelude.{◌≡◌, ◌<◌, [], slice_get, vec_len, None, Some, IfOk, IfSome};
+ghost use Rattle.bw_operators.specs.Places.{PutsAt};
 ghost use Rattle.bw_status.specs.Responses.{response_text};
 ghost use Rattle.bw_status.specs.declared.answer.Answer.{Answer};
 ghost use Rattle.bw_status.specs.declared.snapshot.Snapshot.{Snapshot};
@@ -65,9 +66,10 @@ impl<L: Link + Drop> Operators<L> {
 
     fn work_at(&mut self, place: usize, now: u64)
         requires { place < vec_len self.old.places }
-        ensures { AreConnections L.Link self.old → AreConnections L.Link self.new }
+        ensures connections { AreConnections L.Link self.old → AreConnections L.Link self.new }
+        ensures places { vec_len self.new.places ≡ vec_len self.old.places }
     {
-        let Some(mut connection) = self.places[place].take() else {
+        let Some(mut connection) = take_at(&mut self.places, place) else {
             return;
         };
         let Ok(()) = connection.work() else {
@@ -76,7 +78,7 @@ impl<L: Link + Drop> Operators<L> {
         if connection.is_slow(now) {
             return;
         }
-        self.places[place] = Some(connection);
+        put_at(&mut self.places, place, connection);
     }
 
     /// The first place at which a request is to be answered, and with what.
@@ -120,4 +122,23 @@ impl<L: Link + Drop> Operators<L> {
             *at = None;
         }
     }
+}
+
+/// Takes what is at a place.
+fn take_at<L>(places: &mut Vec<Option<Connection<L>>>, place: usize) -> Option<Connection<L>>
+    requires { place < vec_len places.old }
+    ensures was { slice_get places.old.items place ≡ Some result }
+    ensures sets { PutsAt places.old.items place None places.new.items }
+    ensures count { vec_len places.new ≡ vec_len places.old }
+{
+    places[place].take()
+}
+
+/// Puts a connection at a place.
+fn put_at<L: Drop>(places: &mut Vec<Option<Connection<L>>>, place: usize, connection: Connection<L>)
+    requires { place < vec_len places.old }
+    ensures sets { PutsAt places.old.items place (Some connection) places.new.items }
+    ensures count { vec_len places.new ≡ vec_len places.old }
+{
+    places[place] = Some(connection);
 }
