@@ -108,10 +108,14 @@ impl<L: Link + Drop> Operators<L> {
             response.items ≡ response_text a s → AreConnections L.Link self.old →
             AreConnections L.Link self.new }
     {
-        let Some(Some(connection)) = self.places.get_mut(place) else {
+        if place >= self.places.len() {
+            return;
+        }
+        let Some(mut connection) = take_at(&mut self.places, place) else {
             return;
         };
         connection.answer(response);
+        put_at(&mut self.places, place, connection);
     }
 
     /// Closes the connection at a place.
