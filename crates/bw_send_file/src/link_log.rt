@@ -18,6 +18,8 @@ pub struct LinkLog<E> {
 }
 
 impl<E: Sink> Observer for LinkLog<E> {
+    ghost follows = { λ first now. Unit {0} };
+
     fn link(&mut self, event: LinkEvent, sender: &Sender) {
         match event {
             LinkEvent::Waits(milliseconds) => {

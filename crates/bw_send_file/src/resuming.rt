@@ -43,7 +43,8 @@ pub fn send_feed_after<
     faults: &mut E,
 ) -> Exit
     requires { count ≤ last_number Second + 1 }
-    ensures { (s : Defined) → HasStored recorder.now.name.now count s → (did : Did) × (did.exit ≡ result)
+    ensures observed { (first : V) → V.follows first observer.old → V.follows first observer.new }
+    ensures sent { (s : Defined) → HasStored recorder.now.name.now count s → (did : Did) × (did.exit ≡ result)
         × IsFeedSentAfter X.Feed P.Pause D.Dial D.Reader.Source D.Writer.Sink s
         (record { name = recorder.now.name.now; path = path.now; most = recorder.now.fruitless })
         feed.old feed.new (record { pause = pause.old; dial = dial.old })

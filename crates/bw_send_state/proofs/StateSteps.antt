@@ -1,5 +1,6 @@
 -- What is stored once a command with a state has ended with the status 0.
 use Rattle.std.proofs.Common.{◌≡◌, ◌∙◌, ℕ, List, MatchOption, None, Option, Some, refl, sym, subst, inl, inr}
+use Rattle.std.specs.Prelude.{is_none}
 use Rattle.std.specs.IoError.{error_kind}
 use Rattle.std.specs.declared.io.Error.{Error}
 use Rattle.std.specs.declared.io.ErrorKind.{ErrorKind}
@@ -15,11 +16,13 @@ use Rattle.bw_console.specs.declared.exit.Exit.TheVariants as exits
 use Rattle.bw_plan.specs.Recordings.{Options}
 use Rattle.bw_ports.specs.declared.recording_files.FileStamp.{FileStamp}
 use Rattle.bw_recorder.specs.Packs.{Packing}
+use Rattle.bw_resume.specs.declared.state_files.StateLog.{Ghosts as LogGhosts}
 use Rattle.bw_send_file.specs.Sendings.{Ways}
 use Rattle.bw_send_state.proofs.AskSteps.{has_answered}
 use Rattle.bw_send_state.specs.Asks.{HasAnswered}
-use Rattle.bw_send_state.specs.FilesSentOn.{Continuation, EndsKept, HasContinued, HasReported, IsUnsent, Outside, SendingSide, SendsFrom}
+use Rattle.bw_send_state.specs.FilesSentOn.{BeginsState, Continuation, EndsKept, HasContinued, HasReported, IsUnsent, Outside, SendingSide, SendsFrom}
 use Rattle.bw_send_state.specs.FilesSentOn.{StartsAt, StopsBeforeSending, file_of}
+use Rattle.bw_send_state.specs.NotedCounts.{IsLogKept}
 use Rattle.bw_send_state.specs.FoundCounts.{IsCountFound, IsFound, ResumesAt}
 use Rattle.bw_send_state.specs.StateReports.{ReportsUnkept}
 use Rattle.bw_send_state.specs.declared.job.Job.{Job}
@@ -41,10 +44,10 @@ unkept_ends path kind exit print (inl x) done = unopened_ends kind (sym x.1.0 �
 unkept_ends path kind exit print (inr x) done = memory_ends (sym x.0 ∙ done)
 
 -- a command whose state isn't kept doesn't end with the status 0
-pub kept_done : (path : List ℕ) (sent exit : Exit) (print : Print) → EndsKept path sent exit print → exit ≡ exits.Done →
-    sent ≡ exits.Done
-kept_done path sent exit print (inl x) done = sym x.0 ∙ done
-kept_done path sent exit print (inr x) done = absurd (unkept_ends path x.0 exit print x.1 done)
+pub kept_done : {L : Type 0} (logs : LogGhosts L) (first after : L) (path : List ℕ) (sent exit : Exit) (print : Print) →
+    EndsKept logs first after path sent exit print → exit ≡ exits.Done → sent ≡ exits.Done
+kept_done logs first after path sent exit print (inl x) done = sym x.0 ∙ done
+kept_done logs first after path sent exit print (inr x) done = absurd (unkept_ends path x.0 exit print x.1 done)
 
 -- the count that was found is the one that the state says
 pub count_is : (file : Option (List ℕ)) (header : List ℕ) (found : Found) → IsFound file header found →
@@ -65,11 +68,12 @@ module _ {P D R W : Type 0} (pause : PauseGhosts P) (dial : DialGhosts D R W) (r
   )
 
 -- the end of a command whose state was kept, or wasn't
-pub ends_kept : (path : List ℕ) (told : Option Error) (sent exit : Exit) (print : Print) →
+pub ends_kept : {L : Type 0} (logs : LogGhosts L) (first after : L) (path : List ℕ) (told : Option Error)
+    (sent exit : Exit) (print : Print) → IsLogKept logs (is_none told) first after →
     MatchOption told ((exit ≡ sent) × (print ≡ Nothing)) (λ error. ReportsUnkept path (error_kind error) exit print) →
-    EndsKept path sent exit print
-ends_kept path None sent exit print h = inl h
-ends_kept path (Some error) sent exit print h = inr (error_kind error, h)
+    EndsKept logs first after path sent exit print
+ends_kept logs first after path None sent exit print log h = inl (h.0, h.1, log)
+ends_kept logs first after path (Some error) sent exit print log h = inr (error_kind error, h, log)
 
 -- nothing was sent, and what was reported was a start and a fault
 pub continued : {W E : Type 0} (w : Writer W) (e : Writer E) (did : Continuation) (out : W) (faults faults' : E) →
@@ -101,3 +105,11 @@ module _ {F P D R W : Type 0} (side : SendingSide F P D R W) (job : Job) where
   sends_same o file file' stamp stamp' count old new did files stamps sends =
       subst (λ (f : List ℕ → Option (List ℕ)). SendsFrom side job o (file_of job f stamp) count old new did) files
       (subst (λ (t : List ℕ → Option FileStamp). SendsFrom side job o (file_of job file' t) count old new did) stamps sends)
+
+  -- the keeper's file is the one that was opened
+  pub log_same : {L : Type 0} (logs : LogGhosts L) (o : Options) (outside : Outside) (count : ℕ) (log log' : L)
+      (old new : Ways P D) (print : Print) → log ≡ log' →
+      BeginsState side job o outside count (logs.written log) old new print →
+      BeginsState side job o outside count (logs.written log') old new print
+  log_same logs o outside count log log' old new print same begins =
+      subst (λ (l : _). BeginsState side job o outside count (logs.written l) old new print) same begins

@@ -27,6 +27,7 @@ use Rattle.bw_send_file.specs.declared.fault.FeedFault.{FeedFault}
 use Rattle.bw_send_file.specs.declared.fault.FeedFault.TheVariants.{Changed}
 use Rattle.bw_send_state.specs.Asks.{AsksServer}
 use Rattle.bw_send_state.specs.FoundCounts.{BeginsLog, IsFound, goes_on, may_begin_state, most_bytes}
+use Rattle.bw_send_state.specs.NotedCounts.{IsLogKept}
 use Rattle.bw_send_state.specs.SentOn.{IsHeaderFor, StoresRecording, stored_sender}
 use Rattle.bw_send_state.specs.SkippedRequests.{FailsFirst, LacksFirst, PassesFirst}
 use Rattle.bw_send_state.specs.StateReports.{ReportsAnswer, ReportsOther, ReportsUnkept}
@@ -119,11 +120,12 @@ pub record LacksState (job : Job) (outside : Outside) (did : Continuation) : Typ
   pub kind : ErrorKind
   pub ends : EndsUnkept job kind did.sent
 
--- a command that would end so ends so, as the state at the path was kept; or that it wasn't is
--- reported
-abbrev pub EndsKept : List ℕ → Exit → Exit → Print → Type 0
-EndsKept path sent exit print = ((exit ≡ sent) × (print ≡ Nothing))
-    ⊎ ((kind : ErrorKind) × ReportsUnkept path kind exit print)
+-- A command that would end so ends so, as the state at the path was kept: the lines of counts were
+-- written, and no call on its file failed. Or that it wasn't is reported, as the last call failed.
+abbrev pub EndsKept : {L : Type 0} → LogGhosts L → L → L → List ℕ → Exit → Exit → Print → Type 0
+EndsKept logs first after path sent exit print =
+    ((exit ≡ sent) × (print ≡ Nothing) × IsLogKept logs true first after)
+    ⊎ ((kind : ErrorKind) × ReportsUnkept path kind exit print × IsLogKept logs false first after)
 
 -- what is asked for beside the recording
 abbrev pub IsAskedFor : Job → Options → Type 0
@@ -301,7 +303,8 @@ module _ {F P D R W : Type 0} (side : SendingSide F P D R W) (job : Job) where
     pub between : Ways P D
     pub begins : BeginsState o outside count (logs.written log) old between did.began
     pub sends : SendsFrom o outside.file count between new did.sent
-    pub kept : EndsKept job.place.path.now did.sent.exit did.exit did.unkept
+    pub after : L
+    pub kept : EndsKept logs log after job.place.path.now did.sent.exit did.exit did.unkept
     pub stores : did.exit ≡ exits.Done → Of outside.file.bytes (λ b. StoresRecording side.feed side.pause
         side.dial side.replies side.requests (outside.states job.place.path.now) job.place.address.now
         outside.file.stamp job.recorder job.file b new)

@@ -1,9 +1,9 @@
 //! How far a sender is, noted in its state.
-ghost use Rattle.std.specs.Prelude.{◌≡◌, MatchOption};
+ghost use Rattle.std.specs.Prelude.{◌≡◌, MatchOption, is_none, true};
 ghost use Rattle.bw_model.specs.World.{Sender as Defined};
 ghost use Rattle.bw_sender.specs.Senders.{IsSender};
-ghost use Rattle.bw_send_state.specs.NotedCounts.{CountsNothing, CountsStored, KeepsFault};
-ghost use Rattle.bw_send_state.specs.NotedCounts.{Notes, NotesCount, TellsFault};
+ghost use Rattle.bw_send_state.specs.NotedCounts.{CountsNothing, CountsStored, Finishes, Follows};
+ghost use Rattle.bw_send_state.specs.NotedCounts.{KeepsFault, Notes, NotesCount, NotesLine};
 
 use bw_resume::{StateLog, Stopwatch, settled_line};
 use bw_sender::Sender;
@@ -35,6 +35,7 @@ impl<'a, L: StateLog + Drop, T: Stopwatch> StateKeeper<'a, L, T> {
     pub fn new(log: L, stopwatch: &'a mut T, noted: u32) -> StateKeeper<'a, L, T>
         ensures log { result.log ≡ log }
         ensures noted { result.noted ≡ noted }
+        ensures well { is_none result.fault ≡ true }
     {
         StateKeeper {
             log,
@@ -51,7 +52,7 @@ impl<'a, L: StateLog + Drop, T: Stopwatch> StateKeeper<'a, L, T> {
     /// # Not specified
     /// Which error.
     pub fn finish(self) -> Option<io::Error>
-        ensures { TellsFault L.StateLog self.entry result }
+        ensures { (after : L) × Finishes L.StateLog self.entry after result }
     {
         let mut keeper = self;
         keeper.sync();
@@ -62,6 +63,7 @@ impl<'a, L: StateLog + Drop, T: Stopwatch> StateKeeper<'a, L, T> {
     fn note(&mut self, sender: &Sender)
         ensures count { (s : Defined) → IsSender s sender.now →
             NotesCount s (L.written self.old.log) (L.written self.new.log) }
+        ensures line { NotesLine L.StateLog self.old self.new }
         ensures fault { KeepsFault L.StateLog self.old self.new }
     {
         if self.fault.is_some() {
@@ -83,6 +85,7 @@ impl<'a, L: StateLog + Drop, T: Stopwatch> StateKeeper<'a, L, T> {
     fn note_if_due(&mut self, now: u64, sender: &Sender)
         ensures count { (s : Defined) → IsSender s sender.now →
             NotesCount s (L.written self.old.log) (L.written self.new.log) }
+        ensures line { NotesLine L.StateLog self.old self.new }
         ensures fault { KeepsFault L.StateLog self.old self.new }
     {
         if now.saturating_sub(self.written) < BETWEEN_LINES {
@@ -119,16 +122,22 @@ impl<'a, L: StateLog + Drop, T: Stopwatch> StateKeeper<'a, L, T> {
 }
 
 impl<L: StateLog + Drop, T: Stopwatch> Observer for StateKeeper<'_, L, T> {
+    ghost follows = { λ first now. Follows L.StateLog first now };
+
     /// Notes how far the sender is.
     fn link(&mut self, _event: LinkEvent, sender: &Sender)
-        ensures { (s : Defined) → IsSender s sender.now → Notes L.StateLog s self.old self.new }
+        ensures follows { (first : Self) → Follows L.StateLog first self.old →
+            Follows L.StateLog first self.new }
+        ensures notes { (s : Defined) → IsSender s sender.now → Notes L.StateLog s self.old self.new }
     {
         self.note(sender);
     }
 
     /// Notes how far the sender is, and syncs the file, each if it is due.
     fn settled(&mut self, sender: &Sender)
-        ensures { (s : Defined) → IsSender s sender.now → Notes L.StateLog s self.old self.new }
+        ensures follows { (first : Self) → Follows L.StateLog first self.old →
+            Follows L.StateLog first self.new }
+        ensures notes { (s : Defined) → IsSender s sender.now → Notes L.StateLog s self.old self.new }
     {
         let now = self.stopwatch.look();
         self.note_if_due(now, sender);

@@ -10,6 +10,8 @@ pub struct Observers<'a, A, B> {
 }
 
 impl<A: Observer, B: Observer> Observer for Observers<'_, A, B> {
+    ghost follows = { λ first now. A.follows first.first now.first };
+
     fn link(&mut self, event: LinkEvent, sender: &Sender) {
         self.first.link(event, sender);
         self.second.link(event, sender);

@@ -37,6 +37,7 @@ pub(crate) fn send_rest<F: RecordingFiles, P: Pause, D: Dial, V: Observer, W: Si
     requires count { count ≤ last_number Second + 1 }
     requires stamp { (now : StampValue) →
         F.stamp_at files.old job.now.file.path.now ≡ Some now → stamp.now ≡ now }
+    ensures observed { (first : V) → V.follows first observer.old → V.follows first observer.new }
     ensures stores { result ≡ Exit.Done → (b : List ℕ) →
         F.file_at files.old job.now.file.path.now ≡ Some b →
         SendsRest ⟦<PlanFeed<F::File, F::Stamped> as Feed>⟧ P.Pause D.Dial D.Reader.Source

@@ -45,7 +45,8 @@ pub fn upload<F: Feed, P: Pause, D: Dial, V: Observer>(
     dial: &mut D,
     observer: &mut V,
 ) -> Uploaded<F::Fault>
-    ensures { (s : Defined) → IsSender s sender →
+    ensures observed { (first : V) → V.follows first observer.old → V.follows first observer.new }
+    ensures uploads { (s : Defined) → IsSender s sender →
         Uploads F.Feed P.Pause D.Dial D.Reader.Source D.Writer.Sink fruitless s result.sender
         result.outcome feed.old feed.new pause.old pause.new dial.old dial.new }
 {
@@ -70,7 +71,8 @@ fn make_links<F: Feed, P: Pause, D: Dial, V: Observer>(
     dial: &mut D,
     observer: &mut V,
 ) -> Outcome<F::Fault>
-    ensures { (s : Defined) → IsSender s supply.old.sender → supply.old.is_ended ≡ false →
+    ensures observed { (first : V) → V.follows first observer.old → V.follows first observer.new }
+    ensures uploads { (s : Defined) → IsSender s supply.old.sender → supply.old.is_ended ≡ false →
         Uploads F.Feed P.Pause D.Dial D.Reader.Source D.Writer.Sink most s supply.new.sender
         result feed.old feed.new pause.old pause.new dial.old dial.new }
 {
@@ -128,7 +130,8 @@ fn back_off<P: Pause, V: Observer>(
     pause: &mut P,
     observer: &mut V,
 )
-    ensures { WaitsBefore P.Pause links fruitless pause.old pause.new }
+    ensures observed { (first : V) → V.follows first observer.old → V.follows first observer.new }
+    ensures waits { WaitsBefore P.Pause links fruitless pause.old pause.new }
 {
     if links == 0 {
         return;
@@ -158,7 +161,8 @@ fn make_link<F: Feed, P: Pause, D: Dial, V: Observer>(
     dial: &mut D,
     observer: &mut V,
 ) -> Result<(), Outcome<F::Fault>>
-    ensures { (most : Option ℕ) (x : Course F P D D.Reader D.Writer) →
+    ensures observed { (first : V) → V.follows first observer.old → V.follows first observer.new }
+    ensures asked { (most : Option ℕ) (x : Course F P D D.Reader D.Writer) →
         DialsNext F.Feed P.Pause D.Dial D.Reader.Source D.Writer.Sink most x
         supply.old feed.old pause.old dial.old →
         LinkAsked F.Feed P.Pause D.Dial D.Reader.Source D.Writer.Sink most result x

@@ -30,21 +30,26 @@ pub enum LinkEvent {
     Left(LinkEnd),
 }
 
-/// Observes an upload. No clause says what it does with the reports; it changes nothing of what is
-/// sent. What goes wrong with its own work it keeps, for whoever asks it afterwards.
+/// Observes an upload; it changes nothing of what is sent. What goes wrong with its own work it
+/// keeps, for whoever asks it afterwards.
 pub trait Observer {
+    /// What may have become of an observer by reports.
+    ghost follows: { Self → Self → Type 0 };
+
     /// The link changed; so far is the sender.
     ///
     /// # Not specified
-    /// What it does.
-    fn link(&mut self, event: LinkEvent, sender: &Sender);
+    /// What it does, beyond what each observer says of itself.
+    fn link(&mut self, event: LinkEvent, sender: &Sender)
+        ensures { (first : Self) → follows first self.old → follows first self.new };
 
     /// A turn over the link is over; so far is the sender. It may have no more settled numbers than
     /// before.
     ///
     /// # Not specified
-    /// What it does.
-    fn settled(&mut self, sender: &Sender);
+    /// What it does, beyond what each observer says of itself.
+    fn settled(&mut self, sender: &Sender)
+        ensures { (first : Self) → follows first self.old → follows first self.new };
 }
 
 /// An observer that does nothing.
@@ -52,6 +57,8 @@ pub trait Observer {
 pub struct NoObserver;
 
 impl Observer for NoObserver {
+    ghost follows = { λ first now. Unit {0} };
+
     fn link(&mut self, _event: LinkEvent, _sender: &Sender) {}
 
     fn settled(&mut self, _sender: &Sender) {}

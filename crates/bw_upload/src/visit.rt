@@ -29,7 +29,8 @@ pub(crate) fn visit<F: Feed, P: Pause, D: Dial, V: Observer>(
     link: &mut Duplex<D::Reader, D::Writer>,
     observer: &mut V,
 ) -> Result<LinkEnd, Outcome<F::Fault>>
-    ensures { (most : Option ℕ) (x : Course F P D D.Reader D.Writer) →
+    ensures observed { (first : V) → V.follows first observer.old → V.follows first observer.new }
+    ensures visits { (most : Option ℕ) (x : Course F P D D.Reader D.Writer) →
         BeginsVisit x supply.old feed.old pause.old link.old →
         Visits F.Feed P.Pause D.Dial D.Reader.Source D.Writer.Sink most result x
         supply.new feed.new pause.new }

@@ -4,8 +4,8 @@ use Rattle.bw_console.specs.declared.exit.Exit.TheVariants as exits
 use Rattle.bw_send_file.proofs.EndSteps.{stores_after}
 use Rattle.bw_send_file.proofs.resuming.send_feed_after.Goals as goal
 
-pub returns-in_default : goal.returns-in_default
-returns-in_default g c = λ s has.
+pub returns-in_default-clause-sent : goal.returns-in_default-clause-sent
+returns-in_default-clause-sent g c = λ s has.
     let l = c.give_up.ensures.line in (
       record { reads_all = true; out = Nothing; faults = l.0; exit = exits.Memory },
       sym c.give_up.ensures.exit,
@@ -17,10 +17,10 @@ returns-in_default g c = λ s has.
       record { printed = refl; reported = l.2 },
     )
 
-pub returns : goal.returns
-returns g c = λ s has.
+pub returns-clause-sent : goal.returns-clause-sent
+returns-clause-sent g c = λ s has.
     let is = c.in-Ok.ensures s (rw c.copy.ensures has) in
-    let went = c.upload-uploaded.ensures s is in
+    let went = c.upload-uploaded.ensures.uploads s is in
     let r = c.report_end.ensures went.last.filling.sender went.sender_is in (
       r.0,
       r.1,

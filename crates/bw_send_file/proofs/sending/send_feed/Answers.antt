@@ -22,7 +22,7 @@ pub returns : goal.returns
 returns g c =
     let is : IsSender (new_sender c.args.recorder.now.name.now) c.in-Ok.sender =
     subst (λ (n : List ℕ). IsSender (new_sender n) c.in-Ok.sender) c.copy.ensures c.in-Ok.ensures in
-    let went = c.upload-uploaded.ensures (new_sender c.args.recorder.now.name.now) is in
+    let went = c.upload-uploaded.ensures.uploads (new_sender c.args.recorder.now.name.now) is in
     let r = c.report_end.ensures went.last.filling.sender went.sender_is in (
       r.0,
       r.1,

@@ -5,7 +5,8 @@ use Rattle.bw_console.specs.declared.exit.Exit.{Exit}
 use Rattle.bw_console.specs.declared.exit.Exit.TheVariants as exits
 use Rattle.bw_recorder.specs.SettingLists.{options_of}
 use Rattle.bw_send_state.specs.FilesSentOn.{EndsKept}
-use Rattle.bw_send_state.proofs.StateSteps.{continued, count_is, ends_kept, kept_done, resumes, sends_same, unsent_before}
+use Rattle.bw_send_state.proofs.KeeperSteps.{follows_first, log_kept}
+use Rattle.bw_send_state.proofs.StateSteps.{log_same, continued, count_is, ends_kept, kept_done, resumes, sends_same, unsent_before}
 use Rattle.bw_send_state.proofs.file.send_file_on.Goals as goal
 
 pub returns-in-Ok-None : goal.returns-in-Ok-None
@@ -95,8 +96,14 @@ returns g c =
     let e = c.report_end.ensures in
     let asked : options_of (map string_bytes c.args.job.now.file.settings.now) c.args.job.now.file.is_strict c.args.job.now.file.frames
     ≡ Some c.in-Ok-Some.options = search rules in
-    let kept = subst (λ (x : Exit). EndsKept c.args.job.now.place.path.now x c.report_end.result e.0) (sym s.1)
-    (ends_kept c.args.job.now.place.path.now c.finish.result _ c.report_end.result e.0 e.2) in (
+    let f = c.finish.ensures in
+    let noted = log_kept g.B.Log.StateLog c.new.result _ f.0 c.finish.result c.new.ensures.well
+    (c.send_rest-exit.ensures.observed _ (follows_first g.B.Log.StateLog c.new.result)) f.1 in
+    let kept = subst
+    (λ (x : Exit). EndsKept g.B.Log.StateLog c.new.result.log f.0 c.args.job.now.place.path.now x c.report_end.result e.0)
+    (sym s.1)
+    (ends_kept g.B.Log.StateLog c.new.result.log f.0 c.args.job.now.place.path.now c.finish.result _ c.report_end.result e.0
+    noted e.2) in (
       record { is_state_well = true; began = b.0; sent = s.0; unkept = e.0; exit = c.report_end.result },
       refl,
       inr (
@@ -104,10 +111,11 @@ returns g c =
         asked,
         inr (record {
           count = c.in-Ok.beginning.count;
-          log = c.in-Ok.beginning.log;
+          log = c.new.result.log;
           between = record { pause = c.begin.new.pause; dial = c.begin.new.dial };
-          begins = b.1;
+          begins = log_same _ _ _ _ _ _ _ _ _ _ _ (sym c.new.ensures.log) b.1;
           sends = sends_same _ _ _ _ _ _ _ _ _ _ _ c.in-Ok.ensures.files c.in-Ok.ensures.stamps s.2;
+          after = f.0;
           kept = kept;
           stores = λ done bytes at. record {
             o = c.in-Ok-Some.options;
@@ -118,7 +126,7 @@ returns g c =
             found_is = count_is _ _ _ b.1.knows.says;
             count = c.in-Ok.beginning.count;
             begins = resumes _ _ _ _ _ _ _ _ _ _ b.1.starts;
-            sent = c.send_rest-exit.ensures.stores (sym s.1 ∙ kept_done _ _ _ _ kept done) bytes
+            sent = c.send_rest-exit.ensures.stores (sym s.1 ∙ kept_done _ _ _ _ _ _ _ kept done) bytes
                 (ap (λ (files : List ℕ → Option (List ℕ)). files c.args.job.now.file.path.now) c.in-Ok.ensures.files ∙ at);
           };
         }),

@@ -17,7 +17,7 @@ returns-in-Ok-true-clause-stores g c = λ done b at.
       recording = r.recording;
       is = r.is;
       sends = λ s before.
-          let sent = c.send_feed_after.ensures s before.has in
+          let sent = c.send_feed_after.ensures.sent s before.has in
           rest_sent _ _ _ _ _ _ c.args.count
           (plan (block_frames c.args.options.now r.recording.outline.format) r.recording) s _ _ _ _ sent.0
           (c.in-Ok-true.ensures.known c.in-Ok-true.field-0-test _ r.gives) before sent.2 (sent.1 ∙ done);
@@ -27,7 +27,7 @@ pub returns-in-Ok-true-clause-did : goal.returns-in-Ok-true-clause-did
 returns-in-Ok-true-clause-did g c =
     let w = c.warn.ensures in
     let p = passed _ _ _ _ _ _ _ c.in-Ok-true.field-0-test c.in-Ok-true.ensures.ok in
-    let s = c.send_feed_after.ensures (stored_sender c.args.job.now.recorder.name.now p.0)
+    let s = c.send_feed_after.ensures.sent (stored_sender c.args.job.now.recorder.name.now p.0)
     (record { name_is = refl; offered = p.1.many; stored = refl; unclosed = p.1.unclosed }) in (
       record {
         is_system_well = true;

@@ -11,22 +11,23 @@ loop-links-init g c = record {
   so_far = λ s is unended.
       links_none g.F.Feed g.P.Pause g.D.Dial g.D.Reader.Source g.D.Writer.Sink c.args.most s _ _ _ _ is unended;
   few = omega arith;
+  observed = λ first h. h;
 }
 
-pub returns-in-Err : goal.returns-in-Err
-returns-in-Err g c = λ s is unended.
+pub returns-in-Err-clause-uploads : goal.returns-in-Err-clause-uploads
+returns-in-Err-clause-uploads g c = λ s is unended.
     let so = c.loop-links.invariant.so_far s is unended in
     links_unprepared g.F.Feed g.P.Pause g.D.Dial g.D.Reader.Source g.D.Writer.Sink c.args.most c.in-Err.outcome
     c.loop-links.links c.loop-links.fruitless s _ _ _ _ _ _ _ _ _ _ so
     (c.in-Err.ensures so.after.filling so.filling)
 
-pub returns-in-Err-make_link : goal.returns-in-Err-make_link
-returns-in-Err-make_link g c = λ s is unended.
+pub returns-in-Err-make_link-clause-uploads : goal.returns-in-Err-make_link-clause-uploads
+returns-in-Err-make_link-clause-uploads g c = λ s is unended.
     let so = c.loop-links.invariant.so_far s is unended in
     let q = c.in_default.ensures so.after.filling so.filling in
     let next = links_ready g.F.Feed g.P.Pause g.D.Dial g.D.Reader.Source g.D.Writer.Sink c.args.most c.loop-links.links
-    c.loop-links.fruitless s _ _ _ _ _ _ _ _ _ _ _ so q c.back_off.ensures in
-    let k = c.in-Err-make_link.ensures c.args.most (with_filling so.after q.after) next in
+    c.loop-links.fruitless s _ _ _ _ _ _ _ _ _ _ _ so q c.back_off.ensures.waits in
+    let k = c.in-Err-make_link.ensures.asked c.args.most (with_filling so.after q.after) next in
     links_stopped g.F.Feed g.P.Pause g.D.Dial g.D.Reader.Source g.D.Writer.Sink c.args.most c.in-Err-make_link.outcome
     c.loop-links.links c.loop-links.fruitless s _ _ _ _ _ _ _ _ _ _ _ _ _ _ so q k
 
@@ -36,8 +37,8 @@ loop-links-preserved g c = record {
       let so = c.loop-links.invariant.so_far s is unended in
       let q = c.in_default.ensures so.after.filling so.filling in
       let next = links_ready g.F.Feed g.P.Pause g.D.Dial g.D.Reader.Source g.D.Writer.Sink c.args.most c.loop-links.links
-      c.loop-links.fruitless s _ _ _ _ _ _ _ _ _ _ _ so q c.back_off.ensures in
-      let k = c.in_default-make_link.ensures c.args.most (with_filling so.after q.after) next in
+      c.loop-links.fruitless s _ _ _ _ _ _ _ _ _ _ _ so q c.back_off.ensures.waits in
+      let k = c.in_default-make_link.ensures.asked c.args.most (with_filling so.after q.after) next in
       links_more g.F.Feed g.P.Pause g.D.Dial g.D.Reader.Source g.D.Writer.Sink c.args.most c.loop-links.links
       c.loop-links.fruitless c.settled-before.result c.settled.result c.count_after-fruitless.result s
       _ _ _ _ _ _ _ _ _ _ _ _ _ _ so q k
@@ -46,18 +47,20 @@ loop-links-preserved g c = record {
   few = rw c.count_after-fruitless.ensures (few_more
       g.F.Feed g.P.Pause g.D.Dial g.D.Reader.Source g.D.Writer.Sink c.args.most c.settled-before.result c.settled.result
       c.loop-links.fruitless c.loop-links.links c.loop-links.invariant.few);
+  observed = λ first h.
+      c.in_default-make_link.ensures.observed first (c.back_off.ensures.observed first (c.loop-links.invariant.observed first h));
 }
 
-pub returns-then-is_done : goal.returns-then-is_done
-returns-then-is_done g c = λ s is unended.
+pub returns-then-is_done-clause-uploads : goal.returns-then-is_done-clause-uploads
+returns-then-is_done-clause-uploads g c = λ s is unended.
     let so = c.loop-links.invariant.so_far s is unended in
     links_over g.F.Feed g.P.Pause g.D.Dial g.D.Reader.Source g.D.Writer.Sink c.args.most Done c.loop-links.links
     c.loop-links.fruitless s _ _ _ _ _ _ _ so
     (sym (ap (λ (e : Bool). is_done so.after.filling.sender e) (sym so.filling.ended)
     ∙ sym (c.is_done.ensures so.after.filling.sender so.filling.sender) ∙ c.if-is_done.true)) refl so.filling.feed
 
-pub returns-else-is_done : goal.returns-else-is_done
-returns-else-is_done g c = λ s is unended.
+pub returns-else-is_done-clause-uploads : goal.returns-else-is_done-clause-uploads
+returns-else-is_done-clause-uploads g c = λ s is unended.
     let so = c.loop-links.invariant.so_far s is unended in
     let many = so.many in
     links_over g.F.Feed g.P.Pause g.D.Dial g.D.Reader.Source g.D.Writer.Sink c.args.most Limit c.loop-links.links

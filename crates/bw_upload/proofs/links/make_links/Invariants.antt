@@ -10,4 +10,5 @@ invariant-loop-links g l = record {
       LinksSoFar g.F.Feed g.P.Pause g.D.Dial g.D.Reader.Source g.D.Writer.Sink l.most l.links l.fruitless s
       l.fn.feed l.fn.pause l.fn.dial l.supply l.feed l.pause l.dial;
   few : l.fruitless ≤ l.links;
+  observed : (first : g.row.V.Denot) → g.V.Observer.follows first l.fn.observer → g.V.Observer.follows first l.observer;
 }

@@ -14,3 +14,14 @@ returns-in-Err-clause-count g c = λ s is.
       inr (subst (λ (t : List ℕ). Begins (g.L.StateLog.written c.args.self.now.log) t
           (g.L.StateLog.written c.append.new.self)) text c.in-Err.ensures.err),
     )
+
+pub returns-in-Err-clause-line : goal.returns-in-Err-clause-line
+returns-in-Err-clause-line g c =
+    let text : c.as_bytes.result.now ≡ as_line (settled_text c.in-Some.count) =
+    c.as_bytes.ensures.value ∙ c.as_str.ensures.value ∙ c.settled_line.ensures in
+    inr (
+      c.in-Some.count,
+      subst (λ (t : List ℕ). Begins (g.L.StateLog.written c.args.self.now.log) t
+          (g.L.StateLog.written c.append.new.self)) text c.in-Err.ensures.err,
+      λ none. absurd cc,
+    )
