@@ -17,9 +17,9 @@ use std::alloc::Global;
 /// The longest piece that is read from one of many, in bytes.
 const SHORTER_PIECE: usize = 65_536;
 
-/// With so many connections at once, the longest pieces are read: what they hold of them is memory
-/// for each connection.
-const FEW: usize = 16;
+/// While there are so many connections, the longest pieces are read, whatever their places: what
+/// they hold of them is memory for each connection.
+const FEW: u64 = 16;
 
 /// The longest wait, in milliseconds: a silent connection may be ended this much later than its
 /// time.
@@ -70,7 +70,7 @@ pub fn run_event_loop<B: Reactor, T: Turns, O: Sink, E: Sink>(
     let Ok(mut event_loop) = EventLoop::new(alloc, bounds.places) else {
         return Exit::Memory;
     };
-    let Ok(mut buffer) = Vec::from_elem(alloc, 0u8, piece_for(bounds.places)) else {
+    let Ok(mut buffer) = Vec::from_elem(alloc, 0u8, MESSAGE_PIECE) else {
         return Exit::Memory;
     };
     bw_connections::laws::law_connections::<B::Link>();
@@ -95,11 +95,11 @@ pub fn run_event_loop<B: Reactor, T: Turns, O: Sink, E: Sink>(
     Exit::Device
 }
 
-/// How many bytes are read at once, by how many connections there may be.
-fn piece_for(places: usize) -> usize
+/// How many bytes are read at once, by how many connections there are.
+fn piece_for(connected: u64) -> usize
     ensures { result ≤ longest_message_piece }
 {
-    if places > FEW {
+    if connected > FEW {
         SHORTER_PIECE
     } else {
         MESSAGE_PIECE
@@ -153,6 +153,7 @@ fn serve_round<B: Reactor, T: Turns, O: Sink, E: Sink>(
         idle: bounds.idle,
         log,
     };
-    event_loop.serve_each(alloc, server, buffer.as_mut_slice(), round, out, faults);
+    let piece = piece_for(event_loop.connected()).min(buffer.len());
+    event_loop.serve_each(alloc, server, &mut buffer[..piece], round, out, faults);
     Ok(())
 }
