@@ -13,12 +13,6 @@ FUNCTION = re.compile(rf" *{PUB}(?:const |unsafe |final )*fn (\w+)")
 OWNER = re.compile(r" *(?:unsafe )?impl\b| *" + PUB + r"trait\b")
 ITEM = re.compile(rf"(?m)^ *{PUB}(?:const|static|enum|struct) (\w+)")
 MOST = 48  # bodies of a batch, so that their check stays small
-# Functions whose clauses grind and search alone don't prove, as `tools/wrong_bodies --right` says: a check tries more.
-PROVED_OTHERWISE = {
-    "bw_connections": {"connections::Connections::free_place"},
-    "bw_plan": {"setting_text::key_len"},
-    "bw_serve": {"serving_in_turn::serve_next"},
-}
 UNNAMED = "()"  # a type without a name, as a tuple: what a check names its functions by isn't known
 
 
@@ -200,26 +194,6 @@ class Sources:
     def clauses(self, path):
         """The names of what a function ensures."""
         return re.findall(r"(?m)^ *ensures (\w+) \{", self.text_of(path))
-
-    def last_goals(self, body):
-        """The goals at the end of a copy that has one clause alone, where the function has no tactics of its own."""
-        if body.copy_of in PROVED_OTHERWISE.get(self.crate.name, ()):
-            return []
-        text, labels = self.text_of(body.copy_of), self.clauses(body.copy_of)
-        if "#[tactic" in text or not body.clauses and len(labels) > 1:
-            return []
-        return [f"returns-clause-{it}" for it in sorted(body.clauses)] or ["returns"]
-
-    def is_generic(self, path):
-        """Whether the answers of a function take what stands for its types: its own, or those of its `impl`."""
-        text = self.text_of(path)
-        above = self.texts[self.files[path]].partition(text)[0].splitlines()
-        owner = next((it for it in reversed(above) if OWNER.match(it) and not it.endswith(("}", ";"))), "")
-        heads = [re.search(r"\bfn \w+([^(]*)", text)[1]]
-        if text.startswith("    "):
-            heads.append(re.match(r".*?\bimpl(<.*?>|)|", owner)[1] or "")
-        has_types = any(re.search(r"[<,]\s*(?!')\w", it) for it in heads)
-        return has_types or bool(re.search(r"\btrait\b", owner) or re.search(r"&?(mut )?\bimpl\b", text.partition(" {\n")[0]))
 
     def answers(self, path):
         """The answers in a function's proof that are about its clauses, each with its name before it."""
