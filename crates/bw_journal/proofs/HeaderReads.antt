@@ -1,5 +1,5 @@
 -- Headers are read back as they were written.
-use Rattle.std.proofs.Common.{◌≡◌, ℕ, ◌<◌, ◌^◌, Bool, true, false, cond, ◌&&◌, ◌||◌, Some, None, Err, List, [], ◌∷◌}
+use Rattle.std.proofs.Common.{◌≡◌, ℕ, ◌<◌, ◌^◌, Bool, true, false, cond, ◌&&◌, ◌||◌, Some, None, Err, List, ◌∷◌}
 use Rattle.std.proofs.Common.{◌++◌, length, take, refl, ap, ◌∙◌, arith}
 use Rattle.std.specs.Prelude.{option_and_then, nat_lt, ◌==◌}
 use Rattle.std.specs.Int.{w32}

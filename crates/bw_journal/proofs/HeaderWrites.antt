@@ -1,10 +1,10 @@
 -- A header is written as it is defined.
-use Rattle.std.proofs.Common.{◌≡◌, ℕ, ◌-◌, List, [], ◌∷◌, ◌++◌, length, take, drop, sym, ap, ◌∙◌}
+use Rattle.std.proofs.Common.{◌≡◌, ℕ, ◌-◌, List, [], ◌∷◌, ◌++◌, length, drop, sym, ap, ◌∙◌}
 use Rattle.std.proofs.lemmas.List.{take_at, drop_at, append-nil}
 use Rattle.bw_model.specs.Bytes.{le16}
 use Rattle.bw_journal.specs.Seals.{check, sealed}
 use Rattle.bw_journal.specs.JournalHeaders.{Header, header_content, header_bytes}
-use Rattle.bw_journal.proofs.Lengths.{check-length, header_content_len}
+use Rattle.bw_journal.proofs.Lengths.{header_content_len}
 use borrow.Rule.Slice.PartMut.{put_mid}
 
 -- bytes that are written over

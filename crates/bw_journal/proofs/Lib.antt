@@ -3,6 +3,7 @@ pub mod Lengths
 pub mod ReplaySteps
 pub mod RowLaws
 pub mod SealLaws
+pub mod SealPlaces
 pub mod TornLaws
 pub mod HeaderReads
 pub mod HeaderWrites

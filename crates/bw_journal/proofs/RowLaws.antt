@@ -1,6 +1,6 @@
 -- A table gets one row for each entry.
-use Rattle.std.proofs.Common.{◌≡◌, ℕ, zero, suc, ◌+◌, ◌*◌, ◌/◌, ◌%◌, ◌≤◌, true, List, [], ◌∷◌, ◌++◌, length, drop, ap, ◌∙◌}
-use Rattle.std.proofs.Common.{refl, Some, length-append, arith}
+use Rattle.std.proofs.Common.{◌≡◌, ℕ, zero, suc, ◌+◌, ◌*◌, ◌/◌, ◌≤◌, true, List, [], ◌∷◌, ◌++◌, length, drop, ap, ◌∙◌}
+use Rattle.std.proofs.Common.{refl, length-append, arith}
 use Rattle.std.specs.Prelude.{◌<◌, is_some, slice_index}
 use Rattle.std.proofs.lemmas.Bool.{and_parts, and_from}
 use Rattle.std.proofs.lemmas.List.{nil_from_length, drop-append-le, get_or_append_left, length-drop, get_or_at}
@@ -9,7 +9,7 @@ use Rattle.bw_model.specs.Take.{Parts, Verdict}
 use Rattle.bw_model.specs.Replies.{verdict_code, verdict_of}
 use Rattle.bw_journal.specs.Entries.{longest_entry}
 use Rattle.bw_journal.specs.JournalHeaders.{header_len}
-use Rattle.bw_journal.specs.Rows.{have_codes, row_count, IsWholeTable}
+use Rattle.bw_journal.specs.Rows.{have_codes, IsWholeTable}
 use Rattle.bw_journal.proofs.SealLaws.{verdict_again}
 
 codes_push : (n : ℕ) (table digest : List ℕ) (v : Verdict) → length table ≡ 33 * n → length digest ≡ 32 →

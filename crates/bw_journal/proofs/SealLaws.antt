@@ -1,7 +1,7 @@
 -- What is sealed is opened again, and what is cut isn't.
 use Rattle.std.proofs.Common.{◌≡◌, ℕ, zero, suc, ◌+◌, ◌-◌, ◌≤◌, ◌<◌, ◌^◌, Bool, true, cond, ◌&&◌, Some, None, List, []}
 use Rattle.std.proofs.Common.{◌∷◌, ◌++◌, length, take, drop, refl, sym, ap, ◌∙◌, ◌⊎◌, inl, inr, append_assoc, arith}
-use Rattle.std.specs.Prelude.{option_map, option_and_then, nat_le, ◌==◌}
+use Rattle.std.specs.Prelude.{option_map, option_and_then, nat_le}
 use Rattle.std.specs.Int.{w16, w32}
 use Rattle.std.specs.Str.{bytes_eq}
 use Rattle.std.proofs.lemmas.Bool.{and_parts, cases_lt, eq-eqb, le-ltb, lt-ltb, leb-true}

@@ -1,18 +1,17 @@
 -- A prefix of an entry is told apart from damage.
-use Rattle.std.proofs.Common.{◌≡◌, ℕ, zero, suc, ◌+◌, ◌-◌, ◌≤◌, ◌<◌, Bool, true, false, ◌&&◌, ◌||◌, List, [], ◌∷◌}
-use Rattle.std.proofs.Common.{◌++◌, length, take, refl, sym, ap, ◌∙◌, ◌⊎◌, inl, inr, append_assoc, arith}
-use Rattle.std.specs.Prelude.{slice_index, nat_le, nat_lt}
+use Rattle.std.proofs.Common.{◌≡◌, ℕ, zero, suc, ◌+◌, ◌≤◌, ◌<◌, Bool, true, ◌||◌, List, [], ◌∷◌}
+use Rattle.std.proofs.Common.{◌++◌, length, take, refl, ap, ◌∙◌, ◌⊎◌, inl, inr, append_assoc, arith}
+use Rattle.std.specs.Prelude.{slice_index, nat_lt}
 use Rattle.std.proofs.lemmas.Bool.{cases_lt, eq-eqb, le-leb, le-ltb, lt-ltb}
 use Rattle.std.proofs.lemmas.List.{length-take-le}
 use Rattle.bw_model.specs.Bytes.{u16_at}
 use Rattle.bw_model.specs.Take.{Request, Open, Block, Mark, SetField, Close}
 use Rattle.bw_model.specs.Wire.{kind}
-use Rattle.bw_model.specs.Replies.{verdict_code}
 use Rattle.bw_journal.specs.Seals.{check, sealed, has_length}
 use Rattle.bw_journal.specs.Entries.{JournalEntry, noted, noted_payload, content, sealed_entry, may_have_length}
 use Rattle.bw_journal.specs.Entries.{is_torn_entry}
 use Rattle.bw_journal.specs.Noted.{IsNotable}
-use Rattle.bw_journal.proofs.Lengths.{content-long, entry_length, sealed-length}
+use Rattle.bw_journal.proofs.Lengths.{content-long, sealed-length}
 use Rattle.bw_journal.proofs.SealLaws.{content-length, entries_are_short, number_of_cut, sound_cut}
 
 -- an element of a prefix

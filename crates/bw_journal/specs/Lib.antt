@@ -1,4 +1,5 @@
 pub mod Seals
+pub mod SealDigests
 pub mod JournalHeaders
 pub mod Entries
 pub mod Notes

@@ -1,5 +1,6 @@
 //! Entries of a journal, as they are read.
 ghost use Rattle.std.specs.Prelude.{◌≡◌, ◌+◌, ◌≤◌, IsTrue, IfSome, option_map, length};
+ghost use Rattle.sha2.specs.Sha256.{sha256};
 ghost use Rattle.bw_model.specs.Bytes.{zeros as zero_bytes};
 ghost use Rattle.bw_model.specs.Limits.{longest_block};
 ghost use Rattle.bw_model.specs.Wire.{is_request};
@@ -9,8 +10,9 @@ ghost use Rattle.bw_journal.specs.Entries.{first_entry as first_entry_in};
 ghost use Rattle.bw_journal.specs.Entries.{is_torn_entry as is_torn_entry_of};
 ghost use Rattle.bw_journal.specs.Entries.{may_have_length as may_have_length_of, longest_entry};
 ghost use Rattle.bw_journal.specs.Refs.{entry_found, entry_said};
+ghost use Rattle.bw_journal.specs.SealDigests.{content_at_start};
 
-use crate::seal::{is_cut_short, opened};
+use crate::seal::{is_cut_short, opened_with_digest};
 use bw_bytes::{read_u16, read_u32};
 use bw_request::{LONGEST_BLOCK, RequestRef, Verdict};
 use bw_wire::decode_request;
@@ -36,7 +38,6 @@ pub struct EntryRef<'a> {
 ///
 /// None if the start is torn, or is no entry. `zeros` are 32,768 zero bytes, which the entry of a
 /// block borrows in place of samples.
-#[tactic(auto, unfolding(crate::specs::Entries::first_entry))]
 pub fn first_entry<'a>(bytes: &'a [u8], zeros: &'a [u8]) -> Option<(EntryRef<'a>, usize)>
     requires { zeros.now ≡ zero_bytes longest_block }
     ensures value { entry_found result ≡ first_entry_in bytes.now }
@@ -45,7 +46,26 @@ pub fn first_entry<'a>(bytes: &'a [u8], zeros: &'a [u8]) -> Option<(EntryRef<'a>
     ensures within { IfSome result (λ x. x.1 ≤ length bytes.now) }
     ensures short { IfSome result (λ x. x.1 ≤ longest_entry) }
 {
-    let Some(content) = opened(bytes) else {
+    first_entry_with_digest(bytes, zeros, None)
+}
+
+/// The entry at the start of the bytes, the digest of whose content may be known, and how many
+/// bytes it takes.
+#[tactic(auto, unfolding(crate::specs::Entries::first_entry))]
+pub(crate) fn first_entry_with_digest<'a>(
+    bytes: &'a [u8],
+    zeros: &'a [u8],
+    digest: Option<[u8; 32]>,
+) -> Option<(EntryRef<'a>, usize)>
+    requires zeros { zeros.now ≡ zero_bytes longest_block }
+    requires digest { IfSome digest (λ d. d ≡ sha256 (content_at_start bytes.now)) }
+    ensures value { entry_found result ≡ first_entry_in bytes.now }
+    ensures digest { IfSome result (λ x. length x.0.digest.now ≡ 32) }
+    ensures fits { IfSome result (λ x. IsTrue (is_request (meaning x.0.request))) }
+    ensures within { IfSome result (λ x. x.1 ≤ length bytes.now) }
+    ensures short { IfSome result (λ x. x.1 ≤ longest_entry) }
+{
+    let Some(content) = opened_with_digest(bytes, digest) else {
         return None;
     };
     let Some(entry) = entry_of(content, zeros) else {

@@ -10,6 +10,7 @@ pub mod laws;
 mod memory;
 mod reader;
 mod seal;
+mod seal_digests;
 mod story;
 mod writer;
 

@@ -17,10 +17,11 @@ ghost use Rattle.bw_journal.specs.Refs.{entry_said};
 ghost use Rattle.bw_journal.specs.Stories.{story_of};
 ghost use Rattle.bw_journal.specs.Faults.{IsJournalFault, fault_meaning};
 
-use crate::entry::{EntryRef, first_entry, is_torn_entry};
+use crate::entry::{EntryRef, first_entry_with_digest, is_torn_entry};
 use crate::fault::ReplayFault;
 use crate::header::{JournalHeader, first_header, is_torn_header, names};
 use crate::seal::opened;
+use crate::seal_digests::digest_at;
 use crate::story::Replayed;
 use bw_layout::Limit;
 use bw_request::{LONGEST_BLOCK, Name};
@@ -100,9 +101,12 @@ fn replay_entries(alloc: Global, existed: bool, bytes: &[u8]) -> Result<Replayed
     let zeros = make_zeros(alloc)?;
     let mut state = unopened(alloc, existed);
     let mut table = Vec::new(alloc);
+    let mut digests = None;
     let mut used = JournalHeader::LEN;
     for _step in 0..bytes.len() {
-        let Some((entry, len)) = first_entry(&bytes[used..], zeros.as_slice()) else {
+        let digest = digest_at(&mut digests, bytes, used);
+        let Some((entry, len)) = first_entry_with_digest(&bytes[used..], zeros.as_slice(), digest)
+        else {
             let torn = bytes.len() - used;
             return Ok(Replayed {
                 state,

@@ -1,39 +1,62 @@
 //! Bytes between their length and a check.
 ghost use Rattle.std.specs.Prelude.{◌≡◌, ◌+◌, ◌-◌, ◌^◌, ◌<◌, ◌≤◌, ◌++◌, ℕ, IfSome, option_map, length};
-ghost use Rattle.std.specs.Prelude.{take, vec_len, vec_capacity};
+ghost use Rattle.std.specs.Prelude.{IsTrue, take, vec_len, vec_capacity};
 ghost use Rattle.std.specs.Str.{bytes_eq};
+ghost use Rattle.sha2.specs.Sha256.{sha256};
 ghost use Rattle.bw_model.specs.Bytes.{le16};
 ghost use Rattle.bw_layout.specs.Appending.{Gains};
 ghost use Rattle.bw_journal.specs.Seals.{opened as opened_in, check as check_of};
 ghost use Rattle.bw_journal.specs.Seals.{has_length as is_length_sound};
 ghost use Rattle.bw_journal.specs.Seals.{is_cut_short as is_cut_short_of};
+ghost use Rattle.bw_journal.specs.SealDigests.{content_at_start, is_whole as is_whole_of};
 
 use bw_bytes::read_u16;
 use sha2::{Digest, Sha256};
 
 /// The bytes that are sealed at the start.
-#[tactic(auto, unfolding(crate::specs::Seals::opened))]
 pub(crate) fn opened(bytes: &[u8]) -> Option<&[u8]>
     ensures value { option_map (λ c. c.now) result ≡ opened_in bytes.now }
     ensures within { IfSome result (λ c. 12 + length c.now ≤ length bytes.now) }
 {
-    if bytes.len() < 4 {
+    opened_with_digest(bytes, None)
+}
+
+/// The bytes that are sealed at the start, whose digest may be known.
+#[tactic(auto, unfolding(crate::specs::Seals::opened, crate::specs::SealDigests::is_whole, crate::specs::SealDigests::content_at_start))]
+pub(crate) fn opened_with_digest(bytes: &[u8], digest: Option<[u8; 32]>) -> Option<&[u8]>
+    requires { IfSome digest (λ d. d ≡ sha256 (content_at_start bytes.now)) }
+    ensures value { option_map (λ c. c.now) result ≡ opened_in bytes.now }
+    ensures within { IfSome result (λ c. 12 + length c.now ≤ length bytes.now) }
+{
+    if !is_whole(bytes) {
         return None;
     }
-    if !has_length(bytes) {
-        return None;
-    }
-    let len = usize::from(read_u16(bytes, 0));
-    if bytes.len() < 12 + len {
-        return None;
-    }
-    let content = &bytes[4..4 + len];
-    let found = &bytes[4 + len..12 + len];
-    if is_check(found, content) {
+    let content = content_of(bytes);
+    let end = 4 + content.len();
+    if is_check_with_digest(&bytes[end..end + 8], content, digest) {
         Some(content)
     } else {
         None
     }
+}
+
+/// Whether a length with its complement is at the start, and all bytes that it says.
+#[tactic(auto, unfolding(crate::specs::SealDigests::is_whole))]
+pub(crate) fn is_whole(bytes: &[u8]) -> bool
+    ensures { result ≡ is_whole_of bytes.now }
+{
+    bytes.len() >= 4 && has_length(bytes) && bytes.len() >= 12 + usize::from(read_u16(bytes, 0))
+}
+
+/// The content at the start of whole bytes, whose check isn't compared.
+#[tactic(auto, unfolding(crate::specs::SealDigests::is_whole, crate::specs::SealDigests::content_at_start))]
+pub(crate) fn content_of(bytes: &[u8]) -> &[u8]
+    requires { IsTrue (is_whole_of bytes.now) }
+    ensures content { result.now ≡ content_at_start bytes.now }
+    ensures within { 12 + length result.now ≤ length bytes.now }
+{
+    let len = usize::from(read_u16(bytes, 0));
+    &bytes[4..4 + len]
 }
 
 /// Whether the complement of their length follows it at the start of four bytes or more.
@@ -62,6 +85,18 @@ pub(crate) fn is_check(found: &[u8], content: &[u8]) -> bool
 {
     let digest = Sha256::digest(content);
     found == &digest[..8]
+}
+
+/// Whether these bytes are the check of a content, whose digest may be known.
+#[tactic(auto, unfolding(crate::specs::Seals::check))]
+fn is_check_with_digest(found: &[u8], content: &[u8], digest: Option<[u8; 32]>) -> bool
+    requires { IfSome digest (λ d. d ≡ sha256 content.now) }
+    ensures { result ≡ bytes_eq found.now (check_of content.now) }
+{
+    match digest {
+        Some(known) => found == &known[..8],
+        None => is_check(found, content),
+    }
 }
 
 /// The digest of a content, which begins with its check.

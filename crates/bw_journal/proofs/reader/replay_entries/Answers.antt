@@ -1,4 +1,4 @@
-use Rattle.std.proofs.Common.{◌≡◌, ◌≤◌, ◌+◌, ◌-◌, ℕ, List, length, drop, Err, sym, subst, ◌∙◌, ap, arith, refl}
+use Rattle.std.proofs.Common.{◌≡◌, ◌≤◌, ◌+◌, ◌-◌, ℕ, List, length, drop, Err, sym, subst, ◌∙◌, ap, arith, rules, refl}
 use Rattle.std.proofs.lemmas.List.{take_rest, length-drop}
 use Rattle.bw_model.specs.Take.{Parts}
 use Rattle.bw_journal.specs.Entries.{JournalEntry, first_entry}
@@ -18,6 +18,7 @@ loop-step-init c =
       samples = omega arith;
       within = omega arith;
       rows = no_rows c.unopened-state.result.parts c.new-table.result.items 29 none c.new-table.ensures.items (omega arith);
+      digests = search rules;
       zeros = c.in_ok-zeros.ensures;
     }
 
@@ -68,6 +69,7 @@ loop-step-preserved c =
           c.apply.new.table.items c.loop-step.used c.in-Some.len _ _ c.loop-step.invariant.rows
           c.in_default-apply.ensures.table c.in-Some.ensures.digest c.in_default-apply.ensures.samples
           c.in-Some.ensures.short;
+      digests = search rules;
       zeros = c.loop-step.invariant.zeros;
     }
 
