@@ -2,7 +2,7 @@ use Rattle.std.proofs.Common.{length, ◌-◌, ◌≡◌, ◌≤◌, IsTrue, dro
 use Rattle.std.specs.Prelude.{option_map}
 use Rattle.bw_disk.specs.DiskSteps.{StaysWhole}
 use Rattle.bw_disk.proofs.PrefixReads.{IsReadTo}
-use Rattle.bw_take_files.proofs.samples.read_from.Given as goal
+use Rattle.bw_take_files.proofs.bodies.read_from.Given as goal
 
 -- so many bytes from the place on are in the room
 abbrev pub invariant-loop-count : goal.invariant-loop-count

@@ -4,7 +4,7 @@ use Rattle.bw_disk.specs.DiskSteps.{StaysWhole}
 use Rattle.bw_disk.proofs.PrefixReads.{read_more}
 use Rattle.bw_disk.proofs.DiskChains.{stays_twice}
 use Rattle.bw_take_files.proofs.SampleLemmas.{past}
-use Rattle.bw_take_files.proofs.samples.read_from.Goals as goal
+use Rattle.bw_take_files.proofs.bodies.read_from.Goals as goal
 
 pub loop-count-preserved : goal.loop-count-preserved
 loop-count-preserved g c =
