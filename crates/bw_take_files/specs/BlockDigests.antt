@@ -1,5 +1,5 @@
 -- Blocks of a take as its file has them, and the digests of their messages' bodies.
-use Rattle.std.specs.Prelude.{◌≡◌, ℕ, ◌<◌, ◌≤◌, ◌*◌, ◌^◌, ◌×◌, List, [], take, drop, slice_index, slice_index_or}
+use Rattle.std.specs.Prelude.{◌≡◌, ℕ, ◌<◌, ◌≤◌, ◌*◌, ◌^◌, List, [], take, drop, slice_index, slice_index_or}
 use Rattle.std.specs.Prelude.{Option, IfSome}
 use Rattle.bw_model.specs.Holds.{body_of}
 use Rattle.bw_model.specs.Limits.{longest_block, longest_body}
