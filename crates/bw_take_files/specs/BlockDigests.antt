@@ -1,6 +1,7 @@
 -- Blocks of a take as its file has them, and the digests of their messages' bodies.
-use Rattle.std.specs.Prelude.{◌≡◌, ℕ, ◌<◌, ◌≤◌, ◌*◌, ◌^◌, List, [], take, drop, slice_index, slice_index_or}
-use Rattle.std.specs.Prelude.{Option, IfSome}
+use Rattle.std.specs.Prelude.{◌≡◌, ℕ, ◌<◌, ◌≤◌, ◌*◌, ◌^◌, ◌==◌, Bool, true, if◌then◌else◌}
+use Rattle.std.specs.Prelude.{List, [], take, drop, slice_index, slice_index_or, Option, IfSome}
+use Rattle.std.specs.Str.{bytes_eq}
 use Rattle.bw_model.specs.Holds.{body_of}
 use Rattle.bw_model.specs.Limits.{longest_block, longest_body}
 use Rattle.bw_model.specs.Take.{Block}
@@ -24,6 +25,11 @@ body_at name found s = body_of name s.number (Block (samples_at found s))
 -- the digest of this body
 abbrev pub digest_at : List ℕ → List ℕ → StoredBlock → List ℕ
 digest_at name found s = samples_digest name s.number (samples_at found s)
+
+-- the body has this digest, where the block has samples
+abbrev pub has_digest : List ℕ → List ℕ → StoredBlock → List ℕ → Bool
+has_digest name found s digest =
+    if s.len == 0 then true else bytes_eq (digest_at name found s) digest
 
 -- the block in a lane
 abbrev pub block_at : List StoredBlock → ℕ → StoredBlock

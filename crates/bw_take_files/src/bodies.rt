@@ -1,5 +1,6 @@
 //! The bodies of messages, made anew with the samples that a take's file has.
-ghost use Rattle.std.specs.Prelude.{◌≡◌, ◌≤◌, ◌<◌, ◌+◌, ◌*◌, ◌^◌, ◌++◌, IsTrue, IfOk, List, ℕ, Some, length, take, drop, slice_index};
+ghost use Rattle.std.specs.Prelude.{◌≡◌, ◌≤◌, ◌<◌, ◌+◌, ◌*◌, ◌^◌, ◌++◌, IsTrue, IfOk, List, ℕ};
+ghost use Rattle.std.specs.Prelude.{Some, length, take, drop, slice_index};
 ghost use Rattle.bw_disk.specs.DiskSteps.{StaysWhole};
 ghost use Rattle.bw_model.specs.Holds.{body_of};
 ghost use Rattle.bw_model.specs.Limits.{longest_body};
@@ -36,7 +37,8 @@ pub(crate) fn read_bodies<D: Volume>(
     ensures short { IfOk result (λ lens. InEachLane (λ j. slice_index lens j ≤ longest_body)) }
     ensures read { IsTrue (D.honest disk.old) → IfOk result (λ lens. (found : List ℕ) →
         D.contents disk.old (D.path_of file.old) ≡ Some found →
-        InEachLane (λ j. body_in room.new lens j ≡ body_at name.now found (block_at blocks.now j))) }
+        InEachLane (λ j. body_in room.new lens j
+        ≡ body_at name.now found (block_at blocks.now j))) }
 {
     let mut lens = [0; LANES];
     for lane in 0..LANES {

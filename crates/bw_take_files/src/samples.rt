@@ -1,22 +1,19 @@
 //! Comparing the samples of a take's file with the digests in its journal.
-ghost use Rattle.std.specs.Prelude.{◌≡◌, ◌≤◌, ◌*◌, ◌^◌, ◌==◌, IsTrue, IfOk, List, ℕ, Some, length, true, if◌then◌else◌};
-ghost use Rattle.std.specs.Str.{bytes_eq};
+ghost use Rattle.std.specs.Prelude.{◌≡◌, ◌≤◌, ◌*◌, ◌^◌, IsTrue, IfOk, List, ℕ, Some, length};
 ghost use Rattle.bw_disk.specs.DiskSteps.{StaysWhole};
 ghost use Rattle.bw_model.specs.Bytes.{zeros as zero_bytes};
 ghost use Rattle.bw_model.specs.Limits.{longest_block, longest_body};
-ghost use Rattle.bw_model.specs.Wire.{is_request};
-ghost use Rattle.bw_request.specs.Requests.{meaning};
-ghost use Rattle.bw_journal.specs.Refs.{entry_said};
-ghost use Rattle.bw_take_files.specs.BlockDigests.{digest_at, IsNear, KeepsBlockDigests};
+ghost use Rattle.bw_take_files.specs.BlockDigests.{digest_at, has_digest, IsNear};
+ghost use Rattle.bw_take_files.specs.BlockDigests.{KeepsBlockDigests};
 ghost use Rattle.bw_take_files.specs.TakeSamples.{changed_in, entries_of, samples_digest};
-ghost use Rattle.bw_take_files.specs.TakeSamples.{first_changed as first_changed_of, is_kept as is_kept_by};
+ghost use Rattle.bw_take_files.specs.TakeSamples.{first_changed as first_changed_of};
 
 use crate::block_digests::{ReadAhead, read_ahead};
 use crate::bodies::{LONGEST_BODY, read_from};
 use crate::stored_block::{EntryPlace, JournalRef, StoredBlock, brought};
 use bw_digest::LANES;
 use bw_disk::{ReadFault, Volume};
-use bw_journal::{EntryRef, JournalHeader, first_entry};
+use bw_journal::{JournalHeader, first_entry};
 use bw_request::{LONGEST_BLOCK, Name};
 use bw_start::data_place;
 use bw_take::TakeState;
@@ -129,7 +126,8 @@ fn first_changed<D: Volume>(
     ensures disk { StaysWhole D.Disk disk.old disk.new }
     ensures value { IsTrue (D.honest disk.old) → IfOk result (λ v. (found : List ℕ) →
         D.contents disk.old (D.path_of file.old) ≡ Some found →
-        v ≡ first_changed_of journal.now.name.now found 0 start (entries_of journal.now.bytes.now)) }
+        v ≡ first_changed_of journal.now.name.now found 0 start
+        (entries_of journal.now.bytes.now)) }
 {
     let mut ahead = ReadAhead::new();
     let mut used = JournalHeader::LEN.min(journal.bytes.len());
@@ -183,7 +181,7 @@ fn is_kept<D: Volume>(
     ensures kept { IsTrue (D.honest disk.old) → IfOk result (λ kept. (found : List ℕ) →
         D.contents disk.old (D.path_of file.old) ≡ Some found →
         KeepsBlockDigests name.now found ahead.now.known →
-        kept ≡ (if block.len == 0 then true else bytes_eq (digest_at name.now found block) digest.now)) }
+        kept ≡ has_digest name.now found block digest.now) }
 {
     if block.len == 0 {
         return Ok(true);
