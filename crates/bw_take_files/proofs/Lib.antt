@@ -1,2 +1,3 @@
 pub mod SampleLemmas
+pub mod BodyLemmas
 pub mod GiveUpLemmas

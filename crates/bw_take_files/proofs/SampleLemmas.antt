@@ -1,13 +1,16 @@
 -- What was read of a file from a place on, and entry after entry.
-use Rattle.std.proofs.Common.{◌≡◌, ◌⊎◌, ℕ, suc, ◌+◌, ◌≤◌, true, false, List, length, take, drop, Option, Some, None}
+use Rattle.std.proofs.Common.{◌≡◌, ◌⊎◌, ℕ, suc, ◌+◌, ◌≤◌, Bool, true, false, IsTrue, List, length, take, drop, Option, Some, None}
 use Rattle.std.proofs.Common.{inl, inr, refl, sym, ◌∙◌, ap, arith}
-use Rattle.std.specs.Prelude.{option_map}
+use Rattle.std.specs.Prelude.{option_map, ◌==◌, if◌then◌else◌}
+use Rattle.std.specs.Str.{bytes_eq}
 use Rattle.std.proofs.lemmas.List.{length-drop, drop-drop, take_all}
+use Rattle.bw_disk.specs.declared.disk.Disk.{Ghosts}
+use Rattle.bw_disk.specs.DiskSteps.{StaysWhole}
 use Rattle.bw_disk.specs.Volumes.{ReadsFrom}
 use Rattle.bw_disk.proofs.PrefixReads.{IsReadTo}
 use Rattle.bw_journal.specs.Entries.{JournalEntry, first_entry}
 use Rattle.bw_journal.specs.JournalHeaders.{header_len}
-use Rattle.bw_take_files.specs.TakeSamples.{brought, entries_within, entries_of, first_changed, is_kept}
+use Rattle.bw_take_files.specs.TakeSamples.{brought, entries_within, entries_of, first_changed, is_kept, samples_digest}
 
 -- what is read past a place of a file is read of what follows that place
 pub past : (content : Option (List ℕ)) (place count n more : ℕ) (rest : List ℕ) → ReadsFrom content (place + count) n more rest →
@@ -35,6 +38,22 @@ read_whole content place count n room so fits ends found is =
       | inr end ↦ take_all count (drop place found) end
           ∙ sym (take_all n (drop place found) (omega (arith, end, fits)))
     ])
+
+-- what a file has stays, whole as its disk does
+pub still_found : {D F : Type 0} (G : Ghosts D F) (old new : D) (file file' : F) (found : List ℕ) →
+    StaysWhole G old new → G.path_of file' ≡ G.path_of file → IsTrue (G.honest old) →
+    G.contents old (G.path_of file) ≡ Some found → G.contents new (G.path_of file') ≡ Some found
+still_found G old new file file' found stays path honest is =
+    ap (G.contents new) path ∙ stays.contents honest (G.path_of file) ∙ is
+
+-- the samples of a block are there as those that its entry brought are
+pub kept_by : (name found : List ℕ) (number offset len : ℕ) (e : JournalEntry) (kept : Bool) → len ≡ brought e →
+    kept ≡ (if len == 0 then true else bytes_eq (samples_digest name number (take len (drop offset found))) e.digest) →
+    kept ≡ is_kept name found number offset e
+kept_by name found number offset len e kept same is =
+    is
+    ∙ ap (λ (n : ℕ). if n == 0 then true else bytes_eq (samples_digest name number (take n (drop offset found))) e.digest)
+    same
 
 module _ (name found : List ℕ) (number place k : ℕ) (bytes : List ℕ) where
   -- one more entry, whose samples are there

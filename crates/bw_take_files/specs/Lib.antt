@@ -1,2 +1,3 @@
 pub mod TakeSamples
+pub mod BlockDigests
 pub mod GivenUp

@@ -2,8 +2,11 @@
 //! are put aside.
 #![tactic(auto)]
 
+mod block_digests;
+mod bodies;
 mod giving_up;
 mod samples;
+mod stored_block;
 
 pub use giving_up::{GiveUpFault, give_up_take};
 pub use samples::find_changed;

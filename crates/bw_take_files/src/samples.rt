@@ -1,17 +1,20 @@
 //! Comparing the samples of a take's file with the digests in its journal.
-ghost use Rattle.std.specs.Prelude.{◌≡◌, ◌≤◌, ◌<◌, ◌^◌, IsTrue, IfOk, List, ℕ, Some, length, take, drop};
+ghost use Rattle.std.specs.Prelude.{◌≡◌, ◌≤◌, ◌*◌, ◌^◌, IsTrue, IfOk, List, ℕ, Some, length};
 ghost use Rattle.bw_disk.specs.DiskSteps.{StaysWhole};
 ghost use Rattle.bw_model.specs.Bytes.{zeros as zero_bytes};
-ghost use Rattle.bw_model.specs.Limits.{longest_block};
-ghost use Rattle.bw_model.specs.Wire.{is_request};
-ghost use Rattle.bw_request.specs.Requests.{meaning};
-ghost use Rattle.bw_journal.specs.Refs.{entry_said};
-ghost use Rattle.bw_take_files.specs.TakeSamples.{brought as brought_by, changed_in, entries_of};
-ghost use Rattle.bw_take_files.specs.TakeSamples.{first_changed as first_changed_of, is_kept as is_kept_by, samples_digest};
+ghost use Rattle.bw_model.specs.Limits.{longest_block, longest_body};
+ghost use Rattle.bw_take_files.specs.BlockDigests.{digest_at, has_digest, IsNear};
+ghost use Rattle.bw_take_files.specs.BlockDigests.{KeepsBlockDigests};
+ghost use Rattle.bw_take_files.specs.TakeSamples.{changed_in, entries_of, samples_digest};
+ghost use Rattle.bw_take_files.specs.TakeSamples.{first_changed as first_changed_of};
 
+use crate::block_digests::{ReadAhead, read_ahead};
+use crate::bodies::{LONGEST_BODY, read_from};
+use crate::stored_block::{EntryPlace, JournalRef, StoredBlock, brought};
+use bw_digest::LANES;
 use bw_disk::{ReadFault, Volume};
-use bw_journal::{EntryRef, JournalHeader, first_entry};
-use bw_request::{LONGEST_BLOCK, Name, RequestRef};
+use bw_journal::{JournalHeader, first_entry};
+use bw_request::{LONGEST_BLOCK, Name};
 use bw_start::data_place;
 use bw_take::TakeState;
 use sha2::{Digest, Sha256};
@@ -23,7 +26,7 @@ const JOURNAL_MAX: usize = 1 << 40;
 /// The first number of a take whose samples aren't in the file at a path, by its journal: of a stored
 /// BLOCK, at its place, there are other bytes than those of which the journal has the digest, or
 /// fewer. `None` if there is none, or no file. The state is that of the journal's numbers. Nothing is
-/// changed; one block is held at a time.
+/// changed; at most eight blocks are held at a time.
 ///
 /// # Errors
 /// `Disk` if a call of the disk failed; `Memory` if memory was refused, or the journal has more than
@@ -51,18 +54,18 @@ pub fn find_changed<D: Volume>(
         return Err(ReadFault::Disk);
     };
     match opened {
-        Some(mut file) => first_changed(alloc, disk, &mut file, name, journal, data_place(state)),
+        Some(mut file) => compare_file(alloc, disk, &mut file, name, journal, data_place(state)),
         None => Ok(None),
     }
 }
 
 /// The first number of a journal whose samples aren't in an open file, where those of all its
-/// numbers follow one another from this place on.
+/// numbers follow one another from this offset on.
 ///
 /// # Errors
 /// `Disk` if a call of the disk failed; `Memory` if memory was refused, or the journal has more than
 /// 2^32 numbers.
-fn first_changed<D: Volume>(
+fn compare_file<D: Volume>(
     alloc: Global,
     disk: &mut D,
     file: &mut D::File,
@@ -77,113 +80,146 @@ fn first_changed<D: Volume>(
         D.contents disk.old (D.path_of file.old) ≡ Some found →
         v ≡ first_changed_of name.now found 0 start (entries_of journal.now)) }
 {
-    let zeros = make_room(alloc)?;
-    let mut room = make_room(alloc)?;
-    let mut used = JournalHeader::LEN.min(journal.len());
-    let mut place = start;
-    for step in 0..journal.len() {
-        let Some((entry, len)) = first_entry(&journal[used..], zeros.as_slice()) else {
-            return Ok(None);
-        };
-        let Ok(number) = u32::try_from(step) else {
-            return Err(ReadFault::Memory);
-        };
-        let kept = is_kept(disk, file, name, number, place, &entry, &mut room)?;
-        if !kept {
-            return Ok(Some(number));
-        }
-        used += len;
-        place += brought(&entry) as u64;
-    }
-    Ok(None)
+    let zeros = make_zeros(alloc, LONGEST_BLOCK)?;
+    let mut room = make_zeros(alloc, LANES * LONGEST_BODY)?;
+    let journal = JournalRef {
+        name,
+        bytes: journal,
+        zeros: &zeros,
+    };
+    first_changed(disk, file, &journal, start, &mut room)
 }
 
-/// As many zeros as a block has bytes at most.
-fn make_room(alloc: Global) -> Result<Vec<u8>, ReadFault>
-    ensures { IfOk result (λ v. v.items ≡ zero_bytes longest_block) }
+/// So many zeros.
+fn make_zeros(alloc: Global, len: usize) -> Result<Vec<u8>, ReadFault>
+    ensures { IfOk result (λ v. v.items ≡ zero_bytes len) }
 {
-    match make_zeros(alloc) {
+    match try_zeros(alloc, len) {
         Ok(zeros) => Ok(zeros),
         Err(_) => Err(ReadFault::Memory),
     }
 }
 
-fn make_zeros(alloc: Global) -> Result<Vec<u8>, AllocError>
-    ensures { IfOk result (λ v. v.items ≡ zero_bytes longest_block) }
+fn try_zeros(alloc: Global, len: usize) -> Result<Vec<u8>, AllocError>
+    ensures { IfOk result (λ v. v.items ≡ zero_bytes len) }
 {
-    let zeros = vec![in alloc; 0u8; LONGEST_BLOCK]?;
+    let zeros = vec![in alloc; 0u8; len]?;
     Ok(zeros)
 }
 
-/// Whether the samples that an entry of this number brought are at a place of a file. The room has
-/// as many bytes as a block at most.
+/// The first number of a journal whose samples aren't in an open file, where those of all its
+/// numbers follow one another from this offset on.
+///
+/// # Errors
+/// `Disk` if a call of the disk failed; `Memory` if the journal has more than 2^32 numbers.
+fn first_changed<D: Volume>(
+    disk: &mut D,
+    file: &mut D::File,
+    journal: &JournalRef<'_>,
+    start: u64,
+    room: &mut [u8],
+) -> Result<Option<u32>, ReadFault>
+    requires zeros { journal.now.zeros.now ≡ zero_bytes longest_block }
+    requires few { length journal.now.bytes.now ≤ 2 ^ 40 }
+    requires near { start ≤ 4786 }
+    requires room { length room.old ≡ 8 * longest_body }
+    ensures disk { StaysWhole D.Disk disk.old disk.new }
+    ensures value { IsTrue (D.honest disk.old) → IfOk result (λ v. (found : List ℕ) →
+        D.contents disk.old (D.path_of file.old) ≡ Some found →
+        v ≡ first_changed_of journal.now.name.now found 0 start
+        (entries_of journal.now.bytes.now)) }
+{
+    let mut ahead = ReadAhead::new();
+    let mut used = JournalHeader::LEN.min(journal.bytes.len());
+    let mut offset = start;
+    for step in 0..journal.bytes.len() {
+        let Some((entry, len)) = first_entry(&journal.bytes[used..], journal.zeros) else {
+            return Ok(None);
+        };
+        let Ok(number) = u32::try_from(step) else {
+            return Err(ReadFault::Memory);
+        };
+        let from = EntryPlace {
+            number,
+            start: used,
+            offset,
+        };
+        ahead = read_ahead(disk, file, journal, from, ahead, room);
+        let block = StoredBlock {
+            number,
+            offset,
+            len: brought(&entry),
+        };
+        let kept = is_kept(disk, file, journal.name, block, entry.digest, &ahead, room)?;
+        if !kept {
+            return Ok(Some(number));
+        }
+        used += len;
+        offset += block.len as u64;
+    }
+    Ok(None)
+}
+
+/// Whether the samples of a block are in a file, where this is the digest of its message's body.
+///
+/// # Errors
+/// `Disk` if a call of the disk failed.
 fn is_kept<D: Volume>(
     disk: &mut D,
     file: &mut D::File,
     name: &Name,
-    number: u32,
-    place: u64,
-    entry: &EntryRef<'_>,
+    block: StoredBlock,
+    digest: &[u8],
+    ahead: &ReadAhead,
     room: &mut [u8],
 ) -> Result<bool, ReadFault>
-    requires place { place < 2 ^ 62 }
-    requires room { length room.old ≡ longest_block }
-    requires fits { IsTrue (is_request (meaning entry.now.request)) }
+    requires near { IsNear block }
+    requires room { length room.old ≡ 8 * longest_body }
     ensures disk { StaysWhole D.Disk disk.old disk.new }
     ensures path { D.path_of file.new ≡ D.path_of file.old }
-    ensures room { length room.new ≡ longest_block }
+    ensures room { length room.new ≡ length room.old }
     ensures kept { IsTrue (D.honest disk.old) → IfOk result (λ kept. (found : List ℕ) →
         D.contents disk.old (D.path_of file.old) ≡ Some found →
-        kept ≡ is_kept_by name.now found number place (entry_said entry.now)) }
+        KeepsBlockDigests name.now found ahead.now.known →
+        kept ≡ has_digest name.now found block digest.now) }
 {
-    let len = brought(entry);
-    if len == 0 {
+    if block.len == 0 {
         return Ok(true);
     }
-    let count = read_from(disk, file, place, &mut room[..len])?;
-    Ok(digest_of(name, number, &room[..count])[..] == entry.digest[..])
+    let made = digest_in(disk, file, name, block, ahead, room)?;
+    Ok(made[..] == digest[..])
 }
 
-/// How many bytes of samples an entry brought: those of a block that is stored.
-fn brought(entry: &EntryRef<'_>) -> usize
-    ensures value { result ≡ brought_by (entry_said entry.now) }
-    ensures few { IsTrue (is_request (meaning entry.now.request)) → result ≤ longest_block }
-{
-    if !entry.verdict.is_stored() {
-        return 0;
-    }
-    match entry.request {
-        RequestRef::Block { bytes } => bytes.len(),
-        _ => 0,
-    }
-}
-
-/// Reads bytes of a file from a place on, up to its end or to that of the room, and returns how many.
-fn read_from<D: Volume>(
+/// The digest of the body of a block's message, with the samples that are in a file.
+///
+/// # Errors
+/// `Disk` if a call of the disk failed.
+fn digest_in<D: Volume>(
     disk: &mut D,
     file: &mut D::File,
-    place: u64,
+    name: &Name,
+    block: StoredBlock,
+    ahead: &ReadAhead,
     room: &mut [u8],
-) -> Result<usize, ReadFault>
-    requires place { place < 2 ^ 62 }
+) -> Result<[u8; 32], ReadFault>
+    requires near { IsNear block }
+    requires room { length room.old ≡ 8 * longest_body }
     ensures disk { StaysWhole D.Disk disk.old disk.new }
     ensures path { D.path_of file.new ≡ D.path_of file.old }
-    ensures fits { IfOk result (λ count. count ≤ length room.old) }
-    ensures read { IsTrue (D.honest disk.old) → IfOk result (λ count. (found : List ℕ) →
+    ensures room { length room.new ≡ length room.old }
+    ensures value { IsTrue (D.honest disk.old) → IfOk result (λ digest. (found : List ℕ) →
         D.contents disk.old (D.path_of file.old) ≡ Some found →
-        take count room.new ≡ take (length room.old) (drop place found)) }
+        KeepsBlockDigests name.now found ahead.now.known →
+        digest ≡ digest_at name.now found block) }
 {
-    let mut count = 0;
-    while count < room.len() {
-        let Ok(more) = disk.read_at(file, place + count as u64, &mut room[count..]) else {
-            return Err(ReadFault::Disk);
-        };
-        if more == 0 {
-            return Ok(count);
-        }
-        count += more;
+    if ahead.has_failed(block.number) {
+        return Err(ReadFault::Disk);
     }
-    Ok(count)
+    if let Some(digest) = ahead.find(block) {
+        return Ok(digest);
+    }
+    let count = read_from(disk, file, block.offset, &mut room[..block.len])?;
+    Ok(digest_of(name, block.number, &room[..count]))
 }
 
 /// The digest of the body of a message with these samples (SHA-256, FIPS 180-4).

@@ -4,7 +4,7 @@ use Rattle.bw_disk.specs.DiskSteps.{StaysWhole}
 use Rattle.bw_disk.proofs.PrefixReads.{read_more}
 use Rattle.bw_disk.proofs.DiskChains.{stays_twice}
 use Rattle.bw_take_files.proofs.SampleLemmas.{past}
-use Rattle.bw_take_files.proofs.samples.read_from.Goals as goal
+use Rattle.bw_take_files.proofs.bodies.read_from.Goals as goal
 
 pub loop-count-preserved : goal.loop-count-preserved
 loop-count-preserved g c =
@@ -24,7 +24,7 @@ loop-count-preserved g c =
       disk = stays_twice g.D.Disk c.args.disk.now c.loop-count.disk c.read_at.new.self was.disk stays;
       read = λ honest.
           let now = subst IsTrue (sym was.disk.honest) honest in
-          let place = c.args.place in
+          let place = c.args.offset in
           let content = g.D.Disk.contents c.args.disk.now (g.D.Disk.path_of c.args.file.now) in
           let same : g.D.Disk.contents c.loop-count.disk (g.D.Disk.path_of c.loop-count.file) ≡ content =
           ap (g.D.Disk.contents c.loop-count.disk) was.path

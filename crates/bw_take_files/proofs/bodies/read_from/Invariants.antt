@@ -2,9 +2,9 @@ use Rattle.std.proofs.Common.{length, ◌-◌, ◌≡◌, ◌≤◌, IsTrue, dro
 use Rattle.std.specs.Prelude.{option_map}
 use Rattle.bw_disk.specs.DiskSteps.{StaysWhole}
 use Rattle.bw_disk.proofs.PrefixReads.{IsReadTo}
-use Rattle.bw_take_files.proofs.samples.read_from.Given as goal
+use Rattle.bw_take_files.proofs.bodies.read_from.Given as goal
 
--- so many bytes from the place on are in the room
+-- so many bytes from the offset on are in the room
 abbrev pub invariant-loop-count : goal.invariant-loop-count
 invariant-loop-count g l = record {
   fits : l.count ≤ length l.room;
@@ -12,7 +12,7 @@ invariant-loop-count g l = record {
   path : g.D.Disk.path_of l.file ≡ g.D.Disk.path_of l.fn.file;
   disk : StaysWhole g.D.Disk l.fn.disk l.disk;
   read : IsTrue (g.D.Disk.honest l.fn.disk) →
-      IsReadTo (option_map (drop l.fn.place) (g.D.Disk.contents l.fn.disk (g.D.Disk.path_of l.fn.file))) l.count l.room;
+      IsReadTo (option_map (drop l.fn.offset) (g.D.Disk.contents l.fn.disk (g.D.Disk.path_of l.fn.file))) l.count l.room;
 }
 
 abbrev pub decreases-loop-count : goal.decreases-loop-count
