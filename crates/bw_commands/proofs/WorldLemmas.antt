@@ -133,7 +133,7 @@ rehearsed_text name copy limit events x text same r put names = record {
     contents = content_under x.server.stores.store.files;
     first = no_contents;
     honest = true;
-  }) (kept_in x.server.sessions) r.world.book) r.limited r.held;
+  }) (kept_in x.server.sessions) r.world.book) r.limited r.held.holds;
   files = r.files;
   whole = λ none name. r.files name (inl (none_pends none name));
   names = names_of x.server.stores.store;

@@ -39,7 +39,7 @@ module _ {X Y : Type 0} (S : StoreGhosts X) (J : JournalGhosts Y) (servers_run :
       IsDelivery (λ n. is_some (first n)) name requests links s.book
       (ran first old new s.book (all_answered trace) s.honest s.held s.by_server).later
   delivery first name requests verdicts links trace old new s = record {
-    is_book = s.held.is_book;
+    is_book = s.held.holds.is_book;
     had = s.had;
     trace = trace;
     went = run_of first old new s.book (all_answered trace)

@@ -91,9 +91,9 @@ module _ {X Y : Type 0} (S : StoreGhosts X) (J : JournalGhosts Y) where
       CalledFor (S.calls old.stores.store) (S.calls new.stores.store) (all_done book) (all_done later) failed
   called_for first existed old new book later (Says m) replies failed asks held held' t =
       let before : (log_of book m.name).done ≡ done_in old.sessions m.name =
-      done_is old.limit (store_since S first old.stores.store) (session_in old.sessions) book held m.name in
+      done_is old.limit (store_since S first old.stores.store) (session_in old.sessions) book held.holds m.name in
       let after : (log_of later m.name).done ≡ done_in new.sessions m.name =
-      done_is new.limit (store_since S first new.stores.store) (session_in new.sessions) later held' m.name in
+      done_is new.limit (store_since S first new.stores.store) (session_in new.sessions) later held'.holds m.name in
       let all = done_by_turn existed (failures_of S J old) (failures_of S J new) book m replies later t in
       record {
         earlier = done_in old.sessions m.name;

@@ -90,7 +90,7 @@ module _ {X : Type 0} (S : StoreGhosts X) where
         let count' : failures_of S J new ≡ failed_calls (S.failures new.stores.store) 0 =
         ap (λ (n : ℕ). failed_calls (S.failures new.stores.store) n) (quiet new.stores.journal) in
         let held = subst (λ (n : ℕ). Holds n (store_since S (S.contents store) new.stores.store)
-        (kept_in new.sessions) x.later) (r.limit ∙ limited) x.held in
+        (kept_in new.sessions) x.later) (r.limit ∙ limited) x.held.holds in
         record {
           book = x.later;
           run = subst (λ (n : ℕ). IsRun (λ name. is_some (S.contents store name)) n

@@ -2,7 +2,7 @@
 use Rattle.std.specs.Prelude.{◌≡◌, ℕ, Bool, true, false, List, [], ◌∷◌, ◌++◌, Some, codes}
 use Rattle.bw_model.specs.Take.{Parts, no_fields}
 use Rattle.bw_store.specs.Calls.{StoreCall, Create, WriteAt, Finish}
-use Rattle.bw_file.specs.Growing.{Growing}
+use Rattle.bw_file.specs.Growing.{Growing, clean_file}
 use Rattle.bw_file.specs.Plans.{begin_plan, append_plan, close_plan}
 
 -- a take of 48,000 Hz, one channel, 16 bits, with this much data and these markers
@@ -19,7 +19,7 @@ row_parts samples_len markers = record {
 
 -- its clean file
 abbrev pub row_file : ℕ → Bool → Growing
-row_file limit made = record { name = codes "a1"; limit = limit; made = made; dirty = false }
+row_file limit made = clean_file (codes "a1") limit made
 
 -- the calls if it is opened, gets a block of this many bytes and is closed with these markers
 abbrev pub row_calls : ℕ → ℕ → List (ℕ × ℕ) → List StoreCall

@@ -16,8 +16,20 @@ pub record Growing : Type 0 where
   pub limit : ℕ
   -- it made the name
   pub made : Bool
-  -- its last call failed
+  -- it isn't the take's file: its last call failed, or it is ahead
   pub dirty : Bool
+  -- it is the file of the take with the request that waits
+  pub ahead : Bool
+
+-- the take's file, whole
+abbrev pub clean_file : List ℕ → ℕ → Bool → Growing
+clean_file name limit made = record {
+  name = name;
+  limit = limit;
+  made = made;
+  dirty = false;
+  ahead = false;
+}
 
 -- The take's file is there, or if it is dirty what an earlier try of the request may have left.
 abbrev pub IsReady : Growing → Take → Request → Option (List ℕ) → Type 0

@@ -8,7 +8,7 @@ ghost use Rattle.bw_model.specs.Wire.{is_request};
 ghost use Rattle.bw_store.specs.StoreSteps.{Shared, WasAsked, WasAskedFirst};
 ghost use Rattle.bw_file.specs.Plans.{name_plan, begin_plan, append_plan, retouch_plan, close_plan};
 ghost use Rattle.bw_file.specs.Growing.{Growing, Stores, SetsOneField, BeginsFile, AsksForName, IsFresh};
-ghost use Rattle.bw_file.specs.Growing.{is_new};
+ghost use Rattle.bw_file.specs.Growing.{is_new, clean_file};
 
 use crate::buffer::Buffer;
 use crate::condition::Condition;
@@ -25,8 +25,9 @@ use std::marker::Model;
 /// The file of one take, which is whole after each call that succeeds.
 ///
 /// After a call that failed the file is dirty, and the same call may be tried again: it writes the
-/// whole header then, instead of only what changed in it. The memory in which a header is built is
-/// allocated at the start.
+/// whole header then, instead of only what changed in it. While its owner can't count the request
+/// that the last call stored, the file is ahead of the take. The memory in which a header is built
+/// is allocated at the start.
 #[derive(Drop)]
 pub struct GrowingFile {
     name: Name,
@@ -37,7 +38,7 @@ pub struct GrowingFile {
 }
 
 impl Model for GrowingFile {
-    ghost use Rattle.bw_file.specs.Conditions.{is_dirty};
+    ghost use Rattle.bw_file.specs.Conditions.{is_dirty, is_ahead};
     ghost use Rattle.bw_file.specs.Growing.{Growing};
 
     ghost Value = { Growing };
@@ -47,6 +48,7 @@ impl Model for GrowingFile {
       limit = f.limit;
       made = f.made;
       dirty = is_dirty f.condition;
+      ahead = is_ahead f.condition;
     } };
 }
 
@@ -59,8 +61,7 @@ impl GrowingFile {
     /// # Not specified
     /// When memory is refused.
     pub fn new(alloc: Global, name: Name, limit: Limit) -> Result<GrowingFile, AllocError>
-        ensures { IfOk result
-            (λ f. f ≡ record { name = name; limit = limit; made = false; dirty = false }) }
+        ensures { IfOk result (λ f. f ≡ clean_file name limit false) }
     {
         Ok(GrowingFile {
             name,
@@ -80,8 +81,7 @@ impl GrowingFile {
     /// # Not specified
     /// When memory is refused.
     pub fn resume(alloc: Global, name: Name, limit: Limit) -> Result<GrowingFile, AllocError>
-        ensures { IfOk result
-            (λ f. f ≡ record { name = name; limit = limit; made = true; dirty = false }) }
+        ensures { IfOk result (λ f. f ≡ clean_file name limit true) }
     {
         Ok(GrowingFile {
             name,
@@ -92,21 +92,34 @@ impl GrowingFile {
         })
     }
 
-    /// Whether the next call writes the whole header: the last one failed, or was marked to be
-    /// tried again.
+    /// Whether the next call writes the whole header: the last one failed, or the file is ahead.
     pub fn is_dirty(&self) -> bool
         ensures { result ≡ self.now.dirty }
     {
         !self.condition.is_clean()
     }
 
-    /// Marks the file for another try of the request that its last call stored.
-    ///
-    /// This is needed when the store has the request and the journal failed after it.
-    pub fn mark_dirty(&mut self)
-        ensures { self.new ≡ record self.old { dirty = true } }
+    /// Whether the file has a request that its take is still without.
+    pub fn is_ahead(&self) -> bool
+        ensures value { result ≡ self.now.ahead }
+        ensures dirty { IsTrue result → IsTrue self.now.dirty }
     {
-        self.condition = Condition::Dirty;
+        self.condition.is_ahead()
+    }
+
+    /// Marks the whole file as ahead of its take by the request that its last call stored: it was
+    /// stored, but its owner can't count it yet, as when the journal failed after it.
+    pub fn mark_ahead(&mut self)
+        ensures { self.new ≡ record self.old { dirty = true; ahead = true } }
+    {
+        self.condition = Condition::Ahead;
+    }
+
+    /// Marks the file as the take's, whole: a take that was behind has the request now.
+    pub fn mark_clean(&mut self)
+        ensures { self.new ≡ record self.old { dirty = false; ahead = false } }
+    {
+        self.condition = Condition::Clean;
     }
 
     /// Makes the name, unless an earlier try made it, and writes the header of a take without data.
@@ -131,9 +144,9 @@ impl GrowingFile {
         requires fits { IsTrue (is_request (Open format history.now)) }
         requires stored { judge state.now.parts (Open format history.now) ≡ Stored }
         ensures ok { IfOk result (λ c.
-            self.new ≡ record self.old { made = is_new c; dirty = false }) }
+            self.new ≡ record self.old { made = is_new c; dirty = false; ahead = false }) }
         ensures err { OnErr result
-            (self.new ≡ record self.old { made = self.new.made; dirty = true }) }
+            (self.new ≡ record self.old { made = self.new.made; dirty = true; ahead = false }) }
         ensures shared { Shared S.TakeStore (is_err result) self.old.name store.old store.new }
         ensures calls { S.calls store.new ≤ S.calls store.old + 2 }
         ensures order { IfOk result (λ c. WasAsked S.TakeStore
@@ -188,7 +201,7 @@ impl GrowingFile {
         requires fits { IsTrue (is_request (Block samples.now)) }
         requires stored { judge state.now.parts (Block samples.now) ≡ Stored }
         requires samples { state.now.parts.samples_len + length samples.now ≤ largest }
-        ensures known { self.new ≡ record self.old { dirty = is_err result } }
+        ensures known { self.new ≡ record self.old { dirty = is_err result; ahead = false } }
         ensures shared { Shared S.TakeStore (is_err result) self.old.name store.old store.new }
         ensures calls { S.calls store.new ≤ S.calls store.old + 4 }
         ensures order { OnOk result (WasAsked S.TakeStore
@@ -235,7 +248,7 @@ impl GrowingFile {
         bext: &Bext,
     ) -> Result<(), StoreFault>
         requires { SetsOneField state.now.parts bext.now }
-        ensures known { self.new ≡ record self.old { dirty = is_err result } }
+        ensures known { self.new ≡ record self.old { dirty = is_err result; ahead = false } }
         ensures shared { Shared S.TakeStore (is_err result) self.old.name store.old store.new }
         ensures calls { S.calls store.new ≤ S.calls store.old + 1 }
         ensures order { (tag : ℕ) (value : List ℕ) →
@@ -284,7 +297,7 @@ impl GrowingFile {
         state: &TakeState,
     ) -> Result<(), StoreFault>
         requires { judge state.now.parts (Close (frames state.now.parts)) ≡ Stored }
-        ensures known { self.new ≡ record self.old { dirty = is_err result } }
+        ensures known { self.new ≡ record self.old { dirty = is_err result; ahead = false } }
         ensures shared { Shared S.TakeStore (is_err result) self.old.name store.old store.new }
         ensures calls { S.calls store.new ≤ S.calls store.old + 3 }
         ensures order { OnOk result (WasAsked S.TakeStore

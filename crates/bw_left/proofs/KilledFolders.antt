@@ -19,8 +19,8 @@ pub killed_folders : {D E F H : Type 0} (G : DiskGhosts D F) (K : DiskGhosts E H
     ((x : FolderStore D F G) → S.contents x ≡ take_content (G.contents x.disk) (string_bytes x.folder)) →
     ((x : FolderJournal E H K) → J.notes x ≡ notes_at (K.contents x.disk) (string_bytes x.folder)) →
     KilledFoldersAreLeft G K S J
-killed_folders G K S J stores journals first old mid new book ts m replies r quiet small went same h one =
-    let x = killed_servers S J first old mid new book ts m replies r quiet small went same h in
+killed_folders G K S J stores journals first old new book ts r went one =
+    let x = killed_servers S J first old new book ts r went in
     let k = x.1 in
     let files = stores new.stores.store in
     let notes = journals new.stores.journal

@@ -236,17 +236,17 @@ module _ {X Y : Type 0} (S : StoreGhosts X) (J : JournalGhosts Y) (first : List 
   right name = go (is_known book name) refl
     where
       go : (v : Bool) → is_known book name ≡ v → IsTrue (list_all is_admitted (log_of book name).admitted)
-      go true e = (r.held.is_book.logs name e).fits
+      go true e = (r.held.holds.is_book.logs name e).fits
       go false e = ap (λ (l : Log). list_all is_admitted l.admitted) (unknown_log book name e)
 
   known : (name : List ℕ) →
       Known s.limit (first name) name (log_of book name) (J.notes s.stores.journal name) (S.contents s.stores.store name)
   known name = record {
-    admits = book_admits book r.held.is_book name;
+    admits = book_admits book r.held.holds.is_book name;
     right = right name;
     stood = λ bytes e.
-        r.held.others r.honest name (inl (ap (λ (o : Option (List ℕ)). is_some o) e)) ∙ e;
-    own = λ none. held_files_survive s.limit _ _ book r.held r.honest name none;
+        r.held.holds.others r.honest name (inl (ap (λ (o : Option (List ℕ)). is_some o) e)) ∙ e;
+    own = λ none. held_files_survive s.limit _ _ book r.held.holds r.honest name none;
     stands = stands name;
     order = order name;
     foreign = λ bytes stood e short stands. r.own.foreign name bytes stood e short stands;
@@ -271,8 +271,8 @@ module _ {X Y : Type 0} (S : StoreGhosts X) (J : JournalGhosts Y) (first : List 
   pub leaves_quietly : ((name : List ℕ) → is_pending (log_of book name) ≡ false) →
       IsLeft s.limit first book (J.notes s.stores.journal) (S.contents s.stores.store)
   leaves_quietly quiet = record {
-    is_book = r.held.is_book;
-    admits = book_admits book r.held.is_book;
+    is_book = r.held.holds.is_book;
+    admits = book_admits book r.held.holds.is_book;
     fit = r.own.names;
     names = λ name. go name (each name);
   }
@@ -284,7 +284,7 @@ module _ {X Y : Type 0} (S : StoreGhosts X) (J : JournalGhosts Y) (first : List 
   pub leaves_later : LeavesLater s.limit first book (J.notes s.stores.journal) (S.contents s.stores.store)
   leaves_later =
       let later = ahead_book each book in
-      let is = ahead_is_book book each (λ name b. b.0) r.held.is_book in
+      let is = ahead_is_book book each (λ name b. b.0) r.held.holds.is_book in
       record {
         later = later;
         ahead = ahead book each (λ name b. b.0);

@@ -4,16 +4,14 @@ use Rattle.std.proofs.Common.{length, take, map, Option, Some, None, is_some, re
 use Rattle.std.proofs.Common.{arith, length-append}
 use Rattle.std.specs.Prelude.{IsTrue, nat_le, IsSome}
 use Rattle.std.specs.Str.{bytes_eq}
-use Rattle.std.proofs.lemmas.Bool.{and_parts, cases_lt}
-use Rattle.bw_model.specs.Counts.{Counts, last_count}
+use Rattle.std.proofs.lemmas.Bool.{and_parts}
 use Rattle.bw_model.specs.Wire.{Message, Says, Second, is_name, is_request, last_number}
 use Rattle.std.specs.Option.{option_map_or}
 use Rattle.bw_model.specs.Book.{Log, Book, log_of, is_known, with_log, made}
 use Rattle.bw_model.specs.Replies.{Reply as ModelReply}
 use Rattle.bw_model.specs.Turn.{admitted_after, is_turned_away, window}
-use Rattle.bw_model.specs.CountedTurn.{IsTurn, is_pending, book_reported}
+use Rattle.bw_model.specs.CountedTurn.{IsTurn, book_reported}
 use Rattle.bw_model.proofs.BookLemmas.{same_name, log-with_log_other}
-use Rattle.bw_model.proofs.TurnLaws.{quiet_drains}
 use Rattle.bw_store.specs.declared.store.TakeStore.{Ghosts as StoreGhosts}
 use Rattle.bw_wire.specs.declared.reply.Reply.{Reply}
 use Rattle.bw_wire.specs.Replies.{reply_of}
@@ -31,13 +29,13 @@ use Rattle.bw_session.specs.Tables.{session_in}
 use Rattle.bw_session.specs.declared.session.Session.{Session}
 use Rattle.bw_session.specs.declared.server.Server.{Server}
 use Rattle.bw_session.proofs.ServerAnswers.{done_is, later_reported}
-use Rattle.bw_session.proofs.JournalForms.{reported_away}
+use Rattle.bw_session.proofs.OrderLaws.{waiting_in_order}
 use Rattle.bw_session.proofs.ServerForms.{apart_names}
 use Rattle.bw_delivery.proofs.ClosedLaws.{done_stays}
 use Rattle.bw_start.specs.Left.{wanted_file}
 use Rattle.bw_start.specs.Names.{begins_take}
 use Rattle.bw_start.specs.LeftNames.{header_beside}
-use Rattle.bw_left.specs.LeftFolders.{IsOwnFolder, IsWrittenInOrder, EachIsInOrder, RunsOver, LeavesLater}
+use Rattle.bw_left.specs.LeftFolders.{IsOwnFolder, IsWrittenInOrder, RunsOver, LeavesLater}
 use Rattle.bw_left.specs.StoppedTurns.{RunsHonestly, HadTurn, StoppedTurnsAreLeft}
 use Rattle.bw_left.proofs.LeftServers.{Stands, header_is, ordered_servers}
 
@@ -83,36 +81,20 @@ in_order h first name log limit journal file e o =
     let p = subst (λ (x : Header). IsInOrder x first name log limit journal file) e o in
     record { begun = p.begun; noted = λ is. p.noted is ∙ due_wanted first (with_done log) limit }
 
--- a number that waits under another name is as it was
-same_order : (limit : ℕ) (first : Option (List ℕ)) (name : List ℕ) (log log' : Log) (notes notes' file file' : Option (List ℕ)) →
-    log' ≡ log → notes' ≡ notes → file' ≡ file → IsWrittenInOrder limit first name log notes file →
-    IsWrittenInOrder limit first name log' notes' file'
-same_order limit first name log log' notes notes' file file' a b c o =
-    subst (λ (l : Log). IsWrittenInOrder limit first name l notes' file') (sym a)
-    (subst (λ (n : Option (List ℕ)). IsWrittenInOrder limit first name log n file') (sym b)
-    (subst (λ (x : Option (List ℕ)). IsWrittenInOrder limit first name log notes x) (sym c) o))
-
-or_true : (v : Bool) → v || true ≡ true
-or_true true = refl
-or_true false = refl
-
--- a count never falls
-no_less : (a b : ℕ) (fails : Bool) → Counts a b fails → a ≤ b
-no_less a b false c = let e = c.quiet refl in omega (arith, e)
-no_less a b true c = go (cases_lt a last_count)
-  where
-    go : (a < last_count) ⊎ (last_count ≤ a) → a ≤ b
-    go (inl small) = let e = c.rises refl small in omega (arith, e)
-    go (inr large) = let e = c.stays large in omega (arith, e)
-
-pub fails_no_less : {X Y : Type 0} (S : StoreGhosts X) (J : JournalGhosts Y) (old new : Server X Y S J) (m : Message)
-    (replies : List Reply) → HadTurn S J old new m replies → failures_of S J old ≤ failures_of S J new
-fails_no_less S J old new m replies h = no_less (failures_of S J old) (failures_of S J new) h.both.0 h.both.1.failures
+-- a server of which this is known leaves what a start takes over
+pub leaves_honestly : {X Y : Type 0} (S : StoreGhosts X) (J : JournalGhosts Y) (first : List ℕ → Option (List ℕ))
+    (s : Server X Y S J) (book : Book) → RunsHonestly S J first s book →
+    LeavesLater s.limit first book (J.notes s.stores.journal) (S.contents s.stores.store)
+leaves_honestly S J first s book r =
+    ordered_servers S J first s book r.runs (λ name waits.
+    in_order (J.header s.stores.journal name) (first name) name (log_of book name) s.limit _ _
+    (header_is (J.header s.stores.journal name) s.limit (first name) (r.runs.own.limits name)
+    (r.runs.noted.existed name))
+    (waiting_in_order S J first s book r.runs.honest r.runs.held r.runs.noted r.order name waits))
 
 module _ {X Y : Type 0} (S : StoreGhosts X) (J : JournalGhosts Y) (first : List ℕ → Option (List ℕ))
     (old new : Server X Y S J) (book : Book) (m : Message) (replies : List Reply)
-    (r : RunsHonestly S J first old book) (waiting : EachIsInOrder S J first old book)
-    (quiet : is_pending (log_of book m.name) ≡ false) (h : HadTurn S J old new m replies) where
+    (r : RunsHonestly S J first old book) (h : HadTurn S J old new m replies) where
   -- the turn of the book
   abbrev pub turn_had : TurnsBook S J first old new book m replies
   turn_had = h.turned r.runs.honest first book r.runs.held
@@ -121,7 +103,7 @@ module _ {X Y : Type 0} (S : StoreGhosts X) (J : JournalGhosts Y) (first : List 
   reported =
       later_reported (λ name. is_some (first name)) (failures_of S J old) (failures_of S J new) book m
       (map reply_of replies) turn_had.later (done_in new.sessions m.name) turn_had.turned
-      (done_is new.limit (store_since S first new.stores.store) (session_in new.sessions) turn_had.later turn_had.held m.name)
+      (done_is new.limit (store_since S first new.stores.store) (session_in new.sessions) turn_had.later turn_had.held.holds m.name)
 
   now_noted : NotesBook S J first new turn_had.later
   now_noted =
@@ -146,11 +128,6 @@ module _ {X Y : Type 0} (S : StoreGhosts X) (J : JournalGhosts Y) (first : List 
 
   limits : (name : List ℕ) → (J.header new.stores.journal name).limit ≡ new.limit
   limits name = ap (λ (x : Header). x.limit) (headers name) ∙ r.runs.own.limits name ∙ sym h.limit
-
-  is_head : J.header old.stores.journal m.name ≡ header_beside new.limit (first m.name)
-  is_head =
-      header_is (J.header old.stores.journal m.name) new.limit (first m.name)
-      (r.runs.own.limits m.name ∙ sym h.limit) (r.runs.noted.existed m.name)
 
   is_named : IsTrue (is_name m.name)
   is_named =
@@ -188,7 +165,7 @@ module _ {X Y : Type 0} (S : StoreGhosts X) (J : JournalGhosts Y) (first : List 
               (J.notes new.stores.journal m.name)
           stands_now (Some x) e = (now_noted.known m.name x e).stands
           stands_now None e = inl (
-            done_is new.limit (store_since S first new.stores.store) (session_in new.sessions) turn_had.later turn_had.held m.name
+            done_is new.limit (store_since S first new.stores.store) (session_in new.sessions) turn_had.later turn_had.held.holds m.name
                 ∙ ap (λ (o : Option Session). option_map_or (λ s. length s.progress.ledger.outcomes) o 0) e,
             now_noted.unknown m.name e,
           )
@@ -206,87 +183,26 @@ module _ {X Y : Type 0} (S : StoreGhosts X) (J : JournalGhosts Y) (first : List 
   runs : RunsOver S J first new turn_had.later
   runs = record { honest = h.both.1.honest ∙ r.runs.honest; held = turn_had.held; noted = now_noted; own = own }
 
-  order : (name : List ℕ) → is_pending (log_of turn_had.later name) ≡ true →
-      IsWrittenInOrder new.limit (first name) name (log_of turn_had.later name) (J.notes new.stores.journal name)
-      (S.contents new.stores.store name)
-  order name waits = go (bytes_eq m.name name) refl
-    where
-      at_name : is_pending (log_of turn_had.later m.name) ≡ true →
-          IsWrittenInOrder new.limit (first m.name) m.name (log_of turn_had.later m.name) (J.notes new.stores.journal m.name)
-          (S.contents new.stores.store m.name)
-      at_name w =
-          in_order (J.header old.stores.journal m.name) (first m.name) m.name (log_of turn_had.later m.name) new.limit _ _ is_head
-          (subst (λ (l : ℕ). IsInOrder (J.header old.stores.journal m.name) (first m.name) m.name
-          (log_of turn_had.later m.name) l (J.notes new.stores.journal m.name) (S.contents new.stores.store m.name)) (sym h.limit)
-          (h.ordered r.runs.honest r.honest_notes first book r.runs.held r.runs.noted quiet
-          (log_of turn_had.later m.name) (ap (λ (b : Book). log_of b m.name) (sym reported)) w))
-
-      go : (v : Bool) → bytes_eq m.name name ≡ v →
-          IsWrittenInOrder new.limit (first name) name (log_of turn_had.later name) (J.notes new.stores.journal name)
-          (S.contents new.stores.store name)
-      go true e =
-          subst (λ (x : List ℕ). is_pending (log_of turn_had.later x) ≡ true →
-          IsWrittenInOrder new.limit (first x) x (log_of turn_had.later x) (J.notes new.stores.journal x)
-          (S.contents new.stores.store x)) (same_name m.name name e) at_name waits
-      go false e =
-          same_order new.limit (first name) name (log_of book name) (log_of turn_had.later name)
-          (J.notes old.stores.journal name) (J.notes new.stores.journal name) (S.contents old.stores.store name)
-          (S.contents new.stores.store name) (others name e) (note_other name e) (file_other name e)
-          (subst (λ (l : ℕ). IsWrittenInOrder l (first name) name (log_of book name) (J.notes old.stores.journal name)
-          (S.contents old.stores.store name)) (sym h.limit)
-          (waiting name (ap (λ (l : Log). is_pending l) (sym (others name e)) ∙ waits)))
-
   honestly : RunsHonestly S J first new turn_had.later
   honestly = record {
     runs = runs;
     honest_notes = h.both.1.honest_notes ∙ r.honest_notes;
     foreign = λ name bytes none stood. r.foreign name bytes (earlier_none name none) stood;
+    order = h.ordered r.runs.honest r.honest_notes first book r.runs.held r.runs.noted r.order;
   }
 
   pub stops : IsTurn (λ name. is_some (first name)) (failures_of S J old) (failures_of S J new) book (Says m)
       (map reply_of replies) turn_had.later
-      × RunsHonestly S J first new turn_had.later × EachIsInOrder S J first new turn_had.later
+      × RunsHonestly S J first new turn_had.later
       × LeavesLater new.limit first turn_had.later (J.notes new.stores.journal) (S.contents new.stores.store)
-  stops = (turn_had.turned, honestly, order, ordered_servers S J first new turn_had.later runs order)
+  stops = (turn_had.turned, honestly, leaves_honestly S J first new turn_had.later honestly)
 
   pub stopped : (later : Book)
       × IsTurn (λ name. is_some (first name)) (failures_of S J old) (failures_of S J new) book (Says m)
       (map reply_of replies) later
-      × RunsHonestly S J first new later × EachIsInOrder S J first new later
+      × RunsHonestly S J first new later
       × LeavesLater new.limit first later (J.notes new.stores.journal) (S.contents new.stores.store)
-  stopped = (turn_had.later, stops.0, stops.1, stops.2, stops.3)
-
-  -- if no call failed, nothing waits afterwards
-  pub quiet_after : ((name : List ℕ) → is_pending (log_of book name) ≡ false) → failures_of S J old < last_count →
-      failures_of S J new ≡ failures_of S J old → (name : List ℕ) → is_pending (log_of turn_had.later name) ≡ false
-  quiet_after still small same name = go (bytes_eq m.name name) refl
-    where
-      turn_of : IsTurn (λ n. is_some (first n)) (failures_of S J old) (failures_of S J old) book (Says m)
-          (map reply_of replies) turn_had.later
-      turn_of =
-          subst (λ (k : ℕ). IsTurn (λ n. is_some (first n)) (failures_of S J old) k book (Says m) (map reply_of replies)
-          turn_had.later) same turn_had.turned
-
-      here : (v : Bool) → is_turned_away (map reply_of replies) ≡ v → is_pending (log_of turn_had.later m.name) ≡ false
-      here false e =
-          quiet_drains (λ n. is_some (first n)) (failures_of S J old) book m (map reply_of replies) turn_had.later turn_of
-          small e
-      here true e =
-          let book_is : turn_had.later ≡ book = sym reported
-          ∙ reported_away book m (map reply_of replies) (done_in new.sessions m.name) (away e) in
-          ap (λ (b : Book). is_pending (log_of b m.name)) book_is ∙ still m.name
-        where
-          away : is_turned_away (map reply_of replies) ≡ true →
-              ((not (is_known book m.name) && nat_le window m.number) || is_turned_away (map reply_of replies)) ≡ true
-          away e =
-              ap (λ (v : Bool). (not (is_known book m.name) && nat_le window m.number) || v) e
-              ∙ or_true (not (is_known book m.name) && nat_le window m.number)
-
-      go : (v : Bool) → bytes_eq m.name name ≡ v → is_pending (log_of turn_had.later name) ≡ false
-      go true e = subst (λ (x : List ℕ). is_pending (log_of turn_had.later x) ≡ false) (same_name m.name name e)
-          (here (is_turned_away (map reply_of replies)) refl)
-      go false e = ap (λ (l : Log). is_pending l) (others name e) ∙ still name
+  stopped = (turn_had.later, stops.0, stops.1, stops.2)
 
 pub stopped_turns : {X Y : Type 0} (S : StoreGhosts X) (J : JournalGhosts Y) → StoppedTurnsAreLeft S J
-stopped_turns S J first old new book m replies r waiting quiet h =
-    stopped S J first old new book m replies r waiting quiet h
+stopped_turns S J first old new book m replies r h = stopped S J first old new book m replies r h

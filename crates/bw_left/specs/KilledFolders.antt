@@ -1,11 +1,8 @@
 -- What a server over a folder leaves on its disks that is killed.
-use Rattle.std.specs.Prelude.{◌≡◌, ◌<◌, ℕ, false, Option, is_some, List, [], ◌∷◌, ◌++◌, map}
-use Rattle.std.specs.Prelude.{string_bytes}
-use Rattle.bw_model.specs.Counts.{last_count}
+use Rattle.std.specs.Prelude.{◌≡◌, ℕ, Option, is_some, List, map, string_bytes}
 use Rattle.bw_model.specs.Wire.{Message, Says}
-use Rattle.bw_model.specs.Book.{Book, log_of}
+use Rattle.bw_model.specs.Book.{Book}
 use Rattle.bw_model.specs.Turn.{book_after}
-use Rattle.bw_model.specs.CountedTurn.{is_pending}
 use Rattle.bw_store.specs.declared.store.TakeStore.{Ghosts as StoreGhosts}
 use Rattle.bw_disk.specs.declared.disk.Disk.{Ghosts as DiskGhosts}
 use Rattle.bw_journal.specs.declared.journal.Journal.{Ghosts as JournalGhosts}
@@ -13,12 +10,11 @@ use Rattle.bw_wire.specs.declared.reply.Reply.{Reply}
 use Rattle.bw_folder.specs.Folders.{take_path}
 use Rattle.bw_folder.specs.declared.folder.FolderStore.{FolderStore}
 use Rattle.bw_folder.specs.declared.journal.FolderJournal.{FolderJournal}
-use Rattle.bw_session.specs.Books.{failures_of}
 use Rattle.bw_session.specs.declared.server.Server.{Server}
 use Rattle.bw_start.specs.Started.{IsLeftIn}
 use Rattle.bw_left.specs.LeftFolders.{GoesAhead}
 use Rattle.bw_left.specs.StoppedLives.{StoppedLife}
-use Rattle.bw_left.specs.StoppedTurns.{RunsHonestly, HadTurn, HadTurns}
+use Rattle.bw_left.specs.StoppedTurns.{RunsHonestly, HadTurns}
 
 module _ {D E F H : Type 0} (G : DiskGhosts D F) (K : DiskGhosts E H)
     (S : StoreGhosts (FolderStore D F G)) (J : JournalGhosts (FolderJournal E H K)) where
@@ -44,14 +40,11 @@ module _ {D E F H : Type 0} (G : DiskGhosts D F) (K : DiskGhosts E H)
     pub left : IsLeftIn new.limit (string_bytes new.stores.store.folder) first life.left
         (K.contents new.stores.journal.disk) (G.contents new.stores.store.disk)
 
-  -- Whatever its disks are, as those that die in a call, if they are honest: a server under none of
-  -- whose names a number waits, and none of whose calls fails before its last turn, leaves that.
+  -- Whatever its disks are, as those that die in a call, if they are honest: a server that is stopped
+  -- after any turns, or in the last of them, leaves that, whichever calls failed in any of them.
   abbrev pub KilledFoldersAreLeft : Type 0
   KilledFoldersAreLeft = (first : List ℕ → Option (List ℕ))
-      (old mid new : Server (FolderStore D F G) (FolderJournal E H K) S J) (book : Book)
-      (ts : List (Message × List Reply)) (m : Message) (replies : List Reply) →
-      RunsHonestly S J first old book → ((name : List ℕ) → is_pending (log_of book name) ≡ false) →
-      failures_of S J old < last_count → HadTurns S J old ts mid →
-      failures_of S J mid ≡ failures_of S J old → HadTurn S J mid new m replies →
-      IsOverOneFolder new →
-      (life : StoppedLife) × IsKilledOver first book (map (λ t. t.0) ts ++ m ∷ []) new life
+      (old new : Server (FolderStore D F G) (FolderJournal E H K) S J) (book : Book)
+      (ts : List (Message × List Reply)) → RunsHonestly S J first old book →
+      HadTurns S J old ts new → IsOverOneFolder new →
+      (life : StoppedLife) × IsKilledOver first book (map (λ t. t.0) ts) new life

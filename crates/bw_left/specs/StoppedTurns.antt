@@ -1,30 +1,29 @@
 -- What a server leaves in its folder that is stopped within a turn, by what `turn` of bw_session
 -- states.
-use Rattle.std.specs.Prelude.{◌≡◌, ◌<◌, ℕ, false, Option, Some, is_some, IsTrue, List, [], ◌∷◌}
-use Rattle.std.specs.Prelude.{◌++◌, map}
-use Rattle.bw_model.specs.Counts.{last_count}
+use Rattle.std.specs.Prelude.{◌≡◌, ℕ, false, Option, Some, is_some, IsTrue, List, [], ◌∷◌, map}
 use Rattle.bw_model.specs.Wire.{Message, Says, Second, is_frame}
 use Rattle.bw_model.specs.Book.{Book, log_of}
 use Rattle.bw_model.specs.Turn.{book_after}
-use Rattle.bw_model.specs.CountedTurn.{IsTurn, is_pending}
+use Rattle.bw_model.specs.CountedTurn.{IsTurn}
 use Rattle.bw_store.specs.declared.store.TakeStore.{Ghosts as StoreGhosts}
 use Rattle.bw_journal.specs.declared.journal.Journal.{Ghosts as JournalGhosts}
 use Rattle.bw_wire.specs.declared.reply.Reply.{Reply}
 use Rattle.bw_wire.specs.Replies.{reply_of}
-use Rattle.bw_session.specs.Books.{failures_of, TurnsBooks, NotesBooks, OrdersBooks, UsesInTurn}
+use Rattle.bw_session.specs.Books.{failures_of, TurnsBooks, NotesBooks, OrdersBook, OrdersBooks, UsesInTurn}
 use Rattle.bw_session.specs.declared.server.Server.{Server}
 use Rattle.bw_start.specs.Names.{begins_take}
 use Rattle.bw_start.specs.LeftNames.{IsLeft}
-use Rattle.bw_left.specs.LeftFolders.{RunsOver, EachIsInOrder, LeavesLater, GoesAhead}
+use Rattle.bw_left.specs.LeftFolders.{RunsOver, LeavesLater, GoesAhead}
 use Rattle.bw_left.specs.StoppedLives.{StoppedLife}
 
 module _ {X Y : Type 0} (S : StoreGhosts X) (J : JournalGhosts Y) where
-  -- The server holds the book over an honest store, and an honest journal has what the book says.
-  -- No file that begins as this server's existed under a name of which nothing is done.
+  -- The server holds the book over an honest store, and an honest journal has what the book says, in
+  -- the order that each turn keeps. No file that begins as this server's existed under a name of which nothing is done.
   pub record RunsHonestly (first : List ℕ → Option (List ℕ)) (s : Server X Y S J) (book : Book) :
       Type 0 where
     pub runs : RunsOver S J first s book
     pub honest_notes : IsTrue (J.honest s.stores.journal)
+    pub order : OrdersBook S J first s
     pub foreign : (name bytes : List ℕ) → (log_of book name).done ≡ 0 → first name ≡ Some bytes →
         begins_take bytes ≡ false
 
@@ -33,7 +32,7 @@ module _ {X Y : Type 0} (S : StoreGhosts X) (J : JournalGhosts Y) where
     pub fits : IsTrue (is_frame Second (Says m))
     pub turned : TurnsBooks S J old new m replies
     pub noted : NotesBooks S J old new m replies
-    pub ordered : OrdersBooks S J old new m replies
+    pub ordered : OrdersBooks S J old new
     pub both : UsesInTurn S J old new m replies
     pub limit : new.limit ≡ old.limit
 
@@ -42,19 +41,17 @@ module _ {X Y : Type 0} (S : StoreGhosts X) (J : JournalGhosts Y) where
   HadTurns old [] new = new ≡ old
   HadTurns old (t ∷ ts) new = (mid : Server X Y S J) × HadTurn old mid t.0 t.1 × HadTurns mid ts new
 
-  -- Whichever call fails in a turn, as in a disk that dies in it, the folder is one that a start
-  -- takes over, from a book that this turn leads to, or from that with numbers done that wait; if
-  -- nothing waited under the message's name, and each number that waits was written in order, as it
-  -- is again.
+  -- Whichever call fails in a turn, as in a disk that dies in it, and whatever failed before, the
+  -- folder is one that a start takes over, from a book that this turn leads to, or from that with
+  -- numbers done that wait; and the same holds of the next turn.
   abbrev pub StoppedTurnsAreLeft : Type 0
   StoppedTurnsAreLeft = (first : List ℕ → Option (List ℕ)) (old new : Server X Y S J) (book : Book)
       (m : Message) (replies : List Reply) → RunsHonestly first old book →
-      EachIsInOrder S J first old book → is_pending (log_of book m.name) ≡ false →
       HadTurn old new m replies →
       (later : Book)
       × IsTurn (λ name. is_some (first name)) (failures_of S J old) (failures_of S J new) book
       (Says m) (map reply_of replies) later
-      × RunsHonestly first new later × EachIsInOrder S J first new later
+      × RunsHonestly first new later
       × LeavesLater new.limit first later (J.notes new.stores.journal) (S.contents new.stores.store)
 
   -- A server was killed, and left this: these messages had their turns, from this book, and the
@@ -67,13 +64,9 @@ module _ {X Y : Type 0} (S : StoreGhosts X) (J : JournalGhosts Y) where
     pub left : IsLeft new.limit first life.left (J.notes new.stores.journal)
         (S.contents new.stores.store)
 
-  -- A server under none of whose names a number waits, as each that was started, and none of whose
-  -- calls fails before its last turn, as of a process that is killed in it, leaves what a start
-  -- takes over: whichever calls fail in that turn.
+  -- A server that is stopped after any turns, or in the last of them, leaves what a start takes over,
+  -- whichever calls failed in any of them: a full disk may have got room again.
   abbrev pub KilledServersAreLeft : Type 0
-  KilledServersAreLeft = (first : List ℕ → Option (List ℕ)) (old mid new : Server X Y S J)
-      (book : Book) (ts : List (Message × List Reply)) (m : Message) (replies : List Reply) →
-      RunsHonestly first old book → ((name : List ℕ) → is_pending (log_of book name) ≡ false) →
-      failures_of S J old < last_count → HadTurns old ts mid →
-      failures_of S J mid ≡ failures_of S J old → HadTurn mid new m replies →
-      (life : StoppedLife) × IsKilled first book (map (λ t. t.0) ts ++ m ∷ []) new life
+  KilledServersAreLeft = (first : List ℕ → Option (List ℕ)) (old new : Server X Y S J) (book : Book)
+      (ts : List (Message × List Reply)) → RunsHonestly first old book → HadTurns old ts new →
+      (life : StoppedLife) × IsKilled first book (map (λ t. t.0) ts) new life

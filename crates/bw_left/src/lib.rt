@@ -30,15 +30,17 @@ pub fn law_left<S: TakeStore, J: Journal>()
     ensures folder { LeftNamesAreInFolders }
 {}
 
-/// Whichever call of store or journal fails in a turn, as in a disk that dies in it, the folder is one
-/// that a start takes over; and so a server that is killed leaves one, if no call failed before.
+/// Whichever calls of store or journal fail, as in a disk that dies in one or is full for a while, the
+/// folder is one that a start takes over after each turn and in it: also while a number waits whose
+/// note failed. The order of file and entry, which is asked at the start, holds where no number waits,
+/// as in a server that was started (`bw_session::law_order`).
 pub fn law_stopped<S: TakeStore, J: Journal>()
     ensures turn { StoppedTurnsAreLeft S.TakeStore J.Journal }
     ensures killed { KilledServersAreLeft S.TakeStore J.Journal }
 {}
 
 /// The same by the disks of a folder, as those that die in a chosen call (`MortalDisk` of `bw_disk`):
-/// a server that is killed in a turn leaves on them what `start` takes as its premise.
+/// a server that is stopped leaves on them what `start` takes as its premise.
 pub fn law_killed<D: Volume, E: Volume>()
     ensures { KilledFoldersAreLeft D.Disk E.Disk ⟦<FolderStore<D> as TakeStore>⟧
         ⟦<FolderJournal<E> as Journal>⟧ }

@@ -33,7 +33,7 @@ module _ {X Y : Type 0} (S : StoreGhosts X) (J : JournalGhosts Y) where
         run = x;
         files = λ n which. held_files old.limit (store_since S first new.stores.store) (kept_in new.sessions) x.later
             (subst (λ (limit : ℕ). Holds limit (store_since S first new.stores.store) (kept_in new.sessions) x.later)
-            r.limit x.held) (r.honest ∙ honest) n which;
+            r.limit x.held.holds) (r.honest ∙ honest) n which;
       }
 
   module _ {B L O E : Type 0} (reactor : ReactorGhosts B L) (link : LinkGhosts L) (out : Writer O) (reported : Writer E)

@@ -8,7 +8,7 @@ use Rattle.std.proofs.lemmas.Bool.{leb-true, and_parts, cases_lt}
 use Rattle.std.proofs.lemmas.List.Sums.{count_by-le-length, sum_by-set}
 use Rattle.sha2.specs.Sha256.{sha256}
 use Rattle.bw_model.specs.Bytes.{at, put}
-use Rattle.bw_model.specs.Take.{Take, Parts, Request, Verdict, new_take, parts}
+use Rattle.bw_model.specs.Take.{Take, Parts, Request, Verdict, new_take, parts, after}
 use Rattle.bw_model.specs.File.{file_of}
 use Rattle.bw_model.specs.Wire.{Message, Second, last_number, is_name, is_request, is_message, message_body}
 use Rattle.bw_model.specs.Book.{Log, made, step, verdict_at}
@@ -24,6 +24,7 @@ use Rattle.bw_journal.specs.Noted.{entries_from, journal_of}
 use Rattle.bw_session.specs.Windows.{count_held}
 use Rattle.bw_session.specs.Noting.{entry_if, next_entry, HasEntries, IsNoted}
 use Rattle.bw_session.specs.Draining.{Fits, kept_as, NameStands, HoldsPart}
+use Rattle.bw_session.specs.Prefixes.{StandsAhead}
 use Rattle.bw_session.specs.Admitting.{with_message}
 use Rattle.bw_session.proofs.Slots.{at-slot}
 use Rattle.bw_session.proofs.LogSteps.{take-short}
@@ -286,6 +287,23 @@ module _ (first : Option (List ℕ)) (log : Log) (p : Parts) (finished : List (L
         }
         stands (Some bytes) f = f
 
+    put_ahead : StandsAhead first (record log { admitted = put log.admitted n r }) g found
+    put_ahead = stands first h.ahead
+      where
+        stands : (o : Option (List ℕ)) → StandsAhead o log g found →
+            StandsAhead o (record log { admitted = put log.admitted n r }) g found
+        stands None ahead = λ has. let a = ahead has in record {
+          request = a.request;
+          waits =
+              at-put_other log.admitted n log.done r
+              (λ e. no_some (sym none ∙ ap (at log.admitted) (sym e) ∙ a.waits))
+              ∙ a.waits;
+          dirty = a.dirty;
+          file = a.file ∙ ap (λ (t : Take). file_of (after t a.request) g.limit)
+              (sym (made_put false log.admitted n r log.done filled none));
+        }
+        stands (Some bytes) level = level
+
     journal_put : (hd : Header) (name : List ℕ) →
         journal_of hd name (record log { admitted = put log.admitted n r }) ≡ journal_of hd name log
     journal_put hd name =
@@ -354,6 +372,7 @@ module _ (first : Option (List ℕ)) (log : Log) (p : Parts) (finished : List (L
         fits = fits-put log.admitted m.number m.request h.fits fits;
         memory = put_memory m.number m.request lacks w' (λ i. by_slot i (near_or_not i slot));
         file = put_file m.number m.request lacks w';
+        ahead = put_ahead m.number m.request lacks;
       })))
     where
       lacks : at log.admitted m.number ≡ None

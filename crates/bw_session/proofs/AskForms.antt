@@ -12,7 +12,7 @@ use Rattle.bw_model.specs.Bytes.{at}
 use Rattle.bw_store.specs.StoreSteps.{WasAsked, WasAskedFirst}
 use Rattle.bw_store.specs.declared.store.TakeStore.{Ghosts as StoreGhosts}
 use Rattle.bw_wire.specs.Bodies.{message_in}
-use Rattle.bw_session.specs.Carrying.{judged_plan}
+use Rattle.bw_session.specs.Carrying.{judged_plan, StopsAt}
 use Rattle.bw_session.specs.KeptParts.{Part}
 use Rattle.bw_session.specs.Judging.{judged_in, parts_under, KeepsJudged}
 use Rattle.bw_session.specs.Asking.{DoesFirst, TriesFirst, DoesConsecutively, DoesRun, HoldsNoNext, window_with, holding}
@@ -74,14 +74,20 @@ module _ {X : Type 0} (S : StoreGhosts X) where
   pub does_first : (a b : Part) (x y : X) (body digest : List ℕ) (r : Request) (v : Verdict) →
       at a.window 0 ≡ Some body → r ≡ (message_in body).request → digest ≡ sha256 body →
       WasAsked S (judged_plan a.growing a.parts r b.growing.made) x y →
-      b.growing ≡ record a.growing { made = b.growing.made; dirty = b.growing.dirty } → b.growing.dirty ≡ false →
+      b.growing ≡ record a.growing {
+        made = b.growing.made;
+        dirty = b.growing.dirty;
+        ahead = b.growing.ahead;
+      } → b.growing.dirty ≡ false → b.growing.ahead ≡ false →
       KeepsJudged a.parts r b.parts → v ≡ judged_in a.parts r b.parts.taken →
       b.outcomes ≡ a.outcomes ++ (digest, v) ∷ [] → b.window ≡ drop 1 a.window ++ None ∷ [] → DoesFirst S a x b y
-  does_first a b x y body digest r v held read summed asked known clean kept judged outcomes window = record {
+  does_first a b x y body digest r v held read summed asked known clean level kept judged outcomes window = record {
     body = body;
     held = held;
     asked = subst (λ (q : Request). WasAsked S (judged_plan a.growing a.parts q b.growing.made) x y) read asked;
-    growing = known ∙ ap (λ (d : Bool). record a.growing { made = b.growing.made; dirty = d }) clean;
+    growing = known
+        ∙ ap (λ (d : Bool). record a.growing { made = b.growing.made; dirty = d; ahead = b.growing.ahead }) clean
+        ∙ ap (λ (h : Bool). record a.growing { made = b.growing.made; dirty = false; ahead = h }) level;
     parts = subst (λ (q : Request). KeepsJudged a.parts q b.parts) read kept;
     outcomes = outcomes ∙ ap (λ (d : List ℕ). a.outcomes ++ (d, v) ∷ []) summed
         ∙ ap (λ (w : Verdict). a.outcomes ++ (sha256 body, w) ∷ [])
@@ -93,12 +99,14 @@ module _ {X : Type 0} (S : StoreGhosts X) where
   pub tries_first : (a b : Part) (x y : X) (body : List ℕ) (r : Request) →
       at a.window 0 ≡ Some body → r ≡ (message_in body).request →
       (made : Bool) × WasAskedFirst S (judged_plan a.growing a.parts r made) x y →
+      StopsAt S a.parts a.growing r b.parts b.growing x y →
       b.outcomes ≡ a.outcomes → b.window ≡ a.window → TriesFirst S a x b y
-  tries_first a b x y body r held read asked outcomes window = record {
+  tries_first a b x y body r held read asked stop outcomes window = record {
     body = body;
     held = held;
     made = asked.0;
     asked = subst (λ (q : Request). WasAskedFirst S (judged_plan a.growing a.parts q asked.0) x y) read asked.1;
+    stop = subst (λ (q : Request). StopsAt S a.parts a.growing q b.parts b.growing x y) read stop;
     outcomes = outcomes;
     window = window;
   }

@@ -60,8 +60,8 @@ unmarked false p r s h = refl
 
 pub carries_refused : (v : Verdict) (p : Parts) (r : Request) (g : Growing) (found : Option (List ℕ)) →
     verdict_meaning v ≡ judge p r → is_stored (verdict_meaning v) ≡ false → (IsTrue g.dirty → Touches p r) →
-    Carries (Ok v) r p p g g found found
-carries_refused v p r g found e s touched =
+    g.ahead ≡ false → Carries (Ok v) r p p g g found found
+carries_refused v p r g found e s touched level =
     let refused : is_stored (judge p r) ≡ false = ap is_stored (sym e) ∙ s in
     record {
       own = λ t same h. (
@@ -70,10 +70,23 @@ carries_refused v p r g found e s touched =
           whole = subst (λ (d : Bool). MatchBool d (IsInTheMiddle t g.limit (Some r) found) (found ≡ file_of t g.limit))
               (unmarked g.dirty p r refused touched) h.whole;
           made_here = h.made_here;
+          level = level;
         }),
       );
-      existed = λ none unmade existed. (refl, unmade, e ∙ taken_same p r none refused);
+      existed = λ none unmade unahead existed. (refl, unmade, e ∙ taken_same p r none refused);
     }
+
+-- the file has the request already
+pub carries_ahead : (v : Verdict) (p : Parts) (r : Request) (g g' : Growing) (found : Option (List ℕ)) →
+    g.ahead ≡ true → g' ≡ record g { dirty = false; ahead = false } → Carries (Ok v) r p p g g' found found
+carries_ahead v p r g g' found has known = record {
+  own = λ t same h. (
+    refl,
+    subst (λ (x : Growing). HasWholeFile (after t r) x found) (sym known)
+        (record { whole = (h.ahead has).1; made_here = h.made_here; level = refl }),
+  );
+  existed = λ none unmade unahead existed. no_false (sym unahead ∙ has);
+}
 
 pub carries_new : (v : Verdict) (p : Parts) (r : Request) (g g' : Growing) (before found : Option (List ℕ)) →
     verdict_meaning v ≡ judge p r → is_stored (verdict_meaning v) ≡ true →
@@ -86,7 +99,7 @@ carries_new v p r g g' before found e s w =
         refl,
         subst (λ (u : Take). HasWholeFile u g' found) (after_stored t p r same stored) (w.own t same h).1,
       );
-      existed = λ none unmade existed. no_false (sym (w.existed none unmade existed).2);
+      existed = λ none unmade unahead existed. no_false (sym (w.existed none unmade existed).2);
     }
 
 pub carries_exists : (v : Verdict) (p q : Parts) (r : Request) (g g' : Growing) (before found : Option (List ℕ)) →
@@ -94,7 +107,7 @@ pub carries_exists : (v : Verdict) (p q : Parts) (r : Request) (g g' : Growing) 
     Carries (Ok v) r p q g g' before found
 carries_exists v p q r g g' before found taken e w = record {
   own = λ t same h. no_false (w.own t same h).0;
-  existed = λ none unmade existed.
+  existed = λ none unmade unahead existed.
       let left = w.existed none unmade existed in (left.0, left.1, e ∙ ap (λ (x : Parts). judge x r) taken);
 }
 
@@ -103,5 +116,5 @@ pub carries_err : (fault fault' : StoreFault) (p : Parts) (r : Request) (g g' : 
     WritesRequest (Err fault) r p g g' before found → Carries (Err fault') r p p g g' before found
 carries_err fault fault' p r g g' before found w = record {
   own = λ t same h. w.own t same h;
-  existed = λ none unmade existed. let left = w.existed none unmade existed in (left.0, left.1, tt);
+  existed = λ none unmade unahead existed. let left = w.existed none unmade existed in (left.0, left.1, tt);
 }

@@ -9,7 +9,7 @@ use Rattle.std.proofs.lemmas.Grind.{common_steps}
 use Rattle.std.proofs.lemmas.List.{drop_at}
 use Rattle.sha2.specs.Sha256.{sha256}
 use Rattle.bw_model.specs.Bytes.{at, le32}
-use Rattle.bw_model.specs.Take.{Parts, Request, Verdict}
+use Rattle.bw_model.specs.Take.{Parts, Request, Verdict, after}
 use Rattle.bw_model.specs.File.{file_of}
 use Rattle.bw_model.specs.Wire.{Message, Second, last_number, kind, payload, request_of, is_request, message_body}
 use Rattle.bw_model.specs.ReadBack.{is_admitted}
@@ -19,7 +19,7 @@ use Rattle.bw_model.proofs.Elements.{some_inj}
 use Rattle.bw_model.proofs.Payloads.{reads_request}
 use Rattle.bw_file.specs.Growing.{Growing}
 use Rattle.bw_session.specs.Windows.{count_held}
-use Rattle.bw_session.specs.Prefixes.{take_done, FileStands, FileFollows, HoldsPrefix}
+use Rattle.bw_session.specs.Prefixes.{take_done, FileStands, FileFollows, StandsAhead, HoldsPrefix}
 use Rattle.bw_session.specs.Numbered.{IsNext, with_done, IsDone}
 use Rattle.bw_session.specs.Draining.{Fits, kept_as, NameStands, HoldsPart}
 
@@ -105,7 +105,7 @@ fits_done g g' p q done later room room' places places' w w' b f here moved more
 
 -- What the log says.
 
-admitted_fits : (s : List (Option Request)) (n : ℕ) (r : Request) → list_all is_admitted s ≡ true → at s n ≡ Some r →
+pub admitted_fits : (s : List (Option Request)) (n : ℕ) (r : Request) → list_all is_admitted s ≡ true → at s n ≡ Some r →
     is_request r ≡ true
 admitted_fits [] n r h e = absurd (none e)
   where
@@ -120,7 +120,7 @@ module _ (first : Option (List ℕ)) (log : Log) (p : Parts) (finished : List (L
     (w : List (Option (List ℕ))) (g : Growing) (found : Option (List ℕ))
     (h : HoldsPart first log p finished w g found) where
   -- what the first slot has
-  first_slot : at w 0 ≡ option_map (body_of g.name log.done) (at log.admitted log.done)
+  pub first_slot : at w 0 ≡ option_map (body_of g.name log.done) (at log.admitted log.done)
   first_slot =
       let place : log.done + 0 ≡ log.done = omega arith in
       h.memory.held 0
@@ -143,7 +143,7 @@ module _ (first : Option (List ℕ)) (log : Log) (p : Parts) (finished : List (L
             digest_is = d ∙ ap sha256 (body ∙ ap (body_of g.name log.done) same);
           }
 
-  prefix_of : (r : Request) → at log.admitted log.done ≡ Some r → HoldsPrefix first log p finished r g found
+  pub prefix_of : (r : Request) → at log.admitted log.done ≡ Some r → HoldsPrefix first log p finished r g found
   prefix_of r here = record {
     memory = record {
       done = h.memory.done;
@@ -152,18 +152,23 @@ module _ (first : Option (List ℕ)) (log : Log) (p : Parts) (finished : List (L
       taken = h.memory.taken;
       reported = h.memory.reported;
     };
-    file = stands first h.file;
+    file = stands first h.file h.ahead;
   }
     where
       stands : (o : Option (List ℕ)) → NameStands o log g.limit (kept_as p finished w g) found →
-          FileStands o (take_done o log) r g found
-      stands None f = record {
+          StandsAhead o log g found → FileStands o (take_done o log) r g found
+      stands None f ahead = record {
         whole = subst (λ (x : Option Request). MatchBool g.dirty
             (IsInTheMiddle (take_done None log) g.limit x found) (found ≡ file_of (take_done None log) g.limit))
             here f.whole;
         made_here = f.made_here;
+        ahead = λ has. let a = ahead has in (
+          a.dirty,
+          a.file ∙ ap (λ (q : Request). file_of (after (take_done None log) q) g.limit)
+              (some_inj (sym a.waits ∙ here)),
+        );
       }
-      stands (Some bytes) f = f
+      stands (Some bytes) f level = (f.0, f.1, level)
 
   -- both, where the message that the body spells was read
   pub held_prefix : (m : Message) (r : Request) (digest b name : List ℕ) → g.name ≡ name → at w 0 ≡ Some b →
@@ -192,8 +197,14 @@ module _ (first : Option (List ℕ)) (log : Log) (p : Parts) (finished : List (L
       reported = f.memory.reported;
     };
     file = stands first f.file;
+    ahead = has_next first f.file;
   }
     where
+      has_next : (o : Option (List ℕ)) → FileStands o (take_done o log) r g' found' → StandsAhead o log g' found'
+      has_next None f = λ has. let a = f.ahead has in
+          record { request = r; waits = here; dirty = a.0; file = a.1 }
+      has_next (Some bytes) f = f.2
+
       stands : (o : Option (List ℕ)) → FileStands o (take_done o log) r g' found' →
           NameStands o log g'.limit (kept_as q later w g') found'
       stands None f = record {
@@ -202,7 +213,7 @@ module _ (first : Option (List ℕ)) (log : Log) (p : Parts) (finished : List (L
             (sym here) f.whole;
         made_here = f.made_here;
       }
-      stands (Some bytes) f = f
+      stands (Some bytes) f = (f.0, f.1)
 
   -- the number is done
   pub part_done : (v : Verdict) (q : Parts) (later : List (List ℕ × Verdict)) (w' : List (Option (List ℕ)))
@@ -225,8 +236,17 @@ module _ (first : Option (List ℕ)) (log : Log) (p : Parts) (finished : List (L
       reported = d.memory.reported;
     };
     file = stands first d.file;
+    ahead = level first d.file;
   }
     where
+      level : (o : Option (List ℕ)) → FileFollows o (take_done o (with_done log)) g' found' →
+          StandsAhead o (with_done log) g' found'
+      level None f = λ has. true_false (sym has ∙ f.level)
+        where
+          true_false : {A : Type 0} → true ≡ false → A
+          true_false e = cc
+      level (Some bytes) f = f.2
+
       stands : (o : Option (List ℕ)) → FileFollows o (take_done o (with_done log)) g' found' →
           NameStands o (with_done log) g'.limit (kept_as q later w' g') found'
       stands None f = record {
@@ -235,4 +255,4 @@ module _ (first : Option (List ℕ)) (log : Log) (p : Parts) (finished : List (L
             (sym clean) f.whole;
         made_here = f.made_here;
       }
-      stands (Some bytes) f = f
+      stands (Some bytes) f = (f.0, f.1)

@@ -15,6 +15,8 @@ use Rattle.bw_journal.specs.Notes.{IsPrefixOf, KeepsHeaders}
 use Rattle.bw_session.specs.Noting.{IsNoted}
 use Rattle.bw_session.specs.Serving.{log_after, log_reported}
 use Rattle.bw_session.specs.Journaled.{NotesNames}
+use Rattle.bw_session.specs.Ordering.{FileComesFirst, NextIsCarriedOut}
+use Rattle.bw_session.specs.Sessions.{part_of}
 use Rattle.bw_session.specs.declared.session.Session.{Session}
 use Rattle.bw_session.proofs.ServerForms.{apart_names}
 
@@ -70,6 +72,45 @@ module _ (header header' : List ℕ → Header) (notes notes' first : List ℕ �
           subst (λ (z : Header). IsPrefixOf (header_bytes n z) (notes' n)) (sym (headers n))
           (subst (λ (z : Option (List ℕ)). IsPrefixOf (header_bytes n (header n)) z) (sym (note_other n b))
           (h.unknown n (sym (there n b) ∙ e)))
+
+-- of each session the file comes first, then the entry of the next number
+abbrev pub OrderIn : (List ℕ → Header) → (List ℕ → Option (List ℕ)) → (List ℕ → Option (List ℕ)) →
+    (List ℕ → Option (List ℕ)) → (List ℕ → Option Session) → Type 0
+OrderIn header notes first file sessions = (n : List ℕ) (x : Session) → sessions n ≡ Some x →
+    FileComesFirst (header n) (first n) n x.progress.noted (NextIsCarriedOut (part_of x)) (notes n) (file n)
+
+-- in a store and a journal that changed under one name alone
+pub order_after : (header header' : List ℕ → Header) (notes notes' first file file' : List ℕ → Option (List ℕ))
+    (sessions sessions' : List ℕ → Option Session) (name : List ℕ) (s : Session) →
+    OrderIn header notes first file sessions → KeepsHeaders header header' → KeepsOthers notes notes' name →
+    KeepsOthers file file' name →
+    ((n : List ℕ) → sessions' n ≡ cond (bytes_eq name n) (Some s) (sessions n)) →
+    FileComesFirst (header name) (first name) name s.progress.noted (NextIsCarriedOut (part_of s)) (notes' name)
+    (file' name) → OrderIn header' notes' first file' sessions'
+order_after header header' notes notes' first file file' sessions sessions' name s o headers keeps keeps' sets here =
+    λ n x e. by_name n x e (bytes_eq name n) refl
+  where
+    some_same : {a b : Session} → Some a ≡ Some b → a ≡ b
+    some_same e = cc
+
+    by_name : (n : List ℕ) (x : Session) → sessions' n ≡ Some x → (b : Bool) → bytes_eq name n ≡ b →
+        FileComesFirst (header' n) (first n) n x.progress.noted (NextIsCarriedOut (part_of x)) (notes' n) (file' n)
+    by_name n x e true b =
+        subst (λ (z : List ℕ). FileComesFirst (header' z) (first z) z x.progress.noted (NextIsCarriedOut (part_of x))
+        (notes' z) (file' z)) (same_name name n b)
+        (subst (λ (z : Session). FileComesFirst (header' name) (first name) name z.progress.noted
+        (NextIsCarriedOut (part_of z)) (notes' name) (file' name))
+        (some_same (sym (sets n ∙ ap (λ (v : Bool). cond v (Some s) (sessions n)) b) ∙ e))
+        (subst (λ (z : Header). FileComesFirst z (first name) name s.progress.noted (NextIsCarriedOut (part_of s))
+        (notes' name) (file' name)) (sym (headers name)) here))
+    by_name n x e false b =
+        subst (λ (z : Header). FileComesFirst z (first n) n x.progress.noted (NextIsCarriedOut (part_of x)) (notes' n)
+        (file' n)) (sym (headers n))
+        (subst (λ (z : Option (List ℕ)). FileComesFirst (header n) (first n) n x.progress.noted
+        (NextIsCarriedOut (part_of x)) z (file' n)) (sym (keeps n (apart_names name n b)))
+        (subst (λ (z : Option (List ℕ)). FileComesFirst (header n) (first n) n x.progress.noted
+        (NextIsCarriedOut (part_of x)) (notes n) z) (sym (keeps' n (apart_names name n b)))
+        (o n x (sym (sets n ∙ ap (λ (v : Bool). cond v (Some s) (sessions n)) b) ∙ e))))
 
 -- the book that a message's replies report
 module _ (book : Book) (m : Message) (replies : List ModelReply) (done : ℕ)

@@ -4,6 +4,7 @@ pub mod OwnFiles
 pub mod WriteForms
 pub mod CarryForms
 pub mod LogSteps
+pub mod PlanForms
 pub mod PrefixForms
 pub mod NumberForms
 pub mod NoteForms
@@ -21,6 +22,7 @@ pub mod ServerForms
 pub mod CountForms
 pub mod ReportForms
 pub mod JournalForms
+pub mod OrderLaws
 pub mod SettledForms
 pub mod UseForms
 pub mod AskForms

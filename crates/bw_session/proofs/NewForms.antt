@@ -16,7 +16,7 @@ use Rattle.bw_journal.specs.Notes.{IsPrefixOf}
 use Rattle.bw_journal.proofs.Lengths.{length-header_bytes}
 use Rattle.bw_session.specs.Noting.{IsNoted}
 use Rattle.bw_session.specs.Keeping.{KeepsDone}
-use Rattle.bw_session.specs.Prefixes.{take_done, FileFollows}
+use Rattle.bw_session.specs.Prefixes.{take_done, FileFollows, StandsAhead}
 use Rattle.bw_session.specs.Draining.{kept_as, NameStands, HoldsPart, IsAllDone}
 
 pub at-empty : (n i : ℕ) → at {X = List ℕ} (replicate n None) i ≡ None
@@ -46,7 +46,11 @@ module _ (first : Option (List ℕ)) (log : Log) (p : Parts) (finished : List (L
         (found ≡ file_of (take_done None log) g.limit)) (sym clean) f.whole;
     made_here = f.made_here;
   }
-  stands (Some bytes) f = f
+  stands (Some bytes) f = (f.0, f.1)
+
+  level : (o : Option (List ℕ)) → FileFollows o (take_done o log) g found → StandsAhead o log g found
+  level None f = λ has. absurd (false≢true (sym f.level ∙ has))
+  level (Some bytes) f = f.2
 
   pub resumed_part : (w : List (Option (List ℕ))) → w ≡ replicate 16 None → HoldsPart first log p finished w g found
   resumed_part w empty = subst (λ (x : List (Option (List ℕ))). HoldsPart first log p finished x g found) (sym empty)
@@ -61,6 +65,7 @@ module _ (first : Option (List ℕ)) (log : Log) (p : Parts) (finished : List (L
           reported = done.reported;
         };
         file = stands first file;
+        ahead = level first file;
       })
 
 pub no_log_done : IsAllDone no_log
@@ -76,11 +81,11 @@ nothing_kept existed name = record {
   reported = λ n below is. absurd (omega (arith, below));
 }
 
-pub nothing_made : (first : Option (List ℕ)) (g : Growing) → g.made ≡ false →
+pub nothing_made : (first : Option (List ℕ)) (g : Growing) → g.made ≡ false → g.ahead ≡ false →
     FileFollows first (take_done first no_log) g first
 unfolding made
-nothing_made None g unmade = record { whole = refl; made_here = unmade }
-nothing_made (Some bytes) g unmade = (refl, unmade)
+nothing_made None g unmade level = record { whole = refl; made_here = unmade; level = level }
+nothing_made (Some bytes) g unmade level = (refl, unmade, level)
 
 pub new_done : (existed : Bool) (name : List ℕ) (p : Parts) (finished : List (List ℕ × Verdict)) →
     p ≡ parts (new_take false) → finished ≡ [] → KeepsDone existed name no_log p finished

@@ -23,7 +23,7 @@ start : (h : Header) (name : List ℕ) (s : List (Option Request)) (n : ℕ) →
 start h name s n e =
     ap (λ (k : ℕ). journal_of h name (record { admitted = s; done = k })) e ∙ append-nil (header_bytes name h)
 
-begins : (h : Header) (name : List ℕ) (log : Log) (found : Option (List ℕ)) → HasEntries h name log found →
+pub begins : (h : Header) (name : List ℕ) (log : Log) (found : Option (List ℕ)) → HasEntries h name log found →
     BeginsWith (header_bytes name h) found
 begins h name log found (count, e) = (
   _,

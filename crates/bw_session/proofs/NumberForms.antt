@@ -1,5 +1,5 @@
 -- What doing a number leaves, by its result.
-use Rattle.std.proofs.Common.{◌≡◌, ℕ, Bool, true, false, not, ◌||◌, List, Option, Some}
+use Rattle.std.proofs.Common.{◌≡◌, ℕ, Bool, true, false, not, ◌||◌, ◌&&◌, List, Option, Some}
 use Rattle.std.proofs.Common.{None, refl, sym, ◌∙◌, ap, subst}
 use Rattle.std.specs.Prelude.{is_some}
 use Rattle.std.specs.Bool.{MatchBool}
@@ -23,7 +23,7 @@ use Rattle.bw_session.specs.Prefixes.{take_done, FileFollows, FileStands, HoldsP
 use Rattle.bw_session.specs.Numbered.{is_written, IsNext, with_done, IsDone}
 use Rattle.bw_file.proofs.MarkedFiles.{marked_file}
 use Rattle.bw_session.proofs.CarryForms.{after_refused, after_stored}
-use Rattle.bw_session.proofs.PrefixForms.{own_parts}
+use Rattle.bw_session.proofs.PrefixForms.{own_parts, refused, existed_is_new}
 use Rattle.bw_session.proofs.LogSteps.{made_next, verdict_here}
 
 no_false : {A : Type 0} → false ≡ true → A
@@ -60,7 +60,7 @@ refused_same : (t : Take) (limit : ℕ) (r : Request) → is_stored (verdict t r
 refused_same t limit r e = ap (λ (u : Take). file_of u limit) (sym (after_refused t (parts t) r refl e))
 
 -- a request that wasn't written leaves the file
-unwritten_same : (t : Take) (limit : ℕ) (r : Request) → is_written (verdict t r) r ≡ false →
+pub unwritten_same : (t : Take) (limit : ℕ) (r : Request) → is_written (verdict t r) r ≡ false →
     file_of (after t r) limit ≡ file_of t limit
 unwritten_same t limit (Open f history) e = refused_same t limit (Open f history) e
 unwritten_same t limit (Block bytes) e = refused_same t limit (Block bytes) e
@@ -78,9 +78,17 @@ unwritten_same t limit (Mark id frame) e = go (is_stored (verdict t (Mark id fra
 
 again : (t : Take) (r : Request) (v : Verdict) (g : Growing) (found : Option (List ℕ)) → v ≡ verdict t r →
     AreFields t.fields → g.dirty ≡ false → HasWholeFile (after t r) g found →
-    HasOwnFile t r (record g { dirty = is_written v r || g.dirty }) found
-again t r v g found is fields clean h = record { whole = go (is_written v r) refl; made_here = h.made_here }
+    HasOwnFile t r (record g { dirty = is_written v r || g.dirty; ahead = is_written v r || g.ahead }) found
+again t r v g found is fields clean h = record {
+  whole = go (is_written v r) refl;
+  made_here = h.made_here;
+  ahead = λ a. (first_of (is_written v r) g.dirty g.ahead h.level a, h.whole);
+}
   where
+    first_of : (w d a : Bool) → a ≡ false → (w || a) ≡ true → (w || d) ≡ true
+    first_of true d a e h = refl
+    first_of false d a e h = no_false (sym e ∙ h)
+
     go : (w : Bool) → is_written v r ≡ w →
         MatchBool (w || g.dirty) (IsInTheMiddle t g.limit (Some r) found) (found ≡ file_of t g.limit)
     go true written =
@@ -99,22 +107,32 @@ again t r v g found is fields clean h = record { whole = go (is_written v r) ref
         (sym clean)
         (h.whole ∙ unwritten_same t g.limit r (ap (λ (x : Verdict). is_written x r) (sym is) ∙ unwritten))
 
+and_no : (b : Bool) → (b && false) ≡ false
+and_no true = refl
+and_no false = refl
+
 -- The number still waits: over the file that has its request the same request may be tried again.
 pub done_again : (first : Option (List ℕ)) (log : Log) (v : Verdict) (p : Parts) (finished : List (List ℕ × Verdict))
     (r : Request) (g g' : Growing) (found : Option (List ℕ)) → Carried first log v p finished r g found →
-    g.dirty ≡ false → AreFields p.fields → g' ≡ record g { dirty = is_written v r || g.dirty } →
+    g.dirty ≡ false → AreFields p.fields →
+    g' ≡ record g { dirty = is_written v r || g.dirty; ahead = is_written v r || g.ahead } →
     HoldsPrefix first log p finished r g' found
 done_again first log v p finished r g g' found c clean fields marked =
     subst (λ (x : Growing). HoldsPrefix first log p finished r x found) (sym marked)
     (record { memory = c.memory; file = stands first c })
   where
     stands : (first : Option (List ℕ)) → Carried first log v p finished r g found →
-        FileStands first (take_done first log) r (record g { dirty = is_written v r || g.dirty }) found
+        FileStands first (take_done first log) r
+        (record g { dirty = is_written v r || g.dirty; ahead = is_written v r || g.ahead }) found
     stands None c =
         again (take_done None log) r v g found c.verdict_is
         (subst AreFields (sym (ap (λ (q : Parts). q.fields) (own_parts g.name log p finished c.memory))) fields)
         clean c.file
-    stands (Some bytes) c = c.file
+    stands (Some bytes) c =
+        let unwritten : is_written v r ≡ false = ap (λ (x : Bool). not (is_mark r) && x)
+        (ap is_stored (c.verdict_is ∙ ap (λ (t : Take). verdict t r) (existed_is_new log.admitted log.done)) ∙ refused r)
+        ∙ and_no (not (is_mark r)) in
+        (c.file.0, c.file.1, ap (λ (w : Bool). w || g.ahead) unwritten ∙ c.file.2)
 
 -- The number is done.
 pub done_next : (first : Option (List ℕ)) (log : Log) (v : Verdict) (p q : Parts)

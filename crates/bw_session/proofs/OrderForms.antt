@@ -1,26 +1,22 @@
--- In which order the number that waits was written, by which of the calls failed.
-use Rattle.std.proofs.Common.{◌≡◌, inl, inr, ℕ, zero, suc, ◌+◌, ◌<◌, ◌≤◌, Bool, false, List, [], ◌∷◌, ◌++◌, length, take}
+-- In which order a number is written, by which of the calls failed.
+use Rattle.std.proofs.Common.{◌≡◌, inl, inr, ℕ, zero, suc, ◌+◌, ◌<◌, ◌≤◌, Bool, List, [], ◌∷◌, ◌++◌, length, take}
 use Rattle.std.proofs.Common.{Option, Some, None, refl, sym, ◌∙◌, ap, subst, arith, length-append}
 use Rattle.std.specs.Prelude.{is_some}
-use Rattle.std.specs.Bool.{MatchBool}
+use Rattle.std.proofs.lemmas.Bool.{cases_lt}
 use Rattle.std.proofs.lemmas.List.{append-nil}
-use Rattle.bw_model.specs.Take.{Take, Parts, Request, Verdict, after}
-use Rattle.bw_model.specs.File.{file_of}
-use Rattle.bw_model.specs.Book.{Log, made}
-use Rattle.bw_model.specs.Holds.{IsInTheMiddle, finished_from}
+use Rattle.bw_model.specs.Take.{Parts, Request, Verdict}
+use Rattle.bw_model.specs.Book.{Log}
+use Rattle.bw_model.specs.Holds.{finished_from}
 use Rattle.bw_journal.specs.JournalHeaders.{Header, header_bytes}
 use Rattle.bw_journal.specs.Entries.{content, sealed_entries}
 use Rattle.bw_journal.specs.Notes.{IsPrefixOf, IsShortOf, Starts, StartsInPart, Notes, NotesInPart}
 use Rattle.bw_journal.specs.Noted.{done_entry, entries_from, journal_of}
 use Rattle.bw_journal.proofs.Lengths.{sealed-length}
-use Rattle.bw_file.specs.Growing.{Growing}
 use Rattle.bw_session.specs.Keeping.{KeepsDone}
-use Rattle.bw_session.specs.Prefixes.{take_done, FileStands, FileFollows}
 use Rattle.bw_session.specs.Numbered.{IsNext, with_done}
 use Rattle.bw_session.specs.Noting.{entry_if, next_entry, HasEntries, IsNoted}
-use Rattle.bw_session.specs.Ordering.{IsInOrder, HasNothingPast, file_due}
-use Rattle.bw_session.proofs.LogSteps.{made_next}
-use Rattle.bw_session.proofs.NoteForms.{journal_next}
+use Rattle.bw_session.specs.Ordering.{FileComesFirst, HasNothingPast}
+use Rattle.bw_session.proofs.NoteForms.{begins, journal_next}
 
 pub take_most : (n : ℕ) (xs : List ℕ) → length (take n xs) ≤ length xs
 take_most zero xs = omega arith
@@ -63,18 +59,6 @@ pub begun_length : (h : Header) (name : List ℕ) (log : Log) → log.done ≡ 0
 begun_length h name log e =
     ap (λ (n : ℕ). length (journal_of h name (record { admitted = log.admitted; done = n }))) e
     ∙ ap length (append-nil (header_bytes name h))
-
-no_file : (log : Log) (limit : ℕ) → log.done ≡ 0 → file_of (take_done None log) limit ≡ None
-unfolding made
-no_file log limit e = ap (λ (n : ℕ). file_of (made false log.admitted n) limit) e
-
--- the file of a name of which nothing is done, while nothing was tried
-pub untouched : (first : Option (List ℕ)) (log : Log) (r : Request) (g : Growing) (found : Option (List ℕ)) →
-    FileStands first (take_done first log) r g found → g.dirty ≡ false → log.done ≡ 0 → found ≡ first
-untouched (Some bytes) log r g found h clean none = h.0
-untouched None log r g found h clean none =
-    subst (λ (d : Bool). MatchBool d (IsInTheMiddle (take_done None log) g.limit (Some r) found)
-    (found ≡ file_of (take_done None log) g.limit)) clean h.whole ∙ no_file log g.limit none
 
 -- after a `begin` no byte comes after the noted ones
 module _ (h : Header) (name : List ℕ) (log : Log) (offset : ℕ) (before found : Option (List ℕ))
@@ -143,48 +127,6 @@ module _ (first : Option (List ℕ)) (h : Header) (log : Log) (p : Parts) (finis
       let short : length (journal_of h name (with_done log)) ≤ offset = subst (HasNothingPast offset) is ends in
       omega (arith, longer, place, short)
 
-  -- a `begin` failed: the file is as it was
-  pub order_unbegun : (g : Growing) (limit offset : ℕ) (before notes found : Option (List ℕ)) →
-      IsNoted h name log offset before → HasNothingPast offset before → log.done ≡ 0 →
-      StartsInPart (header_bytes name h) before notes →
-      FileStands first (take_done first log) r g found → g.dirty ≡ false →
-      IsInOrder h first name log limit notes found
-  order_unbegun g limit offset before notes found noted ends none starts stands clean = record {
-    begun = λ _. untouched first log r g found stands clean none;
-    noted = λ is. absurd (no_next offset notes noted.offset_is (part_ends h name log offset before notes noted ends none starts) is);
-  }
-
-  -- a call of the store failed: nothing is noted of the number
-  pub order_unwritten : (limit offset : ℕ) (before notes found : Option (List ℕ)) →
-      IsNoted h name log offset before → HasNothingPast offset before → HasEntries h name log notes →
-      (log.done ≡ 0 → Starts (header_bytes name h) before notes) → (1 ≤ log.done → notes ≡ before) →
-      IsInOrder h first name log limit notes found
-  order_unwritten limit offset before notes found noted ends entries starts same = record {
-    begun = λ short. absurd (not_short h name log _ notes entries.1 short);
-    noted = λ is. absurd (no_next offset notes noted.offset_is (begun_ends h name log offset before notes noted ends starts same) is);
-  }
-
-  -- the file of one more done number
-  due : (t : Option (List ℕ)) → t ≡ first → (g : Growing) (found : Option (List ℕ)) →
-      FileFollows t (after (take_done t log) r) g found → found ≡ file_due t (with_done log) g.limit
-  due (Some bytes) e g found h = h.0
-  due None e g found h =
-      h.whole ∙ ap (λ (u : Take). file_of u g.limit) (sym (made_next false log.admitted log.done r next.here))
-
-  -- the note failed: the file is the one with the request
-  pub order_unnoted : (g : Growing) (limit offset : ℕ) (entry : List ℕ) (before notes found : Option (List ℕ)) →
-      offset ≡ length (journal_of h name log) → HasEntries h name log before →
-      entry ≡ next_entry h.existed name log → NotesInPart offset entry before notes →
-      FileFollows first (after (take_done first log) r) g found → g.limit ≡ limit →
-      IsInOrder h first name log limit notes found
-  order_unnoted g limit offset entry before notes found place entries is part file limited =
-      let now = part (journal_of h name log) entries.0
-      (entries.1 ∙ ap (λ (x : List ℕ). Some (journal_of h name log ++ take entries.0 x)) (sym is)) (sym place) in
-      record {
-        begun = λ short. absurd (not_short h name log _ notes now.1 short);
-        noted = λ _. due first refl g found file ∙ ap (file_due first (with_done log)) limited;
-      }
-
 -- after a note no byte follows the noted ones
 pub noted_ends : (h : Header) (name : List ℕ) (log : Log) (offset len : ℕ) (entry : List ℕ) (before notes : Option (List ℕ)) →
     offset ≡ length (journal_of h name log) → HasEntries h name log before → entry ≡ next_entry h.existed name log →
@@ -196,12 +138,135 @@ noted_ends h name log offset len entry before notes place entries is long writes
     subst (HasNothingPast (offset + len)) (sym now) (let l : length (journal_of h name log ++ entry) ≤ offset + len =
     omega (arith, place, long, sum) in l)
 
--- what is known of a step at one name and header, said of others that are the same
-pub step_then : (P : Header → List ℕ → Type 0) (n name : List ℕ) (head : List ℕ → Header) (h : Header)
-    (first : Option (List ℕ)) (log : Log) (offset : ℕ) (before : List ℕ → Option (List ℕ)) → n ≡ name → head name ≡ h →
-    ((head n).existed ≡ is_some first → IsNoted (head n) n log offset (before n) → P (head n) n) →
-    h.existed ≡ is_some first → IsNoted h name log offset (before name) → P h name
-step_then P n name head h first log offset before same begun step =
-    subst (λ (x : Header). x.existed ≡ is_some first → IsNoted x name log offset (before name) → P x name) begun
-    (subst (λ (x : List ℕ). (head x).existed ≡ is_some first → IsNoted (head x) x log offset (before x) → P (head x) x)
-    same step)
+-- what begins with some bytes isn't short of them
+not_less : (bytes rest : List ℕ) (found : Option (List ℕ)) → found ≡ Some (bytes ++ rest) → IsShortOf bytes found → ⊥
+not_less bytes rest found e (inl none) = absurd (some_none (sym e ∙ none))
+  where
+    some_none : {X : Type 0} {x : X} → Some x ≡ None → ⊥
+    some_none e = cc
+not_less bytes rest found e (inr (count, is, short)) =
+    let same : length (bytes ++ rest) ≡ length (take count bytes) = ap length (some_same (sym e ∙ is)) in
+    let sum = length-append bytes rest in
+    let few = take_count count bytes in
+    omega (arith, same, sum, few, short)
+  where
+    some_same : {X : Type 0} {x y : X} → Some x ≡ Some y → x ≡ y
+    some_same e = cc
+
+    take_count : (n : ℕ) (xs : List ℕ) → length (take n xs) ≤ n
+    take_count zero xs = omega arith
+    take_count (suc n) [] = omega arith
+    take_count (suc n) (x ∷ xs) = let more : length (take n xs) ≤ n = take_count n xs in omega (arith, more)
+
+take_all : (n : ℕ) (xs : List ℕ) → length xs ≤ n → take n xs ≡ xs
+take_all zero [] long = refl
+take_all zero (x ∷ xs) long = absurd (omega (arith, long))
+take_all (suc n) [] long = refl
+take_all (suc n) (x ∷ xs) long = ap (λ (ys : List ℕ). x ∷ ys) (take_all n xs (omega (arith, long)))
+
+-- what a failed `begin` leaves is short of the header only if it was before
+short_before : (h : Header) (name : List ℕ) (log : Log) (offset : ℕ) (before notes : Option (List ℕ)) →
+    IsNoted h name log offset before → StartsInPart (header_bytes name h) before notes →
+    IsShortOf (header_bytes name h) notes → IsShortOf (header_bytes name h) before
+short_before h name log offset before notes noted starts short = elim noted.stands [
+  | inl p ↦ by_prefix p.1
+  | inr entries ↦ absurd (not_short h name log _ notes (starts.kept (begins h name log before entries) ∙ entries.1) short)
+]
+  where
+    header : List ℕ
+    header = header_bytes name h
+
+    by_prefix : IsPrefixOf header before → IsShortOf header before
+    by_prefix (inl none) = inl none
+    by_prefix (inr (count, e)) = elim (cases_lt count (length header)) [
+      | inl less ↦ inr (count, e, less)
+      | inr long ↦
+          let whole : before ≡ Some (header ++ []) =
+          e ∙ ap Some (take_all count header long ∙ sym (append-nil header)) in
+          absurd (not_less header [] notes (starts.kept ([], whole) ∙ whole) short)
+    ]
+
+-- By which of the calls failed.
+
+-- a `begin`: the file is as it was
+pub order_unbegun : (h : Header) (first : Option (List ℕ)) (name : List ℕ) (log : Log) (offset : ℕ)
+    (before notes file : Option (List ℕ)) (C : Type 0) → IsNoted h name log offset before →
+    FileComesFirst h first name offset C before file → log.done ≡ 0 → StartsInPart (header_bytes name h) before notes →
+    FileComesFirst h first name offset C notes file
+order_unbegun h first name log offset before notes file C noted order none starts = record {
+  begun = λ short. order.begun (short_before h name log offset before notes noted starts short);
+  entered = elim order.entered [
+    | inl ends ↦ inl (part_ends h name log offset before notes noted ends none starts)
+    | inr carried ↦ inr carried
+  ];
+}
+
+-- one of the store, of a request that wasn't carried out: nothing is noted of it
+pub order_unwritten : (h : Header) (first : Option (List ℕ)) (name : List ℕ) (log : Log) (offset : ℕ)
+    (before notes file file' : Option (List ℕ)) (C D : Type 0) → IsNoted h name log offset before →
+    FileComesFirst h first name offset C before file → (C → ⊥) → HasEntries h name log notes →
+    (log.done ≡ 0 → Starts (header_bytes name h) before notes) → (1 ≤ log.done → notes ≡ before) →
+    FileComesFirst h first name offset D notes file'
+order_unwritten h first name log offset before notes file file' C D noted order uncarried entries starts same = record {
+  begun = λ short. absurd (not_short h name log _ notes entries.1 short);
+  entered = elim order.entered [
+    | inl ends ↦ inl (begun_ends h name log offset before notes noted ends starts same)
+    | inr carried ↦ absurd (uncarried carried)
+  ];
+}
+
+-- the note: its request is carried out
+pub order_unnoted : (h : Header) (first : Option (List ℕ)) (name : List ℕ) (log : Log) (offset : ℕ) (entry : List ℕ)
+    (before notes file : Option (List ℕ)) (C : Type 0) → offset ≡ length (journal_of h name log) →
+    HasEntries h name log before → entry ≡ next_entry h.existed name log → NotesInPart offset entry before notes → C →
+    FileComesFirst h first name offset C notes file
+order_unnoted h first name log offset entry before notes file C place entries is part carried =
+    let now = part (journal_of h name log) entries.0
+    (entries.1 ∙ ap (λ (x : List ℕ). Some (journal_of h name log ++ take entries.0 x)) (sym is)) (sym place) in
+    record {
+      begun = λ short. absurd (not_short h name log _ notes now.1 short);
+      entered = inr carried;
+    }
+
+-- none: the number is done
+pub order_done : (h : Header) (first : Option (List ℕ)) (name : List ℕ) (log : Log) (offset len : ℕ) (entry : List ℕ)
+    (before notes file : Option (List ℕ)) (C : Type 0) → offset ≡ length (journal_of h name log) →
+    HasEntries h name log before → entry ≡ next_entry h.existed name log → len ≡ length entry →
+    Notes offset entry before notes → FileComesFirst h first name (offset + len) C notes file
+order_done h first name log offset len entry before notes file C place entries is long writes =
+    let now = writes (journal_of h name log) entries.0
+    (entries.1 ∙ ap (λ (x : List ℕ). Some (journal_of h name log ++ take entries.0 x)) (sym is)) (sym place) in
+    record {
+      begun = λ short. absurd (not_short h name log entry notes now short);
+      entered = inl (noted_ends h name log offset len entry before notes place entries is long writes);
+    }
+
+-- the order with another word for what is carried out
+pub order_as : (h : Header) (first : Option (List ℕ)) (name : List ℕ) (offset : ℕ) (notes file : Option (List ℕ))
+    (C D : Type 0) → (C → D) → FileComesFirst h first name offset C notes file →
+    FileComesFirst h first name offset D notes file
+order_as h first name offset notes file C D then order = record {
+  begun = order.begun;
+  entered = elim order.entered [
+    | inl ends ↦ inl ends
+    | inr carried ↦ inr (then carried)
+  ];
+}
+
+-- a step that keeps the order at one name and header, said of others that are the same
+pub order_then : (n name : List ℕ) (head : List ℕ → Header) (h : Header) (first : Option (List ℕ)) (log : Log)
+    (offset offset' : ℕ) (C D : Type 0) (before after file file' : List ℕ → Option (List ℕ)) → n ≡ name →
+    head name ≡ h →
+    ((head n).existed ≡ is_some first → IsNoted (head n) n log offset (before n) →
+    FileComesFirst (head n) first n offset C (before n) (file n) →
+    FileComesFirst (head n) first n offset' D (after n) (file' n)) →
+    h.existed ≡ is_some first → IsNoted h name log offset (before name) →
+    FileComesFirst h first name offset C (before name) (file name) →
+    FileComesFirst h first name offset' D (after name) (file' name)
+order_then n name head h first log offset offset' C D before after file file' same begun step =
+    subst (λ (x : Header). x.existed ≡ is_some first → IsNoted x name log offset (before name) →
+    FileComesFirst x first name offset C (before name) (file name) →
+    FileComesFirst x first name offset' D (after name) (file' name)) begun
+    (subst (λ (x : List ℕ). (head x).existed ≡ is_some first → IsNoted (head x) x log offset (before x) →
+    FileComesFirst (head x) first x offset C (before x) (file x) →
+    FileComesFirst (head x) first x offset' D (after x) (file' x)) same step)

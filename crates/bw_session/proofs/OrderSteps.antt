@@ -1,71 +1,77 @@
--- In which order the number that waits was written, through the numbers of a turn.
-use Rattle.std.proofs.Common.{◌≡◌, ◌⊎◌, inl, inr, ℕ, zero, suc, ◌+◌, ◌≤◌, Bool, true, false, List, [], ◌++◌, length, take}
-use Rattle.std.proofs.Common.{Option, Some, None, refl, sym, ◌∙◌, ap, subst, arith}
-use Rattle.std.specs.Prelude.{is_some, option_map, IsTrue, IsSome}
-use Rattle.std.specs.Bool.{MatchBool}
+-- In which order numbers are written, through the numbers of a turn.
+use Rattle.std.proofs.Common.{◌≡◌, ◌⊎◌, inl, inr, ℕ, zero, suc, ◌+◌, ◌-◌, ◌≤◌, ◌||◌, Bool, true, false, cond, List, []}
+use Rattle.std.proofs.Common.{◌++◌, take, Option, Some, None, length, refl, sym, ◌∙◌, ap, subst, arith}
 use Rattle.std.proofs.lemmas.List.{append-nil}
+use Rattle.std.specs.Prelude.{is_some, slice_set, nat_lt, nat_le}
 use Rattle.bw_model.specs.Bytes.{at}
-use Rattle.bw_model.specs.Take.{Parts, Request, Verdict}
-use Rattle.bw_model.specs.Wire.{Message}
+use Rattle.bw_model.specs.Take.{Request}
+use Rattle.bw_model.specs.Wire.{Message, message_body}
 use Rattle.bw_model.specs.Book.{Log}
 use Rattle.bw_model.specs.CountedTurn.{is_pending}
-use Rattle.bw_model.specs.Turn.{admitted_after}
-use Rattle.bw_model.specs.Holds.{body_of}
-use Rattle.bw_store.specs.declared.store.TakeStore.{Ghosts as StoreGhosts}
-use Rattle.bw_journal.specs.declared.journal.Journal.{Ghosts as JournalGhosts}
+use Rattle.bw_model.proofs.Elements.{some_inj}
 use Rattle.bw_journal.specs.JournalHeaders.{Header, header_bytes}
 use Rattle.bw_journal.specs.Notes.{IsPrefixOf}
 use Rattle.bw_journal.specs.Noted.{journal_of}
-use Rattle.bw_file.specs.Growing.{Growing}
-use Rattle.bw_wire.specs.declared.reply.Reply.{Reply}
-use Rattle.bw_session.specs.Admitting.{with_message}
-use Rattle.bw_session.specs.Draining.{HoldsPart}
+use Rattle.bw_wire.specs.Bodies.{message_in}
+use Rattle.bw_session.specs.Asking.{window_with}
+use Rattle.bw_session.specs.KeptParts.{Part}
 use Rattle.bw_session.specs.Noting.{entry_if, next_entry, HasEntries, IsNoted}
-use Rattle.bw_session.specs.Ordering.{IsInOrder, IsUntried, HasNothingPast}
-use Rattle.bw_session.specs.Runs.{with_more_done, EndsDraining}
-use Rattle.bw_session.specs.Serving.{log_after}
-use Rattle.bw_session.specs.Sessions.{Part, KeepsProgress}
-use Rattle.bw_session.specs.declared.numbering.Progress.{Progress}
-use Rattle.bw_session.specs.declared.numbering.Stores.{Stores}
+use Rattle.bw_session.specs.Ordering.{IsCarriedOut, NextIsCarriedOut, HasNothingPast}
+use Rattle.bw_session.proofs.AdmitForms.{at-set_other}
 use Rattle.bw_session.proofs.OrderForms.{begun_length, take_most}
+
+-- the request that waits in the first slot
+pub carried_next : (a : Part) (body : List ℕ) (r : Request) → at a.window 0 ≡ Some body →
+    r ≡ (message_in body).request → NextIsCarriedOut a → IsCarriedOut a.growing a.parts r
+carried_next a body r here read carried =
+    subst (λ (q : Request). IsCarriedOut a.growing a.parts q)
+    (ap (λ (b : List ℕ). (message_in b).request) (some_inj (sym carried.1 ∙ here)) ∙ sym read) carried.2
+
+pub next_carried : (a : Part) (body : List ℕ) (r : Request) → at a.window 0 ≡ Some body →
+    r ≡ (message_in body).request → IsCarriedOut a.growing a.parts r → NextIsCarriedOut a
+next_carried a body r here read carried =
+    (body, here, subst (λ (q : Request). IsCarriedOut a.growing a.parts q) read carried)
+
+-- if none waits there
+pub none_carried : (a : Part) → at a.window 0 ≡ None → NextIsCarriedOut a → ⊥
+none_carried a free carried = no_some (sym free ∙ carried.1)
+  where
+    no_some : {b : List ℕ} → None ≡ Some b → ⊥
+    no_some e = cc
+
+-- a message that is admitted leaves it there
+first_stays : (w : List (Option (List ℕ))) (done : ℕ) (m : Message) (body : List ℕ) → at w 0 ≡ Some body →
+    at (window_with w done m) 0 ≡ Some body
+first_stays w done m body here =
+    go (nat_lt m.number done || nat_le (done + 16) m.number || is_some (at w (m.number - done))) refl
+  where
+    or_true : (a b : Bool) → (a || b || true) ≡ true
+    or_true true b = refl
+    or_true false true = refl
+    or_true false false = refl
+
+    true_false : true ≡ false → ⊥
+    true_false e = cc
+
+    go : (v : Bool) →
+        (nat_lt m.number done || nat_le (done + 16) m.number || is_some (at w (m.number - done))) ≡ v →
+        at (cond v w (slice_set w (m.number - done) (Some (message_body m)))) 0 ≡ Some body
+    go true e = here
+    go false e =
+        at-set_other w (m.number - done) 0 (Some (message_body m)) (λ zero_is. true_false
+        (sym (or_true (nat_lt m.number done) (nat_le (done + 16) m.number))
+        ∙ ap (λ (x : Bool). nat_lt m.number done || nat_le (done + 16) m.number || x)
+        (sym (ap is_some here) ∙ ap (λ (k : ℕ). is_some (at w k)) zero_is) ∙ e)) ∙ here
+
+pub holding_carried : (a b : Part) (done : ℕ) (m : Message) → b ≡ record a { window = window_with a.window done m } →
+    NextIsCarriedOut a → NextIsCarriedOut b
+holding_carried a b done m same carried =
+    subst NextIsCarriedOut (sym same) (carried.0, first_stays a.window done m carried.0 carried.1, carried.2)
+
+-- Where nothing waits, no byte comes after the noted ones.
 
 false_true : false ≡ true → ⊥
 false_true e = cc
-
--- what is kept of the done numbers is the same
-module _ {X Y : Type 0} (S : StoreGhosts X) (J : JournalGhosts Y) where
-  pub untried_kept : (p q : Progress) (s : Stores X Y S J) → KeepsProgress p q → IsUntried S J p s → IsUntried S J q s
-  untried_kept p q s k u = record {
-    clean = ap (λ (g : Growing). g.dirty) k.growing ∙ u.clean;
-    ends = subst (λ (n : List ℕ). HasNothingPast q.noted (J.notes s.journal n)) (sym k.name)
-        (subst (λ (n : ℕ). HasNothingPast n (J.notes s.journal p.name)) (sym k.noted) u.ends);
-  }
-
--- Where nothing waits, nothing was tried.
-
-pub quiet_clean : (first : Option (List ℕ)) (log : Log) (p : Parts) (finished : List (List ℕ × Verdict))
-    (w : List (Option (List ℕ))) (g : Growing) (found : Option (List ℕ)) → HoldsPart first log p finished w g found →
-    (IsTrue g.dirty → IsSome (at w 0)) → is_pending log ≡ false → g.dirty ≡ false
-quiet_clean first log p finished w g found h held quiet = go g.dirty refl
-  where
-    here : log.done + 0 ≡ log.done
-    here = omega arith
-
-    waits : IsSome (at w 0) → is_pending log ≡ true
-    waits some = go (at log.admitted log.done) refl
-      where
-        same : at w 0 ≡ option_map (body_of g.name (log.done + 0)) (at log.admitted log.done)
-        same = h.memory.held 0 ∙ ap (λ (n : ℕ). option_map (body_of g.name (log.done + 0)) (at log.admitted n)) here
-
-        go : (o : Option Request) → at log.admitted log.done ≡ o → is_pending log ≡ true
-        go None e =
-            absurd (false_true (sym (ap (λ (x : Option (List ℕ)). is_some x)
-            (same ∙ ap (option_map (body_of g.name (log.done + 0))) e)) ∙ some))
-        go (Some r) e = ap (λ (x : Option Request). is_some x) e
-
-    go : (d : Bool) → g.dirty ≡ d → g.dirty ≡ false
-    go false e = e
-    go true e = absurd (false_true (sym quiet ∙ waits (held e)))
 
 take_none : (n : ℕ) (xs : List ℕ) → xs ≡ [] → take n xs ≡ []
 take_none zero xs e = refl
@@ -112,23 +118,3 @@ quiet_ends h name log offset notes noted quiet = by_stand noted.stands
         HasNothingPast offset notes
     by_stand (inl p) = by_prefix p.0 notes p.1
     by_stand (inr entries) = by_entries entries
-
--- What was drained ended at a fault, if something waits.
-pub served_order : (first : Option (List ℕ)) (log : Log) (m : Message) (stopped : Bool) (drained : List Reply) (p : Part)
-    (found : Option (List ℕ)) (h : Header) (name : List ℕ) (limit : ℕ) (notes file : Option (List ℕ)) (U : Type 0) →
-    EndsDraining first (with_message log m) stopped drained p found →
-    MatchBool stopped
-    (IsInOrder h first name (with_more_done (with_message log m) (length drained)) limit notes file) U →
-    is_pending (log_after log m (length p.outcomes)) ≡ true →
-    IsInOrder h first name (log_after log m (length p.outcomes)) limit notes file
-served_order first log m stopped drained p found h name limit notes file U e step waits = go stopped e.end step
-  where
-    done : length p.outcomes ≡ log.done + length drained
-    done = e.drained.left.memory.done
-
-    go : (v : Bool) → is_some (at (admitted_after log m) (log.done + length drained)) ≡ v →
-        MatchBool v (IsInOrder h first name (with_more_done (with_message log m) (length drained)) limit notes file) U →
-        IsInOrder h first name (log_after log m (length p.outcomes)) limit notes file
-    go true end order = subst (λ (n : ℕ). IsInOrder h first name (log_after log m n) limit notes file) (sym done) order
-    go false end u =
-        absurd (false_true (sym end ∙ ap (λ (n : ℕ). is_some (at (admitted_after log m) n)) (sym done) ∙ waits))

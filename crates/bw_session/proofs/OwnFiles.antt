@@ -11,6 +11,9 @@ use Rattle.bw_model.proofs.Elements.{some_inj}
 use Rattle.bw_file.specs.Growing.{Growing, IsReady, IsBegun, AsksForName}
 use Rattle.bw_session.specs.Writing.{HasOwnFile, HasWholeFile}
 
+no_false : {A : Type 0} → false ≡ true → A
+no_false e = cc
+
 abbrev of_format : Take → Option Format → Take
 of_format t o = record t { format = o }
 
@@ -56,28 +59,27 @@ stands t f r g found e h = go g.dirty (ready t r g found h)
 
 -- after a call on an open take that succeeded
 pub whole_after : (t : Take) (f : Format) (r : Request) (g g' : Growing) (before after : Option (List ℕ)) →
-    t.format ≡ Some f → is_some (with_request t r).format ≡ true → g' ≡ record g { dirty = false } →
+    t.format ≡ Some f → is_some (with_request t r).format ≡ true → g' ≡ record g { dirty = false; ahead = false } →
     HasOwnFile t r g before → after ≡ file_of (with_request t r) g.limit → HasWholeFile (with_request t r) g' after
 whole_after t f r g g' before after e e' known h now = record {
   whole = now ∙ ap (λ (x : Growing). file_of (with_request t r) x.limit) (sym known);
   made_here = ap (λ (x : Growing). x.made) known ∙ h.made_here ∙ stands t f r g before e h
       ∙ sym (ap is_some now ∙ file-some (with_request t r) g.limit ∙ e');
+  level = ap (λ (x : Growing). x.ahead) known;
 }
 
 -- that failed
 pub own_after : (t : Take) (f : Format) (r : Request) (g g' : Growing) (before after : Option (List ℕ)) →
-    t.format ≡ Some f → is_stored (verdict t r) ≡ true → g' ≡ record g { dirty = true } →
+    t.format ≡ Some f → is_stored (verdict t r) ≡ true → g' ≡ record g { dirty = true; ahead = false } →
     HasOwnFile t r g before → IsBetween t g.limit r after → HasOwnFile t r g' after
 own_after t f r g g' before after e stored known h between =
     subst (λ (x : Growing). HasOwnFile t r x after) (sym known) (record {
       whole = record { request = r; waiting = refl; to_store = stored; between = between };
       made_here = h.made_here ∙ stands t f r g before e h ∙ sym (between-some t f g.limit r after e between);
+      ahead = λ a. no_false a;
     })
 
 -- Opening.
-
-no_false : {A : Type 0} → false ≡ true → A
-no_false e = cc
 
 none_some : {A : Type 0} (x : Option (List ℕ)) → x ≡ None → is_some x ≡ true → A
 none_some x e h = no_false (ap is_some (sym e) ∙ h)
@@ -106,19 +108,20 @@ nothing_between t limit f history e =
 module _ (t : Take) (f : Format) (history : List ℕ) (g g' : Growing) (before after : Option (List ℕ))
     (unopened : t.format ≡ None) (h : HasOwnFile t (Open f history) g before)
     (name : AsksForName g.made g'.made before after) where
-  pub opened_new : g' ≡ record g { made = true; dirty = false } →
+  pub opened_new : g' ≡ record g { made = true; dirty = false; ahead = false } →
       after ≡ file_of (with_request t (Open f history)) g.limit →
       HasWholeFile (with_request t (Open f history)) g' after
   opened_new known now = record {
     whole = now ∙ ap (λ (x : Growing). file_of (with_request t (Open f history)) x.limit) (sym known);
     made_here = ap (λ (x : Growing). x.made) known ∙ sym (ap is_some now);
+    level = ap (λ (x : Growing). x.ahead) known;
   }
 
   -- its own name can't exist already
   pub never_existed : {A : Type 0} → g'.made ≡ false → IsSome before → A
   never_existed unmade existed = no_false (sym unmade ∙ name.keeps (h.made_here ∙ existed))
 
-  pub opened_err : is_stored (verdict t (Open f history)) ≡ true → g' ≡ record g { made = g'.made; dirty = true } →
+  pub opened_err : is_stored (verdict t (Open f history)) ≡ true → g' ≡ record g { made = g'.made; dirty = true; ahead = false } →
       (IsTrue g'.made → IsBegun g t (Open f history) after) → HasOwnFile t (Open f history) g' after
   opened_err stored known left =
       subst (λ (x : Growing). HasOwnFile t (Open f history) x after) (sym known) (go g'.made refl)
@@ -131,10 +134,11 @@ module _ (t : Take) (f : Format) (history : List ℕ) (g g' : Growing) (before a
       nothing None e = refl
       nothing (Some x) e = no_false (sym e)
 
-      go : (m : Bool) → g'.made ≡ m → HasOwnFile t (Open f history) (record g { made = m; dirty = true }) after
+      go : (m : Bool) → g'.made ≡ m → HasOwnFile t (Open f history) (record g { made = m; dirty = true; ahead = false }) after
       go true e = let b = left e in record {
         whole = record { request = Open f history; waiting = refl; to_store = stored; between = b.1 };
         made_here = sym b.0;
+        ahead = λ a. no_false a;
       }
       go false e =
           let was : before ≡ None = nothing before (sym h.made_here ∙ unmade g.made refl e) in
@@ -148,6 +152,7 @@ module _ (t : Take) (f : Format) (history : List ℕ) (g g' : Growing) (before a
                   (nothing_between t g.limit f history unopened);
             };
             made_here = sym (ap is_some none);
+            ahead = λ a. no_false a;
           }
 
 -- A name that existed and isn't made is left as it was.

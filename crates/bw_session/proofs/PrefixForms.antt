@@ -25,7 +25,7 @@ never_opened : (ok : Bool) → is_stored (cond (not ok) BadFormat NameTaken) ≡
 never_opened true = refl
 never_opened false = refl
 
-refused : (r : Request) → is_stored (verdict (new_take true) r) ≡ false
+pub refused : (r : Request) → is_stored (verdict (new_take true) r) ≡ false
 unfolding judge
 refused (Open f history) = never_opened (is_format f && list_all is_history_byte history)
 refused (Block bytes) = refl
@@ -41,7 +41,7 @@ fold_new [] = refl
 fold_new (None ∷ xs) = fold_new xs
 fold_new (Some r ∷ xs) = ap (λ (t : Take). fold step t xs) (stays_new r) ∙ fold_new xs
 
-existed_is_new : (s : List (Option Request)) (n : ℕ) → made true s n ≡ new_take true
+pub existed_is_new : (s : List (Option Request)) (n : ℕ) → made true s n ≡ new_take true
 unfolding made
 existed_is_new s n = fold_new (take n s)
 
@@ -94,9 +94,9 @@ unopened name log p finished k =
 pub carries_prefix : (answer : Result Judgement StoreFault) (first : Option (List ℕ)) (log : Log) (p q : Parts)
     (finished : List (List ℕ × Verdict)) (r : Request) (g g' : Growing) (before found : Option (List ℕ)) →
     Carries answer r p q g g' before found → q ≡ record p { taken = q.taken } → (IsTrue p.taken → IsTrue q.taken) →
-    g'.name ≡ g.name → IfOk answer (λ v. verdict_meaning v ≡ judge q r) → OnErr answer (q ≡ p) →
+    g'.name ≡ g.name → g'.ahead ≡ false → IfOk answer (λ v. verdict_meaning v ≡ judge q r) → OnErr answer (q ≡ p) →
     HoldsPrefix first log p finished r g before → CarriesPrefix answer first log q finished r g' found
-carries_prefix (Ok v) None log p q finished r g g' before found c e more name judged unchanged h =
+carries_prefix (Ok v) None log p q finished r g g' before found c e more name level judged unchanged h =
     let t : Take = made false log.admitted log.done in
     let mine : parts t ≡ p = own_parts g.name log p finished h.memory in
     let done = c.own t mine h.file in
@@ -106,25 +106,25 @@ carries_prefix (Ok v) None log p q finished r g g' before found c e more name ju
           (subst (λ (x : Parts). KeepsDone false g.name log x finished) (sym done.0) h.memory);
       file = done.1;
     }
-carries_prefix (Err fault) None log p q finished r g g' before found c e more name judged unchanged h =
+carries_prefix (Err fault) None log p q finished r g g' before found c e more name level judged unchanged h =
     let mine : parts (made false log.admitted log.done) ≡ p = own_parts g.name log p finished h.memory in
     record {
       memory = subst (λ (x : List ℕ). KeepsDone false x log q finished) (sym name)
           (subst (λ (x : Parts). KeepsDone false g.name log x finished) (sym unchanged) h.memory);
       file = c.own (made false log.admitted log.done) mine h.file;
     }
-carries_prefix (Ok v) (Some bytes) log p q finished r g g' before found c e more name judged unchanged h =
-    let left = c.existed (unopened g.name log p finished h.memory) h.file.1 (ap is_some h.file.0) in
+carries_prefix (Ok v) (Some bytes) log p q finished r g g' before found c e more name level judged unchanged h =
+    let left = c.existed (unopened g.name log p finished h.memory) h.file.1 h.file.2 (ap is_some h.file.0) in
     record {
       verdict_is = left.2 ∙ ap (λ (x : Parts). judge x r) (existed_parts g.name log p finished h.memory);
       memory = subst (λ (x : List ℕ). KeepsDone true x log q finished) (sym name)
           (keeps_taken g.name log p q finished h.memory e more);
-      file = (left.0 ∙ h.file.0, left.1);
+      file = (left.0 ∙ h.file.0, left.1, level);
     }
-carries_prefix (Err fault) (Some bytes) log p q finished r g g' before found c e more name judged unchanged h =
-    let left = c.existed (unopened g.name log p finished h.memory) h.file.1 (ap is_some h.file.0) in
+carries_prefix (Err fault) (Some bytes) log p q finished r g g' before found c e more name level judged unchanged h =
+    let left = c.existed (unopened g.name log p finished h.memory) h.file.1 h.file.2 (ap is_some h.file.0) in
     record {
       memory = subst (λ (x : List ℕ). KeepsDone true x log q finished) (sym name)
           (keeps_taken g.name log p q finished h.memory e more);
-      file = (left.0 ∙ h.file.0, left.1);
+      file = (left.0 ∙ h.file.0, left.1, level);
     }

@@ -33,6 +33,8 @@ use Rattle.bw_journal.proofs.CutLaws.{books_are_cut, logs_cut, verdict-cut}
 use Rattle.bw_journal.proofs.RecoveryLaws.{recovery_holds}
 use Rattle.bw_session.specs.Ledgers.{entries_in}
 use Rattle.bw_session.specs.Journaled.{NotesNames}
+use Rattle.bw_session.specs.Prefixes.{StandsAhead}
+use Rattle.bw_session.specs.Servers.{HoldsIn}
 use Rattle.bw_session.specs.Noting.{IsNoted}
 use Rattle.bw_session.specs.Resumed.{kept_under, RecoversBook, HasDoneNotes, ResumesFrom, Resumes, AddsKept}
 use Rattle.bw_session.specs.Servers.{kept_by}
@@ -213,13 +215,35 @@ module _ (limit : ℕ) (header : List ℕ → Header) (first contents : List ℕ
           subst (λ (v : Bool). AreAlike (cond v (Some stop) None) (Some (kept_by s))) (sym (done_here name (Some k) e))
           (one_alike name k s e from)
 
+  none_session : {A : Type 0} {s : Session} → None ≡ Some s → A
+  none_session e = cc
+
+  -- what a session was made from
+  resumes_from : (name : List ℕ) (s : Session) → sessions name ≡ Some s → (o : Option KeptTake) →
+      kept_under kept name ≡ o → Resumes limit o (sessions name) →
+      (k : KeptTake) × (kept_under kept name ≡ Some k) × ResumesFrom limit k s
+  resumes_from name s e None u none = none_session (sym none ∙ e)
+  resumes_from name s e (Some k) u from = (k, u, subst (Resumes limit (Some k)) e from)
+
   pub resumed_book : (honest : Bool) →
-      Holds limit (record { contents = contents; first = first; honest = honest })
-      (λ n. option_map kept_by (sessions n)) (cut_book book)
-  resumed_book honest =
-      holds_alike limit (record { contents = contents; first = first; honest = honest }) (kept_after first contents book)
-      (λ n. option_map kept_by (sessions n)) (cut_book book)
-      (recovery_holds limit first contents honest book r.is_book (book_admits book r.is_book) r.files) alike
+      HoldsIn limit (record { contents = contents; first = first; honest = honest }) sessions (cut_book book)
+  resumed_book honest = record {
+    holds = holds_alike limit (record { contents = contents; first = first; honest = honest })
+        (kept_after first contents book) (λ n. option_map kept_by (sessions n)) (cut_book book)
+        (recovery_holds limit first contents honest book r.is_book (book_admits book r.is_book) r.files) alike;
+    ahead = λ h name s e.
+        let from = resumes_from name s e (kept_under kept name) refl (resumed name) in
+        level (first name) (log_of (cut_book book) name) s.progress.growing (contents name)
+        (ap (λ (g : Growing). g.ahead) from.2.growing);
+  }
+    where
+      true_false : {A : Type 0} → true ≡ false → A
+      true_false e = cc
+
+      level : (o : Option (List ℕ)) (log : Log) (g : Growing) (found : Option (List ℕ)) → g.ahead ≡ false →
+          StandsAhead o log g found
+      level None log g found e = λ has. true_false (sym has ∙ e)
+      level (Some bytes) log g found e = e
 
   journal_cut : (h : Header) (name : List ℕ) (log : Log) → journal_of h name (cut_log log) ≡ journal_of h name log
   journal_cut h name log =
@@ -229,9 +253,6 @@ module _ (limit : ℕ) (header : List ℕ → Header) (first contents : List ℕ
       ∙ entries_same h.existed log.admitted (take log.done log.admitted) name 0 log.done (take log.done log.admitted)
       (λ n below. verdict-cut h.existed log.admitted log.done n below)
       (let short = take-short log.done log.admitted in omega (arith, short)))
-
-  none_session : {A : Type 0} {s : Session} → None ≡ Some s → A
-  none_session e = cc
 
   pub resumed_notes : (notes : List ℕ → Option (List ℕ)) → HasDoneNotes header notes book →
       NotesNames header notes first sessions (cut_book book)

@@ -17,7 +17,7 @@ use Rattle.bw_model.specs.Turn.{most_takes}
 use Rattle.bw_model.specs.Counts.{Counts}
 use Rattle.bw_model.specs.Replies.{Reply as ModelReply, Notice, TooFar, TableFull, NoRoom}
 use Rattle.bw_model.proofs.BookLaws.{turns_keep_books}
-use Rattle.bw_model.specs.Holds.{Store, Kept, Holds, HoldsName, HasFile}
+use Rattle.bw_model.specs.Holds.{Store, Kept, HoldsName, HasFile}
 use Rattle.bw_model.proofs.BookLemmas.{same_name, name_refl, log-with_log_same, log-with_log_other}
 use Rattle.bw_model.proofs.BookLemmas.{known-with_log_same, known-with_log_other, unknown_log}
 use Rattle.bw_store.specs.Stores.{KeepsOthers}
@@ -27,7 +27,8 @@ use Rattle.bw_wire.specs.declared.reply.Reply.{Reply}
 use Rattle.bw_wire.specs.Replies.{reply_of}
 use Rattle.bw_session.specs.Serving.{Answers}
 use Rattle.bw_session.specs.Tables.{Table, IsTable, session_in}
-use Rattle.bw_session.specs.Servers.{kept_by}
+use Rattle.bw_session.specs.Prefixes.{StandsAhead}
+use Rattle.bw_session.specs.Servers.{HoldsIn, kept_by}
 use Rattle.bw_session.specs.declared.session.Session.{Session}
 use Rattle.bw_session.proofs.AdmitForms.{no_false}
 
@@ -48,21 +49,22 @@ put_here sessions sessions' name s sets =
 
 -- what a server that holds a book holds of one name
 module _ (limit : ℕ) (store : Store) (sessions : List ℕ → Option Session) (book : Book)
-    (h : Holds limit store (λ n. option_map kept_by (sessions n)) book) (honest : IsTrue store.honest)
+    (h : HoldsIn limit store sessions book) (honest : IsTrue store.honest)
     (name : List ℕ) where
   pub known_here : (s : Session) → sessions name ≡ Some s → is_known book name ≡ true
-  known_here s e = h.names name ∙ ap (λ (o : Option Session). is_some (option_map kept_by o)) e
+  known_here s e = h.holds.names name ∙ ap (λ (o : Option Session). is_some (option_map kept_by o)) e
 
   pub unknown_here : sessions name ≡ None → is_known book name ≡ false
-  unknown_here e = h.names name ∙ ap (λ (o : Option Session). is_some (option_map kept_by o)) e
+  unknown_here e = h.holds.names name ∙ ap (λ (o : Option Session). is_some (option_map kept_by o)) e
 
   pub part_here : (s : Session) → sessions name ≡ Some s → s.progress.growing.name ≡ name →
       s.progress.growing.limit ≡ limit → HoldsLog (store.first name) (log_of book name) (part_of s) (store.contents name)
   part_here s e named limited = record {
-    fits = (h.is_book.logs name (known_here s e)).fits;
+    fits = (h.holds.is_book.logs name (known_here s e)).fits;
     memory = subst (λ (n : List ℕ). HoldsName (is_some (store.first name)) n (log_of book name) (kept_by s)) (sym named)
-        (h.each name (kept_by s) kept);
+        (h.holds.each name (kept_by s) kept);
     file = go (store.first name) refl;
+    ahead = h.ahead honest name s e;
   }
     where
       kept : option_map kept_by (sessions name) ≡ Some (kept_by s)
@@ -72,15 +74,15 @@ module _ (limit : ℕ) (store : Store) (sessions : List ℕ → Option Session) 
           NameStands o (log_of book name) s.progress.growing.limit (kept_by s) (store.contents name)
       go None is =
           subst (λ (n : ℕ). NameStands None (log_of book name) n (kept_by s) (store.contents name)) (sym limited)
-          (h.files honest name (kept_by s) kept is)
+          (h.holds.files honest name (kept_by s) kept is)
       go (Some bytes) is = (
-        h.others honest name (inl (ap is_some is)) ∙ is,
-        h.theirs honest name (kept_by s) kept (ap is_some is),
+        h.holds.others honest name (inl (ap is_some is)) ∙ is,
+        h.holds.theirs honest name (kept_by s) kept (ap is_some is),
       )
 
 -- a server that changed under one name alone
 module _ (limit : ℕ) (store store' : Store) (sessions sessions' : List ℕ → Option Session) (book later : Book)
-    (h : Holds limit store (λ n. option_map kept_by (sessions n)) book) (honest : IsTrue store.honest)
+    (h : HoldsIn limit store sessions book) (honest : IsTrue store.honest)
     (name : List ℕ) (s : Session) (log : Log) where
   pub holds_after : IsBook later → is_known later name ≡ true → log_of later name ≡ log →
       ((n : List ℕ) → bytes_eq name n ≡ false → is_known later n ≡ is_known book n) →
@@ -89,14 +91,17 @@ module _ (limit : ℕ) (store store' : Store) (sessions sessions' : List ℕ →
       store'.first ≡ store.first → KeepsOthers store.contents store'.contents name →
       s.progress.growing.name ≡ name → s.progress.growing.limit ≡ limit →
       HoldsLog (store'.first name) log (part_of s) (store'.contents name) →
-      Holds limit store' (λ n. option_map kept_by (sessions' n)) later
+      HoldsIn limit store' sessions' later
   holds_after is_book known log_is others_known others_log sets same_first keeps named limited part = record {
-    is_book = is_book;
-    names = λ n. names n (bytes_eq name n) refl;
-    each = λ n k e. each n k e (bytes_eq name n) refl;
-    others = λ x n which. others n which (bytes_eq name n) refl;
-    theirs = λ x n k e some. theirs n k e some (bytes_eq name n) refl;
-    files = λ x n k e none. files n k e none (bytes_eq name n) refl;
+    holds = record {
+      is_book = is_book;
+      names = λ n. names n (bytes_eq name n) refl;
+      each = λ n k e. each n k e (bytes_eq name n) refl;
+      others = λ x n which. others n which (bytes_eq name n) refl;
+      theirs = λ x n k e some. theirs n k e some (bytes_eq name n) refl;
+      files = λ x n k e none. files n k e none (bytes_eq name n) refl;
+    };
+    ahead = λ x n t e. ahead n t e (bytes_eq name n) refl;
   }
     where
       -- what is kept under each name
@@ -121,7 +126,7 @@ module _ (limit : ℕ) (store store' : Store) (sessions sessions' : List ℕ →
           is_known later n ≡ is_some (option_map kept_by (sessions' n))
       names n true e =
           ap (is_known later) (sym (same_name name n e)) ∙ known ∙ sym (ap is_some (kept_same n e))
-      names n false e = others_known n e ∙ h.names n ∙ sym (ap is_some (kept_other n e))
+      names n false e = others_known n e ∙ h.holds.names n ∙ sym (ap is_some (kept_other n e))
 
       each : (n : List ℕ) (k : Kept) → option_map kept_by (sessions' n) ≡ Some k → (b : Bool) → bytes_eq name n ≡ b →
           HoldsName (is_some (store'.first n)) n (log_of later n) k
@@ -133,7 +138,29 @@ module _ (limit : ℕ) (store store' : Store) (sessions sessions' : List ℕ →
       each n k e false b =
           subst (λ (l : Log). HoldsName (is_some (store'.first n)) n l k) (sym (others_log n b))
           (subst (λ (o : Option (List ℕ)). HoldsName (is_some o) n (log_of book n) k) (sym (first_same n))
-          (h.each n k (sym (kept_other n b) ∙ e)))
+          (h.holds.each n k (sym (kept_other n b) ∙ e)))
+
+      ahead : (n : List ℕ) (t : Session) → sessions' n ≡ Some t → (b : Bool) → bytes_eq name n ≡ b →
+          StandsAhead (store'.first n) (log_of later n) t.progress.growing (store'.contents n)
+      ahead n t e true b =
+          subst (λ (x : List ℕ). StandsAhead (store'.first x) (log_of later x) t.progress.growing (store'.contents x))
+          (same_name name n b)
+          (subst (λ (x : Session). StandsAhead (store'.first name) (log_of later name) x.progress.growing
+          (store'.contents name))
+          (some_session (sym (sets n ∙ ap (λ (v : Bool). cond v (Some s) (sessions n)) b) ∙ e))
+          (subst (λ (l : Log). StandsAhead (store'.first name) l s.progress.growing (store'.contents name))
+          (sym log_is) part.ahead))
+        where
+          some_session : {x y : Session} → Some x ≡ Some y → x ≡ y
+          some_session e = cc
+      ahead n t e false b =
+          subst (λ (l : Log). StandsAhead (store'.first n) l t.progress.growing (store'.contents n))
+          (sym (others_log n b))
+          (subst (λ (o : Option (List ℕ)). StandsAhead o (log_of book n) t.progress.growing (store'.contents n))
+          (sym (first_same n))
+          (subst (λ (o : Option (List ℕ)). StandsAhead (store.first n) (log_of book n) t.progress.growing o)
+          (sym (content_other n b))
+          (h.ahead honest n t (sym (sets n ∙ ap (λ (v : Bool). cond v (Some s) (sessions n)) b) ∙ e))))
 
       -- what the store has of it
       file_here : (o : Option (List ℕ)) → store'.first name ≡ o →
@@ -157,7 +184,7 @@ module _ (limit : ℕ) (store store' : Store) (sessions sessions' : List ℕ →
           existed (Some bytes) e some = (file_here (Some bytes) e).0 ∙ sym e
       others n which false b =
           content_other n b
-          ∙ h.others honest n (elim which [
+          ∙ h.holds.others honest n (elim which [
             | inl some ↦ inl (sym (ap is_some (first_same n)) ∙ some)
             | inr unknown ↦ inr (sym (others_known n b) ∙ unknown)
           ])
@@ -174,7 +201,7 @@ module _ (limit : ℕ) (store store' : Store) (sessions sessions' : List ℕ →
           existed None e some = no_false (sym (ap is_some e) ∙ some)
           existed (Some bytes) e some = (file_here (Some bytes) e).1
       theirs n k e some false b =
-          h.theirs honest n k (sym (kept_other n b) ∙ e) (sym (ap is_some (first_same n)) ∙ some)
+          h.holds.theirs honest n k (sym (kept_other n b) ∙ e) (sym (ap is_some (first_same n)) ∙ some)
 
       files : (n : List ℕ) (k : Kept) → option_map kept_by (sessions' n) ≡ Some k → store'.first n ≡ None →
           (b : Bool) → bytes_eq name n ≡ b → HasFile (made false (log_of later n).admitted (log_of later n).done) limit
@@ -194,7 +221,7 @@ module _ (limit : ℕ) (store store' : Store) (sessions sessions' : List ℕ →
           (sym (others_log n b))
           (subst (λ (o : Option (List ℕ)). HasFile (made false (log_of book n).admitted (log_of book n).done) limit
           (at (log_of book n).admitted (log_of book n).done) k o) (sym (content_other n b))
-          (h.files honest n k (sym (kept_other n b) ∙ e) (sym (first_same n) ∙ none)))
+          (h.holds.files honest n k (sym (kept_other n b) ∙ e) (sym (first_same n) ∙ none)))
 
 -- a table with another session under a name
 pub table_set : {H : Type 0} (sessions sessions' : Table H) (limit : ℕ) (name : List ℕ) (s : Session) →
@@ -231,7 +258,7 @@ table_set sessions sessions' limit name s t few room sets named limited = record
 
 -- the turn of a message, on the book and in the server
 module _ (limit : ℕ) (store store' : Store) (sessions sessions' : List ℕ → Option Session) (book : Book)
-    (h : Holds limit store (λ n. option_map kept_by (sessions n)) book) (honest : IsTrue store.honest)
+    (h : HoldsIn limit store sessions book) (honest : IsTrue store.honest)
     (m : Message) (said : IsTrue (is_message Second m)) (s : Session) where
   pub book_turned : (before after : ℕ) (replies : List Reply) →
       ((n : List ℕ) → sessions' n ≡ cond (bytes_eq m.name n) (Some s) (sessions n)) →
@@ -244,7 +271,7 @@ module _ (limit : ℕ) (store store' : Store) (sessions sessions' : List ℕ →
       IsTurn (λ n. is_some (store.first n)) before after book (Says m) (map reply_of replies)
       (with_change book m.name (turn_by (is_some (store.first m.name)) (is_known book m.name) (is_full book)
       (log_of book m.name) m a.faults).1)
-      × Holds limit store' (λ n. option_map kept_by (sessions' n))
+      × HoldsIn limit store' sessions'
       (with_change book m.name (turn_by (is_some (store.first m.name)) (is_known book m.name) (is_full book)
       (log_of book m.name) m a.faults).1)
   unfolding turn
@@ -258,13 +285,13 @@ module _ (limit : ℕ) (store store' : Store) (sessions sessions' : List ℕ →
       stop = a.whole;
     },
     go (turn_by (is_some (store.first m.name)) (is_known book m.name) (is_full book) (log_of book m.name) m a.faults).1
-        a.left some (turns_keep_books (λ n. is_some (store.first n)) book (Says m) a.faults said h.is_book),
+        a.left some (turns_keep_books (λ n. is_some (store.first n)) book (Says m) a.faults said h.holds.is_book),
   )
     where
       go : (o : Option Log) →
           HoldsLog (store.first m.name) (unwrap_or o (log_of book m.name)) (part_of s) (store'.contents m.name) →
           IsSome o ⊎ (is_known book m.name ≡ true) → IsBook (with_change book m.name o) →
-          Holds limit store' (λ n. option_map kept_by (sessions' n)) (with_change book m.name o)
+          HoldsIn limit store' sessions' (with_change book m.name o)
       go None part which is_book =
           holds_after limit store store' sessions sessions' book book h honest m.name s (log_of book m.name) is_book
           (elim which [

@@ -33,7 +33,7 @@ module _ (p : Parts) (r : Request) (g g' : Growing) (before after : Option (List
   has_format : (t : Take) → parts t ≡ p → t.format ≡ Some o.format
   has_format t e = ap (λ (q : Parts). q.format) e ∙ o.has_format
 
-  pub writes_ok : ((t : Take) → (with_request t r).format ≡ t.format) → g' ≡ record g { dirty = false } →
+  pub writes_ok : ((t : Take) → (with_request t r).format ≡ t.format) → g' ≡ record g { dirty = false; ahead = false } →
       ((t : Take) → parts t ≡ p → IsReady g t r before → after ≡ file_of (with_request t r) g.limit) →
       WritesRequest (Ok New) r p g g' before after
   writes_ok keeps known file = record {
@@ -45,7 +45,7 @@ module _ (p : Parts) (r : Request) (g g' : Growing) (before after : Option (List
     existed = λ none unmade s. not_none p o none;
   }
 
-  pub writes_err : (fault : StoreFault) → judge p r ≡ Stored → g' ≡ record g { dirty = true } →
+  pub writes_err : (fault : StoreFault) → judge p r ≡ Stored → g' ≡ record g { dirty = true; ahead = false } →
       ((t : Take) → parts t ≡ p → IsReady g t r before → IsBetween t g.limit r after) →
       WritesRequest (Err fault) r p g g' before after
   writes_err fault stored known file = record {
@@ -53,6 +53,10 @@ module _ (p : Parts) (r : Request) (g g' : Growing) (before after : Option (List
         (file t e (ready t r g before h));
     existed = λ none unmade s. not_none p o none;
   }
+
+not_so : (b : Bool) → (b ≡ true → true ≡ false) → b ≡ false
+not_so true h = h refl
+not_so false h = refl
 
 -- a marker
 pub writes_mark : (p : Parts) (id frame : ℕ) (g : Growing) (found : Option (List ℕ)) →
@@ -68,6 +72,7 @@ writes_mark p id frame g found stored clean =
               (found ≡ file_of t g.limit)) clean h.whole
               ∙ sym (marked_file t g.limit id frame (ap (λ (q : Parts). q.closed) e ∙ o.not_closed));
           made_here = h.made_here;
+          level = not_so g.ahead (λ a. sym (h.ahead a).0 ∙ clean);
         },
       );
       existed = λ none unmade s. not_none p o none;
@@ -76,8 +81,8 @@ writes_mark p id frame g found stored clean =
 -- opening
 pub writes_open : (answer : Result Created StoreFault) (p : Parts) (f : Format) (history : List ℕ) (g g' : Growing)
     (before after : Option (List ℕ)) → judge p (Open f history) ≡ Stored →
-    IfOk answer (λ c. g' ≡ record g { made = is_new c; dirty = false }) →
-    OnErr answer (g' ≡ record g { made = g'.made; dirty = true }) →
+    IfOk answer (λ c. g' ≡ record g { made = is_new c; dirty = false; ahead = false }) →
+    OnErr answer (g' ≡ record g { made = g'.made; dirty = true; ahead = false }) →
     AsksForName g.made g'.made before after → IfOk answer (λ c. IsFalse (is_new c) → IsSome before) →
     ((t : Take) → parts t ≡ p → BeginsFile answer g g'.made t (Open f history) before after) →
     WritesRequest answer (Open f history) p g g' before after

@@ -12,7 +12,8 @@ use Rattle.bw_model.specs.Wire.{Message, message_body}
 use Rattle.bw_store.specs.StoreSteps.{WasAsked, WasAskedFirst}
 use Rattle.bw_store.specs.declared.store.TakeStore.{Ghosts as StoreGhosts}
 use Rattle.bw_wire.specs.Bodies.{message_in}
-use Rattle.bw_session.specs.Carrying.{judged_plan}
+use Rattle.bw_file.specs.Growing.{clean_file}
+use Rattle.bw_session.specs.Carrying.{judged_plan, StopsAt}
 use Rattle.bw_session.specs.Judging.{judged_in, KeepsJudged}
 use Rattle.bw_session.specs.KeptParts.{Part}
 use Rattle.bw_session.specs.declared.draining.Drained.{Drained}
@@ -26,7 +27,8 @@ pub record DoesFirst {X : Type 0} (S : StoreGhosts X) (a : Part) (x : X) (b : Pa
   pub held : at a.window 0 ≡ Some body
   pub asked : WasAsked S (judged_plan a.growing a.parts (message_in body).request b.growing.made)
       x y
-  pub growing : b.growing ≡ record a.growing { made = b.growing.made; dirty = false }
+  pub growing : b.growing
+      ≡ record a.growing { made = b.growing.made; dirty = false; ahead = false }
   pub parts : KeepsJudged a.parts (message_in body).request b.parts
   pub outcomes : b.outcomes ≡ a.outcomes
       ++ (sha256 body, judged_in a.parts (message_in body).request b.parts.taken) ∷ []
@@ -37,13 +39,14 @@ abbrev pub DoesNothing : {X : Type 0} → Part → X → Part → X → Type 0
 DoesNothing a x b y = (b ≡ a) × (y ≡ x)
 
 -- The number of the first held body was tried: the store was asked the first of what its judged
--- request asks, and the number isn't done.
+-- request asks, and the number isn't done. If only its note failed, another try asks for nothing.
 pub record TriesFirst {X : Type 0} (S : StoreGhosts X) (a : Part) (x : X) (b : Part) (y : X) :
     Type 0 where
   pub body : List ℕ
   pub held : at a.window 0 ≡ Some body
   pub made : Bool
   pub asked : WasAskedFirst S (judged_plan a.growing a.parts (message_in body).request made) x y
+  pub stop : StopsAt S a.parts a.growing (message_in body).request b.parts b.growing x y
   pub outcomes : b.outcomes ≡ a.outcomes
   pub window : b.window ≡ a.window
 
@@ -99,5 +102,5 @@ new_part name limit = record {
   parts = parts_of (new_take false);
   outcomes = [];
   window = replicate slots None;
-  growing = record { name = name; limit = limit; made = false; dirty = false };
+  growing = clean_file name limit false;
 }

@@ -4,7 +4,6 @@ use Rattle.std.specs.Prelude.{drop, count_by, if◌then◌else◌}
 use Rattle.bw_model.specs.Wire.{Message, Says}
 use Rattle.bw_model.specs.Book.{Log, Book, log_of, is_known}
 use Rattle.bw_model.specs.CountedTurn.{IsTurn, book_reported, is_pending}
-use Rattle.bw_model.specs.Holds.{Holds}
 use Rattle.bw_store.specs.declared.store.TakeStore.{Ghosts as StoreGhosts}
 use Rattle.bw_model.specs.Replies.{Reply as ModelReply}
 use Rattle.bw_journal.specs.declared.journal.Journal.{Ghosts as JournalGhosts}
@@ -14,9 +13,11 @@ use Rattle.bw_session.specs.Numbered.{failed_calls}
 use Rattle.bw_session.specs.Tables.{session_in}
 use Rattle.bw_session.specs.Asking.{AsksInTurn}
 use Rattle.bw_session.specs.Serving.{UsesBoth}
-use Rattle.bw_session.specs.Servers.{kept_in, done_in, part_in, store_since}
+use Rattle.bw_session.specs.Servers.{HoldsIn, done_in, part_in, store_since}
 use Rattle.bw_session.specs.Journaled.{NotesNames}
-use Rattle.bw_session.specs.Ordering.{IsInOrder}
+use Rattle.bw_session.specs.Ordering.{FileComesFirst, NextIsCarriedOut, IsInOrder}
+use Rattle.bw_session.specs.Sessions.{part_of}
+use Rattle.bw_session.specs.declared.session.Session.{Session}
 use Rattle.bw_session.specs.declared.server.Server.{Server}
 
 module _ {X Y : Type 0} (S : StoreGhosts X) (J : JournalGhosts Y) where
@@ -27,13 +28,20 @@ module _ {X Y : Type 0} (S : StoreGhosts X) (J : JournalGhosts Y) where
   -- the server holds the book, over a store with these contents at the start
   abbrev pub HoldsBook : (List ℕ → Option (List ℕ)) → Server X Y S J → Book → Type 0
   HoldsBook first s book =
-      Holds s.limit (store_since S first s.stores.store) (kept_in s.sessions) book
+      HoldsIn s.limit (store_since S first s.stores.store) (session_in s.sessions) book
 
   -- an honest journal has of each name what the book says
   abbrev pub NotesBook : (List ℕ → Option (List ℕ)) → Server X Y S J → Book → Type 0
   NotesBook first s book =
       NotesNames (J.header s.stores.journal) (J.notes s.stores.journal) first
       (session_in s.sessions) book
+
+  -- of each name that is known the file comes first, then the entry of the next number
+  abbrev pub OrdersBook : (List ℕ → Option (List ℕ)) → Server X Y S J → Type 0
+  OrdersBook first s = (name : List ℕ) (x : Session) → session_in s.sessions name ≡ Some x →
+      FileComesFirst (J.header s.stores.journal name) (first name) name x.progress.noted
+      (NextIsCarriedOut (part_of x)) (J.notes s.stores.journal name)
+      (S.contents s.stores.store name)
 
   -- The replies and the later book are those of the definitions' turn with some faults, and the
   -- server holds the later book.
@@ -59,19 +67,28 @@ module _ {X Y : Type 0} (S : StoreGhosts X) (J : JournalGhosts Y) where
       NotesBook first old book →
       NotesBook first new (book_reported book m (map reply_of replies) (done_in new.sessions m.name))
 
-  -- If nothing waited under the message's name, and something waits afterwards, it was written in
-  -- order: its file, then its entry.
-  abbrev pub OrdersBooks : Server X Y S J → Server X Y S J → Message → List Reply → Type 0
-  OrdersBooks old new m replies = IsTrue (S.honest old.stores.store) →
+  -- A turn keeps that order, whichever of its calls fails.
+  abbrev pub OrdersBooks : Server X Y S J → Server X Y S J → Type 0
+  OrdersBooks old new = IsTrue (S.honest old.stores.store) →
       IsTrue (J.honest old.stores.journal) →
       (first : List ℕ → Option (List ℕ)) (book : Book) → HoldsBook first old book →
-      NotesBook first old book → is_pending (log_of book m.name) ≡ false →
-      (log : Log) →
-      log ≡ log_of (book_reported book m (map reply_of replies) (done_in new.sessions m.name))
-      m.name →
-      is_pending log ≡ true →
-      IsInOrder (J.header old.stores.journal m.name) (first m.name) m.name log old.limit
-      (J.notes new.stores.journal m.name) (S.contents new.stores.store m.name)
+      NotesBook first old book → OrdersBook first old → OrdersBook first new
+
+  -- Where no number waits, as in a server that begins, there is nothing to order.
+  abbrev pub QuietBooksAreInOrder : Type 0
+  QuietBooksAreInOrder =
+      (first : List ℕ → Option (List ℕ)) (s : Server X Y S J) (book : Book) →
+      IsTrue (S.honest s.stores.store) → HoldsBook first s book → NotesBook first s book →
+      ((name : List ℕ) → is_pending (log_of book name) ≡ false) → OrdersBook first s
+
+  -- So each number that waits was written in order: its file, then its entry.
+  abbrev pub WaitingNumbersAreInOrder : Type 0
+  WaitingNumbersAreInOrder =
+      (first : List ℕ → Option (List ℕ)) (s : Server X Y S J) (book : Book) →
+      IsTrue (S.honest s.stores.store) → HoldsBook first s book → NotesBook first s book →
+      OrdersBook first s → (name : List ℕ) → is_pending (log_of book name) ≡ true →
+      IsInOrder (J.header s.stores.journal name) (first name) name (log_of book name) s.limit
+      (J.notes s.stores.journal name) (S.contents s.stores.store name)
 
   -- With these replies each book that the server holds over an honest store is as it was.
   abbrev pub KeepsBooks : Server X Y S J → Message → List ModelReply → Type 0
@@ -114,8 +131,8 @@ module _ {X Y : Type 0} (S : StoreGhosts X) (J : JournalGhosts Y) where
     pub turned : TurnsBooks old new m replies
     -- an honest journal has of each name what the later book says
     pub noted : NotesBooks old new m replies
-    -- a number that waits was written in order
-    pub ordered : OrdersBooks old new m replies
+    -- the order of file and entry is kept
+    pub ordered : OrdersBooks old new
 
 -- what a known name's log says
 abbrev pub of_known : {A : Type 0} → Book → List ℕ → (Log → A) → Option A

@@ -16,6 +16,7 @@ use Rattle.bw_wire.specs.Bodies.{message_in}
 use Rattle.bw_session.specs.Windows.{count_held}
 use Rattle.bw_session.specs.Carrying.{Touches}
 use Rattle.bw_session.specs.KeptParts.{Part}
+use Rattle.bw_session.specs.Prefixes.{StandsAhead}
 use Rattle.bw_session.specs.Numbered.{with_done}
 use Rattle.bw_session.specs.declared.draining.Drained.{Drained}
 use Rattle.bw_session.specs.declared.draining.Drained.TheVariants.{Idle, Done, Stopped}
@@ -56,6 +57,7 @@ pub record HoldsPart (first : Option (List ℕ)) (log : Log) (p : Parts)
   pub fits : IsTrue (list_all is_admitted log.admitted)
   pub memory : HoldsName (is_some first) g.name log (kept_as p finished window g)
   pub file : NameStands first log g.limit (kept_as p finished window g) found
+  pub ahead : StandsAhead first log g found
 
 -- Each admitted request is done, so that nothing waits, and each has a spelling.
 pub record IsAllDone (log : Log) : Type 0 where

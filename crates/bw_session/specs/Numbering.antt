@@ -8,7 +8,7 @@ use Rattle.bw_store.specs.declared.store.StoreFault.{StoreFault}
 use Rattle.bw_store.specs.declared.store.TakeStore.{Ghosts as StoreGhosts}
 use Rattle.bw_journal.specs.declared.journal.Journal.{Ghosts as JournalGhosts}
 use Rattle.bw_session.specs.Writing.{IsSameFile}
-use Rattle.bw_session.specs.Carrying.{Touches}
+use Rattle.bw_session.specs.Carrying.{Touches, StopsAt}
 use Rattle.bw_session.specs.Prefixes.{HoldsPrefix}
 use Rattle.bw_session.specs.Judging.{judged_in, KeepsJudged}
 use Rattle.bw_session.specs.Noting.{NotesOn, OnlyBegins, log_left}
@@ -24,7 +24,7 @@ MayTry p r = IsTrue p.growing.dirty → Touches p.state.parts r
 pub record KeepsPlaces (old new : Progress) : Type 0 where
   -- the name is the same
   pub name : new.name ≡ old.name
-  -- the file is the same, which may be made or dirty now
+  -- the file is the same, which may be made, dirty or ahead now
   pub known : IsSameFile old.growing new.growing
   -- one request less at most can be stored without memory
   pub room : old.state.room ≤ new.state.room + 1
@@ -42,6 +42,8 @@ pub record KeepsNumber (old : Progress) (r : Request) (digest : List ℕ) (v : V
   pub outcomes : new.ledger.outcomes ≡ old.ledger.outcomes ++ (digest, v) ∷ []
   -- the file is clean
   pub clean : new.growing.dirty ≡ false
+  -- and level with the done numbers
+  pub level : new.growing.ahead ≡ false
 
 module _ {X Y : Type 0} (S : StoreGhosts X) (J : JournalGhosts Y) where
   -- A fault stopped it: the number isn't done, and the same request may be tried again.
@@ -57,6 +59,9 @@ module _ {X Y : Type 0} (S : StoreGhosts X) (J : JournalGhosts Y) where
     pub parts : after.state.parts ≡ record before.state.parts { taken = after.state.parts.taken }
     -- a dirty file waits for this request
     pub again : MayTry after r
+    -- it stopped at the journal's beginning, in a call of the store, or at the note
+    pub stop : StopsAt S before.state.parts before.growing r after.state.parts after.growing
+        old.store new.store
     -- if the store failed, nothing is noted of the number
     pub unnoted : IsTrue (J.honest old.journal) → S.failures new.store ≢ S.failures old.store →
         OnlyBegins before.name (J.header old.journal before.name)

@@ -1,6 +1,9 @@
 -- What a server keeps of a name whose next number is to be done.
-use Rattle.std.specs.Prelude.{◌≡◌, ℕ, false, Option, Some, None, is_some, List, Result, MatchResult}
+use Rattle.std.specs.Prelude.{◌≡◌, ℕ, true, false, IsTrue, Option, Some, None, is_some, List}
+use Rattle.std.specs.Prelude.{Result, MatchResult}
+use Rattle.bw_model.specs.Bytes.{at}
 use Rattle.bw_model.specs.Take.{Take, Parts, Request, Verdict, verdict, after}
+use Rattle.bw_model.specs.File.{file_of}
 use Rattle.bw_model.specs.Book.{Log, made}
 use Rattle.bw_request.specs.Verdicts.{verdict_meaning}
 use Rattle.bw_request.specs.declared.verdict.Verdict.{Verdict as Judgement}
@@ -17,12 +20,26 @@ take_done first log = made (is_some first) log.admitted log.done
 -- the take's file, or what an earlier try may have left.
 abbrev pub FileStands : Option (List ℕ) → Take → Request → Growing → Option (List ℕ) → Type 0
 FileStands None t waits g found = HasOwnFile t waits g found
-FileStands (Some bytes) t waits g found = (found ≡ Some bytes) × (g.made ≡ false)
+FileStands (Some bytes) t waits g found =
+    (found ≡ Some bytes) × (g.made ≡ false) × (g.ahead ≡ false)
 
 -- once it is done: what was there, else the take's file
 abbrev pub FileFollows : Option (List ℕ) → Take → Growing → Option (List ℕ) → Type 0
 FileFollows None t g found = HasWholeFile t g found
-FileFollows (Some bytes) t g found = (found ≡ Some bytes) × (g.made ≡ false)
+FileFollows (Some bytes) t g found =
+    (found ≡ Some bytes) × (g.made ≡ false) × (g.ahead ≡ false)
+
+-- A store has the file of the take with the request that waits.
+pub record HasNextRequest (log : Log) (g : Growing) (found : Option (List ℕ)) : Type 0 where
+  pub request : Request
+  pub waits : at log.admitted log.done ≡ Some request
+  pub dirty : g.dirty ≡ true
+  pub file : found ≡ file_of (after (take_done None log) request) g.limit
+
+-- A file that is ahead has the request that waits; the file of a name that existed never is.
+abbrev pub StandsAhead : Option (List ℕ) → Log → Growing → Option (List ℕ) → Type 0
+StandsAhead None log g found = IsTrue g.ahead → HasNextRequest log g found
+StandsAhead (Some bytes) log g found = g.ahead ≡ false
 
 -- State, table and file are those of the log's done numbers, and this request is the next.
 pub record HoldsPrefix (first : Option (List ℕ)) (log : Log) (p : Parts)

@@ -11,6 +11,7 @@ use Rattle.bw_journal.specs.Recovery.{IsRepaired}
 use Rattle.bw_journal.specs.Rows.{row_count}
 use Rattle.bw_journal.specs.Stops.{cut_book}
 use Rattle.bw_journal.specs.Stories.{story_of}
+use Rattle.bw_file.specs.Growing.{clean_file}
 use Rattle.bw_session.specs.Ledgers.{entries_in}
 use Rattle.bw_session.specs.declared.kept_take.KeptTake.{KeptTake}
 use Rattle.bw_session.specs.declared.session.Session.{Session}
@@ -52,8 +53,7 @@ pub record ResumesFrom (limit : ℕ) (k : KeptTake) (s : Session) : Type 0 where
   pub outcomes : s.progress.ledger.outcomes
       ≡ entries_in (row_count k.replayed.table.items) k.replayed.table.items
   pub window : s.window ≡ replicate 16 None
-  pub growing : s.progress.growing
-      ≡ record { name = k.name; limit = limit; made = k.made; dirty = false }
+  pub growing : s.progress.growing ≡ clean_file k.name limit k.made
   pub noted : s.progress.noted ≡ k.replayed.used
 
 -- a session where something is kept, and none where nothing is

@@ -1,9 +1,11 @@
 -- What a server keeps, in the definitions' words.
-use Rattle.std.specs.Prelude.{ℕ, Option, List, length, option_map}
+use Rattle.std.specs.Prelude.{◌≡◌, ℕ, Option, Some, IsTrue, List, length, option_map}
 use Rattle.std.specs.Option.{option_map_or}
-use Rattle.bw_model.specs.Holds.{Store, Kept}
+use Rattle.bw_model.specs.Book.{Book, log_of}
+use Rattle.bw_model.specs.Holds.{Store, Kept, Holds}
 use Rattle.bw_store.specs.declared.store.TakeStore.{Ghosts as StoreGhosts}
 use Rattle.bw_session.specs.Draining.{kept_as}
+use Rattle.bw_session.specs.Prefixes.{StandsAhead}
 use Rattle.bw_session.specs.Tables.{Table, session_in}
 use Rattle.bw_session.specs.KeptParts.{Part}
 use Rattle.bw_session.specs.Sessions.{part_of}
@@ -17,6 +19,14 @@ kept_by s = kept_as s.progress.state.parts s.progress.ledger.outcomes s.window s
 -- what a server keeps, by name
 abbrev pub kept_in : {H : Type 0} → Table H → List ℕ → Option Kept
 kept_in sessions name = option_map kept_by (session_in sessions name)
+
+-- The sessions of a server hold the book over a store: each file that is ahead of its take has the
+-- request that waits.
+pub record HoldsIn (limit : ℕ) (store : Store) (sessions : List ℕ → Option Session) (book : Book) :
+    Type 0 where
+  pub holds : Holds limit store (λ n. option_map kept_by (sessions n)) book
+  pub ahead : IsTrue store.honest → (name : List ℕ) (s : Session) → sessions name ≡ Some s →
+      StandsAhead (store.first name) (log_of book name) s.progress.growing (store.contents name)
 
 -- a store, and what was in it at the start
 abbrev pub store_since : {X : Type 0} → StoreGhosts X → (List ℕ → Option (List ℕ)) → X → Store

@@ -4,7 +4,7 @@ use Rattle.std.specs.Prelude.{IsTrue, IsFalse, List, Result, MatchResult, IfOk, 
 use Rattle.std.specs.Prelude.{[], length}
 use Rattle.std.specs.Bool.{MatchBool}
 use Rattle.bw_model.specs.Take.{Take, Parts, Request, Open, Block, Mark, SetField, Close, parts}
-use Rattle.bw_model.specs.Take.{with_request, with_field}
+use Rattle.bw_model.specs.Take.{with_request, with_field, after}
 use Rattle.bw_model.specs.File.{file_of}
 use Rattle.bw_model.specs.Holds.{IsInTheMiddle}
 use Rattle.bw_file.specs.Growing.{Growing, is_new}
@@ -38,15 +38,19 @@ pub record HasOwnFile (t : Take) (waits : Request) (g : Growing) (found : Option
   pub whole : MatchBool g.dirty
       (IsInTheMiddle t g.limit (Some waits) found) (found ≡ file_of t g.limit)
   pub made_here : g.made ≡ is_some found
+  -- one that is ahead is that of the take with the request
+  pub ahead : IsTrue g.ahead → (g.dirty ≡ true) × (found ≡ file_of (after t waits) g.limit)
 
 -- the take's file, whole
 pub record HasWholeFile (t : Take) (g : Growing) (found : Option (List ℕ)) : Type 0 where
   pub whole : found ≡ file_of t g.limit
   pub made_here : g.made ≡ is_some found
+  pub level : g.ahead ≡ false
 
--- the same file, which may be made or dirty now
+-- the same file, which may be made, dirty or ahead now
 abbrev pub IsSameFile : Growing → Growing → Type 0
-IsSameFile old new = new ≡ record old { made = new.made; dirty = new.dirty }
+IsSameFile old new =
+    new ≡ record old { made = new.made; dirty = new.dirty; ahead = new.ahead }
 
 -- What the growing file knows after a request was written: it is clean, or after a fault dirty.
 pub record Knows (answer : Result Created StoreFault) (r : Request) (old new : Growing) :
@@ -54,6 +58,8 @@ pub record Knows (answer : Result Created StoreFault) (r : Request) (old new : G
   pub same : IsSameFile old new
   pub clean : OnOk answer (new.dirty ≡ false)
   pub dirty : OnErr answer ((new.dirty ≡ true) × (is_mark r ≡ false))
+  -- no write makes it ahead
+  pub ahead : IsTrue new.ahead → IsTrue old.ahead
 
 -- What is there after a request was written. The name of an unopened take that existed is left as
 -- it was.

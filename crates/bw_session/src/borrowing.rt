@@ -1,11 +1,10 @@
 //! The message of the next number: it is done from its borrowed body.
-ghost use Rattle.std.specs.Prelude.{◌≡◌, ◌+◌, ◌≤◌, None, Result, IfOk};
-ghost use Rattle.std.specs.Prelude.{OnErr, is_err, length};
+ghost use Rattle.std.specs.Prelude.{◌≡◌, None, Result, IfOk, OnOk, OnErr, length};
 ghost use Rattle.sha2.specs.Sha256.{sha256};
 ghost use Rattle.bw_model.specs.Bytes.{at};
 ghost use Rattle.bw_model.specs.Wire.{message_body};
 ghost use Rattle.bw_wire.specs.Frames.{message_of};
-ghost use Rattle.bw_session.specs.Draining.{DrainsPart, drained_by, drained_log, drained_count};
+ghost use Rattle.bw_session.specs.Draining.{DrainsPart, drained_by, drained_log};
 ghost use Rattle.bw_session.specs.Admitting.{with_message};
 ghost use Rattle.bw_session.specs.Asking.{AsksNext, holding};
 
@@ -20,9 +19,9 @@ use std::alloc::AllocError;
 
 impl Session {
     ghost use Rattle.bw_session.specs.Sessions.{KeepsTake, part_of};
-    ghost use Rattle.bw_session.specs.Promises.{KeepsStores, RefusesMessage};
+    ghost use Rattle.bw_session.specs.Promises.{TriesNumber, RefusesMessage};
     ghost use Rattle.bw_session.specs.Promises.{ForSessionLogs, KeepsSessionNotes};
-    ghost use Rattle.bw_session.specs.Ordering.{OrdersLogs};
+    ghost use Rattle.bw_session.specs.Ordering.{OrdersSession};
 
     /// Does the number of a message that is the next and isn't held. Its body is copied, into a
     /// buffer allocated before, only if a call failed.
@@ -42,11 +41,8 @@ impl Session {
             ≡ length self.old.progress.ledger.outcomes }
         requires free { at self.old.window 0 ≡ None }
         requires slots { length self.old.window ≡ 16 }
-        ensures both { IfOk result (λ answer. KeepsStores S.TakeStore J.Journal (is_err answer)
-            self.old.progress.name stores.old stores.new) }
-        ensures calls { S.calls stores.new.store ≤ S.calls stores.old.store + 4 }
-        ensures done { IfOk result (λ answer. length self.new.progress.ledger.outcomes
-            ≡ length self.old.progress.ledger.outcomes + drained_count (drained_by answer)) }
+        ensures tried { IfOk result (λ answer. TriesNumber S.TakeStore J.Journal answer
+            self.old stores.old self.new stores.new) }
         ensures asked { IfOk result (λ answer. AsksNext S.TakeStore (drained_by answer)
             (holding (part_of self.old) (message_of message.now)) stores.old.store
             (part_of self.new) stores.new.store) }
@@ -60,9 +56,8 @@ impl Session {
         ensures noted { IfOk result (λ answer. KeepsSessionNotes S.TakeStore J.Journal
             self.old stores.old self.new stores.new
             (λ log. drained_log (drained_by answer) (with_message log (message_of message.now)))) }
-        ensures ordered { IfOk result (λ answer. OrdersLogs S.TakeStore J.Journal (is_err answer)
-            (part_of self.old) (λ log. with_message log (message_of message.now))
-            self.old.progress stores.old self.new.progress stores.new) }
+        ensures ordered { OnOk result (OrdersSession S.TakeStore J.Journal
+            self.old stores.old self.new stores.new) }
     {
         let room = self.make_room(stores.alloc, message)?;
         let request = message.request();

@@ -8,7 +8,7 @@ ghost use Rattle.bw_request.specs.Requests.{meaning, samples_in};
 ghost use Rattle.bw_request.specs.Verdicts.{verdict_meaning};
 ghost use Rattle.bw_store.specs.Stores.{Counts, KeepsOthers};
 ghost use Rattle.bw_store.specs.StoreSteps.{WasAsked, WasAskedFirst};
-ghost use Rattle.bw_session.specs.Carrying.{Touches, Carries, AsksJudged};
+ghost use Rattle.bw_session.specs.Carrying.{Touches, KeepsParts, Carries, AsksJudged};
 ghost use Rattle.bw_store.specs.StoreSteps.{Shared};
 ghost use Rattle.bw_session.specs.Writing.{IsSameFile};
 ghost use Rattle.bw_session.specs.Prefixes.{CarriesNext};
@@ -20,7 +20,7 @@ use bw_store::{Created, StoreFault, TakeStore};
 use bw_take::{TakeState, judge};
 
 /// Judges a request, and writes it to the file if it is to be stored; the state doesn't keep it
-/// yet.
+/// yet. If the file is ahead it has this request already, and the store is asked for nothing.
 ///
 /// If the take's name already existed in the store, which only a request to open it finds out, the
 /// state records that, and the request is judged by it.
@@ -42,14 +42,14 @@ pub(crate) fn carry_out<S: TakeStore>(
         growing.new.made true store.old store.new }
     ensures known { IsSameFile growing.old growing.new }
     ensures room { state.new.room ≡ state.old.room }
-    ensures parts { state.new.parts ≡ record state.old.parts { taken = state.new.parts.taken } }
-    ensures taken { IsTrue state.old.parts.taken → IsTrue state.new.parts.taken }
+    ensures parts { KeepsParts state.old.parts state.new.parts }
     ensures verdict { IfOk result
         (λ v. verdict_meaning v ≡ verdict_on state.new.parts (meaning request.now)) }
     ensures clean { OnOk result (growing.new.dirty ≡ false) }
+    ensures level { growing.new.ahead ≡ false }
     ensures unchanged { OnErr result (state.new ≡ state.old) }
     ensures touched { OnErr result (Touches state.old.parts (meaning request.now)) }
-    ensures dirty { OnErr result (growing.new.dirty ≡ true) }
+    ensures dirty { OnErr result ((growing.old.ahead ≡ false) × (growing.new.dirty ≡ true)) }
     ensures file { IsTrue (S.honest store.old) →
         Carries result (meaning request.now) state.old.parts state.new.parts growing.old growing.new
         (S.contents store.old growing.old.name) (S.contents store.new growing.old.name) }
@@ -58,6 +58,10 @@ pub(crate) fn carry_out<S: TakeStore>(
         growing.new (S.contents store.old growing.old.name)
         (S.contents store.new growing.old.name) }
 {
+    if growing.is_ahead() {
+        growing.mark_clean();
+        return Ok(Verdict::Stored);
+    }
     let verdict = judge(state, request);
     if !verdict.is_stored() {
         return Ok(verdict);

@@ -9,7 +9,7 @@ ghost use Rattle.bw_session.specs.Draining.{call_bound, drained_count, IsTried};
 ghost use Rattle.bw_session.specs.Asking.{AsksNext};
 ghost use Rattle.bw_session.specs.Sessions.{kept_with, FitsWith};
 ghost use Rattle.bw_session.specs.Promises.{KeepsStores, ForLogs, KeepsNotes};
-ghost use Rattle.bw_session.specs.Ordering.{OrdersLogs, OrdersOn};
+ghost use Rattle.bw_session.specs.Ordering.{OrdersPart};
 
 use crate::numbering::{Progress, Stores};
 use crate::session::Session;
@@ -56,9 +56,9 @@ pub(crate) fn drain_one<S: TakeStore, J: Journal>(
     ensures noted { KeepsNotes S.TakeStore J.Journal progress.old.name
         (kept_with progress.old window.old) progress.old.noted stores.old progress.new.noted
         stores.new (drained_log result) }
-    ensures ordered { OrdersLogs S.TakeStore J.Journal (is_stopped result)
-        (kept_with progress.old window.old) (λ log. log) progress.old stores.old progress.new
-        stores.new }
+    ensures ordered { OrdersPart S.TakeStore J.Journal progress.old.name
+        (kept_with progress.old window.old) progress.old.noted stores.old
+        (kept_with progress.new window.new) progress.new.noted stores.new }
 {
     let Some(body) = window.get(0) else {
         return Drained::Idle;
@@ -78,6 +78,7 @@ impl Session {
     ghost use Rattle.bw_session.specs.Reporting.{IsServing, IsTimely};
     ghost use Rattle.bw_session.specs.Sessions.{KeepsTake, part_of};
     ghost use Rattle.bw_session.specs.Promises.{RunsNumbers};
+    ghost use Rattle.bw_session.specs.Ordering.{OrdersDrained};
     ghost use Rattle.bw_session.specs.Runs.{with_more_done, HasDrained, EndsDraining};
 
     /// Does the numbers whose messages are held in a row, at most sixteen with those that `out`
@@ -107,13 +108,8 @@ impl Session {
             NotesOn J.Journal self.old.progress.name first stores.old.journal
             (with_more_done log (length out.old.items)) self.old.progress.noted stores.new.journal
             (with_more_done log (length out.new.items)) self.new.progress.noted }
-        ensures ordered { IsTrue (S.honest stores.old.store) →
-            IsTrue (J.honest stores.old.journal) → (first : Option (List ℕ)) (log : Log) →
-            HasDrained first log out.old.items (part_of self.old)
-            (S.contents stores.old.store self.old.progress.name) →
-            OrdersOn S.TakeStore J.Journal result first
-            (with_more_done log (length out.old.items)) self.old.progress stores.old
-            (with_more_done log (length out.new.items)) self.new.progress stores.new }
+        ensures ordered { OrdersDrained S.TakeStore J.Journal out.old.items self.old stores.old
+            self.new stores.new }
     {
         for _slot in out.len()..SLOTS {
             let number = self.progress.ledger.len();

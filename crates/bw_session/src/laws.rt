@@ -1,6 +1,10 @@
 //! Laws of the definitions on which servers of many names rely.
 ghost use Rattle.bw_model.specs.Turn.{IsolatesEachName};
+ghost use Rattle.bw_session.specs.Books.{QuietBooksAreInOrder, WaitingNumbersAreInOrder};
 ghost use Rattle.bw_session.specs.Settled.{SettledTurnsMeetNoFaults};
+
+use bw_journal::Journal;
+use bw_store::TakeStore;
 
 /// Each name's turns are a run of their own: messages of other names change nothing in it.
 pub fn law_isolation()
@@ -14,4 +18,12 @@ pub fn law_isolation()
 #[tactic(auto, using(crate::proofs::SettledForms::settled_turns))]
 pub fn law_settled()
     ensures { SettledTurnsMeetNoFaults }
+{}
+
+/// The order that `turn` keeps holds of each book in which no number waits, and says of each number
+/// that waits: nothing is written to its file before its journal is begun, and its entry is whole only
+/// where the file has its request.
+pub fn law_order<S: TakeStore, J: Journal>()
+    ensures quiet { QuietBooksAreInOrder S.TakeStore J.Journal }
+    ensures waiting { WaitingNumbersAreInOrder S.TakeStore J.Journal }
 {}

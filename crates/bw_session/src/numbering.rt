@@ -114,14 +114,16 @@ fn is_written(verdict: Verdict, request: &RequestRef<'_>) -> bool
     }
 }
 
-/// Marks the file for another try of a request that was written to it.
+/// Marks the file as ahead of the done numbers, if a request that isn't noted was written to it:
+/// another try of the request notes it alone.
 fn mark_written(growing: &mut GrowingFile, verdict: Verdict, request: &RequestRef<'_>)
     ensures { growing.new ≡ record growing.old {
       dirty = was_written (verdict_meaning verdict) (meaning request.now) || growing.old.dirty;
+      ahead = was_written (verdict_meaning verdict) (meaning request.now) || growing.old.ahead;
     } }
 {
     if is_written(verdict, request) {
-        growing.mark_dirty();
+        growing.mark_ahead();
     }
 }
 
@@ -132,7 +134,8 @@ impl Progress {
     ghost use Rattle.bw_session.specs.Ordering.{OrdersNext};
 
     /// Does the next number: its request is carried out in the file, then noted in the journal,
-    /// then kept in memory.
+    /// then kept in memory. If only its note failed before, the file has the request: it is noted
+    /// alone, and no call of the store is made.
     ///
     /// # Errors
     /// `StoreFault` if the store or the journal failed: the number isn't done, and the same request
@@ -175,7 +178,7 @@ impl Progress {
             &mut self.state,
             request,
         )?;
-        // Its clause on widths says that the file may be written over with the same request.
+        // Its clause on widths says that the file with the request is between the old and the new one.
         let _bext = self.state.bext();
         let Ok(len) = stores.note(&self.name, self.noted, verdict, digest, request) else {
             mark_written(&mut self.growing, verdict, request);

@@ -4,6 +4,7 @@ ghost use Rattle.std.specs.Prelude.{vec_capacity, false};
 ghost use Rattle.std.specs.HashMap.{hash_map_len};
 ghost use Rattle.bw_model.specs.Book.{Book};
 ghost use Rattle.bw_model.specs.Turn.{most_takes};
+ghost use Rattle.bw_file.specs.Growing.{clean_file};
 ghost use Rattle.bw_journal.specs.Entries.{longest_entry};
 ghost use Rattle.bw_journal.specs.Stops.{cut_book};
 ghost use Rattle.bw_session.specs.Tables.{IsTable, session_in};
@@ -155,7 +156,7 @@ fn growing_of(
     made: bool,
 ) -> Result<GrowingFile, AllocError>
     ensures { IfOk result
-        (λ f. f ≡ record { name = name; limit = limit; made = made; dirty = false }) }
+        (λ f. f ≡ clean_file name limit made) }
 {
     if made {
         GrowingFile::resume(alloc, name, limit)

@@ -37,9 +37,7 @@ use std::collections::HashMap;
 /// The most names that a server takes.
 const NAMES: usize = 256;
 
-/// A server over a store, and optionally a journal.
-///
-/// No call lends or returns its journal.
+/// A server over a store, and optionally a journal, which no call lends or returns.
 #[derive(Drop)]
 pub struct Server<S: TakeStore, J: Journal = NoJournal> {
     pub(crate) sessions: HashMap<Name, Session>,
@@ -73,10 +71,9 @@ impl<S: TakeStore> Server<S> {
 }
 
 impl<S: TakeStore, J: Journal> Server<S, J> {
-    ghost use Rattle.bw_session.specs.Books.{HoldsBook, NotesBook, TurnsBooks, NotesBooks};
-    ghost use Rattle.bw_session.specs.Books.{KeepsBooks, LeavesServer, UsesInTurn, AsksTurn};
-    ghost use Rattle.bw_session.specs.Books.{SameStores, Turned, OrdersBooks};
-    ghost use Rattle.bw_session.specs.Books.{of_known, count_waiting};
+    ghost use Rattle.bw_session.specs.Books.{HoldsBook, NotesBook, TurnsBooks, NotesBooks, KeepsBooks};
+    ghost use Rattle.bw_session.specs.Books.{LeavesServer, UsesInTurn, AsksTurn, SameStores, Turned};
+    ghost use Rattle.bw_session.specs.Books.{OrdersBooks, of_known, count_waiting};
 
     /// Creates a server that knows no name, over a store and a journal.
     ///
@@ -129,10 +126,10 @@ impl<S: TakeStore, J: Journal> Server<S, J> {
     /// Any store is asked, for each number that is done, all that its judged request asks, in that
     /// order; for one whose store call failed, the first of these calls.
     ///
-    /// A held message is done when those before it have come; after a failure of the store or the
-    /// journal, when the next message of its name comes. If nothing waited under the name before such
-    /// a failure, what waits then was written in order: nothing to its file before its journal is
-    /// begun, and its whole entry only over the file with its request.
+    /// A held message is done when those before it have come; after a failure, when the next message
+    /// of its name comes: if only its note failed it is noted alone, and the store is asked for
+    /// nothing. Whichever calls fail, what waits was written in order: nothing to its file before its
+    /// journal is begun, and no byte of its entry before its request is carried out.
     ///
     /// # Not specified
     /// - When a growth is refused, as NoRoom reports it.
@@ -159,8 +156,7 @@ impl<S: TakeStore, J: Journal> Server<S, J> {
             out.new.items }
         ensures noted { NotesBooks S.TakeStore J.Journal self.old self.new (message_of message.now)
             out.new.items }
-        ensures ordered { OrdersBooks S.TakeStore J.Journal self.old self.new
-            (message_of message.now) out.new.items }
+        ensures ordered { OrdersBooks S.TakeStore J.Journal self.old self.new }
     {
         out.clear();
         let name = message.name();

@@ -24,7 +24,7 @@ impl Session {
     ghost use Rattle.bw_session.specs.Promises.{UsesStores, LeavesSession, RefusesMessage};
     ghost use Rattle.bw_session.specs.Promises.{RunsNumbers, ForSessionLogs, KeepsSessionNotes};
     ghost use Rattle.bw_session.specs.Promises.{failures_in};
-    ghost use Rattle.bw_session.specs.Ordering.{OrdersLogs, OrdersServed};
+    ghost use Rattle.bw_session.specs.Ordering.{OrdersSession};
     ghost use Rattle.bw_session.specs.Runs.{EndsDraining, with_more_done};
     ghost use Rattle.bw_session.specs.Reporting.{IsServing, IsTimely};
     ghost use Rattle.bw_session.specs.Serving.{Answers, ServesMessage, log_after, log_reported};
@@ -55,9 +55,8 @@ impl Session {
         ensures noted { KeepsSessionNotes S.TakeStore J.Journal
             self.old stores.old self.new stores.new (λ log. log_reported log (message_of message.now)
             (map reply_of out.new.items) (length self.new.progress.ledger.outcomes)) }
-        ensures ordered { OrdersServed S.TakeStore J.Journal (part_of self.old)
-            (λ log. log_reported log (message_of message.now) (map reply_of out.new.items)
-            (length self.new.progress.ledger.outcomes)) self.old.progress stores.old stores.new }
+        ensures ordered { OrdersSession S.TakeStore J.Journal self.old stores.old
+            self.new stores.new }
     {
         if let Err(_refused) = self.serve(stores, message, out) {
             out.push(self.notice(message, Notice::NoRoom));
@@ -95,9 +94,8 @@ impl Session {
             self.old stores.old self.new stores.new
             (λ log. log_after log (message_of message.now)
             (length self.new.progress.ledger.outcomes))) }
-        ensures ordered { OnOk result (OrdersServed S.TakeStore J.Journal (part_of self.old)
-            (λ log. log_after log (message_of message.now)
-            (length self.new.progress.ledger.outcomes)) self.old.progress stores.old stores.new) }
+        ensures ordered { OnOk result (OrdersSession S.TakeStore J.Journal
+            self.old stores.old self.new stores.new) }
     {
         let done = self.progress.ledger.len();
         if done + self.window.len() <= message.number() as usize {
@@ -146,9 +144,8 @@ impl Session {
             self.old stores.old self.new stores.new
             (λ log. with_more_done (with_message log (message_of message.now))
             (length out.new.items))) }
-        ensures ordered { IfOk result (λ stopped. OrdersLogs S.TakeStore J.Journal stopped
-            (part_of self.old) (λ log. with_more_done (with_message log (message_of message.now))
-            (length out.new.items)) self.old.progress stores.old self.new.progress stores.new) }
+        ensures ordered { OnOk result (OrdersSession S.TakeStore J.Journal
+            self.old stores.old self.new stores.new) }
     {
         let is_held = self.window.get(0).is_some();
         if is_held || message.number() as usize != self.progress.ledger.len() {

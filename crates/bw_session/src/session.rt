@@ -1,6 +1,7 @@
 //! What a server keeps of a name.
 ghost use Rattle.std.specs.Prelude.{◌≡◌, ℕ, List, Option, IfOk, length, false, is_some};
 ghost use Rattle.bw_model.specs.Book.{Log, no_log};
+ghost use Rattle.bw_file.specs.Growing.{clean_file};
 ghost use Rattle.bw_journal.specs.JournalHeaders.{Header, header_bytes, header_len};
 ghost use Rattle.bw_journal.specs.Notes.{IsPrefixOf};
 ghost use Rattle.bw_session.specs.Noting.{IsNoted};
@@ -38,8 +39,7 @@ impl Session {
     /// `AllocError` if memory was refused.
     pub(crate) fn new(alloc: Global, name: Name, limit: Limit) -> Result<Session, AllocError>
         ensures name { IfOk result (λ s. s.progress.name ≡ name) }
-        ensures growing { IfOk result (λ s. s.progress.growing ≡
-            record { name = name; limit = limit; made = false; dirty = false }) }
+        ensures growing { IfOk result (λ s. s.progress.growing ≡ clean_file name limit false) }
         ensures part { IfOk result (λ s. part_of s ≡ new_part name limit) }
         ensures holds { IfOk result (λ s. (first : Option (List ℕ)) →
             HoldsPart first no_log s.progress.state.parts s.progress.ledger.outcomes s.window

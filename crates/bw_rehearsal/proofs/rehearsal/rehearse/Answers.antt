@@ -39,6 +39,6 @@ returns c =
       held = k.held;
       files = λ name which. held_files c.loop-event.simulation.server.limit
           (record { contents = content_under store.files; first = no_contents; honest = true })
-          (kept_in c.loop-event.simulation.server.sessions) w.book k.held refl name which
+          (kept_in c.loop-event.simulation.server.sessions) w.book k.held.holds refl name which
           ∙ ap (λ (n : ℕ). content_in no_contents n w.book name) k.limited;
     }

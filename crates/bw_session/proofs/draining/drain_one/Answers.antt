@@ -10,6 +10,8 @@ use Rattle.bw_session.proofs.DrainForms.{count_prefix, fits_done, part_waits, pa
 use Rattle.bw_session.proofs.NextForms.{prefix_here}
 use Rattle.bw_session.specs.Sessions.{kept_with}
 use Rattle.bw_session.proofs.AskForms.{does_first, tries_first}
+use Rattle.bw_session.proofs.OrderForms.{order_as}
+use Rattle.bw_session.proofs.OrderSteps.{carried_next, next_carried}
 use Rattle.bw_session.proofs.draining.drain_one.Goals as goal
 
 pub number_done-requires-clause-room : goal.number_done-requires-clause-room
@@ -93,8 +95,8 @@ returns-in-Ok-clause-asked g c =
     c.args.stores.now.store c.number_done.new.stores.store c.in-Some.body.now c.digest.result.now
     (meaning c.request-request.result) (verdict_meaning c.in-Ok.verdict) (sym c.in-Some.ensures.value)
     (c.request-request.ensures.value ∙ ap (λ m. m.request) c.message-message.ensures.value) c.digest.ensures
-    c.in-Ok.ensures.asked.1.order c.in-Ok.ensures.places.known c.in-Ok.ensures.kept.clean c.in-Ok.ensures.kept.kept
-    c.in-Ok.ensures.kept.verdict c.in-Ok.ensures.kept.outcomes c.advance.ensures
+    c.in-Ok.ensures.asked.1.order c.in-Ok.ensures.places.known c.in-Ok.ensures.kept.clean c.in-Ok.ensures.kept.level
+    c.in-Ok.ensures.kept.kept c.in-Ok.ensures.kept.verdict c.in-Ok.ensures.kept.outcomes c.advance.ensures
 
 pub returns-in-Err-clause-asked : goal.returns-in-Err-clause-asked
 returns-in-Err-clause-asked g c =
@@ -104,20 +106,30 @@ returns-in-Err-clause-asked g c =
     c.args.stores.now.store c.number_done.new.stores.store c.in-Some.body.now
     (meaning c.request-request.result) (sym c.in-Some.ensures.value)
     (c.request-request.ensures.value ∙ ap (λ m. m.request) c.message-message.ensures.value)
-    (c.in-Err.ensures.asked.0, c.in-Err.ensures.asked.1.begun) (ap (λ l. l.outcomes) c.in-Err.ensures.left.ledger) refl
+    (c.in-Err.ensures.asked.0, c.in-Err.ensures.asked.1.begun) c.in-Err.ensures.left.stop (ap (λ l. l.outcomes) c.in-Err.ensures.left.ledger) refl
 
 pub returns-in-Ok-clause-ordered : goal.returns-in-Ok-clause-ordered
-returns-in-Ok-clause-ordered g c = λ honest honest_notes first log h existed noted untried.
+returns-in-Ok-clause-ordered g c = λ honest honest_notes first log h existed noted order.
     let r : Request = meaning c.request-request.result in
     let prefix = prefix_here first log c.args.progress.now c.args.window.now _ h (message_of c.message-message.result) r
     c.digest.result.now c.in-Some.body.now (sym c.in-Some.ensures.value) c.message-message.ensures.spelled
     c.request-request.ensures.value c.request-request.ensures.fits c.digest.ensures in
-    c.in-Ok.ensures.ordered honest honest_notes first log prefix.0 prefix.1 existed noted untried
+    order_as _ _ _ _ _ _ _ _ (λ none. absurd none)
+    (c.in-Ok.ensures.ordered honest honest_notes first log prefix.0 prefix.1 existed noted
+    (order_as _ _ _ _ _ _ _ _ (carried_next (kept_with c.args.progress.now c.args.window.now) c.in-Some.body.now r
+    (sym c.in-Some.ensures.value)
+    (c.request-request.ensures.value ∙ ap (λ m. m.request) c.message-message.ensures.value)) order))
 
 pub returns-in-Err-clause-ordered : goal.returns-in-Err-clause-ordered
-returns-in-Err-clause-ordered g c = λ honest honest_notes first log h existed noted untried.
+returns-in-Err-clause-ordered g c = λ honest honest_notes first log h existed noted order.
     let r : Request = meaning c.request-request.result in
     let prefix = prefix_here first log c.args.progress.now c.args.window.now _ h (message_of c.message-message.result) r
     c.digest.result.now c.in-Some.body.now (sym c.in-Some.ensures.value) c.message-message.ensures.spelled
     c.request-request.ensures.value c.request-request.ensures.fits c.digest.ensures in
-    c.in-Err.ensures.ordered honest honest_notes first log prefix.0 prefix.1 existed noted untried
+    let here = sym c.in-Some.ensures.value in
+    let read = c.request-request.ensures.value ∙ ap (λ m. m.request) c.message-message.ensures.value in
+    order_as _ _ _ _ _ _ _ _
+    (next_carried (kept_with c.number_done.new.self c.args.window.now) c.in-Some.body.now r here read)
+    (c.in-Err.ensures.ordered honest honest_notes first log prefix.0 prefix.1 existed noted
+    (order_as _ _ _ _ _ _ _ _ (carried_next (kept_with c.args.progress.now c.args.window.now) c.in-Some.body.now r
+    here read) order))

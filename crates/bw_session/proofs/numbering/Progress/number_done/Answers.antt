@@ -1,6 +1,6 @@
 use Rattle.std.proofs.lemmas.Result.{err_from_is_err_and}
 use Rattle.bw_session.proofs.NoteForms.{begun_in_part, begun_notes, carried_noted, carried_in_part}
-use Rattle.std.proofs.Common.{ap, ◌∙◌, ◌≤◌, inr, rules, ◌≡◌, ℕ, List, Ok, refl, true, sym, subst}
+use Rattle.std.proofs.Common.{ap, ◌∙◌, ◌≤◌, inl, inr, rules, ◌≡◌, ℕ, List, Ok, refl, true, false, sym, subst}
 use Rattle.bw_model.specs.Take.{Parts, Request, Verdict, AreFields}
 use Rattle.bw_request.specs.Requests.{meaning}
 use Rattle.bw_request.specs.Verdicts.{verdict_meaning}
@@ -8,15 +8,14 @@ use Rattle.bw_session.specs.Prefixes.{HoldsPrefix}
 use Rattle.bw_session.specs.Numbered.{IsNext, IsDone, noted_of}
 use Rattle.bw_journal.specs.Notes.{NotesInPart}
 use Rattle.bw_session.proofs.NumberForms.{done_again, done_next}
+use Rattle.bw_session.proofs.PlanForms.{nothing_left, carried_by, not_carried}
 use Rattle.bw_store.proofs.Asked.{gets_all}
 use Rattle.bw_session.specs.Carrying.{judged_plan, AsksJudged}
-use Rattle.bw_store.specs.StoreSteps.{WasAskedFirst}
+use Rattle.bw_model.specs.Counts.{Counts}
+use Rattle.bw_store.specs.StoreSteps.{WasAsked, WasAskedFirst}
 use Rattle.bw_session.proofs.AskForms.{verdict_by, keeps_judged}
-use Rattle.bw_model.specs.Take.{after}
-use Rattle.bw_file.specs.Growing.{Growing}
-use Rattle.bw_session.specs.Prefixes.{take_done, FileFollows}
 use Rattle.bw_session.proofs.NoteForms.{carried_entry}
-use Rattle.bw_session.proofs.OrderForms.{order_unbegun, order_unwritten, order_unnoted, noted_ends}
+use Rattle.bw_session.proofs.OrderForms.{order_unbegun, order_unwritten, order_unnoted, order_done}
 use Rattle.bw_session.proofs.numbering.Progress.number_done.Goals as goal
 
 pub returns-in_default-clause-done : goal.returns-in_default-clause-done
@@ -154,13 +153,14 @@ returns-clause-asked g c = (
 pub returns-clause-kept : goal.returns-clause-kept
 returns-clause-kept g c = record {
   kept = keeps_judged c.args.self.now.state.parts c.carry_out.new.state.parts c.settle.new.state.parts
-      (meaning c.args.request.now) (verdict_meaning c.in_ok-verdict.verdict) (search rules)
+      (meaning c.args.request.now) (verdict_meaning c.in_ok-verdict.verdict) c.carry_out.ensures.parts.parts
       c.in_ok-verdict.ensures.verdict c.settle.ensures.parts;
   verdict = verdict_by c.args.self.now.state.parts c.carry_out.new.state.parts c.settle.new.state.parts
-      (meaning c.args.request.now) (verdict_meaning c.in_ok-verdict.verdict) (search rules)
+      (meaning c.args.request.now) (verdict_meaning c.in_ok-verdict.verdict) c.carry_out.ensures.parts.parts
       c.in_ok-verdict.ensures.verdict c.settle.ensures.parts;
   outcomes = c.settle.ensures.outcomes;
   clean = c.in_ok-verdict.ensures.clean;
+  level = c.carry_out.ensures.level;
 }
 
 pub returns-in_default-clause-left : goal.returns-in_default-clause-left
@@ -168,8 +168,20 @@ returns-in_default-clause-left g c = record {
   ledger = refl;
   noted = refl;
   room = search rules;
-  parts = search rules;
+  parts = c.carry_out.ensures.parts.parts;
   again = search rules;
+  stop = inr (inr (record {
+    counted = subst (λ s. Counts (g.S.TakeStore.failures c.args.stores.now.store) (g.S.TakeStore.failures s) false)
+        (sym c.note.ensures.store) c.in_ok-verdict.ensures.shared.failures;
+    is_made = c.carry_out.new.growing.made;
+    asked = subst (λ s. WasAsked g.S.TakeStore (judged_plan c.args.self.now.growing c.args.self.now.state.parts
+        (meaning c.args.request.now) c.carry_out.new.growing.made) c.args.stores.now.store s) (sym c.note.ensures.store)
+        c.in_ok-verdict.ensures.asked.order;
+    again = λ b. nothing_left c.mark_written.new.growing c.carry_out.new.state.parts (meaning c.args.request.now) b
+        (carried_by c.carry_out.new.growing c.mark_written.new.growing c.carry_out.new.state.parts
+        (meaning c.args.request.now) (verdict_meaning c.in_ok-verdict.verdict) c.in_ok-verdict.ensures.verdict
+        c.mark_written.ensures);
+  }));
   unnoted = search rules;
 }
 
@@ -182,6 +194,7 @@ returns-in_err-begin_notes-clause-left g c =
       room = refl;
       parts = refl;
       again = c.requires.dirty;
+      stop = inl (refl, refl, refl);
       unnoted = search rules;
     })
 
@@ -192,40 +205,39 @@ returns-in_err-verdict-clause-left g c =
       ledger = refl;
       noted = refl;
       room = search rules;
-      parts = search rules;
+      parts = c.carry_out.ensures.parts.parts;
       again = search rules;
+      stop = inr (inl (c.in_err-verdict.ensures.shared.failures, c.carry_out.ensures.level));
       unnoted = search rules;
     })
 
 pub returns-in_err-begin_notes-clause-ordered : goal.returns-in_err-begin_notes-clause-ordered
-returns-in_err-begin_notes-clause-ordered g c = λ honest honest_notes first log n h existed noted untried.
+returns-in_err-begin_notes-clause-ordered g c = λ honest honest_notes first log n h existed noted order.
     let answer = err_from_is_err_and c.from_residual.result c.from_residual.ensures.1 in
     let none : log.done ≡ 0 = sym (c.len.ensures.value ∙ h.memory.done) ∙ c.in_err-begin_notes.ensures.first in
-    rw answer.1 (order_unbegun first (g.J.Journal.header c.args.stores.now.journal c.args.self.now.name) log
-    c.args.self.now.state.parts c.args.self.now.ledger.outcomes (meaning c.args.request.now)
-    c.args.self.now.growing.name c.args.self.now.name c.args.digest.now existed c.args.self.now.same_name h.memory n
-    c.args.self.now.growing c.args.self.now.growing.limit c.args.self.now.noted _ _ _ noted untried.ends none
-    (c.in_err-begin_notes.ensures.failed honest_notes) h.file untried.clean)
+    rw answer.1 (order_unbegun (g.J.Journal.header c.args.stores.now.journal c.args.self.now.name) first
+    c.args.self.now.name log c.args.self.now.noted _ _ _ _ noted order none
+    (c.in_err-begin_notes.ensures.failed honest_notes))
 
 pub returns-in_err-verdict-clause-ordered : goal.returns-in_err-verdict-clause-ordered
-returns-in_err-verdict-clause-ordered g c = λ honest honest_notes first log n h existed noted untried.
+returns-in_err-verdict-clause-ordered g c = λ honest honest_notes first log n h existed noted order.
     let answer = err_from_is_err_and c.from_residual-in_err-verdict.result c.from_residual-in_err-verdict.ensures.1 in
     let done : c.len.result ≡ log.done = c.len.ensures.value ∙ h.memory.done in
-    rw answer.1 (order_unwritten first (g.J.Journal.header c.args.stores.now.journal c.args.self.now.name) log
-    c.args.self.now.state.parts c.args.self.now.ledger.outcomes (meaning c.args.request.now)
-    c.args.self.now.growing.name c.args.self.now.name c.args.digest.now existed c.args.self.now.same_name h.memory n
-    c.args.self.now.growing.limit c.args.self.now.noted _ _ _ noted untried.ends
-    (begun_notes (g.J.Journal.header c.args.stores.now.journal c.args.self.now.name)
+    let entries = begun_notes (g.J.Journal.header c.args.stores.now.journal c.args.self.now.name)
     c.args.self.now.name log c.args.self.now.noted _ _ noted
     (λ none. c.in_ok-begin_notes.ensures.begun (done ∙ none) honest_notes)
     (λ some. ap (λ j. g.J.Journal.notes j c.args.self.now.name)
-    (c.in_ok-begin_notes.ensures.later (subst (λ (k : ℕ). 1 ≤ k) (sym done) some))))
+    (c.in_ok-begin_notes.ensures.later (subst (λ (k : ℕ). 1 ≤ k) (sym done) some))) in
+    rw answer.1 (order_unwritten (g.J.Journal.header c.args.stores.now.journal c.args.self.now.name) first
+    c.args.self.now.name log c.args.self.now.noted _ _ _ _ _ _ noted order
+    (not_carried c.args.self.now.growing c.args.self.now.state.parts (meaning c.args.request.now)
+    c.in_err-verdict.ensures.touched c.in_err-verdict.ensures.dirty.0) entries
     (λ none. c.in_ok-begin_notes.ensures.begun (done ∙ none) honest_notes)
     (λ some. ap (λ j. g.J.Journal.notes j c.args.self.now.name)
     (c.in_ok-begin_notes.ensures.later (subst (λ (k : ℕ). 1 ≤ k) (sym done) some))))
 
 pub returns-in_default-clause-ordered : goal.returns-in_default-clause-ordered
-returns-in_default-clause-ordered g c = λ honest honest_notes first log n h existed noted untried.
+returns-in_default-clause-ordered g c = λ honest honest_notes first log n h existed noted order.
     let r : Request = meaning c.args.request.now in
     let v : Verdict = verdict_meaning c.in_ok-verdict.verdict in
     let finished : List (List ℕ × Verdict) = c.args.self.now.ledger.outcomes in
@@ -244,20 +256,16 @@ returns-in_default-clause-ordered g c = λ honest honest_notes first log n h exi
     (g.J.Journal.notes c.begin_notes.new.journal c.args.self.now.name)
     (g.J.Journal.notes c.note.new.self.journal c.args.self.now.name) =
     let failed = c.in_default.ensures.failed (c.begin_notes.ensures.journal.honest ∙ honest_notes) in search rules in
-    let file = subst (λ (x : List ℕ). FileFollows first (after (take_done first log) r) c.carry_out.new.growing
-    (g.S.TakeStore.contents c.note.new.self.store x)) name
-    (subst (λ s. FileFollows first (after (take_done first log) r) c.carry_out.new.growing
-    (g.S.TakeStore.contents s c.args.self.now.growing.name)) (sym c.note.ensures.store) carried.file) in
-    order_unnoted first (g.J.Journal.header c.args.stores.now.journal c.args.self.now.name) log
-    c.args.self.now.state.parts finished r c.args.self.now.growing.name c.args.self.now.name c.args.digest.now existed name
-    h.memory n c.carry_out.new.growing c.args.self.now.growing.limit c.args.self.now.noted
-    (noted_of v c.args.digest.now r) _ _ _ noted.offset_is entries
+    order_unnoted (g.J.Journal.header c.args.stores.now.journal c.args.self.now.name) first c.args.self.now.name log
+    c.args.self.now.noted (noted_of v c.args.digest.now r) _ _ _ _ noted.offset_is entries
     (carried_entry first (g.J.Journal.header c.args.stores.now.journal c.args.self.now.name) log v
     c.carry_out.new.state.parts finished r c.carry_out.new.growing _ c.args.self.now.name c.args.digest.now existed later
-    carried n) left file (ap (λ (x : Growing). x.limit) c.in_ok-verdict.ensures.known)
+    carried n) left
+    (carried_by c.carry_out.new.growing c.mark_written.new.growing c.carry_out.new.state.parts r v
+    c.in_ok-verdict.ensures.verdict c.mark_written.ensures)
 
 pub returns-clause-ordered : goal.returns-clause-ordered
-returns-clause-ordered g c = λ honest honest_notes first log n h existed noted untried.
+returns-clause-ordered g c = λ honest honest_notes first log n h existed noted order.
     let r : Request = meaning c.args.request.now in
     let v : Verdict = verdict_meaning c.in_ok-verdict.verdict in
     let finished : List (List ℕ × Verdict) = c.args.self.now.ledger.outcomes in
@@ -272,12 +280,9 @@ returns-clause-ordered g c = λ honest honest_notes first log n h existed noted 
     (λ none. c.in_ok-begin_notes.ensures.begun (done ∙ none) honest_notes)
     (λ some. ap (λ j. g.J.Journal.notes j c.args.self.now.name)
     (c.in_ok-begin_notes.ensures.later (subst (λ (k : ℕ). 1 ≤ k) (sym done) some))) in
-    record {
-      clean = c.in_ok-verdict.ensures.clean;
-      ends = noted_ends (g.J.Journal.header c.args.stores.now.journal c.args.self.now.name) c.args.self.now.name log
-          c.args.self.now.noted c.in-Ok.len (noted_of v c.args.digest.now r) _ _ noted.offset_is entries
-          (carried_entry first (g.J.Journal.header c.args.stores.now.journal c.args.self.now.name) log v
-          c.carry_out.new.state.parts finished r c.carry_out.new.growing _ c.args.self.now.name c.args.digest.now existed
-          later carried n) c.in-Ok.ensures.value
-          (c.in-Ok.ensures.noted (c.begin_notes.ensures.journal.honest ∙ honest_notes));
-    }
+    order_done (g.J.Journal.header c.args.stores.now.journal c.args.self.now.name) first c.args.self.now.name log
+    c.args.self.now.noted c.in-Ok.len (noted_of v c.args.digest.now r) _ _ _ _ noted.offset_is entries
+    (carried_entry first (g.J.Journal.header c.args.stores.now.journal c.args.self.now.name) log v
+    c.carry_out.new.state.parts finished r c.carry_out.new.growing _ c.args.self.now.name c.args.digest.now existed later
+    carried n) c.in-Ok.ensures.value
+    (c.in-Ok.ensures.noted (c.begin_notes.ensures.journal.honest ∙ honest_notes))

@@ -29,14 +29,12 @@ use Rattle.bw_session.specs.Tables.{session_in}
 use Rattle.bw_session.proofs.ServerForms.{table_set, book_turned, inserted, one_more, unknown_here, put_here}
 use Rattle.bw_session.proofs.AnswerForms.{answers_served, answers_known, none_away}
 use Rattle.bw_session.proofs.RunForms.{noted_then}
-use Rattle.bw_session.proofs.JournalForms.{notes_after, reported_here, reported_others}
+use Rattle.bw_session.proofs.JournalForms.{notes_after, order_after, reported_here, reported_others}
 use Rattle.bw_session.proofs.CountForms.{counted}
 use Rattle.bw_session.specs.Asking.{new_part}
 use Rattle.bw_session.proofs.AskForms.{asks_at}
-use Rattle.std.proofs.Common.{true}
-use Rattle.bw_model.specs.CountedTurn.{is_pending}
-use Rattle.bw_session.specs.Ordering.{IsInOrder}
-use Rattle.bw_session.proofs.OrderForms.{step_then}
+use Rattle.bw_session.proofs.OrderForms.{order_then}
+use Rattle.bw_session.proofs.OrderSteps.{quiet_ends}
 use Rattle.bw_session.proofs.server.Server.begin.Goals as goal
 
 pub invariant_of-self-2 : goal.invariant_of-self-2
@@ -134,7 +132,7 @@ returns-clause-turned g c = record {
       c.requires.fresh in
       let unknown = unknown_here c.args.self.now.limit (store_since g.S.TakeStore first c.args.self.now.stores.store)
       (session_in c.args.self.now.sessions) book h honest m.name fresh in
-      let nothing = h.others honest m.name (inr unknown) in
+      let nothing = h.holds.others honest m.name (inr unknown) in
       let served = c.in_ok-serve.ensures.served honest (first m.name) no_log
       (subst (λ (o : Option (List ℕ)). HoldsLog (first m.name) no_log (part_of c.in_ok-session.session) o)
       (sym (ap (g.S.TakeStore.contents c.args.self.now.stores.store) owner ∙ nothing))
@@ -146,7 +144,7 @@ returns-clause-turned g c = record {
       let there = subst (λ (l : Log). ServesMessage (first m.name) l m (failures_of g.S.TakeStore g.J.Journal c.args.self.now)
       after c.serve.new.out.items (part_of s) (g.S.TakeStore.contents c.serve.new.stores.store m.name))
       (sym (unknown_log book m.name unknown)) here in
-      let count = counted c.args.self.now.sessions book c.requires.unique h.is_book c.args.self.now.table.few h.names in
+      let count = counted c.args.self.now.sessions book c.requires.unique h.holds.is_book c.args.self.now.table.few h.holds.names in
       let place = c.requires.place in
       let near = ap (λ (k : Bool). not k && nat_le window m.number) unknown ∙ lt-leb window m.number c.requires.near in
       let fits = ap (λ (k : Bool). not k && is_full book) unknown
@@ -179,7 +177,7 @@ returns-clause-turned g c = record {
       c.requires.fresh in
       let unknown = unknown_here c.args.self.now.limit (store_since g.S.TakeStore first c.args.self.now.stores.store)
       (session_in c.args.self.now.sessions) book h honest m.name fresh in
-      let nothing = h.others honest m.name (inr unknown) in
+      let nothing = h.holds.others honest m.name (inr unknown) in
       let near = ap (λ (k : Bool). not k && nat_le window m.number) unknown ∙ lt-leb window m.number c.requires.near in
       let sets = subst (λ (k : List ℕ). (n : List ℕ) → session_in c.insert.new.self n
       ≡ cond (bytes_eq k n) (Some s) (session_in c.args.self.now.sessions n)) (c.copy-2.ensures ∙ sym c.requires.name)
@@ -216,23 +214,20 @@ returns-clause-turned g c = record {
       ∙ ap (λ (l : Log). log_after l m (done_in c.insert.new.self m.name)) (unknown_log book m.name unknown)
       ∙ ap (log_after no_log m) done)
       (reported_others book m (map reply_of c.serve.new.out.items) (done_in c.insert.new.self m.name) near) noted;
-  ordered = λ honest honest_notes first book h n quiet log is waits.
+  ordered = λ honest honest_notes first book h n o.
       let m : Message = message_of c.args.message.now in
       let s : Session = c.serve.new.self in
+      let both = c.in_ok-serve.ensures.both in
       let owner : c.in_ok-session.session.progress.name ≡ m.name =
       c.in_ok-session.ensures.name ∙ c.copy.ensures ∙ sym c.requires.name in
       let fresh = subst (λ (n : List ℕ). session_in c.args.self.now.sessions n ≡ None) (sym c.requires.name)
       c.requires.fresh in
       let unknown = unknown_here c.args.self.now.limit (store_since g.S.TakeStore first c.args.self.now.stores.store)
       (session_in c.args.self.now.sessions) book h honest m.name fresh in
-      let nothing = h.others honest m.name (inr unknown) in
-      let near = ap (λ (k : Bool). not k && nat_le window m.number) unknown ∙ lt-leb window m.number c.requires.near in
+      let nothing = h.holds.others honest m.name (inr unknown) in
       let sets = subst (λ (k : List ℕ). (n : List ℕ) → session_in c.insert.new.self n
       ≡ cond (bytes_eq k n) (Some s) (session_in c.args.self.now.sessions n)) (c.copy-2.ensures ∙ sym c.requires.name)
       c.in-Ok.ensures.updates.0 in
-      let here = put_here (session_in c.args.self.now.sessions) (session_in c.insert.new.self) m.name s sets in
-      let done : done_in c.insert.new.self m.name ≡ length s.progress.ledger.outcomes =
-      ap (λ (o : Option Session). option_map_or (λ x. length x.progress.ledger.outcomes) o 0) here in
       let begun = subst (λ (k : List ℕ). IsNoted (g.J.Journal.header c.args.self.now.stores.journal m.name) k no_log
       c.in_ok-session.session.progress.noted (g.J.Journal.notes c.args.self.now.stores.journal m.name))
       (c.copy.ensures ∙ sym c.requires.name)
@@ -241,28 +236,22 @@ returns-clause-turned g c = record {
       (subst (λ (k : List ℕ). IsPrefixOf (header_bytes k (g.J.Journal.header c.args.self.now.stores.journal m.name))
       (g.J.Journal.notes c.args.self.now.stores.journal m.name)) (sym (c.copy.ensures ∙ sym c.requires.name))
       (n.unknown m.name fresh))) in
-      let log_is = is ∙ reported_here book m (map reply_of c.serve.new.out.items) (done_in c.insert.new.self m.name) near
-      ∙ ap (λ (b : Bool). cond b (log_of book m.name) (log_after (log_of book m.name) m
-      (done_in c.insert.new.self m.name))) (none_away c.serve.new.out.items c.in_ok-serve.ensures.reported)
-      ∙ ap (λ (l : Log). log_after l m (done_in c.insert.new.self m.name)) (unknown_log book m.name unknown)
-      ∙ ap (log_after no_log m) done in
-      let step = step_then (λ hd x. is_pending (log_after no_log m (length s.progress.ledger.outcomes)) ≡ true →
-      IsInOrder hd (first m.name) x (log_after no_log m (length s.progress.ledger.outcomes)) c.args.self.now.limit
-      (g.J.Journal.notes c.serve.new.stores.journal x) (g.S.TakeStore.contents c.serve.new.stores.store x))
-      c.in_ok-session.session.progress.name m.name (g.J.Journal.header c.args.self.now.stores.journal) _ (first m.name)
-      no_log c.in_ok-session.session.progress.noted (g.J.Journal.notes c.args.self.now.stores.journal) owner refl
-      (λ e k w. subst (λ (l : ℕ). IsInOrder
-      (g.J.Journal.header c.args.self.now.stores.journal c.in_ok-session.session.progress.name) (first m.name)
-      c.in_ok-session.session.progress.name (log_after no_log m (length s.progress.ledger.outcomes)) l
-      (g.J.Journal.notes c.serve.new.stores.journal c.in_ok-session.session.progress.name)
-      (g.S.TakeStore.contents c.serve.new.stores.store c.in_ok-session.session.progress.name))
-      (ap (λ (x : Growing). x.limit) c.in_ok-session.ensures.growing)
+      let here = order_then c.in_ok-session.session.progress.name m.name
+      (g.J.Journal.header c.args.self.now.stores.journal) _ (first m.name) no_log
+      c.in_ok-session.session.progress.noted _ _ _ (g.J.Journal.notes c.args.self.now.stores.journal)
+      (g.J.Journal.notes c.serve.new.stores.journal) (g.S.TakeStore.contents c.args.self.now.stores.store)
+      (g.S.TakeStore.contents c.serve.new.stores.store) owner refl
       (c.in_ok-serve.ensures.ordered honest honest_notes (first m.name) no_log
       (subst (λ (o : Option (List ℕ)). HoldsLog (first m.name) no_log (part_of c.in_ok-session.session) o)
       (sym (ap (g.S.TakeStore.contents c.args.self.now.stores.store) owner ∙ nothing))
-      (c.in_ok-session.ensures.holds (first m.name))) e k refl w)) (n.existed m.name) begun in
-      subst (λ (l : Log). is_pending l ≡ true → IsInOrder
-      (g.J.Journal.header c.args.self.now.stores.journal m.name) (first m.name) m.name l c.args.self.now.limit
-      (g.J.Journal.notes c.serve.new.stores.journal m.name) (g.S.TakeStore.contents c.serve.new.stores.store m.name))
-      (sym log_is) step waits;
+      (c.in_ok-session.ensures.holds (first m.name)))) (n.existed m.name) begun
+      (record { begun = λ short. nothing; entered = inl (quiet_ends _ _ no_log _ _ begun refl) }) in
+      order_after (g.J.Journal.header c.args.self.now.stores.journal) (g.J.Journal.header c.serve.new.stores.journal)
+      (g.J.Journal.notes c.args.self.now.stores.journal) (g.J.Journal.notes c.serve.new.stores.journal) first
+      (g.S.TakeStore.contents c.args.self.now.stores.store) (g.S.TakeStore.contents c.serve.new.stores.store)
+      (session_in c.args.self.now.sessions) (session_in c.insert.new.self) m.name s o (both.1.headers honest_notes)
+      (subst (λ (k : List ℕ). KeepsOthers (g.J.Journal.notes c.args.self.now.stores.journal)
+      (g.J.Journal.notes c.serve.new.stores.journal) k) owner (both.1.other_notes honest_notes))
+      (subst (λ (k : List ℕ). KeepsOthers (g.S.TakeStore.contents c.args.self.now.stores.store)
+      (g.S.TakeStore.contents c.serve.new.stores.store) k) owner (both.1.others honest)) sets here;
 }

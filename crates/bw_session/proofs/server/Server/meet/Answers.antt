@@ -5,7 +5,6 @@ use Rattle.bw_model.specs.Replies as model
 use Rattle.bw_model.specs.Turn.{is_turned_away, notice, window}
 use Rattle.bw_model.specs.Book.{Book}
 use Rattle.bw_model.specs.CountedTurn.{IsTurn}
-use Rattle.bw_model.specs.Holds.{Holds}
 use Rattle.bw_session.specs.Books.{failures_of}
 use Rattle.bw_session.specs.Numbered.{failed_calls}
 use Rattle.bw_wire.specs.declared.reply.Reply.{Reply}
@@ -14,17 +13,14 @@ use Rattle.bw_wire.specs.Frames.{message_of}
 use Rattle.bw_wire.specs.Notices.{notice_meaning}
 use Rattle.bw_wire.specs.Replies.{reply_of}
 use Rattle.bw_session.specs.Journaled.{NotesNames}
-use Rattle.bw_session.specs.Servers.{kept_in, store_since, done_in}
+use Rattle.bw_session.specs.Servers.{HoldsIn, store_since, done_in}
 use Rattle.bw_session.specs.Tables.{session_in}
 use Rattle.bw_session.proofs.AnswerForms.{served_here}
 use Rattle.bw_session.proofs.ServerForms.{unknown_here}
-use Rattle.bw_session.proofs.JournalForms.{reported_away, away_either}
+use Rattle.bw_session.proofs.JournalForms.{OrderIn, reported_away, away_either}
 use Rattle.bw_session.proofs.UseForms.{timely_push, timely_notice}
 use Rattle.std.proofs.Common.{inr}
 use Rattle.bw_session.specs.Servers.{part_in}
-use Rattle.std.proofs.lemmas.Bool.{false≢true}
-use Rattle.bw_model.specs.Book.{Log, log_of}
-use Rattle.bw_model.specs.CountedTurn.{is_pending}
 use Rattle.bw_session.proofs.server.Server.meet.Goals as goal
 
 pub returns-in_default-clause-uncalled : goal.returns-in_default-clause-uncalled
@@ -75,12 +71,13 @@ returns-in-Err-clause-turned g c =
                 (failures_of g.S.TakeStore g.J.Journal c.try_meet.new.self) book (Says m) rs book) (sym reported)
                 (subst (λ (k : ℕ). IsTurn (λ n. is_some (first n)) (failures_of g.S.TakeStore g.J.Journal c.args.self.now) k
                 book (Says m) (notice m (notice_meaning c.in-Err.code) 0) book) (sym quiet) (e.refused honest first book h));
-            held = subst (λ (l : ℕ). Holds l (store_since g.S.TakeStore first c.try_meet.new.self.stores.store)
-                (kept_in c.try_meet.new.self.sessions) book) (sym c.try_meet.ensures.limit)
-                (subst (λ (s : _). Holds c.args.self.now.limit (store_since g.S.TakeStore first s)
-                (kept_in c.try_meet.new.self.sessions) book) (sym e.left.store)
-                (subst (λ (t : _). Holds c.args.self.now.limit
-                (store_since g.S.TakeStore first c.args.self.now.stores.store) (kept_in t) book) (sym e.left.sessions) h));
+            held = subst (λ (l : ℕ). HoldsIn l (store_since g.S.TakeStore first c.try_meet.new.self.stores.store)
+                (session_in c.try_meet.new.self.sessions) book) (sym c.try_meet.ensures.limit)
+                (subst (λ (s : _). HoldsIn c.args.self.now.limit (store_since g.S.TakeStore first s)
+                (session_in c.try_meet.new.self.sessions) book) (sym e.left.store)
+                (subst (λ (t : _). HoldsIn c.args.self.now.limit
+                (store_since g.S.TakeStore first c.args.self.now.stores.store) (session_in t) book)
+                (sym e.left.sessions) h));
           };
       noted = λ honest honest_notes first book h n.
           let fresh = subst (λ (k : List ℕ). session_in c.args.self.now.sessions k ≡ None) (sym c.requires.name)
@@ -96,15 +93,14 @@ returns-in-Err-clause-turned g c =
           (session_in c.try_meet.new.self.sessions) book) (sym e.left.journal)
           (subst (λ (t : _). NotesNames (g.J.Journal.header c.args.self.now.stores.journal)
           (g.J.Journal.notes c.args.self.now.stores.journal) first (session_in t) book) (sym e.left.sessions) n));
-      ordered = λ honest honest_notes first book h n quiet log is waits.
-          let fresh = subst (λ (k : List ℕ). session_in c.args.self.now.sessions k ≡ None) (sym c.requires.name)
-          c.requires.fresh in
-          let unknown = unknown_here c.args.self.now.limit (store_since g.S.TakeStore first c.args.self.now.stores.store)
-          (session_in c.args.self.now.sessions) book h honest m.name fresh in
-          let away = away_either book m (map reply_of c.push.new.self.items) unknown
-          (ap (λ (rs : List model.Reply). is_turned_away rs || nat_le window m.number) reported ∙ e.away) in
-          let same = reported_away book m (map reply_of c.push.new.self.items)
-          (done_in c.try_meet.new.self.sessions m.name) away in
-          absurd (false≢true (sym quiet ∙ ap (λ (b : Book). is_pending (log_of b m.name)) (sym same)
-          ∙ ap (λ (l : Log). is_pending l) (sym is) ∙ waits));
+      ordered = λ honest honest_notes first book h n o.
+          subst (λ (s : _). OrderIn (g.J.Journal.header c.try_meet.new.self.stores.journal)
+          (g.J.Journal.notes c.try_meet.new.self.stores.journal) first (g.S.TakeStore.contents s)
+          (session_in c.try_meet.new.self.sessions)) (sym e.left.store)
+          (subst (λ (j : _). OrderIn (g.J.Journal.header j) (g.J.Journal.notes j) first
+          (g.S.TakeStore.contents c.args.self.now.stores.store) (session_in c.try_meet.new.self.sessions))
+          (sym e.left.journal)
+          (subst (λ (t : _). OrderIn (g.J.Journal.header c.args.self.now.stores.journal)
+          (g.J.Journal.notes c.args.self.now.stores.journal) first
+          (g.S.TakeStore.contents c.args.self.now.stores.store) (session_in t)) (sym e.left.sessions) o));
     }

@@ -39,7 +39,7 @@ returns-then-len-eq-NAMES-clause-refused g c = λ honest first book h.
     let unknown = unknown_here c.args.self.now.limit (store_since g.S.TakeStore first c.args.self.now.stores.store)
     (session_in c.args.self.now.sessions) book h honest m.name fresh in
     let near : m.number < window = search rules in
-    let count = counted c.args.self.now.sessions book c.len.ensures.unique h.is_book c.args.self.now.table.few h.names in
+    let count = counted c.args.self.now.sessions book c.len.ensures.unique h.holds.is_book c.args.self.now.table.few h.holds.names in
     let full : hash_map_len c.args.self.now.sessions ≡ most_takes = search rules in
     table_full (λ n. is_some (first n)) (failures_of g.S.TakeStore g.J.Journal c.args.self.now) book m unknown near
     (count ∙ full)
@@ -52,7 +52,7 @@ returns-in-Err-clause-refused g c = λ honest first book h.
     let unknown = unknown_here c.args.self.now.limit (store_since g.S.TakeStore first c.args.self.now.stores.store)
     (session_in c.args.self.now.sessions) book h honest m.name fresh in
     let near : m.number < window = search rules in
-    let count = counted c.args.self.now.sessions book c.len.ensures.unique h.is_book c.args.self.now.table.few h.names in
+    let count = counted c.args.self.now.sessions book c.len.ensures.unique h.holds.is_book c.args.self.now.table.few h.holds.names in
     let place : hash_map_len c.args.self.now.sessions < most_takes = search rules in
     no_room (λ n. is_some (first n)) (failures_of g.S.TakeStore g.J.Journal c.args.self.now) book m unknown near
     (omega (arith, count, place))

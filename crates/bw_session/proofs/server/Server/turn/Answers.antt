@@ -8,7 +8,6 @@ use Rattle.std.specs.HashMap.{hash_map_len, spare}
 use Rattle.bw_model.specs.Wire.{Message}
 use Rattle.bw_model.specs.Book.{log_of, is_known}
 use Rattle.bw_model.specs.Turn.{is_full, most_takes, window}
-use Rattle.bw_model.specs.Holds.{Holds}
 use Rattle.bw_model.specs.CountedTurn.{book_reported}
 use Rattle.bw_file.specs.Growing.{Growing}
 use Rattle.bw_store.specs.Stores.{KeepsOthers}
@@ -18,24 +17,21 @@ use Rattle.bw_session.specs.Numbered.{KeepsBoth, failed_calls}
 use Rattle.bw_session.specs.Sessions.{CallsFew, HoldsLog, part_of}
 use Rattle.bw_wire.specs.Replies.{reply_of}
 use Rattle.bw_session.specs.Serving.{Answers, log_reported}
-use Rattle.bw_session.specs.Servers.{kept_in, store_since, done_in}
+use Rattle.bw_session.specs.Servers.{HoldsIn, kept_in, store_since, done_in}
 use Rattle.bw_session.specs.Books.{failures_of}
 use Rattle.bw_session.specs.Journaled.{NotesNames}
 use Rattle.bw_session.specs.Tables.{session_in}
 use Rattle.bw_session.specs.declared.session.Session.{Session}
 use Rattle.bw_session.proofs.AnswerForms.{answers_full}
 use Rattle.bw_session.proofs.RunForms.{noted_then}
-use Rattle.bw_session.proofs.JournalForms.{notes_after, reported_here, reported_others}
+use Rattle.bw_session.proofs.JournalForms.{OrderIn, notes_after, order_after, reported_here, reported_others}
 use Rattle.bw_session.proofs.ServerForms.{table_set, book_turned, known_here, part_here, put_here}
 use Rattle.bw_session.proofs.AdmitForms.{no_false}
 use Rattle.bw_session.proofs.UseForms.{same_kept, kept_put}
 use Rattle.bw_session.specs.Asking.{AsksInTurn, new_part}
 use Rattle.bw_session.specs.Servers.{part_in}
 use Rattle.bw_session.proofs.AskForms.{asks_at}
-use Rattle.bw_model.specs.Book.{Log}
-use Rattle.bw_model.specs.CountedTurn.{is_pending}
-use Rattle.bw_session.specs.Ordering.{IsInOrder}
-use Rattle.bw_session.proofs.OrderForms.{step_then}
+use Rattle.bw_session.proofs.OrderForms.{order_then}
 use Rattle.bw_session.proofs.server.Server.turn.Goals as goal
 
 pub answer-requires-clause-name : goal.answer-requires-clause-name
@@ -167,8 +163,8 @@ returns-in-Some-clause-turned g c = λ honest first book h.
 pub returns-in-None-clause-turned : goal.returns-in-None-clause-turned
 returns-in-None-clause-turned g c = λ honest first book h.
     let turned = c.meet.ensures.turned.turned honest first book
-    (subst (λ (t : _). Holds c.args.self.now.limit (store_since g.S.TakeStore first c.args.self.now.stores.store)
-    (kept_in t) book) (sym c.get_mut.follows.holds-at-none) h) in
+    (subst (λ (t : _). HoldsIn c.args.self.now.limit (store_since g.S.TakeStore first c.args.self.now.stores.store)
+    (session_in t) book) (sym c.get_mut.follows.holds-at-none) h) in
     record { later = turned.later; turned = turned.turned; held = turned.held }
 
 pub returns-in-Some-clause-noted : goal.returns-in-Some-clause-noted
@@ -263,18 +259,19 @@ returns-in-None-clause-asked g c =
 pub returns-in-None-clause-noted : goal.returns-in-None-clause-noted
 returns-in-None-clause-noted g c = λ honest honest_notes first book h n.
     c.meet.ensures.turned.noted honest honest_notes first book
-    (subst (λ (t : _). Holds c.args.self.now.limit (store_since g.S.TakeStore first c.args.self.now.stores.store)
-    (kept_in t) book) (sym c.get_mut.follows.holds-at-none) h)
+    (subst (λ (t : _). HoldsIn c.args.self.now.limit (store_since g.S.TakeStore first c.args.self.now.stores.store)
+    (session_in t) book) (sym c.get_mut.follows.holds-at-none) h)
     (subst (λ (t : _). NotesNames (g.J.Journal.header c.args.self.now.stores.journal)
     (g.J.Journal.notes c.args.self.now.stores.journal) first (session_in t) book)
     (sym c.get_mut.follows.holds-at-none) n)
 
 pub returns-in-Some-clause-ordered : goal.returns-in-Some-clause-ordered
-returns-in-Some-clause-ordered g c = λ honest honest_notes first book h n quiet log is waits.
+returns-in-Some-clause-ordered g c = λ honest honest_notes first book h n o.
     let s : Session = c.in-Some.session.now in
     let s' : Session = c.answer.new.self in
     let m : Message = message_of c.args.message.now in
     let table = c.args.self.now.table in
+    let both = c.answer.ensures.both in
     let limit : ℕ = c.args.self.now.limit in
     let found = subst (λ (n : List ℕ). session_in c.args.self.now.sessions n ≡ Some s) c.name-name.ensures
     (sym c.in-Some.ensures.value) in
@@ -284,43 +281,35 @@ returns-in-Some-clause-ordered g c = λ honest honest_notes first book h n quiet
     let sets = subst (λ (k : List ℕ). (n : List ℕ) → session_in (c.get_mut.follows.lender s') n
     ≡ cond (bytes_eq k n) (Some s') (session_in c.args.self.now.sessions n)) c.name-name.ensures
     (holds.3 (sym (ap is_some c.in-Some.ensures.value))).0 in
-    let here = put_here (session_in c.args.self.now.sessions) (session_in (c.get_mut.follows.lender s')) m.name s'
-    sets in
-    let done : done_in (c.get_mut.follows.lender s') m.name ≡ length s'.progress.ledger.outcomes =
-    ap (λ (o : Option Session). option_map_or (λ x. length x.progress.ledger.outcomes) o 0) here in
     let store = store_since g.S.TakeStore first c.args.self.now.stores.store in
-    let known = known_here limit store (session_in c.args.self.now.sessions) book h honest m.name s found in
     let part = part_here limit store (session_in c.args.self.now.sessions) book h honest m.name s found
     (s.progress.same_name ∙ named) limited in
-    let near : (not (is_known book m.name) && nat_le window m.number) ≡ false =
-    ap (λ (k : Bool). not k && nat_le window m.number) known in
-    let later : Log = log_reported (log_of book m.name) m (map reply_of c.answer.new.out.items)
-    (length s'.progress.ledger.outcomes) in
-    let log_is : log ≡ later = is ∙ reported_here book m (map reply_of c.answer.new.out.items)
-    (done_in (c.get_mut.follows.lender s') m.name) near
-    ∙ ap (log_reported (log_of book m.name) m (map reply_of c.answer.new.out.items)) done in
-    let step = step_then (λ hd x. is_pending later ≡ true →
-    IsInOrder hd (first m.name) x later limit
-    (g.J.Journal.notes c.answer.new.stores.journal x) (g.S.TakeStore.contents c.answer.new.stores.store x))
-    s.progress.name m.name (g.J.Journal.header c.args.self.now.stores.journal) _ (first m.name)
-    (log_of book m.name) s.progress.noted (g.J.Journal.notes c.args.self.now.stores.journal) named refl
-    (λ e k w. subst (λ (l : ℕ). IsInOrder (g.J.Journal.header c.args.self.now.stores.journal s.progress.name)
-    (first m.name) s.progress.name later l (g.J.Journal.notes c.answer.new.stores.journal s.progress.name)
-    (g.S.TakeStore.contents c.answer.new.stores.store s.progress.name)) limited
+    let here = order_then s.progress.name m.name (g.J.Journal.header c.args.self.now.stores.journal) _ (first m.name)
+    (log_of book m.name) s.progress.noted _ _ _ (g.J.Journal.notes c.args.self.now.stores.journal)
+    (g.J.Journal.notes c.answer.new.stores.journal) (g.S.TakeStore.contents c.args.self.now.stores.store)
+    (g.S.TakeStore.contents c.answer.new.stores.store) named refl
     (c.answer.ensures.ordered honest honest_notes (first m.name) (log_of book m.name)
     (subst (λ (n : List ℕ). HoldsLog (first m.name) (log_of book m.name) (part_of s)
-    (g.S.TakeStore.contents c.args.self.now.stores.store n)) (sym named) part) e k quiet w)) (n.existed m.name)
-    (n.known m.name s found) in
-    subst (λ (l : Log). is_pending l ≡ true → IsInOrder
-    (g.J.Journal.header c.args.self.now.stores.journal m.name) (first m.name) m.name l limit
-    (g.J.Journal.notes c.answer.new.stores.journal m.name) (g.S.TakeStore.contents c.answer.new.stores.store m.name))
-    (sym log_is) step waits
+    (g.S.TakeStore.contents c.args.self.now.stores.store n)) (sym named) part)) (n.existed m.name)
+    (n.known m.name s found) (o m.name s found) in
+    order_after (g.J.Journal.header c.args.self.now.stores.journal) (g.J.Journal.header c.answer.new.stores.journal)
+    (g.J.Journal.notes c.args.self.now.stores.journal) (g.J.Journal.notes c.answer.new.stores.journal) first
+    (g.S.TakeStore.contents c.args.self.now.stores.store) (g.S.TakeStore.contents c.answer.new.stores.store)
+    (session_in c.args.self.now.sessions) (session_in (c.get_mut.follows.lender s')) m.name s' o
+    (both.1.headers honest_notes)
+    (subst (λ (k : List ℕ). KeepsOthers (g.J.Journal.notes c.args.self.now.stores.journal)
+    (g.J.Journal.notes c.answer.new.stores.journal) k) named (both.1.other_notes honest_notes))
+    (subst (λ (k : List ℕ). KeepsOthers (g.S.TakeStore.contents c.args.self.now.stores.store)
+    (g.S.TakeStore.contents c.answer.new.stores.store) k) named (both.1.others honest)) sets here
 
 pub returns-in-None-clause-ordered : goal.returns-in-None-clause-ordered
-returns-in-None-clause-ordered g c = λ honest honest_notes first book h n quiet log is waits.
+returns-in-None-clause-ordered g c = λ honest honest_notes first book h n o.
     c.meet.ensures.turned.ordered honest honest_notes first book
-    (subst (λ (t : _). Holds c.args.self.now.limit (store_since g.S.TakeStore first c.args.self.now.stores.store)
-    (kept_in t) book) (sym c.get_mut.follows.holds-at-none) h)
+    (subst (λ (t : _). HoldsIn c.args.self.now.limit (store_since g.S.TakeStore first c.args.self.now.stores.store)
+    (session_in t) book) (sym c.get_mut.follows.holds-at-none) h)
     (subst (λ (t : _). NotesNames (g.J.Journal.header c.args.self.now.stores.journal)
     (g.J.Journal.notes c.args.self.now.stores.journal) first (session_in t) book)
-    (sym c.get_mut.follows.holds-at-none) n) quiet log is waits
+    (sym c.get_mut.follows.holds-at-none) n)
+    (subst (λ (t : _). OrderIn (g.J.Journal.header c.args.self.now.stores.journal)
+    (g.J.Journal.notes c.args.self.now.stores.journal) first (g.S.TakeStore.contents c.args.self.now.stores.store)
+    (session_in t)) (sym c.get_mut.follows.holds-at-none) o)

@@ -28,7 +28,7 @@ returns-clause-answered g c =
           let t = c.turn.ensures.turned honest first book h in
           let m = message_of c.args.message.now in
           let done = done_is c.turn.new.self.limit (store_since g.S.TakeStore first c.turn.new.self.stores.store)
-          (session_in c.turn.new.self.sessions) t.later t.held m.name in
+          (session_in c.turn.new.self.sessions) t.later t.held.holds m.name in
           record {
             later = t.later;
             turned = t.turned;

@@ -18,10 +18,9 @@ use Rattle.bw_session.proofs.ServeForms.{starts, starts_done, stops_at_once, end
 use Rattle.std.proofs.Common.{List, Option, ℕ}
 use Rattle.bw_session.specs.Asking.{AsksNext, holding}
 use Rattle.bw_session.proofs.AskForms.{run_after, run_tried, part_kept, run_from_one}
-use Rattle.std.specs.Bool.{MatchBool}
-use Rattle.bw_session.specs.Ordering.{IsInOrder, IsUntried}
-use Rattle.bw_session.proofs.OrderForms.{step_then}
-use Rattle.bw_session.proofs.OrderSteps.{untried_kept}
+use Rattle.bw_session.specs.Ordering.{FileComesFirst, NextIsCarriedOut}
+use Rattle.bw_session.proofs.OrderForms.{order_as, order_then}
+use Rattle.bw_session.proofs.OrderSteps.{holding_carried}
 use Rattle.bw_session.proofs.session.Session.admit_and_drain.Goals as goal
 
 pub returns-then-is_held-clause-drained : goal.returns-then-is_held-clause-drained
@@ -56,7 +55,7 @@ pub returns-in-Ok-clause-drained : goal.returns-in-Ok-clause-drained
 returns-in-Ok-clause-drained g c = λ honest first log h.
     let m : Message = message_of c.args.message.now in
     let take = c.in_ok-verdict.ensures.take in
-    let both = c.in_ok-verdict.ensures.both in
+    let both = c.in_ok-verdict.ensures.tried.both in
     let next = subst (λ (a : Result Verdict StoreFault). DrainsNext (drained_by a) first (with_message log m)
     c.do_next.new.self.progress.state.parts c.do_next.new.self.progress.ledger.outcomes c.do_next.new.self.window
     c.do_next.new.self.progress.growing
@@ -76,7 +75,7 @@ pub returns-in-Ok-clause-noted : goal.returns-in-Ok-clause-noted
 returns-in-Ok-clause-noted g c = λ honest honest_notes first log h existed noted.
     let m : Message = message_of c.args.message.now in
     let take = c.in_ok-verdict.ensures.take in
-    let both = c.in_ok-verdict.ensures.both in
+    let both = c.in_ok-verdict.ensures.tried.both in
     let next = subst (λ (a : Result Verdict StoreFault). DrainsNext (drained_by a) first (with_message log m)
     c.do_next.new.self.progress.state.parts c.do_next.new.self.progress.ledger.outcomes c.do_next.new.self.window
     c.do_next.new.self.progress.growing
@@ -150,12 +149,12 @@ returns-in-Ok-clause-run g c =
     c.do_next.new.stores.store) c.in-Ok.is c.in_ok-verdict.ensures.asked in
     let done = subst (λ (a : Result Verdict StoreFault). length c.do_next.new.self.progress.ledger.outcomes
     ≡ length c.args.self.now.progress.ledger.outcomes + drained_count (drained_by a)) c.in-Ok.is
-    c.in_ok-verdict.ensures.done in
+    c.in_ok-verdict.ensures.tried.done in
     let both = subst (λ (a : Result Verdict StoreFault). KeepsBoth g.S.TakeStore g.J.Journal (is_err a)
     c.args.self.now.progress.name c.args.stores.now.store c.do_next.new.stores.store c.args.stores.now.journal
-    c.do_next.new.stores.journal) c.in-Ok.is c.in_ok-verdict.ensures.both in
+    c.do_next.new.stores.journal) c.in-Ok.is c.in_ok-verdict.ensures.tried.both in
     let run = c.drain-in-Ok.ensures.run in
-    let before = c.in_ok-verdict.ensures.calls in
+    let before = c.in_ok-verdict.ensures.tried.calls in
     let later = run.calls in
     record {
       both = both_then g.S.TakeStore g.J.Journal _ _ _ _ _ _ _ _ _ c.in_ok-verdict.ensures.take.name both run.both;
@@ -173,12 +172,12 @@ returns-in-Err-clause-run g c =
     let m : Message = message_of c.args.message.now in
     let done = subst (λ (a : Result Verdict StoreFault). length c.do_next.new.self.progress.ledger.outcomes
     ≡ length c.args.self.now.progress.ledger.outcomes + drained_count (drained_by a)) c.in-Err.is
-    c.in_ok-verdict.ensures.done in
-    let before = c.in_ok-verdict.ensures.calls in
+    c.in_ok-verdict.ensures.tried.done in
+    let before = c.in_ok-verdict.ensures.tried.calls in
     record {
       both = subst (λ (a : Result Verdict StoreFault). KeepsBoth g.S.TakeStore g.J.Journal (is_err a)
           c.args.self.now.progress.name c.args.stores.now.store c.do_next.new.stores.store c.args.stores.now.journal
-          c.do_next.new.stores.journal) c.in-Err.is c.in_ok-verdict.ensures.both;
+          c.do_next.new.stores.journal) c.in-Err.is c.in_ok-verdict.ensures.tried.both;
       calls = omega (arith, done, before);
       asked = run_tried g.S.TakeStore 16 (holding (part_of c.args.self.now) m) (part_of c.do_next.new.self)
           c.args.stores.now.store c.do_next.new.stores.store
@@ -201,40 +200,35 @@ returns-in_err-verdict-clause-refused g c =
     rw answer.1 c.in_err-verdict.ensures.refused
 
 pub returns-then-is_held-clause-ordered : goal.returns-then-is_held-clause-ordered
-returns-then-is_held-clause-ordered g c = λ honest honest_notes first log h existed noted untried.
+returns-then-is_held-clause-ordered g c = λ honest honest_notes first log h existed noted order.
     let m : Message = message_of c.args.message.now in
     let kept = c.in_ok-admit.ensures.progress in
-    step_then (λ hd x. MatchBool c.drain.result
-    (IsInOrder hd first x (with_more_done (with_message log m) (length c.drain.new.out.items))
-    c.args.self.now.progress.growing.limit (g.J.Journal.notes c.drain.new.stores.journal x)
-    (g.S.TakeStore.contents c.drain.new.stores.store x))
-    (IsUntried g.S.TakeStore g.J.Journal c.drain.new.self.progress c.drain.new.stores))
-    c.admit.new.self.progress.name c.args.self.now.progress.name
+    let held = part_kept c.args.self.now c.admit.new.self kept
+    ∙ ap (λ (w : List (Option (List ℕ))). record (part_of c.args.self.now) { window = w }) c.in_ok-admit.ensures.held in
+    order_then c.admit.new.self.progress.name c.args.self.now.progress.name
     (g.J.Journal.header c.args.stores.now.journal) _ first
-    (with_more_done (with_message log m) (length c.args.out.now.items)) c.admit.new.self.progress.noted
-    (g.J.Journal.notes c.args.stores.now.journal) kept.name refl
-    (λ e n. subst (λ (k : ℕ). MatchBool c.drain.result
-    (IsInOrder (g.J.Journal.header c.args.stores.now.journal c.admit.new.self.progress.name) first
-    c.admit.new.self.progress.name (with_more_done (with_message log m) (length c.drain.new.out.items)) k
-    (g.J.Journal.notes c.drain.new.stores.journal c.admit.new.self.progress.name)
-    (g.S.TakeStore.contents c.drain.new.stores.store c.admit.new.self.progress.name))
-    (IsUntried g.S.TakeStore g.J.Journal c.drain.new.self.progress c.drain.new.stores))
-    (ap (λ (x : Growing). x.limit) kept.growing)
+    (with_more_done (with_message log m) (length c.args.out.now.items)) c.admit.new.self.progress.noted _ _ _
+    (g.J.Journal.notes c.args.stores.now.journal) (g.J.Journal.notes c.drain.new.stores.journal)
+    (g.S.TakeStore.contents c.args.stores.now.store) (g.S.TakeStore.contents c.drain.new.stores.store) kept.name refl
     (c.drain.ensures.ordered honest honest_notes first (with_message log m)
     (starts first log m (part_of c.args.self.now) _ h c.get.ensures.slots (part_of c.admit.new.self)
     c.args.out.now.items (g.S.TakeStore.contents c.args.stores.now.store) c.args.self.now.progress.name
-    c.admit.new.self.progress.name c.requires.empty (sym kept.name) (c.in_ok-admit.ensures.ok first log _ h))
-    e n (untried_kept g.S.TakeStore g.J.Journal c.args.self.now.progress c.admit.new.self.progress c.args.stores.now
-    kept untried)))
+    c.admit.new.self.progress.name c.requires.empty (sym kept.name) (c.in_ok-admit.ensures.ok first log _ h)))
     existed
     (noted_start _ c.args.self.now.progress.name (with_message log m) c.admit.new.self.progress.noted _
     c.args.out.now.items c.requires.empty (c.in_ok-admit.ensures.noted first log _ _ _ h noted))
+    (subst (λ (n : ℕ). FileComesFirst (g.J.Journal.header c.args.stores.now.journal c.args.self.now.progress.name) first
+    c.args.self.now.progress.name n (NextIsCarriedOut (part_of c.admit.new.self))
+    (g.J.Journal.notes c.args.stores.now.journal c.args.self.now.progress.name)
+    (g.S.TakeStore.contents c.args.stores.now.store c.args.self.now.progress.name)) (sym kept.noted)
+    (order_as _ _ _ _ _ _ _ _ (holding_carried (part_of c.args.self.now) (part_of c.admit.new.self)
+    (length c.args.self.now.progress.ledger.outcomes) m held) order))
 
 pub returns-in-Ok-clause-ordered : goal.returns-in-Ok-clause-ordered
-returns-in-Ok-clause-ordered g c = λ honest honest_notes first log h existed noted untried.
+returns-in-Ok-clause-ordered g c = λ honest honest_notes first log h existed noted order.
     let m : Message = message_of c.args.message.now in
     let take = c.in_ok-verdict.ensures.take in
-    let both = c.in_ok-verdict.ensures.both in
+    let both = c.in_ok-verdict.ensures.tried.both in
     let next = subst (λ (a : Result Verdict StoreFault). DrainsNext (drained_by a) first (with_message log m)
     c.do_next.new.self.progress.state.parts c.do_next.new.self.progress.ledger.outcomes c.do_next.new.self.window
     c.do_next.new.self.progress.growing
@@ -246,54 +240,23 @@ returns-in-Ok-clause-ordered g c = λ honest honest_notes first log h existed no
     c.do_next.new.self.progress.noted
     (g.J.Journal.notes c.do_next.new.stores.journal c.args.self.now.progress.name)) c.in-Ok.is
     (c.in_ok-verdict.ensures.noted honest honest_notes first log h existed noted) in
-    let tried = subst (λ (a : Result Verdict StoreFault). MatchBool (is_err a)
-    (IsInOrder (g.J.Journal.header c.args.stores.now.journal c.args.self.now.progress.name) first
-    c.args.self.now.progress.name (with_message log m) c.args.self.now.progress.growing.limit
-    (g.J.Journal.notes c.do_next.new.stores.journal c.args.self.now.progress.name)
-    (g.S.TakeStore.contents c.do_next.new.stores.store c.args.self.now.progress.name))
-    (IsUntried g.S.TakeStore g.J.Journal c.do_next.new.self.progress c.do_next.new.stores)) c.in-Ok.is
-    (c.in_ok-verdict.ensures.ordered honest honest_notes first log h existed noted untried) in
-    step_then (λ hd x. MatchBool c.drain-in-Ok.result
-    (IsInOrder hd first x (with_more_done (with_message log m) (length c.drain-in-Ok.new.out.items))
-    c.args.self.now.progress.growing.limit (g.J.Journal.notes c.drain-in-Ok.new.stores.journal x)
-    (g.S.TakeStore.contents c.drain-in-Ok.new.stores.store x))
-    (IsUntried g.S.TakeStore g.J.Journal c.drain-in-Ok.new.self.progress c.drain-in-Ok.new.stores))
-    c.do_next.new.self.progress.name c.args.self.now.progress.name
+    order_then c.do_next.new.self.progress.name c.args.self.now.progress.name
     (g.J.Journal.header c.do_next.new.stores.journal) _ first
-    (with_more_done (with_message log m) (length c.push.new.self.items)) c.do_next.new.self.progress.noted
-    (g.J.Journal.notes c.do_next.new.stores.journal) take.name
+    (with_more_done (with_message log m) (length c.push.new.self.items)) c.do_next.new.self.progress.noted _ _ _
+    (g.J.Journal.notes c.do_next.new.stores.journal) (g.J.Journal.notes c.drain-in-Ok.new.stores.journal)
+    (g.S.TakeStore.contents c.do_next.new.stores.store) (g.S.TakeStore.contents c.drain-in-Ok.new.stores.store) take.name
     (both.headers honest_notes c.args.self.now.progress.name)
-    (λ e n. subst (λ (k : ℕ). MatchBool c.drain-in-Ok.result
-    (IsInOrder (g.J.Journal.header c.do_next.new.stores.journal c.do_next.new.self.progress.name) first
-    c.do_next.new.self.progress.name (with_more_done (with_message log m) (length c.drain-in-Ok.new.out.items)) k
-    (g.J.Journal.notes c.drain-in-Ok.new.stores.journal c.do_next.new.self.progress.name)
-    (g.S.TakeStore.contents c.drain-in-Ok.new.stores.store c.do_next.new.self.progress.name))
-    (IsUntried g.S.TakeStore g.J.Journal c.drain-in-Ok.new.self.progress c.drain-in-Ok.new.stores))
-    (ap (λ (x : Growing). x.limit) take.growing)
     (c.drain-in-Ok.ensures.ordered (both.honest ∙ honest) (both.honest_notes ∙ honest_notes) first (with_message log m)
     (starts_done first log m (part_of c.args.self.now) _ h c.get.ensures.slots c.number-in-Ok.result c.in-Ok.verdict
     c.name.result c.push.new.self.items c.args.out.now.items (part_of c.do_next.new.self)
     (g.S.TakeStore.contents c.do_next.new.stores.store) c.args.self.now.progress.name
     c.do_next.new.self.progress.name c.requires.empty c.push.ensures.items
     (ap (λ (x : Growing). x.name) take.growing ∙ c.args.self.now.progress.same_name ∙ sym c.requires.name
-    ∙ sym c.name.ensures) (search rules) (sym take.name) next)
-    e n tried))
+    ∙ sym c.name.ensures) (search rules) (sym take.name) next))
     existed
     (noted_one _ c.args.self.now.progress.name (with_message log m) c.do_next.new.self.progress.noted _ _
     c.push.new.self.items c.args.out.now.items c.requires.empty c.push.ensures.items one)
+    (c.in_ok-verdict.ensures.ordered honest honest_notes first log h existed noted order)
 
 pub returns-in-Err-clause-ordered : goal.returns-in-Err-clause-ordered
-returns-in-Err-clause-ordered g c = λ honest honest_notes first log h existed noted untried.
-    let m : Message = message_of c.args.message.now in
-    let here : log.done ≡ log.done + length c.args.out.now.items = omega (arith, ap length c.requires.empty) in
-    subst (λ (n : ℕ). IsInOrder (g.J.Journal.header c.args.stores.now.journal c.args.self.now.progress.name) first
-    c.args.self.now.progress.name (record (with_message log m) { done = n }) c.args.self.now.progress.growing.limit
-    (g.J.Journal.notes c.do_next.new.stores.journal c.args.self.now.progress.name)
-    (g.S.TakeStore.contents c.do_next.new.stores.store c.args.self.now.progress.name)) here
-    (subst (λ (a : Result Verdict StoreFault). MatchBool (is_err a)
-    (IsInOrder (g.J.Journal.header c.args.stores.now.journal c.args.self.now.progress.name) first
-    c.args.self.now.progress.name (with_message log m) c.args.self.now.progress.growing.limit
-    (g.J.Journal.notes c.do_next.new.stores.journal c.args.self.now.progress.name)
-    (g.S.TakeStore.contents c.do_next.new.stores.store c.args.self.now.progress.name))
-    (IsUntried g.S.TakeStore g.J.Journal c.do_next.new.self.progress c.do_next.new.stores)) c.in-Err.is
-    (c.in_ok-verdict.ensures.ordered honest honest_notes first log h existed noted untried))
+returns-in-Err-clause-ordered g c = c.in_ok-verdict.ensures.ordered

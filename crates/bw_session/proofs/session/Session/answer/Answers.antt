@@ -1,4 +1,4 @@
-use Rattle.std.proofs.Common.{◌≡◌, ◌++◌, ℕ, List, [], ◌∷◌, true, false, length, map, refl, sym, ◌∙◌, ap, subst, Bool, cond}
+use Rattle.std.proofs.Common.{◌≡◌, ◌++◌, ℕ, List, [], ◌∷◌, true, false, length, map, refl, sym, ◌∙◌, ap, subst, Bool, cond, Option}
 use Rattle.bw_model.specs.Wire.{Message}
 use Rattle.bw_model.specs.Replies as model
 use Rattle.bw_model.specs.Turn.{notice, is_turned_away}
@@ -11,9 +11,9 @@ use Rattle.bw_session.specs.Noting.{IsNoted}
 use Rattle.bw_session.specs.Serving.{Answers, log_after}
 use Rattle.bw_session.proofs.AnswerForms.{answers_served, answers_refused, same_part, served_here, none_away}
 use Rattle.bw_session.proofs.UseForms.{timely_push, timely_notice}
-use Rattle.std.proofs.lemmas.Bool.{false≢true}
-use Rattle.bw_model.specs.CountedTurn.{is_pending}
-use Rattle.bw_session.specs.Ordering.{IsInOrder}
+use Rattle.bw_session.specs.Ordering.{FileComesFirst, NextIsCarriedOut}
+use Rattle.bw_session.proofs.AskForms.{part_kept}
+use Rattle.bw_session.proofs.OrderForms.{order_as}
 use Rattle.bw_session.proofs.session.Session.answer.Goals as goal
 
 pub returns-in_default-clause-answers : goal.returns-in_default-clause-answers
@@ -90,26 +90,23 @@ pub returns-in-Err-clause-uncalled : goal.returns-in-Err-clause-uncalled
 returns-in-Err-clause-uncalled g c = λ away. c.in-Err.ensures.refused.left
 
 pub returns-in_default-clause-ordered : goal.returns-in_default-clause-ordered
-returns-in_default-clause-ordered g c = λ honest honest_notes first log h existed noted quiet.
-    let m : Message = message_of c.args.message.now in
-    subst (λ (b : Bool).
-    is_pending (cond b log (log_after log m (length c.serve.new.self.progress.ledger.outcomes))) ≡ true →
-    IsInOrder (g.J.Journal.header c.args.stores.now.journal c.args.self.now.progress.name) first
-    c.args.self.now.progress.name
-    (cond b log (log_after log m (length c.serve.new.self.progress.ledger.outcomes)))
-    c.args.self.now.progress.growing.limit (g.J.Journal.notes c.serve.new.stores.journal c.args.self.now.progress.name)
-    (g.S.TakeStore.contents c.serve.new.stores.store c.args.self.now.progress.name))
-    (sym (none_away c.serve.new.out.items c.in_default.ensures.reported))
-    (c.in_default.ensures.ordered honest honest_notes first log h existed noted quiet)
+returns-in_default-clause-ordered g c = c.in_default.ensures.ordered
 
 pub returns-in-Err-clause-ordered : goal.returns-in-Err-clause-ordered
-returns-in-Err-clause-ordered g c = λ honest honest_notes first log h existed noted quiet waits.
-    let m : Message = message_of c.args.message.now in
-    let e = c.in-Err.ensures in
-    let reported : map reply_of c.push.new.self.items ≡ reply_of c.notice.result ∷ [] =
-    ap (map reply_of) (c.push.ensures.items ∙ ap (λ (rs : List Reply). rs ++ c.notice.result ∷ []) e.unreported) in
-    let away : is_turned_away (map reply_of c.push.new.self.items) ≡ true =
-    ap is_turned_away (reported ∙ ap (λ (r : model.Reply). r ∷ []) c.notice.ensures.value) in
-    absurd (false≢true (sym quiet
-    ∙ ap (λ (b : Bool).
-    is_pending (cond b log (log_after log m (length c.serve.new.self.progress.ledger.outcomes)))) (sym away) ∙ waits))
+returns-in-Err-clause-ordered g c = λ honest honest_notes first log h existed noted order.
+    let name : List ℕ = c.args.self.now.progress.name in
+    let head = g.J.Journal.header c.args.stores.now.journal name in
+    let left = c.in-Err.ensures.refused.left in
+    let same : part_of c.serve.new.self ≡ part_of c.args.self.now =
+    part_kept c.args.self.now c.serve.new.self left.progress
+    ∙ ap (λ (w : List (Option (List ℕ))). record (part_of c.args.self.now) { window = w }) left.window in
+    subst (λ (s : _). FileComesFirst head first name c.serve.new.self.progress.noted
+    (NextIsCarriedOut (part_of c.serve.new.self)) (g.J.Journal.notes c.serve.new.stores.journal name)
+    (g.S.TakeStore.contents s name)) (sym left.store)
+    (subst (λ (j : _). FileComesFirst head first name c.serve.new.self.progress.noted
+    (NextIsCarriedOut (part_of c.serve.new.self)) (g.J.Journal.notes j name)
+    (g.S.TakeStore.contents c.args.stores.now.store name)) (sym left.journal)
+    (subst (λ (n : ℕ). FileComesFirst head first name n (NextIsCarriedOut (part_of c.serve.new.self))
+    (g.J.Journal.notes c.args.stores.now.journal name) (g.S.TakeStore.contents c.args.stores.now.store name))
+    (sym left.progress.noted)
+    (order_as _ _ _ _ _ _ _ _ (subst NextIsCarriedOut (sym same)) order)))

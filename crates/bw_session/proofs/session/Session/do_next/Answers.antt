@@ -1,5 +1,5 @@
 use Rattle.std.proofs.Common.{◌≡◌, ◌+◌, ◌<◌, ◌≤◌, ℕ, List, Option, Some, [], ◌∷◌, ◌++◌, None, length, refl, sym, ◌∙◌}
-use Rattle.std.proofs.Common.{ap, rules, subst, arith, drop}
+use Rattle.std.proofs.Common.{ap, rules, subst, arith, drop, true, false}
 use Rattle.std.proofs.lemmas.Result.{err_from_is_err_and}
 use Rattle.std.specs.Prelude.{is_some, slice_set}
 use Rattle.std.proofs.lemmas.List.{length_push}
@@ -13,7 +13,7 @@ use Rattle.bw_wire.specs.Frames.{message_of}
 use Rattle.bw_wire.proofs.BodyLaws.{message_spelled}
 use Rattle.bw_session.specs.Windows.{count_held}
 use Rattle.bw_session.specs.Ledgers.{Entries}
-use Rattle.bw_session.specs.Carrying.{Touches, judged_plan}
+use Rattle.bw_session.specs.Carrying.{Touches, StopsAt, judged_plan}
 use Rattle.bw_session.specs.Judging.{judged_in, KeepsJudged}
 use Rattle.bw_store.specs.StoreSteps.{WasAsked, WasAskedFirst}
 use Rattle.bw_session.specs.Noting.{IsNoted}
@@ -28,9 +28,11 @@ use Rattle.bw_session.specs.Sessions.{part_of}
 use Rattle.bw_session.specs.KeptParts.{Part}
 use Rattle.bw_session.specs.Asking.{DoesFirst, TriesFirst}
 use Rattle.bw_session.proofs.AskForms.{does_first, tries_first, window_next}
-use Rattle.bw_session.specs.Ordering.{IsInOrder, IsUntried}
-use Rattle.bw_session.proofs.OrderForms.{step_then}
-use Rattle.bw_session.proofs.OrderSteps.{untried_kept}
+use Rattle.bw_session.specs.Numbered.{KeepsBoth}
+use Rattle.bw_session.specs.Ordering.{FileComesFirst, IsCarriedOut}
+use Rattle.bw_session.proofs.OrderForms.{order_as, order_then}
+use Rattle.bw_session.proofs.OrderSteps.{next_carried, none_carried}
+use Rattle.bw_model.specs.Bytes.{at}
 use Rattle.bw_session.proofs.session.Session.do_next.Goals as goal
 
 pub make_room-requires : goal.make_room-requires
@@ -225,8 +227,9 @@ returns-in-Ok-clause-asked g c =
     (c.in-Ok.ensures.places.known ∙ ap (λ (x : Growing). record x {
       made = c.number_done.new.self.growing.made;
       dirty = c.number_done.new.self.growing.dirty;
+      ahead = c.number_done.new.self.growing.ahead;
     }) kept.growing)
-    c.in-Ok.ensures.kept.clean
+    c.in-Ok.ensures.kept.clean c.in-Ok.ensures.kept.level
     (subst (λ (p : _). KeepsJudged p (meaning c.request-request.result) c.number_done.new.self.state.parts) kept.parts
     c.in-Ok.ensures.kept.kept)
     (c.in-Ok.ensures.kept.verdict ∙ ap (λ (p : _). judged_in p (meaning c.request-request.result)
@@ -265,6 +268,12 @@ returns-in-Err-clause-asked g c =
           (meaning c.request-request.result) c.in-Err.ensures.asked.0)
           c.args.stores.now.store c.number_done.new.stores.store) kept.growing c.in-Err.ensures.asked.1.begun),
     )
+    (subst (λ (p : _). StopsAt g.S.TakeStore p c.args.self.now.progress.growing (meaning c.request-request.result)
+    c.number_done.new.self.state.parts c.number_done.new.self.growing c.args.stores.now.store
+    c.number_done.new.stores.store) kept.parts
+    (subst (λ (x : Growing). StopsAt g.S.TakeStore c.make_room.new.self.progress.state.parts x
+    (meaning c.request-request.result) c.number_done.new.self.state.parts c.number_done.new.self.growing
+    c.args.stores.now.store c.number_done.new.stores.store) kept.growing c.in-Err.ensures.left.stop))
     (ap (λ (l : Entries). l.outcomes) c.in-Err.ensures.left.ledger ∙ kept.outcomes)
     (c.put.ensures
     ∙ ap (λ (x : List (Option (List ℕ))). slice_set x 0 (Some c.copy_to.result)) c.in_ok-room.ensures.window
@@ -278,8 +287,34 @@ returns-in_err-room-clause-refused g c =
       refused = search rules;
     })
 
+pub returns-in-Ok-clause-tried : goal.returns-in-Ok-clause-tried
+returns-in-Ok-clause-tried g c =
+    let kept = c.in_ok-room.ensures.progress in
+    record {
+      both = subst (λ (n : List ℕ). KeepsBoth g.S.TakeStore g.J.Journal false n c.args.stores.now.store
+          c.number_done.new.stores.store c.args.stores.now.journal c.number_done.new.stores.journal) kept.name
+          c.in-Ok.ensures.both;
+      calls = c.number_done.ensures.calls;
+      done = ap length c.in-Ok.ensures.kept.outcomes
+          ∙ length_push c.make_room.new.self.progress.ledger.outcomes (c.args.digest, verdict_meaning c.in-Ok.verdict)
+          ∙ ap (λ (x : List (List ℕ × Verdict)). length x + 1) kept.outcomes;
+    }
+
+pub returns-in-Err-clause-tried : goal.returns-in-Err-clause-tried
+returns-in-Err-clause-tried g c =
+    let kept = c.in_ok-room.ensures.progress in
+    let same : length c.number_done.new.self.ledger.outcomes ≡ length c.args.self.now.progress.ledger.outcomes =
+    ap (λ (l : Entries). length l.outcomes) c.in-Err.ensures.left.ledger ∙ ap length kept.outcomes in
+    record {
+      both = subst (λ (n : List ℕ). KeepsBoth g.S.TakeStore g.J.Journal true n c.args.stores.now.store
+          c.number_done.new.stores.store c.args.stores.now.journal c.number_done.new.stores.journal) kept.name
+          c.in-Err.ensures.both;
+      calls = c.number_done.ensures.calls;
+      done = omega (arith, same);
+    }
+
 pub returns-in-Ok-clause-ordered : goal.returns-in-Ok-clause-ordered
-returns-in-Ok-clause-ordered g c = λ honest honest_notes first log h existed noted untried.
+returns-in-Ok-clause-ordered g c = λ honest honest_notes first log h existed noted order.
     let m : Message = message_of c.args.message.now in
     let w : List (Option (List ℕ)) = c.args.self.now.window in
     let kept = c.in_ok-room.ensures.progress in
@@ -294,17 +329,23 @@ returns-in-Ok-clause-ordered g c = λ honest honest_notes first log h existed no
     (notes_put first log c.args.self.now.progress.state.parts c.args.self.now.progress.ledger.outcomes w
     c.args.self.now.progress.growing _ h m 0 _ c.args.self.now.progress.name c.args.self.now.progress.noted _
     (omega (arith, next)) (omega arith) c.requires.free noted) in
-    let tried = untried_kept g.S.TakeStore g.J.Journal c.args.self.now.progress c.make_room.new.self.progress
-    c.args.stores.now kept untried in
-    step_then (λ hd x. IsUntried g.S.TakeStore g.J.Journal c.number_done.new.self c.number_done.new.stores)
-    c.make_room.new.self.progress.name c.args.self.now.progress.name (g.J.Journal.header c.args.stores.now.journal) _
-    first (with_message log m) c.make_room.new.self.progress.noted (g.J.Journal.notes c.args.stores.now.journal)
-    kept.name refl
-    (λ e n. c.in-Ok.ensures.ordered honest honest_notes first (with_message log m) prefix.0 prefix.1 e n tried)
-    existed put
+    let untried = subst (λ (n : ℕ). FileComesFirst
+    (g.J.Journal.header c.args.stores.now.journal c.args.self.now.progress.name) first c.args.self.now.progress.name n
+    (IsCarriedOut c.make_room.new.self.progress.growing c.make_room.new.self.progress.state.parts
+    (meaning c.request-request.result)) (g.J.Journal.notes c.args.stores.now.journal c.args.self.now.progress.name)
+    (g.S.TakeStore.contents c.args.stores.now.store c.args.self.now.progress.name)) (sym kept.noted)
+    (order_as _ _ _ _ _ _ _ _ (λ carried. absurd (none_carried (part_of c.args.self.now) c.requires.free carried))
+    order) in
+    order_then c.make_room.new.self.progress.name c.args.self.now.progress.name
+    (g.J.Journal.header c.args.stores.now.journal) _ first (with_message log m) c.make_room.new.self.progress.noted _ _ _
+    (g.J.Journal.notes c.args.stores.now.journal) (g.J.Journal.notes c.number_done.new.stores.journal)
+    (g.S.TakeStore.contents c.args.stores.now.store) (g.S.TakeStore.contents c.number_done.new.stores.store) kept.name
+    refl
+    (λ e n o. order_as _ _ _ _ _ _ _ _ (λ none. absurd none)
+    (c.in-Ok.ensures.ordered honest honest_notes first (with_message log m) prefix.0 prefix.1 e n o)) existed put untried
 
 pub returns-in-Err-clause-ordered : goal.returns-in-Err-clause-ordered
-returns-in-Err-clause-ordered g c = λ honest honest_notes first log h existed noted untried.
+returns-in-Err-clause-ordered g c = λ honest honest_notes first log h existed noted order.
     let m : Message = message_of c.args.message.now in
     let w : List (Option (List ℕ)) = c.args.self.now.window in
     let kept = c.in_ok-room.ensures.progress in
@@ -319,18 +360,33 @@ returns-in-Err-clause-ordered g c = λ honest honest_notes first log h existed n
     (notes_put first log c.args.self.now.progress.state.parts c.args.self.now.progress.ledger.outcomes w
     c.args.self.now.progress.growing _ h m 0 _ c.args.self.now.progress.name c.args.self.now.progress.noted _
     (omega (arith, next)) (omega arith) c.requires.free noted) in
-    let tried = untried_kept g.S.TakeStore g.J.Journal c.args.self.now.progress c.make_room.new.self.progress
-    c.args.stores.now kept untried in
-    step_then (λ hd x. IsInOrder hd first x (with_message log m) c.args.self.now.progress.growing.limit
-    (g.J.Journal.notes c.number_done.new.stores.journal x) (g.S.TakeStore.contents c.number_done.new.stores.store x))
-    c.make_room.new.self.progress.name c.args.self.now.progress.name (g.J.Journal.header c.args.stores.now.journal) _
-    first (with_message log m) c.make_room.new.self.progress.noted (g.J.Journal.notes c.args.stores.now.journal)
-    kept.name refl
-    (λ e n. subst (λ (k : ℕ). IsInOrder
-    (g.J.Journal.header c.args.stores.now.journal c.make_room.new.self.progress.name) first
-    c.make_room.new.self.progress.name (with_message log m) k
-    (g.J.Journal.notes c.number_done.new.stores.journal c.make_room.new.self.progress.name)
-    (g.S.TakeStore.contents c.number_done.new.stores.store c.make_room.new.self.progress.name))
-    (ap (λ (x : Growing). x.limit) kept.growing)
-    (c.in-Err.ensures.ordered honest honest_notes first (with_message log m) prefix.0 prefix.1 e n tried))
-    existed put
+    let untried = subst (λ (n : ℕ). FileComesFirst
+    (g.J.Journal.header c.args.stores.now.journal c.args.self.now.progress.name) first c.args.self.now.progress.name n
+    (IsCarriedOut c.make_room.new.self.progress.growing c.make_room.new.self.progress.state.parts
+    (meaning c.request-request.result)) (g.J.Journal.notes c.args.stores.now.journal c.args.self.now.progress.name)
+    (g.S.TakeStore.contents c.args.stores.now.store c.args.self.now.progress.name)) (sym kept.noted)
+    (order_as _ _ _ _ _ _ _ _ (λ carried. absurd (none_carried (part_of c.args.self.now) c.requires.free carried))
+    order) in
+    let said = message_spelled c.args.message.now.body.now c.args.message.now.spells in
+    let slots = c.requires.slots in
+    let there : 0 < length w = omega (arith, slots) in
+    let b : Part = record {
+      parts = c.number_done.new.self.state.parts;
+      outcomes = c.number_done.new.self.ledger.outcomes;
+      window = c.put.new.self;
+      growing = c.number_done.new.self.growing;
+    } in
+    let held : at c.put.new.self 0 ≡ Some c.copy_to.result =
+    ap (λ (x : List (Option (List ℕ))). at x 0) (c.put.ensures
+    ∙ ap (λ (x : List (Option (List ℕ))). slice_set x 0 (Some c.copy_to.result)) c.in_ok-room.ensures.window)
+    ∙ at-set_same w 0 (Some c.copy_to.result) there in
+    let read : meaning c.request-request.result ≡ (message_in c.copy_to.result).request =
+    c.request-request.ensures.value
+    ∙ ap (λ (x : List ℕ). (message_in x).request) (said.spelled ∙ sym c.copy_to.ensures) in
+    order_then c.make_room.new.self.progress.name c.args.self.now.progress.name
+    (g.J.Journal.header c.args.stores.now.journal) _ first (with_message log m) c.make_room.new.self.progress.noted _ _ _
+    (g.J.Journal.notes c.args.stores.now.journal) (g.J.Journal.notes c.number_done.new.stores.journal)
+    (g.S.TakeStore.contents c.args.stores.now.store) (g.S.TakeStore.contents c.number_done.new.stores.store) kept.name
+    refl
+    (λ e n o. order_as _ _ _ _ _ _ _ _ (next_carried b c.copy_to.result (meaning c.request-request.result) held read)
+    (c.in-Err.ensures.ordered honest honest_notes first (with_message log m) prefix.0 prefix.1 e n o)) existed put untried

@@ -10,8 +10,7 @@ use Rattle.bw_session.specs.Numbered.{with_done}
 use Rattle.bw_session.specs.Sessions.{part_of}
 use Rattle.bw_session.specs.Runs.{with_more_done}
 use Rattle.bw_session.proofs.RunForms.{both_then, holds_under, noted_then, drained_push}
-use Rattle.bw_session.specs.Ordering.{IsInOrder, IsUntried}
-use Rattle.bw_session.proofs.OrderForms.{step_then}
+use Rattle.bw_session.proofs.OrderForms.{order_then}
 use Rattle.bw_session.proofs.session.Session.drain.Goals as goal
 
 pub returns-in-Idle-clause-noted : goal.returns-in-Idle-clause-noted
@@ -100,19 +99,21 @@ loop-slot-preserved g c =
           (holds_under first _ _ (g.S.TakeStore.contents c.loop-slot.stores.store) _ _ (sym loop.take.name)
           drained.left))
           existed (loop.noted honest honest_notes first log h existed noted));
-      ordered = λ honest honest_notes first log h existed noted untried.
+      ordered = λ honest honest_notes first log h existed noted order.
           let loop = c.loop-slot.invariant in
           let drained = loop.drained honest first log h in
-          step_then (λ hd x. IsUntried g.S.TakeStore g.J.Journal c.drain_one.new.progress c.drain_one.new.stores)
-          c.loop-slot.self.progress.name c.args.self.now.progress.name
+          order_then c.loop-slot.self.progress.name c.args.self.now.progress.name
           (g.J.Journal.header c.loop-slot.stores.journal) _ first (with_more_done log (length c.loop-slot.out.items))
-          c.loop-slot.self.progress.noted (g.J.Journal.notes c.loop-slot.stores.journal) loop.take.name
+          c.loop-slot.self.progress.noted _ _ _ (g.J.Journal.notes c.loop-slot.stores.journal)
+          (g.J.Journal.notes c.drain_one.new.stores.journal) (g.S.TakeStore.contents c.loop-slot.stores.store)
+          (g.S.TakeStore.contents c.drain_one.new.stores.store) loop.take.name
           (loop.both.headers honest_notes c.args.self.now.progress.name)
-          (λ e n. c.in-Done.ensures.ordered (loop.both.honest ∙ honest) (loop.both.honest_notes ∙ honest_notes) first
+          (c.in-Done.ensures.ordered (loop.both.honest ∙ honest) (loop.both.honest_notes ∙ honest_notes) first
           (with_more_done log (length c.loop-slot.out.items))
           (holds_under first _ _ (g.S.TakeStore.contents c.loop-slot.stores.store) _ _ (sym loop.take.name)
-          drained.left) e n (loop.ordered honest honest_notes first log h existed noted untried))
-          existed (loop.noted honest honest_notes first log h existed noted);
+          drained.left))
+          existed (loop.noted honest honest_notes first log h existed noted)
+          (loop.ordered honest honest_notes first log h existed noted order);
     }
 
 pub returns-in-Idle-clause-run : goal.returns-in-Idle-clause-run
@@ -180,46 +181,41 @@ loop-slot-init g c = record {
   timely = λ all. all;
   drained = λ honest first log h. h;
   noted = λ honest honest_notes first log h existed noted. noted;
-  ordered = λ honest honest_notes first log h existed noted untried. untried;
+  ordered = λ honest honest_notes first log h existed noted order. order;
 }
 
 pub returns-in-Idle-clause-ordered : goal.returns-in-Idle-clause-ordered
-returns-in-Idle-clause-ordered g c = λ honest honest_notes first log h existed noted untried.
+returns-in-Idle-clause-ordered g c = λ honest honest_notes first log h existed noted order.
     let loop = c.loop-slot.invariant in
     let drained = loop.drained honest first log h in
-    step_then (λ hd x. IsUntried g.S.TakeStore g.J.Journal c.drain_one.new.progress c.drain_one.new.stores)
-    c.loop-slot.self.progress.name c.args.self.now.progress.name
+    order_then c.loop-slot.self.progress.name c.args.self.now.progress.name
     (g.J.Journal.header c.loop-slot.stores.journal) _ first (with_more_done log (length c.loop-slot.out.items))
-    c.loop-slot.self.progress.noted (g.J.Journal.notes c.loop-slot.stores.journal) loop.take.name
+    c.loop-slot.self.progress.noted _ _ _ (g.J.Journal.notes c.loop-slot.stores.journal)
+    (g.J.Journal.notes c.drain_one.new.stores.journal) (g.S.TakeStore.contents c.loop-slot.stores.store)
+    (g.S.TakeStore.contents c.drain_one.new.stores.store) loop.take.name
     (loop.both.headers honest_notes c.args.self.now.progress.name)
-    (λ e n. c.in-Idle.ensures.ordered (loop.both.honest ∙ honest) (loop.both.honest_notes ∙ honest_notes) first
+    (c.in-Idle.ensures.ordered (loop.both.honest ∙ honest) (loop.both.honest_notes ∙ honest_notes) first
     (with_more_done log (length c.loop-slot.out.items))
-    (holds_under first _ _ (g.S.TakeStore.contents c.loop-slot.stores.store) _ _ (sym loop.take.name) drained.left) e n
-    (loop.ordered honest honest_notes first log h existed noted untried))
+    (holds_under first _ _ (g.S.TakeStore.contents c.loop-slot.stores.store) _ _ (sym loop.take.name) drained.left))
     existed (loop.noted honest honest_notes first log h existed noted)
+    (loop.ordered honest honest_notes first log h existed noted order)
 
 pub returns-in-Stopped-clause-ordered : goal.returns-in-Stopped-clause-ordered
-returns-in-Stopped-clause-ordered g c = λ honest honest_notes first log h existed noted untried.
+returns-in-Stopped-clause-ordered g c = λ honest honest_notes first log h existed noted order.
     let loop = c.loop-slot.invariant in
     let drained = loop.drained honest first log h in
-    step_then (λ hd x. IsInOrder hd first x (with_more_done log (length c.loop-slot.out.items))
-    c.args.self.now.progress.growing.limit (g.J.Journal.notes c.drain_one.new.stores.journal x)
-    (g.S.TakeStore.contents c.drain_one.new.stores.store x))
-    c.loop-slot.self.progress.name c.args.self.now.progress.name
+    order_then c.loop-slot.self.progress.name c.args.self.now.progress.name
     (g.J.Journal.header c.loop-slot.stores.journal) _ first (with_more_done log (length c.loop-slot.out.items))
-    c.loop-slot.self.progress.noted (g.J.Journal.notes c.loop-slot.stores.journal) loop.take.name
+    c.loop-slot.self.progress.noted _ _ _ (g.J.Journal.notes c.loop-slot.stores.journal)
+    (g.J.Journal.notes c.drain_one.new.stores.journal) (g.S.TakeStore.contents c.loop-slot.stores.store)
+    (g.S.TakeStore.contents c.drain_one.new.stores.store) loop.take.name
     (loop.both.headers honest_notes c.args.self.now.progress.name)
-    (λ e n. subst (λ (k : ℕ). IsInOrder (g.J.Journal.header c.loop-slot.stores.journal c.loop-slot.self.progress.name)
-    first c.loop-slot.self.progress.name (with_more_done log (length c.loop-slot.out.items)) k
-    (g.J.Journal.notes c.drain_one.new.stores.journal c.loop-slot.self.progress.name)
-    (g.S.TakeStore.contents c.drain_one.new.stores.store c.loop-slot.self.progress.name))
-    (ap (λ (x : Growing). x.limit) loop.take.growing)
     (c.in-Stopped.ensures.ordered (loop.both.honest ∙ honest) (loop.both.honest_notes ∙ honest_notes) first
     (with_more_done log (length c.loop-slot.out.items))
-    (holds_under first _ _ (g.S.TakeStore.contents c.loop-slot.stores.store) _ _ (sym loop.take.name) drained.left) e n
-    (loop.ordered honest honest_notes first log h existed noted untried)))
+    (holds_under first _ _ (g.S.TakeStore.contents c.loop-slot.stores.store) _ _ (sym loop.take.name) drained.left))
     existed (loop.noted honest honest_notes first log h existed noted)
+    (loop.ordered honest honest_notes first log h existed noted order)
 
 pub returns-clause-ordered : goal.returns-clause-ordered
-returns-clause-ordered g c = λ honest honest_notes first log h existed noted untried.
-    c.loop-slot.invariant.ordered honest honest_notes first log h existed noted untried
+returns-clause-ordered g c = λ honest honest_notes first log h existed noted order.
+    c.loop-slot.invariant.ordered honest honest_notes first log h existed noted order

@@ -4,7 +4,7 @@ use Rattle.bw_model.specs.Book.{Log}
 use Rattle.bw_session.specs.Numbered.{KeepsBoth}
 use Rattle.bw_session.specs.Asking.{DoesConsecutively}
 use Rattle.bw_session.specs.Noting.{IsNoted}
-use Rattle.bw_session.specs.Ordering.{IsUntried}
+use Rattle.bw_session.specs.Ordering.{FileComesFirst, NextIsCarriedOut}
 use Rattle.bw_session.specs.Reporting.{IsServing, IsTimely}
 use Rattle.bw_session.specs.Sessions.{CallsFew, KeepsTake, part_of}
 use Rattle.bw_session.specs.Runs.{with_more_done, HasDrained}
@@ -42,6 +42,12 @@ invariant-loop-slot g l = record {
       IsNoted (g.J.Journal.header l.fn.stores.journal l.fn.self.progress.name) l.fn.self.progress.name
       (with_more_done log (length l.fn.out.items)) l.fn.self.progress.noted
       (g.J.Journal.notes l.fn.stores.journal l.fn.self.progress.name) →
-      IsUntried g.S.TakeStore g.J.Journal l.fn.self.progress l.fn.stores →
-      IsUntried g.S.TakeStore g.J.Journal l.self.progress l.stores;
+      FileComesFirst (g.J.Journal.header l.fn.stores.journal l.fn.self.progress.name) first l.fn.self.progress.name
+      l.fn.self.progress.noted (NextIsCarriedOut (part_of l.fn.self))
+      (g.J.Journal.notes l.fn.stores.journal l.fn.self.progress.name)
+      (g.S.TakeStore.contents l.fn.stores.store l.fn.self.progress.name) →
+      FileComesFirst (g.J.Journal.header l.fn.stores.journal l.fn.self.progress.name) first l.fn.self.progress.name
+      l.self.progress.noted (NextIsCarriedOut (part_of l.self))
+      (g.J.Journal.notes l.stores.journal l.fn.self.progress.name)
+      (g.S.TakeStore.contents l.stores.store l.fn.self.progress.name);
 }

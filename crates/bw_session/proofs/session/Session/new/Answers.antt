@@ -8,7 +8,7 @@ use Rattle.bw_model.specs.Book.{no_log}
 use Rattle.std.proofs.Common.{rules, ◌≡◌, ◌∙◌, ℕ, List, [], false, None, Option}
 use Rattle.std.specs.Prelude.{replicate}
 use Rattle.bw_model.specs.Take.{Parts, Verdict, new_take, parts}
-use Rattle.bw_file.specs.Growing.{Growing}
+use Rattle.bw_file.specs.Growing.{Growing, clean_file}
 use Rattle.bw_session.specs.KeptParts.{part}
 use Rattle.bw_session.proofs.AskForms.{if_both}
 use Rattle.bw_session.proofs.session.Session.new.Goals as goal
@@ -17,7 +17,8 @@ pub returns-clause-holds : goal.returns-clause-holds
 returns-clause-holds c = IfOk-weaker c.resume.result _ _
     (λ s holds first. holds first no_log first no_log_done
     (new_done (is_some first) c.args.name _ _ c.new-2.ensures.parts c.new-3.ensures)
-    (nothing_made first c.in_ok-new.field-0 (ap (λ g. g.made) c.in_ok-new.ensures)))
+    (nothing_made first c.in_ok-new.field-0 (ap (λ g. g.made) c.in_ok-new.ensures)
+    (ap (λ g. g.ahead) c.in_ok-new.ensures)))
     c.resume.ensures.holds
 
 pub returns-clause-noted : goal.returns-clause-noted
@@ -28,7 +29,7 @@ returns-clause-noted c = IfOk-weaker c.resume.result _ _
 
 pub returns-clause-part : goal.returns-clause-part
 returns-clause-part c =
-    let fresh : Growing = record { name = c.args.name; limit = c.args.limit; made = false; dirty = false } in
+    let fresh : Growing = clean_file c.args.name c.args.limit false in
     let grows : c.in_ok-new.field-0 ≡ fresh = search rules in
     let none : List (Option (List ℕ)) = replicate 16 None in
     if_both c.resume.result (λ s same slots.

@@ -20,7 +20,6 @@ use Rattle.std.proofs.Common.{inl}
 use Rattle.bw_session.specs.KeptParts.{Part}
 use Rattle.bw_session.specs.Asking.{DoesRun}
 use Rattle.bw_session.proofs.AskForms.{holding_far, run_from_none}
-use Rattle.bw_session.proofs.OrderSteps.{quiet_clean, quiet_ends, served_order}
 use Rattle.bw_session.proofs.session.Session.serve.Goals as goal
 
 pub returns-then-done-len-clause-both : goal.returns-then-done-len-clause-both
@@ -170,46 +169,23 @@ pub returns-in_default-clause-asked : goal.returns-in_default-clause-asked
 returns-in_default-clause-asked g c = inl (c.in_ok-stopped.stopped, c.in_ok-stopped.ensures.run.asked)
 
 pub returns-then-done-len-clause-ordered : goal.returns-then-done-len-clause-ordered
-returns-then-done-len-clause-ordered g c = λ honest honest_notes first log h existed noted quiet waits.
+returns-then-done-len-clause-ordered g c = λ honest honest_notes first log h existed noted order.
     let m : Message = message_of c.args.message.now in
     let long = c.len-done.ensures.value in
     let slots = c.len.ensures.value in
     let number = c.number.ensures.value in
     let past : length c.args.self.now.progress.ledger.outcomes + 16 ≤ m.number = search rules in
     let same = outside_not_new first log _ _ _ _ _ h m.number (inr past) in
-    let begun = starts first log m (part_of c.args.self.now) _ h c.len.ensures.slots (part_of c.args.self.now)
+    c.drain.ensures.ordered honest honest_notes first (with_message log m)
+    (starts first log m (part_of c.args.self.now) _ h c.len.ensures.slots (part_of c.args.self.now)
     c.args.out.now.items (g.S.TakeStore.contents c.args.stores.now.store) c.args.self.now.progress.name
-    c.args.self.now.progress.name c.requires.empty refl (part_same first log _ _ _ _ _ h m same) in
-    let ended = c.drain.ensures.drained honest first (with_message log m) begun in
-    served_order first log m c.drain.result c.drain.new.out.items (part_of c.drain.new.self) _ _
-    c.args.self.now.progress.name c.args.self.now.progress.growing.limit _ _ _ ended
-    (c.drain.ensures.ordered honest honest_notes first (with_message log m) begun existed
+    c.args.self.now.progress.name c.requires.empty refl (part_same first log _ _ _ _ _ h m same)) existed
     (noted_start _ c.args.self.now.progress.name (with_message log m) c.args.self.now.progress.noted _
     c.args.out.now.items c.requires.empty
-    (notes_same first log _ _ _ _ _ h m _ c.args.self.now.progress.name _ _ same noted))
-    (record {
-      clean = quiet_clean first log _ _ _ _ _ h c.args.self.now.fits.held quiet;
-      ends = quiet_ends _ _ log _ _ noted quiet;
-    })) waits
+    (notes_same first log _ _ _ _ _ h m _ c.args.self.now.progress.name _ _ same noted)) order
 
 pub returns-in-Some-clause-ordered : goal.returns-in-Some-clause-ordered
-returns-in-Some-clause-ordered g c = λ honest honest_notes first log h existed noted quiet waits.
-    let m : Message = message_of c.args.message.now in
-    served_order first log m c.in_ok-stopped.stopped c.admit_and_drain.new.out.items (part_of c.admit_and_drain.new.self)
-    _ _ c.args.self.now.progress.name c.args.self.now.progress.growing.limit _ _ _
-    (c.in_ok-stopped.ensures.drained honest first log h)
-    (c.in_ok-stopped.ensures.ordered honest honest_notes first log h existed noted (record {
-      clean = quiet_clean first log _ _ _ _ _ h c.args.self.now.fits.held quiet;
-      ends = quiet_ends _ _ log _ _ noted quiet;
-    })) waits
+returns-in-Some-clause-ordered g c = c.in_ok-stopped.ensures.ordered
 
 pub returns-in_default-clause-ordered : goal.returns-in_default-clause-ordered
-returns-in_default-clause-ordered g c = λ honest honest_notes first log h existed noted quiet waits.
-    let m : Message = message_of c.args.message.now in
-    served_order first log m c.in_ok-stopped.stopped c.admit_and_drain.new.out.items (part_of c.admit_and_drain.new.self)
-    _ _ c.args.self.now.progress.name c.args.self.now.progress.growing.limit _ _ _
-    (c.in_ok-stopped.ensures.drained honest first log h)
-    (c.in_ok-stopped.ensures.ordered honest honest_notes first log h existed noted (record {
-      clean = quiet_clean first log _ _ _ _ _ h c.args.self.now.fits.held quiet;
-      ends = quiet_ends _ _ log _ _ noted quiet;
-    })) waits
+returns-in_default-clause-ordered g c = c.in_ok-stopped.ensures.ordered
