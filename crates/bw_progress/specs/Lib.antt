@@ -5,3 +5,4 @@ pub mod Lines
 pub mod Displays
 pub mod Pauses
 pub mod Files
+pub mod CountedFrames

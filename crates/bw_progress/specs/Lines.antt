@@ -41,9 +41,11 @@ abbrev pub link_text : ℕ → LinkState → List ℕ
 link_text now Up = codes "link up"
 link_text now (Down since) = codes "link down, " ++ decimal ((now - since) / 1000) ++ codes " s"
 
--- The line at this millisecond: the take's name, how much is settled, how fast, how many requests
--- are under way, and the link.
-unfoldable pub progress_line : ℕ → UploadProgress → List ℕ
-progress_line now p =
-    p.name ++ codes " " ++ amount_text p ++ codes " " ++ speed_text (speed_at now p)
-    ++ codes " pending " ++ decimal (p.offered - p.settled) ++ codes " " ++ link_text now p.link
+-- how fast requests are settled, how many are under way, and the link
+abbrev pub course_text : ℕ → UploadProgress → List ℕ
+course_text now p = speed_text (speed_at now p) ++ codes " pending " ++ decimal (p.offered - p.settled)
+    ++ codes " " ++ link_text now p.link
+
+-- The line at this millisecond: the take's name, how much is settled, and the course.
+abbrev pub progress_line : ℕ → UploadProgress → List ℕ
+progress_line now p = p.name ++ codes " " ++ amount_text p ++ codes " " ++ course_text now p

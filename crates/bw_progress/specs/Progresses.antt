@@ -1,5 +1,6 @@
 -- How far an upload is.
 use Rattle.std.specs.Prelude.{ℕ, List, Option, Some, None}
+use Rattle.bw_upload.specs.declared.observer.LinkEnd.TheVariants as ends
 use Rattle.bw_upload.specs.declared.observer.LinkEvent.{LinkEvent}
 use Rattle.bw_upload.specs.declared.observer.LinkEvent.TheVariants as events
 use Rattle.bw_progress.specs.Measures.{done_bytes}
@@ -22,10 +23,11 @@ begun name measure now = record {
   speed = None;
 }
 
--- the link after an event at this millisecond
+-- the link after an event at this millisecond; it isn't down because all is done
 abbrev pub link_after : ℕ → LinkEvent → LinkState → LinkState
 link_after now events.Made link = Up
-link_after now (events.Left end) link = Down now
+link_after now (events.Left ends.Done) link = link
+link_after now (events.Left _) link = Down now
 link_after now events.Missed link = link
 link_after now (events.Waits milliseconds) link = link
 

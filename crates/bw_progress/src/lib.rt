@@ -3,6 +3,7 @@
 #![tactic(auto)]
 
 mod display;
+mod laws;
 mod line;
 mod measure;
 mod measuring;
@@ -14,6 +15,7 @@ mod sink;
 mod speed;
 mod watch;
 
+pub use laws::law_counted_frames;
 pub use measure::{Extent, TakeMeasure};
 pub use measuring::{measure_file, measure_samples};
 pub use pause::RenewingPause;

@@ -1,6 +1,6 @@
 //! The line that shows how far an upload is.
 ghost use Rattle.std.specs.Prelude.{◌≡◌, ◌+◌, ◌<◌, ◌≤◌, ◌++◌, IfOk, OnOk, Some, decimal};
-ghost use Rattle.bw_progress.specs.Lines.{amount_text, clock_text, link_text, part_text, percent as percent_of};
+ghost use Rattle.bw_progress.specs.Lines.{amount_text, clock_text, course_text, link_text, part_text, percent as percent_of};
 ghost use Rattle.bw_progress.specs.Lines.{progress_line, speed_text, two_digits};
 
 use crate::progress::{LinkState, UploadProgress};
@@ -18,18 +18,32 @@ pub(crate) fn line_of(
 ) -> Result<Vec<u8>, AllocError>
     ensures { IfOk result (λ text. text.items ≡ progress_line now progress.now) }
 {
-    let pending = progress.offered.saturating_sub(progress.settled);
     let mut text = Vec::new(alloc);
+    put_line(&mut text, progress, now)?;
+    Ok(text)
+}
+
+/// Appends the line.
+fn put_line(text: &mut Vec<u8>, progress: &UploadProgress, now: u64) -> Result<(), AllocError>
+    ensures { OnOk result (text.new.items ≡ text.old.items ++ progress_line now progress.now) }
+{
     text.extend_from_slice(progress.name.as_bytes())?;
     text.extend_from_slice(b" ")?;
-    put_amount(&mut text, progress)?;
+    put_amount(text, progress)?;
     text.extend_from_slice(b" ")?;
-    put_speed(&mut text, progress.bytes_a_second(now))?;
+    put_course(text, progress, now)
+}
+
+/// Appends how fast requests are settled, how many are under way, and the link.
+fn put_course(text: &mut Vec<u8>, progress: &UploadProgress, now: u64) -> Result<(), AllocError>
+    ensures { OnOk result (text.new.items ≡ text.old.items ++ course_text now progress.now) }
+{
+    put_speed(text, progress.bytes_a_second(now))?;
     text.extend_from_slice(b" pending ")?;
-    put_number(&mut text, u64::from(pending))?;
+    let pending = progress.offered.saturating_sub(progress.settled);
+    put_number(text, u64::from(pending))?;
     text.extend_from_slice(b" ")?;
-    put_link(&mut text, progress.link, now)?;
-    Ok(text)
+    put_link(text, progress.link, now)
 }
 
 /// Appends how much of a take is settled, and of how much.

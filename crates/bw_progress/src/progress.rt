@@ -11,7 +11,7 @@ use crate::measure::TakeMeasure;
 use crate::speed::{Mark, Speed};
 use bw_request::Name;
 use bw_sender::Sender;
-use bw_upload::LinkEvent;
+use bw_upload::{LinkEnd, LinkEvent};
 use std::alloc::{AllocError, Global};
 
 /// Whether there is a link.
@@ -58,13 +58,14 @@ impl UploadProgress {
         }
     }
 
-    /// Follows a change of the link at this millisecond. A link that isn't made, and a wait, change
-    /// nothing where there is none.
+    /// Follows a change of the link at this millisecond. It isn't down because all is done; and a link
+    /// that isn't made, and a wait, change nothing where there is none.
     pub fn follow_link(&mut self, now: u64, event: LinkEvent)
         ensures { self.new ≡ record self.old { link = link_after now event self.old.link } }
     {
         self.link = match event {
             LinkEvent::Made => LinkState::Up,
+            LinkEvent::Left(LinkEnd::Done) => self.link,
             LinkEvent::Left(_end) => LinkState::Down { since: now },
             LinkEvent::Missed => self.link,
             LinkEvent::Waits(_milliseconds) => self.link,
