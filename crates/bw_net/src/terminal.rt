@@ -1,5 +1,5 @@
 //! The terminal that the progress of a sender or of a start is reported to.
-ghost use Rattle.std.specs.Prelude.{◌≡◌, ◌∷◌, ◌++◌, ⊤, IfOk, codes};
+ghost use Rattle.std.specs.Prelude.{◌≡◌, ◌∷◌, ◌++◌, ⊤, IfOk, codes, is_some};
 
 use bw_ports::{ProgressReport, Watch};
 use bw_progress::Screen;
@@ -66,6 +66,8 @@ impl Terminal {
 }
 
 impl Screen for Terminal {
+    ghost is_seen = { λ s. is_some s.screen };
+
     ghost shows = { λ _ _ _. ⊤ };
 
     ghost clears = { λ _ _. ⊤ };

@@ -1,5 +1,5 @@
 -- What the first requests of a recording's plan bring of it.
-use Rattle.std.proofs.Common.{◌≡◌, ℕ, zero, suc, ◌+◌, ◌-◌, ◌*◌, ◌≤◌, ◌⊎◌, inl, inr, List, [], ◌∷◌, ◌++◌, length, map, refl, sym, ◌∙◌, ap, arith}
+use Rattle.std.proofs.Common.{◌≡◌, ℕ, zero, suc, ◌+◌, ◌-◌, ◌*◌, ◌≤◌, inl, inr, List, [], ◌∷◌, ◌++◌, length, map, refl, ◌∙◌, ap, arith}
 use Rattle.std.proofs.Common.{length-take, length-drop}
 use Rattle.std.proofs.Common.{◌<◌, Bool, false, cond, not, mul_comm}
 use Rattle.std.specs.Prelude.{◌/◌, ◌%◌, ◌==◌, min, max, take, drop}
@@ -8,13 +8,10 @@ use Rattle.std.proofs.lemmas.Bool.{cases_lt, ne_eqb}
 use Rattle.std.proofs.lemmas.List.Sums.{sum_by-cons}
 use Rattle.std.proofs.lemmas.Nat.{mul-le}
 use Rattle.bw_model.specs.Take.{Request, Block, Close, block_align}
-use Rattle.bw_plan.specs.PlanLaws.{IsClean}
 use Rattle.bw_plan.specs.Plans.{plan, pieces, field_requests, block_requests, mark_request}
-use Rattle.bw_plan.specs.Recordings.{Options, Recording, block_frames, given_count, piece_count}
+use Rattle.bw_plan.specs.Recordings.{block_frames, given_count, piece_count}
 use Rattle.bw_plan.proofs.PlanLaws.{align_is_some}
-use Rattle.bw_progress.specs.CountedFrames.{SettledFramesAreCounted, frames_of_first, request_frames}
-use Rattle.bw_progress.specs.Measures.{done_frames, measure_of}
-use Rattle.bw_progress.specs.declared.measure.Extent.TheVariants.{Whole}
+use Rattle.bw_progress.specs.CountedFrames.{SettledFramesAreCounted, frames_of_first}
 
 -- no request
 of_none : (align n : ℕ) → frames_of_first align n [] ≡ 0

@@ -1,5 +1,5 @@
 -- When the line of an upload is shown.
-use Rattle.std.specs.Prelude.{◌≡◌, ◌⊎◌, ℕ, ◌-◌, nat_le, Bool, true, false, Option, Some, None, List}
+use Rattle.std.specs.Prelude.{◌≡◌, ◌⊎◌, ℕ, ◌-◌, nat_le, Bool, true, false, Option, Some, None}
 use Rattle.bw_progress.specs.Lines.{progress_line}
 use Rattle.bw_progress.specs.declared.display.ProgressDisplay.{ProgressDisplay}
 use Rattle.bw_progress.specs.declared.progress.UploadProgress.{UploadProgress}
@@ -10,13 +10,18 @@ abbrev pub is_due : Option ℕ → ℕ → Bool
 is_due None now = true
 is_due (Some last) now = nat_le 200 (now - last)
 
-module _ {S T : Type 0} (screen : ScreenGhosts S) where
-  -- nothing changes on the screen
-  pub record StaysShown (old new : ProgressDisplay S T) : Type 0 where
-    pub screen_is : new.screen ≡ old.screen
-    pub last_is : new.last ≡ old.last
-    pub shown_is : new.is_shown ≡ old.is_shown
+-- what is sent after a beginning: this if anyone sees the screen
+abbrev pub begun_if : Bool → UploadProgress → Option UploadProgress → Option UploadProgress
+begun_if true p before = Some p
+begun_if false p before = before
 
+-- nothing changes on the screen
+pub record StaysShown {S T : Type 0} (old new : ProgressDisplay S T) : Type 0 where
+  pub screen_is : new.screen ≡ old.screen
+  pub last_is : new.last ≡ old.last
+  pub shown_is : new.is_shown ≡ old.is_shown
+
+module _ {S T : Type 0} (screen : ScreenGhosts S) where
   -- the line of this progress is shown
   pub record ShowsLine (now : ℕ) (p : UploadProgress) (old new : ProgressDisplay S T) : Type 0 where
     pub shows : screen.shows old.screen (progress_line now p) new.screen

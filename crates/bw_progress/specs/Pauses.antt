@@ -1,5 +1,5 @@
 -- A pause in pieces.
-use Rattle.std.specs.Prelude.{◌≡◌, ℕ, ◌+◌, List, [], ◌∷◌, sum}
+use Rattle.std.specs.Prelude.{◌≡◌, ℕ, List, [], ◌∷◌, sum}
 
 module _ {P : Type 0} (waits : P → ℕ → P → Type 0) where
   -- these pauses, one after another

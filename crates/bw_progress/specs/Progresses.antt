@@ -1,5 +1,6 @@
 -- How far an upload is.
-use Rattle.std.specs.Prelude.{ℕ, List, Option, Some, None}
+use Rattle.std.specs.Prelude.{ℕ, List, Option, Some, None, length}
+use Rattle.bw_model.specs.World.{Sender, settled}
 use Rattle.bw_upload.specs.declared.observer.LinkEnd.TheVariants as ends
 use Rattle.bw_upload.specs.declared.observer.LinkEvent.{LinkEvent}
 use Rattle.bw_upload.specs.declared.observer.LinkEvent.TheVariants as events
@@ -45,6 +46,14 @@ abbrev pub counted : ℕ → ℕ → ℕ → UploadProgress → UploadProgress
 counted now offered settled p =
     let q = record p { offered = offered; settled = settled } in
     record q { speed = Some (speed_after (mark_at now q) p.speed) }
+
+-- .. by a sender
+abbrev pub counted_at : ℕ → Sender → UploadProgress → UploadProgress
+counted_at now s p = counted now (length s.offered) (settled s) p
+
+-- an upload after an event at this millisecond, and such a count
+abbrev pub followed : ℕ → LinkEvent → Sender → UploadProgress → UploadProgress
+followed now event s p = counted_at now s (record p { link = link_after now event p.link })
 
 -- how many bytes a second are settled, over the last seconds
 abbrev pub speed_at : ℕ → UploadProgress → ℕ

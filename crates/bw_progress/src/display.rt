@@ -1,8 +1,10 @@
 //! When the line of an upload is shown.
-ghost use Rattle.std.specs.Prelude.{◌≡◌, Some, None, true, false};
-ghost use Rattle.bw_model.specs.World.{Sender as Defined, settled as settled_of};
+ghost use Rattle.std.specs.Prelude.{◌≡◌, None, Some, false, option_map};
+ghost use Rattle.bw_model.specs.World.{Sender as Defined};
 ghost use Rattle.bw_sender.specs.Senders.{IsSender};
-ghost use Rattle.bw_progress.specs.Displays.{ClearsLine, ShowsWhenDue, is_due as is_time};
+ghost use Rattle.bw_progress.specs.Displays.{ClearsLine, ShowsWhenDue, StaysShown, begun_if};
+ghost use Rattle.bw_progress.specs.Displays.{is_due as is_time};
+ghost use Rattle.bw_progress.specs.Progresses.{begun, counted_at, followed};
 
 use crate::measure::TakeMeasure;
 use crate::progress::UploadProgress;
@@ -47,8 +49,12 @@ impl<S: Screen, T: Stopwatch> ProgressDisplay<S, T> {
         }
     }
 
-    /// Begins with a take, if there is a screen.
-    pub(crate) fn begin(&mut self, name: Name, measure: TakeMeasure) {
+    /// Begins with a take, if anyone sees the screen.
+    pub(crate) fn begin(&mut self, name: Name, measure: TakeMeasure)
+        ensures progress { self.new.progress ≡ begun_if (S.is_seen self.old.screen)
+            (begun name measure (T.time self.new.stopwatch)) self.old.progress }
+        ensures screen { StaysShown self.old self.new }
+    {
         if self.screen.is_there() {
             let now = self.stopwatch.look();
             self.progress = Some(UploadProgress::new(name, measure, now));
@@ -64,8 +70,13 @@ impl<S: Screen, T: Stopwatch> ProgressDisplay<S, T> {
         self.progress = None;
     }
 
-    /// Follows a change of the link.
-    pub(crate) fn follow_link(&mut self, event: LinkEvent, sender: &Sender) {
+    /// Follows a change of the link, and shows the line again, if that is due.
+    pub(crate) fn follow_link(&mut self, event: LinkEvent, sender: &Sender)
+        ensures progress { (s : Defined) → IsSender s sender.now → self.new.progress
+            ≡ option_map (followed (T.time self.new.stopwatch) event s) self.old.progress }
+        ensures shows { ShowsWhenDue S.Screen (T.time self.new.stopwatch)
+            (record self.old { progress = self.new.progress }) self.new }
+    {
         let now = self.stopwatch.look();
         if let Some(progress) = &mut self.progress {
             progress.follow_link(now, event);
@@ -74,8 +85,13 @@ impl<S: Screen, T: Stopwatch> ProgressDisplay<S, T> {
         self.show_if_due(now);
     }
 
-    /// Counts how far a sender is.
-    pub(crate) fn count(&mut self, sender: &Sender) {
+    /// Counts how far a sender is, and shows the line again, if that is due.
+    pub(crate) fn count(&mut self, sender: &Sender)
+        ensures progress { (s : Defined) → IsSender s sender.now → self.new.progress
+            ≡ option_map (counted_at (T.time self.new.stopwatch) s) self.old.progress }
+        ensures shows { ShowsWhenDue S.Screen (T.time self.new.stopwatch)
+            (record self.old { progress = self.new.progress }) self.new }
+    {
         let now = self.stopwatch.look();
         if let Some(progress) = &mut self.progress {
             progress.count(now, sender);
@@ -84,7 +100,10 @@ impl<S: Screen, T: Stopwatch> ProgressDisplay<S, T> {
     }
 
     /// Shows the line again, if that is due.
-    pub(crate) fn renew(&mut self) {
+    pub(crate) fn renew(&mut self)
+        ensures progress { self.new.progress ≡ self.old.progress }
+        ensures shows { ShowsWhenDue S.Screen (T.time self.new.stopwatch) self.old self.new }
+    {
         let now = self.stopwatch.look();
         self.show_if_due(now);
     }
@@ -104,6 +123,7 @@ impl<S: Screen, T: Stopwatch> ProgressDisplay<S, T> {
     /// milliseconds old.
     fn show_if_due(&mut self, now: u64)
         ensures progress { self.new.progress ≡ self.old.progress }
+        ensures stopwatch { self.new.stopwatch ≡ self.old.stopwatch }
         ensures shows { ShowsWhenDue S.Screen now self.old self.new }
     {
         let Some(progress) = &self.progress else {

@@ -1,8 +1,11 @@
 //! Where the line of an upload is shown, and how others ask for it.
-ghost use Rattle.std.specs.Prelude.{ℕ, List};
+ghost use Rattle.std.specs.Prelude.{◌≡◌, ℕ, Bool, List};
 
 /// Shows one line, in place of the one before.
 pub trait Screen {
+    /// Whether anyone sees it.
+    ghost is_seen: { Self → Bool };
+
     /// What a call that shows this line may leave.
     ghost shows: { Self → List ℕ → Self → Type 0 };
 
@@ -10,10 +13,8 @@ pub trait Screen {
     ghost clears: { Self → Self → Type 0 };
 
     /// Whether anyone sees it.
-    ///
-    /// # Not specified
-    /// Which it is.
-    fn is_there(&self) -> bool;
+    fn is_there(&self) -> bool
+        ensures { result ≡ is_seen self.now };
 
     /// Shows a line, which has no end of its own. A failure to show it is ignored.
     ///
