@@ -1,6 +1,6 @@
 -- When the line of an upload is shown.
 use Rattle.std.specs.Prelude.{◌≡◌, ◌⊎◌, ℕ, ◌-◌, nat_le, Bool, true, false, Option, Some, None}
-use Rattle.bw_progress.specs.Lines.{progress_line}
+use Rattle.bw_progress.specs.Lines.{upload_line}
 use Rattle.bw_progress.specs.declared.display.ProgressDisplay.{ProgressDisplay}
 use Rattle.bw_progress.specs.declared.progress.UploadProgress.{UploadProgress}
 use Rattle.bw_progress.specs.declared.screen.Screen.{Ghosts as ScreenGhosts}
@@ -24,12 +24,13 @@ pub record StaysShown {S T : Type 0} (old new : ProgressDisplay S T) : Type 0 wh
 module _ {S T : Type 0} (screen : ScreenGhosts S) where
   -- the line of this progress is shown
   pub record ShowsLine (now : ℕ) (p : UploadProgress) (old new : ProgressDisplay S T) : Type 0 where
-    pub shows : screen.shows old.screen (progress_line now p) new.screen
+    pub shows : screen.shows old.screen (upload_line now p) new.screen
     pub last_is : new.last ≡ Some now
     pub shown_is : new.is_shown ≡ true
 
   -- it is shown if it is due, unless memory is refused
-  abbrev pub ShowsOnce : Bool → ℕ → UploadProgress → ProgressDisplay S T → ProgressDisplay S T → Type 0
+  abbrev pub ShowsOnce : Bool → ℕ → UploadProgress → ProgressDisplay S T → ProgressDisplay S T →
+      Type 0
   ShowsOnce false now p old new = StaysShown old new
   ShowsOnce true now p old new = ShowsLine now p old new ⊎ StaysShown old new
 

@@ -10,6 +10,6 @@ HasOutline b o outline = (recording : Recording) × (recording_of b o ≡ Ok rec
     × (recording.outline ≡ outline)
 
 -- what is asked for beside the file can be read, and this holds of it
-abbrev pub HasOptions : RecordingFile → (Options → Type 0) → Type 0
-HasOptions file holds = (o : Options)
+abbrev pub HoldsOfOptions : RecordingFile → (Options → Type 0) → Type 0
+HoldsOfOptions file holds = (o : Options)
     × (options_of (map string_bytes file.settings.now) file.is_strict file.frames ≡ Some o) × holds o

@@ -8,13 +8,13 @@ use Rattle.bw_progress.specs.declared.progress.LinkState.TheVariants.{Up, Down}
 use Rattle.bw_progress.specs.declared.progress.UploadProgress.{UploadProgress}
 
 -- the two digits of a number below 100
-abbrev pub two_digits : ℕ → List ℕ
-two_digits n = (48 + n / 10) ∷ (48 + n % 10) ∷ []
+abbrev pub clock_digits : ℕ → List ℕ
+clock_digits n = (48 + n / 10) ∷ (48 + n % 10) ∷ []
 
 -- so many seconds as hours, minutes and seconds: `1:02:03`
-abbrev pub clock_text : ℕ → List ℕ
-clock_text n = decimal (n / 3600) ++ codes ":" ++ two_digits (n / 60 % 60) ++ codes ":"
-    ++ two_digits (n % 60)
+abbrev pub span_text : ℕ → List ℕ
+span_text n = decimal (n / 3600) ++ codes ":" ++ clock_digits (n / 60 % 60) ++ codes ":"
+    ++ clock_digits (n % 60)
 
 -- bytes a second in millions of bytes, with one decimal that is rounded down: `27.4 MB/s`
 abbrev pub speed_text : ℕ → List ℕ
@@ -26,10 +26,10 @@ percent done all = if all == 0 then 100 else min done all * 100 / all
 
 -- how long so many frames last, and of how many; without an end, the first alone
 abbrev pub part_text : ℕ → ℕ → Option ℕ → List ℕ
-part_text rate done None = clock_text (done / rate)
+part_text rate done None = span_text (done / rate)
 part_text rate done (Some all) =
-    decimal (percent done all) ++ codes "% " ++ clock_text (done / rate) ++ codes "/"
-    ++ clock_text (all / rate)
+    decimal (percent done all) ++ codes "% " ++ span_text (done / rate) ++ codes "/"
+    ++ span_text (all / rate)
 
 -- how much of a take is settled
 abbrev pub amount_text : UploadProgress → List ℕ
@@ -43,9 +43,10 @@ link_text now (Down since) = codes "link down, " ++ decimal ((now - since) / 100
 
 -- how fast requests are settled, how many are under way, and the link
 abbrev pub course_text : ℕ → UploadProgress → List ℕ
-course_text now p = speed_text (speed_at now p) ++ codes " pending " ++ decimal (p.offered - p.settled)
+course_text now p =
+    speed_text (speed_at now p) ++ codes " pending " ++ decimal (p.offered - p.settled)
     ++ codes " " ++ link_text now p.link
 
 -- The line at this millisecond: the take's name, how much is settled, and the course.
-abbrev pub progress_line : ℕ → UploadProgress → List ℕ
-progress_line now p = p.name ++ codes " " ++ amount_text p ++ codes " " ++ course_text now p
+abbrev pub upload_line : ℕ → UploadProgress → List ℕ
+upload_line now p = p.name ++ codes " " ++ amount_text p ++ codes " " ++ course_text now p

@@ -25,14 +25,14 @@ measure_of extent o r = record {
 }
 
 -- the frames of the first so many requests, if each BLOCK is whole
-abbrev pub frames_in : TakeMeasure → ℕ → ℕ
-frames_in m count = (count - m.first_block) * m.block_frames
+abbrev pub frames_up_to : TakeMeasure → ℕ → ℕ
+frames_up_to m count = (count - m.first_block) * m.block_frames
 
 -- how many frames are done, where so many requests were offered and settled
 abbrev pub done_frames : TakeMeasure → ℕ → ℕ → ℕ
 done_frames m offered settled = elim m.frames [
-  | Some frames ↦ min (frames_in m settled) frames
-  | None ↦ frames_in m (min settled (offered - 2))
+  | Some frames ↦ min (frames_up_to m settled) frames
+  | None ↦ frames_up_to m (min settled (offered - 2))
 ]
 
 -- the bytes of these

@@ -9,4 +9,5 @@ module _ {P : Type 0} (waits : P → ℕ → P → Type 0) where
 
   -- pauses that are so long together
   abbrev pub PausesInPieces : P → ℕ → P → Type 0
-  PausesInPieces a milliseconds b = (pieces : List ℕ) × (sum pieces ≡ milliseconds) × PausesInTurn pieces a b
+  PausesInPieces a milliseconds b =
+      (pieces : List ℕ) × (sum pieces ≡ milliseconds) × PausesInTurn pieces a b

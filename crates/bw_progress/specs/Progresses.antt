@@ -5,7 +5,7 @@ use Rattle.bw_upload.specs.declared.observer.LinkEnd.TheVariants as ends
 use Rattle.bw_upload.specs.declared.observer.LinkEvent.{LinkEvent}
 use Rattle.bw_upload.specs.declared.observer.LinkEvent.TheVariants as events
 use Rattle.bw_progress.specs.Measures.{done_bytes}
-use Rattle.bw_progress.specs.Speeds.{bytes_a_second, noted}
+use Rattle.bw_progress.specs.Speeds.{bytes_a_second, speed_noted}
 use Rattle.bw_progress.specs.declared.measure.TakeMeasure.{TakeMeasure}
 use Rattle.bw_progress.specs.declared.progress.LinkState.{LinkState}
 use Rattle.bw_progress.specs.declared.progress.LinkState.TheVariants.{Up, Down}
@@ -14,8 +14,8 @@ use Rattle.bw_progress.specs.declared.speed.Mark.{Mark}
 use Rattle.bw_progress.specs.declared.speed.Speed.{Speed}
 
 -- an upload that begins at this millisecond
-abbrev pub begun : List ℕ → TakeMeasure → ℕ → UploadProgress
-begun name measure now = record {
+abbrev pub begun_progress : List ℕ → TakeMeasure → ℕ → UploadProgress
+begun_progress name measure now = record {
   name = name;
   measure = measure;
   offered = 0;
@@ -38,18 +38,18 @@ mark_at now p = record { time = now; bytes = done_bytes p.measure p.offered p.se
 
 -- the speed after a mark, which may be the first
 abbrev pub speed_after : Mark → Option Speed → Speed
-speed_after mark None = noted mark (record { since = mark; next = mark })
-speed_after mark (Some speed) = noted mark speed
+speed_after mark None = speed_noted mark (record { since = mark; next = mark })
+speed_after mark (Some speed) = speed_noted mark speed
 
 -- an upload of which so many requests are offered and settled at this millisecond
-abbrev pub counted : ℕ → ℕ → ℕ → UploadProgress → UploadProgress
-counted now offered settled p =
+abbrev pub counted_progress : ℕ → ℕ → ℕ → UploadProgress → UploadProgress
+counted_progress now offered settled p =
     let q = record p { offered = offered; settled = settled } in
     record q { speed = Some (speed_after (mark_at now q) p.speed) }
 
 -- .. by a sender
 abbrev pub counted_at : ℕ → Sender → UploadProgress → UploadProgress
-counted_at now s p = counted now (length s.offered) (settled s) p
+counted_at now s p = counted_progress now (length s.offered) (settled s) p
 
 -- an upload after an event at this millisecond, and such a count
 abbrev pub followed : ℕ → LinkEvent → Sender → UploadProgress → UploadProgress

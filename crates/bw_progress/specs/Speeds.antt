@@ -4,8 +4,9 @@ use Rattle.bw_progress.specs.declared.speed.Mark.{Mark}
 use Rattle.bw_progress.specs.declared.speed.Speed.{Speed}
 
 -- The speed after a mark: where the last one is two seconds old, bytes count since that one.
-abbrev pub noted : Mark → Speed → Speed
-noted mark s = if nat_lt (mark.time - s.next.time) 2000 then s else record { since = s.next; next = mark }
+abbrev pub speed_noted : Mark → Speed → Speed
+speed_noted mark s =
+    if nat_lt (mark.time - s.next.time) 2000 then s else record { since = s.next; next = mark }
 
 -- how many bytes a second were done between two marks, rounded down
 abbrev pub bytes_a_second : Mark → Mark → ℕ

@@ -4,7 +4,7 @@ ghost use Rattle.bw_model.specs.World.{Sender as Defined};
 ghost use Rattle.bw_sender.specs.Senders.{IsSender};
 ghost use Rattle.bw_progress.specs.Displays.{ClearsLine, ShowsWhenDue, StaysShown, begun_if};
 ghost use Rattle.bw_progress.specs.Displays.{is_due as is_time};
-ghost use Rattle.bw_progress.specs.Progresses.{begun, counted_at, followed};
+ghost use Rattle.bw_progress.specs.Progresses.{begun_progress, counted_at, followed};
 
 use crate::measure::TakeMeasure;
 use crate::progress::UploadProgress;
@@ -52,7 +52,7 @@ impl<S: Screen, T: Stopwatch> ProgressDisplay<S, T> {
     /// Begins with a take, if anyone sees the screen.
     pub(crate) fn begin(&mut self, name: Name, measure: TakeMeasure)
         ensures progress { self.new.progress ≡ begun_if (S.is_seen self.old.screen)
-            (begun name measure (T.time self.new.stopwatch)) self.old.progress }
+            (begun_progress name measure (T.time self.new.stopwatch)) self.old.progress }
         ensures screen { StaysShown self.old self.new }
     {
         if self.screen.is_there() {

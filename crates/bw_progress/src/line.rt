@@ -1,7 +1,8 @@
 //! The line that shows how far an upload is.
 ghost use Rattle.std.specs.Prelude.{◌≡◌, ◌+◌, ◌<◌, ◌≤◌, ◌++◌, IfOk, OnOk, Some, decimal};
-ghost use Rattle.bw_progress.specs.Lines.{amount_text, clock_text, course_text, link_text, part_text, percent as percent_of};
-ghost use Rattle.bw_progress.specs.Lines.{progress_line, speed_text, two_digits};
+ghost use Rattle.bw_progress.specs.Lines.{amount_text, course_text, link_text, part_text};
+ghost use Rattle.bw_progress.specs.Lines.{percent as percent_of, span_text};
+ghost use Rattle.bw_progress.specs.Lines.{upload_line, speed_text, clock_digits};
 
 use crate::progress::{LinkState, UploadProgress};
 use itoa::Buffer;
@@ -16,7 +17,7 @@ pub(crate) fn line_of(
     progress: &UploadProgress,
     now: u64,
 ) -> Result<Vec<u8>, AllocError>
-    ensures { IfOk result (λ text. text.items ≡ progress_line now progress.now) }
+    ensures { IfOk result (λ text. text.items ≡ upload_line now progress.now) }
 {
     let mut text = Vec::new(alloc);
     put_line(&mut text, progress, now)?;
@@ -25,7 +26,7 @@ pub(crate) fn line_of(
 
 /// Appends the line.
 fn put_line(text: &mut Vec<u8>, progress: &UploadProgress, now: u64) -> Result<(), AllocError>
-    ensures { OnOk result (text.new.items ≡ text.old.items ++ progress_line now progress.now) }
+    ensures { OnOk result (text.new.items ≡ text.old.items ++ upload_line now progress.now) }
 {
     text.extend_from_slice(progress.name.as_bytes())?;
     text.extend_from_slice(b" ")?;
@@ -114,7 +115,7 @@ fn put_link(text: &mut Vec<u8>, link: LinkState, now: u64) -> Result<(), AllocEr
 
 /// Appends so many seconds as hours, minutes and seconds: `1:02:03`.
 fn put_clock(text: &mut Vec<u8>, seconds: u64) -> Result<(), AllocError>
-    ensures { OnOk result (text.new.items ≡ text.old.items ++ clock_text seconds) }
+    ensures { OnOk result (text.new.items ≡ text.old.items ++ span_text seconds) }
 {
     put_number(text, seconds / 3_600)?;
     text.extend_from_slice(b":")?;
@@ -125,7 +126,7 @@ fn put_clock(text: &mut Vec<u8>, seconds: u64) -> Result<(), AllocError>
 
 fn put_two_digits(text: &mut Vec<u8>, number: u64) -> Result<(), AllocError>
     requires { number < 100 }
-    ensures { OnOk result (text.new.items ≡ text.old.items ++ two_digits number) }
+    ensures { OnOk result (text.new.items ≡ text.old.items ++ clock_digits number) }
 {
     text.extend_from_slice(&[digit(number / 10), digit(number % 10)])?;
     Ok(())

@@ -3,7 +3,7 @@ ghost use Rattle.std.specs.Prelude.{◌≡◌, ℕ, codes, IfOk, IfSome, Some, m
 ghost use Rattle.bw_model.specs.Reading.{entry_of};
 ghost use Rattle.bw_plan.specs.Recordings.{extension_at, history_at};
 ghost use Rattle.bw_progress.specs.Measures.{MeasuresFile, MeasuresSamples};
-ghost use Rattle.bw_progress.specs.Files.{HasOptions, HasOutline};
+ghost use Rattle.bw_progress.specs.Files.{HoldsOfOptions, HasOutline};
 ghost use Rattle.bw_recorder.specs.FileReports.{HasReport};
 ghost use Rattle.bw_stream.specs.Readers.{Of};
 
@@ -26,7 +26,7 @@ pub fn measure_file<F: RecordingFiles>(
     file: &RecordingFile<'_>,
 ) -> Option<TakeMeasure>
     ensures { IfSome result (λ m. Of (F.file_at files.old file.now.path.now) (λ b.
-        HasOptions file.now (λ o. MeasuresFile b o m))) }
+        HoldsOfOptions file.now (λ o. MeasuresFile b o m))) }
 {
     let Ok(Some(options)) = options_of(alloc, file) else {
         return None;
@@ -37,8 +37,8 @@ pub fn measure_file<F: RecordingFiles>(
     }
 }
 
-/// The measure of the headerless samples in a file; None where they can't be measured. While they are
-/// still written, their number isn't known.
+/// The measure of the headerless samples in a file; None where they can't be measured. While they
+/// are still written, their number isn't known.
 ///
 /// # Not specified
 /// - When there is none: whoever sends the file reports why it can't be sent.
@@ -50,7 +50,7 @@ pub fn measure_samples<F: RecordingFiles>(
     pcm: Pcm,
     extent: Extent,
 ) -> Option<TakeMeasure>
-    ensures { IfSome result (λ m. HasOptions file.now (λ o. MeasuresSamples extent pcm o m)) }
+    ensures { IfSome result (λ m. HoldsOfOptions file.now (λ o. MeasuresSamples extent pcm o m)) }
 {
     let Ok(Some(options)) = options_of(alloc, file) else {
         return None;
@@ -80,7 +80,8 @@ fn outline_at<F: RecordingFiles>(
     path: &str,
     options: &Options,
 ) -> Option<Outline>
-    ensures { IfSome result (λ x. Of (F.file_at files.old path.now) (λ b. HasOutline b options.now x)) }
+    ensures { IfSome result (λ x. Of (F.file_at files.old path.now) (λ b.
+        HasOutline b options.now x)) }
 {
     let report = report_at(alloc, files, path)?;
     let extension = extension_at_path(alloc, files, path, &report)?;

@@ -2,8 +2,9 @@
 ghost use Rattle.std.specs.Prelude.{◌≡◌, IfOk, Some, length};
 ghost use Rattle.bw_model.specs.World.{Sender as Defined, settled as settled_of};
 ghost use Rattle.bw_sender.specs.Senders.{IsSender};
-ghost use Rattle.bw_progress.specs.Lines.{progress_line};
-ghost use Rattle.bw_progress.specs.Progresses.{begun, counted, link_after, mark_at, speed_at};
+ghost use Rattle.bw_progress.specs.Lines.{upload_line};
+ghost use Rattle.bw_progress.specs.Progresses.{begun_progress, counted_progress, link_after};
+ghost use Rattle.bw_progress.specs.Progresses.{mark_at, speed_at};
 ghost use Rattle.bw_progress.specs.Progresses.{speed_after};
 
 use crate::line::line_of;
@@ -46,7 +47,7 @@ pub struct UploadProgress {
 impl UploadProgress {
     /// An upload that begins at this millisecond: nothing was offered, and there is no link.
     pub fn new(name: Name, measure: TakeMeasure, now: u64) -> UploadProgress
-        ensures { result ≡ begun name measure now }
+        ensures { result ≡ begun_progress name measure now }
     {
         UploadProgress {
             name,
@@ -75,7 +76,7 @@ impl UploadProgress {
     /// Counts how far a sender is at this millisecond.
     pub fn count(&mut self, now: u64, sender: &Sender)
         ensures { (s : Defined) → IsSender s sender.now →
-            self.new ≡ counted now (length s.offered) (settled_of s) self.old }
+            self.new ≡ counted_progress now (length s.offered) (settled_of s) self.old }
     {
         self.offered = sender.offered();
         self.settled = sender.settled();
@@ -84,7 +85,9 @@ impl UploadProgress {
 
     /// Measures the speed from the first count on.
     fn mark_speed(&mut self, now: u64)
-        ensures { self.new ≡ record self.old { speed = Some (speed_after (mark_at now self.old) self.old.speed) } }
+        ensures { self.new ≡ record self.old {
+          speed = Some (speed_after (mark_at now self.old) self.old.speed);
+        } }
     {
         let mark = self.mark(now);
         let mut speed = match self.speed {
@@ -125,7 +128,7 @@ impl UploadProgress {
     /// # Not specified
     /// When memory is refused.
     pub fn line(&self, alloc: Global, now: u64) -> Result<Vec<u8>, AllocError>
-        ensures { IfOk result (λ text. text.items ≡ progress_line now self.now) }
+        ensures { IfOk result (λ text. text.items ≡ upload_line now self.now) }
     {
         line_of(alloc, self, now)
     }

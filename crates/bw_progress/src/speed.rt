@@ -1,6 +1,6 @@
 //! How fast bytes are done.
 ghost use Rattle.std.specs.Prelude.{◌≡◌};
-ghost use Rattle.bw_progress.specs.Speeds.{bytes_a_second as speed_between, noted};
+ghost use Rattle.bw_progress.specs.Speeds.{bytes_a_second as speed_between, speed_noted};
 
 /// How many milliseconds pass between two marks at least.
 const SPAN: u64 = 2_000;
@@ -37,7 +37,7 @@ impl Speed {
 
     /// Notes a mark, if the last one is two seconds old: that one counts from then on.
     pub fn note(&mut self, mark: Mark)
-        ensures { self.new ≡ noted mark self.old }
+        ensures { self.new ≡ speed_noted mark self.old }
     {
         if mark.time.saturating_sub(self.next.time) < SPAN {
             return;
