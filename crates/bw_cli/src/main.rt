@@ -11,8 +11,9 @@ mod samples;
 mod uploads;
 
 use bw_disk::SystemDisk;
-use bw_net::{Host, HostRecordings, SpoolCell, SpoolPause, TcpNetwork, Terminal};
+use bw_net::{ClockStopwatch, Host, HostRecordings, SpoolCell, SpoolPause, TcpNetwork, Terminal};
 use bw_one_name::FilteredNetwork;
+use bw_progress::{ClearingSink, LineHandle, RenewingPause, SendWatch, SharedProgress};
 use bw_send_file::LinkLog;
 use bw_stream::StdIo;
 use bw_takes::ScreenStyle;
@@ -23,16 +24,32 @@ use std::process::ExitCode;
 
 fn main(rt: HostRuntime) -> ExitCode {
     let spool = SpoolCell::new();
+    let terminal = Terminal::new(&rt);
+    let screen = terminal.again(&rt);
+    let line = SharedProgress::new(rt.alloc(), screen, ClockStopwatch::new(&rt));
     let mut outside = Outside {
         system: Host::new(&rt),
         files: HostRecordings::new(&rt, &spool),
         disk: SystemDisk::new(&rt),
         network: FilteredNetwork::new(TcpNetwork::new(&rt, &spool)),
-        pause: SpoolPause::new(&rt, &spool),
+        pause: RenewingPause {
+            inner: SpoolPause::new(&rt, &spool),
+            line: LineHandle { shared: &line },
+        },
         input: StdIo::new(rt.stdin()),
-        out: StdIo::new(rt.stdout()),
-        faults: StdIo::new(rt.stderr()),
-        watch: Terminal::new(&rt),
+        out: ClearingSink {
+            inner: StdIo::new(rt.stdout()),
+            line: LineHandle { shared: &line },
+        },
+        faults: ClearingSink {
+            inner: StdIo::new(rt.stderr()),
+            line: LineHandle { shared: &line },
+        },
+        watch: SendWatch {
+            rounds: terminal,
+            files: HostRecordings::new(&rt, &spool),
+            line: &line,
+        },
         log: LinkLog {
             out: StdIo::new(rt.stderr()),
         },

@@ -20,7 +20,7 @@ pub struct Outside<S, F, D, N, P, R, W, E, V, G> {
     pub out: W,
     /// Standard error.
     pub faults: E,
-    /// Whoever follows a sender's progress.
+    /// Whoever follows a sender's progress, in rounds or of an upload.
     pub watch: V,
     /// Whoever follows the links of a sender of recordings, where that is asked for.
     pub log: G,

@@ -15,8 +15,8 @@ use crate::inspections::{inspect_as, inspect_one};
 use crate::outside::Outside;
 use crate::recordings::pack_as;
 use crate::remote::{send_as, serve_as};
-use crate::samples::send_pcm_as;
-use crate::uploads::send_file_as;
+use crate::samples::{send_pcm_as, send_pcm_watched};
+use crate::uploads::{send_file_as, send_file_watched};
 use bw_args::{CommandLine, Task, parse};
 use bw_commands::rehearse_run;
 use bw_commands::replay::{replay, replay_fused};
@@ -31,19 +31,20 @@ use bw_lock::FolderLocks;
 use bw_one_name::NameRule;
 use bw_pace::PacedNetwork;
 use bw_ports::{ListenerSetup, Network, Pause, RecordingFiles, Starts, System, Watch};
+use bw_progress::UploadWatch;
 use bw_repair_file::repair_file;
 use bw_resume::StateKeeping;
 use bw_send_file::PlanFeed;
 use bw_send_pcm::PcmFeed;
 use bw_session::Server;
 use bw_stream::{Sink, Source};
-use bw_upload::{Feed, NoObserver, Observer};
+use bw_upload::{Feed, Observer};
 use clap::Error;
 use std::alloc::Global;
 use std::process::ExitCode;
 
 /// Reads the command line, does what it asks for, and returns the program's exit status, 0 to 4.
-/// The watcher gets the progress of `send`.
+/// The watcher gets the progress of `send`, unless its links are logged.
 ///
 /// # Not specified
 /// - When the status 4 is returned.
@@ -59,7 +60,7 @@ pub fn start<
     R: Source,
     W: Sink,
     E: Sink,
-    V: Watch,
+    V: Watch + UploadWatch,
     G: Observer,
 >(alloc: Global, outside: &mut Outside<S, F, D, N, P, R, W, E, V, G>) -> ExitCode
     ensures { (exit : Exit) × (exit_status result ≡ status_of exit) × IsProgram
@@ -86,7 +87,7 @@ fn obey<
     R: Source,
     W: Sink,
     E: Sink,
-    V: Watch,
+    V: Watch + UploadWatch,
     G: Observer,
 >(alloc: Global, outside: &mut Outside<S, F, D, N, P, R, W, E, V, G>) -> Exit
     ensures { IsProgram (host_side S.System F.RecordingFiles (state_side F.kept_at F.States.StateFiles F.States.Log.StateLog)
@@ -115,7 +116,7 @@ fn answer<
     R: Source,
     W: Sink,
     E: Sink,
-    V: Watch,
+    V: Watch + UploadWatch,
     G: Observer,
 >(alloc: Global, words: &[String], outside: &mut Outside<S, F, D, N, P, R, W, E, V, G>) -> Exit
     ensures { IsProgram (host_side S.System F.RecordingFiles (state_side F.kept_at F.States.StateFiles F.States.Log.StateLog)
@@ -144,7 +145,7 @@ fn perform<
     R: Source,
     W: Sink,
     E: Sink,
-    V: Watch,
+    V: Watch + UploadWatch,
     G: Observer,
 >(alloc: Global, line: &CommandLine, outside: &mut Outside<S, F, D, N, P, R, W, E, V, G>) -> Exit
     requires { HasNumbersInRange line.now }
@@ -179,7 +180,7 @@ fn run<
     R: Source,
     W: Sink,
     E: Sink,
-    V: Watch,
+    V: Watch + UploadWatch,
     G: Observer,
 >(alloc: Global, task: &Task, outside: &mut Outside<S, F, D, N, P, R, W, E, V, G>) -> Exit
     requires { HasNumbersInRange (CommandLine.Run task.now) }
@@ -226,15 +227,13 @@ fn run<
             send_file_as(alloc, sender, files, network, pause, log, out, faults)
         }
         Task::SendFile(sender) => {
-            let observer = &mut NoObserver;
-            send_file_as(alloc, sender, files, network, pause, observer, out, faults)
+            send_file_watched(alloc, sender, files, network, pause, watch, out, faults)
         }
         Task::SendPcm(sender) if sender.log => {
             send_pcm_as(alloc, sender, files, network, pause, log, out, faults)
         }
         Task::SendPcm(sender) => {
-            let observer = &mut NoObserver;
-            send_pcm_as(alloc, sender, files, network, pause, observer, out, faults)
+            send_pcm_watched(alloc, sender, files, network, pause, watch, out, faults)
         }
         Task::Pack(source) => pack_as(alloc, source, files, out, faults),
         Task::Picture { file } => draw_file(alloc, files, file.as_str(), out, faults),

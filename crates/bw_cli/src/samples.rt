@@ -9,6 +9,7 @@ use bw_console::Exit;
 use bw_pace::PacedNetwork;
 use bw_plan::Pcm;
 use bw_ports::{Network, Pause, RecordingFiles};
+use bw_progress::{Extent, UploadWatch};
 use bw_recorder::RecordingFile;
 use bw_send_file::{PlanFeed, Recorder};
 use bw_send_pcm::{PcmFeed, PcmFile, follow_samples, send_samples};
@@ -53,6 +54,43 @@ pub(crate) fn send_pcm_as<
             alloc, &recorder, &file, files, pause, &mut dial, observer, out, faults,
         ),
     }
+}
+
+/// Sends the headerless samples that the command line names as `send_pcm_as` does, and has its
+/// progress shown.
+pub(crate) fn send_pcm_watched<
+    F: RecordingFiles,
+    N: PacedNetwork,
+    P: Pause,
+    V: UploadWatch,
+    W: Sink,
+    E: Sink,
+>(
+    alloc: Global,
+    sender: &PcmSender,
+    files: &mut F,
+    network: &N,
+    pause: &mut P,
+    watch: &mut V,
+    out: &mut W,
+    faults: &mut E,
+) -> Exit
+    ensures { SendsPcm
+        (upload_side ⟦<PlanFeed<F::File, F::Stamped> as Feed>⟧ (LooksAt F.Stamped.Stamped)
+        ⟦<PcmFeed<F::Growing> as Feed>⟧ P.Pause)
+        (sender_side N.Dial.Dial N.Dial.Reader.Source N.Dial.Writer.Sink) N.Network
+        F.RecordingFiles W.Sink E.Sink sender.now result files.old files.new network.now
+        pause.old pause.new out.old out.new faults.old faults.new }
+{
+    let file = pcm_file_of(sender);
+    let extent = match ending_of(sender) {
+        Some(_until) => Extent::Growing,
+        None => Extent::Whole,
+    };
+    watch.begin_samples(alloc, &sender.name, &file.file, file.pcm, extent);
+    let exit = send_pcm_as(alloc, sender, files, network, pause, watch, out, faults);
+    watch.end();
+    exit
 }
 
 /// What says that the recording has ended: the path, or none for the end of standard input; None of

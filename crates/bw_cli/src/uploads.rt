@@ -10,6 +10,7 @@ use bw_console::print::give_up;
 use bw_console::{Exit, Fault};
 use bw_pace::PacedNetwork;
 use bw_ports::{Network, Pause, RecordingFiles};
+use bw_progress::UploadWatch;
 use bw_resume::StateKeeping;
 use bw_send_file::{PlanFeed, Recorder, send_file};
 use bw_send_pcm::PcmFeed;
@@ -54,6 +55,39 @@ pub(crate) fn send_file_as<
             )
         }
     }
+}
+
+/// Sends the recording that the command line names as `send_file_as` does, and has its progress
+/// shown.
+pub(crate) fn send_file_watched<
+    F: RecordingFiles + StateKeeping,
+    N: PacedNetwork,
+    P: Pause,
+    V: UploadWatch,
+    W: Sink,
+    E: Sink,
+>(
+    alloc: Global,
+    sender: &FileSender,
+    files: &mut F,
+    network: &N,
+    pause: &mut P,
+    watch: &mut V,
+    out: &mut W,
+    faults: &mut E,
+) -> Exit
+    ensures { SendsByState
+        (upload_side ⟦<PlanFeed<F::File, F::Stamped> as Feed>⟧ (LooksAt F.Stamped.Stamped)
+        ⟦<PcmFeed<F::Growing> as Feed>⟧ P.Pause)
+        (sender_side N.Dial.Dial N.Dial.Reader.Source N.Dial.Writer.Sink) N.Network F.RecordingFiles
+        (state_side F.kept_at F.States.StateFiles F.States.Log.StateLog) W.Sink E.Sink
+        sender.now result files.old files.new network.now
+        pause.old pause.new out.old out.new faults.old faults.new }
+{
+    watch.begin_file(alloc, &sender.name, &recording_of(&sender.source));
+    let exit = send_file_as(alloc, sender, files, network, pause, watch, out, faults);
+    watch.end();
+    exit
 }
 
 /// Sends the recording with the state at a path.

@@ -1,0 +1,3 @@
+pub mod CountedFrames
+pub mod Pieces
+pub mod Measured

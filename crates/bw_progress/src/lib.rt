@@ -1,0 +1,27 @@
+//! The progress of an upload, as one line: what it says, when it is shown again, and who asks for
+//! that. Screens, clocks and files are those of whoever uses it.
+#![tactic(auto)]
+
+mod display;
+mod laws;
+mod line;
+mod measure;
+mod measuring;
+mod pause;
+mod progress;
+mod screen;
+mod shared;
+mod sink;
+mod speed;
+mod watch;
+
+pub use laws::law_counted_frames;
+pub use measure::{Extent, TakeMeasure};
+pub use measuring::{measure_file, measure_samples};
+pub use pause::RenewingPause;
+pub use progress::{LinkState, UploadProgress};
+pub use screen::{ProgressLine, Screen};
+pub use shared::{LineHandle, SharedProgress};
+pub use sink::ClearingSink;
+pub use speed::{Mark, Speed};
+pub use watch::{SendWatch, UploadWatch};
