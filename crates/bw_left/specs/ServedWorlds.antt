@@ -28,12 +28,15 @@ abbrev pub existed_in : (List ℕ → Option (List ℕ)) → List ℕ → Bool
 existed_in first name = is_some (first name)
 
 module _ {X Y : Type 0} (S : StoreGhosts X) (J : JournalGhosts Y) where
-  -- The server is the world's: it holds the book, no call of it failed that left a number waiting,
-  -- and failures still count.
+  -- The server is the world's: it holds the book, and no number waits.
   pub record ServesWorld (first : List ℕ → Option (List ℕ)) (w : World) (s : Server X Y S J) : Type 0 where
     pub honestly : RunsHonestly S J first s w.book
     pub quiet : (name : List ℕ) → is_pending (log_of w.book name) ≡ false
-    pub counting : failures_of S J s < last_count
+
+  -- whatever book the server holds, no number of this name waits
+  abbrev pub NothingWaits : (List ℕ → Option (List ℕ)) → Server X Y S J → List ℕ → Type 0
+  NothingWaits first s name = (book : Book) → HoldsBook S J first s book →
+      is_pending (log_of book name) ≡ false
 
   -- With some faults a turn is that of the world: the server is that of the world afterwards, which
   -- has its replies.
@@ -44,12 +47,18 @@ module _ {X Y : Type 0} (S : StoreGhosts X) (J : JournalGhosts Y) where
     pub written : (comes (existed_in first) w (Says m) faults).replies
         ≡ w.replies ++ map reply_of replies
 
-  -- A turn in which no call fails is one of the world.
+  -- A turn in which no call fails is one of the world, if failures still count.
   abbrev pub TurnsAreOfWorlds : Type 0
   TurnsAreOfWorlds = (first : List ℕ → Option (List ℕ)) (w : World) (old new : Server X Y S J)
       (m : Message) (replies : List Reply) → ServesWorld first w old →
-      HadTurn S J old new m replies → failures_of S J new ≡ failures_of S J old →
-      TurnsWorld first w m replies new
+      HadTurn S J old new m replies → failures_of S J old < last_count →
+      failures_of S J new ≡ failures_of S J old → TurnsWorld first w m replies new
+
+  -- So is one after which nothing waits under the message's name.
+  abbrev pub QuietTurnsAreOfWorlds : Type 0
+  QuietTurnsAreOfWorlds = (first : List ℕ → Option (List ℕ)) (w : World) (old new : Server X Y S J)
+      (m : Message) (replies : List Reply) → ServesWorld first w old →
+      HadTurn S J old new m replies → NothingWaits first new m.name → TurnsWorld first w m replies new
 
   -- A server that stopped in the turn of a message took a step of the world, and left what a start
   -- takes over, from the world's book.
@@ -79,7 +88,7 @@ NoneIsForeign first = (name bytes : List ℕ) → first name ≡ Some bytes → 
 
 module _ {D E F H : Type 0} (G : DiskGhosts D F) (K : DiskGhosts E H)
     (S : StoreGhosts (FolderStore D F G)) (J : JournalGhosts (FolderJournal E H K)) where
-  -- What `start` states of the server that it makes over a folder.
+  -- What `start` states of the server that it makes over a folder; and its disks are honest.
   pub record WasStarted (limit : ℕ) (folder : List ℕ) (sync : Bool) (first : List ℕ → Option (List ℕ))
       (book : Book) (notes : List ℕ → Option (List ℕ))
       (s : Server (FolderStore D F G) (FolderJournal E H K) S J) : Type 0 where
@@ -89,7 +98,6 @@ module _ {D E F H : Type 0} (G : DiskGhosts D F) (K : DiskGhosts E H)
     pub noted : NotesBook S J first s (cut_book book)
     pub settings : IsSetTo limit folder sync s
     pub untouched : KeepsJournals folder notes (K.contents s.stores.journal.disk)
-    pub counting : failures_of S J s < last_count
 
   -- A start over what a server of the world left is the world's next step.
   abbrev pub StartsAreSteps : Type 0

@@ -10,7 +10,7 @@ ghost use Rattle.bw_left.specs.LeftFolders.{LaterBooksForgetNothing};
 ghost use Rattle.bw_left.specs.LeftFolders.{LeftNamesAreInFolders, OrderedServersAreLeft};
 ghost use Rattle.bw_left.specs.LeftFolders.{QuietServersAreLeft};
 ghost use Rattle.bw_left.specs.ServedWorlds.{TurnsAreOfWorlds, DeathsAreSteps, EndsAreLeft};
-ghost use Rattle.bw_left.specs.ServedWorlds.{StartsAreSteps};
+ghost use Rattle.bw_left.specs.ServedWorlds.{QuietTurnsAreOfWorlds, StartsAreSteps};
 ghost use Rattle.bw_left.specs.StoppedLives.{VerdictsOutliveStops};
 ghost use Rattle.bw_left.specs.StoppedTurns.{KilledServersAreLeft, StoppedTurnsAreLeft};
 ghost use Rattle.bw_left.specs.StoppedWorlds.{StoppedWorldsAreFaithful};
@@ -63,12 +63,14 @@ pub fn law_stopped_worlds()
 {}
 
 /// Real servers take the steps of such a world. Of a server that holds the world's book a turn in
-/// which no call fails is one of the world; one that it stops in, whichever of its calls fail, is the
-/// step of its death; and either way, as after a stop between turns, what it leaves is what `start`
-/// takes as its premise. The server that `start` makes over that, by what it states, is the next
-/// one's.
+/// which no call fails, or after which nothing waits, is one of the world; one that it stops in,
+/// whichever of its calls fail, is the step of its death; and either way, as after a stop between
+/// turns, what it leaves is what `start` takes as its premise. The server that `start` makes over
+/// that, by what it states, is the next one's, if its disks are honest.
 pub fn law_served_worlds<D: Volume, E: Volume>()
     ensures turns { TurnsAreOfWorlds ⟦<FolderStore<D> as TakeStore>⟧
+        ⟦<FolderJournal<E> as Journal>⟧ }
+    ensures quiet { QuietTurnsAreOfWorlds ⟦<FolderStore<D> as TakeStore>⟧
         ⟦<FolderJournal<E> as Journal>⟧ }
     ensures deaths { DeathsAreSteps ⟦<FolderStore<D> as TakeStore>⟧
         ⟦<FolderJournal<E> as Journal>⟧ }
