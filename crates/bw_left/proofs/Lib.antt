@@ -9,3 +9,6 @@ pub mod KilledFolders
 pub mod CutAnswers
 pub mod LeftPaths
 pub mod ExamplesOfLeft
+pub mod StoppedWorlds
+pub mod ServedWorlds
+pub mod ExamplesOfStops

@@ -3,13 +3,17 @@
 #![tactic(auto)]
 
 ghost use Rattle.bw_left.specs.ExamplesOfLeft.{CutNoteExample, WholeNoteExample};
+ghost use Rattle.bw_left.specs.ExamplesOfStops.{StoppedTurnExample};
 ghost use Rattle.bw_left.specs.KilledFolders.{KilledFoldersAreLeft};
 ghost use Rattle.bw_left.specs.LeftFolders.{CutAnswersAreNotLeft, CutBooksAreQuiet};
 ghost use Rattle.bw_left.specs.LeftFolders.{LaterBooksForgetNothing};
 ghost use Rattle.bw_left.specs.LeftFolders.{LeftNamesAreInFolders, OrderedServersAreLeft};
 ghost use Rattle.bw_left.specs.LeftFolders.{QuietServersAreLeft};
+ghost use Rattle.bw_left.specs.ServedWorlds.{TurnsAreOfWorlds, DeathsAreSteps, EndsAreLeft};
+ghost use Rattle.bw_left.specs.ServedWorlds.{QuietTurnsAreOfWorlds, StartsAreSteps};
 ghost use Rattle.bw_left.specs.StoppedLives.{VerdictsOutliveStops};
 ghost use Rattle.bw_left.specs.StoppedTurns.{KilledServersAreLeft, StoppedTurnsAreLeft};
+ghost use Rattle.bw_left.specs.StoppedWorlds.{StoppedWorldsAreFaithful};
 
 use bw_disk::Volume;
 use bw_folder::{FolderJournal, FolderStore};
@@ -53,9 +57,38 @@ pub fn law_lives()
     ensures { VerdictsOutliveStops }
 {}
 
+/// Whatever is lost, repeated or reordered between a sender and servers that follow one another, and
+/// whichever turn a server stops in, however often: the sender counts only what the take has, and each
+/// verdict that was ever written stays that of a done number.
+pub fn law_stopped_worlds()
+    ensures { StoppedWorldsAreFaithful }
+{}
+
+/// Real servers take the steps of such a world. Of a server that holds the world's book a turn in
+/// which no call fails, or after which nothing waits, is one of the world; one that it stops in,
+/// whichever of its calls fail, is the step of its death; and either way, as after a stop between
+/// turns, what it leaves is what `start` takes as its premise. The server that `start` makes over
+/// that, by what it states, is the next one's, if its disks are honest.
+pub fn law_served_worlds<D: Volume, E: Volume>()
+    ensures turns { TurnsAreOfWorlds ⟦<FolderStore<D> as TakeStore>⟧
+        ⟦<FolderJournal<E> as Journal>⟧ }
+    ensures quiet { QuietTurnsAreOfWorlds ⟦<FolderStore<D> as TakeStore>⟧
+        ⟦<FolderJournal<E> as Journal>⟧ }
+    ensures deaths { DeathsAreSteps ⟦<FolderStore<D> as TakeStore>⟧
+        ⟦<FolderJournal<E> as Journal>⟧ }
+    ensures ends { EndsAreLeft ⟦<FolderStore<D> as TakeStore>⟧ ⟦<FolderJournal<E> as Journal>⟧ }
+    ensures starts { StartsAreSteps D.Disk E.Disk ⟦<FolderStore<D> as TakeStore>⟧
+        ⟦<FolderJournal<E> as Journal>⟧ }
+{}
+
 /// Worked rows: a server that is killed while it notes a BLOCK, in the middle of the entry and at its
 /// end.
 pub fn examples_of_left()
     ensures cut { CutNoteExample }
     ensures whole { WholeNoteExample }
+{}
+
+/// A worked row: a server that stops in the turn of an OPEN, and the next one.
+pub fn examples_of_stops()
+    ensures { StoppedTurnExample }
 {}
