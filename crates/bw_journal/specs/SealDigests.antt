@@ -26,11 +26,11 @@ abbrev pub IsWholeAt : List ℕ → ℕ → Type 0
 IsWholeAt bytes place = IsTrue (is_whole (drop place bytes))
 
 -- each digest is that of the content at the place in its lane
-abbrev pub AreDigestsIn : List ℕ → SealDigests → Type 0
-AreDigestsIn bytes d =
+abbrev pub AreContentDigestsIn : List ℕ → SealDigests → Type 0
+AreContentDigestsIn bytes d =
     InEachLane (λ j. slice_index_or d.digests j []
     ≡ sha256 (content_at_start (drop (place_at d.places j) bytes)))
 
 -- those that are known, if any are
-abbrev pub KeepsDigests : List ℕ → Option SealDigests → Type 0
-KeepsDigests bytes known = IfSome known (AreDigestsIn bytes)
+abbrev pub KeepsContentDigests : List ℕ → Option SealDigests → Type 0
+KeepsContentDigests bytes known = IfSome known (AreContentDigestsIn bytes)

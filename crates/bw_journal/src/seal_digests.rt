@@ -4,7 +4,7 @@ ghost use Rattle.sha2.specs.Sha256.{sha256};
 ghost use Rattle.bw_digest.specs.Lanes.{InEachLane};
 ghost use Rattle.bw_digest.specs.Messages.{lent_at};
 ghost use Rattle.bw_journal.specs.SealDigests.{content_at_start, place_at, IsWholeAt};
-ghost use Rattle.bw_journal.specs.SealDigests.{AreDigestsIn, KeepsDigests};
+ghost use Rattle.bw_journal.specs.SealDigests.{AreContentDigestsIn, KeepsContentDigests};
 
 use crate::seal::{content_of, is_whole};
 use bw_digest::{LANES, digests};
@@ -27,8 +27,8 @@ pub(crate) fn digest_at(
     place: usize,
 ) -> Option<[u8; 32]>
     requires within { place ≤ length bytes.now }
-    requires known { KeepsDigests bytes.now known.old }
-    ensures kept { KeepsDigests bytes.now known.new }
+    requires known { KeepsContentDigests bytes.now known.old }
+    ensures kept { KeepsContentDigests bytes.now known.new }
     ensures digest { IfSome result (λ d. d ≡ sha256 (content_at_start (drop place bytes.now))) }
 {
     if let Some(digest) = find(known, place) {
@@ -40,7 +40,7 @@ pub(crate) fn digest_at(
 
 /// The digest of the content that is sealed at a place, if it is known.
 fn find(known: &Option<SealDigests>, place: usize) -> Option<[u8; 32]>
-    ensures { (bytes : List ℕ) → KeepsDigests bytes known.now →
+    ensures { (bytes : List ℕ) → KeepsContentDigests bytes known.now →
         IfSome result (λ d. d ≡ sha256 (content_at_start (drop place bytes))) }
 {
     match known {
@@ -54,7 +54,7 @@ impl SealDigests {
     /// once.
     fn of(bytes: &[u8], start: usize) -> Option<SealDigests>
         requires { start ≤ length bytes.now }
-        ensures { IfSome result (λ d. AreDigestsIn bytes.now d) }
+        ensures { IfSome result (λ d. AreContentDigestsIn bytes.now d) }
     {
         let Some(places) = places_of(bytes, start) else {
             return None;
@@ -71,7 +71,7 @@ impl SealDigests {
 
     /// The digest of the content at a place, if it is among these.
     fn find(&self, place: usize) -> Option<[u8; 32]>
-        ensures { (bytes : List ℕ) → AreDigestsIn bytes self.now →
+        ensures { (bytes : List ℕ) → AreContentDigestsIn bytes self.now →
             IfSome result (λ d. d ≡ sha256 (content_at_start (drop place bytes))) }
     {
         for lane in 0..LANES {

@@ -18,7 +18,7 @@ use Rattle.bw_journal.specs.Stops.{cut_log, cut_book}
 use Rattle.bw_journal.proofs.CutLaws.{at-take, at-take_some, verdict-cut, logs_cut}
 use Rattle.bw_session.specs.Numbered.{with_done}
 use Rattle.bw_left.specs.LeftFolders.{GoesAhead}
-use Rattle.bw_left.specs.StoppedWorlds.{Step, Happens, Dies, Starts, MayCome, StepsTo}
+use Rattle.bw_left.specs.StoppedWorlds.{WorldStep, Happens, Dies, Stops, Starts, MayCome, WorldStepsTo}
 use Rattle.bw_left.specs.StoppedWorlds.{StoppedWorldsAreFaithful}
 
 -- what is sound stays so if the log is cut
@@ -153,13 +153,15 @@ dies_kept existed w m faults left kept may ahead =
     (turn existed w.book (Says m) faults).0 moved.reported) moved
 
 -- each step keeps the sender's part true
-steps_kept : (existed : List ℕ → Bool) (w : World) (steps : List Step) (later : World) → IsKept existed w →
-    StepsTo existed w steps later → IsKept existed later
+steps_kept : (existed : List ℕ → Bool) (w : World) (steps : List WorldStep) (later : World) → IsKept existed w →
+    WorldStepsTo existed w steps later → IsKept existed later
 steps_kept existed w [] later kept same = subst (IsKept existed) (sym same) kept
 steps_kept existed w (Happens e faults ∷ ss) later kept (next, more) =
     steps_kept existed (happens existed w e faults) ss later (event_true existed w e faults kept) more
 steps_kept existed w (Dies m faults left ∷ ss) later kept (next, more) =
     steps_kept existed (record w { book = left }) ss later (dies_kept existed w m faults left kept next.0 next.1) more
+steps_kept existed w (Stops left ∷ ss) later kept (next, more) =
+    steps_kept existed (record w { book = left }) ss later (ahead_kept existed w kept left next) more
 steps_kept existed w (Starts ∷ ss) later kept (next, more) =
     steps_kept existed (record w { book = cut_book w.book }) ss later (cut_kept existed w kept) more
 

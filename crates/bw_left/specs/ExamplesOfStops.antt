@@ -8,7 +8,7 @@ use Rattle.bw_model.specs.Turn.{good}
 use Rattle.bw_model.specs.Exchange.{nothing_stands}
 use Rattle.bw_model.specs.ExampleWords.{a1, mono}
 use Rattle.bw_model.specs.World.{World, Offer, Send, Deliver, Bring, new_world, settled}
-use Rattle.bw_left.specs.StoppedWorlds.{Step, Happens, Dies, Starts, StepsTo}
+use Rattle.bw_left.specs.StoppedWorlds.{WorldStep, Happens, Dies, Starts, WorldStepsTo}
 
 -- an OPEN, the number 0 of its name
 abbrev pub open_message : Message
@@ -20,7 +20,7 @@ opened_book done = (a1, record { admitted = Some (Open mono []) ∷ []; done = d
 
 -- the OPEN is sent; a call fails in its turn, but it was noted; the next server gets it again, and
 -- the sender its reply
-abbrev pub stopped_steps : List Step
+abbrev pub stopped_steps : List WorldStep
 stopped_steps =
     Happens (Offer (Open mono [])) good
     ∷ Happens (Send 0) good
@@ -42,5 +42,5 @@ world_after_stop = record {
 -- the sender counts it
 abbrev pub StoppedTurnExample : Type 0
 StoppedTurnExample =
-    StepsTo nothing_stands (new_world a1) stopped_steps world_after_stop
+    WorldStepsTo nothing_stands (new_world a1) stopped_steps world_after_stop
     × (settled world_after_stop.sender ≡ 1)

@@ -1,9 +1,7 @@
 -- Servers as those of a world: which steps of it their turns, their stops and their starts are.
-use Rattle.std.specs.Prelude.{◌≡◌, ◌<◌, ℕ, Bool, false, Option, Some, is_some, IsTrue, List, ◌++◌, map}
-use Rattle.bw_model.specs.Counts.{last_count}
+use Rattle.std.specs.Prelude.{◌≡◌, ℕ, Bool, false, Option, Some, is_some, IsTrue, List, ◌++◌, map}
 use Rattle.bw_model.specs.Wire.{Message, Says}
-use Rattle.bw_model.specs.Book.{Book, log_of}
-use Rattle.bw_model.specs.CountedTurn.{is_pending}
+use Rattle.bw_model.specs.Book.{Book}
 use Rattle.bw_model.specs.Turn.{Faults}
 use Rattle.bw_model.specs.World.{World, comes}
 use Rattle.bw_store.specs.declared.store.TakeStore.{Ghosts as StoreGhosts}
@@ -14,29 +12,24 @@ use Rattle.bw_wire.specs.declared.reply.Reply.{Reply}
 use Rattle.bw_wire.specs.Replies.{reply_of}
 use Rattle.bw_folder.specs.declared.folder.FolderStore.{FolderStore}
 use Rattle.bw_folder.specs.declared.journal.FolderJournal.{FolderJournal}
-use Rattle.bw_session.specs.Books.{failures_of, HoldsBook, NotesBook}
+use Rattle.bw_session.specs.Books.{HoldsBook, NotesBook}
 use Rattle.bw_session.specs.declared.server.Server.{Server}
 use Rattle.bw_start.specs.Names.{begins_take}
 use Rattle.bw_start.specs.LeftNames.{IsLeft}
 use Rattle.bw_start.specs.Restored.{KeepsJournals}
 use Rattle.bw_start.specs.Started.{IsLeftIn, IsSetTo}
 use Rattle.bw_left.specs.StoppedTurns.{RunsHonestly, HadTurn}
-use Rattle.bw_left.specs.StoppedWorlds.{Dies, Starts, after_step, MayCome, IsNextStep}
+use Rattle.bw_left.specs.StoppedWorlds.{Dies, Stops, Starts, after_world_step, MayCome, IsNextStep}
 
 -- whether a file existed under a name before the first server
 abbrev pub existed_in : (List ℕ → Option (List ℕ)) → List ℕ → Bool
 existed_in first name = is_some (first name)
 
 module _ {X Y : Type 0} (S : StoreGhosts X) (J : JournalGhosts Y) where
-  -- The server is the world's: it holds the book, and no number waits.
-  pub record ServesWorld (first : List ℕ → Option (List ℕ)) (w : World) (s : Server X Y S J) : Type 0 where
-    pub honestly : RunsHonestly S J first s w.book
-    pub quiet : (name : List ℕ) → is_pending (log_of w.book name) ≡ false
-
-  -- whatever book the server holds, no number of this name waits
-  abbrev pub NothingWaits : (List ℕ → Option (List ℕ)) → Server X Y S J → List ℕ → Type 0
-  NothingWaits first s name = (book : Book) → HoldsBook S J first s book →
-      is_pending (log_of book name) ≡ false
+  -- The server is the world's: it holds the world's book, and file and entry of each number are in
+  -- order.
+  abbrev pub ServesWorld : (List ℕ → Option (List ℕ)) → World → Server X Y S J → Type 0
+  ServesWorld first w s = RunsHonestly S J first s w.book
 
   -- With some faults a turn is that of the world: the server is that of the world afterwards, which
   -- has its replies.
@@ -47,18 +40,11 @@ module _ {X Y : Type 0} (S : StoreGhosts X) (J : JournalGhosts Y) where
     pub written : (comes (existed_in first) w (Says m) faults).replies
         ≡ w.replies ++ map reply_of replies
 
-  -- A turn in which no call fails is one of the world, if failures still count.
+  -- Each turn is one of the world, whichever calls fail in it.
   abbrev pub TurnsAreOfWorlds : Type 0
   TurnsAreOfWorlds = (first : List ℕ → Option (List ℕ)) (w : World) (old new : Server X Y S J)
       (m : Message) (replies : List Reply) → ServesWorld first w old →
-      HadTurn S J old new m replies → failures_of S J old < last_count →
-      failures_of S J new ≡ failures_of S J old → TurnsWorld first w m replies new
-
-  -- So is one after which nothing waits under the message's name.
-  abbrev pub QuietTurnsAreOfWorlds : Type 0
-  QuietTurnsAreOfWorlds = (first : List ℕ → Option (List ℕ)) (w : World) (old new : Server X Y S J)
-      (m : Message) (replies : List Reply) → ServesWorld first w old →
-      HadTurn S J old new m replies → NothingWaits first new m.name → TurnsWorld first w m replies new
+      HadTurn S J old new m replies → TurnsWorld first w m replies new
 
   -- A server that stopped in the turn of a message took a step of the world, and left what a start
   -- takes over, from the world's book.
@@ -67,7 +53,7 @@ module _ {X Y : Type 0} (S : StoreGhosts X) (J : JournalGhosts Y) where
     pub faults : Faults
     pub left : Book
     pub next : IsNextStep (existed_in first) w (Dies m faults left)
-    pub stands : IsLeft s.limit first (after_step (existed_in first) w (Dies m faults left)).book
+    pub stands : IsLeft s.limit first (after_world_step (existed_in first) w (Dies m faults left)).book
         (J.notes s.stores.journal) (S.contents s.stores.store)
 
   -- So does each, whichever of its calls fail in that turn.
@@ -76,11 +62,18 @@ module _ {X Y : Type 0} (S : StoreGhosts X) (J : JournalGhosts Y) where
       (m : Message) (replies : List Reply) → ServesWorld first w old → MayCome w m →
       HadTurn S J old new m replies → DiesInWorld first w m new
 
-  -- One that stops between turns leaves that too.
-  abbrev pub EndsAreLeft : Type 0
-  EndsAreLeft = (first : List ℕ → Option (List ℕ)) (w : World) (s : Server X Y S J) →
-      ServesWorld first w s →
-      IsLeft s.limit first w.book (J.notes s.stores.journal) (S.contents s.stores.store)
+  -- A server that stopped between turns took a step of the world, and left that too.
+  pub record StopsInWorld (first : List ℕ → Option (List ℕ)) (w : World) (s : Server X Y S J) :
+      Type 0 where
+    pub left : Book
+    pub next : IsNextStep (existed_in first) w (Stops left)
+    pub stands : IsLeft s.limit first (after_world_step (existed_in first) w (Stops left)).book
+        (J.notes s.stores.journal) (S.contents s.stores.store)
+
+  -- So does each, also while numbers wait.
+  abbrev pub StopsAreSteps : Type 0
+  StopsAreSteps = (first : List ℕ → Option (List ℕ)) (w : World) (s : Server X Y S J) →
+      ServesWorld first w s → StopsInWorld first w s
 
 -- no file that begins as this server's existed before the first one
 abbrev pub NoneIsForeign : (List ℕ → Option (List ℕ)) → Type 0
@@ -106,4 +99,4 @@ module _ {D E F H : Type 0} (G : DiskGhosts D F) (K : DiskGhosts E H)
       (s : Server (FolderStore D F G) (FolderJournal E H K) S J) → NoneIsForeign first →
       IsLeftIn limit folder first w.book notes takes →
       WasStarted limit folder sync first w.book notes s →
-      ServesWorld S J first (after_step (existed_in first) w Starts) s
+      ServesWorld S J first (after_world_step (existed_in first) w Starts) s

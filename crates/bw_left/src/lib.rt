@@ -9,8 +9,8 @@ ghost use Rattle.bw_left.specs.LeftFolders.{CutAnswersAreNotLeft, CutBooksAreQui
 ghost use Rattle.bw_left.specs.LeftFolders.{LaterBooksForgetNothing};
 ghost use Rattle.bw_left.specs.LeftFolders.{LeftNamesAreInFolders, OrderedServersAreLeft};
 ghost use Rattle.bw_left.specs.LeftFolders.{QuietServersAreLeft};
-ghost use Rattle.bw_left.specs.ServedWorlds.{TurnsAreOfWorlds, DeathsAreSteps, EndsAreLeft};
-ghost use Rattle.bw_left.specs.ServedWorlds.{QuietTurnsAreOfWorlds, StartsAreSteps};
+ghost use Rattle.bw_left.specs.ServedWorlds.{TurnsAreOfWorlds, DeathsAreSteps, StopsAreSteps};
+ghost use Rattle.bw_left.specs.ServedWorlds.{StartsAreSteps};
 ghost use Rattle.bw_left.specs.StoppedLives.{VerdictsOutliveStops};
 ghost use Rattle.bw_left.specs.StoppedTurns.{KilledServersAreLeft, StoppedTurnsAreLeft};
 ghost use Rattle.bw_left.specs.StoppedWorlds.{StoppedWorldsAreFaithful};
@@ -58,25 +58,22 @@ pub fn law_lives()
 {}
 
 /// Whatever is lost, repeated or reordered between a sender and servers that follow one another, and
-/// whichever turn a server stops in, however often: the sender counts only what the take has, and each
+/// whenever a server stops, within a turn too, however often: the sender counts only what the take has, and each
 /// verdict that was ever written stays that of a done number.
 pub fn law_stopped_worlds()
     ensures { StoppedWorldsAreFaithful }
 {}
 
-/// Real servers take the steps of such a world. Of a server that holds the world's book a turn in
-/// which no call fails, or after which nothing waits, is one of the world; one that it stops in,
-/// whichever of its calls fail, is the step of its death; and either way, as after a stop between
-/// turns, what it leaves is what `start` takes as its premise. The server that `start` makes over
+/// Real servers take the steps of such a world, whichever of their calls fail. Each turn of a server
+/// that holds the world's book is one of the world; a stop within a turn, or between turns, is a step
+/// too, and what it leaves is what `start` takes as its premise. The server that `start` makes over
 /// that, by what it states, is the next one's, if its disks are honest.
 pub fn law_served_worlds<D: Volume, E: Volume>()
     ensures turns { TurnsAreOfWorlds ⟦<FolderStore<D> as TakeStore>⟧
         ⟦<FolderJournal<E> as Journal>⟧ }
-    ensures quiet { QuietTurnsAreOfWorlds ⟦<FolderStore<D> as TakeStore>⟧
-        ⟦<FolderJournal<E> as Journal>⟧ }
     ensures deaths { DeathsAreSteps ⟦<FolderStore<D> as TakeStore>⟧
         ⟦<FolderJournal<E> as Journal>⟧ }
-    ensures ends { EndsAreLeft ⟦<FolderStore<D> as TakeStore>⟧ ⟦<FolderJournal<E> as Journal>⟧ }
+    ensures stops { StopsAreSteps ⟦<FolderStore<D> as TakeStore>⟧ ⟦<FolderJournal<E> as Journal>⟧ }
     ensures starts { StartsAreSteps D.Disk E.Disk ⟦<FolderStore<D> as TakeStore>⟧
         ⟦<FolderJournal<E> as Journal>⟧ }
 {}

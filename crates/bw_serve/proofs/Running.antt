@@ -1,6 +1,6 @@
 -- A run, so far.
 use Rattle.std.proofs.Common.{◌≡◌, ℕ, ◌+◌, ◌-◌, ◌^◌, ◌<◌, ◌≤◌, Bool, true, false, nat_lt}
-use Rattle.std.proofs.Common.{if◌then◌else◌, ltb-false, List, [], ◌++◌, length, refl, sym, ap}
+use Rattle.std.proofs.Common.{if◌then◌else◌, ltb-false, List, [], ◌∷◌, ◌++◌, length, refl, sym, ap}
 use Rattle.std.proofs.Common.{subst, ◌∙◌, arith}
 use Rattle.std.proofs.Common.{append_assoc}
 use Rattle.std.proofs.lemmas.List.{append-nil, length-append, map-append}
@@ -22,8 +22,10 @@ use Rattle.bw_serve.specs.Rounds.{ServesInRounds, ServesRound, IsShut, ended_of_
 use Rattle.bw_serve.specs.Admissions.{HostsAll}
 use Rattle.bw_ports.specs.Reactors.{Admission}
 use Rattle.bw_serve.specs.Lines.{LogsEnds, ReportsEnds}
-use Rattle.bw_serve.specs.Serving.{EndsAt, HasServed}
+use Rattle.bw_serve.specs.Serving.{EndsAt}
+use Rattle.bw_serve.specs.Observing.{HasObserved, LooksAtRound, LooksAtEach, states_of_run}
 use Rattle.bw_serve.specs.declared.event_loop.EventLoop.{EventLoop}
+use Rattle.bw_serve.specs.declared.observing.RoundReport.{RoundReport}
 use Rattle.bw_ports.specs.declared.reactor.Reactor.{Ghosts as ReactorGhosts}
 use Rattle.bw_serve.specs.declared.serving.Bounds.{Bounds}
 use Rattle.bw_serve.proofs.Counting.{logs_still, logs_then, logs_unasked}
@@ -89,10 +91,17 @@ module _ {L S O E : Type 0} (G : LinkGhosts L) (answers : S → Frame → List R
         hosts = y.hosts over trace links x.keeps x.hosts;
       }
 
-module _ {B L S O E : Type 0} (reactor : ReactorGhosts B L) (G : LinkGhosts L)
-    (answers : S → Frame → List Reply → S → Type 0) (out : Writer O) (reported : Writer E) (log : Bool) where
-  -- what rounds have resulted in, one after another
-  pub record Runs (places idle exchanges : ℕ) (c : EventLoop L) (s s' : S) (b b' : B) (o o' : O) (e e' : E)
+-- looks at these, and then at those
+looks_then : {L S V : Type 0} (looks : V → S → RoundReport → V → Type 0) (xs ys : List (EventLoop L × S)) (v w z : V) →
+    LooksAtEach looks xs v w → LooksAtEach looks ys w z → LooksAtEach looks (xs ++ ys) v z
+looks_then looks [] ys v w z same more = subst (λ a. LooksAtEach looks ys a z) same more
+looks_then looks (x ∷ xs) ys v w z each more = (each.0, each.1, looks_then looks xs ys each.0 w z each.2 more)
+
+module _ {B L S O E V : Type 0} (reactor : ReactorGhosts B L) (G : LinkGhosts L)
+    (answers : S → Frame → List Reply → S → Type 0) (out : Writer O) (reported : Writer E) (log : Bool)
+    (looks : V → S → RoundReport → V → Type 0) where
+  -- what rounds have resulted in, one after another, and what the observer has
+  pub record Runs (places idle exchanges : ℕ) (c : EventLoop L) (s s' : S) (b b' : B) (o o' : O) (e e' : E) (v v' : V)
       : Type 0 where
     pub rounds : ServesInRounds reactor G answers out reported log places idle exchanges c s s' b b' o o' e e'
     pub links : List (Admission L)
@@ -101,81 +110,90 @@ module _ {B L S O E : Type 0} (reactor : ReactorGhosts B L) (G : LinkGhosts L)
         (frames_of_run reactor G answers out reported log places idle exchanges c s s' b b' o o' e e' rounds)
         (ended_of_run reactor G answers out reported log places idle exchanges c s s' b b' o o' e e' rounds) links c s s' o o'
         e e'
+    pub looked : LooksAtEach looks
+        (states_of_run reactor G answers out reported log places idle exchanges c s s' b b' o o' e e' rounds) v v'
 
   -- no round yet
-  pub runs_none : (places idle exchanges : ℕ) (c : EventLoop L) (s : S) (b : B) (o : O) (e : E) → IsNew G places c →
-      Runs places idle exchanges c s s b b o o e e
+  pub runs_none : (places idle exchanges : ℕ) (c : EventLoop L) (s : S) (b : B) (o : O) (e : E) (v : V) →
+      IsNew G places c → Runs places idle exchanges c s s b b o o e e v v
   unfolding no_rounds
-  runs_none places idle exchanges c s b o e n = record {
+  runs_none places idle exchanges c s b o e v n = record {
     rounds = no_rounds reactor G answers out reported log places idle exchanges c s b o e n;
     links = [];
     gave = λ xs was. subst (reactor.admitted b) (sym (append-nil xs)) was;
     so_far = none_so_far G answers out reported log places c s o e n;
+    looked = refl;
   }
 
   -- one round more
-  pub runs_more : (places idle exchanges : ℕ) (a b : EventLoop L) (s t u : S) (x y z : B) (o p q : O) (e f g : E) →
-      Runs places idle exchanges a s t x y o p e f → a.ended < exchanges →
-      ServesRound reactor G answers out reported log idle exchanges a b t u y z p q f g →
-      Runs places idle exchanges b s u x z o q e g
+  pub runs_more : (places idle exchanges : ℕ) (a b : EventLoop L) (s t u : S) (x y z : B) (o p q : O) (e f g : E)
+      (v w v' : V) → Runs places idle exchanges a s t x y o p e f v w → a.ended < exchanges →
+      ServesRound reactor G answers out reported log idle exchanges a b t u y z p q f g → LooksAtRound looks b u w v' →
+      Runs places idle exchanges b s u x z o q e g v v'
   unfolding rounds_more
-  runs_more places idle exchanges a b s t u x y z o p q e f g r few w = record {
-    rounds = rounds_more reactor G answers out reported log places idle exchanges a b s t u x y z o p q e f g r.rounds few w;
-    links = r.links ++ w.welcomes.links;
-    gave = λ xs was. subst (reactor.admitted z) (append_assoc xs r.links w.welcomes.links)
-        (w.welcomes.gave (xs ++ r.links) (r.gave xs was));
-    so_far = more_so_far G answers out reported log _ _ _ _ r.links w.welcomes.links a b s t u o p q e f g r.so_far
-        (round_advances reactor G answers out reported log idle exchanges a b t u y z p q f g w);
+  runs_more places idle exchanges a b s t u x y z o p q e f g v w v' r few round look = record {
+    rounds = rounds_more reactor G answers out reported log places idle exchanges a b s t u x y z o p q e f g r.rounds few
+        round;
+    links = r.links ++ round.welcomes.links;
+    gave = λ xs was. subst (reactor.admitted z) (append_assoc xs r.links round.welcomes.links)
+        (round.welcomes.gave (xs ++ r.links) (r.gave xs was));
+    so_far = more_so_far G answers out reported log _ _ _ _ r.links round.welcomes.links a b s t u o p q e f g r.so_far
+        (round_advances reactor G answers out reported log idle exchanges a b t u y z p q f g round);
+    looked = looks_then looks (states_of_run reactor G answers out reported log places idle exchanges a s t x y o p e f r.rounds)
+        ((b, u) ∷ []) v w v' r.looked (v', look, refl);
   }
 
   -- nothing else was done
-  runs_still : (places idle exchanges : ℕ) (c : EventLoop L) (s t u : S) (b b' : B) (o p q : O) (e f g : E) →
-      Runs places idle exchanges c s t b b' o p e f → u ≡ t → q ≡ p → g ≡ f →
-      Runs places idle exchanges c s u b b' o q e g
-  runs_still places idle n c s t u b b' o p q e f g r server printed logged =
-      subst (λ (v : S). Runs places idle n c s v b b' o q e g) (sym server)
-      (subst (λ (x : O). Runs places idle n c s t b b' o x e g) (sym printed)
-      (subst (λ (h : E). Runs places idle n c s t b b' o p e h) (sym logged) r))
+  runs_still : (places idle exchanges : ℕ) (c : EventLoop L) (s t u : S) (b b' : B) (o p q : O) (e f g : E) (v v' : V) →
+      Runs places idle exchanges c s t b b' o p e f v v' → u ≡ t → q ≡ p → g ≡ f →
+      Runs places idle exchanges c s u b b' o q e g v v'
+  runs_still places idle n c s t u b b' o p q e f g v v' r server printed logged =
+      subst (λ (a : S). Runs places idle n c s a b b' o q e g v v') (sym server)
+      (subst (λ (x : O). Runs places idle n c s t b b' o x e g v v') (sym printed)
+      (subst (λ (h : E). Runs places idle n c s t b b' o p e h v v') (sym logged) r))
 
   -- it ends so
   pub runs_over : EachIsServed G → (bounds : Bounds) (exit : Exit) (c : EventLoop L) (s s' : S) (b b' : B) (o o' : O)
-      (e e' : E) (r : Runs bounds.places bounds.idle bounds.exchanges c s s' b b' o o' e e') →
+      (e e' : E) (v v' : V) (r : Runs bounds.places bounds.idle bounds.exchanges c s s' b b' o o' e e' v v') →
       begun_of c.connections ≤ bounds.exchanges → ((over : List (Closed L)) → c.ended ≡ up_to_last (length over) →
       EndsAt reactor exit bounds.exchanges (length over) b b') →
-      HasServed reactor G answers out reported log bounds exit s s' b b' o o' e e'
-  runs_over law bounds exit c s s' b b' o o' e e' r most ends = record {
-    following = c;
-    reactor_after = b';
-    in_rounds = r.rounds;
-    trace = frames_of_run reactor G answers out reported log bounds.places bounds.idle bounds.exchanges c s s' b b' o o' e e'
-        r.rounds;
-    taken = refl;
-    by_server = r.so_far.by_server;
-    over = ended_of_run reactor G answers out reported log bounds.places bounds.idle bounds.exchanges c s s' b b' o o' e e'
-        r.rounds;
-    are_over = refl;
-    event_loop = c;
-    last = grows_still G c;
-    links = r.links;
-    gave = r.gave;
-    hosts = r.so_far.hosts;
-    each = law c.connections _ _ r.so_far.keeps;
-    most = most;
-    printed = r.so_far.printed;
-    logged = r.so_far.logged;
-    unasked = λ no. logs_unasked G reported log _ _ e e' no r.so_far.logged;
-    ends = ends _ r.so_far.ended;
+      HasObserved reactor G answers out reported log looks bounds exit s s' b b' o o' e e' v v'
+  runs_over law bounds exit c s s' b b' o o' e e' v v' r most ends = record {
+    run = record {
+      following = c;
+      reactor_after = b';
+      in_rounds = r.rounds;
+      trace = frames_of_run reactor G answers out reported log bounds.places bounds.idle bounds.exchanges c s s' b b' o o' e e'
+          r.rounds;
+      taken = refl;
+      by_server = r.so_far.by_server;
+      over = ended_of_run reactor G answers out reported log bounds.places bounds.idle bounds.exchanges c s s' b b' o o' e e'
+          r.rounds;
+      are_over = refl;
+      event_loop = c;
+      last = grows_still G c;
+      links = r.links;
+      gave = r.gave;
+      hosts = r.so_far.hosts;
+      each = law c.connections _ _ r.so_far.keeps;
+      most = most;
+      printed = r.so_far.printed;
+      logged = r.so_far.logged;
+      unasked = λ no. logs_unasked G reported log _ _ e e' no r.so_far.logged;
+      ends = ends _ r.so_far.ended;
+    };
+    looked = r.looked;
   }
 
   -- a run that ends because no more are accepted
   pub runs_shut : EachIsServed G → (bounds : Bounds) (exit : Exit) (c d : EventLoop L) (s t u : S) (b x y : B) (o p q : O)
-      (e f g : E) → Runs bounds.places bounds.idle bounds.exchanges c s t b x o p e f →
+      (e f g : E) (v v' : V) → Runs bounds.places bounds.idle bounds.exchanges c s t b x o p e f v v' →
       IsShut reactor G c d t u x y p q f g → begun_of d.connections ≤ bounds.exchanges →
       ((over : List (Closed L)) → EndsAt reactor exit bounds.exchanges (length over) b y) →
-      HasServed reactor G answers out reported log bounds exit s u b y o q e g
-  runs_shut law bounds exit c d s t u b x y o p q e f g before shut most ends =
-      let r = runs_still bounds.places bounds.idle bounds.exchanges c s t u b x o p q e f g before shut.server shut.printed
-      shut.logged in
+      HasObserved reactor G answers out reported log looks bounds exit s u b y o q e g v v'
+  runs_shut law bounds exit c d s t u b x y o p q e f g v v' before shut most ends =
+      let r = runs_still bounds.places bounds.idle bounds.exchanges c s t u b x o p q e f g v v' before shut.server
+      shut.printed shut.logged in
       let trace = frames_of_run reactor G answers out reported log bounds.places bounds.idle bounds.exchanges c s u b x o q e g
       r.rounds in
       let over = ended_of_run reactor G answers out reported log bounds.places bounds.idle bounds.exchanges c s u b x o q e g
@@ -188,24 +206,27 @@ module _ {B L S O E : Type 0} (reactor : ReactorGhosts B L) (G : LinkGhosts L)
       hosts_admitted_each G shut.now received shut.noticed d over links shut.welcomes.admits
       (hosts_woken G shut.reported c shut.noticed over links shut.notices.begun shut.notices.refused shut.wakes h)))) in
       record {
-        following = c;
-        reactor_after = x;
-        in_rounds = r.rounds;
-        trace = trace ++ [];
-        taken = append-nil trace;
-        by_server = now.by_server;
-        over = over ++ [];
-        are_over = append-nil over;
-        event_loop = d;
-        last = grows;
-        links = r.links ++ received;
-        gave = λ xs was. subst (reactor.admitted y) (append_assoc xs r.links received)
-            (shut.welcomes.gave (xs ++ r.links) (r.gave xs was));
-        hosts = now.hosts;
-        each = law d.connections (over ++ []) (trace ++ []) now.keeps;
-        most = most;
-        printed = now.printed;
-        logged = now.logged;
-        unasked = λ no. logs_unasked G reported log (over ++ []) (trace ++ []) e g no now.logged;
-        ends = ends (over ++ []);
+        run = record {
+          following = c;
+          reactor_after = x;
+          in_rounds = r.rounds;
+          trace = trace ++ [];
+          taken = append-nil trace;
+          by_server = now.by_server;
+          over = over ++ [];
+          are_over = append-nil over;
+          event_loop = d;
+          last = grows;
+          links = r.links ++ received;
+          gave = λ xs was. subst (reactor.admitted y) (append_assoc xs r.links received)
+              (shut.welcomes.gave (xs ++ r.links) (r.gave xs was));
+          hosts = now.hosts;
+          each = law d.connections (over ++ []) (trace ++ []) now.keeps;
+          most = most;
+          printed = now.printed;
+          logged = now.logged;
+          unasked = λ no. logs_unasked G reported log (over ++ []) (trace ++ []) e g no now.logged;
+          ends = ends (over ++ []);
+        };
+        looked = r.looked;
       }

@@ -4,6 +4,7 @@ pub mod PeerSlots
 pub mod EventLoops
 pub mod Rounds
 pub mod Serving
+pub mod Observing
 pub mod Names
 pub mod Reported
 pub mod Refusals

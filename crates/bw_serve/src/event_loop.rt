@@ -5,6 +5,7 @@ ghost use Rattle.bw_wire.specs.Held.{longest_message_piece};
 ghost use Rattle.bw_stream.specs.Moves.{failures_after};
 
 use crate::line::print_end;
+use crate::observing::{RoundObserver, RoundReport};
 use crate::peer_slot::{PeerSlot, empty_peer_slots, put_at, report_at, swap_at};
 use bw_connections::{Closed, Connections};
 use bw_exchange::{Metered, Turns};
@@ -43,6 +44,7 @@ impl<L: Link + Drop> EventLoop<L> {
     ghost use Rattle.bw_serve.specs.Admissions.{Admits};
     ghost use Rattle.bw_serve.specs.EventLoops.{CountsEnds, Grows, HasPeerSlots, IsNew, InTurn, LetsIn};
     ghost use Rattle.bw_serve.specs.EventLoops.{ServesPlace, KeepsEventLoop, WorksCounted, can_go_on_in};
+    ghost use Rattle.bw_serve.specs.Observing.{LooksAtRound};
     ghost use Rattle.bw_serve.specs.Rounds.{AsksIn, NoticesAll, Welcomes};
     ghost use Rattle.bw_ports.specs.Reactors.{Admission};
     ghost use Rattle.bw_serve.specs.PeerSlots.{LogsAt};
@@ -86,6 +88,19 @@ impl<L: Link + Drop> EventLoop<L> {
             }
         }
         false
+    }
+
+    /// Shows an observer the server, and what the event loop is.
+    pub(crate) fn show<T, V: RoundObserver<T>>(&self, server: &Metered<T>, observer: &mut V)
+        ensures { LooksAtRound V.looks self.now server.now.server observer.old observer.new }
+    {
+        let round = RoundReport {
+            places: self.connections.places(),
+            connections: self.connections.begun().saturating_sub(self.ended),
+            ended: self.ended,
+            peers: self.peer_slots.as_slice(),
+        };
+        observer.look(server.server(), &round);
     }
 
     /// Notes which links are ready.

@@ -8,6 +8,7 @@ mod hosting;
 mod hosting_in_turn;
 pub mod laws;
 mod line;
+mod observing;
 mod peer_slot;
 mod refusing;
 mod reporting;
@@ -17,9 +18,14 @@ mod serving_in_turn;
 mod serving_one;
 
 pub use hosting::{Hosting, serve_many, serve_many_from};
-pub use hosting_in_turn::{Serving, serve, serve_from};
+pub use hosting_in_turn::{
+    Serving, format_listening, report_end, report_unbound, serve, serve_from,
+};
+pub use observing::{NoRoundObserver, RoundObserver, RoundReport};
+pub use peer_slot::PeerSlot;
+pub use refusing::report_refusal;
 pub use reporting::report_link;
-pub use resuming::{serve_journaled, serve_many_journaled};
-pub use serving::{Bounds, run_event_loop};
+pub use resuming::{format_opening, serve_journaled, serve_many_journaled};
+pub use serving::{Bounds, run_event_loop, run_observed};
 pub use serving_in_turn::serve_run;
 pub use serving_one::serve_one;

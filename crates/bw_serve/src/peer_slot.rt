@@ -17,9 +17,11 @@ use std::net::{Ipv4Addr, SocketAddr};
 /// The address of the peer at a place, and what was counted of it. Before the first peer the
 /// address is 0.0.0.0:0.
 #[derive(Drop)]
-pub(crate) struct PeerSlot {
-    address: SocketAddr,
-    link_stats: LinkStats,
+pub struct PeerSlot {
+    /// The peer's address.
+    pub address: SocketAddr,
+    /// What was counted of it.
+    pub link_stats: LinkStats,
 }
 
 impl PeerSlot {

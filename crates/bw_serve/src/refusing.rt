@@ -21,7 +21,7 @@ const BROKEN: &str = "the server can't start: its folder can't be read or writte
 /// # Not specified
 /// - The reason in the line of a folder that can't be used.
 /// - When memory is refused for it.
-pub(crate) fn report_refusal<E: Sink>(
+pub fn report_refusal<E: Sink>(
     alloc: Global,
     folder: &str,
     refusal: &StartRefusal,

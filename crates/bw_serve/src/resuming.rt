@@ -159,7 +159,11 @@ fn serve_many_started<S: TakeStore, J: Journal, B: Reactor, O: Sink, E: Sink>(
 ///
 /// # Not specified
 /// When memory is refused.
-fn format_opening(alloc: Global, takes: usize, address: SocketAddr) -> Result<String, AllocError>
+pub fn format_opening(
+    alloc: Global,
+    takes: usize,
+    address: SocketAddr,
+) -> Result<String, AllocError>
     ensures { IfOk result (λ text.
         string_bytes text ≡ resumed_line takes ++ listening_line address) }
 {

@@ -4,10 +4,12 @@ ghost use Rattle.bw_stream.specs.Moves.{failures_after, one_more};
 ghost use Rattle.bw_wire.specs.Held.{longest_message_piece};
 ghost use Rattle.bw_connections.specs.Places.{begun_of};
 ghost use Rattle.bw_serve.specs.EventLoops.{HasPeerSlots};
+ghost use Rattle.bw_serve.specs.Observing.{ObservesRun};
 ghost use Rattle.bw_serve.specs.Rounds.{IsShut, ServesRound, patience_of};
 ghost use Rattle.bw_serve.specs.Serving.{RunsEventLoop};
 
 use crate::event_loop::{EventLoop, Round, Shut};
+use crate::observing::{NoRoundObserver, RoundObserver};
 use bw_console::Exit;
 use bw_exchange::{MESSAGE_PIECE, Metered, Turns};
 use bw_ports::Reactor;
@@ -67,6 +69,28 @@ pub fn run_event_loop<B: Reactor, T: Turns, O: Sink, E: Sink>(
         server.old.server server.new.server reactor.old reactor.new out.old out.new faults.old
         faults.new }
 {
+    let observer = &mut NoRoundObserver;
+    run_observed(alloc, server, reactor, bounds, log, observer, out, faults)
+}
+
+/// The same, while an observer is shown the server after each round that ended well.
+pub fn run_observed<B: Reactor, T: Turns, V: RoundObserver<T>, O: Sink, E: Sink>(
+    alloc: Global,
+    server: &mut Metered<T>,
+    reactor: &mut B,
+    bounds: &Bounds,
+    log: bool,
+    observer: &mut V,
+    out: &mut O,
+    faults: &mut E,
+) -> Exit
+    ensures runs { RunsEventLoop B.Reactor B.Link.Link T.answers O.Sink E.Sink log bounds.now result
+        server.old.server server.new.server reactor.old reactor.new out.old out.new faults.old
+        faults.new }
+    ensures observed { ObservesRun B.Reactor B.Link.Link T.answers O.Sink E.Sink log V.looks
+        bounds.now result server.old.server server.new.server reactor.old reactor.new out.old
+        out.new faults.old faults.new observer.old observer.new }
+{
     let Ok(mut event_loop) = EventLoop::new(alloc, bounds.places) else {
         return Exit::Memory;
     };
@@ -91,6 +115,7 @@ pub fn run_event_loop<B: Reactor, T: Turns, O: Sink, E: Sink>(
         ) else {
             return Exit::Device;
         };
+        event_loop.show(server, observer);
     }
     Exit::Device
 }

@@ -12,7 +12,7 @@ use Rattle.bw_model.specs.Bytes.{at}
 use Rattle.bw_store.specs.StoreSteps.{WasAsked, WasAskedFirst}
 use Rattle.bw_store.specs.declared.store.TakeStore.{Ghosts as StoreGhosts}
 use Rattle.bw_wire.specs.Bodies.{message_in}
-use Rattle.bw_session.specs.Carrying.{judged_plan, StopsAt}
+use Rattle.bw_session.specs.Carrying.{judged_plan, StopsBeforeDone}
 use Rattle.bw_session.specs.KeptParts.{Part}
 use Rattle.bw_session.specs.Judging.{judged_in, parts_under, KeepsJudged}
 use Rattle.bw_session.specs.Asking.{DoesFirst, TriesFirst, DoesConsecutively, DoesRun, HoldsNoNext, window_with, holding}
@@ -99,14 +99,14 @@ module _ {X : Type 0} (S : StoreGhosts X) where
   pub tries_first : (a b : Part) (x y : X) (body : List ℕ) (r : Request) →
       at a.window 0 ≡ Some body → r ≡ (message_in body).request →
       (made : Bool) × WasAskedFirst S (judged_plan a.growing a.parts r made) x y →
-      StopsAt S a.parts a.growing r b.parts b.growing x y →
+      StopsBeforeDone S a.parts a.growing r b.parts b.growing x y →
       b.outcomes ≡ a.outcomes → b.window ≡ a.window → TriesFirst S a x b y
   tries_first a b x y body r held read asked stop outcomes window = record {
     body = body;
     held = held;
     made = asked.0;
     asked = subst (λ (q : Request). WasAskedFirst S (judged_plan a.growing a.parts q asked.0) x y) read asked.1;
-    stop = subst (λ (q : Request). StopsAt S a.parts a.growing q b.parts b.growing x y) read stop;
+    stop = subst (λ (q : Request). StopsBeforeDone S a.parts a.growing q b.parts b.growing x y) read stop;
     outcomes = outcomes;
     window = window;
   }

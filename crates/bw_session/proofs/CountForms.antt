@@ -22,7 +22,7 @@ use Rattle.bw_session.proofs.AdmitForms.{no_false}
 abbrev book_over : (List ℕ → Log) → List (List ℕ × Session) → Book
 book_over logs entries = map (λ e. (e.0, logs e.0)) entries
 
-eq_sym : (x y : List ℕ) → bytes_eq x y ≡ bytes_eq y x
+pub eq_sym : (x y : List ℕ) → bytes_eq x y ≡ bytes_eq y x
 eq_sym x y = go (bytes_eq y x) refl
   where
     go : (v : Bool) → bytes_eq y x ≡ v → bytes_eq x y ≡ v

@@ -21,6 +21,7 @@ pub mod AnswerForms
 pub mod ServerForms
 pub mod CountForms
 pub mod ReportForms
+pub mod ListingForms
 pub mod JournalForms
 pub mod OrderLaws
 pub mod SettledForms

@@ -44,7 +44,7 @@ counts_same (x ∷ xs) (y ∷ ys) same =
     count_more x xs ∙ ap (λ (n : ℕ). n + count_by is_some xs) here
     ∙ ap (λ (n : ℕ). one_if (is_some y) + n) rest ∙ sym (count_more y ys)
 
-is_mapped : {X Y : Type 0} (f : X → Y) (o : Option X) → is_some (option_map f o) ≡ is_some o
+pub is_mapped : {X Y : Type 0} (f : X → Y) (o : Option X) → is_some (option_map f o) ≡ is_some o
 is_mapped f None = refl
 is_mapped f (Some x) = refl
 

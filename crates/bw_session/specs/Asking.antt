@@ -13,7 +13,7 @@ use Rattle.bw_store.specs.StoreSteps.{WasAsked, WasAskedFirst}
 use Rattle.bw_store.specs.declared.store.TakeStore.{Ghosts as StoreGhosts}
 use Rattle.bw_wire.specs.Bodies.{message_in}
 use Rattle.bw_file.specs.Growing.{clean_file}
-use Rattle.bw_session.specs.Carrying.{judged_plan, StopsAt}
+use Rattle.bw_session.specs.Carrying.{judged_plan, StopsBeforeDone}
 use Rattle.bw_session.specs.Judging.{judged_in, KeepsJudged}
 use Rattle.bw_session.specs.KeptParts.{Part}
 use Rattle.bw_session.specs.declared.draining.Drained.{Drained}
@@ -46,7 +46,7 @@ pub record TriesFirst {X : Type 0} (S : StoreGhosts X) (a : Part) (x : X) (b : P
   pub held : at a.window 0 ≡ Some body
   pub made : Bool
   pub asked : WasAskedFirst S (judged_plan a.growing a.parts (message_in body).request made) x y
-  pub stop : StopsAt S a.parts a.growing (message_in body).request b.parts b.growing x y
+  pub stop : StopsBeforeDone S a.parts a.growing (message_in body).request b.parts b.growing x y
   pub outcomes : b.outcomes ≡ a.outcomes
   pub window : b.window ≡ a.window
 

@@ -8,7 +8,7 @@ use Rattle.bw_store.specs.declared.store.StoreFault.{StoreFault}
 use Rattle.bw_store.specs.declared.store.TakeStore.{Ghosts as StoreGhosts}
 use Rattle.bw_journal.specs.declared.journal.Journal.{Ghosts as JournalGhosts}
 use Rattle.bw_session.specs.Writing.{IsSameFile}
-use Rattle.bw_session.specs.Carrying.{Touches, StopsAt}
+use Rattle.bw_session.specs.Carrying.{Touches, StopsBeforeDone}
 use Rattle.bw_session.specs.Prefixes.{HoldsPrefix}
 use Rattle.bw_session.specs.Judging.{judged_in, KeepsJudged}
 use Rattle.bw_session.specs.Noting.{NotesOn, OnlyBegins, log_left}
@@ -60,7 +60,7 @@ module _ {X Y : Type 0} (S : StoreGhosts X) (J : JournalGhosts Y) where
     -- a dirty file waits for this request
     pub again : MayTry after r
     -- it stopped at the journal's beginning, in a call of the store, or at the note
-    pub stop : StopsAt S before.state.parts before.growing r after.state.parts after.growing
+    pub stop : StopsBeforeDone S before.state.parts before.growing r after.state.parts after.growing
         old.store new.store
     -- if the store failed, nothing is noted of the number
     pub unnoted : IsTrue (J.honest old.journal) → S.failures new.store ≢ S.failures old.store →

@@ -10,6 +10,7 @@ mod draining;
 mod kept_take;
 pub mod laws;
 mod ledger;
+mod listing;
 mod numbering;
 mod replying;
 mod resuming;

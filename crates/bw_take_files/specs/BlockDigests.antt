@@ -11,8 +11,8 @@ use Rattle.bw_take_files.specs.declared.stored_block.StoredBlock.{StoredBlock}
 use Rattle.bw_take_files.specs.declared.block_digests.BlockDigests.{BlockDigests}
 
 -- it is no longer than a block, and its offset can be counted on from
-abbrev pub IsNear : StoredBlock → Type 0
-IsNear s = (s.offset < 2 ^ 62) × (s.len ≤ longest_block)
+abbrev pub IsBlockNear : StoredBlock → Type 0
+IsBlockNear s = (s.offset < 2 ^ 62) × (s.len ≤ longest_block)
 
 -- the samples of a block that a file has
 abbrev pub samples_at : List ℕ → StoredBlock → List ℕ
@@ -23,13 +23,13 @@ abbrev pub body_at : List ℕ → List ℕ → StoredBlock → List ℕ
 body_at name found s = body_of name s.number (Block (samples_at found s))
 
 -- the digest of this body
-abbrev pub digest_at : List ℕ → List ℕ → StoredBlock → List ℕ
-digest_at name found s = samples_digest name s.number (samples_at found s)
+abbrev pub block_digest_at : List ℕ → List ℕ → StoredBlock → List ℕ
+block_digest_at name found s = samples_digest name s.number (samples_at found s)
 
 -- the body has this digest, where the block has samples
 abbrev pub has_digest : List ℕ → List ℕ → StoredBlock → List ℕ → Bool
 has_digest name found s digest =
-    if s.len == 0 then true else bytes_eq (digest_at name found s) digest
+    if s.len == 0 then true else bytes_eq (block_digest_at name found s) digest
 
 -- the block in a lane
 abbrev pub block_at : List StoredBlock → ℕ → StoredBlock
@@ -42,7 +42,7 @@ body_in room lens j = take (slice_index lens j) (drop (j * longest_body) room)
 -- each digest is that of the block in its lane
 abbrev pub AreBlockDigestsIn : List ℕ → List ℕ → BlockDigests → Type 0
 AreBlockDigestsIn name found d =
-    InEachLane (λ j. slice_index_or d.digests j [] ≡ digest_at name found (block_at d.blocks j))
+    InEachLane (λ j. slice_index_or d.digests j [] ≡ block_digest_at name found (block_at d.blocks j))
 
 -- those that are known, if any are
 abbrev pub KeepsBlockDigests : List ℕ → List ℕ → Option BlockDigests → Type 0

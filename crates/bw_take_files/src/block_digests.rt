@@ -3,7 +3,7 @@ ghost use Rattle.std.specs.Prelude.{◌≡◌, ◌≤◌, ◌+◌, ◌*◌, IsTr
 ghost use Rattle.bw_disk.specs.DiskSteps.{StaysWhole};
 ghost use Rattle.bw_model.specs.Bytes.{zeros as zero_bytes};
 ghost use Rattle.bw_model.specs.Limits.{longest_block, longest_body};
-ghost use Rattle.bw_take_files.specs.BlockDigests.{digest_at, AreBlockDigestsIn, KeepsBlockDigests};
+ghost use Rattle.bw_take_files.specs.BlockDigests.{block_digest_at, AreBlockDigestsIn, KeepsBlockDigests};
 
 use crate::bodies::{bodies_in, read_bodies};
 use crate::stored_block::{EntryPlace, JournalRef, StoredBlock, fills_lanes, next_blocks};
@@ -21,7 +21,7 @@ impl BlockDigests {
     /// The digest of a block, if it is among these.
     pub(crate) fn find(&self, block: StoredBlock) -> Option<[u8; 32]>
         ensures { (name found : List ℕ) → AreBlockDigestsIn name found self.now →
-            IfSome result (λ d. d ≡ digest_at name found block) }
+            IfSome result (λ d. d ≡ block_digest_at name found block) }
     {
         for lane in 0..LANES {
             if is_same(self.blocks[lane], block) {
@@ -65,7 +65,7 @@ impl ReadAhead {
     /// The digest of a block, if it is known.
     pub(crate) fn find(&self, block: StoredBlock) -> Option<[u8; 32]>
         ensures { (name found : List ℕ) → KeepsBlockDigests name found self.now.known →
-            IfSome result (λ d. d ≡ digest_at name found block) }
+            IfSome result (λ d. d ≡ block_digest_at name found block) }
     {
         match &self.known {
             Some(known) => known.find(block),

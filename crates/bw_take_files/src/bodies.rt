@@ -7,7 +7,7 @@ ghost use Rattle.bw_model.specs.Limits.{longest_body};
 ghost use Rattle.bw_model.specs.Take.{Block};
 ghost use Rattle.bw_digest.specs.Lanes.{InEachLane};
 ghost use Rattle.bw_digest.specs.Messages.{lent_at};
-ghost use Rattle.bw_take_files.specs.BlockDigests.{block_at, body_at, body_in, IsNear};
+ghost use Rattle.bw_take_files.specs.BlockDigests.{block_at, body_at, body_in, IsBlockNear};
 
 use crate::stored_block::StoredBlock;
 use bw_digest::LANES;
@@ -29,7 +29,7 @@ pub(crate) fn read_bodies<D: Volume>(
     blocks: &[StoredBlock; LANES],
     room: &mut [u8],
 ) -> Result<[usize; LANES], u32>
-    requires near { InEachLane (λ j. IsNear (block_at blocks.now j)) }
+    requires near { InEachLane (λ j. IsBlockNear (block_at blocks.now j)) }
     requires room { length room.old ≡ 8 * longest_body }
     ensures disk { StaysWhole D.Disk disk.old disk.new }
     ensures path { D.path_of file.new ≡ D.path_of file.old }
@@ -72,7 +72,7 @@ fn read_body<D: Volume>(
     block: StoredBlock,
     room: &mut [u8],
 ) -> Result<usize, ReadFault>
-    requires near { IsNear block }
+    requires near { IsBlockNear block }
     requires room { length room.old ≡ longest_body }
     ensures disk { StaysWhole D.Disk disk.old disk.new }
     ensures path { D.path_of file.new ≡ D.path_of file.old }

@@ -3,7 +3,7 @@ ghost use Rattle.std.specs.Prelude.{◌≡◌, ◌≤◌, ◌*◌, ◌^◌, IsTr
 ghost use Rattle.bw_disk.specs.DiskSteps.{StaysWhole};
 ghost use Rattle.bw_model.specs.Bytes.{zeros as zero_bytes};
 ghost use Rattle.bw_model.specs.Limits.{longest_block, longest_body};
-ghost use Rattle.bw_take_files.specs.BlockDigests.{digest_at, has_digest, IsNear};
+ghost use Rattle.bw_take_files.specs.BlockDigests.{block_digest_at, has_digest, IsBlockNear};
 ghost use Rattle.bw_take_files.specs.BlockDigests.{KeepsBlockDigests};
 ghost use Rattle.bw_take_files.specs.TakeSamples.{changed_in, entries_of, samples_digest};
 ghost use Rattle.bw_take_files.specs.TakeSamples.{first_changed as first_changed_of};
@@ -173,7 +173,7 @@ fn is_kept<D: Volume>(
     ahead: &ReadAhead,
     room: &mut [u8],
 ) -> Result<bool, ReadFault>
-    requires near { IsNear block }
+    requires near { IsBlockNear block }
     requires room { length room.old ≡ 8 * longest_body }
     ensures disk { StaysWhole D.Disk disk.old disk.new }
     ensures path { D.path_of file.new ≡ D.path_of file.old }
@@ -202,7 +202,7 @@ fn digest_in<D: Volume>(
     ahead: &ReadAhead,
     room: &mut [u8],
 ) -> Result<[u8; 32], ReadFault>
-    requires near { IsNear block }
+    requires near { IsBlockNear block }
     requires room { length room.old ≡ 8 * longest_body }
     ensures disk { StaysWhole D.Disk disk.old disk.new }
     ensures path { D.path_of file.new ≡ D.path_of file.old }
@@ -210,7 +210,7 @@ fn digest_in<D: Volume>(
     ensures value { IsTrue (D.honest disk.old) → IfOk result (λ digest. (found : List ℕ) →
         D.contents disk.old (D.path_of file.old) ≡ Some found →
         KeepsBlockDigests name.now found ahead.now.known →
-        digest ≡ digest_at name.now found block) }
+        digest ≡ block_digest_at name.now found block) }
 {
     if ahead.has_failed(block.number) {
         return Err(ReadFault::Disk);

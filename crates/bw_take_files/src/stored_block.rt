@@ -7,7 +7,7 @@ ghost use Rattle.bw_request.specs.Requests.{meaning};
 ghost use Rattle.bw_journal.specs.Refs.{entry_said};
 ghost use Rattle.bw_digest.specs.Lanes.{InEachLane};
 ghost use Rattle.bw_take_files.specs.TakeSamples.{brought as brought_by};
-ghost use Rattle.bw_take_files.specs.BlockDigests.{block_at, IsNear};
+ghost use Rattle.bw_take_files.specs.BlockDigests.{block_at, IsBlockNear};
 
 use bw_digest::LANES;
 use bw_journal::{EntryRef, first_entry};
@@ -56,7 +56,7 @@ pub(crate) fn next_blocks(journal: &JournalRef<'_>, from: EntryPlace) -> ([Store
     requires zeros { journal.now.zeros.now ≡ zero_bytes longest_block }
     requires within { from.start ≤ length journal.now.bytes.now }
     requires near { from.offset ≤ 4786 + longest_block * from.number }
-    ensures near { InEachLane (λ j. IsNear (block_at result.0 j)) }
+    ensures near { InEachLane (λ j. IsBlockNear (block_at result.0 j)) }
 {
     let mut blocks = [StoredBlock {
         number: 0,

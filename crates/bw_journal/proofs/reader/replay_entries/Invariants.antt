@@ -3,7 +3,7 @@ use Rattle.bw_model.specs.Bytes.{zeros as zero_bytes}
 use Rattle.bw_model.specs.Limits.{longest_block}
 use Rattle.bw_journal.specs.Replays.{replayed, replayed_entries}
 use Rattle.bw_journal.specs.Rows.{IsWholeTable}
-use Rattle.bw_journal.specs.SealDigests.{KeepsDigests}
+use Rattle.bw_journal.specs.SealDigests.{KeepsContentDigests}
 use Rattle.bw_journal.proofs.reader.replay_entries.Given as goal
 
 abbrev pub invariant-loop-step : goal.invariant-loop-step
@@ -14,6 +14,6 @@ invariant-loop-step l = record {
   samples : l.state.parts.samples_len ≤ longest_block * l._step;
   within : l.used ≤ length l.bytes;
   rows : IsWholeTable l.state.parts l.table.items l.used;
-  digests : KeepsDigests l.bytes l.digests;
+  digests : KeepsContentDigests l.bytes l.digests;
   zeros : l.zeros.items ≡ zero_bytes longest_block;
 }

@@ -13,7 +13,7 @@ use Rattle.bw_wire.specs.Frames.{message_of}
 use Rattle.bw_wire.proofs.BodyLaws.{message_spelled}
 use Rattle.bw_session.specs.Windows.{count_held}
 use Rattle.bw_session.specs.Ledgers.{Entries}
-use Rattle.bw_session.specs.Carrying.{Touches, StopsAt, judged_plan}
+use Rattle.bw_session.specs.Carrying.{Touches, StopsBeforeDone, judged_plan}
 use Rattle.bw_session.specs.Judging.{judged_in, KeepsJudged}
 use Rattle.bw_store.specs.StoreSteps.{WasAsked, WasAskedFirst}
 use Rattle.bw_session.specs.Noting.{IsNoted}
@@ -268,10 +268,10 @@ returns-in-Err-clause-asked g c =
           (meaning c.request-request.result) c.in-Err.ensures.asked.0)
           c.args.stores.now.store c.number_done.new.stores.store) kept.growing c.in-Err.ensures.asked.1.begun),
     )
-    (subst (λ (p : _). StopsAt g.S.TakeStore p c.args.self.now.progress.growing (meaning c.request-request.result)
+    (subst (λ (p : _). StopsBeforeDone g.S.TakeStore p c.args.self.now.progress.growing (meaning c.request-request.result)
     c.number_done.new.self.state.parts c.number_done.new.self.growing c.args.stores.now.store
     c.number_done.new.stores.store) kept.parts
-    (subst (λ (x : Growing). StopsAt g.S.TakeStore c.make_room.new.self.progress.state.parts x
+    (subst (λ (x : Growing). StopsBeforeDone g.S.TakeStore c.make_room.new.self.progress.state.parts x
     (meaning c.request-request.result) c.number_done.new.self.state.parts c.number_done.new.self.growing
     c.args.stores.now.store c.number_done.new.stores.store) kept.growing c.in-Err.ensures.left.stop))
     (ap (λ (l : Entries). l.outcomes) c.in-Err.ensures.left.ledger ∙ kept.outcomes)
