@@ -221,7 +221,7 @@ module _ {X Y : Type 0} (S : StoreGhosts X) (J : JournalGhosts Y) (first : List 
       Stands (header_beside s.limit (first name)) name (log_of book name) (J.notes s.stores.journal name)
   stands name =
       subst (λ (h : Header). Stands h name (log_of book name) (J.notes s.stores.journal name)) (is_head name)
-      (go (session_in s.sessions name) refl (r.held.names name))
+      (go (session_in s.sessions name) refl (r.held.holds.names name))
     where
       go : (o : Option Session) → session_in s.sessions name ≡ o →
           is_known book name ≡ is_some (option_map kept_by (session_in s.sessions name)) →
