@@ -9,7 +9,7 @@ use Rattle.bw_wire.specs.declared.reply.Reply.{Reply}
 use Rattle.bw_session.specs.declared.server.Server.{Server}
 use Rattle.bw_left.specs.LeftFolders.{GoesAhead}
 use Rattle.bw_left.specs.StoppedLives.{StoppedLife}
-use Rattle.bw_left.specs.StoppedTurns.{RunsHonestly, HadTurn, HadTurns, IsKilled, KilledServersAreLeft}
+use Rattle.bw_left.specs.StoppedTurns.{RunsHonestly, HadTurns, IsKilled, KilledServersAreLeft}
 use Rattle.bw_left.proofs.StoppedServers.{leaves_honestly, stops}
 
 module _ {X Y : Type 0} (S : StoreGhosts X) (J : JournalGhosts Y) (first : List ℕ → Option (List ℕ)) where
