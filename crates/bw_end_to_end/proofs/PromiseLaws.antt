@@ -84,5 +84,5 @@ module _ {X Y : Type 0} (S : StoreGhosts X) (J : JournalGhosts Y) (servers_run :
       closed_stay last.limit (store_since S first last.stores.store) (kept_in last.sessions) name requests links s.book
       r.later went2.received d (each_heard name requests verdicts links trace s.linked stored) any
       (run2.honest ∙ honest)
-      (subst (HoldsBook S J first last) (sym went2.left) r2.held)
+      (subst (HoldsBook S J first last) (sym went2.left) r2.held).holds
       ∙ ap (file_of (made_by false requests)) limits
