@@ -51,6 +51,15 @@ def module_of(file):
     return "::".join(it for it in parts if it not in ("lib", "main", "mod"))
 
 
+def owner_line(lines, number):
+    """The head of an `impl` or a trait at a line, in one line where `rt fmt` breaks it before `for`; nothing elsewhere."""
+    line = lines[number]
+    if not OWNER.match(line) or line.endswith(("}", ";")):
+        return None
+    goes_on = number + 1 < len(lines) and lines[number + 1].lstrip().startswith("for ")
+    return f"{line} {lines[number + 1].lstrip()}" if goes_on else line
+
+
 def owner_of(line, module, homes):
     """What comes before the names of the functions of an `impl` or a trait: the module (without a trait that of the
     type), and in one word the type, what it is given but for the names that the `impl` itself declares, the trait and
@@ -85,8 +94,8 @@ def functions_of(text, module, homes):
     """The functions of a file: path, first line, with what is above it, and last line, from 0 on."""
     lines, owner, closes = text.splitlines(), (module, ""), "}"
     for number, line in enumerate(lines):
-        if OWNER.match(line) and not line.endswith(("}", ";")):
-            owner, closes = owner_of(line, module, homes), " " * (len(line) - len(line.lstrip())) + "}"
+        if head := owner_line(lines, number):
+            owner, closes = owner_of(head, module, homes), " " * (len(line) - len(line.lstrip())) + "}"
         elif line == closes:
             owner = module, ""
         elif found := FUNCTION.match(line):
@@ -217,7 +226,7 @@ class Sources:
         (path,) = body.changed
         text, name = self.text_of(path), name_of(path)
         above = self.texts[self.files[path]].partition(text)[0].splitlines()
-        owner = next((it for it in reversed(above) if OWNER.match(it) and not it.endswith(("}", ";"))), "")
+        owner = next(filter(None, (owner_line(above, it) for it in reversed(range(len(above))))), "")
         calls_itself = re.search(rf"(?:\bself\.|\bSelf::|(?<!fn )(?<![\w.:])){name}\(", text)
         if calls_itself or text.endswith(" }") and re.search(r"\btrait\b| for ", owner):
             return False
