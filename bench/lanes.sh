@@ -62,7 +62,7 @@ run_lanes() {
 # The calls of $1 recorders with $2 blocks each of $3 bytes.
 run_calls() {
     next_port
-    rm -rf "$work/takes" && mkdir "$work/takes" || exit
+    rm -rf "$work/takes" && mkdir "$work/takes" && : >"$work/lines" || exit
     noted calls "$work/calls" $port "$work/takes" "$1" >"$work/lines" &
     server=$!
     while [ ! -s "$work/lines" ] && kill -0 $server 2>/dev/null; do sleep 0.05; done
