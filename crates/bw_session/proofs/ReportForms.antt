@@ -6,6 +6,7 @@ use Rattle.std.proofs.lemmas.List.Sums.{sum_by-cons}
 use Rattle.bw_model.specs.Bytes.{at}
 use Rattle.bw_model.specs.Take.{Request, Parts, frames, parts}
 use Rattle.bw_model.specs.Book.{Log, Book, log_of, is_known, made}
+use Rattle.bw_model.specs.CountedTurn.{is_pending}
 use Rattle.bw_model.specs.Holds.{Store, Holds, HoldsName, body_of}
 use Rattle.bw_model.proofs.MapLemmas.{at-drop}
 use Rattle.bw_model.proofs.BookLemmas.{unknown_log}
@@ -73,6 +74,11 @@ module _ (limit : ℕ) (store : Store) (sessions : List ℕ → Option Session) 
         ∙ sym (ap is_some (at-drop (log_of book name).done i ((log_of book name).done + i) (log_of book name).admitted
         refl)))
 
+    pub waits_reported : is_some (at s.window 0) ≡ is_pending (log_of book name)
+    waits_reported =
+        ap is_some (holds_name.held 0)
+        ∙ is_mapped (body_of name ((log_of book name).done + 0)) (at (log_of book name).admitted ((log_of book name).done + 0))
+
     pub closed_reported : s.progress.state.parts.closed
         ≡ (is_known book name && (made (is_some (store.first name)) (log_of book name).admitted
         (log_of book name).done).closed)
@@ -87,6 +93,9 @@ module _ (limit : ℕ) (store : Store) (sessions : List ℕ → Option Session) 
 
   pub unknown_reported : sessions name ≡ None → is_known book name ≡ false
   unknown_reported none = h.names name ∙ ap (λ (o : Option Session). is_some (option_map kept_by o)) none
+
+  pub unknown_quiet : sessions name ≡ None → is_pending (log_of book name) ≡ false
+  unknown_quiet none = ap (λ (l : Log). is_pending l) (unknown_log book name (unknown_reported none))
 
 -- an ask for an unknown name is answered with 0
 pub asked : (book : Book) (name : List ℕ) → unwrap_or (of_known book name (λ log. log.done)) 0 ≡ (log_of book name).done

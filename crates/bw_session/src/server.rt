@@ -9,7 +9,7 @@ ghost use Rattle.std.specs.HashMap.{hash_map_len, spare, IsUnique};
 ghost use Rattle.std.specs.Str.{bytes_eq};
 ghost use Rattle.bw_model.specs.Turn.{most_takes, window, is_turned_away, notice as refusal};
 ghost use Rattle.bw_model.specs.Wire.{Second, last_number};
-ghost use Rattle.bw_model.specs.CountedTurn.{is_delay};
+ghost use Rattle.bw_model.specs.CountedTurn.{is_delay, is_pending};
 ghost use Rattle.bw_wire.specs.Notices.{notice_meaning};
 ghost use Rattle.bw_model.specs.Book.{Book, log_of, is_known, made};
 ghost use Rattle.bw_model.specs.Take.{parts, frames as frames_of};
@@ -39,7 +39,7 @@ const NAMES: usize = 256;
 
 /// A server over a store, and optionally a journal.
 ///
-/// No call lends or returns its journal.
+/// No call lends its journal, and only `into_stores` returns it.
 #[derive(Drop)]
 pub struct Server<S: TakeStore, J: Journal = NoJournal> {
     pub(crate) sessions: HashMap<Name, Session>,
@@ -360,6 +360,22 @@ impl<S: TakeStore, J: Journal> Server<S, J> {
         Some(session.window.count())
     }
 
+    /// Whether the least number of a name without a verdict was admitted: after a turn it waits only
+    /// because a call of the store or the journal failed; false for an unknown name.
+    ///
+    /// # Not specified
+    /// Anything after a turn over a store that isn't honest.
+    pub fn waits(&self, name: &Name) -> bool
+        ensures { (first : List ℕ → Option (List ℕ)) (book : Book) →
+            HoldsBook S.TakeStore J.Journal first self.now book →
+            result ≡ is_pending (log_of book name.now) }
+    {
+        match self.sessions.get(name) {
+            Some(session) => session.window.get(0).is_some(),
+            None => false,
+        }
+    }
+
     /// How many bytes are kept of the done numbers of a name: 33 for each; None if the name isn't
     /// known.
     ///
@@ -388,6 +404,16 @@ impl<S: TakeStore, J: Journal> Server<S, J> {
         let Server { stores, .. } = self;
         let Stores { store, .. } = stores;
         store
+    }
+
+    /// Consumes the server and returns its store and its journal: what the next server starts from.
+    pub fn into_stores(self) -> (S, J)
+        ensures store { result.0 ≡ self.stores.store }
+        ensures journal { result.1 ≡ self.stores.journal }
+    {
+        let Server { stores, .. } = self;
+        let Stores { store, journal, .. } = stores;
+        (store, journal)
     }
 }
 

@@ -1,0 +1,3 @@
+pub mod Appends
+pub mod Endings
+pub mod MachineForms
