@@ -1,5 +1,6 @@
 -- What a disk in memory has at each path as files of another are copied.
-use Rattle.std.proofs.Common.{◌≡◌, ◌<◌, ◌+◌, ℕ, List, [], ◌∷◌, ◌++◌, Bool, true, false, cond, Option, Some, None, is_some, refl, sym}
+use Rattle.std.proofs.lemmas.List.{take_all}
+use Rattle.std.proofs.Common.{◌≡◌, ◌<◌, ◌≤◌, ◌+◌, ℕ, List, [], ◌∷◌, ◌++◌, Bool, true, false, cond, Option, Some, None, is_some, refl, sym}
 use Rattle.std.proofs.Common.{◌∙◌, ap, get_or, length, take, string_bytes}
 use Rattle.std.specs.Prelude.{◌==◌, ◌&&◌}
 use Rattle.std.specs.List.{find, ends_with}
@@ -114,3 +115,21 @@ copy_added ending from content files after copy path is at has so =
     ∙ ap (λ (b : List ℕ). option_or (content_at files path) (cond (bytes_eq b path) (Some copy.content.items) None)) at
     ∙ ap (λ (c : List ℕ). option_or (content_at files path) (cond (bytes_eq from path) (Some c) None)) has
     ∙ added ending from content (content_at files) path so
+
+same_both : {X : Type 0} (o : X) (v : Bool) → o ≡ cond v o o
+same_both o true = refl
+same_both o false = refl
+
+-- before any file is copied
+pub copied_none : (ending : List ℕ) (before : List ℕ → Option (List ℕ)) (files : List StoredFile) (path : List ℕ) →
+    before path ≡ copied_at ending before (content_at (take 0 files)) path
+copied_none ending before files path =
+    or_none (before path)
+    ∙ ap (λ (o : Option (List ℕ)). option_or (before path) o) (same_both None (ends_with ◌==◌ path ending))
+
+-- once all are
+pub copied_all : (ending : List ℕ) (before : List ℕ → Option (List ℕ)) (files : List StoredFile) (place : ℕ)
+    (path : List ℕ) → length files ≤ place →
+    copied_at ending before (content_at (take place files)) path ≡ copied_at ending before (content_at files) path
+copied_all ending before files place path all =
+    ap (λ (fs : List StoredFile). copied_at ending before (content_at fs) path) (take_all place files all)

@@ -48,12 +48,13 @@ fn add_copy(
     if find(files, path).is_some() {
         return Ok(());
     }
-    let copy = StoredFile {
-        path: String::from_str(alloc, path)?,
-        content: file.content.as_slice().to_vec(alloc)?,
+    let path_copy = String::from_str(alloc, path)?;
+    let content = file.content.as_slice().to_vec(alloc)?;
+    files.push(StoredFile {
+        path: path_copy,
+        content,
         synced: None,
-    };
-    files.push(copy)?;
+    })?;
     Ok(())
 }
 

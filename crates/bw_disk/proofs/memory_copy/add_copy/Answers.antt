@@ -18,4 +18,6 @@ returns-then-is_some c = λ path.
 pub returns : goal.returns
 returns c = λ path.
     copy_added c.args.ending.now (string_bytes c.args.file.now.path) c.args.file.now.content.items
-    c.args.files.now.items c.push.new.self.items _ path (search rules) (search rules) (search rules) (search rules)
+    c.args.files.now.items c.push.new.self.items
+    (record { path = c.in_ok-path_copy.path_copy; content = c.in_ok-content.content; synced = None }) path
+    (search rules) (search rules) (search rules) (search rules)
