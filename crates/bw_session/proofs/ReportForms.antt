@@ -76,8 +76,10 @@ module _ (limit : ℕ) (store : Store) (sessions : List ℕ → Option Session) 
 
     pub waits_reported : is_some (at s.window 0) ≡ is_pending (log_of book name)
     waits_reported =
+        let same : (log_of book name).done + 0 ≡ (log_of book name).done = omega arith in
         ap is_some (holds_name.held 0)
         ∙ is_mapped (body_of name ((log_of book name).done + 0)) (at (log_of book name).admitted ((log_of book name).done + 0))
+        ∙ ap (λ (n : ℕ). is_some (at (log_of book name).admitted n)) same
 
     pub closed_reported : s.progress.state.parts.closed
         ≡ (is_known book name && (made (is_some (store.first name)) (log_of book name).admitted

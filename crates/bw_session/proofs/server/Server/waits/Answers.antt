@@ -1,5 +1,4 @@
-use Rattle.std.proofs.Common.{sym, ◌∙◌, ap}
-use Rattle.std.specs.Prelude.{is_some}
+use Rattle.std.proofs.Common.{sym, ◌∙◌, rules}
 use Rattle.bw_session.specs.Servers.{store_since}
 use Rattle.bw_session.specs.Tables.{session_in}
 use Rattle.bw_session.proofs.ReportForms.{waits_reported, unknown_quiet}
