@@ -13,11 +13,11 @@ use Rattle.clap.proofs.WalkLemmas.{first_value-rows, raw_values-rows}
 use Rattle.bw_args.specs.Given.{GivesAddress, GivesCount, GivesCountOr, GivesEnd, GivesFolder, GivesFuse, GivesLimit, GivesName}
 use Rattle.bw_args.specs.Given.{GivesNoFuse, GivesRecorders, IsAddressGiven, IsEnd, IsEndGiven, IsLimitGiven, IsNameGiven}
 use Rattle.bw_args.specs.Given.{IsJournaling, IsJournalingGiven, IsRecorders, IsRecordersGiven, given_on_line, is_set}
-use Rattle.bw_args.specs.Given.{GivesWork, IsWork, IsWorkGiven, is_watch_mixed}
+use Rattle.bw_args.specs.Given.{GivesStatus, GivesWork, IsWork, IsWorkGiven, is_watch_mixed}
 use Rattle.bw_args.specs.Sources.{GivesSource, PlainSource, is_mixed, path_given, settings_on_line}
 use Rattle.bw_args.specs.Inspecting.{GivesInspection, PlainInspection, is_possible, one_file}
 use Rattle.bw_args.specs.Lines.{AsksForPath, AsksNothing, GivesSender, GivesServer, GivesTries, HasNumbersInRange}
-use Rattle.bw_args.specs.Lines.{IsEndWithin, IsFirstBad, IsGood, IsLineFor, IsWayWithin, IsWishOf, IsWithin, Service}
+use Rattle.bw_args.specs.Lines.{IsEndWithin, HasPort, IsFirstBad, IsGood, IsLineFor, IsWayWithin, IsWishOf, IsWithin, Service}
 use Rattle.bw_args.specs.Lines.{FileUpload, Wish, looked_at, looked_at_trying, looked_at_waiting}
 use Rattle.bw_args.specs.Lines.{Replaying, Rehearsing, Inspecting, Packing, Sending, SendingPcm, Serving}
 use Rattle.bw_args.specs.Lines.{Uploading, PcmUpload, looked_at_samples, InspectingFiles, Repairing, Listing, Picturing}
@@ -37,7 +37,7 @@ use Rattle.bw_args.specs.declared.peers.Journaling.{Journaling}
 use Rattle.bw_args.specs.declared.peers.Recorders.{Recorders as Way}
 use Rattle.bw_args.specs.declared.peers.Send.{Send as Sender}
 use Rattle.bw_args.specs.declared.bad_value.BadValue.{BadValue}
-use Rattle.bw_args.specs.declared.bad_value.BadValue.TheVariants.{Name, Limit, Fuse, UntilStopped, Sync, Wait, GiveUp}
+use Rattle.bw_args.specs.declared.bad_value.BadValue.TheVariants.{Name, Limit, Fuse, UntilStopped, Sync, Status, Wait, GiveUp}
 use Rattle.bw_args.specs.declared.bad_value.BadValue.TheVariants.{Inspection}
 
 -- the value that is looked at first is good, and one after it is bad
@@ -161,7 +161,10 @@ wished_good name options wish asked = go wish asked
                 (a.1.serves.most, a.1.serves.serves),
                 (
                   (a.1.serves.idle, a.1.serves.idles),
-                  ((server.recorders, a.1.serves), ((server.end, a.1.ends), ((server.journal, a.1.journals), tt))),
+                  (
+                    (server.recorders, a.1.serves),
+                    ((server.end, a.1.ends), ((server.journal, a.1.journals), ((server.status, a.1.shows), tt))),
+                  ),
                 ),
               ),
             ),
@@ -640,6 +643,33 @@ no_journaling found is_kept is_synced kept synced none good =
     none good.0 (subst (λ s. IsJournaling is_kept s good.0) (sym synced)
     (subst (λ k. IsJournaling k (is_set (first_value found (codes "sync"))) good.0) (sym kept) good.1))
 
+-- where the status is shown, where a flag was read before
+pub a_status : (found : Found) (network : Bool) (status : Option SocketAddr)
+    → network ≡ is_set (first_value found (codes "network"))
+    → GivesStatus network (first_value found (codes "status")) (is_some (first_value found (codes "recorders"))) status
+    → GivesStatus (is_set (first_value found (codes "network"))) (first_value found (codes "status"))
+    (is_some (first_value found (codes "recorders"))) status
+a_status found network status is given = subst
+    (λ n. GivesStatus n (first_value found (codes "status")) (is_some (first_value found (codes "recorders"))) status)
+    is given
+
+pub no_status : (found : Found) (network : Bool) → network ≡ is_set (first_value found (codes "network"))
+    → ((status : Option SocketAddr) → ¬ GivesStatus network (first_value found (codes "status"))
+    (is_some (first_value found (codes "recorders"))) status)
+    → ¬ IsGood Status (first_value found)
+no_status found network is none good = none good.0 (subst
+    (λ n. GivesStatus n (first_value found (codes "status")) (is_some (first_value found (codes "recorders"))) good.0)
+    (sym is) good.1)
+
+-- where a text is given that is no address, there is none to show the status at
+pub no_place : (network : Bool) (text : Option Text) (of_many : Bool) → is_some text ≡ true
+    → ((address : SocketAddr) → ¬ GivesAddress network text address)
+    → (status : Option SocketAddr) → ¬ GivesStatus network text of_many status
+no_place network None of_many some none status given = is_not (sym some)
+no_place network (Some text) true some none (Some address) given = none address given
+no_place network (Some text) true some none None given = given
+no_place network (Some text) false some none status given = given
+
 -- the same work of the same options
 works_at : (w c j : Bool) (n : Option Text) (w' c' j' : Bool) (n' : Option Text) (work : FolderWork)
     → w ≡ w' → c ≡ c' → j ≡ j' → n ≡ n' → IsWork w c j n work → IsWork w' c' j' n' work
@@ -736,6 +766,13 @@ given_way None (Some most) None way t m i is = subst IsWayWithin (sym is) (m, (o
 given_way None (Some most) (Some idle) way t m i is = subst IsWayWithin (sym is) (m, i)
 given_way (Some timeout) (Some most) idle way t m i is = absurd is
 
+given_status : (network : Bool) (text : Option Text) (of_many : Bool) (status : Option SocketAddr)
+    → GivesStatus network text of_many status → HasPort status
+given_status network None of_many status given = subst HasPort (sym given) tt
+given_status network (Some text) true (Some address) given = given.port
+given_status network (Some text) true None given = absurd given
+given_status network (Some text) false status given = absurd given
+
 given_number : (default most : ℕ) (count : Option ℕ) (n : ℕ) → 1 ≤ default → default ≤ most → IsWithin most count
     → n ≡ unwrap_or count default → (1 ≤ n) × (n ≤ most)
 given_number default most None n least fits within is = rw is (least, fits)
@@ -774,6 +811,7 @@ line_limit (Some command) (Run (Serve server)) asked = (
   given_limit _ server.limit asked.1.limited,
   given_way _ _ _ server.recorders (given_count _ _ _ asked.1.serves.waits) (given_count _ _ _ asked.1.serves.serves)
       (given_count _ _ _ asked.1.serves.idles) asked.1.serves.is,
+  given_status _ _ _ server.status asked.1.shows,
 )
 line_limit (Some command) (Run (Send sender)) asked = (
   given_port _ _ sender.connect asked.1.connects,

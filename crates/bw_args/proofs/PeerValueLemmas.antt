@@ -7,11 +7,11 @@ use Rattle.clap.specs.declared.error.ErrorKind.TheVariants.{MissingRequiredArgum
 use Rattle.clap.specs.Words.{Text}
 use Rattle.clap.proofs.OnLiterals.{clap_on_literals}
 use Rattle.bw_args.specs.Addresses.{IsAddress}
-use Rattle.bw_args.specs.Numbers.{IsCountText, IsLimitText, default_limit, most_exchanges, most_recorders}
+use Rattle.bw_args.specs.Numbers.{IsCountText, IsLimitText, default_idle, default_limit, most_exchanges, most_recorders}
 use Rattle.bw_args.specs.Numbers.{most_rounds, most_seconds}
 use Rattle.bw_args.specs.Numbers.{number_written}
 use Rattle.bw_args.specs.ReadWords.{as_read}
-use Rattle.bw_args.specs.Lines.{GivesCount, GivesRecorders, IsEnd, IsLineOf, IsName, IsRecordersGiven}
+use Rattle.bw_args.specs.Lines.{GivesCount, GivesRecorders, GivesStatus, IsEnd, IsLineOf, IsName, IsRecordersGiven}
 use Rattle.bw_args.specs.PeerForms.{RefusesPeers, WantsPeers}
 use Rattle.bw_args.specs.PeerForms.{sending, serving}
 use Rattle.bw_args.specs.declared.CommandLine.{CommandLine}
@@ -20,10 +20,11 @@ use Rattle.bw_args.proofs.Asked.{bad, ◌and_then◌}
 use Rattle.bw_args.proofs.ValueLemmas.{IsBadAt, LacksSender, LacksServer, nothing, reported}
 use Rattle.bw_args.specs.declared.bad_value.BadValue.TheVariants.{Name, Limit, Listen, Folder, Exchanges, Timeout}
 use Rattle.bw_args.specs.declared.bad_value.BadValue.TheVariants.{Recorders, Idle, Wait}
-use Rattle.bw_args.specs.declared.bad_value.BadValue.TheVariants.{UntilStopped, Sync, Connect, Rounds}
+use Rattle.bw_args.specs.declared.bad_value.BadValue.TheVariants.{UntilStopped, Sync, Status, Connect, Rounds}
 use Rattle.bw_args.specs.declared.peers.End.TheVariants as when
 use Rattle.bw_args.specs.declared.peers.Recorders.{Recorders as Way}
-use Rattle.bw_args.specs.declared.peers.Recorders.TheVariants.{InTurn}
+use Rattle.bw_args.specs.declared.peers.Recorders.TheVariants.{InTurn, AtOnce}
+use Rattle.bw_args.specs.declared.peers.Journaling.TheVariants.{Without}
 use Rattle.bw_args.proofs.ServerLemmas.{serves_by}
 use Rattle.bw_args.proofs.WishLemmas.{same_way}
 
@@ -131,6 +132,36 @@ sync program listen folder address at full = (
       and_then (when.Exchanges 1, (None, refl, refl)) and_then bad (λ good. good.1),
 )
 
+status_alone : (status : Text) → LacksServer ((codes "--status=" ++ status) ∷ []) Status
+unfolding clap_on_literals
+status_alone status program listen folder address at full = (
+  refl,
+  (address, at) and_then (folder, (full, refl)) and_then nothing and_then (default_limit, refl) and_then nothing
+      and_then nothing and_then nothing and_then (InTurn None, serves_by None None None _ refl refl refl refl)
+      and_then (when.Exchanges 1, (None, refl, refl)) and_then (Without, refl) and_then bad (λ good. good.1),
+)
+
+-- no status is shown at what is no address
+no_status : (text : Text) (status : Option SocketAddr) → ((a : SocketAddr) → ¬ IsAddress false text a)
+    → ¬ GivesStatus false (Some text) true status
+no_status text (Some address) none shows = none address shows
+no_status text None none shows = shows
+
+status : (count text : Text) → IsCountText most_recorders count → ((a : SocketAddr) → ¬ IsAddress false text a)
+    → LacksServer ((codes "--recorders=" ++ count) ∷ (codes "--status=" ++ text) ∷ []) Status
+unfolding clap_on_literals
+status count text given none program listen folder address at full = (
+  refl,
+  (address, at) and_then (folder, (full, refl)) and_then nothing and_then (default_limit, refl) and_then nothing
+      and_then (Some (number_written count), (given, refl)) and_then nothing
+      and_then (
+        AtOnce (number_written count) default_idle,
+        serves_by None (Some (number_written count)) None _ refl (given, refl) refl refl,
+      )
+      and_then (when.Exchanges 1, (None, refl, refl)) and_then (Without, refl)
+      and_then bad (λ good. no_status text good.0 none good.1),
+)
+
 connect : (program address name : Text) → ((a : SocketAddr) → ¬ IsAddress false address a)
     → IsBadAt (as_read (sending program address name [])) Connect
 unfolding clap_on_literals
@@ -172,6 +203,9 @@ refuses_peers words line is = record {
       (timeout_beside n s given waits p l f a at full);
   both = λ n given p l f a at full e. reported words _ line UntilStopped is e (both n given p l f a at full);
   sync = λ p l f a at full e. reported words _ line Sync is e (sync p l f a at full);
+  status_alone = λ t p l f a at full e. reported words _ line Status is e (status_alone t p l f a at full);
+  status = λ k t given none p l f a at full e. reported words _ line Status is e
+      (status k t given none p l f a at full);
   connect = λ p c n none e. reported words _ line Connect is e (connect p c n none);
   connect_far = λ p c n none e. reported words _ line Connect is e (connect_far p c n none);
   name = λ p c n a at none e. reported words _ line Name is e (name p c n a at none);

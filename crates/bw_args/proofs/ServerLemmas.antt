@@ -4,6 +4,7 @@ use Rattle.std.proofs.Common.{◌+◌, ◌-◌, codes, suc, zero}
 use Rattle.std.proofs.Common.{refl, ap, subst, sym, arith}
 use Rattle.std.proofs.lemmas.Str.Parse.{digit_from_value}
 use Rattle.std.specs.Int.{IsInRange}
+use Rattle.std.specs.Prelude.{is_some}
 use Rattle.std.specs.declared.net.socket_addr.SocketAddr.{SocketAddr}
 use Rattle.std.specs.Net.Socket.{socket_port}
 use Rattle.clap.specs.Words.{Row, Text, fault_of, subcommand_of}
@@ -15,7 +16,7 @@ use Rattle.bw_args.specs.Numbers.{IsCountText, IsLimitText, IsNumber, default_id
 use Rattle.bw_args.specs.Numbers.{most_recorders, most_seconds}
 use Rattle.bw_args.specs.Numbers.{number_written}
 use Rattle.bw_args.specs.ReadWords.{as_read}
-use Rattle.bw_args.specs.Lines.{AsksFor, GivesAddress, GivesCount, GivesEnd, GivesFolder, GivesLimit, GivesRecorders}
+use Rattle.bw_args.specs.Lines.{AsksFor, GivesAddress, GivesCount, GivesEnd, GivesFolder, GivesLimit, GivesRecorders, GivesStatus}
 use Rattle.bw_args.specs.Lines.{GivesServer, IsJournaling, IsLineOf, IsRecorders, IsWishOf, Service, Serving, Wish, is_set}
 use Rattle.bw_args.specs.PeerForms.{RunsServer, plain_server}
 use Rattle.bw_args.specs.PeerForms.{serving}
@@ -49,8 +50,11 @@ server_by : {given : Text → Option Text} {server : Service} → GivesEnd (give
     → GivesAddress (is_set (given (codes "network"))) (given (codes "listen")) server.listen
     → GivesFolder (given (codes "folder")) server.folder → server.log ≡ is_set (given (codes "log"))
     → IsJournaling (is_set (given (codes "journal"))) (is_set (given (codes "sync"))) server.journal
-    → server.one_name ≡ is_set (given (codes "one-name")) → GivesServer given server
-server_by ends limited serves listens keeps reports journals names = record {
+    → server.one_name ≡ is_set (given (codes "one-name"))
+    → GivesStatus (is_set (given (codes "network"))) (given (codes "status")) (is_some (given (codes "recorders")))
+    server.status
+    → GivesServer given server
+server_by ends limited serves listens keeps reports journals names shows = record {
   listens = listens;
   keeps = keeps;
   ends = ends;
@@ -59,6 +63,7 @@ server_by ends limited serves listens keeps reports journals names = record {
   reports = reports;
   journals = journals;
   names = names;
+  shows = shows;
 }
 
 -- these further words ask for this server
@@ -73,7 +78,7 @@ alone program listen folder address at full =
     asks refl (
       refl,
       server_by (None, refl, refl) refl (serves_by None None None _ refl refl refl refl) at
-          (full, refl) refl refl refl,
+          (full, refl) refl refl refl refl,
     )
 
 network : AsksServer true (codes "--network" ∷ []) plain_server
@@ -82,7 +87,7 @@ network program listen folder address at full =
     asks refl (
       refl,
       server_by (None, refl, refl) refl (serves_by None None None _ refl refl refl refl) at
-          (full, refl) refl refl refl,
+          (full, refl) refl refl refl refl,
     )
 
 exchanges : (count : Text) → IsCountText most_exchanges count
@@ -93,7 +98,7 @@ exchanges count is program listen folder address at full =
     asks refl (
       refl,
       server_by (Some (number_written count), (is, refl), refl) refl
-          (serves_by None None None _ refl refl refl refl) at (full, refl) refl refl refl,
+          (serves_by None None None _ refl refl refl refl) at (full, refl) refl refl refl refl,
     )
 
 limit : (text : Text) → IsLimitText text
@@ -104,7 +109,7 @@ limit text is program listen folder address at full =
     asks refl (
       refl,
       server_by (None, refl, refl) (is, refl) (serves_by None None None _ refl refl refl refl) at
-          (full, refl) refl refl refl,
+          (full, refl) refl refl refl refl,
     )
 
 timeout : (seconds : Text) → IsCountText most_seconds seconds
@@ -115,7 +120,7 @@ timeout seconds is program listen folder address at full =
     asks refl (
       refl,
       server_by (None, refl, refl) refl
-          (serves_by (Some (number_written seconds)) None None _ (is, refl) refl refl refl) at (full, refl) refl refl refl,
+          (serves_by (Some (number_written seconds)) None None _ (is, refl) refl refl refl) at (full, refl) refl refl refl refl,
     )
 
 recorders : (count : Text) → IsCountText most_recorders count
@@ -126,7 +131,7 @@ recorders count is program listen folder address at full =
     asks refl (
       refl,
       server_by (None, refl, refl) refl
-          (serves_by None (Some (number_written count)) None _ refl (is, refl) refl refl) at (full, refl) refl refl refl,
+          (serves_by None (Some (number_written count)) None _ refl (is, refl) refl refl) at (full, refl) refl refl refl refl,
     )
 
 idle : (count seconds : Text) → IsCountText most_recorders count → IsCountText most_seconds seconds
@@ -138,7 +143,7 @@ idle count seconds is idles program listen folder address at full =
       refl,
       server_by (None, refl, refl) refl
           (serves_by None (Some (number_written count)) (Some (number_written seconds)) _ refl (is, refl) (idles, refl)
-          refl) at (full, refl) refl refl refl,
+          refl) at (full, refl) refl refl refl refl,
     )
 
 until_stopped : AsksServer false (codes "--until-stopped" ∷ [])
@@ -148,7 +153,7 @@ until_stopped program listen folder address at full =
     asks refl (
       refl,
       server_by (None, refl, refl) refl (serves_by None None None _ refl refl refl refl) at
-          (full, refl) refl refl refl,
+          (full, refl) refl refl refl refl,
     )
 
 log : AsksServer false (codes "--log" ∷ []) (λ a f. record (plain_server a f) { log = true })
@@ -157,7 +162,7 @@ log program listen folder address at full =
     asks refl (
       refl,
       server_by (None, refl, refl) refl (serves_by None None None _ refl refl refl refl) at
-          (full, refl) refl refl refl,
+          (full, refl) refl refl refl refl,
     )
 
 one_name : AsksServer false (codes "--one-name" ∷ []) (λ a f. record (plain_server a f) { one_name = true })
@@ -166,7 +171,7 @@ one_name program listen folder address at full =
     asks refl (
       refl,
       server_by (None, refl, refl) refl (serves_by None None None _ refl refl refl refl) at
-          (full, refl) refl refl refl,
+          (full, refl) refl refl refl refl,
     )
 
 journal : AsksServer false (codes "--journal" ∷ []) (λ a f. record (plain_server a f) { journal = Kept })
@@ -175,7 +180,7 @@ journal program listen folder address at full =
     asks refl (
       refl,
       server_by (None, refl, refl) refl (serves_by None None None _ refl refl refl refl) at
-          (full, refl) refl refl refl,
+          (full, refl) refl refl refl refl,
     )
 
 sync : AsksServer false (codes "--journal" ∷ codes "--sync" ∷ [])
@@ -185,7 +190,7 @@ sync program listen folder address at full =
     asks refl (
       refl,
       server_by (None, refl, refl) refl (serves_by None None None _ refl refl refl refl) at
-          (full, refl) refl refl refl,
+          (full, refl) refl refl refl refl,
     )
 
 -- a local address is no option
@@ -199,7 +204,7 @@ apart_near program folder address at full =
     asks refl (
       refl,
       server_by (None, refl, refl) refl (serves_by None None None _ refl refl refl refl) at
-          (full, refl) refl refl refl,
+          (full, refl) refl refl refl refl,
     )
 
 apart_asks : (program listen folder : Text) (address : SocketAddr) → IsAddress false listen address → folder ≢ []
@@ -277,6 +282,21 @@ unfolding clap_on_literals
 recorders_apart program listen folder = by_number (IsReadApart (serving program listen folder) (codes "--recorders"))
     (λ ds. (refl, refl, refl, refl, refl, refl, refl, refl, refl, refl))
 
+status : (count text : Text) (at : SocketAddr) → IsCountText most_recorders count → IsAddress false text at
+    → AsksServer false ((codes "--recorders=" ++ count) ∷ (codes "--status=" ++ text) ∷ [])
+    (λ a f. record (plain_server a f) {
+      recorders = AtOnce (number_written count) default_idle;
+      status = Some at;
+    })
+unfolding clap_on_literals
+status count text at is shows program listen folder address there full =
+    asks refl (
+      refl,
+      server_by (None, refl, refl) refl
+          (serves_by None (Some (number_written count)) None _ refl (is, refl) refl refl) there (full, refl) refl refl
+          refl shows,
+    )
+
 pub runs_server : (words : List Text) (line : CommandLine) → IsLineOf words line → RunsServer words line
 runs_server words line is = record {
   alone = λ p l f a at full e. asked_runs words _ line _ is e (alone p l f a at full);
@@ -307,5 +327,7 @@ runs_server words line is = record {
   log = λ p l f a at full e. asked_runs words _ line _ is e (log p l f a at full);
   journal = λ p l f a at full e. asked_runs words _ line _ is e (journal p l f a at full);
   sync = λ p l f a at full e. asked_runs words _ line _ is e (sync p l f a at full);
+  status = λ k t s given shows p l f a at full e.
+      asked_runs words _ line _ is e (status k t s given shows p l f a at full);
   one_name = λ p l f a at full e. asked_runs words _ line _ is e (one_name p l f a at full);
 }

@@ -9,7 +9,7 @@ use Rattle.std.specs.declared.net.socket_addr.SocketAddr.{SocketAddr}
 use Rattle.std.proofs.NetLemmas.Theorems.{IsSocketText_unique}
 use Rattle.clap.specs.Words.{Row, Text, first_of}
 use Rattle.bw_args.specs.Given.{GivesAddress, GivesCount, GivesCountOr, GivesEnd, GivesFolder, GivesFuse, GivesLimit}
-use Rattle.bw_args.specs.Given.{GivesName, GivesRecorders, IsEnd, IsJournaling, IsRecorders, IsWork, given_on_line}
+use Rattle.bw_args.specs.Given.{GivesName, GivesRecorders, GivesStatus, IsEnd, IsJournaling, IsRecorders, IsWork, given_on_line}
 use Rattle.bw_args.specs.Sources.{GivesSource, PlainSource}
 use Rattle.bw_args.specs.PcmSources.{GivesFormat, GivesNumber, GivesSamples, IsFormatText, PlainPcm, at_comma}
 use Rattle.bw_args.specs.PcmSources.{fruitless_of, is_live, samples_with}
@@ -114,6 +114,15 @@ one_journaling true false a b x y = x ∙ sym y
 one_journaling true true a b x y = x ∙ sym y
 one_journaling false true a b x y = absurd x
 
+one_status : (network : Bool) (text : Option Text) (of_many : Bool) (a b : Option SocketAddr)
+    → GivesStatus network text of_many a → GivesStatus network text of_many b → a ≡ b
+one_status network None of_many a b x y = x ∙ sym y
+one_status network (Some text) true (Some a) (Some b) x y =
+    ap Some (IsSocketText_unique text a b x.spelled y.spelled)
+one_status network (Some text) true None b x y = absurd x
+one_status network (Some text) true (Some a) None x y = absurd y
+one_status network (Some text) false a b x y = absurd x
+
 one_server : (given : Text → Option Text) (a b : Service) → GivesServer given a → GivesServer given b → a ≡ b
 one_server given a b x y = λ i. record {
   listen = one_address _ _ a.listen b.listen x.listens y.listens i;
@@ -124,6 +133,7 @@ one_server given a b x y = λ i. record {
   log = (x.reports ∙ sym y.reports) i;
   journal = one_journaling _ _ a.journal b.journal x.journals y.journals i;
   one_name = (x.names ∙ sym y.names) i;
+  status = one_status _ _ _ a.status b.status x.shows y.shows i;
 }
 
 one_sender : (given : Text → Option Text) (a b : Sender) → GivesSender given a → GivesSender given b → a ≡ b

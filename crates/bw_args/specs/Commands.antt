@@ -128,6 +128,10 @@ sync_flag = flag (codes "sync")
 abbrev pub one_name_flag : Rule
 one_name_flag = flag (codes "one-name")
 
+-- `--status ADDR`
+abbrev pub status_option : Rule
+status_option = option (codes "status")
+
 -- `serve` with the options that say what is served and where
 abbrev pub serve_where : App
 serve_where =
@@ -146,9 +150,13 @@ serve_many = with_rule (with_rule serve_how recorders_option) idle_option
 abbrev pub serve_ends : App
 serve_ends = with_rule (with_rule serve_many until_stopped_flag) log_flag
 
--- `serve`, with its thirteen options
+-- and what it keeps beside the takes
+abbrev pub serve_keeps : App
+serve_keeps = with_rule (with_rule serve_ends journal_flag) sync_flag
+
+-- `serve`, with its fourteen options
 abbrev pub serve_command : App
-serve_command = with_rule (with_rule (with_rule serve_ends journal_flag) sync_flag) one_name_flag
+serve_command = with_rule (with_rule serve_keeps one_name_flag) status_option
 
 -- `--connect ADDR`
 abbrev pub connect_option : Rule

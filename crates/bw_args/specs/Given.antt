@@ -136,6 +136,21 @@ pub record GivesRecorders (given : Text → Option Text) (way : Way) : Type 0 wh
   pub idles : GivesCount most_seconds (given (codes "idle")) idle
   pub is : IsRecorders timeout most idle way
 
+-- where a server of many recorders shows its status, as an option gives it, or nowhere; the address
+-- may be any if the network is allowed
+abbrev pub GivesStatus : Bool → Option Text → Bool → Option SocketAddr → Type 0
+GivesStatus network None of_many status = status ≡ None
+GivesStatus network (Some text) true (Some address) = IsAddress network text address
+GivesStatus network (Some text) true None = ⊥
+GivesStatus network (Some text) false status = ⊥
+
+-- exactly that place; a fault if the option gives what is none
+abbrev pub IsStatusGiven : {E : Type 0} → Bool → Option Text → Bool → Result (Option SocketAddr) E
+    → Type 0
+IsStatusGiven network text of_many (Ok status) = GivesStatus network text of_many status
+IsStatusGiven network text of_many (Err fault) =
+    (status : Option SocketAddr) → ¬ GivesStatus network text of_many status
+
 -- whether a server keeps journals: one of which they are synced keeps them
 abbrev pub IsJournaling : Bool → Bool → Journaling → Type 0
 IsJournaling false false journal = journal ≡ Without

@@ -5,12 +5,13 @@ pub use Rattle.bw_args.specs.Given.{GivesAddress, IsAddressGiven, GivesFolder, I
 pub use Rattle.bw_args.specs.Given.{GivesCount, IsCountGiven, IsEnd, IsEndGiven, GivesEnd}
 pub use Rattle.bw_args.specs.Given.{IsRecorders, IsRecordersGiven, GivesRecorders, IsJournaling}
 pub use Rattle.bw_args.specs.Given.{IsJournalingGiven, GivesCountOr, GivesRounds}
+pub use Rattle.bw_args.specs.Given.{GivesStatus, IsStatusGiven}
 pub use Rattle.bw_args.specs.Given.{IsWork, IsWorkGiven, GivesWork, is_watch_mixed}
-pub use Rattle.bw_args.specs.Ranges.{IsWithin, IsEndWithin, IsWayWithin, HasNumbersInRange}
+pub use Rattle.bw_args.specs.Ranges.{IsWithin, IsEndWithin, IsWayWithin, HasPort, HasNumbersInRange}
 use Rattle.std.specs.Prelude.{◌≡◌, ◌≢◌, ◌⊎◌, ⊤, ℕ, Bool}
 use Rattle.std.specs.Prelude.{false, List, [], ◌∷◌, ◌++◌}
 use Rattle.std.specs.Prelude.{Option, Some, None, option_map, string_bytes, codes}
-use Rattle.std.specs.Prelude.{if◌then◌else◌}
+use Rattle.std.specs.Prelude.{if◌then◌else◌, is_some}
 use Rattle.std.specs.Str.{bytes_eq}
 use Rattle.std.specs.declared.net.socket_addr.SocketAddr.{SocketAddr}
 use Rattle.clap.specs.Walk.{Row, Text, first_of}
@@ -37,7 +38,7 @@ use Rattle.bw_args.specs.declared.bad_value.BadValue.TheVariants.{Name, Limit, F
 use Rattle.bw_args.specs.declared.bad_value.BadValue.TheVariants.{Folder, Exchanges, Timeout}
 use Rattle.bw_args.specs.declared.bad_value.BadValue.TheVariants.{Recorders, Idle, Wait}
 use Rattle.bw_args.specs.declared.bad_value.BadValue.TheVariants.{UntilStopped, Sync, GiveUp, Connect}
-use Rattle.bw_args.specs.declared.bad_value.BadValue.TheVariants.{Watch}
+use Rattle.bw_args.specs.declared.bad_value.BadValue.TheVariants.{Watch, Status}
 use Rattle.bw_args.specs.declared.bad_value.BadValue.TheVariants.{Rounds, Fruitless, Rate, Mixed, Pcm, Skip}
 use Rattle.bw_args.specs.declared.bad_value.BadValue.TheVariants.{Block, MixedSamples, Inspection}
 use Rattle.bw_args.specs.declared.folders.FolderWork.{FolderWork}
@@ -61,6 +62,7 @@ pub record Service : Type 0 where
   pub log : Bool
   pub journal : Journaling
   pub one_name : Bool
+  pub status : Option SocketAddr
 
 -- how a sender tries, by the four options that say it
 pub record GivesTries (given : Text → Option Text) (tries : Tries) : Type 0 where
@@ -125,6 +127,7 @@ wish_of (Serve server) = Serving (record {
   log = server.log;
   journal = server.journal;
   one_name = server.one_name;
+  status = server.status;
 })
 wish_of (Send sender) = Sending sender
 wish_of (SendFile sender) = Uploading (record {
@@ -165,6 +168,8 @@ pub record GivesServer (given : Text → Option Text) (server : Service) : Type 
   pub journals :
       IsJournaling (is_set (given (codes "journal"))) (is_set (given (codes "sync"))) server.journal
   pub names : server.one_name ≡ is_set (given (codes "one-name"))
+  pub shows : GivesStatus (is_set (given (codes "network"))) (given (codes "status"))
+      (is_some (given (codes "recorders"))) server.status
 
 -- what is given is this sender
 pub record GivesSender (given : Text → Option Text) (sender : Sender) : Type 0 where
@@ -286,6 +291,8 @@ IsGood UntilStopped given = (end : End)
     × GivesEnd (given (codes "exchanges")) (is_set (given (codes "until-stopped"))) end
 IsGood Sync given = (journal : Journaling)
     × IsJournaling (is_set (given (codes "journal"))) (is_set (given (codes "sync"))) journal
+IsGood Status given = (status : Option SocketAddr) × GivesStatus (is_set (given (codes "network")))
+    (given (codes "status")) (is_some (given (codes "recorders"))) status
 IsGood Watch given = is_watch_mixed (is_set (given (codes "watch")))
     (is_set (given (codes "check"))) (is_set (given (codes "json"))) (given (codes "give-up")) ≡ false
 IsGood GiveUp given = (work : FolderWork) × GivesWork given work
@@ -306,6 +313,11 @@ IsGood Inspection given = ⊤
 abbrev pub looked_at_waiting : List BadValue
 looked_at_waiting = Timeout ∷ Recorders ∷ Idle ∷ Wait ∷ []
 
+-- the values that say how a server ends, and what it does beside, in the order in which they are
+-- looked at
+abbrev pub looked_at_serving : List BadValue
+looked_at_serving = UntilStopped ∷ Sync ∷ Status ∷ []
+
 -- the values that say how a sender tries, in the order in which they are looked at
 abbrev pub looked_at_trying : List BadValue
 looked_at_trying = Rounds ∷ Timeout ∷ Fruitless ∷ Rate ∷ []
@@ -319,7 +331,7 @@ abbrev pub looked_at : Text → List BadValue
 looked_at command = if bytes_eq command (codes "replay") then Limit ∷ Fuse ∷ []
     else (if bytes_eq command (codes "rehearse") then Name ∷ Limit ∷ []
     else (if bytes_eq command (codes "serve")
-    then Listen ∷ Folder ∷ Exchanges ∷ Limit ∷ (looked_at_waiting ++ UntilStopped ∷ Sync ∷ [])
+    then Listen ∷ Folder ∷ Exchanges ∷ Limit ∷ (looked_at_waiting ++ looked_at_serving)
     else (if bytes_eq command (codes "send")
     then Connect ∷ Name ∷ (looked_at_trying ++ Mixed ∷ looked_at_samples)
     else (if bytes_eq command (codes "takes") then Folder ∷ Watch ∷ GiveUp ∷ [] else []))))

@@ -16,7 +16,7 @@ use Rattle.bw_args.specs.declared.bad_value.BadValue.{BadValue}
 use Rattle.bw_args.specs.declared.bad_value.BadValue.TheVariants.{Name, Limit, Listen, Folder}
 use Rattle.bw_args.specs.declared.bad_value.BadValue.TheVariants.{Exchanges, Timeout, UntilStopped}
 use Rattle.bw_args.specs.declared.bad_value.BadValue.TheVariants.{Recorders, Idle, Wait}
-use Rattle.bw_args.specs.declared.bad_value.BadValue.TheVariants.{Sync, Connect, Rounds}
+use Rattle.bw_args.specs.declared.bad_value.BadValue.TheVariants.{Sync, Status, Connect, Rounds}
 use Rattle.bw_args.specs.declared.peers.End.TheVariants as when
 use Rattle.bw_args.specs.declared.peers.Journaling.TheVariants.{Without, Kept, Synced}
 use Rattle.bw_args.specs.declared.peers.Recorders.TheVariants.{InTurn, AtOnce}
@@ -33,6 +33,7 @@ plain_server address folder = record {
   log = false;
   journal = Without;
   one_name = false;
+  status = None;
 }
 
 -- `serve --listen=ADDR --folder=DIR`, and what follows
@@ -112,6 +113,14 @@ pub record RunsServer (words : List Text) (line : CommandLine) : Type 0 where
   -- with `--journal --sync`
   pub sync : ForServer false words (codes "--journal" ∷ codes "--sync" ∷ [])
       (AsksToServe line (λ s. record s { journal = Synced }))
+  -- with `--recorders=N --status=ADDR`, where the second ADDR is a local address too
+  pub status : (count status : Text) (at : SocketAddr) → IsCountText most_recorders count
+      → IsAddress false status at → ForServer false words
+      ((codes "--recorders=" ++ count) ∷ (codes "--status=" ++ status) ∷ [])
+      (AsksToServe line (λ s. record s {
+        recorders = AtOnce (number_written count) default_idle;
+        status = Some at;
+      }))
   -- with `--one-name`
   pub one_name : ForServer false words (codes "--one-name" ∷ [])
       (AsksToServe line (λ s. record s { one_name = true }))
@@ -209,6 +218,13 @@ pub record RefusesPeers (words : List Text) (line : CommandLine) : Type 0 where
       (ReportsBad line UntilStopped)
   -- with `--sync` alone
   pub sync : ForServer false words (codes "--sync" ∷ []) (ReportsBad line Sync)
+  -- with `--status=ADDR` alone
+  pub status_alone : (status : Text)
+      → ForServer false words ((codes "--status=" ++ status) ∷ []) (ReportsBad line Status)
+  -- with `--recorders=N --status=ADDR`, where the second ADDR is no local address
+  pub status : (count status : Text) → IsCountText most_recorders count
+      → ((at : SocketAddr) → ¬ IsAddress false status at) → ForServer false words
+      ((codes "--recorders=" ++ count) ∷ (codes "--status=" ++ status) ∷ []) (ReportsBad line Status)
   -- `send --connect=ADDR --name=NAME`, where ADDR is no local address
   pub connect : (program connect name : Text)
       → ((address : SocketAddr) → ¬ IsAddress false connect address)

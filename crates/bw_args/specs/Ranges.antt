@@ -1,6 +1,7 @@
 -- The ranges of the numbers that a command line gives.
 use Rattle.std.specs.Prelude.{⊤, ℕ, ◌<◌, ◌≤◌, Option, Some, None}
 use Rattle.std.specs.Net.Socket.{socket_port}
+use Rattle.std.specs.declared.net.socket_addr.SocketAddr.{SocketAddr}
 use Rattle.bw_args.specs.Numbers.{IsLimitValue, most_block, most_exchanges, most_fruitless}
 use Rattle.bw_args.specs.Numbers.{most_rate, most_recorders, most_rounds, most_seconds}
 use Rattle.bw_args.specs.declared.CommandLine.{CommandLine}
@@ -23,6 +24,11 @@ abbrev pub IsEndWithin : End → Type 0
 IsEndWithin (when.Exchanges count) = (1 ≤ count) × (count ≤ most_exchanges)
 IsEndWithin when.UntilStopped = ⊤
 
+-- no address, or one with a port
+abbrev pub HasPort : Option SocketAddr → Type 0
+HasPort None = ⊤
+HasPort (Some address) = 0 < socket_port address
+
 -- how recorders are served is in the ranges of what may be asked for
 abbrev pub IsWayWithin : Way → Type 0
 IsWayWithin (InTurn timeout) = IsWithin most_seconds timeout
@@ -36,7 +42,7 @@ HasNumbersInRange (Run (Rehearse name limit)) = IsLimitValue limit
 HasNumbersInRange (Run (Inspect file)) = ⊤
 HasNumbersInRange (Run (InspectFiles inspection)) = ⊤
 HasNumbersInRange (Run (Serve server)) = (0 < socket_port server.listen) × IsEndWithin server.end
-    × IsLimitValue server.limit × IsWayWithin server.recorders
+    × IsLimitValue server.limit × IsWayWithin server.recorders × HasPort server.status
 HasNumbersInRange (Run (Send sender)) = (0 < socket_port sender.connect)
     × ((1 ≤ sender.rounds) × (sender.rounds ≤ most_rounds))
     × IsWithin most_seconds sender.timeout

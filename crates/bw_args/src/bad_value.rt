@@ -29,6 +29,8 @@ pub enum BadValue {
     UntilStopped,
     /// `--sync` without `--journal`.
     Sync,
+    /// The address at which a server of many recorders shows its status, or one for another server.
+    Status,
     /// Other options of `takes` beside `--watch`.
     Watch,
     /// The name of a take that is given up, or other options of `takes` beside it.
@@ -74,6 +76,7 @@ impl BadValue {
             BadValue::Wait => BAD_WAIT,
             BadValue::UntilStopped => BAD_UNTIL_STOPPED,
             BadValue::Sync => BAD_SYNC,
+            BadValue::Status => BAD_STATUS,
             BadValue::Watch => BAD_WATCH,
             BadValue::GiveUp => BAD_GIVE_UP,
             BadValue::Connect => BAD_CONNECT,
@@ -180,6 +183,14 @@ For more information, try '--help'.
 
 const BAD_SYNC: &str = "\
 error: '--sync' is for '--journal'
+
+Usage: bwingest <COMMAND>
+
+For more information, try '--help'.
+";
+
+const BAD_STATUS: &str = "\
+error: '--status <ADDR>' is for '--recorders <N>', and takes 127.0.0.1:PORT, or any IP:PORT with '--network'; PORT is 1 to 65535
 
 Usage: bwingest <COMMAND>
 

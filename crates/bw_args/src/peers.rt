@@ -52,6 +52,8 @@ pub struct Serve {
     pub journal: Journaling,
     /// Whether a second name ends a connection.
     pub one_name: bool,
+    /// Where it shows its status, if it does; only a server of many recorders does. Its port isn't 0.
+    pub status: Option<SocketAddr>,
 }
 
 /// The sender that a command line asks for.

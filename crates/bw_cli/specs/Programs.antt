@@ -102,8 +102,8 @@ abbrev pub IsUnread : Bool → Outcome → Type 0
 IsUnread true did = IsOutOfMemory did
 IsUnread false did = (kind : ErrorKind) × IsBadArgv kind did
 
-module _ {S T F H G M SB SL Ed LK DK DF N X Y Z P R W L K D A B U J Q I O E V C : Type 0} (host : HostSide S T F H G M SB SL Ed LK DK DF I O E)
-    (server_side : ServerSide X Y Z P R W L K N) (sender_side : SenderSide D A B)
+module _ {S T F H G M SB SL Ed LK DK DF N X Y Z P R W L K SP SK D A B U J Q I O E V C : Type 0} (host : HostSide S T F H G M SB SL Ed LK DK DF I O E)
+    (server_side : ServerSide X Y Z P R W L K N SP SK) (sender_side : SenderSide D A B)
     (upload_side : UploadSide U J Q) (network : NetworkGhosts N X P D R W A B) (listener_setup : ListenerSetupGhosts N L K)
     (starter : StartGhosts N (Server X Y server_side.store server_side.journal)) where
   -- this is done without the network, recordings and folders, where so many calls of the system

@@ -1,5 +1,6 @@
 -- What is done for the command lines that use the network.
-use Rattle.std.specs.Prelude.{◌≡◌, ℕ, ◌*◌, Bool, true, false, Option, string_bytes}
+use Rattle.std.specs.Prelude.{◌≡◌, ℕ, ◌*◌, Bool, true, false, Option, Some, None, string_bytes}
+use Rattle.std.specs.declared.net.socket_addr.SocketAddr.{SocketAddr}
 use Rattle.bw_stream.specs.declared.sink.Sink.{Ghosts as Writer}
 use Rattle.bw_stream.specs.declared.source.Source.{Ghosts as Reader}
 use Rattle.bw_args.specs.declared.peers.End.{End}
@@ -19,6 +20,7 @@ use Rattle.bw_ports.specs.declared.network.Network.{Ghosts as NetworkGhosts}
 use Rattle.bw_serve.specs.declared.hosting_in_turn.Serving.{Serving}
 use Rattle.bw_serve.specs.HostedMany.{HostsMany}
 use Rattle.bw_serve.specs.HostedResumed.{HostsManyResumed, HostsResumed}
+use Rattle.bw_serve_status.specs.Shown.{HostsManyResumedShown, HostsManyShown}
 use Rattle.bw_session.specs.declared.server.Server.{Server}
 use Rattle.bw_ports.specs.declared.starts.Starts.{Ghosts as StartGhosts}
 use Rattle.bw_ports.specs.declared.listener_setup.ListenerSetup.{Ghosts as ListenerSetupGhosts}
@@ -50,7 +52,7 @@ pub record IsHosting (server : Serve) (most idle : ℕ) (hosting : Hosting) : Ty
   pub limited : hosting.limit ≡ server.limit
   pub logs : hosting.log ≡ server.log
 
-module _ {X Y Z P R W L K O E N D A B : Type 0} (side : ServerSide X Y Z P R W L K N)
+module _ {X Y Z P R W L K O E N SP SK D A B : Type 0} (side : ServerSide X Y Z P R W L K N SP SK)
     (out : Writer O) (reported : Writer E) (network : NetworkGhosts N X P D R W A B)
     (listener_setup : ListenerSetupGhosts N L K)
     (starter : StartGhosts N (Server X Y side.store side.journal)) where
@@ -70,21 +72,37 @@ module _ {X Y Z P R W L K O E N D A B : Type 0} (side : ServerSide X Y Z P R W L
     pub hosts : HostsResumed side.store side.journal side.peers side.reader side.writer out reported
         network starter serving sync exit n n' o o' e e'
 
+  -- many at once are served, while the status is shown at an address, if one is given
+  abbrev pub HostsAs : Option SocketAddr → Hosting → Exit → N → N → O → O → E → E → Type 0
+  HostsAs None hosting exit n n' o o' e e' =
+      HostsMany side.store side.none side.reactor side.link out reported network listener_setup hosting
+      exit n n' o o' e e'
+  HostsAs (Some status) hosting exit n n' o o' e e' =
+      HostsManyShown side.store side.none side.reactor side.link out reported network listener_setup
+      side.status hosting status exit n n' o o' e e'
+
+  -- the same from what an earlier server had left
+  abbrev pub ResumesShown : Option SocketAddr → Hosting → Bool → Exit → N → N → O → O → E → E → Type 0
+  ResumesShown None hosting sync exit n n' o o' e e' =
+      HostsManyResumed side.store side.journal side.reactor side.link out reported listener_setup
+      starter hosting sync exit n n' o o' e e'
+  ResumesShown (Some status) hosting sync exit n n' o o' e e' =
+      HostsManyResumedShown side.store side.journal side.reactor side.link out reported listener_setup
+      starter side.status hosting sync status exit n n' o o' e e'
+
   -- it served many at once
   pub record ServesAtOnce (server : Serve) (most idle : ℕ) (exit : Exit) (n n' : N) (o o' : O)
       (e e' : E) : Type 0 where
     pub hosting : Hosting
     pub asked : IsHosting server most idle hosting
-    pub hosts : HostsMany side.store side.none side.reactor side.link out reported network
-        listener_setup hosting exit n n' o o' e e'
+    pub hosts : HostsAs server.status hosting exit n n' o o' e e'
 
   -- it did so from what an earlier server had left
   pub record ResumesAtOnce (server : Serve) (most idle : ℕ) (sync : Bool) (exit : Exit) (n n' : N)
       (o o' : O) (e e' : E) : Type 0 where
     pub hosting : Hosting
     pub asked : IsHosting server most idle hosting
-    pub hosts : HostsManyResumed side.store side.journal side.reactor side.link out reported
-        listener_setup starter hosting sync exit n n' o o' e e'
+    pub hosts : ResumesShown server.status hosting sync exit n n' o o' e e'
 
   -- a server without journals was asked for so, and served
   abbrev pub ServesAs : Recorders → Serve → Exit → N → N → O → O → E → E → Type 0

@@ -5,6 +5,7 @@ use Rattle.bw_stream.specs.declared.source.Source.{Ghosts as Reader}
 use Rattle.bw_store.specs.declared.store.TakeStore.{Ghosts as StoreGhosts}
 use Rattle.bw_journal.specs.declared.journal.Journal.{Ghosts as JournalGhosts}
 use Rattle.bw_one_name.specs.declared.network.NameRule.{Ghosts as RuleGhosts}
+use Rattle.bw_operators.specs.declared.port.StatusSetup.{Ghosts as StatusGhosts}
 use Rattle.bw_disk.specs.declared.disk.Disk.{Ghosts as DiskGhosts}
 use Rattle.bw_ports.specs.declared.dial.Dial.{Ghosts as DialGhosts}
 use Rattle.bw_ports.specs.declared.link.Link.{Ghosts as LinkGhosts}
@@ -61,7 +62,7 @@ host_side system files states edits locks disk input out reported = record {
 
 -- what a server keeps files and journals in, those of a server without journals too, and what it
 -- hears recorders by
-pub record ServerSide (X Y Z P R W L K N : Type 0) : Type 1 where
+pub record ServerSide (X Y Z P R W L K N SP SK : Type 0) : Type 1 where
   pub store : StoreGhosts X
   pub journal : JournalGhosts Y
   pub none : JournalGhosts Z
@@ -72,11 +73,13 @@ pub record ServerSide (X Y Z P R W L K N : Type 0) : Type 1 where
   pub link : LinkGhosts K
   -- and how it chooses whether a link may have one name alone
   pub rule : RuleGhosts N
+  -- and by what it hears operators
+  pub status : StatusGhosts N L SP SK
 
-abbrev pub server_side : {X Y Z P R W L K N : Type 0} → StoreGhosts X → JournalGhosts Y →
+abbrev pub server_side : {X Y Z P R W L K N SP SK : Type 0} → StoreGhosts X → JournalGhosts Y →
     JournalGhosts Z → PeerGhosts P R W → Reader R → Writer W → ReactorGhosts L K → LinkGhosts K →
-    RuleGhosts N → ServerSide X Y Z P R W L K N
-server_side store journal none peers reader writer reactor link rule = record {
+    RuleGhosts N → StatusGhosts N L SP SK → ServerSide X Y Z P R W L K N SP SK
+server_side store journal none peers reader writer reactor link rule status = record {
   store = store;
   journal = journal;
   none = none;
@@ -86,6 +89,7 @@ server_side store journal none peers reader writer reactor link rule = record {
   reactor = reactor;
   link = link;
   rule = rule;
+  status = status;
 }
 
 -- what a sender reaches a server by

@@ -29,6 +29,7 @@ use bw_journal::{Journal, NoJournal};
 use bw_layout::Limit;
 use bw_lock::FolderLocks;
 use bw_one_name::NameRule;
+use bw_operators::StatusSetup;
 use bw_pace::PacedNetwork;
 use bw_ports::{ListenerSetup, Network, Pause, RecordingFiles, Starts, System, Watch};
 use bw_progress::UploadWatch;
@@ -55,7 +56,11 @@ pub fn start<
     F: RecordingFiles + StateKeeping + EditedFiles + FolderLocks,
     D: Volume,
     J: Journal,
-    N: PacedNetwork + ListenerSetup + Starts<Server<N::Store, J>> + NameRule,
+    N: PacedNetwork
+        + ListenerSetup
+        + Starts<Server<N::Store, J>>
+        + NameRule
+        + StatusSetup<N::Reactor>,
     P: Pause,
     R: Source,
     W: Sink,
@@ -67,7 +72,8 @@ pub fn start<
         (host_side S.System F.RecordingFiles (state_side F.kept_at F.States.StateFiles F.States.Log.StateLog)
         F.EditedFiles F.FolderLocks D.Disk R.Source W.Sink E.Sink)
         (server_side N.Store.TakeStore J.Journal ⟦<NoJournal as Journal>⟧ N.Peers.Peers
-        N.Peers.Reader.Source N.Peers.Writer.Sink N.Reactor.Reactor N.Reactor.Link.Link N.NameRule)
+        N.Peers.Reader.Source N.Peers.Writer.Sink N.Reactor.Reactor N.Reactor.Link.Link N.NameRule
+        N.StatusSetup)
         (sender_side N.Dial.Dial N.Dial.Reader.Source N.Dial.Writer.Sink)
         (upload_side ⟦<PlanFeed<F::File, F::Stamped> as Feed>⟧ (LooksAt F.Stamped.Stamped)
         ⟦<PcmFeed<F::Growing> as Feed>⟧ P.Pause)
@@ -82,7 +88,11 @@ fn obey<
     F: RecordingFiles + StateKeeping + EditedFiles + FolderLocks,
     D: Volume,
     J: Journal,
-    N: PacedNetwork + ListenerSetup + Starts<Server<N::Store, J>> + NameRule,
+    N: PacedNetwork
+        + ListenerSetup
+        + Starts<Server<N::Store, J>>
+        + NameRule
+        + StatusSetup<N::Reactor>,
     P: Pause,
     R: Source,
     W: Sink,
@@ -93,7 +103,8 @@ fn obey<
     ensures { IsProgram (host_side S.System F.RecordingFiles (state_side F.kept_at F.States.StateFiles F.States.Log.StateLog)
         F.EditedFiles F.FolderLocks D.Disk R.Source W.Sink E.Sink)
         (server_side N.Store.TakeStore J.Journal ⟦<NoJournal as Journal>⟧ N.Peers.Peers
-        N.Peers.Reader.Source N.Peers.Writer.Sink N.Reactor.Reactor N.Reactor.Link.Link N.NameRule)
+        N.Peers.Reader.Source N.Peers.Writer.Sink N.Reactor.Reactor N.Reactor.Link.Link N.NameRule
+        N.StatusSetup)
         (sender_side N.Dial.Dial N.Dial.Reader.Source N.Dial.Writer.Sink)
         (upload_side ⟦<PlanFeed<F::File, F::Stamped> as Feed>⟧ (LooksAt F.Stamped.Stamped)
         ⟦<PcmFeed<F::Growing> as Feed>⟧ P.Pause)
@@ -111,7 +122,11 @@ fn answer<
     F: RecordingFiles + StateKeeping + EditedFiles + FolderLocks,
     D: Volume,
     J: Journal,
-    N: PacedNetwork + ListenerSetup + Starts<Server<N::Store, J>> + NameRule,
+    N: PacedNetwork
+        + ListenerSetup
+        + Starts<Server<N::Store, J>>
+        + NameRule
+        + StatusSetup<N::Reactor>,
     P: Pause,
     R: Source,
     W: Sink,
@@ -122,7 +137,8 @@ fn answer<
     ensures { IsProgram (host_side S.System F.RecordingFiles (state_side F.kept_at F.States.StateFiles F.States.Log.StateLog)
         F.EditedFiles F.FolderLocks D.Disk R.Source W.Sink E.Sink)
         (server_side N.Store.TakeStore J.Journal ⟦<NoJournal as Journal>⟧ N.Peers.Peers
-        N.Peers.Reader.Source N.Peers.Writer.Sink N.Reactor.Reactor N.Reactor.Link.Link N.NameRule)
+        N.Peers.Reader.Source N.Peers.Writer.Sink N.Reactor.Reactor N.Reactor.Link.Link N.NameRule
+        N.StatusSetup)
         (sender_side N.Dial.Dial N.Dial.Reader.Source N.Dial.Writer.Sink)
         (upload_side ⟦<PlanFeed<F::File, F::Stamped> as Feed>⟧ (LooksAt F.Stamped.Stamped)
         ⟦<PcmFeed<F::Growing> as Feed>⟧ P.Pause)
@@ -140,7 +156,11 @@ fn perform<
     F: RecordingFiles + StateKeeping + EditedFiles + FolderLocks,
     D: Volume,
     J: Journal,
-    N: PacedNetwork + ListenerSetup + Starts<Server<N::Store, J>> + NameRule,
+    N: PacedNetwork
+        + ListenerSetup
+        + Starts<Server<N::Store, J>>
+        + NameRule
+        + StatusSetup<N::Reactor>,
     P: Pause,
     R: Source,
     W: Sink,
@@ -152,7 +172,8 @@ fn perform<
     ensures { IsDoneFor (host_side S.System F.RecordingFiles (state_side F.kept_at F.States.StateFiles F.States.Log.StateLog)
         F.EditedFiles F.FolderLocks D.Disk R.Source W.Sink E.Sink)
         (server_side N.Store.TakeStore J.Journal ⟦<NoJournal as Journal>⟧ N.Peers.Peers
-        N.Peers.Reader.Source N.Peers.Writer.Sink N.Reactor.Reactor N.Reactor.Link.Link N.NameRule)
+        N.Peers.Reader.Source N.Peers.Writer.Sink N.Reactor.Reactor N.Reactor.Link.Link N.NameRule
+        N.StatusSetup)
         (sender_side N.Dial.Dial N.Dial.Reader.Source N.Dial.Writer.Sink)
         (upload_side ⟦<PlanFeed<F::File, F::Stamped> as Feed>⟧ (LooksAt F.Stamped.Stamped)
         ⟦<PcmFeed<F::Growing> as Feed>⟧ P.Pause)
@@ -175,7 +196,11 @@ fn run<
     F: RecordingFiles + StateKeeping + EditedFiles + FolderLocks,
     D: Volume,
     J: Journal,
-    N: PacedNetwork + ListenerSetup + Starts<Server<N::Store, J>> + NameRule,
+    N: PacedNetwork
+        + ListenerSetup
+        + Starts<Server<N::Store, J>>
+        + NameRule
+        + StatusSetup<N::Reactor>,
     P: Pause,
     R: Source,
     W: Sink,
@@ -187,7 +212,8 @@ fn run<
     ensures { IsDoneFor (host_side S.System F.RecordingFiles (state_side F.kept_at F.States.StateFiles F.States.Log.StateLog)
         F.EditedFiles F.FolderLocks D.Disk R.Source W.Sink E.Sink)
         (server_side N.Store.TakeStore J.Journal ⟦<NoJournal as Journal>⟧ N.Peers.Peers
-        N.Peers.Reader.Source N.Peers.Writer.Sink N.Reactor.Reactor N.Reactor.Link.Link N.NameRule)
+        N.Peers.Reader.Source N.Peers.Writer.Sink N.Reactor.Reactor N.Reactor.Link.Link N.NameRule
+        N.StatusSetup)
         (sender_side N.Dial.Dial N.Dial.Reader.Source N.Dial.Writer.Sink)
         (upload_side ⟦<PlanFeed<F::File, F::Stamped> as Feed>⟧ (LooksAt F.Stamped.Stamped)
         ⟦<PcmFeed<F::Growing> as Feed>⟧ P.Pause)

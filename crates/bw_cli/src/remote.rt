@@ -1,8 +1,8 @@
 //! The commands that use the network, as a command line asks for them.
 ghost use Rattle.std.specs.Prelude.{◌≡◌};
 ghost use Rattle.bw_layout.specs.Limits.{IsLimit};
-ghost use Rattle.bw_cli.specs.Remote.{IsHosting, IsServingAs, ResumesAs, Sends, ServesAs, ServesByRule};
-ghost use Rattle.bw_cli.specs.Remote.{exchanges_of};
+ghost use Rattle.bw_cli.specs.Remote.{HostsAs, IsHosting, IsServingAs, ResumesAs, ResumesShown, Sends};
+ghost use Rattle.bw_cli.specs.Remote.{ServesAs, ServesByRule, exchanges_of};
 ghost use Rattle.bw_cli.specs.Sides.{sender_side, server_side};
 
 use bw_args::{End, Journaling, Recorders, Send, Serve};
@@ -10,25 +10,29 @@ use bw_console::Exit;
 use bw_journal::{Journal, NoJournal};
 use bw_layout::Limit;
 use bw_one_name::NameRule;
+use bw_operators::StatusSetup;
 use bw_ports::{ListenerSetup, Network, Starts, Watch};
 use bw_send::send_watched;
 use bw_serve::{
     Bounds, Hosting, Serving, serve, serve_journaled, serve_many, serve_many_journaled,
 };
+use bw_serve_status::{serve_many_journaled_shown, serve_many_shown};
 use bw_session::Server;
 use bw_stream::{Sink, Source};
 use std::alloc::Global;
+use std::net::SocketAddr;
 
 /// Serves as the command line asks for.
 pub(crate) fn serve_as<
     J: Journal,
-    N: Network + ListenerSetup + Starts<Server<N::Store, J>> + NameRule,
+    N: Network + ListenerSetup + Starts<Server<N::Store, J>> + NameRule + StatusSetup<N::Reactor>,
     W: Sink,
     E: Sink,
 >(alloc: Global, server: &Serve, network: &mut N, out: &mut W, faults: &mut E) -> Exit
     requires { IsLimit server.now.limit }
     ensures { ServesByRule (server_side N.Store.TakeStore J.Journal ⟦<NoJournal as Journal>⟧
-        N.Peers.Peers N.Peers.Reader.Source N.Peers.Writer.Sink N.Reactor.Reactor N.Reactor.Link.Link N.NameRule)
+        N.Peers.Peers N.Peers.Reader.Source N.Peers.Writer.Sink N.Reactor.Reactor
+        N.Reactor.Link.Link N.NameRule N.StatusSetup)
         W.Sink E.Sink N.Network N.ListenerSetup N.Starts server.now result network.old
         network.new out.old out.new faults.old faults.new }
 {
@@ -46,15 +50,16 @@ pub(crate) fn serve_as<
 /// Serves without journals.
 fn serve_new<
     J: Journal,
-    N: Network + ListenerSetup + Starts<Server<N::Store, J>> + NameRule,
+    N: Network + ListenerSetup + Starts<Server<N::Store, J>> + NameRule + StatusSetup<N::Reactor>,
     W: Sink,
     E: Sink,
 >(alloc: Global, server: &Serve, limit: Limit, network: &mut N, out: &mut W, faults: &mut E) -> Exit
     requires { limit ≡ server.now.limit }
     ensures { ServesAs (server_side N.Store.TakeStore J.Journal ⟦<NoJournal as Journal>⟧
-        N.Peers.Peers N.Peers.Reader.Source N.Peers.Writer.Sink N.Reactor.Reactor N.Reactor.Link.Link N.NameRule)
-        W.Sink E.Sink N.Network N.ListenerSetup N.Starts server.now.recorders server.now result network.old
-        network.new out.old out.new faults.old faults.new }
+        N.Peers.Peers N.Peers.Reader.Source N.Peers.Writer.Sink N.Reactor.Reactor
+        N.Reactor.Link.Link N.NameRule N.StatusSetup)
+        W.Sink E.Sink N.Network N.ListenerSetup N.Starts server.now.recorders server.now result
+        network.old network.new out.old out.new faults.old faults.new }
 {
     match server.recorders {
         Recorders::InTurn { timeout } => {
@@ -63,15 +68,42 @@ fn serve_new<
         }
         Recorders::AtOnce { most, idle } => {
             let hosting = hosting_of(server, limit, most, idle);
-            serve_many(alloc, network, &hosting, out, faults)
+            serve_at_once::<J, _, _, _>(alloc, &hosting, server.status, network, out, faults)
         }
+    }
+}
+
+/// Serves many recorders at once without journals, and shows the status at an address, if one is
+/// given.
+fn serve_at_once<
+    J: Journal,
+    N: Network + ListenerSetup + Starts<Server<N::Store, J>> + NameRule + StatusSetup<N::Reactor>,
+    W: Sink,
+    E: Sink,
+>(
+    alloc: Global,
+    hosting: &Hosting<'_>,
+    status: Option<SocketAddr>,
+    network: &mut N,
+    out: &mut W,
+    faults: &mut E,
+) -> Exit
+    ensures { HostsAs (server_side N.Store.TakeStore J.Journal ⟦<NoJournal as Journal>⟧
+        N.Peers.Peers N.Peers.Reader.Source N.Peers.Writer.Sink N.Reactor.Reactor
+        N.Reactor.Link.Link N.NameRule N.StatusSetup)
+        W.Sink E.Sink N.Network N.ListenerSetup N.Starts status hosting.now result network.old
+        network.new out.old out.new faults.old faults.new }
+{
+    match status {
+        None => serve_many(alloc, network, hosting, out, faults),
+        Some(status) => serve_many_shown(alloc, network, hosting, status, out, faults),
     }
 }
 
 /// Serves with journals, from what an earlier server left in the folder.
 fn serve_resumed<
     J: Journal,
-    N: Network + ListenerSetup + Starts<Server<N::Store, J>> + NameRule,
+    N: Network + ListenerSetup + Starts<Server<N::Store, J>> + NameRule + StatusSetup<N::Reactor>,
     W: Sink,
     E: Sink,
 >(
@@ -85,9 +117,10 @@ fn serve_resumed<
 ) -> Exit
     requires { limit ≡ server.now.limit }
     ensures { ResumesAs (server_side N.Store.TakeStore J.Journal ⟦<NoJournal as Journal>⟧
-        N.Peers.Peers N.Peers.Reader.Source N.Peers.Writer.Sink N.Reactor.Reactor N.Reactor.Link.Link N.NameRule)
-        W.Sink E.Sink N.Network N.ListenerSetup N.Starts server.now.recorders sync server.now result network.old
-        network.new out.old out.new faults.old faults.new }
+        N.Peers.Peers N.Peers.Reader.Source N.Peers.Writer.Sink N.Reactor.Reactor
+        N.Reactor.Link.Link N.NameRule N.StatusSetup)
+        W.Sink E.Sink N.Network N.ListenerSetup N.Starts server.now.recorders sync server.now result
+        network.old network.new out.old out.new faults.old faults.new }
 {
     match server.recorders {
         Recorders::InTurn { timeout } => {
@@ -96,7 +129,36 @@ fn serve_resumed<
         }
         Recorders::AtOnce { most, idle } => {
             let hosting = hosting_of(server, limit, most, idle);
-            serve_many_journaled(alloc, network, &hosting, sync, out, faults)
+            resume_at_once(alloc, &hosting, server.status, sync, network, out, faults)
+        }
+    }
+}
+
+/// The same with journals, from what an earlier server left in the folder.
+fn resume_at_once<
+    J: Journal,
+    N: Network + ListenerSetup + Starts<Server<N::Store, J>> + NameRule + StatusSetup<N::Reactor>,
+    W: Sink,
+    E: Sink,
+>(
+    alloc: Global,
+    hosting: &Hosting<'_>,
+    status: Option<SocketAddr>,
+    sync: bool,
+    network: &mut N,
+    out: &mut W,
+    faults: &mut E,
+) -> Exit
+    ensures { ResumesShown (server_side N.Store.TakeStore J.Journal ⟦<NoJournal as Journal>⟧
+        N.Peers.Peers N.Peers.Reader.Source N.Peers.Writer.Sink N.Reactor.Reactor
+        N.Reactor.Link.Link N.NameRule N.StatusSetup)
+        W.Sink E.Sink N.Network N.ListenerSetup N.Starts status hosting.now sync result network.old
+        network.new out.old out.new faults.old faults.new }
+{
+    match status {
+        None => serve_many_journaled(alloc, network, hosting, sync, out, faults),
+        Some(status) => {
+            serve_many_journaled_shown(alloc, network, hosting, sync, status, out, faults)
         }
     }
 }

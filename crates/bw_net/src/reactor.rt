@@ -9,13 +9,16 @@ use crate::socket::Socket;
 use bw_ports::{Accepted, Reactor, Ready, TryAcceptFault, WaitFault};
 use mio::event::Event;
 use mio::net::{TcpListener, TcpStream};
-use mio::{Events, Interest, Poll, Token};
+use mio::{Events, Interest, Poll, Registry, Token};
 use std::io::{self, ErrorKind};
 use std::net::SocketAddr;
 use std::time::{Duration, Instant};
 
 /// The token of the listener; those of the links are their places.
 const LISTENER: Token = Token(usize::MAX);
+
+/// The token of all that belongs to the status, which only ends a wait.
+pub(crate) const STATUS: Token = Token(usize::MAX - 1);
 
 /// Accepts those who connect to an address, as long as the server's folder exists.
 #[derive(Drop)]
@@ -131,7 +134,7 @@ impl Reactor for TcpReactor<'_> {
     fn next_ready(&mut self) -> Option<Ready> {
         for event in self.events.iter().skip(self.seen) {
             self.seen = self.seen.saturating_add(1);
-            if event.token() != LISTENER {
+            if event.token() != LISTENER && event.token() != STATUS {
                 return Some(ready_of(event));
             }
         }
@@ -167,6 +170,11 @@ impl Reactor for TcpReactor<'_> {
 }
 
 impl TcpReactor<'_> {
+    /// What registers more sockets that end its waits.
+    pub(crate) fn registry(&self) -> io::Result<Registry> {
+        self.poll.registry().try_clone()
+    }
+
     /// The link over a stream that is reported under this place. A batch's last bytes are sent at
     /// once.
     fn link_at(&self, place: usize, mut stream: TcpStream) -> io::Result<Socket> {

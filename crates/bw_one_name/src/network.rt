@@ -5,6 +5,7 @@ ghost use Rattle.bw_one_name.specs.Wrapping.{ListensFiltered, OpensFiltered};
 use crate::peers::FilteredPeers;
 use crate::reactor::FilteredReactor;
 use bw_layout::Limit;
+use bw_operators::StatusSetup;
 use bw_pace::PacedNetwork;
 use bw_ports::{ListenerSetup, Network, StartRefusal, Starts};
 use std::io;
@@ -125,5 +126,24 @@ impl<T, N: Starts<T>> Starts<T> for FilteredNetwork<N> {
 
     fn start(&mut self, folder: &str, limit: Limit, sync: bool) -> Result<T, StartRefusal> {
         self.network.start(folder, limit, sync)
+    }
+}
+
+impl<B, N: StatusSetup<B>> StatusSetup<FilteredReactor<B>> for FilteredNetwork<N> {
+    type Port = N::Port;
+
+    ghost failures = { λ n. N.failures n.network };
+
+    ghost shows = { λ n reactor address folder result n'.
+        N.shows n.network reactor.reactor address folder result n'.network
+        × (n'.one_name ≡ n.one_name) };
+
+    fn status_port(
+        &mut self,
+        reactor: &FilteredReactor<B>,
+        address: SocketAddr,
+        folder: &str,
+    ) -> io::Result<N::Port> {
+        self.network.status_port(reactor.inner(), address, folder)
     }
 }

@@ -20,6 +20,13 @@ impl<B> FilteredReactor<B> {
     {
         FilteredReactor { reactor, one_name }
     }
+
+    /// The reactor whose links it filters.
+    pub(crate) fn inner(&self) -> &B
+        ensures { result.now ≡ self.now.reactor }
+    {
+        &self.reactor
+    }
 }
 
 impl<B: Reactor> Reactor for FilteredReactor<B> {

@@ -7,7 +7,8 @@ mod Leaving
 mod Quanta
 mod Running
 mod Silence
-mod HeldRuns
-mod NewServers
+pub mod HeldRuns
+pub mod NewServers
 pub mod RunSteps
 pub mod AnsweredRuns
+pub mod WrappedRuns

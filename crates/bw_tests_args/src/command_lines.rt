@@ -368,7 +368,7 @@ fn a_server_takes_its_options_in_any_order(rt: HostRuntime) -> Result<(), AllocE
     lines_come_to(&rt, rt.alloc(), &SERVE, &SERVERS)
 }
 
-static EVENT_LOOPS: [Line; 12] = [
+static EVENT_LOOPS: [Line; 20] = [
     (
         &["--recorders", "16"],
         Outcome::Serves(
@@ -404,6 +404,29 @@ static EVENT_LOOPS: [Line; 12] = [
     (&["--idle", "60"], Outcome::Refuses),
     (&["--recorders=2", "--timeout", "60"], Outcome::Refuses),
     (&["--recorders=2", "--recorders=2"], Outcome::Refuses),
+    (
+        &["--status=127.0.0.1:4200", "--recorders=2"],
+        Outcome::ShowsStatus(4_200),
+    ),
+    (
+        &["--recorders=2", "--status", "0.0.0.0:80", "--network"],
+        Outcome::ShowsStatus(80),
+    ),
+    (
+        &["--recorders=2", "--status", "0.0.0.0:80"],
+        Outcome::Refuses,
+    ),
+    (
+        &["--recorders=2", "--status", "127.0.0.1:0"],
+        Outcome::Refuses,
+    ),
+    (&["--recorders=2", "--status", "4200"], Outcome::Refuses),
+    (&["--recorders=2", "--status"], Outcome::Refuses),
+    (&["--status=127.0.0.1:4200"], Outcome::Refuses),
+    (
+        &["--status=127.0.0.1:4200", "--timeout=1"],
+        Outcome::Refuses,
+    ),
     (&["--recorders"], Outcome::Refuses),
 ];
 

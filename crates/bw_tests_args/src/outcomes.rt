@@ -28,6 +28,8 @@ pub(crate) enum Outcome {
     Logs(End, u64, Recorders),
     /// Serves there, and keeps these journals.
     Keeps(Journaling),
+    /// Serves there, and shows its status at this port.
+    ShowsStatus(u16),
     /// Serves at another address or in another folder.
     ServesElsewhere,
     /// Sends to the address and under the name that the rows' first words give, in at most this
@@ -143,6 +145,8 @@ fn work_outcome(work: &FolderWork) -> Outcome {
 fn server_outcome(server: &Serve) -> Outcome {
     if server.listen.port() != 4100 || !server.listen.is_ipv4() || server.folder.as_str() != "-d" {
         Outcome::ServesElsewhere
+    } else if let Some(status) = server.status {
+        Outcome::ShowsStatus(status.port())
     } else if server.journal != Journaling::Without {
         Outcome::Keeps(server.journal)
     } else if server.log {

@@ -8,7 +8,7 @@ ghost use Rattle.bw_args.specs.Commands.{rounds_option, set_option, strict_flag,
 ghost use Rattle.bw_args.specs.Commands.{timeout_option, until_stopped_flag, block_option, follow_flag};
 ghost use Rattle.bw_args.specs.Commands.{pcm_option, skip_option, until_option, files_argument, json_flag};
 ghost use Rattle.bw_args.specs.Commands.{check_flag, digest_flag, give_up_option, human_flag, rate_option};
-ghost use Rattle.bw_args.specs.Commands.{spool_option, state_option, watch_flag, write_flag};
+ghost use Rattle.bw_args.specs.Commands.{spool_option, state_option, status_option, watch_flag, write_flag};
 
 use clap::{Arg, ArgAction};
 use std::alloc::Global;
@@ -241,6 +241,14 @@ pub(crate) fn sync_flag<'a>(alloc: Global) -> Arg<'a>
 {
     let help = "With --journal: syncs file and journal before each reply";
     flag_option(alloc, "sync", help)
+}
+
+pub(crate) fn status_option<'a>(alloc: Global) -> Arg<'a>
+    ensures { IsOption status_option result }
+{
+    let help =
+        "With --recorders: shows its status over HTTP at 127.0.0.1:PORT, or any address with --network";
+    value_option(alloc, "status", "ADDR", help)
 }
 
 pub(crate) fn connect_option<'a>(alloc: Global) -> Arg<'a>

@@ -1,30 +1,43 @@
 //! The command `serve`.
-ghost use Rattle.std.specs.Prelude.{codes, Some, IfOk, IfErr, OnErr, option_map};
+ghost use Rattle.std.specs.Prelude.{codes, Some, IfOk, IfErr, OnErr, is_some, option_map};
 ghost use Rattle.clap.specs.Words.{first_value, found_of, rows_of};
 ghost use Rattle.bw_args.specs.Commands.{IsCommand, serve_command, serve_ends, serve_how};
-ghost use Rattle.bw_args.specs.Commands.{serve_many, serve_where};
+ghost use Rattle.bw_args.specs.Commands.{serve_keeps, serve_many, serve_where};
 ghost use Rattle.bw_args.specs.Lines.{AsksForPath, GivesRecorders, IsEndGiven, IsFirstBad};
 ghost use Rattle.bw_args.specs.Lines.{IsFolderGiven, IsJournalingGiven, IsLineFor, IsRecordersGiven};
-ghost use Rattle.bw_args.specs.Lines.{looked_at_waiting};
+ghost use Rattle.bw_args.specs.Lines.{IsStatusGiven, looked_at_waiting};
 
 use super::network::{address_given, count_given, flag_given};
 use super::options::{
     exchanges_option, folder_option, idle_option, journal_flag, limit_option, listen_option,
-    log_flag, network_flag, one_name_flag, recorders_option, sync_flag, timeout_option,
-    until_stopped_flag,
+    log_flag, network_flag, one_name_flag, recorders_option, status_option, sync_flag,
+    timeout_option, until_stopped_flag,
 };
 use super::{limit_given, named};
 use crate::{BadValue, CommandLine, End, Journaling, Recorders, Serve, Task, numbers};
 use clap::{ArgMatches, Command};
 use std::alloc::{AllocError, Global};
+use std::net::SocketAddr;
+
+/// A text that is no address, or one where none is wanted.
+#[derive(Drop)]
+struct NoAddress;
 
 pub(crate) fn serve<'a>(alloc: Global) -> Result<Command<'a>, AllocError>
     ensures { IfOk result (IsCommand serve_command) }
 {
+    serve_keeps(alloc)?
+        .arg(one_name_flag(alloc))?
+        .arg(status_option(alloc))
+}
+
+/// The command with these and the options that say what it keeps beside the takes.
+fn serve_keeps<'a>(alloc: Global) -> Result<Command<'a>, AllocError>
+    ensures { IfOk result (IsCommand serve_keeps) }
+{
     serve_ends(alloc)?
         .arg(journal_flag(alloc))?
-        .arg(sync_flag(alloc))?
-        .arg(one_name_flag(alloc))
+        .arg(sync_flag(alloc))
 }
 
 /// The command with these and the options that say when it ends, and what it reports.
@@ -73,8 +86,8 @@ fn serve_where<'a>(alloc: Global) -> Result<Command<'a>, AllocError>
 }
 
 /// Bad values are reported in this order: the address, the folder, the exchanges, the limit, those
-/// of `recorders_given`, `--until-stopped` with a number of exchanges, and `--sync` without
-/// `--journal`.
+/// of `recorders_given`, `--until-stopped` with a number of exchanges, `--sync` without `--journal`,
+/// and the address of `--status`, or that without `--recorders`.
 pub(crate) fn serve_line(alloc: Global, options: &ArgMatches<'_>) -> Result<CommandLine, AllocError>
     ensures ok { IfOk result (IsLineFor (Some (codes "serve", rows_of (found_of options.now)))) }
     ensures err { OnErr result
@@ -105,6 +118,9 @@ pub(crate) fn serve_line(alloc: Global, options: &ArgMatches<'_>) -> Result<Comm
     let Some(journal) = journaling(is_kept, is_synced) else {
         return Ok(CommandLine::BadValue(BadValue::Sync));
     };
+    let Ok(status) = status_given(options, network) else {
+        return Ok(CommandLine::BadValue(BadValue::Status));
+    };
     let log = flag_given(options, "log");
     let one_name = flag_given(options, "one-name");
     let folder = String::from_str(alloc, path)?;
@@ -117,6 +133,7 @@ pub(crate) fn serve_line(alloc: Global, options: &ArgMatches<'_>) -> Result<Comm
         log,
         journal,
         one_name,
+        status,
     })))
 }
 
@@ -178,6 +195,26 @@ fn end_given(count: Option<u32>, until_stopped: bool) -> Option<End>
         (Some(count), false) => Some(End::Exchanges(count)),
         (None, true) => Some(End::UntilStopped),
         (Some(_), true) => None,
+    }
+}
+
+/// Where the options say that the server shows its status, if they do.
+///
+/// # Errors
+/// `NoAddress` if that is no address, or recorders are served one after another.
+fn status_given(options: &ArgMatches<'_>, network: bool) -> Result<Option<SocketAddr>, NoAddress>
+    ensures { IsStatusGiven network (first_value (found_of options.now) (codes "status"))
+        (is_some (first_value (found_of options.now) (codes "recorders"))) result }
+{
+    if options.get_str("status").is_none() {
+        return Ok(None);
+    }
+    if options.get_str("recorders").is_none() {
+        return Err(NoAddress);
+    }
+    match address_given(options, "status", network) {
+        Some(address) => Ok(Some(address)),
+        None => Err(NoAddress),
     }
 }
 

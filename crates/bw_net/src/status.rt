@@ -1,0 +1,152 @@
+//! Where operators connect over TCP, beside a reactor.
+ghost use Rattle.std.specs.Prelude.{◌≡◌, IfOk, string_bytes, ⊤};
+
+use crate::folder::has_folder;
+use crate::network::TcpNetwork;
+use crate::reactor::{STATUS, TcpReactor};
+use crate::socket::Socket;
+use bw_operators::{StatusPort, StatusSetup};
+use mio::net::{TcpListener, TcpStream};
+use mio::{Interest, Registry, Waker};
+use std::net::SocketAddr;
+use std::time::{Instant, SystemTime, UNIX_EPOCH};
+use std::{fs, io};
+
+/// A page of memory, in bytes.
+const PAGE: u64 = 4_096;
+
+/// Accepts operators at an address. What happens at its sockets ends a wait of the reactor, and no
+/// call of it waits for a peer.
+#[derive(Drop)]
+pub struct TcpStatusPort<'a> {
+    rt: &'a HostRuntime,
+    /// Where it listens.
+    address: SocketAddr,
+    folder: String,
+    listener: TcpListener,
+    registry: Registry,
+    waker: Waker,
+    start: Instant,
+    /// The time when it could last be read, in milliseconds since the start.
+    now: u64,
+    /// When it was started, in seconds since 1970; 0 if that can't be read.
+    since: u64,
+}
+
+impl<'a> TcpStatusPort<'a> {
+    /// Listens at an address, beside a reactor.
+    ///
+    /// # Errors
+    /// Why the system refuses; `OutOfMemory` if memory was refused.
+    fn listen(
+        rt: &'a HostRuntime,
+        reactor: &TcpReactor<'_>,
+        address: SocketAddr,
+        folder: &str,
+    ) -> io::Result<TcpStatusPort<'a>>
+        ensures { IfOk result (λ port. (port.address ≡ address)
+            × (string_bytes port.folder ≡ folder.now)) }
+    {
+        let registry = reactor.registry()?;
+        let mut listener = TcpListener::bind(rt, address)?;
+        registry.register(&mut listener, STATUS, Interest::READABLE)?;
+        let waker = Waker::new(&registry, STATUS)?;
+        Ok(TcpStatusPort {
+            rt,
+            address,
+            folder: String::from_str(rt.alloc(), folder)?,
+            listener,
+            registry,
+            waker,
+            start: Instant::now(rt)?,
+            now: 0,
+            since: seconds_now(rt),
+        })
+    }
+
+    /// The link over an operator's stream.
+    fn link_over(&self, mut stream: TcpStream) -> io::Result<Socket> {
+        stream.set_nodelay(true)?;
+        let both = Interest::READABLE | Interest::WRITABLE;
+        self.registry.register(&mut stream, STATUS, both)?;
+        Ok(Socket::new(stream))
+    }
+}
+
+impl StatusPort for TcpStatusPort<'_> {
+    type Link = Socket;
+
+    ghost time = { λ p. p.now };
+
+    ghost started = { λ p. p.since };
+
+    ghost usable = { λ _ _. ⊤ };
+
+    ghost used = { λ _ _. ⊤ };
+
+    fn accept(&mut self) -> Option<Socket> {
+        let Ok((stream, _address)) = self.listener.accept() else {
+            return None;
+        };
+        self.link_over(stream).ok()
+    }
+
+    fn wake(&mut self) {
+        let _failed = self.waker.wake();
+    }
+
+    fn now(&mut self) -> u64 {
+        if let Ok(passed) = self.start.elapsed(self.rt) {
+            self.now = u64::try_from(passed.as_millis()).unwrap_or(u64::MAX);
+        }
+        self.now
+    }
+
+    fn since(&self) -> u64 {
+        self.since
+    }
+
+    fn has_folder(&mut self) -> bool {
+        has_folder(self.rt, self.folder.as_str())
+    }
+
+    fn memory(&mut self) -> Option<u64> {
+        let text = fs::read_to_string(self.rt, "/proc/self/statm").ok()?;
+        let pages = text.as_str().split(' ').nth(1)?;
+        let pages = pages.parse::<u64>().ok()?;
+        pages.checked_mul(PAGE)
+    }
+}
+
+impl<'a> StatusSetup<TcpReactor<'a>> for TcpNetwork<'a> {
+    type Port = TcpStatusPort<'a>;
+
+    ghost failures = { λ n. n.failures };
+
+    ghost shows = { λ n reactor address folder result n'. IfOk result (λ port.
+        (port.address ≡ address) × (string_bytes port.folder ≡ folder)) };
+
+    fn status_port(
+        &mut self,
+        reactor: &TcpReactor<'a>,
+        address: SocketAddr,
+        folder: &str,
+    ) -> io::Result<TcpStatusPort<'a>> {
+        let port = TcpStatusPort::listen(self.rt, reactor, address, folder);
+        if port.is_err() {
+            self.failures = self.failures.saturating_add(1);
+        }
+        port
+    }
+}
+
+/// The time in seconds since 1970; 0 if it can't be read.
+fn seconds_now(rt: &HostRuntime) -> u64 {
+    let Ok(now) = SystemTime::now(rt) else {
+        return 0;
+    };
+    match now.duration_since(UNIX_EPOCH) {
+        Ok(passed) => passed.as_secs(),
+        Err(_) => 0,
+    }
+}

@@ -1,0 +1,2 @@
+pub mod ConnectedLemmas
+pub mod PlacedLemmas

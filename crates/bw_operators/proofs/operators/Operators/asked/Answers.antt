@@ -1,0 +1,32 @@
+use Rattle.std.proofs.Common.{◌≡◌, ◌≤◌, ◌+◌, arith, length, rules, subst, sym, vec_len}
+use Rattle.bw_operators.proofs.PlacedLemmas.{IsOldestBelow, is_asked, is_longest, is_none_asked, older, oldest_of_all}
+use Rattle.bw_operators.proofs.operators.Operators.asked.Goals as goal
+
+pub loop-place-init : goal.loop-place-init
+loop-place-init g c = λ j below. absurd (omega (arith, below))
+
+pub loop-place-preserved : goal.loop-place-preserved
+loop-place-preserved g c =
+    subst (λ r. IsOldestBelow c.args.self.now (c.loop-place.place + 1) r) (sym c.older-oldest.ensures)
+    (older c.args.self.now c.loop-place.place _ c.loop-place.invariant)
+
+pub returns-clause-asks : goal.returns-clause-asks
+returns-clause-asks g c =
+    let len : vec_len c.args.self.now.places ≡ length c.args.self.now.places.items = search rules in
+    let all : length c.args.self.now.places.items ≤ c.loop-place.place =
+    omega (arith, len, c.len-place-end.ensures, c.loop-place-test.false) in
+    is_asked c.args.self.now _ (oldest_of_all c.args.self.now c.loop-place.place _ all c.loop-place.invariant)
+
+pub returns-clause-longest : goal.returns-clause-longest
+returns-clause-longest g c =
+    let len : vec_len c.args.self.now.places ≡ length c.args.self.now.places.items = search rules in
+    let all : length c.args.self.now.places.items ≤ c.loop-place.place =
+    omega (arith, len, c.len-place-end.ensures, c.loop-place-test.false) in
+    is_longest c.args.self.now _ (oldest_of_all c.args.self.now c.loop-place.place _ all c.loop-place.invariant)
+
+pub returns-clause-none : goal.returns-clause-none
+returns-clause-none g c =
+    let len : vec_len c.args.self.now.places ≡ length c.args.self.now.places.items = search rules in
+    let all : length c.args.self.now.places.items ≤ c.loop-place.place =
+    omega (arith, len, c.len-place-end.ensures, c.loop-place-test.false) in
+    is_none_asked c.args.self.now _ (oldest_of_all c.args.self.now c.loop-place.place _ all c.loop-place.invariant)

@@ -1,0 +1,4 @@
+pub mod Places
+pub mod Connected
+pub mod Steps
+pub mod Placed

@@ -1,0 +1,222 @@
+-- A run over a server that wraps another one is a run over the wrapped one, with the same frames and
+-- connections.
+use Rattle.std.proofs.Common.{◌≡◌, ◌∙◌, ℕ, zero, suc, Bool, Option, List, [], ◌∷◌, ◌++◌, refl, ap, sym}
+use Rattle.bw_model.specs.Wire.{Frame}
+use Rattle.bw_model.specs.Replies.{Reply}
+use Rattle.bw_stream.specs.declared.sink.Sink.{Ghosts as Writer}
+use Rattle.bw_console.specs.declared.exit.Exit.{Exit}
+use Rattle.bw_console.specs.declared.exit.Exit.TheVariants.{Done, Refused, Usage, Device, Memory}
+use Rattle.bw_exchange.specs.Answering.{Answered, AnswersAll}
+use Rattle.bw_ports.specs.declared.link.Link.{Ghosts as LinkGhosts}
+use Rattle.bw_ports.specs.declared.reactor.Reactor.{Ghosts as ReactorGhosts}
+use Rattle.bw_connections.specs.declared.connections.Closed.{Closed}
+use Rattle.bw_connections.specs.declared.connections.Connections.{Connections}
+use Rattle.bw_connections.specs.Keeping.{tagged}
+use Rattle.bw_connections.specs.Places.{connection_count}
+use Rattle.bw_connections.specs.Working.{WorksAt}
+use Rattle.bw_serve.specs.declared.event_loop.EventLoop.{EventLoop}
+use Rattle.bw_serve.specs.declared.serving.Bounds.{Bounds}
+use Rattle.bw_serve.specs.EventLoops.{InTurn, ServesPlace, ended_in_turn, frames_in_turn}
+use Rattle.bw_serve.specs.Rounds.{ServesInRounds, ServesRound, ServesRounds, ended_in_rounds, ended_of_run}
+use Rattle.bw_serve.specs.Rounds.{frames_in_rounds, frames_of_run}
+use Rattle.bw_serve.specs.Serving.{HasServed, RunsEventLoop}
+
+both : {X : Type 0} {xs xs' ys ys' : List X} → xs ≡ xs' → ys ≡ ys' → xs ++ ys ≡ xs' ++ ys'
+both {X} {xs} {xs'} {ys} {ys'} e f = ap (λ zs. zs ++ ys) e ∙ ap (λ zs. xs' ++ zs) f
+
+module _ {T S : Type 0} (inner : T → S) (outer : T → Frame → List Reply → T → Type 0)
+    (answers : S → Frame → List Reply → S → Type 0)
+    (passes : (t : T) (frame : Frame) (replies : List Reply) (t' : T) → outer t frame replies t' →
+    answers (inner t) frame replies (inner t')) where
+  answers_inner : (t : T) (xs : List Answered) (t' : T) → AnswersAll outer t xs t' →
+      AnswersAll answers (inner t) xs (inner t')
+  answers_inner t [] t' h = ap inner h
+  answers_inner t (a ∷ rest) t' h =
+      (inner h.0, passes t a.frame a.replies h.0 h.1, answers_inner h.0 rest t' h.2)
+
+  module _ {L : Type 0} (G : LinkGhosts L) where
+    abbrev works_inner : (place now : ℕ) (closed : Option (Closed L)) (m m' : Connections L) (t t' : T) →
+        WorksAt G outer place now closed m m' t t' →
+        WorksAt G answers place now closed m m' (inner t) (inner t')
+    works_inner place now closed m m' t t' w = record {
+      number = w.number;
+      answered = w.answered;
+      by_server = answers_inner t w.answered t' w.by_server;
+      most = w.most;
+      is_its = w.is_its;
+      ends_its = w.ends_its;
+      existed = w.existed;
+      nobody = w.nobody;
+      adds = w.adds;
+      others = w.others;
+      unended = w.unended;
+      since = w.since;
+      moved = w.moved;
+      lets_go = w.lets_go;
+      learns = w.learns;
+      finished = w.finished;
+      left = w.left;
+      no_silence = w.no_silence;
+      served = w.served;
+      heard = w.heard;
+    }
+
+    module _ {O E : Type 0} (out : Writer O) (reported : Writer E) (log : Bool) where
+      abbrev place_inner : (now idle place : ℕ) (c c' : EventLoop L) (t t' : T) (o o' : O) (e e' : E) →
+          ServesPlace G outer out reported log now idle place c c' t t' o o' e e' →
+          ServesPlace G answers out reported log now idle place c c' (inner t) (inner t') o o' e e'
+      place_inner now idle place c c' t t' o o' e e' p = record {
+        first = p.first;
+        between = p.between;
+        works = works_inner place now p.first c.connections p.between t t' p.works;
+        closed = p.closed;
+        following = p.following;
+        adds = p.adds;
+        stays = p.stays;
+        existed = p.existed;
+        whose = p.whose;
+        peer_slots_are = p.peer_slots_are;
+        silent = p.silent;
+        in_time = p.in_time;
+        prints = p.prints;
+        reports = p.reports;
+      }
+
+      abbrev turn_inner : (now idle n : ℕ) (c c' : EventLoop L) (t t' : T) (o o' : O) (e e' : E) →
+          InTurn G outer out reported log now idle n c c' t t' o o' e e' →
+          InTurn G answers out reported log now idle n c c' (inner t) (inner t') o o' e e'
+      turn_inner now idle zero c c' t t' o o' e e' h = (h.0, ap inner h.1, h.2, h.3)
+      turn_inner now idle (suc n) c c' t t' o o' e e' h = (
+        h.0,
+        inner h.1,
+        h.2,
+        h.3,
+        turn_inner now idle n c h.0 t h.1 o h.2 e h.3 h.4,
+        place_inner now idle n h.0 c' h.1 t' h.2 o' h.3 e' h.5,
+      )
+
+      frames_turn : (now idle n : ℕ) (c c' : EventLoop L) (t t' : T) (o o' : O) (e e' : E)
+          (h : InTurn G outer out reported log now idle n c c' t t' o o' e e') →
+          frames_in_turn G answers out reported log now idle n c c' (inner t) (inner t') o o' e e'
+          (turn_inner now idle n c c' t t' o o' e e' h)
+          ≡ frames_in_turn G outer out reported log now idle n c c' t t' o o' e e' h
+      frames_turn now idle zero c c' t t' o o' e e' h = refl
+      frames_turn now idle (suc n) c c' t t' o o' e e' h =
+          ap (λ xs. xs ++ tagged h.5.works.number h.5.works.answered)
+          (frames_turn now idle n c h.0 t h.1 o h.2 e h.3 h.4)
+
+      ended_turn : (now idle n : ℕ) (c c' : EventLoop L) (t t' : T) (o o' : O) (e e' : E)
+          (h : InTurn G outer out reported log now idle n c c' t t' o o' e e') →
+          ended_in_turn G answers out reported log now idle n c c' (inner t) (inner t') o o' e e'
+          (turn_inner now idle n c c' t t' o o' e e' h)
+          ≡ ended_in_turn G outer out reported log now idle n c c' t t' o o' e e' h
+      ended_turn now idle zero c c' t t' o o' e e' h = refl
+      ended_turn now idle (suc n) c c' t t' o o' e e' h =
+          ap (λ xs. xs ++ h.5.closed) (ended_turn now idle n c h.0 t h.1 o h.2 e h.3 h.4)
+
+      module _ {B : Type 0} (reactor : ReactorGhosts B L) where
+        abbrev round_inner : (idle exchanges : ℕ) (c c' : EventLoop L) (t t' : T) (b b' : B) (o o' : O) (e e' : E) →
+            ServesRound reactor G outer out reported log idle exchanges c c' t t' b b' o o' e e' →
+            ServesRound reactor G answers out reported log idle exchanges c c' (inner t) (inner t') b b' o o' e e'
+        round_inner idle exchanges c c' t t' b b' o o' e e' r = record {
+          waited = r.waited;
+          patience = r.patience;
+          noticed = r.noticed;
+          notices = r.notices;
+          links = r.links;
+          were_reported = r.were_reported;
+          all = r.all;
+          wakes = r.wakes;
+          between = r.between;
+          grows = r.grows;
+          lets_in = r.lets_in;
+          welcomes = r.welcomes;
+          asks = r.asks;
+          in_turn = turn_inner (reactor.time b') idle (connection_count r.between.connections) r.between c' t t'
+              o o' e e' r.in_turn;
+        }
+
+        abbrev rounds_inner : (idle exchanges n : ℕ) (c c' : EventLoop L) (t t' : T) (b b' : B) (o o' : O) (e e' : E) →
+            ServesRounds reactor G outer out reported log idle exchanges n c c' t t' b b' o o' e e' →
+            ServesRounds reactor G answers out reported log idle exchanges n c c' (inner t) (inner t') b b' o o' e e'
+        rounds_inner idle exchanges zero c c' t t' b b' o o' e e' h = (h.0, ap inner h.1, h.2, h.3, h.4)
+        rounds_inner idle exchanges (suc n) c c' t t' b b' o o' e e' h = (
+          h.0,
+          inner h.1,
+          h.2,
+          h.3,
+          h.4,
+          rounds_inner idle exchanges n c h.0 t h.1 b h.2 o h.3 e h.4 h.5,
+          h.6,
+          round_inner idle exchanges h.0 c' h.1 t' h.2 b' h.3 o' h.4 e' h.7,
+        )
+
+        frames_rounds : (idle exchanges n : ℕ) (c c' : EventLoop L) (t t' : T) (b b' : B) (o o' : O) (e e' : E)
+            (h : ServesRounds reactor G outer out reported log idle exchanges n c c' t t' b b' o o' e e') →
+            frames_in_rounds reactor G answers out reported log idle exchanges n c c' (inner t) (inner t') b b' o o'
+            e e' (rounds_inner idle exchanges n c c' t t' b b' o o' e e' h)
+            ≡ frames_in_rounds reactor G outer out reported log idle exchanges n c c' t t' b b' o o' e e' h
+        frames_rounds idle exchanges zero c c' t t' b b' o o' e e' h = refl
+        frames_rounds idle exchanges (suc n) c c' t t' b b' o o' e e' h =
+            both (frames_rounds idle exchanges n c h.0 t h.1 b h.2 o h.3 e h.4 h.5)
+            (frames_turn (reactor.time b') idle (connection_count h.7.between.connections) h.7.between c' h.1 t' h.3
+            o' h.4 e' h.7.in_turn)
+
+        ended_rounds : (idle exchanges n : ℕ) (c c' : EventLoop L) (t t' : T) (b b' : B) (o o' : O) (e e' : E)
+            (h : ServesRounds reactor G outer out reported log idle exchanges n c c' t t' b b' o o' e e') →
+            ended_in_rounds reactor G answers out reported log idle exchanges n c c' (inner t) (inner t') b b' o o'
+            e e' (rounds_inner idle exchanges n c c' t t' b b' o o' e e' h)
+            ≡ ended_in_rounds reactor G outer out reported log idle exchanges n c c' t t' b b' o o' e e' h
+        ended_rounds idle exchanges zero c c' t t' b b' o o' e e' h = refl
+        ended_rounds idle exchanges (suc n) c c' t t' b b' o o' e e' h =
+            both (ended_rounds idle exchanges n c h.0 t h.1 b h.2 o h.3 e h.4 h.5)
+            (ended_turn (reactor.time b') idle (connection_count h.7.between.connections) h.7.between c' h.1 t' h.3
+            o' h.4 e' h.7.in_turn)
+
+        abbrev run_inner : (places idle exchanges : ℕ) (c : EventLoop L) (t t' : T) (b b' : B) (o o' : O) (e e' : E) →
+            ServesInRounds reactor G outer out reported log places idle exchanges c t t' b b' o o' e e' →
+            ServesInRounds reactor G answers out reported log places idle exchanges c (inner t) (inner t') b b' o o'
+            e e'
+        run_inner places idle exchanges c t t' b b' o o' e e' r = record {
+          empty = r.empty;
+          new = r.new;
+          count = r.count;
+          each = rounds_inner idle exchanges r.count r.empty c t t' b b' o o' e e' r.each;
+        }
+
+        served_inner : (bounds : Bounds) (exit : Exit) (t t' : T) (b b' : B) (o o' : O) (e e' : E) →
+            HasServed reactor G outer out reported log bounds exit t t' b b' o o' e e' →
+            HasServed reactor G answers out reported log bounds exit (inner t) (inner t') b b' o o' e e'
+        served_inner bounds exit t t' b b' o o' e e' r = record {
+          following = r.following;
+          reactor_after = r.reactor_after;
+          in_rounds = run_inner bounds.places bounds.idle bounds.exchanges r.following t t' b r.reactor_after o o' e
+              e' r.in_rounds;
+          trace = r.trace;
+          taken = r.taken ∙ sym (frames_rounds bounds.idle bounds.exchanges r.in_rounds.count r.in_rounds.empty
+              r.following t t' b r.reactor_after o o' e e' r.in_rounds.each);
+          by_server = answers_inner t _ t' r.by_server;
+          over = r.over;
+          are_over = r.are_over ∙ sym (ended_rounds bounds.idle bounds.exchanges r.in_rounds.count r.in_rounds.empty
+              r.following t t' b r.reactor_after o o' e e' r.in_rounds.each);
+          event_loop = r.event_loop;
+          last = r.last;
+          links = r.links;
+          gave = r.gave;
+          hosts = r.hosts;
+          each = r.each;
+          most = r.most;
+          printed = r.printed;
+          logged = r.logged;
+          unasked = r.unasked;
+          ends = r.ends;
+        }
+
+        pub event_loop_inner : (bounds : Bounds) (exit : Exit) (t t' : T) (b b' : B) (o o' : O) (e e' : E) →
+            RunsEventLoop reactor G outer out reported log bounds exit t t' b b' o o' e e' →
+            RunsEventLoop reactor G answers out reported log bounds exit (inner t) (inner t') b b' o o' e e'
+        event_loop_inner bounds Done t t' b b' o o' e e' r = served_inner bounds Done t t' b b' o o' e e' r
+        event_loop_inner bounds Refused t t' b b' o o' e e' r = served_inner bounds Refused t t' b b' o o' e e' r
+        event_loop_inner bounds Usage t t' b b' o o' e e' r = served_inner bounds Usage t t' b b' o o' e e' r
+        event_loop_inner bounds Device t t' b b' o o' e e' r = served_inner bounds Device t t' b b' o o' e e' r
+        event_loop_inner bounds Memory t t' b b' o o' e e' r = (ap inner r.0, r.1, r.2, r.3)

@@ -1,0 +1,6 @@
+mod NamePlaces
+mod GrownPlaces
+mod TakePlaces
+mod ShownTakes
+mod HostedShown
+mod LookSteps

@@ -1,0 +1,92 @@
+-- What an observer's calls make of it, one after another.
+use Rattle.std.proofs.Common.{◌≡◌, ◌≢◌, ◌==◌, ◌⊎◌, ◌∙◌, ◌++◌, [], inl, inr, ℕ, true, false, List, refl, sym, subst, ap}
+use Rattle.std.proofs.Common.{arith, append-nil, drop, drop_of_length-le, length, take, take_all}
+use Rattle.std.specs.Prelude.{Result, Ok, Err, IfOk, Some}
+use Rattle.std.proofs.lemmas.Bool.Decides.{eqb_tells}
+use Rattle.bw_ports.specs.declared.link.Link.{Ghosts as LinkGhosts}
+use Rattle.bw_store.specs.declared.store.TakeStore.{Ghosts as StoreGhosts}
+use Rattle.bw_journal.specs.declared.journal.Journal.{Ghosts as JournalGhosts}
+use Rattle.bw_session.specs.declared.server.Server.{Server}
+use Rattle.bw_serve.specs.declared.observing.RoundReport.{RoundReport}
+use Rattle.bw_status.specs.declared.answer.Answer.{Answer}
+use Rattle.bw_operators.specs.Placed.{AdmitsAt, IsFreeAt, LastsLongest, LeavesOtherPlaces, StepsAt}
+use Rattle.bw_operators.specs.Placed.{asked_at}
+use Rattle.bw_operators.specs.declared.port.StatusPort.{Ghosts as PortGhosts}
+use Rattle.bw_operators.specs.declared.operators.Operators.{Operators}
+use Rattle.bw_serve_status.specs.Looks.{AcceptsAt, Moment, RespondsToOne, ShowsOrCloses}
+use Rattle.bw_serve_status.specs.declared.growth.Growth.{Growth}
+use Rattle.bw_serve_status.specs.declared.tallied.Tallied.{Tallied}
+
+abbrev pub moment_with : ℕ → ℕ → ℕ → List Growth → Moment
+moment_with now since resumed growth =
+    record { now = now; since = since; resumed = resumed; growth = growth }
+
+-- the port reported the same time and the same start
+pub same_moment : (now now' since since' resumed : ℕ) (growth : List Growth) → now' ≡ now → since' ≡ since →
+    moment_with now' since' resumed growth ≡ moment_with now since resumed growth
+same_moment now now' since since' resumed growth e f = rw (e, f) refl
+
+-- one more operator is accepted, at a place that was free
+pub accepts_one : {L : Type 0} (now : ℕ) (o between o' : Operators L) (place : ℕ) (link : L) →
+    IsFreeAt between place → AdmitsAt place link now o' → LeavesOtherPlaces place between o' →
+    ((j : ℕ) → AcceptsAt now o between j) → (j : ℕ) → AcceptsAt now o o' j
+accepts_one {L} now o between o' place link free admits others before j = go (eqb_tells j place)
+  where
+    was_free : AcceptsAt now o between place → IsFreeAt o place
+    was_free (inl same) = sym same ∙ free
+    was_free (inr new) = new.0
+
+    later : j ≢ place → AcceptsAt now o between j → AcceptsAt now o o' j
+    later other (inl same) = inl (others.others j other ∙ same)
+    later other (inr new) = inr (
+      new.0,
+      (
+        new.1.0,
+        record {
+          connection = new.1.1.connection;
+          there = others.others j other ∙ new.1.1.there;
+          link = new.1.1.link;
+          phase = new.1.1.phase;
+          since = new.1.1.since;
+          held = new.1.1.held;
+        },
+      ),
+    )
+
+    go : (((j == place) ≡ true) × (j ≡ place)) ⊎ (((j == place) ≡ false) × (j ≢ place)) → AcceptsAt now o o' j
+    go (inl y) = subst (AcceptsAt now o o') (sym y.1) (inr (was_free (before place), (link, admits)))
+    go (inr n) = later n.1 (before j)
+
+-- a list that is written over another one of its length
+pub written_over : {X : Type 0} (xs ys : List X) (n : ℕ) → length ys ≡ length xs → n ≡ length xs →
+    take n (ys ++ drop (length ys) xs) ≡ ys
+written_over {X} xs ys n same all =
+    let rest : drop (length ys) xs ≡ [] = drop_of_length-le xs (omega (arith, same)) in
+    ap (λ (zs : List X). take n (ys ++ zs)) rest ∙ ap (take n) (append-nil ys)
+    ∙ take_all n ys (omega (arith, same, all))
+
+-- what holds of each result that is Ok holds of what follows from it
+pub if_ok : {T E : Type 0} (P Q : T → Type 0) (r : Result T E) → ((x : T) → P x → Q x) → IfOk r P → IfOk r Q
+if_ok P Q (Ok x) f h = f x h
+if_ok P Q (Err e) f h = tt
+
+module _ {X Y P L : Type 0} (S : StoreGhosts X) (J : JournalGhosts Y) (port : PortGhosts P L) (G : LinkGhosts L) where
+  -- a response, and another step of each connection
+  pub responds_to_oldest : (server : Tallied (Server X Y S J)) (round : RoundReport) (m m' : Moment) (now place : ℕ)
+      (answer : Answer) (asking after left left' : Operators L) → now ≡ m.now → m' ≡ m → left' ≡ left →
+      asked_at asking place ≡ Some answer → LastsLongest asking place →
+      ShowsOrCloses S J port server round m place answer asking after → LeavesOtherPlaces place asking after →
+      ((j : ℕ) → StepsAt G now after left j) → RespondsToOne S J port G server round m' asking left'
+  responds_to_oldest server round m m' now place answer asking after left left' at same kept asked longest responds
+      others steps =
+      subst (λ x. RespondsToOne S J port G server round x asking left') (sym same)
+      (subst (λ x. RespondsToOne S J port G server round m asking x) (sym kept) (inr (record {
+        place = place;
+        answer = answer;
+        asked = asked;
+        longest = longest;
+        after = after;
+        responds = responds;
+        others = others;
+        steps = subst (λ n. (j : ℕ) → StepsAt G n after left j) at steps;
+      })))

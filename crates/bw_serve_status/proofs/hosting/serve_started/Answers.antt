@@ -1,0 +1,8 @@
+use Rattle.std.proofs.Common.{rules}
+use Rattle.bw_serve_status.proofs.HostedShown.{shown_started}
+use Rattle.bw_serve_status.proofs.hosting.serve_started.Goals as goal
+
+pub returns : goal.returns
+returns g c =
+    shown_started g.S.TakeStore g.J.Journal g.B.Reactor g.B.Link.Link g.O.Sink g.E.Sink c.args.hosting.now _
+    c.args.server _ _ _ _ _ _ _ (search rules) c.serve_from.ensures

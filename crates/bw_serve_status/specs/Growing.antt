@@ -1,0 +1,23 @@
+-- When each name grew last.
+use Rattle.std.specs.Prelude.{◌≡◌, ◌≤◌, ℕ, ◌==◌, Option, Some, None, List, [], ◌∷◌, length, slice_get}
+use Rattle.std.specs.Prelude.{if◌then◌else◌}
+use Rattle.std.specs.Str.{bytes_eq}
+use Rattle.bw_serve_status.specs.declared.growth.Growth.{Growth}
+use Rattle.bw_serve_status.specs.declared.name_tally.NameTally.{NameTally}
+
+-- a name of which so many messages are stored at this time: it has grown if there were others before
+abbrev pub growth_noted : ℕ → ℕ → Growth → Growth
+growth_noted now stored g = if g.stored == stored then g else record { stored = stored; at = Some now }
+
+-- each name's growth is noted at the place of its counts, and the others are as they were
+pub record NotesGrowth (now : ℕ) (names : List NameTally) (old new : List Growth) : Type 0 where
+  pub counted : (place : ℕ) (t : NameTally) (g : Growth) → slice_get names place ≡ Some t →
+      slice_get old place ≡ Some g → slice_get new place ≡ Some (growth_noted now t.stored g)
+  pub others : (place : ℕ) → length names ≤ place → slice_get new place ≡ slice_get old place
+  pub count : length new ≡ length old
+
+-- when a name grew last, if it did
+abbrev pub grown_at : List ℕ → List NameTally → List Growth → Option ℕ
+grown_at name [] gs = None
+grown_at name (t ∷ ts) [] = None
+grown_at name (t ∷ ts) (g ∷ gs) = if bytes_eq t.name name then g.at else grown_at name ts gs

@@ -1,0 +1,14 @@
+//! `serve --status`: a server of many recorders that operators may ask what it is doing.
+#![tactic(auto)]
+
+mod counts;
+mod growth;
+mod hosting;
+mod name_tally;
+mod observer;
+mod snapshots;
+mod takes;
+mod tallied;
+mod tallies;
+
+pub use hosting::{serve_many_journaled_shown, serve_many_shown};

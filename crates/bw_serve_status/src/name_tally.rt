@@ -1,0 +1,130 @@
+//! What is counted of each name.
+ghost use Rattle.std.specs.Prelude.{◌≡◌, ◌≤◌, ◌<◌, length, vec_len, vec_capacity};
+ghost use Rattle.std.specs.List.{list_any, prefix_len};
+ghost use Rattle.std.specs.Str.{bytes_eq};
+ghost use Rattle.bw_serve_status.specs.Names.{change_of, is_other, most_name_tallies, on_name};
+ghost use Rattle.bw_serve_status.specs.Names.{on_first, with_tally};
+ghost use Rattle.bw_serve_status.specs.Names.{uncounted};
+
+use bw_request::Name;
+
+/// How many names are counted: as many as a server takes.
+pub(crate) const NAMES: usize = 256;
+
+/// What is counted of a name. The counts stay at 2^64 - 1.
+#[derive(Drop)]
+pub(crate) struct NameTally {
+    pub(crate) name: Name,
+    /// Verdicts that store.
+    pub(crate) stored: u64,
+    /// Verdicts that don't.
+    pub(crate) refused: u64,
+    /// Notices that the store failed.
+    pub(crate) delayed: u64,
+    /// Whether the last of these says so.
+    pub(crate) is_delayed: bool,
+}
+
+/// What a reply says of a name.
+#[derive(Clone, Copy)]
+pub(crate) enum Change {
+    /// A message was stored.
+    Stored,
+    /// A message was refused.
+    Refused,
+    /// The store failed.
+    Delayed,
+}
+
+impl NameTally {
+    /// A name of which nothing is counted yet.
+    fn new(name: &Name) -> NameTally
+        ensures { result ≡ uncounted name.now }
+    {
+        NameTally {
+            name: name.copy(),
+            stored: 0,
+            refused: 0,
+            delayed: 0,
+            is_delayed: false,
+        }
+    }
+
+    /// Counts a change.
+    fn count(&mut self, change: Change)
+        ensures { self.new ≡ change_of change self.old }
+    {
+        match change {
+            Change::Stored => {
+                self.stored = self.stored.saturating_add(1);
+                self.is_delayed = false;
+            }
+            Change::Refused => {
+                self.refused = self.refused.saturating_add(1);
+                self.is_delayed = false;
+            }
+            Change::Delayed => {
+                self.delayed = self.delayed.saturating_add(1);
+                self.is_delayed = true;
+            }
+        }
+    }
+}
+
+/// Counts a change of a name, unless it is new and there are 256 already.
+pub(crate) fn count_name(names: &mut Vec<NameTally>, name: &Name, change: Change)
+    requires { most_name_tallies ≤ vec_capacity names.old }
+    ensures names { names.new.items ≡ on_name change name.now names.old.items }
+    ensures capacity { vec_capacity names.new ≡ vec_capacity names.old }
+{
+    add_name(names, name);
+    change_name(names, name, change);
+}
+
+/// Adds a name of which nothing is counted, unless it is there, or there are 256.
+fn add_name(names: &mut Vec<NameTally>, name: &Name)
+    requires { most_name_tallies ≤ vec_capacity names.old }
+    ensures names { names.new.items ≡ with_tally name.now names.old.items }
+    ensures capacity { vec_capacity names.new ≡ vec_capacity names.old }
+{
+    if has_name(names.as_slice(), name) || names.len() >= NAMES {
+        return;
+    }
+    names.push_reserved(NameTally::new(name));
+}
+
+/// Whether these are the counts of a name.
+pub(crate) fn is_of(tally: &NameTally, name: &Name) -> bool
+    ensures { result ≡ bytes_eq tally.now.name name.now }
+{
+    tally.name.as_bytes() == name.as_bytes()
+}
+
+fn has_name(names: &[NameTally], name: &Name) -> bool
+    ensures { result ≡ list_any (λ t. bytes_eq t.name name.now) names.now }
+{
+    let name = name.as_bytes();
+    names.iter().any(|tally| tally.name.as_bytes() == name)
+}
+
+/// Counts a change of a name that is there.
+fn change_name(names: &mut Vec<NameTally>, name: &Name, change: Change)
+    ensures names { names.new.items ≡ on_first change name.now names.old.items }
+    ensures capacity { vec_capacity names.new ≡ vec_capacity names.old }
+{
+    let place = place_of(names.as_slice(), name);
+    if place < names.len() {
+        names[place].count(change);
+    }
+}
+
+/// How many others come before a name.
+fn place_of(names: &[NameTally], name: &Name) -> usize
+    ensures { result ≡ prefix_len (is_other name.now) names.now }
+{
+    let name = name.as_bytes();
+    names
+        .iter()
+        .take_while(|tally| tally.name.as_bytes() != name)
+        .count()
+}

@@ -1,0 +1,2 @@
+pub mod SnapshotShapes
+pub mod Appended

@@ -1,0 +1,88 @@
+-- A snapshot has no float as JSON, and few levels, so that its text is pinned and reads back.
+use Rattle.std.proofs.Common.{◌≡◌, ℕ, suc, ◌≤◌, false, List, [], ◌∷◌, map, Option, Some, None}
+use Rattle.std.proofs.Common.{refl, arith, lit≤}
+use Rattle.std.proofs.Math.Nat.{max-le}
+use Rattle.std.specs.declared.net.socket_addr.SocketAddr.{SocketAddr}
+use Rattle.serde_json.specs.Data.{Data, depth, items_depth}
+use Rattle.serde_json.specs.View.{items_of}
+use Rattle.serde_json.specs.Written.{has_float, items_have_float}
+use Rattle.bw_status.specs.declared.snapshot.Count.{Count}
+use Rattle.bw_status.specs.declared.snapshot.Snapshot.{Snapshot}
+use Rattle.bw_status.specs.declared.snapshot.SoundFormat.{SoundFormat}
+use Rattle.bw_status.specs.declared.snapshot.TakeStatus.{TakeStatus}
+use Rattle.bw_status.specs.Objects.{unsigned_or_null, format_number, peer_data, take_data, count_data}
+use Rattle.bw_status.specs.Objects.{snapshot_data}
+
+-- No float.
+
+maybe_number : (n : Option ℕ) → has_float (unsigned_or_null n) ≡ false
+maybe_number None = refl
+maybe_number (Some n) = refl
+
+maybe_format : (field : SoundFormat → ℕ) (f : Option SoundFormat) → has_float (format_number field f) ≡ false
+maybe_format field None = refl
+maybe_format field (Some f) = refl
+
+maybe_peer : (p : Option SocketAddr) → has_float (peer_data p) ≡ false
+maybe_peer None = refl
+maybe_peer (Some p) = refl
+
+one_take : (t : TakeStatus) → has_float (take_data t) ≡ false
+unfolding take_data
+one_take t = simp (maybe_number, maybe_format, maybe_peer)
+
+takes : (ts : List TakeStatus) → items_have_float (items_of (map take_data ts)) ≡ false
+takes [] = refl
+takes (t ∷ ts) = simp (one_take, takes ts)
+
+counts : (cs : List Count) → items_have_float (items_of (map count_data cs)) ≡ false
+counts [] = refl
+counts (c ∷ cs) = simp (counts cs)
+
+pub snapshot-has_float : (s : Snapshot) → has_float (snapshot_data s) ≡ false
+snapshot-has_float s = simp (maybe_number, takes, counts)
+
+-- Few levels.
+
+number_depth : (n : Option ℕ) → depth (unsigned_or_null n) ≡ 0
+number_depth None = refl
+number_depth (Some n) = refl
+
+format_depth : (field : SoundFormat → ℕ) (f : Option SoundFormat) → depth (format_number field f) ≡ 0
+format_depth field None = refl
+format_depth field (Some f) = refl
+
+peer_depth : (p : Option SocketAddr) → depth (peer_data p) ≡ 0
+peer_depth None = refl
+peer_depth (Some p) = refl
+
+take_depth : (t : TakeStatus) → depth (take_data t) ≤ 1
+unfolding take_data
+take_depth t = simp (number_depth, format_depth, peer_depth) (lit≤ tt)
+
+takes_depth : (ts : List TakeStatus) → items_depth (items_of (map take_data ts)) ≤ 1
+takes_depth [] = omega arith
+takes_depth (t ∷ ts) = max-le (take_depth t) (takes_depth ts)
+
+counts_depth : (cs : List Count) → items_depth (items_of (map count_data cs)) ≤ 1
+counts_depth [] = omega arith
+counts_depth (c ∷ cs) =
+    let one : depth (count_data c) ≤ 1 = lit≤ tt in
+    max-le one (counts_depth cs)
+
+flat : (n : ℕ) (d : Data) → depth d ≡ 0 → depth d ≤ n
+flat n d is = rw is (omega arith)
+
+below : (n : ℕ) → n ≤ 3 → suc n ≤ 127
+below n h = omega (arith, h)
+
+pub snapshot-depth : (s : Snapshot) → depth (snapshot_data s) ≤ 127
+snapshot-depth s =
+    let ms : items_depth (items_of (map count_data s.messages.items)) ≤ 1 = counts_depth s.messages.items in
+    let ns : items_depth (items_of (map count_data s.notices.items)) ≤ 1 = counts_depth s.notices.items in
+    let ts : items_depth (items_of (map take_data s.takes.items)) ≤ 1 = takes_depth s.takes.items in
+    let vs : items_depth (items_of (map count_data s.verdicts.items)) ≤ 1 = counts_depth s.verdicts.items in
+    below _ (max-le (lit≤ tt) (max-le (lit≤ tt) (max-le (lit≤ tt) (max-le (lit≤ tt)
+    (max-le (flat 3 _ (number_depth s.memory)) (max-le (omega (arith, ms)) (max-le (omega (arith, ns))
+    (max-le (lit≤ tt) (max-le (lit≤ tt) (max-le (lit≤ tt) (max-le (omega (arith, ts)) (max-le (lit≤ tt)
+    (max-le (omega (arith, vs)) (lit≤ tt))))))))))))))

@@ -1,0 +1,89 @@
+-- What a server is doing, as JSON. The members of an object stand in the order of their keys, as they
+-- are printed.
+use Rattle.std.specs.Prelude.{ℕ, List, map, Option, Some, None, codes, string_bytes}
+use Rattle.std.specs.Net.Text.{socket_text}
+use Rattle.std.specs.declared.net.socket_addr.SocketAddr.{SocketAddr}
+use Rattle.serde_json.specs.Data.{Data, null, number, string, unsigned, array, object, member}
+use Rattle.serde_json.specs.Data.{no_members}
+use Rattle.serde_json.specs.View.{items_of}
+use Rattle.bw_status.specs.declared.snapshot.Count.{Count}
+use Rattle.bw_status.specs.declared.snapshot.Snapshot.{Snapshot}
+use Rattle.bw_status.specs.declared.snapshot.SoundFormat.{SoundFormat}
+use Rattle.bw_status.specs.declared.snapshot.TakeStatus.{TakeStatus}
+use Rattle.bw_status.specs.Words.{health_text, take_state_word}
+
+-- a number
+abbrev pub unsigned_data : ℕ → Data
+unsigned_data n = number (unsigned n)
+
+-- a number, or null
+abbrev pub unsigned_or_null : Option ℕ → Data
+unsigned_or_null None = null
+unsigned_or_null (Some n) = unsigned_data n
+
+-- a number of a format, or null
+abbrev pub format_number : (SoundFormat → ℕ) → Option SoundFormat → Data
+format_number field None = null
+format_number field (Some f) = unsigned_data (field f)
+
+-- an address, or null
+abbrev pub peer_data : Option SocketAddr → Data
+peer_data None = null
+peer_data (Some peer) = string (socket_text peer)
+
+-- a take, with what isn't always known
+abbrev pub take_object : TakeStatus → Data → Data → Data → Data → Data → Data → Data → Data
+take_object t bits channels count ms peer quiet rate = object
+    (member (codes "bits") bits
+    (member (codes "channels") channels
+    (member (codes "delayed") (unsigned_data t.delayed)
+    (member (codes "frames") count
+    (member (codes "held") (unsigned_data t.held)
+    (member (codes "ms") ms
+    (member (codes "name") (string (string_bytes t.name))
+    (member (codes "next") (unsigned_data t.next)
+    (member (codes "peer") peer
+    (member (codes "quiet_ms") quiet
+    (member (codes "rate") rate
+    (member (codes "refused") (unsigned_data t.refused)
+    (member (codes "state") (string (take_state_word t.state)) no_members)))))))))))))
+
+-- a take
+unfoldable pub take_data : TakeStatus → Data
+take_data t = take_object t (format_number (λ (f : SoundFormat). f.bits) t.format)
+    (format_number (λ (f : SoundFormat). f.channels) t.format) (unsigned_or_null t.frames)
+    (unsigned_or_null t.ms) (peer_data t.peer) (unsigned_or_null t.quiet_ms)
+    (format_number (λ (f : SoundFormat). f.rate) t.format)
+
+-- how often something happened
+abbrev pub count_data : Count → Data
+count_data c = object
+    (member (codes "count") (unsigned_data c.count)
+    (member (codes "kind") (string c.kind.now) no_members))
+
+-- a server, with what isn't a number that is always known
+abbrev pub snapshot_object : Snapshot → Data → Data → Data → Data → Data → Data
+snapshot_object s memory messages notices takes verdicts = object
+    (member (codes "bytes") (unsigned_data s.bytes)
+    (member (codes "connections") (unsigned_data s.connections)
+    (member (codes "ended") (unsigned_data s.ended)
+    (member (codes "health") (string (health_text s.health))
+    (member (codes "memory") memory
+    (member (codes "messages") messages
+    (member (codes "notices") notices
+    (member (codes "places") (unsigned_data s.places)
+    (member (codes "resumed") (unsigned_data s.resumed)
+    (member (codes "since") (unsigned_data s.since)
+    (member (codes "takes") takes
+    (member (codes "uptime_ms") (unsigned_data s.uptime_ms)
+    (member (codes "verdicts") verdicts no_members)))))))))))))
+
+-- how often each of these happened
+abbrev pub counts_data : List Count → Data
+counts_data counts = array (items_of (map count_data counts))
+
+-- what a server is doing
+abbrev pub snapshot_data : Snapshot → Data
+snapshot_data s = snapshot_object s (unsigned_or_null s.memory) (counts_data s.messages.items)
+    (counts_data s.notices.items) (array (items_of (map take_data s.takes.items)))
+    (counts_data s.verdicts.items)
