@@ -107,15 +107,15 @@ impl GrowingFile {
         self.condition.is_ahead()
     }
 
-    /// Marks the whole file as ahead of its take by the request that its last call stored: it was
-    /// stored, but its owner can't count it yet, as when the journal failed after it.
+    /// Marks the whole file as ahead of its take: its last call stored a request that its owner
+    /// can't count yet, for example because the journal failed after it.
     pub fn mark_ahead(&mut self)
         ensures { self.new ≡ record self.old { dirty = true; ahead = true } }
     {
         self.condition = Condition::Ahead;
     }
 
-    /// Marks the file as the take's, whole: a take that was behind has the request now.
+    /// Marks the file as whole, and no longer ahead of its take.
     pub fn mark_clean(&mut self)
         ensures { self.new ≡ record self.old { dirty = false; ahead = false } }
     {
@@ -123,7 +123,7 @@ impl GrowingFile {
     }
 
     /// Makes the name, unless an earlier try made it, and writes the header of a take without data.
-    /// The OPEN with this format and history fits and is judged Stored.
+    /// It requires that the OPEN with this format and history fits and is judged Stored.
     ///
     /// If the name was in the store, it returns Exists, and nothing is written.
     ///
@@ -182,8 +182,8 @@ impl GrowingFile {
         Ok(Created::New)
     }
 
-    /// Appends the samples of a block that fits and is judged Stored. The data have at most 2^62
-    /// bytes after it.
+    /// Appends the samples of a block. It requires that the BLOCK fits and is judged Stored, and
+    /// that the data have at most 2^62 bytes after it.
     ///
     /// # Errors
     /// `StoreFault` if a call of the store failed. The file is dirty then, and the same call may
@@ -281,8 +281,8 @@ impl GrowingFile {
         Ok(())
     }
 
-    /// Writes the cue points of the markers after the data, and says that the file is complete. The
-    /// CLOSE with the take's own frames is judged Stored.
+    /// Writes the cue points of the markers after the data, and says that the file is complete. It
+    /// requires that the CLOSE with the take's own frames is judged Stored.
     ///
     /// # Errors
     /// `StoreFault` if a call of the store failed. The file is dirty then, and the same call may

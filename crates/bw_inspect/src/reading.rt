@@ -18,8 +18,8 @@ use crate::walk::{Form, Known, Walk, next_chunk};
 use bw_stream::Source;
 use std::alloc::Global;
 
-/// Reads a file once and forward, and reports what it holds. Content that isn't reported is passed
-/// over and not kept.
+/// Reads a file once and forward, and reports what it holds. Content that isn't reported is skipped
+/// and not kept.
 ///
 /// It lists at most 4,096 chunks and 65,536 cue points.
 ///

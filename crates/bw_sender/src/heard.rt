@@ -2,7 +2,7 @@
 ghost use Rattle.std.specs.Prelude.{◌≡◌, ◌≤◌};
 ghost use Rattle.bw_sender.specs.Hearing.{heard_number};
 
-/// What a reply was to a sender. Only `Counted` changes it.
+/// How a sender took a reply. Only `Counted` changes the sender.
 #[derive(Clone, Copy, Debug, PartialEq, Eq, Hash)]
 pub enum Heard {
     /// The first verdict of an offered request.

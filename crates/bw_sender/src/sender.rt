@@ -23,8 +23,8 @@ use std::alloc::{AllocError, Global};
 /// A recorder's side of one take: it numbers requests, says which of them have no verdict yet,
 /// and counts those that are stored.
 ///
-/// It holds at most sixteen requests, and room for at most twice as many refused numbers as there
-/// are and sixteen more, of eight bytes each.
+/// It holds at most sixteen requests; and for N refused numbers, room for at most 2 N + 16, eight
+/// bytes each.
 #[derive(Drop)]
 pub struct Sender {
     pub(crate) name: Name,

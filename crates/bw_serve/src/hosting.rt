@@ -44,10 +44,9 @@ pub struct Hosting<'a> {
 /// served. If a log is asked for, each connection is a line on `faults`, as `run_event_loop` says
 /// too.
 ///
-/// `Done` after the last exchange; `Refused` if what stands in the folder can't be served so;
-/// `Device` if folder or address can't be used, the first line
-/// can't be written, or the event loop can't continue; `Memory` if memory was refused before the
-/// first connection, or to a fault's line.
+/// `Done` after the last exchange; `Refused` if a file in the folder is refused; `Device` if folder
+/// or address can't be used, the first line can't be written, or the event loop can't continue;
+/// `Memory` if memory was refused before the first connection, or to a fault's line.
 ///
 /// # Not specified
 /// - When memory is refused before the first line.
@@ -112,8 +111,8 @@ fn serve_over<S: TakeStore, B: Reactor, O: Sink, E: Sink>(
 /// server holds.
 ///
 /// A line for each exchange is printed, and with `log` each connection is a line on `faults`, as
-/// `run_event_loop` says; if the opening can't be printed, nothing is served. The run is one from
-/// each book that the server holds over an honest store, and an honest journal that notes the book
+/// `run_event_loop` says; if the opening can't be printed, nothing is served. Over an honest store
+/// it is a run from any book that the server holds; an honest journal that notes that book then
 /// notes the book after the run.
 ///
 /// `Done` after the last exchange; `Device` if the opening can't be written or the event loop can't

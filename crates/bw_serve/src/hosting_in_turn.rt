@@ -130,9 +130,9 @@ fn serve_over<S: TakeStore, P: Peers, O: Sink, E: Sink>(
 /// Prints the opening lines, and serves a number of exchanges from the books that the server holds.
 ///
 /// A line for each exchange is printed, and with `log` each link is a line on `faults`, as
-/// `serve_run` says; if the opening can't be printed, nothing is served. The run is one from each
-/// book that the server holds over an honest store, and an honest journal that notes the book notes
-/// the book after the run.
+/// `serve_run` says; if the opening can't be printed, nothing is served. Over an honest store the
+/// exchanges are a run from any book that the server holds; an honest journal that notes that book
+/// then notes the book after the run.
 ///
 /// `Done` after the last exchange; `Device` if the opening can't be written or no more peers are
 /// accepted; `Memory` if memory was refused to an exchange.

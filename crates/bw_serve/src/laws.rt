@@ -6,7 +6,7 @@ use bw_store::TakeStore;
 
 /// Over an honest store a new server leaves the files of all that came, in whatever order the turns
 /// of its connections came; and the replies and requests of each name follow from its own messages
-/// alone, whatever others send.
+/// and their failures, except for messages that are turned away for lack of room.
 pub fn law_names<S: TakeStore>()
     ensures { NamesStandApart S.TakeStore ⟦<NoJournal as Journal>⟧ }
 {

@@ -14,9 +14,9 @@ use std::alloc::Global;
 /// Serves a number of exchanges, one after another, each over its own link, and prints a line that
 /// says how each ended.
 ///
-/// An exchange that breaks off, whose line can't be written or whose peer goes away before it is
-/// accepted, ends that exchange alone, and counts. `Done` after the last one; `Memory` if memory
-/// was refused to one; `Device` if no more peers are accepted.
+/// If an exchange breaks off, its line can't be written or its peer leaves before it is accepted,
+/// only that exchange ends, and it counts. `Done` after the last one; `Memory` if memory was refused
+/// to one; `Device` if no more peers are accepted.
 ///
 /// With `log` each link is a line on `faults` too: `peer ADDRESS names NAME.. end END messages N
 /// bytes N`, with the first eight names of its messages.

@@ -36,8 +36,8 @@ impl<S: TakeStore, J: Journal> Server<S, J> {
     /// unknown name too.
     ///
     /// # Not specified
-    /// How it follows from the messages, after a turn over a store that isn't honest; and before
-    /// the first verdict NameTaken, whether it is found yet.
+    /// - After a turn over a store that isn't honest: how it follows from the messages.
+    /// - Before the first verdict NameTaken: whether the file is found yet.
     pub fn is_taken(&self, name: &Name) -> bool
         ensures kept { result ≡ is_taken_in self.now.sessions name.now }
         ensures value { (first : List ℕ → Option (List ℕ)) (book : Book) →

@@ -37,7 +37,7 @@ use std::collections::HashMap;
 /// The most names that a server takes.
 const NAMES: usize = 256;
 
-/// A server over a store, and optionally a journal, which no call lends or returns.
+/// Answers messages over a store and, optionally, a journal, which no call lends or returns.
 #[derive(Drop)]
 pub struct Server<S: TakeStore, J: Journal = NoJournal> {
     pub(crate) sessions: HashMap<Name, Session>,
@@ -77,8 +77,8 @@ impl<S: TakeStore, J: Journal> Server<S, J> {
 
     /// Creates a server that knows no name, over a store and a journal.
     ///
-    /// The journal notes the empty book if it has no more than prefixes of headers that say which
-    /// names existed.
+    /// If the journal has only prefixes of headers, which say which names existed, it notes the
+    /// empty book.
     ///
     /// # Errors
     /// `AllocError`, with the store and the journal, if memory was refused.
@@ -123,8 +123,8 @@ impl<S: TakeStore, J: Journal> Server<S, J> {
     /// verdicts of the numbers of its name that are done by it, in order, at most sixteen; then the
     /// reply to the message itself, if its verdict isn't among these.
     ///
-    /// Any store is asked, for each number that is done, all that its judged request asks, in that
-    /// order; for one whose store call failed, the first of these calls.
+    /// For each number that is done, any store gets all calls of its judged request, in order; for
+    /// one whose store call failed, the first of them.
     ///
     /// A held message is done when those before it have come; after a failure, when the next message
     /// of its name comes: if only its note failed it is noted alone, and the store is asked for
@@ -133,8 +133,8 @@ impl<S: TakeStore, J: Journal> Server<S, J> {
     ///
     /// # Not specified
     /// - When a growth is refused, as NoRoom reports it.
-    /// - Over a store that isn't honest, as by contract the system's disk: which replies come, but
-    ///   for their number, their range and DelayedStore; that `out` was emptied; and what the
+    /// - Over a store that isn't honest (no contract says that the system's disk is): which replies
+    ///   come, except their number, their range and DelayedStore; that `out` was emptied; and what the
     ///   server then holds, so also what `ask`, `done`, `frames`, `is_closed`, `held` and
     ///   `kept_bytes` return after it.
     /// - Whether the store or the journal failed, and which of them DelayedStore reports.

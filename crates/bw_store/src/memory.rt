@@ -37,7 +37,7 @@ impl MemoryStore {
         }
     }
 
-    /// Puts a name with contents, in place of what it had. That is no call of the store.
+    /// Sets a name's content directly; no call of the store is counted.
     ///
     /// # Errors
     /// `AllocError` if memory was refused: nothing changed then.

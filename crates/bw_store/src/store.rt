@@ -85,7 +85,7 @@ pub trait TakeStore: Drop {
         ensures others { IsTrue (honest self.old) →
             KeepsOthers (contents self.old) (contents self.new) name.now };
 
-    /// Says that the content of a name is complete.
+    /// Tells the store that the content of a name is complete.
     ///
     /// # Errors
     /// `StoreFault` if the store failed. Contents are as they were then.
