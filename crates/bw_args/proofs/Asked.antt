@@ -49,6 +49,11 @@ good and_then later = inr (good, later)
 pub bad : {A B : Type 0} {value : BadValue} → ¬ A → (¬ A × (value ≡ value)) ⊎ B
 bad none = inl (none, refl)
 
+-- one value is good, and so are those after it
+infixr 20 ◌also◌
+◌also◌ : {A B : Type 0} → A → B → A × B
+good also later = (good, later)
+
 -- what the getters give of the options, by their rows
 by_rows : (found : Found) (P : (Text → Option Text) → Type 0) → P (first_value found)
     → P (given_on_line (rows_of found))
@@ -148,95 +153,28 @@ wished_good name options wish asked = go wish asked
     go (Listing folder work) a =
         at (codes "takes") a.0 ((folder, a.1), (watch_good _ _ _ _ work a.2, ((work, a.2), tt)))
     go (Serving server) a = at (codes "serve") a.0 (
-      (server.listen, a.1.listens),
-      (
-        (server.folder, a.1.keeps),
-        (
-          (a.1.ends.0, a.1.ends.1),
-          (
-            (server.limit, a.1.limited),
-            (
-              (a.1.serves.timeout, a.1.serves.waits),
-              (
-                (a.1.serves.most, a.1.serves.serves),
-                (
-                  (a.1.serves.idle, a.1.serves.idles),
-                  (
-                    (server.recorders, a.1.serves),
-                    ((server.end, a.1.ends), ((server.journal, a.1.journals), ((server.status, a.1.shows), tt))),
-                  ),
-                ),
-              ),
-            ),
-          ),
-        ),
-      ),
-    )
-    go (Sending sender) a = at (codes "send") a.0 (
-      (sender.connect, a.1.connects),
-      (
-        (sender.name, a.1.named),
-        (
-          (a.1.tries.0, a.1.tries.1),
-          (
-            (sender.timeout, a.1.waits),
-            (
-              (None, no_count most_fruitless _ (no_pace (given_on_line options) a.1.lines a.1.unmixed).0),
-              (
-                (None, no_count most_rate _ (no_pace (given_on_line options) a.1.lines a.1.unmixed).1),
-                (a.1.unmixed, samples_good (given_on_line options) None a.1.unsampled),
-              ),
-            ),
-          ),
-        ),
-      ),
-    )
+        (server.listen, a.1.listens) also (server.folder, a.1.keeps) also (a.1.ends.0, a.1.ends.1)
+        also (server.limit, a.1.limited) also (a.1.serves.timeout, a.1.serves.waits)
+        also (a.1.serves.most, a.1.serves.serves) also (a.1.serves.idle, a.1.serves.idles)
+        also (server.recorders, a.1.serves) also (server.end, a.1.ends) also (server.journal, a.1.journals)
+        also (server.status, a.1.shows) also tt)
+    go (Sending sender) a =
+        let paceless = no_pace (given_on_line options) a.1.lines a.1.unmixed in
+        at (codes "send") a.0 (
+        (sender.connect, a.1.connects) also (sender.name, a.1.named) also (a.1.tries.0, a.1.tries.1)
+        also (sender.timeout, a.1.waits) also (None, no_count most_fruitless _ paceless.0)
+        also (None, no_count most_rate _ paceless.1) also a.1.unmixed
+        also samples_good (given_on_line options) None a.1.unsampled)
     go (Uploading sender) a = at (codes "send") a.0 (
-      (sender.connect, a.1.connects),
-      (
-        (sender.name, a.1.named),
-        (
-          (
-            None,
-            no_count most_rounds _ (no_rounds (given_on_line options) sender.source.path a.1.takes.from
-                a.1.unmixed),
-          ),
-          (
-            (a.1.waits.0, a.1.waits.1),
-            (
-              (a.1.ends.0, a.1.ends.1),
-              (
-                (sender.rate, a.1.paced),
-                (a.1.unmixed, samples_good (given_on_line options) None a.1.unsampled),
-              ),
-            ),
-          ),
-        ),
-      ),
-    )
+        (sender.connect, a.1.connects) also (sender.name, a.1.named)
+        also (None, no_count most_rounds _ (no_rounds (given_on_line options) sender.source.path a.1.takes.from a.1.unmixed))
+        also (a.1.waits.0, a.1.waits.1) also (a.1.ends.0, a.1.ends.1) also (sender.rate, a.1.paced)
+        also a.1.unmixed also samples_good (given_on_line options) None a.1.unsampled)
     go (SendingPcm sender) a = at (codes "send") a.0 (
-      (sender.connect, a.1.connects),
-      (
-        (sender.name, a.1.named),
-        (
-          (
-            None,
-            no_count most_rounds _ (no_rounds (given_on_line options) sender.source.path a.1.takes.from
-                a.1.unmixed),
-          ),
-          (
-            (a.1.waits.0, a.1.waits.1),
-            (
-              (a.1.count, a.1.counts),
-              (
-                (sender.rate, a.1.paced),
-                (a.1.unmixed, samples_good (given_on_line options) (Some sender.pcm) a.1.samples),
-              ),
-            ),
-          ),
-        ),
-      ),
-    )
+        (sender.connect, a.1.connects) also (sender.name, a.1.named)
+        also (None, no_count most_rounds _ (no_rounds (given_on_line options) sender.source.path a.1.takes.from a.1.unmixed))
+        also (a.1.waits.0, a.1.waits.1) also (a.1.count, a.1.counts) also (sender.rate, a.1.paced)
+        also a.1.unmixed also samples_good (given_on_line options) (Some sender.pcm) a.1.samples)
     go w a = at _ a.0 tt
 
 -- if all are good none is the first that is bad
@@ -778,6 +716,11 @@ given_number : (default most : ℕ) (count : Option ℕ) (n : ℕ) → 1 ≤ def
 given_number default most None n least fits within is = rw is (least, fits)
 given_number default most (Some count) n least fits within is = rw is within
 
+given_count_or : (default most : ℕ) (text : Option Text) (n : ℕ) → 1 ≤ default → default ≤ most
+    → GivesCountOr default most text n → (1 ≤ n) × (n ≤ most)
+given_count_or default most text n least fits given =
+    given_number default most given.0 n least fits (given_count most text given.0 given.1) given.2
+
 given_fruitless : (is_live : Bool) (count n : Option ℕ) → IsWithin most_fruitless count
     → n ≡ fruitless_of is_live count → IsWithin most_fruitless n
 given_fruitless false None n within is = subst (IsWithin most_fruitless) (sym is) (omega arith, omega arith)
@@ -815,22 +758,18 @@ line_limit (Some command) (Run (Serve server)) asked = (
 )
 line_limit (Some command) (Run (Send sender)) asked = (
   given_port _ _ sender.connect asked.1.connects,
-  given_number default_rounds most_rounds asked.1.tries.0 sender.rounds (omega arith) (omega arith)
-      (given_count _ _ _ asked.1.tries.1) asked.1.tries.2,
+  given_count_or default_rounds most_rounds _ sender.rounds (omega arith) (omega arith) asked.1.tries,
   given_count _ _ sender.timeout asked.1.waits,
 )
 line_limit (Some command) (Run (SendFile sender)) asked = (
   given_port _ _ sender.connect asked.1.connects,
-  given_number default_timeout most_seconds asked.1.waits.0 sender.timeout (omega arith) (omega arith)
-      (given_count _ _ _ asked.1.waits.1) asked.1.waits.2,
-  given_number default_fruitless most_fruitless asked.1.ends.0 sender.fruitless (omega arith) (omega arith)
-      (given_count _ _ _ asked.1.ends.1) asked.1.ends.2,
+  given_count_or default_timeout most_seconds _ sender.timeout (omega arith) (omega arith) asked.1.waits,
+  given_count_or default_fruitless most_fruitless _ sender.fruitless (omega arith) (omega arith) asked.1.ends,
   given_count _ _ sender.rate asked.1.paced,
 )
 line_limit (Some command) (Run (SendPcm sender)) asked = (
   given_port _ _ sender.connect asked.1.connects,
-  given_number default_timeout most_seconds asked.1.waits.0 sender.timeout (omega arith) (omega arith)
-      (given_count _ _ _ asked.1.waits.1) asked.1.waits.2,
+  given_count_or default_timeout most_seconds _ sender.timeout (omega arith) (omega arith) asked.1.waits,
   given_fruitless _ asked.1.count sender.fruitless (given_count _ _ _ asked.1.counts) asked.1.ends,
   given_block _ _ asked.1.samples,
   given_count _ _ sender.rate asked.1.paced,

@@ -74,6 +74,15 @@ pub two_options : (a b : Command) (r : Result Command AllocError) (first second 
 two_options a b r first second app one two is has adds also more =
     one_option b r second (with_rule app one) two (command_arg a b first app one is has adds) also more
 
+-- three times
+pub three_options : (a b c : Command) (r : Result Command AllocError) (first second third : Arg) (app : App)
+    (one two three : Rule) → IsCommand app a → IsOption one first → AddsArg a first b → IsOption two second
+    → AddsArg b second c → IsOption three third → IfOk r (AddsArg c third)
+    → IfOk r (IsCommand (with_rule (with_rule (with_rule app one) two) three))
+three_options a b c r first second third app one two three is has adds also adds_more last more =
+    two_options b c r second third (with_rule app one) two three (command_arg a b first app one is has adds) also
+    adds_more last more
+
 -- `Command::subcommand`
 pub command_subcommand : (a b sub : Command) (app under : App) → app_of a ≡ app → IsCommand under sub
     → AddsSubcommand a sub b → app_of b ≡ with_subcommand app under.top

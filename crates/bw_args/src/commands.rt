@@ -1,20 +1,15 @@
-//! The commands of the program, as `clap` sees them, and what each results in.
-ghost use Rattle.std.specs.Prelude.{◌≡◌, codes, Some, IfOk, OnErr};
-ghost use Rattle.clap.specs.Simple.{new_app};
-ghost use Rattle.clap.specs.Words.{app_of, first_value, found_of, rows_of, subcommand_rows_of};
-ghost use Rattle.bw_args.specs.Commands.{IsCommand, command_line, offline, program, inspect_command};
-ghost use Rattle.bw_args.specs.Commands.{on_files, on_folders};
-ghost use Rattle.bw_args.specs.Commands.{rehearse_command, replay_command};
+//! What the commands of the program result in.
+ghost use Rattle.std.specs.Prelude.{codes, Some, IfOk, OnErr};
+ghost use Rattle.clap.specs.Words.{first_value, found_of, rows_of, subcommand_rows_of};
 ghost use Rattle.bw_args.specs.Lines.{AsksForPath, IsFuseGiven, IsLimitGiven, IsLineFor};
 ghost use Rattle.bw_args.specs.Lines.{IsNameGiven};
 
+mod grammar;
 mod inspecting;
 mod listing;
 mod network;
+mod one_file;
 mod options;
-mod packing;
-mod picturing;
-mod repairing;
 mod samples;
 mod sending;
 mod serving;
@@ -22,94 +17,13 @@ mod sources;
 
 use crate::{BadValue, CommandLine, Task, numbers};
 use bw_request::Name;
-use clap::{ArgMatches, Command};
-use options::{fuse_option, limit_option, name_option};
+use clap::ArgMatches;
+pub use grammar::bwingest;
 use std::alloc::{AllocError, Global};
 
 /// A text that is no number of the kind wanted.
 #[derive(Drop)]
 struct NoNumber;
-
-/// The whole command line.
-pub fn bwingest<'a>(alloc: Global) -> Result<Command<'a>, AllocError>
-    ensures { IfOk result (λ c. app_of c ≡ command_line) }
-{
-    on_folders(alloc)?
-        .subcommand(serving::serve(alloc)?)?
-        .subcommand(sending::send(alloc)?)
-}
-
-/// The program with these, and the command on a folder of takes.
-fn on_folders<'a>(alloc: Global) -> Result<Command<'a>, AllocError>
-    ensures { IfOk result (λ c. app_of c ≡ on_folders) }
-{
-    on_files(alloc)?.subcommand(listing::takes(alloc)?)
-}
-
-/// The program with these, and those that draw a file or change it in place.
-fn on_files<'a>(alloc: Global) -> Result<Command<'a>, AllocError>
-    ensures { IfOk result (λ c. app_of c ≡ on_files) }
-{
-    offline(alloc)?
-        .subcommand(picturing::picture(alloc)?)?
-        .subcommand(repairing::repair(alloc)?)
-}
-
-/// The program with the commands that use no network.
-fn offline<'a>(alloc: Global) -> Result<Command<'a>, AllocError>
-    ensures { IfOk result (λ c. app_of c ≡ offline) }
-{
-    program(alloc)?
-        .subcommand(replay(alloc)?)?
-        .subcommand(rehearse(alloc)?)?
-        .subcommand(inspecting::inspect(alloc)?)?
-        .subcommand(packing::pack(alloc)?)
-}
-
-/// The program without its commands.
-fn program<'a>(alloc: Global) -> Result<Command<'a>, AllocError>
-    ensures { IfOk result (λ c. app_of c ≡ program) }
-{
-    let command = Command::new(alloc, "bwingest")
-        .bin_name("bwingest")?
-        .version("1.0.0")
-        .about("An ingest server for field recordings")
-        .subcommand_required(true);
-    Ok(command)
-}
-
-/// A command without options, and what it does.
-fn named<'a>(alloc: Global, name: &'a str, about: &'a str) -> Command<'a>
-    ensures { IsCommand (new_app name.now) result }
-{
-    Command::new(alloc, name).about(about)
-}
-
-fn replay<'a>(alloc: Global) -> Result<Command<'a>, AllocError>
-    ensures { IfOk result (IsCommand replay_command) }
-{
-    named(
-        alloc,
-        "replay",
-        "Runs each line of standard input as an exchange, and prints replies and files",
-    )
-    .after_help("Example: bwingest replay --fuse 3 < requests.hex")
-    .arg(limit_option(alloc))?
-    .arg(fuse_option(alloc))
-}
-
-fn rehearse<'a>(alloc: Global) -> Result<Command<'a>, AllocError>
-    ensures { IfOk result (IsCommand rehearse_command) }
-{
-    named(
-        alloc,
-        "rehearse",
-        "Plays a recorder and a server by hand, by the events on standard input",
-    )
-    .after_help("Example: bwingest rehearse --name a1 < events.txt")
-    .arg(name_option(alloc))?
-    .arg(limit_option(alloc))
-}
 
 /// What parsed words result in. Only paths and settings take memory, so that a bad value is
 /// reported however little is left.
@@ -123,9 +37,9 @@ pub fn line(alloc: Global, matches: &ArgMatches<'_>) -> Result<CommandLine, Allo
         Some(("inspect", options)) => inspecting::inspect_line(alloc, options),
         Some(("serve", options)) => serving::serve_line(alloc, options),
         Some(("send", options)) => sending::send_line(alloc, options),
-        Some(("pack", options)) => packing::pack_line(alloc, options),
-        Some(("picture", options)) => picturing::picture_line(alloc, options),
-        Some(("repair", options)) => repairing::repair_line(alloc, options),
+        Some(("pack", options)) => one_file::pack_line(alloc, options),
+        Some(("picture", options)) => one_file::picture_line(alloc, options),
+        Some(("repair", options)) => one_file::repair_line(alloc, options),
         Some(("takes", options)) => listing::takes_line(alloc, options),
         // `clap` refuses words without a command of ours.
         _ => Ok(CommandLine::BadValue(BadValue::Limit)),

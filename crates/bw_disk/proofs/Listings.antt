@@ -14,7 +14,7 @@ use Rattle.std.proofs.lemmas.List.Elements.{All-nil, All-push, Contains-append_l
 use Rattle.std.proofs.lemmas.List.Folds.{find-append}
 use Rattle.std.proofs.lemmas.Slice.Eq.{bytes_eq-Decides}
 use Rattle.bw_disk.specs.declared.memory_disk.StoredFile.{StoredFile}
-use Rattle.bw_disk.specs.MemoryDisks.{stands_at, content_at, IsNameIn, AddsFileName, AddsListed}
+use Rattle.bw_disk.specs.MemoryDisks.{stands_at, content_at, IsNameIn, AddsListed}
 use Rattle.bw_disk.specs.Volumes.{in_folder, is_listed, AreDistinct, Lists}
 use Rattle.bw_disk.proofs.MemoryDisks.{content_under}
 
@@ -120,30 +120,28 @@ module _ (folder : List ℕ) (files : List StoredFile) (file : StoredFile) (name
       at (inl e) = inl e
       at (inr e) = inr ((bytes_eq-Decides (string_bytes file.path) path).0 e)
 
-  -- no name is added
-  same : ((name : List ℕ) → IsTrue (is_listed name) → IsUtf8 name → IsSome (content_at more (in_folder folder name)) →
+  -- no name is added, where that of the new file is among them
+  same : ((name : List ℕ) → IsTrue (is_listed name) → IsUtf8 name → string_bytes file.path ≡ in_folder folder name →
       Contains names name) → Lists folder (content_at more) names
-  same all = record { stand = stood; complete = all; distinct = lists.distinct }
-
-  unlisted : IsNameIn folder (string_bytes file.path) None → Lists folder (content_at more) names
-  unlisted none = same (λ name listed utf8 some. at name listed utf8 (either (in_folder folder name) some))
+  same own = record {
+    stand = stood;
+    complete = λ name listed utf8 some. at name listed utf8 (either (in_folder folder name) some);
+    distinct = lists.distinct;
+  }
     where
       at : (name : List ℕ) → IsTrue (is_listed name) → IsUtf8 name →
           IsSome (content_at files (in_folder folder name)) ⊎ (string_bytes file.path ≡ in_folder folder name) →
           Contains names name
       at name listed utf8 (inl some) = lists.complete name listed utf8 some
-      at name listed utf8 (inr e) = absurd (none name listed utf8 e)
+      at name listed utf8 (inr e) = own name listed utf8 e
+
+  unlisted : IsNameIn folder (string_bytes file.path) None → Lists folder (content_at more) names
+  unlisted none = same (λ name listed utf8 e. absurd (none name listed utf8 e))
 
   module _ (n : List ℕ) (is : string_bytes file.path ≡ in_folder folder n) (named : IsTrue (is_listed n)) where
     known : Contains names n → Lists folder (content_at more) names
-    known among = same (λ name listed utf8 some. at name listed utf8 (either (in_folder folder name) some))
-      where
-        at : (name : List ℕ) → IsTrue (is_listed name) → IsUtf8 name →
-            IsSome (content_at files (in_folder folder name)) ⊎ (string_bytes file.path ≡ in_folder folder name) →
-            Contains names name
-        at name listed utf8 (inl some) = lists.complete name listed utf8 some
-        at name listed utf8 (inr e) =
-            subst (λ (x : List ℕ). Contains names x) (in_folder_injective folder n name (sym is ∙ e)) among
+    known among = same (λ name listed utf8 e.
+        subst (λ (x : List ℕ). Contains names x) (in_folder_injective folder n name (sym is ∙ e)) among)
 
     added : (Contains names n → ⊥) → Lists folder (content_at more) (names ++ n ∷ [])
     added new = record {

@@ -74,19 +74,24 @@ pub none_stands : (files : List StoredFile) (path : List ℕ) → is_some (posit
     is_some (content_at files path) ≡ true → ⊥
 none_stands files path none some = let f : true ≡ false = sym some ∙ stands files path ∙ none in cc
 
+-- the old file stands at the path, in this place, and the new one has the same path
+pub record IsReplaced (files : List StoredFile) (path : List ℕ) (i : ℕ) (old new : StoredFile) : Type 0 where
+  pub is : position (stands_at path) files ≡ Some i
+  pub was : old ≡ get_or files i old
+  pub same : string_bytes new.path ≡ string_bytes old.path
+
 module _ (files : List StoredFile) (path : List ℕ) (i : ℕ) (old new : StoredFile)
-    (is : position (stands_at path) files ≡ Some i) (was : old ≡ get_or files i old)
-    (same : string_bytes new.path ≡ string_bytes old.path) where
+    (r : IsReplaced files path i old new) where
   old_stands : stands_at path old ≡ true
-  old_stands = ap (stands_at path) was ∙ (position-Some (stands_at path) files i old is).1
+  old_stands = ap (stands_at path) r.was ∙ (position-Some (stands_at path) files i old r.is).1
 
   -- the old file
   pub before : find (stands_at path) files ≡ Some old
-  before = find_place (stands_at path) files i old is ∙ ap (λ (f : StoredFile). Some f) (sym was)
+  before = find_place (stands_at path) files i old r.is ∙ ap (λ (f : StoredFile). Some f) (sym r.was)
 
   -- the new file
   pub after : find (stands_at path) (slice_set files i new) ≡ Some new
-  after = find_changed (stands_at path) files i old new is (ap (λ (b : List ℕ). bytes_eq b path) same ∙ old_stands)
+  after = find_changed (stands_at path) files i old new r.is (ap (λ (b : List ℕ). bytes_eq b path) r.same ∙ old_stands)
 
   pub content_before : content_at files path ≡ Some old.content.items
   content_before = ap content_under before
@@ -104,8 +109,8 @@ module _ (files : List StoredFile) (path : List ℕ) (i : ℕ) (old new : Stored
       find (stands_at other) (slice_set files i new) ≡ find (stands_at other) files
   others other ne =
       let out = apart other ne in
-      find_past (stands_at other) files i new old (ap (stands_at other) (sym was) ∙ out)
-      (ap (λ (b : List ℕ). bytes_eq b other) same ∙ out)
+      find_past (stands_at other) files i new old (ap (stands_at other) (sym r.was) ∙ out)
+      (ap (λ (b : List ℕ). bytes_eq b other) r.same ∙ out)
 
   -- what is at each path after the change
   pub left : {B : Type 0} (part : Option StoredFile → B) → part (Some new) ≡ part (Some old)

@@ -63,13 +63,7 @@ impl GrowingFile {
     pub fn new(alloc: Global, name: Name, limit: Limit) -> Result<GrowingFile, AllocError>
         ensures { IfOk result (λ f. f ≡ clean_file name limit false) }
     {
-        Ok(GrowingFile {
-            name,
-            limit,
-            made: false,
-            condition: Condition::Clean,
-            buffer: Buffer::new(alloc)?,
-        })
+        GrowingFile::clean(alloc, name, limit, false)
     }
 
     /// The file of a take that is open and whole in a store, as a server finds it when it resumes
@@ -83,10 +77,17 @@ impl GrowingFile {
     pub fn resume(alloc: Global, name: Name, limit: Limit) -> Result<GrowingFile, AllocError>
         ensures { IfOk result (λ f. f ≡ clean_file name limit true) }
     {
+        GrowingFile::clean(alloc, name, limit, true)
+    }
+
+    /// A file that is as its take is, under a name that was made or not.
+    fn clean(alloc: Global, name: Name, limit: Limit, made: bool) -> Result<GrowingFile, AllocError>
+        ensures { IfOk result (λ f. f ≡ clean_file name limit made) }
+    {
         Ok(GrowingFile {
             name,
             limit,
-            made: true,
+            made,
             condition: Condition::Clean,
             buffer: Buffer::new(alloc)?,
         })

@@ -10,14 +10,14 @@ use Rattle.bw_model.specs.Replies.{verdict_code, verdict_of}
 use Rattle.bw_journal.specs.Entries.{longest_entry}
 use Rattle.bw_journal.specs.JournalHeaders.{header_len}
 use Rattle.bw_journal.specs.Rows.{have_codes, IsWholeTable}
-use Rattle.bw_journal.proofs.SealLaws.{verdict_again}
+use Rattle.bw_model.proofs.ReplyLaws.{verdict_of-code}
 
 codes_push : (n : ℕ) (table digest : List ℕ) (v : Verdict) → length table ≡ 33 * n → length digest ≡ 32 →
     have_codes n table ≡ true → have_codes (suc n) (table ++ (digest ++ verdict_code v ∷ [])) ≡ true
 unfolding have_codes
 codes_push zero table d v e h c =
     let nil : table ≡ [] = nil_from_length table (omega (arith, e)) in
-    rw (nil, get_or_at d (verdict_code v) [] 0 32 h, verdict_again v) refl
+    rw (nil, get_or_at d (verdict_code v) [] 0 32 h, verdict_of-code v) refl
 codes_push (suc n) table d v e h c =
     let long : 33 ≤ length table = omega (arith, e) in
     let below : 32 < length table = omega (arith, e) in

@@ -7,44 +7,19 @@ use Rattle.std.specs.Str.{bytes_eq}
 use Rattle.std.proofs.lemmas.Bool.{and_parts, cases_lt, eq-eqb, le-ltb, lt-ltb, leb-true}
 use Rattle.std.proofs.lemmas.List.{take_at, drop_at, drop-drop, take_rest, length-append, length-take-le}
 use Rattle.bw_model.specs.Bytes.{le16, le32, u16_at, u32_at, zeros, is_within}
-use Rattle.bw_model.specs.Take.{Request, Open, Block, Mark, SetField, Close, Verdict, Stored, NameTaken, AlreadyOpen}
-use Rattle.bw_model.specs.Take.{NotOpen, Closed, BadFormat, BadBlock, BadMarker, DuplicateMarker, TooManyMarkers}
-use Rattle.bw_model.specs.Take.{BadField, WrongTotal}
+use Rattle.bw_model.specs.Take.{Request, Open, Block, Mark, SetField, Close}
 use Rattle.bw_model.specs.Wire.{kind, payload, is_request, are_bytes, is_below, decoded_request}
-use Rattle.bw_model.specs.Replies.{verdict_code, verdict_of}
 use Rattle.bw_model.proofs.ByteNumbers.{wide16, wide32, number_at-written}
 use Rattle.bw_model.proofs.BookLemmas.{name_refl}
+use Rattle.bw_model.proofs.FrameLaws.{payload_length}
 use Rattle.bw_model.proofs.Payloads.{reads_request}
+use Rattle.bw_model.proofs.ReplyLaws.{verdict_of-code}
 use Rattle.bw_journal.proofs.EntryReads.{opened_reads, entry_reads}
 use Rattle.bw_journal.proofs.Lengths.{check-length, sealed-length, entry_length}
 use Rattle.bw_journal.specs.Seals.{check, sealed, opened, has_length}
 use Rattle.bw_journal.specs.Entries.{JournalEntry, bare, noted, content, entry_in, entry_with_len, first_entry}
 use Rattle.bw_journal.specs.Entries.{request_in, value_in}
 use Rattle.bw_journal.specs.Noted.{IsNotable, bare_entry, JournalEntriesReadBack, EntriesAreShort, CutEntriesAreNone}
-
--- a payload is no longer than the longest block
-payload_short : (r : Request) → is_request r ≡ true → length (payload r) ≤ 32768
-payload_short (Open f history) h =
-    let four =
-    and_parts
-    (is_below (2 ^ 32) f.rate && is_below (2 ^ 16) f.channels && is_below (2 ^ 16) f.bits && nat_le (length history)
-    4096) (are_bytes history) h in
-    let short =
-    leb-true _ _
-    (and_parts (is_below (2 ^ 32) f.rate && is_below (2 ^ 16) f.channels && is_below (2 ^ 16) f.bits)
-    (nat_le (length history) 4096) four.0).1 in
-    omega arith
-payload_short (Block bytes) h =
-    let within = (and_parts (is_within 1 32768 (length bytes)) (are_bytes bytes) h).0 in
-    leb-true _ _ (and_parts (nat_le 1 (length bytes)) (nat_le (length bytes) 32768) within).1
-payload_short (Mark id frame) h = omega arith
-payload_short (SetField tag value) h =
-    let short =
-    leb-true _ _
-    (and_parts (is_below 256 tag) (nat_le (length value) 256)
-    (and_parts (is_below 256 tag && nat_le (length value) 256) (are_bytes value) h).0).1 in
-    omega arith
-payload_short (Close total) h = omega arith
 
 -- what is at the start of sealed bytes
 pub sealed_parts : (c more : List ℕ) → length c < 2 ^ 16
@@ -145,20 +120,6 @@ opened-cut c k short cut = go (cases_lt k 4)
 
 -- contents
 
-pub verdict_again : (v : Verdict) → verdict_of (verdict_code v) ≡ Some v
-verdict_again Stored = refl
-verdict_again NameTaken = refl
-verdict_again AlreadyOpen = refl
-verdict_again NotOpen = refl
-verdict_again Closed = refl
-verdict_again BadFormat = refl
-verdict_again BadBlock = refl
-verdict_again BadMarker = refl
-verdict_again DuplicateMarker = refl
-verdict_again TooManyMarkers = refl
-verdict_again BadField = refl
-verdict_again WrongTotal = refl
-
 -- a request that isn't a block is read from its kind and its payload
 decoded_again : (r : Request) → is_request r ≡ true → value_in (decoded_request (kind r ∷ payload r)) ≡ Some r
 decoded_again r h =
@@ -180,9 +141,9 @@ request_again (Close total) h = decoded_again (Close total) h
 
 pub noted-length : (r : Request) → is_request r ≡ true → (1 ≤ length (noted r)) × (length (noted r) ≤ 32769)
 noted-length (Block bytes) h = (omega arith, omega arith)
-noted-length (Open f history) h = let p = payload_short (Open f history) h in (omega arith, omega (arith, p))
+noted-length (Open f history) h = let p = payload_length (Open f history) h in (omega arith, omega (arith, p))
 noted-length (Mark id frame) h = (omega arith, omega arith)
-noted-length (SetField tag value) h = let p = payload_short (SetField tag value) h in (omega arith, omega (arith, p))
+noted-length (SetField tag value) h = let p = payload_length (SetField tag value) h in (omega arith, omega (arith, p))
 noted-length (Close total) h = (omega arith, omega arith)
 
 pub content-length : (e : JournalEntry) → IsNotable e → (34 ≤ length (content e)) × (length (content e) < 2 ^ 16)
@@ -200,7 +161,7 @@ entry_again e h =
     let long = (content-length e h).0 in
     let rest : take (length c - 33) (drop 33 c) ≡ noted e.request =
     take_rest c 33 ∙ drop_at e.digest (noted e.request) 32 h.1 in
-    sym (entry_reads c e.verdict (bare e.request) long (verdict_again e.verdict) (sym (ap request_in rest
+    sym (entry_reads c e.verdict (bare e.request) long (verdict_of-code e.verdict) (sym (ap request_in rest
     ∙ request_again e.request h.0)))
     ∙ ap (λ (d : List ℕ). Some (record { request = bare e.request; verdict = e.verdict; digest = d }))
     (take_at e.digest (noted e.request) 32 h.1)

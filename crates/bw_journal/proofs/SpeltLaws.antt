@@ -1,28 +1,25 @@
 -- If an entry is read, its bytes are there.
-use Rattle.std.proofs.Common.{◌≡◌, ℕ, ◌+◌, ◌-◌, ◌≤◌, ◌^◌, ◌≢◌, Bool, true, false, cond, not, ◌&&◌, Option, Some, None}
+use Rattle.std.proofs.Common.{◌≡◌, ℕ, ◌+◌, ◌-◌, ◌^◌, ◌≢◌, Bool, true, false, cond, not, ◌&&◌, Option, Some, None}
 use Rattle.std.proofs.Common.{Result, Ok, Err, List, [], ◌∷◌, ◌++◌, length, take, drop, refl, sym, ap, subst, ◌∙◌}
 use Rattle.std.proofs.Common.{append_assoc, arith}
-use Rattle.std.specs.Prelude.{option_map, option_and_then, nat_le, nat_lt, ◌==◌, find}
+use Rattle.std.specs.Prelude.{option_map, option_and_then, nat_lt, ◌==◌, find}
 use Rattle.std.specs.Int.{w16, w32}
 use Rattle.std.specs.Str.{bytes_eq}
-use Rattle.std.proofs.lemmas.Bool.{and_parts, eqb-true, leb-true, ltb-false, not-false}
+use Rattle.std.proofs.lemmas.Bool.{and_parts, eqb-true, ltb-false}
 use Rattle.std.proofs.lemmas.List.{take_at, drop-drop, drop_all, length-take-le, length-drop, take-append-drop}
-use Rattle.bw_model.specs.Bytes.{le16, le32, u16_at, u32_at, zeros, is_within, first_that_holds}
+use Rattle.bw_model.specs.Bytes.{le16, le32, u16_at, u32_at, zeros, is_within}
 use Rattle.bw_model.specs.Take.{Request, Open, Block, Mark, SetField, Close, Verdict}
-use Rattle.bw_model.specs.Wire.{kind, payload, is_payload, are_bytes, is_below, request_of, decoded_request, Reason}
-use Rattle.bw_model.specs.Wire.{Kind, Payload}
+use Rattle.bw_model.specs.Wire.{kind, payload, are_bytes, is_below, request_of, decoded_request, Reason}
 use Rattle.bw_model.specs.Replies.{verdict_code, verdict_of, verdicts}
 use Rattle.bw_model.proofs.ByteNumbers.{are_bytes-parts, wide16, wide32, written-number_at}
 use Rattle.bw_model.proofs.BookLemmas.{same_name}
 use Rattle.bw_model.proofs.Elements.{some_inj}
-use Rattle.bw_model.proofs.Payloads.{payload_from_test}
-use Rattle.bw_model.proofs.SpellingLaws.{unless_ok}
 use Rattle.bw_journal.specs.Seals.{check, sealed, opened}
 use Rattle.bw_journal.specs.Entries.{JournalEntry, noted, content, sealed_entry, entry_in, entry_with_len, first_entry}
 use Rattle.bw_journal.specs.Entries.{made_of}
 use Rattle.bw_journal.specs.Entries.{request_in, block_noted, value_in}
 use Rattle.bw_journal.specs.Noted.{ReadEntriesStand}
-use Rattle.bw_journal.proofs.EntryReads.{zeros-length}
+use Rattle.bw_journal.proofs.EntryReads.{decoded, zeros-length}
 use Rattle.bw_journal.proofs.Lengths.{sealed-length}
 
 none_some : {X : Type 0} {x : X} → None ≡ Some x → ⊥
@@ -91,11 +88,6 @@ found_passes test (y ∷ ys) x e = go (test y) refl (found_passes test ys x) e
 code_of_verdict : (code : ℕ) (v : Verdict) → verdict_of code ≡ Some v → verdict_code v ≡ code
 code_of_verdict code v e = eqb-true _ _ (found_passes (λ v. verdict_code v == code) verdicts v e)
 
-two_pass : (a b : Bool) → first_that_holds ((a, Kind) ∷ (b, Payload) ∷ []) ≡ None → (a ≡ false) × (b ≡ false)
-two_pass true b e = absurd cc
-two_pass false true e = absurd cc
-two_pass false false e = (refl, refl)
-
 -- a request that isn't a block is noted by its kind and its payload
 plainly_noted : (r : Request) → kind r ≢ 2 → noted r ≡ kind r ∷ payload r
 plainly_noted (Block bytes) h = absurd (h refl)
@@ -137,17 +129,10 @@ request_stands (k ∷ p) r fits e = go (k == 2) refl e
         found : (x : Result Request Reason) → decoded_request (k ∷ p) ≡ x → value_in x ≡ Some r → noted r ≡ k ∷ p
         found (Err f) d e = absurd (none_some e)
         found (Ok q) d e =
-            let parts =
-            unless_ok (first_that_holds ((not (is_within 1 5 k), Kind) ∷ (not (is_payload k p), Payload) ∷ []))
-            (request_of k p) q d in
-            let tests = two_pass (not (is_within 1 5 k)) (not (is_payload k p)) parts.0 in
-            let low = and_parts (nat_le 1 k) (nat_le k 5) (not-false _ tests.0) in
-            let small : k ≤ 5 = leb-true k 5 low.1 in
-            let w = payload_from_test k p (and_parts (is_below 256 k) (are_bytes p) fits).1 (not-false _ tests.1)
-            (λ six. omega (arith, six)) in
-            let same : request_of k p ≡ r = parts.1 ∙ some_inj e in
-            let is_kind : kind r ≡ k = ap kind (sym same) ∙ w.kind_is in
-            let is_payload_of : payload r ≡ p = ap payload (sym same) ∙ w.payload_is in
+            let whole = decoded k p q fits d in
+            let same : request_of k p ≡ r = whole.read ∙ some_inj e in
+            let is_kind : kind r ≡ k = ap kind (sym same) ∙ whole.spelled.kind_is in
+            let is_payload_of : payload r ≡ p = ap payload (sym same) ∙ whole.spelled.payload_is in
             plainly_noted r (λ two. other (sym is_kind ∙ two)) ∙ ap (λ (n : ℕ). n ∷ payload r) is_kind
             ∙ ap (λ (x : List ℕ). k ∷ x) is_payload_of
           where

@@ -128,6 +128,22 @@ to_levels : (a b c d e t v u l z q : List ℕ) →
     fixed [] a b c d e t v u l z q ≡ (a ++ b ++ c ++ d ++ e ++ t ++ v ++ u) ++ (l ++ (z ++ q))
 to_levels a b c d e t v u l z q = simp (append_assoc, append-nil)
 
+-- the widths of its parts, by those of the version and of what is at the place of the levels
+part_widths : (a b c d e t v u l : List ℕ) (levels : List (List ℕ)) → Widths a b c d e t u levels → length v ≡ 2 →
+    length l ≡ 10 → PartWidths a b c d e t v u l (zeros 180)
+part_widths a b c d e t v u l levels w v_width l_width = record {
+  a-width = w.a-width;
+  b-width = w.b-width;
+  c-width = w.c-width;
+  d-width = w.d-width;
+  e-width = w.e-width;
+  t-width = w.t-width;
+  v-width = v_width;
+  u-width = w.u-width;
+  l-width = l_width;
+  z-width = refl;
+}
+
 -- if its parts are known, what it says is known
 reported : (a b c d e t u g h i j k q : List ℕ) (v : Bool) → Widths a b c d e t u (g ∷ h ∷ i ∷ j ∷ k ∷ []) →
     bext_at (chunk_of a b c d e t u g h i j k q v)
@@ -143,18 +159,7 @@ reported : (a b c d e t u g h i j k q : List ℕ) (v : Bool) → Widths a b c d 
     ) in right)
 reported a b c d e t u g h i j k q true w =
     let x = chunk_of a b c d e t u g h i j k q true in
-    let parts : PartWidths a b c d e t (le16 1) u (zeros 10) (zeros 180) = record {
-      a-width = w.a-width;
-      b-width = w.b-width;
-      c-width = w.c-width;
-      d-width = w.d-width;
-      e-width = w.e-width;
-      t-width = w.t-width;
-      v-width = refl;
-      u-width = w.u-width;
-      l-width = refl;
-      z-width = refl;
-    } in
+    let parts = part_widths a b c d e t (le16 1) u (zeros 10) _ w refl refl in
     let s = slices a b c d e t (le16 1) u (zeros 10) (zeros 180) q parts in
     let version : u16_at x 346 ≡ 1 = ap (from_le_bytes w16) s.v-is in
     same_reported _ a _ b _ c _ d _ e _ u _ [] _ (zeros 180) _ (from_le_bytes w64 t) _ 1 s.a-is s.b-is s.c-is s.d-is s.e-is
@@ -168,18 +173,7 @@ reported a b c d e t u g h i j k q false w =
     let li : length i ≡ 2 = cc (w.level-widths) in
     let lj : length j ≡ 2 = cc (w.level-widths) in
     let lk : length k ≡ 2 = cc (w.level-widths) in
-    let parts : PartWidths a b c d e t (le16 2) u l (zeros 180) = record {
-      a-width = w.a-width;
-      b-width = w.b-width;
-      c-width = w.c-width;
-      d-width = w.d-width;
-      e-width = w.e-width;
-      t-width = w.t-width;
-      v-width = refl;
-      u-width = w.u-width;
-      l-width = simp length-append (omega arith);
-      z-width = refl;
-    } in
+    let parts = part_widths a b c d e t (le16 2) u l _ w refl (simp length-append (omega arith)) in
     let s = slices a b c d e t (le16 2) u l (zeros 180) q parts in
     let version : u16_at x 346 ≡ 2 = ap (from_le_bytes w16) s.v-is in
     let before = a ++ b ++ c ++ d ++ e ++ t ++ le16 2 ++ u in

@@ -36,9 +36,6 @@ get-push (z ∷ zs) y zero x e = e
 get-push (z ∷ zs) y (suc n) x e = get-push zs y n x e
 
 pub get-below : {X : Type 0} (xs : List X) (n : ℕ) (x : X) → slice_get xs n ≡ Some x → n < length xs
-get-below [] n x e = absurd (none e)
-  where
-    none : {X : Type 0} {x : X} → None ≡ Some x → ⊥
-    none e = cc
+get-below [] n x e = absurd cc
 get-below (y ∷ ys) zero x e = omega arith
 get-below (y ∷ ys) (suc n) x e = let h : n < length ys = get-below ys n x e in omega arith

@@ -108,3 +108,32 @@ bye = refl
 pub cut_exchange : CutExchangeExample
 unfolding computing
 cut_exchange = refl
+
+-- all of them
+pub ruleset rows = (
+  open_alone,
+  in_order,
+  empty_take,
+  odd_data,
+  odd_history,
+  file_lengths,
+  any_order,
+  repeated,
+  conflict,
+  conflict_held,
+  conflict_of_closes,
+  window,
+  full_window,
+  two_exchanges,
+  bad_block,
+  wrong_total,
+  cue,
+  description,
+  loudness,
+  no_loudness,
+  ask_empty,
+  ask,
+  ask_ahead,
+  bye,
+  cut_exchange,
+)

@@ -71,3 +71,23 @@ next = refl
 pub codes : CodesExample
 unfolding computing
 codes = refl
+
+-- all of them
+pub ruleset rows = (
+  zero_length,
+  too_long,
+  cut_length,
+  bye_and_more,
+  ask_payload,
+  large_number,
+  too_large_number,
+  misspelt,
+  kinds,
+  request_kinds,
+  longest_block,
+  longest_frame,
+  longest_block_read,
+  block_too_long,
+  next,
+  codes,
+)

@@ -64,3 +64,21 @@ wrong_cue = refl
 pub short_chunks : ShortChunksExample
 unfolding computing
 short_chunks = refl
+
+-- all of them
+pub ruleset rows = (
+  reads_small,
+  reads_without_pad,
+  reads_rf64,
+  reads_tabled,
+  cut_outer,
+  cut_chunks,
+  no_ds64,
+  wrong_form_size,
+  wrong_data_size,
+  wrong_table,
+  unreported_size,
+  unsaid_riff,
+  wrong_cue,
+  short_chunks,
+)

@@ -23,3 +23,6 @@ report_loudness = refl
 pub report_marked : ReportMarkedExample
 unfolding computing
 report_marked = refl
+
+-- all of them
+pub ruleset rows = (report_rf64, report_tabled, report_small, report_loudness, report_marked)

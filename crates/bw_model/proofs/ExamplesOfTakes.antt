@@ -56,3 +56,20 @@ marked = (refl, refl)
 pub over_limit : OverLimitExample
 unfolding computing
 over_limit = refl
+
+-- all of them
+pub ruleset rows = (
+  formats,
+  history_bytes,
+  before_and_after,
+  many_markers,
+  allowed_fields,
+  field_lengths,
+  field_bytes,
+  largest_riff,
+  largest_odd_riff,
+  smallest_wide,
+  at_limit,
+  marked,
+  over_limit,
+)

@@ -48,3 +48,18 @@ no_room = refl
 pub name_taken : NameTakenExample
 unfolding computing
 name_taken = (refl, refl)
+
+-- all of them
+pub ruleset rows = (
+  failed_block,
+  other_after_failure,
+  failed_twice,
+  stopped_drain,
+  seventeen_replies,
+  failed_anywhere,
+  full_table,
+  full_table_too_far,
+  full_table_ask,
+  no_room,
+  name_taken,
+)

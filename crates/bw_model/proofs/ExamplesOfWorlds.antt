@@ -35,3 +35,6 @@ rehearsal_replies = refl
 pub rehearsal_ask : RehearsalAskExample
 unfolding computing
 rehearsal_ask = (refl, refl)
+
+-- all of them
+pub ruleset rows = (batch, hears, refused, notices, offers, rehearsal, rehearsal_replies, rehearsal_ask)

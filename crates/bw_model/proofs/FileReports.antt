@@ -1,27 +1,24 @@
 -- The report of a take's file gives the take.
 use Rattle.std.proofs.Common.{◌≡◌, ℕ, ◌+◌, ◌-◌, ◌*◌, ◌≤◌, Bool, true, false, cond, List, [], ◌∷◌, ◌++◌, length, Option}
 use Rattle.std.proofs.Common.{Some, refl, sym, ◌∙◌, ap, arith}
-use Rattle.std.specs.Prelude.{codes, nat_le, map, slice_range, unwrap_or, option_map, IsTrue}
+use Rattle.std.specs.Prelude.{codes, map, slice_range, unwrap_or, option_map, IsTrue}
 use Rattle.std.specs.List.{list_all}
-use Rattle.std.proofs.lemmas.Bool.{leb-true}
-use Rattle.bw_model.specs.Bytes.{even_up, unsaid, u32_at}
+use Rattle.bw_model.specs.Bytes.{even_up, u32_at}
 use Rattle.bw_model.specs.Take.{Format, Take}
-use Rattle.bw_model.specs.Layout.{Chunk, head, bext_fixed, cue_content}
-use Rattle.bw_model.specs.File.{file_with, form_len, junk_chunk, ds64_chunk, fmt_chunk, bext_chunk, cue_chunks, cues}
+use Rattle.bw_model.specs.Layout.{Chunk, bext_fixed, cue_content}
+use Rattle.bw_model.specs.File.{file_with, form_len, fmt_chunk, bext_chunk, cue_chunks, cues}
 use Rattle.bw_model.specs.File.{data_place}
 use Rattle.bw_model.specs.Reading.{Entry, Form, entry_of, is_id}
 use Rattle.bw_model.specs.Report.{RawFmt, RawBext, RawCue, Report, report_of, content_of, raw_fmt, raw_bext, raw_cues}
 use Rattle.bw_model.specs.ReadBack.{IsWithinLimits, FilesReadBack, read_form, read_chunks, read_cues, reported_fmt}
 use Rattle.bw_model.specs.ReadBack.{reported_bext, reported_cue, reported_report, is_marker}
-use Rattle.bw_model.proofs.FileLaws.{file_len}
 use Rattle.bw_model.proofs.Widths.{length-cue_content}
 use Rattle.bw_model.proofs.StandingChunks.{StandsAt, AllStand, content-whole}
 use Rattle.bw_model.proofs.FilePieces.{own, pieces, listed, length-bext_content}
-use Rattle.bw_model.proofs.OwnForms.{IsOwnForm, bytes_of, own_stand, narrow, broad, narrow_bytes, broad_bytes}
-use Rattle.bw_model.proofs.OwnForms.{narrow-own, broad-own}
+use Rattle.bw_model.proofs.OwnForms.{IsOwnForm, bytes_of, own_stand}
 use Rattle.bw_model.proofs.RawContents.{raw-fmt, raw-cues}
 use Rattle.bw_model.proofs.RawBexts.{raw-bext}
-use Rattle.bw_model.proofs.FileReads.{file_reads}
+use Rattle.bw_model.proofs.FileReads.{file_reads, in_own_form}
 
 -- a chunk's bytes, at its place and with its size in other words
 content-at : (b : List ℕ) (p q n : ℕ) (c : Chunk) → StandsAt b p (own c) → length c.id ≡ 4 → p ≡ q →
@@ -43,22 +40,25 @@ cues-reported b p q (m ∷ ms) s place few h =
     (record { id = codes "cue "; content = cue_content (m ∷ ms) }) s.0 refl place (length-cue_content (m ∷ ms)))
     ∙ raw-cues (m ∷ ms) (omega arith) h
 
+-- what is reported of a take's file in a form, with these chunks
+abbrev reported_in : Format → Take → Form → List Entry → Report
+reported_in f t form chunks = record {
+  form = form.id;
+  size = form_len f t;
+  chunks = chunks;
+  fmt = reported_fmt f;
+  data_at = data_place (length t.history);
+  data_size = length t.samples;
+  bext = Some (reported_bext t.fields, length t.history);
+  cues = map reported_cue (cues t.closed t.markers);
+}
+
 -- the report, if the chunks are in one of the two forms
 report-own : (f : Format) (t : Take) (outer : List ℕ) (first : Chunk) (data_size : ℕ) (form : Form) →
     length outer ≡ 8 → IsWithinLimits f t →
     IsOwnForm f t first data_size form (bytes_of outer f t first data_size) →
     report_of (bytes_of outer f t first data_size) form (listed first.id t)
-    ≡ record {
-      form = form.id;
-      size = form_len f t;
-      chunks = listed first.id t;
-      fmt = reported_fmt f;
-      data_at = data_place (length t.history);
-      data_size = length t.samples;
-      bext =
-          Some (reported_bext t.fields, length t.history);
-      cues = map reported_cue (cues t.closed t.markers);
-    }
+    ≡ reported_in f t form (listed first.id t)
 unfolding report_of
 report-own f t outer first data_size form eight within h =
     ap (λ (e : Option Entry). by_entries e (entry_of (codes "bext") es) (entry_of (codes "data") es)
@@ -177,38 +177,9 @@ report-own f t outer first data_size form eight within h =
 -- the report of the file, in either kind of form
 file_report : (f : Format) (t : Take) (limit : ℕ) → IsWithinLimits f t → limit ≤ 4294967294 →
     report_of (file_with f t limit) (read_form f t limit) (read_chunks f t limit) ≡ reported_report f t limit
-unfolding file_with
-file_report f t limit within below = go (nat_le n limit) refl (file_len f t limit)
-  where
-    n : ℕ
-    n = form_len f t
-
-    ds64 : Chunk
-    ds64 = ds64_chunk n (length t.samples)
-
-    reported : Form → List Entry → Report
-    reported form chunks = record {
-      form = form.id;
-      size = n;
-      chunks = chunks;
-      fmt = reported_fmt f;
-      data_at = data_place (length t.history);
-      data_size = length t.samples;
-      bext =
-          Some (reported_bext t.fields, length t.history);
-      cues = map reported_cue (cues t.closed t.markers);
-    }
-
-    go : (v : Bool) → nat_le n limit ≡ v → length (cond v (narrow_bytes f t) (broad_bytes f t)) ≡ 8 + n →
-        report_of (cond v (narrow_bytes f t) (broad_bytes f t)) (cond v (narrow f t) (broad f t))
-        (listed (cond v (codes "JUNK") (codes "ds64")) t)
-        ≡ reported (cond v (narrow f t) (broad f t)) (listed (cond v (codes "JUNK") (codes "ds64")) t)
-    go true v whole =
-        let fits : n ≤ limit = leb-true n limit v in
-        report-own f t (head (codes "RIFF") n) junk_chunk (length t.samples) (narrow f t) refl within
-        (narrow-own f t within (omega arith) whole)
-    go false v whole =
-        report-own f t (head (codes "BW64") unsaid) ds64 unsaid (broad f t) refl within (broad-own f t within whole)
+file_report f t limit within below =
+    in_own_form (λ b form chunks. report_of b form chunks ≡ reported_in f t form chunks) f t limit within below
+    (λ outer first data_size form eight own. report-own f t outer first data_size form eight within own)
 
 pub reads_back : FilesReadBack
 reads_back f t limit within below =

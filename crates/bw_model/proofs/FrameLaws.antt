@@ -19,7 +19,7 @@ use Rattle.bw_model.proofs.ReplyLaws.{reply_read_is_spelled}
 use Rattle.bw_model.proofs.SpellingLaws.{read_is_spelled, spelled_is_read}
 
 -- a payload is no longer than the longest block
-payload_length : (r : Request) → is_request r ≡ true → length (payload r) ≤ 32768
+pub payload_length : (r : Request) → is_request r ≡ true → length (payload r) ≤ 32768
 payload_length (Open f history) h =
     let four = and_parts (is_below (2 ^ 32) f.rate && is_below (2 ^ 16) f.channels && is_below (2 ^ 16) f.bits
     && nat_le (length history) 4096) (are_bytes history) h in

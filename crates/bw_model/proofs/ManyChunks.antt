@@ -1,13 +1,13 @@
 -- A form of 4,096 chunks is read to its end, and one more is too many.
-use Rattle.std.proofs.Common.{◌≡◌, ℕ, suc, zero, ◌+◌, ◌*◌, ◌≤◌, Bool, true, false, cond, inl, inr, List, [], ◌∷◌, ◌++◌}
+use Rattle.std.proofs.Common.{◌≡◌, ℕ, suc, zero, ◌+◌, ◌*◌, ◌≤◌, Bool, true, false, cond, inl, inr, List, [], ◌++◌}
 use Rattle.std.proofs.Common.{length, Option, Some, None, Result, Err, refl, sym, ◌∙◌, ap, arith}
-use Rattle.std.specs.Prelude.{codes, flat_map, replicate, drop, nat_le, is_none, is_some, unwrap_or, fold}
+use Rattle.std.specs.Prelude.{codes, flat_map, replicate, nat_le, is_none, is_some, fold}
 use Rattle.std.specs.List.{list_any}
 use Rattle.std.proofs.lemmas.Bool.{le-leb, lt-leb, false≢true}
-use Rattle.bw_model.specs.Bytes.{le32, even_up, first_that_holds, unless}
+use Rattle.bw_model.specs.Bytes.{le32, even_up}
 use Rattle.bw_model.specs.Layout.{head}
-use Rattle.bw_model.specs.Reading.{Entry, Form, Fault, Head, NoFmt, NoData, TooMany, line, IsPrefix, next, next_place}
-use Rattle.bw_model.specs.Reading.{form_end, entry_of, is_id, single_ids, head_at, chunk_faults, end_faults}
+use Rattle.bw_model.specs.Reading.{Entry, Form, Fault, NoFmt, TooMany, IsPrefix, next, next_place}
+use Rattle.bw_model.specs.Reading.{form_end, entry_of, is_id, single_ids}
 use Rattle.bw_model.specs.Prefix.{count_of}
 use Rattle.bw_model.specs.ExampleWords.{riff, hex}
 use Rattle.bw_model.specs.ExamplesOfReadings.{empty_chunks, chunks_form, ManyChunksExample, TooManyChunksExample}
@@ -98,39 +98,27 @@ placed : (p k : ℕ) → fold (λ p e. e.place + 8 + even_up e.size) p (listed p
 placed p zero = omega arith
 placed p (suc k) = let rest = placed (p + 8 + even_up 0) k in omega arith
 
+-- past the form's end, where no `fmt ` was seen
+no_fmt : (b : List ℕ) (form : Form) (seen : List Entry) → nat_le (next_place seen + 8) (form_end form) ≡ false →
+    is_none (entry_of (codes "fmt ") seen) ≡ true →
+    next b form seen ≡ Err (record { kind = NoFmt; offset = form_end form })
+unfolding next
+no_fmt b form seen past none = rw (past, none) refl
+
+-- within the form, where as many chunks were seen as are read at most
+too_many : (b : List ℕ) (form : Form) (seen : List Entry) → nat_le (next_place seen + 8) (form_end form) ≡ true →
+    nat_le 4096 (length seen) ≡ true → next b form seen ≡ Err (record { kind = TooMany; offset = next_place seen })
+unfolding next
+too_many b form seen within many = rw (within, many) refl
+
 -- after all of them the form ends
 ends : (n : ℕ) → n ≤ 4096 →
     next (form_of n) (riff (4 + 8 * n)) (listed 12 n) ≡ Err (record { kind = NoFmt; offset = 8 + (4 + 8 * n) })
-unfolding next
-ends n small =
-    ap (λ (v : Bool). cond v (unless (first_that_holds faults) (Some (record { id = h.id; place = p; size = c })))
-    (unless (first_that_holds (end_faults end seen)) None)) past
-    ∙ ap (λ (v : Bool). unless {X = Option Entry}
-    (cond v (Some (record { kind = NoFmt; offset = end }))
-    (first_that_holds (line (is_none (entry_of (codes "data") seen)) NoData end ∷ []))) None)
-    (none (entry_of (codes "fmt ") seen) (none-count (codes "fmt ") seen (none-listed (codes "fmt ") 12 n refl)))
+ends n small = no_fmt (form_of n) (riff (4 + 8 * n)) (listed 12 n)
+    (lt-leb (next_place (listed 12 n) + 8) (form_end (riff (4 + 8 * n))) (let place = placed 12 n in omega arith))
+    (none (entry_of (codes "fmt ") (listed 12 n))
+    (none-count (codes "fmt ") (listed 12 n) (none-listed (codes "fmt ") 12 n refl)))
   where
-    seen : List Entry
-    seen = listed 12 n
-
-    p : ℕ
-    p = next_place seen
-
-    end : ℕ
-    end = form_end (riff (4 + 8 * n))
-
-    h : Head
-    h = head_at (form_of n) (riff (4 + 8 * n)) p
-
-    c : ℕ
-    c = unwrap_or h.size 0
-
-    faults : List (Bool × Fault)
-    faults = chunk_faults (length (form_of n)) end seen p h c
-
-    past : nat_le (p + 8) end ≡ false
-    past = lt-leb (p + 8) end (let place = placed 12 n in omega arith)
-
     none : (x : Option Entry) → is_some x ≡ false → is_none x ≡ true
     none None e = refl
     none (Some x) e = absurd (false≢true (sym e))
@@ -138,42 +126,14 @@ ends n small =
 -- after 4,096 comes one too many
 one_more : (n k : ℕ) → n ≡ k + 1 → k ≡ 4096 →
     next (form_of n) (riff (4 + 8 * n)) (listed 12 k) ≡ Err (record { kind = TooMany; offset = 12 + 8 * k })
-unfolding next
 one_more n k e all =
-    ap (λ (v : Bool). cond v
-    (unless (first_that_holds (chunk_faults (length (form_of n)) end seen p h c)) (Some found))
-    (unless (first_that_holds (end_faults end seen)) None)) goes_on
-    ∙ ap (λ (v : Bool). unless
-    (cond v (Some (record { kind = TooMany; offset = p }))
-    (first_that_holds (drop 1 (chunk_faults (length (form_of n)) end seen p h c)))) (Some found)) many
+    too_many (form_of n) (riff (4 + 8 * n)) (listed 12 k)
+    (le-leb (next_place (listed 12 k) + 8) (form_end (riff (4 + 8 * n))) (let place = placed 12 k in omega arith))
+    (le-leb 4096 (length (listed 12 k)) (let long = length-listed 12 k in omega arith))
     ∙ ap (λ (q : ℕ). fault q) (placed 12 k)
   where
-    seen : List Entry
-    seen = listed 12 k
-
-    p : ℕ
-    p = next_place seen
-
-    end : ℕ
-    end = form_end (riff (4 + 8 * n))
-
-    h : Head
-    h = head_at (form_of n) (riff (4 + 8 * n)) p
-
-    c : ℕ
-    c = unwrap_or h.size 0
-
-    found : Entry
-    found = record { id = h.id; place = p; size = c }
-
     fault : ℕ → Result (Option Entry) Fault
     fault q = Err (record { kind = TooMany; offset = q })
-
-    goes_on : nat_le (p + 8) end ≡ true
-    goes_on = le-leb (p + 8) end (let place = placed 12 k in omega arith)
-
-    many : nat_le 4096 (length seen) ≡ true
-    many = le-leb 4096 (length seen) (let long = length-listed 12 k in omega arith)
 
 pub many_chunks : ManyChunksExample
 many_chunks = inr (

@@ -12,8 +12,8 @@ use Rattle.sha2.specs.Sha256.{sha256}
 use Rattle.bw_model.specs.Bytes.{at, put, first_free}
 use Rattle.bw_model.specs.Take.{Request}
 use Rattle.bw_model.specs.Wire.{Message, Frame, Says, Asks, Bye, message_body}
-use Rattle.bw_model.specs.Replies.{Reply, Judged, Noticed, Held, TooFar, Conflict, DelayedStore}
-use Rattle.bw_model.specs.Book.{Log, Book, log_of, is_known, with_log, run_end, verdict_at}
+use Rattle.bw_model.specs.Replies.{Reply}
+use Rattle.bw_model.specs.Book.{Log, Book, log_of, is_known, with_log, run_end}
 use Rattle.bw_model.specs.Turn.{Faults, turn, turn_by, served, own_reply, verdicts_from, window, is_admissible}
 use Rattle.bw_model.specs.Turn.{admitted_after, drained_to, is_repeat, repeats, is_full, most_takes, with_change}
 use Rattle.bw_model.specs.Turn.{message_turn, book_after_turn, book_after, run}
@@ -23,6 +23,7 @@ use Rattle.bw_model.proofs.MapLemmas.{at-put_same, at-below, at-first_free}
 use Rattle.bw_model.proofs.BookLemmas.{same_name, name_refl, log-with_log_same, log-with_log_other, known-with_log_same}
 use Rattle.bw_model.proofs.BookLemmas.{known-with_log_other, unknown_log}
 use Rattle.bw_model.proofs.BookLaws.{first_free-drop, length-with_log_grows}
+use Rattle.bw_model.proofs.OwnReplies.{own_cases}
 use Rattle.bw_model.proofs.TurnLaws.{outcome}
 
 -- Maps without a gap.
@@ -88,31 +89,20 @@ drained_most done end (Some k) = omega arith
 own-short : (taken : Bool) (s : List (Option Request)) (done later end : ℕ) (m : Message) →
     at s m.number ≡ Some m.request → done ≤ m.number → m.number < done + window →
     later ≤ m.number → later < end → list_any reports_failure (own_reply taken s done later end m) ≡ true
-unfolding own_reply
 own-short taken s done later end m here from near short below =
-    go (nat_le (done + window) m.number) (not (is_repeat s m)) (nat_le done m.number && nat_lt m.number later)
-    (nat_lt m.number done) (nat_lt later end)
-    (lt-leb (done + window) m.number near) (ap not same)
-    (and_right (nat_le done m.number) (nat_lt m.number later) (le-ltb m.number later short))
-    (le-ltb m.number done from) (lt-ltb later end below)
+    own_cases (λ rs. list_any reports_failure rs ≡ true) taken s done later end m
+    (λ e. absurd (false≢true (sym (lt-leb (done + window) m.number near) ∙ e)))
+    (λ e. absurd (false≢true (sym (ap not same) ∙ e)))
+    (λ e. absurd (false≢true (sym passed ∙ e)))
+    (λ e. absurd (false≢true (sym (le-ltb m.number done from) ∙ e)))
+    (λ _. refl)
+    (λ e. absurd (false≢true (sym e ∙ lt-ltb later end below)))
   where
     same : is_repeat s m ≡ true
     same = ap (repeats m) here ∙ name_refl (sha256 (message_body m))
 
-    go : (v w x y z : Bool) → v ≡ false → w ≡ false → x ≡ false → y ≡ false → z ≡ true →
-        list_any reports_failure
-        (cond v (Noticed m.name m.number TooFar later ∷ [])
-        (cond w (Noticed m.name m.number Conflict later ∷ [])
-        (cond x []
-        (cond y (Judged m.name m.number (verdict_at taken s m.number) ∷ [])
-        (cond z (Noticed m.name m.number DelayedStore later ∷ []) (Noticed m.name m.number Held later ∷ [])))))) ≡
-        true
-    go true w x y z a b c d e = absurd (false≢true (sym a))
-    go false true x y z a b c d e = absurd (false≢true (sym b))
-    go false false true y z a b c d e = absurd (false≢true (sym c))
-    go false false false true z a b c d e = absurd (false≢true (sym d))
-    go false false false false false a b c d e = absurd (false≢true e)
-    go false false false false true a b c d e = refl
+    passed : nat_le done m.number && nat_lt m.number later ≡ false
+    passed = and_right (nat_le done m.number) (nat_lt m.number later) (le-ltb m.number later short)
 
 served_step : (taken : Bool) (log : Log) (m : Message) (stop : Option ℕ) → IsWhole log.admitted →
     log.done ≡ length log.admitted → m.number ≤ log.done →

@@ -1,19 +1,20 @@
 -- A turn of another name leaves the sender's part.
-use Rattle.std.proofs.Common.{◌≡◌, ℕ, suc, zero, ◌+◌, ◌-◌, Bool, true, false, not, cond, ◌&&◌, List, [], ◌∷◌, Option}
+use Rattle.std.proofs.Common.{◌≡◌, ℕ, suc, zero, ◌-◌, Bool, true, false, not, cond, ◌&&◌, List, [], Option}
 use Rattle.std.proofs.Common.{Some, None, refl, sym, ◌∙◌, ap, subst}
-use Rattle.std.specs.Prelude.{nat_le, nat_lt}
+use Rattle.std.specs.Prelude.{nat_le}
 use Rattle.std.specs.Str.{bytes_eq}
 use Rattle.std.proofs.lemmas.Bool.{false≢true}
 use Rattle.bw_model.specs.Take.{Request, Verdict}
 use Rattle.bw_model.specs.Wire.{Message, Frame, Says, Asks, Bye}
-use Rattle.bw_model.specs.Replies.{Reply, Judged, Noticed, Refused, Held, TooFar, Conflict, TableFull, NoRoom}
-use Rattle.bw_model.specs.Replies.{DelayedStore, Next}
-use Rattle.bw_model.specs.Book.{Log, Book, log_of, is_known, run_end, verdict_at}
+use Rattle.bw_model.specs.Replies.{Reply, Judged, Noticed, Refused, TooFar, TableFull, NoRoom}
+use Rattle.bw_model.specs.Replies.{Next}
+use Rattle.bw_model.specs.Book.{Log, Book, log_of, is_known, run_end}
 use Rattle.bw_model.specs.Turn.{Faults, turn, turn_by, served, own_reply, verdicts_from, notice, window, is_admissible}
-use Rattle.bw_model.specs.Turn.{admitted_after, drained_to, is_of, is_repeat, is_full, with_change}
+use Rattle.bw_model.specs.Turn.{admitted_after, drained_to, is_of, is_full, with_change}
 use Rattle.bw_model.specs.World.{is_too_far_or_conflict}
 use Rattle.bw_model.proofs.BookLemmas.{name_refl, log-with_log_other}
 use Rattle.bw_model.proofs.Elements.{Each, each-append, each-map}
+use Rattle.bw_model.proofs.OwnReplies.{own_cases}
 use Rattle.bw_model.proofs.TrueReplies.{IsSound, IsTrueReply, IsFaithfulStep, notice_true, still}
 
 -- replies of another name change nothing for the sender
@@ -51,22 +52,9 @@ verdicts_of taken s name n (suc k) = (refl, verdicts_of taken s name (suc n) k)
 
 own_of : (taken : Bool) (s : List (Option Request)) (done later end : ℕ) (m : Message) →
     Each (IsOf m.name) (own_reply taken s done later end m)
-unfolding own_reply
 own_of taken s done later end m =
-    go (nat_le (done + window) m.number) (not (is_repeat s m)) (nat_le done m.number && nat_lt m.number later)
-    (nat_lt m.number done) (nat_lt later end)
-  where
-    go : (v w x y z : Bool) →
-        Each (IsOf m.name) (cond v (Noticed m.name m.number TooFar later ∷ [])
-        (cond w (Noticed m.name m.number Conflict later ∷ [])
-        (cond x [] (cond y (Judged m.name m.number (verdict_at taken s m.number) ∷ [])
-        (cond z (Noticed m.name m.number DelayedStore later ∷ []) (Noticed m.name m.number Held later ∷ []))))))
-    go true w x y z = (refl, tt)
-    go false true x y z = (refl, tt)
-    go false false true y z = tt
-    go false false false true z = (refl, tt)
-    go false false false false true = (refl, tt)
-    go false false false false false = (refl, tt)
+    own_cases (λ rs. Each (IsOf m.name) rs) taken s done later end m
+    (λ _. (refl, tt)) (λ _. (refl, tt)) (λ _. tt) (λ _. (refl, tt)) (λ _. (refl, tt)) (λ _. (refl, tt))
 
 pub message_of : (taken known full : Bool) (log : Log) (m : Message) (faults : Faults) →
     Each (IsOf m.name) (turn_by taken known full log m faults).0

@@ -2,14 +2,14 @@
 use Rattle.std.proofs.Common.{◌≡◌, ◌≢◌, ℕ, ◌+◌, ◌-◌, ◌<◌, ◌≤◌, Bool, true, false, not, cond, ◌&&◌, List, [], ◌∷◌}
 use Rattle.std.proofs.Common.{Option, Some, None, refl, sym, ◌∙◌, ap, subst, arith, ◌⊎◌, inl, inr}
 use Rattle.std.specs.Prelude.{slice_get, nat_le, nat_lt, is_none}
-use Rattle.std.proofs.lemmas.Bool.{ltb-true, leb-true, lt-ltb, lt-leb}
+use Rattle.std.proofs.lemmas.Bool.{false≢true, ltb-true, leb-true, lt-ltb, lt-leb}
 use Rattle.std.proofs.lemmas.Bool.Decides.{eqb_tells}
 use Rattle.std.proofs.Math.Dec.{eqb}
 use Rattle.sha2.specs.Sha256.{sha256}
 use Rattle.bw_model.specs.Bytes.{at, put}
 use Rattle.bw_model.specs.Take.{Request}
 use Rattle.bw_model.specs.Wire.{Message, message_body}
-use Rattle.bw_model.specs.Replies.{Reply, Judged, Noticed, Notice, Held, TooFar, Conflict, TableFull, NoRoom}
+use Rattle.bw_model.specs.Replies.{Reply, Noticed, Notice, Held, TooFar, TableFull, NoRoom}
 use Rattle.bw_model.specs.Replies.{DelayedStore}
 use Rattle.bw_model.specs.Book.{Log, Book, log_of, is_known, run_end, verdict_at}
 use Rattle.bw_model.specs.Turn.{Faults, turn_by, served, own_reply, notice, window, is_admissible, admitted_after}
@@ -18,6 +18,7 @@ use Rattle.bw_model.specs.World.{turns_down}
 use Rattle.bw_model.proofs.BookLemmas.{name_refl, log-with_log_same, unknown_log}
 use Rattle.bw_model.proofs.MapLemmas.{at-put_same, at-put_other, IsFilled, filled_to, verdict-put, filled-put}
 use Rattle.bw_model.proofs.Elements.{Each, each-append}
+use Rattle.bw_model.proofs.OwnReplies.{drained, own_cases}
 use Rattle.bw_model.proofs.TrueReplies.{IsSound, IsTrueReply, IsFaithfulStep, notice_true, judged_true, verdicts_true}
 use Rattle.bw_model.proofs.TrueReplies.{still}
 
@@ -70,51 +71,24 @@ admission taken offered log m sound was below = go (at log.admitted m.number) re
           same = λ n b. refl;
         })
 
--- where draining ends
-record IsDrained (done end later : ℕ) : Type 0 where
-  from : done ≤ later
-  to : later ≤ end
-
-drained : (done end : ℕ) (stop : Option ℕ) → done ≤ end → IsDrained done end (drained_to done end stop)
-drained done end None h = record { from = h; to = omega arith }
-drained done end (Some k) h = record { from = omega arith; to = omega arith }
-
 own_true : (taken : Bool) (s : List (Option Request)) (done later end : ℕ) (m : Message) →
     m.number < done + window → at s m.number ≡ Some m.request → done ≤ later →
     Each (IsTrueReply taken m.name (record { admitted = s; done = later })) (own_reply taken s done later end m)
-unfolding own_reply
 own_true taken s done later end m near here from =
-    subst (λ (v : Bool). Each P
-    (cond v (Noticed m.name m.number TooFar later ∷ []) (cond (not (is_repeat s m)) conflict rest)))
-    (sym (lt-leb (done + window) m.number near))
-    (subst (λ (v : Bool). Each P (cond (not v) conflict rest)) (sym same)
-    (go (nat_le done m.number && nat_lt m.number later) (nat_lt m.number done) refl (nat_lt later end)))
+    own_cases (λ rs. Each (IsTrueReply taken m.name log) rs) taken s done later end m
+    (λ e. absurd (false≢true (sym (lt-leb (done + window) m.number near) ∙ e)))
+    (λ e. absurd (false≢true (sym (ap not same) ∙ e)))
+    (λ _. tt)
+    (λ e. let h : m.number < done = ltb-true m.number done e in
+    (judged_true taken m.name log m.number (omega arith), tt))
+    (λ _. (notice_true taken m.name m.name log m.number later DelayedStore refl, tt))
+    (λ _. (notice_true taken m.name m.name log m.number later Held refl, tt))
   where
-    P : Reply → Type 0
-    P = IsTrueReply taken m.name (record { admitted = s; done = later })
-
-    conflict : List Reply
-    conflict = Noticed m.name m.number Conflict later ∷ []
-
-    last : Bool → List Reply
-    last z = cond z (Noticed m.name m.number DelayedStore later ∷ []) (Noticed m.name m.number Held later ∷ [])
-
-    rest : List Reply
-    rest = cond (nat_le done m.number && nat_lt m.number later) []
-        (cond (nat_lt m.number done) (Judged m.name m.number (verdict_at taken s m.number) ∷ [])
-        (last (nat_lt later end)))
+    log : Log
+    log = record { admitted = s; done = later }
 
     same : is_repeat s m ≡ true
     same = ap (repeats m) here ∙ name_refl (sha256 (message_body m))
-
-    go : (x y : Bool) → nat_lt m.number done ≡ y → (z : Bool) →
-        Each P (cond x [] (cond y (Judged m.name m.number (verdict_at taken s m.number) ∷ []) (last z)))
-    go true y e z = tt
-    go false true e z = let h : m.number < done =
-        ltb-true m.number done e
-        in (judged_true taken m.name (record { admitted = s; done = later }) m.number (omega arith), tt)
-    go false false e true = (notice_true taken m.name m.name _ m.number later DelayedStore refl, tt)
-    go false false e false = (notice_true taken m.name m.name _ m.number later Held refl, tt)
 
 served_true : (taken : Bool) (offered : List Request) (log : Log) (m : Message) (stop : Option ℕ) →
     IsSound offered log → slice_get offered m.number ≡ Some m.request → m.number < log.done + window →

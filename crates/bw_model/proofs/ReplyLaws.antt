@@ -44,7 +44,7 @@ or_fault None x e = absurd cc
 or_fault (Some y) x e = cc
 
 -- each code is one of its table
-verdict_of-code : (v : Verdict) → verdict_of (verdict_code v) ≡ Some v
+pub verdict_of-code : (v : Verdict) → verdict_of (verdict_code v) ≡ Some v
 verdict_of-code Stored = refl
 verdict_of-code NameTaken = refl
 verdict_of-code AlreadyOpen = refl

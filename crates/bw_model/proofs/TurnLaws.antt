@@ -1,6 +1,6 @@
 -- What the replies of a turn and the count of the store's failures determine.
-use Rattle.std.proofs.Common.{◌≡◌, ℕ, suc, zero, ◌+◌, ◌-◌, ◌<◌, ◌≤◌, Bool, true, false, not, cond, ◌&&◌, ◌||◌, List, []}
-use Rattle.std.proofs.Common.{◌∷◌, length, drop, Option, Some, None, refl, sym, ◌∙◌, ap, arith, length-append}
+use Rattle.std.proofs.Common.{◌≡◌, ℕ, suc, zero, ◌+◌, ◌-◌, ◌<◌, ◌≤◌, Bool, true, false, not, cond, ◌&&◌, ◌||◌, List}
+use Rattle.std.proofs.Common.{length, drop, Option, Some, None, refl, sym, ◌∙◌, ap, arith, length-append}
 use Rattle.std.specs.Prelude.{is_some, nat_le, nat_lt}
 use Rattle.std.specs.List.{list_any}
 use Rattle.std.specs.Option.{option_map_or}
@@ -9,16 +9,17 @@ use Rattle.std.proofs.lemmas.Bool.{false≢true, ltb-true}
 use Rattle.bw_model.specs.Bytes.{at}
 use Rattle.bw_model.specs.Take.{Request}
 use Rattle.bw_model.specs.Wire.{Message, Frame, Says, Asks, Bye}
-use Rattle.bw_model.specs.Replies.{Reply, Judged, Noticed, Held, TooFar, Conflict, TableFull, NoRoom, DelayedStore}
-use Rattle.bw_model.specs.Book.{Log, Book, log_of, is_known, with_log, run_end, verdict_at}
+use Rattle.bw_model.specs.Replies.{Reply, TooFar, TableFull, NoRoom}
+use Rattle.bw_model.specs.Book.{Log, Book, log_of, is_known, with_log, run_end}
 use Rattle.bw_model.specs.Turn.{Faults, turn, turn_by, served, own_reply, verdicts_from, notice, window, is_admissible}
-use Rattle.bw_model.specs.Turn.{admitted_after, drained_to, is_repeat, is_full, with_change, is_turned_away}
+use Rattle.bw_model.specs.Turn.{admitted_after, drained_to, is_full, with_change, is_turned_away}
 use Rattle.bw_model.specs.BookRules.{IsBook}
 use Rattle.bw_model.specs.CountedTurn.{is_pending, is_delayed, stops_short, book_reported, TurnsGiveFewReplies}
 use Rattle.bw_model.specs.CountedTurn.{RepliesReportTheBook, DelaysAreCounted, QuietTurnsDrain}
 use Rattle.bw_model.proofs.MapLemmas.{at-drop, at-first_free}
 use Rattle.bw_model.proofs.BookLemmas.{log-with_log_same, unknown_log}
 use Rattle.bw_model.proofs.BookLaws.{first_free-length, is_servable, is_admitted, is_drained}
+use Rattle.bw_model.proofs.OwnReplies.{own_cases}
 use Rattle.bw_model.proofs.Isolation.{served-not_away}
 
 -- the four outcomes of a message, by what is tested
@@ -36,23 +37,9 @@ length-verdicts taken s name n (suc k) = ap suc (length-verdicts taken s name (s
 
 length-own : (taken : Bool) (s : List (Option Request)) (done later end : ℕ) (m : Message) →
     length (own_reply taken s done later end m) ≤ 1
-unfolding own_reply
 length-own taken s done later end m =
-    go (nat_le (done + window) m.number) (not (is_repeat s m)) (nat_le done m.number && nat_lt m.number later)
-    (nat_lt m.number done) (nat_lt later end)
-  where
-    go : (v w x y z : Bool) →
-        length (cond v (Noticed m.name m.number TooFar later ∷ [])
-        (cond w (Noticed m.name m.number Conflict later ∷ [])
-        (cond x []
-        (cond y (Judged m.name m.number (verdict_at taken s m.number) ∷ [])
-        (cond z (Noticed m.name m.number DelayedStore later ∷ []) (Noticed m.name m.number Held later ∷ [])))))) ≤ 1
-    go true w x y z = omega arith
-    go false true x y z = omega arith
-    go false false true y z = omega arith
-    go false false false true z = omega arith
-    go false false false false true = omega arith
-    go false false false false false = omega arith
+    own_cases (λ rs. length rs ≤ 1) taken s done later end m
+    (λ _. omega arith) (λ _. omega arith) (λ _. omega arith) (λ _. omega arith) (λ _. omega arith) (λ _. omega arith)
 
 length-served : (taken : Bool) (b : Book) (m : Message) (stop : Option ℕ) → IsBook b →
     length (served taken (log_of b m.name) m stop).0 ≤ 17
@@ -159,25 +146,10 @@ verdicts-not_delayed taken s name n (suc k) = verdicts-not_delayed taken s name 
 
 own-delayed : (taken : Bool) (s : List (Option Request)) (done later end : ℕ) (m : Message) →
     list_any is_delayed (own_reply taken s done later end m) ≡ true → nat_lt later end ≡ true
-unfolding own_reply
 own-delayed taken s done later end m =
-    go (nat_le (done + window) m.number) (not (is_repeat s m)) (nat_le done m.number && nat_lt m.number later)
-    (nat_lt m.number done) (nat_lt later end)
-  where
-    go : (v w x y z : Bool) →
-        list_any is_delayed
-        (cond v (Noticed m.name m.number TooFar later ∷ [])
-        (cond w (Noticed m.name m.number Conflict later ∷ [])
-        (cond x []
-        (cond y (Judged m.name m.number (verdict_at taken s m.number) ∷ [])
-        (cond z (Noticed m.name m.number DelayedStore later ∷ []) (Noticed m.name m.number Held later ∷ [])))))) ≡
-        true → z ≡ true
-    go true w x y z e = absurd (false≢true e)
-    go false true x y z e = absurd (false≢true e)
-    go false false true y z e = absurd (false≢true e)
-    go false false false true z e = absurd (false≢true e)
-    go false false false false true e = refl
-    go false false false false false e = absurd (false≢true e)
+    own_cases (λ rs. list_any is_delayed rs ≡ true → nat_lt later end ≡ true) taken s done later end m
+    (λ _ e. absurd (false≢true e)) (λ _ e. absurd (false≢true e)) (λ _ e. absurd (false≢true e))
+    (λ _ e. absurd (false≢true e)) (λ short _. short) (λ _ e. absurd (false≢true e))
 
 waits : (s : List (Option Request)) (done later : ℕ) → done ≤ later → later < run_end s done →
     is_some (at s later) ≡ true

@@ -23,6 +23,7 @@ use Rattle.bw_model.proofs.Elements.{Each, each-append, each-map}
 use Rattle.bw_model.proofs.MapLemmas.{IsFilled, filled_to, filled-put, verdict-put, at-first_free, at-put_other}
 use Rattle.bw_model.proofs.BookLemmas.{same_name, unknown_log, log-with_log_same, log-with_log_other}
 use Rattle.bw_model.proofs.BookLaws.{is_servable}
+use Rattle.bw_model.proofs.OwnReplies.{drained, own_cases}
 use Rattle.bw_model.proofs.TurnLaws.{outcome, replies_report}
 use Rattle.bw_model.proofs.TrueReplies.{Grows, IsTrueReply, judged_true, verdicts_true}
 use Rattle.bw_model.proofs.OtherTurns.{IsOf, other_reply, message_of}
@@ -144,43 +145,20 @@ admission taken log m filled = go (is_admissible log m.number) refl
           same = λ n b. verdict-put taken log.admitted m.number m.request log.done n filled free b;
         }
 
--- where draining ends
-record IsDrained (done end later : ℕ) : Type 0 where
-  from : done ≤ later
-  to : later ≤ end
-
-drained : (done end : ℕ) (stop : Option ℕ) → done ≤ end → IsDrained done end (drained_to done end stop)
-drained done end None h = record { from = h; to = omega arith }
-drained done end (Some k) h = record { from = omega arith; to = omega arith }
-
 own_reports : (taken : Bool) (s : List (Option Request)) (done later end : ℕ) (m : Message) → done ≤ later →
     Each (ReportsRound taken m.name (record { admitted = s; done = later })) (own_reply taken s done later end m)
-unfolding own_reply
 own_reports taken s done later end m from =
-    go (nat_le (done + window) m.number) (not (is_repeat s m)) (nat_le done m.number && nat_lt m.number later)
-    (nat_lt m.number done) refl (nat_lt later end)
+    own_cases (λ rs. Each (ReportsRound taken m.name log) rs) taken s done later end m
+    (λ _. notice_here TooFar) (λ _. notice_here Conflict) (λ _. tt)
+    (λ e. let h : m.number < done = ltb-true m.number done e in
+    ((judged_true taken m.name log m.number (omega arith)).judged, tt))
+    (λ _. notice_here DelayedStore) (λ _. notice_here Held)
   where
     log : Log
     log = record { admitted = s; done = later }
 
     notice_here : (code : Notice) → Each (ReportsRound taken m.name log) (Noticed m.name m.number code later ∷ [])
     notice_here code = (notice_reports taken m.name m.name log m.number later code, tt)
-
-    go : (v w x y : Bool) → nat_lt m.number done ≡ y → (z : Bool) →
-        Each (ReportsRound taken m.name log)
-        (cond v (Noticed m.name m.number TooFar later ∷ [])
-        (cond w (Noticed m.name m.number Conflict later ∷ [])
-        (cond x []
-        (cond y (Judged m.name m.number (verdict_at taken s m.number) ∷ [])
-        (cond z (Noticed m.name m.number DelayedStore later ∷ []) (Noticed m.name m.number Held later ∷ []))))))
-    go true w x y e z = notice_here TooFar
-    go false true x y e z = notice_here Conflict
-    go false false true y e z = tt
-    go false false false true e z =
-        let h : m.number < done = ltb-true m.number done e in
-        ((judged_true taken m.name log m.number (omega arith)).judged, tt)
-    go false false false false e true = notice_here DelayedStore
-    go false false false false e false = notice_here Held
 
 served_keeps : (taken : Bool) (log : Log) (m : Message) (stop : Option ℕ) → IsFilled log.admitted log.done →
     Keeps taken m.name log (served taken log m stop).1 (served taken log m stop).0

@@ -7,7 +7,7 @@ use Rattle.std.specs.List.{list_any}
 use Rattle.bw_model.specs.Bytes.{at}
 use Rattle.bw_model.specs.Counts.{Counts, last_count}
 use Rattle.bw_model.specs.Wire.{Message, Frame, Says, Asks, Bye}
-use Rattle.bw_model.specs.Replies.{Reply, Judged, Noticed, Refused, Notice, NoRoom, DelayedStore}
+use Rattle.bw_model.specs.Replies.{Reply, Notice, NoRoom, DelayedStore, is_notice}
 use Rattle.bw_model.specs.Book.{Log, Book, log_of, is_known, with_log}
 use Rattle.bw_model.specs.Turn.{Faults, turn, turn_by, window, is_admissible, admitted_after, notice}
 use Rattle.bw_model.specs.Turn.{is_full, is_turned_away}
@@ -63,9 +63,7 @@ is_delay _ = false
 
 -- the reply says that the store failed
 abbrev pub is_delayed : Reply → Bool
-is_delayed (Judged name n v) = false
-is_delayed (Noticed name n code next) = is_delay code
-is_delayed (Refused reason place) = false
+is_delayed = is_notice is_delay
 
 -- A turn gives at most 17 replies.
 abbrev pub TurnsGiveFewReplies : Type 0

@@ -7,7 +7,7 @@ use Rattle.std.specs.Str.{bytes_eq}
 use Rattle.bw_model.specs.Bytes.{put, first_free}
 use Rattle.bw_model.specs.Take.{Request}
 use Rattle.bw_model.specs.Wire.{Frame, Says, Asks, Bye}
-use Rattle.bw_model.specs.Replies.{Reply, Judged, Noticed, Refused, Notice, NoRoom, DelayedStore}
+use Rattle.bw_model.specs.Replies.{Reply, Notice, NoRoom, DelayedStore, is_notice}
 use Rattle.bw_model.specs.Book.{log_of}
 use Rattle.bw_model.specs.Turn.{Faults, Turn, run, book_after}
 use Rattle.bw_model.specs.CountedTurn.{is_pending}
@@ -41,9 +41,7 @@ is_out_of_memory _ = false
 
 -- the reply is one of these notices
 abbrev pub reports_failure : Reply → Bool
-reports_failure (Judged name n v) = false
-reports_failure (Noticed name n code next) = is_out_of_memory code
-reports_failure (Refused reason place) = false
+reports_failure = is_notice is_out_of_memory
 
 -- the turn was answered with one of these notices
 abbrev pub lacks : Turn → Bool

@@ -1,5 +1,5 @@
 -- How replies are spelled.
-use Rattle.std.specs.Prelude.{◌↔◌, ◌≡◌, ℕ, ◌+◌, ◌^◌, ◌&&◌, Bool, Option, None, option_map, ok_or}
+use Rattle.std.specs.Prelude.{◌↔◌, ◌≡◌, ℕ, ◌+◌, ◌^◌, ◌&&◌, Bool, false, Option, None, option_map, ok_or}
 use Rattle.std.specs.Prelude.{Result, Ok, Err, IsTrue, List, [], ◌∷◌, ◌++◌, length, find, nat_le}
 use Rattle.std.specs.Prelude.{◌==◌, if◌then◌else◌}
 use Rattle.bw_model.specs.Bytes.{le32, le64, u32_at, u64_at}
@@ -28,6 +28,12 @@ pub data Reply : Type 0 where
   Noticed : List ℕ → ℕ → Notice → ℕ → Reply
   -- a bad frame: the reason, and where it began
   Refused : Reason → ℕ → Reply
+
+-- the reply is a notice that passes this test
+abbrev pub is_notice : (Notice → Bool) → Reply → Bool
+is_notice test (Judged name n v) = false
+is_notice test (Noticed name n code next) = test code
+is_notice test (Refused reason place) = false
 
 -- the byte of a verdict
 abbrev pub verdict_code : Verdict → ℕ

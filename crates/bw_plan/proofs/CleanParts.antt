@@ -12,41 +12,30 @@ use Rattle.bw_model.specs.Limits.{longest_history}
 use Rattle.bw_model.specs.Take.{Shape, Text, Digits, Whole, Maybe, Level, not_given, shape_fault, is_printable}
 use Rattle.bw_model.specs.Take.{is_history_byte, is_length_allowed, are_bytes_allowed, matches, FieldFault, BadLength, BadText}
 use Rattle.bw_model.specs.Report.{RawCue}
-use Rattle.bw_plan.specs.Cleaning.{text_cleaned_of, printable_byte, history_byte, history_of, is_like, is_like_at, with_separators}
+use Rattle.bw_plan.specs.Cleaning.{text_cleaned_of, printable_byte, history_of, is_like, is_like_at, with_separators}
 use Rattle.bw_plan.specs.Cleaning.{placed, are_zero, value_of, values_of, is_marker_kept, with_cue, markers_of}
 use Rattle.bw_plan.specs.PlanLaws.{are_values, are_markers}
 
 -- texts
 
-printable : (c : ℕ) → is_printable (printable_byte c) ≡ true
-printable c = go (is_printable c) refl
+-- each byte that fails a test, with the question mark in its place, which passes it
+all_cleaned : (test : ℕ → Bool) → test 63 ≡ true → (cs : List ℕ) →
+    list_all test (map (λ c. cond (test c) c 63) cs) ≡ true
+all_cleaned test mark [] = refl
+all_cleaned test mark (c ∷ cs) =
+    and_from (test (cond (test c) c 63)) (list_all test (map (λ c. cond (test c) c 63) cs)) (go (test c) refl)
+    (all_cleaned test mark cs)
   where
-    go : (v : Bool) → is_printable c ≡ v → is_printable (cond v c 63) ≡ true
+    go : (v : Bool) → test c ≡ v → test (cond v c 63) ≡ true
     go true e = e
-    go false e = refl
+    go false e = mark
 
 all_printable : (cs : List ℕ) → list_all is_printable (map printable_byte cs) ≡ true
-all_printable [] = refl
-all_printable (c ∷ cs) =
-    and_from (is_printable (printable_byte c)) (list_all is_printable (map printable_byte cs)) (printable c)
-    (all_printable cs)
-
-of_history : (c : ℕ) → is_history_byte (history_byte c) ≡ true
-of_history c = go (is_history_byte c) refl
-  where
-    go : (v : Bool) → is_history_byte c ≡ v → is_history_byte (cond v c 63) ≡ true
-    go true e = e
-    go false e = refl
-
-all_of_history : (cs : List ℕ) → list_all is_history_byte (map history_byte cs) ≡ true
-all_of_history [] = refl
-all_of_history (c ∷ cs) =
-    and_from (is_history_byte (history_byte c)) (list_all is_history_byte (map history_byte cs)) (of_history c)
-    (all_of_history cs)
+all_printable cs = all_cleaned is_printable refl cs
 
 -- a cleaned history may be stored
 pub history_clean : (bytes : List ℕ) → list_all is_history_byte (history_of bytes) ≡ true
-history_clean bytes = all_of_history (take longest_history (text_cleaned_of bytes))
+history_clean bytes = all_cleaned is_history_byte refl (take longest_history (text_cleaned_of bytes))
 
 text_short : (bytes : List ℕ) → length (text_cleaned_of bytes) ≤ length bytes
 text_short bytes =

@@ -55,3 +55,20 @@ pcm = refl
 pub refused_pcm : RefusedPcmExample
 unfolding computing
 refused_pcm = (refl, refl, refl, refl)
+
+-- all of them
+pub ruleset rows = (
+  small,
+  large_block,
+  cue,
+  extensible,
+  text,
+  date,
+  time,
+  settings,
+  refused,
+  setting_text,
+  bad_setting,
+  pcm,
+  refused_pcm,
+)

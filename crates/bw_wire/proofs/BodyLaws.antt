@@ -6,20 +6,12 @@ use Rattle.std.proofs.lemmas.Bool.{and_parts, or_parts, ltb-false, leb-true, eqb
 use Rattle.bw_model.specs.Bytes.{first_that_holds, unless}
 use Rattle.bw_model.specs.Wire.{Second, last_number, Message, Frame, Says, Asks, Bye, Spells, Reason, Payload}
 use Rattle.bw_model.specs.Wire.{are_bytes, is_name, is_request, is_payload, request_of, name_in, after_name, number_in}
-use Rattle.bw_model.specs.Wire.{payload_in, is_name_bad, body_faults, frame_in, decoded}
+use Rattle.bw_model.specs.Wire.{payload_in, body_faults, frame_in, decoded}
 use Rattle.bw_model.specs.Stream.{longest_body}
 use Rattle.bw_model.proofs.SpellingLaws.{Passes, passes_from, unless_ok, read_is_spelled}
 use Rattle.bw_model.proofs.FrameLaws.{body_length}
-use Rattle.bw_wire.specs.Addresses.{HasAddress}
 use Rattle.bw_wire.specs.Bodies.{body_name, body_number, body_request, message_in, is_message_read, is_ask_read}
-use Rattle.bw_wire.specs.Bodies.{is_message_body, is_ask_body}
-
--- a name that is one, and a number in range
-pub record IsAddressedBody (b : List ℕ) : Type 0 where
-  pub some : 1 ≤ length b
-  pub address : HasAddress (drop 1 b)
-  pub named : is_name_bad (drop 1 b) ≡ false
-  pub number : body_number b ≤ last_number Second
+use Rattle.bw_wire.specs.Bodies.{is_message_body, is_ask_body, IsAddressedBody}
 
 pub record IsMessageBody (b : List ℕ) : Type 0 where
   pub addressed : IsAddressedBody b

@@ -1,8 +1,9 @@
 -- What is in the body of a frame.
-use Rattle.std.specs.Prelude.{ℕ, Bool, true, false, ◌&&◌, Result, Ok, Err, List, drop, slice_index}
+use Rattle.std.specs.Prelude.{◌≡◌, ◌≤◌, ℕ, Bool, true, false, ◌&&◌, Result, Ok, Err, List, length, drop, slice_index}
 use Rattle.bw_model.specs.Take.{Request}
 use Rattle.bw_model.specs.Wire.{Second, Message, Frame, Says, Asks, Bye, Reason, name_in, number_in}
-use Rattle.bw_model.specs.Wire.{payload_in, request_of, are_bytes, decoded}
+use Rattle.bw_model.specs.Wire.{payload_in, request_of, are_bytes, decoded, is_name_bad, last_number}
+use Rattle.bw_wire.specs.Addresses.{HasAddress}
 
 -- the name in the body of a message or an ask
 unfoldable pub body_name : List ℕ → List ℕ
@@ -11,6 +12,13 @@ body_name bytes = name_in (drop 1 bytes)
 -- the number in the body of a message or an ask
 unfoldable pub body_number : List ℕ → ℕ
 body_number bytes = number_in (drop 1 bytes)
+
+-- a body that has a name and a number in range after its kind
+pub record IsAddressedBody (b : List ℕ) : Type 0 where
+  pub some : 1 ≤ length b
+  pub address : HasAddress (drop 1 b)
+  pub named : is_name_bad (drop 1 b) ≡ false
+  pub number : body_number b ≤ last_number Second
 
 -- the request of a message's body
 unfoldable pub body_request : List ℕ → Request

@@ -2,7 +2,8 @@
 ghost use Rattle.std.specs.Prelude.{◌≡◌, ◌≤◌, IsTrue, length};
 ghost use Rattle.std.specs.Option.{ForSome};
 ghost use Rattle.sha2.specs.Sha256.{sha256};
-ghost use Rattle.bw_wire.specs.Bodies.{is_message_body, is_ask_body};
+ghost use Rattle.bw_model.specs.Wire.{Second, last_number};
+ghost use Rattle.bw_wire.specs.Bodies.{is_message_body, is_ask_body, IsAddressedBody, body_name, body_number};
 
 use crate::address::{after_kind, name, number, payload};
 use crate::payload::request_of;
@@ -20,7 +21,7 @@ pub struct Message<'a> {
 }
 
 impl<'a> Message<'a> {
-    ghost use Rattle.bw_model.specs.Wire.{Second, last_number, Says, Spells, is_request};
+    ghost use Rattle.bw_model.specs.Wire.{Says, Spells, is_request};
     ghost use Rattle.bw_model.specs.Stream.{longest_body};
     ghost use Rattle.bw_model.specs.Wire.{message_body};
     ghost use Rattle.bw_request.specs.Requests.{meaning};
@@ -30,7 +31,7 @@ impl<'a> Message<'a> {
     pub fn name(&self) -> Name
         ensures { result ≡ (message_of self.now).name }
     {
-        name(after_kind(self.body))
+        body_name(self.body)
     }
 
     /// The number of the message among those of its name, at most 16,777,215.
@@ -38,7 +39,7 @@ impl<'a> Message<'a> {
         ensures value { result ≡ (message_of self.now).number }
         ensures range { result ≤ last_number Second }
     {
-        number(after_kind(self.body))
+        body_number(self.body)
     }
 
     /// The request, which borrows from the body.
@@ -77,14 +78,13 @@ pub struct Ask<'a> {
 }
 
 impl Ask<'_> {
-    ghost use Rattle.bw_model.specs.Wire.{Second, last_number};
     ghost use Rattle.bw_wire.specs.Frames.{asked_name, asked_number};
 
     /// The name that the ask is about.
     pub fn name(&self) -> Name
         ensures { result ≡ asked_name self.now }
     {
-        name(after_kind(self.body))
+        body_name(self.body)
     }
 
     /// The number that the reply repeats, at most 16,777,215.
@@ -92,7 +92,7 @@ impl Ask<'_> {
         ensures value { result ≡ asked_number self.now }
         ensures range { result ≤ last_number Second }
     {
-        number(after_kind(self.body))
+        body_number(self.body)
     }
 }
 
@@ -103,4 +103,21 @@ pub enum Frame<'a> {
     Ask(Ask<'a>),
     /// The end of the exchange.
     Bye,
+}
+
+/// The name in a body that spells a message or an ask.
+fn body_name(body: &[u8]) -> Name
+    requires { IsAddressedBody body.now }
+    ensures { result ≡ body_name body.now }
+{
+    name(after_kind(body))
+}
+
+/// The number in such a body, at most 16,777,215.
+fn body_number(body: &[u8]) -> u32
+    requires { IsAddressedBody body.now }
+    ensures value { result ≡ body_number body.now }
+    ensures range { result ≤ last_number Second }
+{
+    number(after_kind(body))
 }

@@ -3,39 +3,14 @@ ghost use Rattle.std.specs.Prelude.{◌≡◌, ◌||◌, ◌∷◌, [], false, m
 ghost use Rattle.std.specs.Prelude.{OnErr};
 ghost use Rattle.std.specs.List.{list_any};
 ghost use Rattle.clap.specs.Words.{found_of, rows_of};
-ghost use Rattle.bw_args.specs.Commands.{IsCommand, inspect_command, inspect_texts};
 ghost use Rattle.bw_args.specs.Inspecting.{is_alone, is_input, is_possible};
 ghost use Rattle.bw_args.specs.Lines.{AsksForPath, IsLineFor};
 
-use super::named;
 use super::network::flag_given;
-use super::options::{digest_flag, files_argument, human_flag, json_flag};
 use super::sources::copies_of;
 use crate::{BadValue, CommandLine, Inspection, Task};
-use clap::{ArgMatches, Command};
+use clap::ArgMatches;
 use std::alloc::{AllocError, Global};
-
-pub(crate) fn inspect<'a>(alloc: Global) -> Result<Command<'a>, AllocError>
-    ensures { IfOk result (IsCommand inspect_command) }
-{
-    inspect_texts(alloc)?
-        .arg(human_flag(alloc))?
-        .arg(digest_flag(alloc))
-}
-
-/// The command with its texts, the files and `--json`.
-fn inspect_texts<'a>(alloc: Global) -> Result<Command<'a>, AllocError>
-    ensures { IfOk result (IsCommand inspect_texts) }
-{
-    named(
-        alloc,
-        "inspect",
-        "Tells what is in files, or their first faults and where these are",
-    )
-    .after_help("Examples: bwingest inspect --human take.wav; bwingest inspect --json takes/*.wav")
-    .arg(files_argument(alloc))?
-    .arg(json_flag(alloc))
-}
 
 /// One file without an option is a task of its own.
 pub(crate) fn inspect_line(

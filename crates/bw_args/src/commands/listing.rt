@@ -1,47 +1,15 @@
 //! The command `takes`.
 ghost use Rattle.std.specs.Prelude.{◌≡◌, false, codes, option_map, Some, IfOk, OnErr};
 ghost use Rattle.clap.specs.Words.{found_of, rows_of};
-ghost use Rattle.bw_args.specs.Commands.{IsCommand, takes_command, takes_how, takes_where};
 ghost use Rattle.bw_args.specs.Lines.{AsksForPath, IsLineFor, IsWorkGiven};
 ghost use Rattle.bw_args.specs.Lines.{is_watch_mixed};
 
-use super::named;
 use super::network::flag_given;
-use super::options::{check_flag, folder_option, give_up_option, take_json_flag, watch_flag};
 use super::serving::folder_given;
 use crate::{BadValue, CommandLine, FolderWork, TakesFolder, Task};
 use bw_request::Name;
-use clap::{ArgMatches, Command};
+use clap::ArgMatches;
 use std::alloc::{AllocError, Global};
-
-pub(crate) fn takes<'a>(alloc: Global) -> Result<Command<'a>, AllocError>
-    ensures { IfOk result (IsCommand takes_command) }
-{
-    takes_how(alloc)?.arg(give_up_option(alloc))
-}
-
-/// The command, and how its takes are reported.
-fn takes_how<'a>(alloc: Global) -> Result<Command<'a>, AllocError>
-    ensures { IfOk result (IsCommand takes_how) }
-{
-    takes_where(alloc)?
-        .arg(take_json_flag(alloc))?
-        .arg(watch_flag(alloc))
-}
-
-/// The command with its folder, and how far its takes are looked at.
-fn takes_where<'a>(alloc: Global) -> Result<Command<'a>, AllocError>
-    ensures { IfOk result (IsCommand takes_where) }
-{
-    named(
-        alloc,
-        "takes",
-        "Reports how far each take of a server's folder is, or what is wrong with it",
-    )
-    .after_help("Example: bwingest takes --folder takes --check")
-    .arg(folder_option(alloc))?
-    .arg(check_flag(alloc))
-}
 
 /// The folder is looked at first.
 pub(crate) fn takes_line(alloc: Global, options: &ArgMatches<'_>) -> Result<CommandLine, AllocError>

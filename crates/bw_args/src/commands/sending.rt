@@ -1,102 +1,21 @@
 //! The command `send`.
 ghost use Rattle.std.specs.Prelude.{◌≡◌, codes, false, Some, None, IfOk, IfErr, OnErr};
 ghost use Rattle.clap.specs.Words.{first_value, found_of, rows_of};
-ghost use Rattle.bw_args.specs.Commands.{IsCommand, send_command, send_followed, send_how};
-ghost use Rattle.bw_args.specs.Commands.{send_report, send_samples, send_source, send_where};
 ghost use Rattle.bw_args.specs.Given.{GivesAddress, GivesName, is_set};
 ghost use Rattle.bw_args.specs.Lines.{AsksForPath, GivesTries, IsFirstBad, IsLineFor};
 ghost use Rattle.bw_args.specs.Lines.{looked_at_trying};
 ghost use Rattle.bw_args.specs.PcmSources.{GivesSamples};
 ghost use Rattle.bw_args.specs.Sources.{is_mixed, path_given};
 
+use super::name_given;
 use super::network::{address_given, count_given, flag_given};
-use super::options::{
-    block_option, connect_option, file_option, follow_flag, fruitless_option, link_log_flag,
-    name_option, network_flag, patience_option, pcm_option, rate_option, rounds_option, set_option,
-    skip_option, spool_option, state_option, strict_flag, until_option,
-};
 use super::samples::{samples_given, samples_line};
 use super::sources::{is_mixed, path_given, source_given, state_given};
-use super::{name_given, named};
 use crate::{BadValue, CommandLine, FileSender, Send, Task, numbers};
 use bw_request::Name;
-use clap::{ArgMatches, Command};
+use clap::ArgMatches;
 use std::alloc::{AllocError, Global};
 use std::net::SocketAddr;
-
-pub(crate) fn send<'a>(alloc: Global) -> Result<Command<'a>, AllocError>
-    ensures { IfOk result (IsCommand send_command) }
-{
-    send_report(alloc)?
-        .arg(state_option(alloc))?
-        .arg(rate_option(alloc))
-}
-
-/// The command with these and the options that say when it gives up, and what it reports.
-fn send_report<'a>(alloc: Global) -> Result<Command<'a>, AllocError>
-    ensures { IfOk result (IsCommand send_report) }
-{
-    send_followed(alloc)?
-        .arg(fruitless_option(alloc))?
-        .arg(link_log_flag(alloc))
-}
-
-/// The command with these and the options that say when a recording has ended.
-fn send_followed<'a>(alloc: Global) -> Result<Command<'a>, AllocError>
-    ensures { IfOk result (IsCommand send_followed) }
-{
-    send_samples(alloc)?
-        .arg(follow_flag(alloc))?
-        .arg(until_option(alloc))?
-        .arg(spool_option(alloc))
-}
-
-/// The command with these and the options that describe headerless samples.
-fn send_samples<'a>(alloc: Global) -> Result<Command<'a>, AllocError>
-    ensures { IfOk result (IsCommand send_samples) }
-{
-    send_source(alloc)?
-        .arg(pcm_option(alloc))?
-        .arg(skip_option(alloc))?
-        .arg(block_option(alloc))
-}
-
-/// The command with these and the options that say which recording is sent.
-fn send_source<'a>(alloc: Global) -> Result<Command<'a>, AllocError>
-    ensures { IfOk result (IsCommand send_source) }
-{
-    send_how(alloc)?
-        .arg(file_option(alloc))?
-        .arg(set_option(alloc))?
-        .arg(strict_flag(alloc))
-}
-
-/// The command with these and the options that say how the server is reached.
-fn send_how<'a>(alloc: Global) -> Result<Command<'a>, AllocError>
-    ensures { IfOk result (IsCommand send_how) }
-{
-    send_where(alloc)?
-        .arg(patience_option(alloc))?
-        .arg(network_flag(alloc))
-}
-
-/// The command with the options that say where to send, under which name, and in how many rounds.
-fn send_where<'a>(alloc: Global) -> Result<Command<'a>, AllocError>
-    ensures { IfOk result (IsCommand send_where) }
-{
-    named(
-        alloc,
-        "send",
-        "Sends a recording, or the requests on standard input, until each has its verdict",
-    )
-    .after_help(
-        "Example: bwingest send --connect 127.0.0.1:4100 --name a1 --file take.wav
-Example: bwingest send --connect 127.0.0.1:4100 --name a1 < requests.hex",
-    )
-    .arg(connect_option(alloc))?
-    .arg(name_option(alloc))?
-    .arg(rounds_option(alloc))
-}
 
 /// Bad values are reported in this order: the address, the name, those of `tries_given`, options
 /// that don't belong together, and those of `samples_given`.

@@ -1,89 +1,20 @@
 //! The command `serve`.
 ghost use Rattle.std.specs.Prelude.{codes, Some, IfOk, IfErr, OnErr, is_some, option_map};
 ghost use Rattle.clap.specs.Words.{first_value, found_of, rows_of};
-ghost use Rattle.bw_args.specs.Commands.{IsCommand, serve_command, serve_ends, serve_how};
-ghost use Rattle.bw_args.specs.Commands.{serve_keeps, serve_many, serve_where};
 ghost use Rattle.bw_args.specs.Lines.{AsksForPath, GivesRecorders, IsEndGiven, IsFirstBad};
 ghost use Rattle.bw_args.specs.Lines.{IsFolderGiven, IsJournalingGiven, IsLineFor, IsRecordersGiven};
 ghost use Rattle.bw_args.specs.Lines.{IsStatusGiven, looked_at_waiting};
 
+use super::limit_given;
 use super::network::{address_given, count_given, flag_given};
-use super::options::{
-    exchanges_option, folder_option, idle_option, journal_flag, limit_option, listen_option,
-    log_flag, network_flag, one_name_flag, recorders_option, status_option, sync_flag,
-    timeout_option, until_stopped_flag,
-};
-use super::{limit_given, named};
 use crate::{BadValue, CommandLine, End, Journaling, Recorders, Serve, Task, numbers};
-use clap::{ArgMatches, Command};
+use clap::ArgMatches;
 use std::alloc::{AllocError, Global};
 use std::net::SocketAddr;
 
 /// A text that is no address, or one where none is wanted.
 #[derive(Drop)]
 struct NoAddress;
-
-pub(crate) fn serve<'a>(alloc: Global) -> Result<Command<'a>, AllocError>
-    ensures { IfOk result (IsCommand serve_command) }
-{
-    serve_keeps(alloc)?
-        .arg(one_name_flag(alloc))?
-        .arg(status_option(alloc))
-}
-
-/// The command with these and the options that say what it keeps beside the takes.
-fn serve_keeps<'a>(alloc: Global) -> Result<Command<'a>, AllocError>
-    ensures { IfOk result (IsCommand serve_keeps) }
-{
-    serve_ends(alloc)?
-        .arg(journal_flag(alloc))?
-        .arg(sync_flag(alloc))
-}
-
-/// The command with these and the options that say when it ends, and what it reports.
-fn serve_ends<'a>(alloc: Global) -> Result<Command<'a>, AllocError>
-    ensures { IfOk result (IsCommand serve_ends) }
-{
-    serve_many(alloc)?
-        .arg(until_stopped_flag(alloc))?
-        .arg(log_flag(alloc))
-}
-
-/// The command with these and the options for many recorders at once.
-fn serve_many<'a>(alloc: Global) -> Result<Command<'a>, AllocError>
-    ensures { IfOk result (IsCommand serve_many) }
-{
-    serve_how(alloc)?
-        .arg(recorders_option(alloc))?
-        .arg(idle_option(alloc))
-}
-
-/// The command with these and the options that say how peers are treated.
-fn serve_how<'a>(alloc: Global) -> Result<Command<'a>, AllocError>
-    ensures { IfOk result (IsCommand serve_how) }
-{
-    serve_where(alloc)?
-        .arg(limit_option(alloc))?
-        .arg(timeout_option(alloc))?
-        .arg(network_flag(alloc))
-}
-
-/// The command with the options that say what is served, and where.
-fn serve_where<'a>(alloc: Global) -> Result<Command<'a>, AllocError>
-    ensures { IfOk result (IsCommand serve_where) }
-{
-    named(
-        alloc,
-        "serve",
-        "Serves exchanges over TCP, and keeps each take's file",
-    )
-    .after_help(
-        "Example: bwingest serve --listen 127.0.0.1:4100 --folder takes --recorders 16 --journal",
-    )
-    .arg(listen_option(alloc))?
-    .arg(folder_option(alloc))?
-    .arg(exchanges_option(alloc))
-}
 
 /// Bad values are reported in this order: the address, the folder, the exchanges, the limit, those
 /// of `recorders_given`, `--until-stopped` with a number of exchanges, `--sync` without `--journal`,

@@ -1,8 +1,7 @@
-use Rattle.std.proofs.Common.{◌≡◌, ℕ, List, Some, get_or, slice_set, is_some, ap, refl, sym, ◌∙◌, rules}
-use Rattle.std.specs.List.{position}
+use Rattle.std.proofs.Common.{◌≡◌, ℕ, List, Some, slice_set, is_some, ap, refl, sym, ◌∙◌, rules}
 use Rattle.bw_disk.specs.declared.memory_disk.StoredFile.{StoredFile}
-use Rattle.bw_disk.specs.MemoryDisks.{stands_at, synced_at}
-use Rattle.bw_disk.proofs.MemoryDisks.{content_under, synced_of, content_before, after, others, left}
+use Rattle.bw_disk.specs.MemoryDisks.{synced_at}
+use Rattle.bw_disk.proofs.MemoryDisks.{IsReplaced, content_under, synced_of, content_before, after, others, left}
 use Rattle.bw_disk.proofs.memory_disk.keep.Goals as goal
 
 module _ (c : goal.Joined-file) where
@@ -12,33 +11,23 @@ module _ (c : goal.Joined-file) where
   abbrev new : StoredFile
   new = record old { synced = Some c.in_ok-content.content }
 
-  is : position (stands_at c.args.path.now) c.args.files.now.items ≡ Some c.in-Some.place
-  is = search rules
-
-  was : old ≡ get_or c.args.files.now.items c.in-Some.place old
-  was = search rules
+  replaced : IsReplaced c.args.files.now.items c.args.path.now c.in-Some.place old new
+  replaced = record { is = search rules; was = search rules; same = refl }
 
   same : c.in_ok-content.content.items ≡ old.content.items
   same = search rules
 
   synced_is : synced_at (slice_set c.args.files.now.items c.in-Some.place new) c.args.path.now ≡ Some old.content.items
-  synced_is =
-      ap synced_of (after c.args.files.now.items c.args.path.now c.in-Some.place old new is was refl)
-      ∙ ap (λ (b : List ℕ). Some b) same
+  synced_is = ap synced_of (after _ _ _ _ _ replaced) ∙ ap (λ (b : List ℕ). Some b) same
 
 pub returns-clause-unchanged : goal.returns-clause-unchanged
-returns-clause-unchanged c =
-    left c.args.files.now.items c.args.path.now c.in-Some.place (old c) (new c) (is c) (was c) refl content_under refl
+returns-clause-unchanged c = left _ _ _ _ _ (replaced c) content_under refl
 
 pub returns-clause-synced : goal.returns-clause-synced
 returns-clause-synced c = record {
-  reported = synced_is c
-      ∙ sym (content_before c.args.files.now.items c.args.path.now c.in-Some.place (old c) (new c) (is c) (was c) refl);
-  others = λ other ne. ap synced_of
-      (others c.args.files.now.items c.args.path.now c.in-Some.place (old c) (new c) (is c) (was c) refl other ne);
+  reported = synced_is c ∙ sym (content_before _ _ _ _ _ (replaced c));
+  others = λ other ne. ap synced_of (others _ _ _ _ _ (replaced c) other ne);
 }
 
 pub returns-clause-stands : goal.returns-clause-stands
-returns-clause-stands c =
-    ap is_some
-    (content_before c.args.files.now.items c.args.path.now c.in-Some.place (old c) (new c) (is c) (was c) refl)
+returns-clause-stands c = ap is_some (content_before _ _ _ _ _ (replaced c))

@@ -5,4 +5,4 @@ use Rattle.bw_disk.proofs.memory_volume.read.Goals as goal
 pub returns-in-Some-clause-read : goal.returns-in-Some-clause-read
 returns-in-Some-clause-read c =
     rw (content_before c.args.files.now c.args.path.now c.in-Some.place c.index-files-place.result
-    c.index-files-place.result (search rules) (search rules) refl) (search rules)
+    c.index-files-place.result (record { is = search rules; was = search rules; same = refl })) (search rules)

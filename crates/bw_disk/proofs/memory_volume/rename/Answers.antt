@@ -1,8 +1,7 @@
-use Rattle.std.proofs.Common.{◌≡◌, ◌≢◌, ◌∙◌, List, ℕ, Some, None, is_some, get_or, refl, sym, ap, rules}
-use Rattle.std.specs.List.{position}
+use Rattle.std.proofs.Common.{◌≡◌, ◌≢◌, ◌∙◌, List, ℕ, Some, None, is_some, refl, sym, ap, rules}
 use Rattle.std.proofs.lemmas.Option.{none-some}
 use Rattle.bw_disk.specs.declared.memory_disk.StoredFile.{StoredFile}
-use Rattle.bw_disk.specs.MemoryDisks.{stands_at, content_at, synced_at}
+use Rattle.bw_disk.specs.MemoryDisks.{content_at, synced_at}
 use Rattle.bw_disk.proofs.MemoryDisks.{stands, none_of, content_before}
 use Rattle.bw_disk.proofs.Removals.{gone, kept, kept_synced}
 use Rattle.bw_disk.proofs.memory_volume.rename.Goals.{After-remove}
@@ -18,14 +17,9 @@ module _ (c : After-remove) where
   free : content_at c.args.files.now.items c.args.to.now ≡ None
   free = none_of _ (stands c.args.files.now.items c.args.to.now ∙ search rules)
 
-  is : position (stands_at c.args.from.now) c.args.files.now.items ≡ Some c.in-Some.place
-  is = search rules
-
-  was : old ≡ get_or c.args.files.now.items c.in-Some.place old
-  was = search rules
-
   stood : content_at c.args.files.now.items c.args.from.now ≡ Some old.content.items
-  stood = content_before c.args.files.now.items c.args.from.now c.in-Some.place old old is was refl
+  stood = content_before c.args.files.now.items c.args.from.now c.in-Some.place old old
+      (record { is = search rules; was = search rules; same = refl })
 
   apart : c.args.to.now ≢ c.args.from.now
   apart e = none-some _ (sym free ∙ ap (content_at c.args.files.now.items) e ∙ stood)

@@ -8,10 +8,8 @@ use Rattle.bw_plan.proofs.reading.read_part.Goals as goal
 
 pub returns-clause-ok : goal.returns-clause-ok
 returns-clause-ok g c = λ b e.
-    let places = ap (λ (x : Entry). x.place) c.chunk.view_is in
-    let sizes = ap (λ (x : Entry). x.size) c.chunk.view_is in
-    let at : c.chunk.inside.place ≡ c.args.chunk.place = omega (arith, places) in
-    let size : c.chunk.inside.size ≡ c.args.chunk.size = omega (arith, sizes) in
+    let at : c.chunk.inside.place ≡ c.args.chunk.place = ap (λ (x : Entry). x.place) c.chunk.view_is in
+    let size : c.chunk.inside.size ≡ c.args.chunk.size = ap (λ (x : Entry). x.size) c.chunk.view_is in
     let within = c.requires.within in
     let fits : c.args.from + c.args.len ≤ c.chunk.inside.size = omega (arith, size, within) in
     let place : ℕ = c.chunk.inside.place + 8 + c.args.from in
@@ -29,11 +27,9 @@ pub returns-in_err-skip_at-clause-cut : goal.returns-in_err-skip_at-clause-cut
 returns-in_err-skip_at-clause-cut g c =
     let answer = err_from_is_err_and c.from_residual.result c.from_residual.ensures.1 in
     rw (answer.1, answer.2) (λ bytes b e.
-    let places = ap (λ (x : Entry). x.place) c.chunk.view_is in
-    let sizes = ap (λ (x : Entry). x.size) c.chunk.view_is in
     let within = c.requires.within in
-    let at : c.chunk.inside.place ≡ c.args.chunk.place = omega (arith, places) in
-    let size : c.chunk.inside.size ≡ c.args.chunk.size = omega (arith, sizes) in
+    let at : c.chunk.inside.place ≡ c.args.chunk.place = ap (λ (x : Entry). x.place) c.chunk.view_is in
+    let size : c.chunk.inside.size ≡ c.args.chunk.size = ap (λ (x : Entry). x.size) c.chunk.view_is in
     let missed = c.in_err-skip_at.ensures.err b e in
     let cut = missed.cuts (ap not (bytes_no_read _ bytes)) in
     let short : length b < 0 + (c.chunk.inside.place + 8 + c.args.from) = cut.1 in
@@ -43,11 +39,9 @@ pub returns-in_err-read_at-clause-cut : goal.returns-in_err-read_at-clause-cut
 returns-in_err-read_at-clause-cut g c =
     let answer = err_from_is_err_and c.from_residual-in_err-read_at.result c.from_residual-in_err-read_at.ensures.1 in
     rw (answer.1, answer.2) (λ bytes b e.
-    let places = ap (λ (x : Entry). x.place) c.chunk.view_is in
-    let sizes = ap (λ (x : Entry). x.size) c.chunk.view_is in
     let within = c.requires.within in
-    let at : c.chunk.inside.place ≡ c.args.chunk.place = omega (arith, places) in
-    let size : c.chunk.inside.size ≡ c.args.chunk.size = omega (arith, sizes) in
+    let at : c.chunk.inside.place ≡ c.args.chunk.place = ap (λ (x : Entry). x.place) c.chunk.view_is in
+    let size : c.chunk.inside.size ≡ c.args.chunk.size = ap (λ (x : Entry). x.size) c.chunk.view_is in
     let place : ℕ = c.chunk.inside.place + 8 + c.args.from in
     let passed = c.in_ok-skip_at.ensures.ok b e in
     let start : 0 + place ≡ place = omega arith in

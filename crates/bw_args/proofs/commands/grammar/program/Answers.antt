@@ -1,0 +1,17 @@
+use Rattle.std.proofs.Common.{◌∙◌, ap, true}
+use Rattle.clap.specs.Simple.{App, app_of_fields, on_top}
+use Rattle.bw_args.proofs.commands.grammar.program.Goals as goal
+
+-- what the two calls that report in the shape make of it
+abbrev commanded : App → App
+commanded = on_top (λ s. record s { subcommand_required = true })
+
+abbrev versioned : App → App
+versioned = on_top (λ s. record s { has_version = true })
+
+pub returns : goal.returns
+returns c = ap app_of_fields c.subcommand_required-command.ensures
+    ∙ ap (λ f. commanded (app_of_fields f)) c.about.ensures
+    ∙ ap (λ f. commanded (app_of_fields f)) c.version.ensures
+    ∙ ap (λ f. commanded (versioned (app_of_fields f))) c.in_ok-bin_name.ensures.0
+    ∙ ap (λ a. commanded (versioned a)) c.new.ensures.app

@@ -1,8 +1,0 @@
-use Rattle.bw_args.proofs.BuilderLemmas.{command_arg, two_options}
-use Rattle.bw_args.proofs.commands.sending.send_followed.Goals as goal
-
-pub returns : goal.returns
-returns c = two_options c.in_ok-arg.field-0 c.in_ok-arg-2.field-0 c.arg-3.result c.until_option.result c.spool_option.result _ _ _
-    (command_arg c.in_ok-send_samples.field-0 c.in_ok-arg.field-0 c.follow_flag.result _ _ c.in_ok-send_samples.ensures
-    c.follow_flag.ensures c.in_ok-arg.ensures)
-    c.until_option.ensures c.in_ok-arg-2.ensures c.spool_option.ensures c.arg-3.ensures

@@ -1,7 +1,0 @@
-use Rattle.bw_args.proofs.BuilderLemmas.{two_options}
-use Rattle.bw_args.proofs.commands.serving.serve_keeps.Goals as goal
-
-pub returns : goal.returns
-returns c = two_options c.in_ok-serve_ends.field-0 c.in_ok-arg.field-0 c.arg-2.result c.journal_flag.result c.sync_flag.result _ _ _
-    c.in_ok-serve_ends.ensures
-    c.journal_flag.ensures c.in_ok-arg.ensures c.sync_flag.ensures c.arg-2.ensures
