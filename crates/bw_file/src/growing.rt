@@ -115,7 +115,7 @@ impl GrowingFile {
         self.condition = Condition::Ahead;
     }
 
-    /// Marks the file as the take's, whole: a take that was behind has the request now.
+    /// Marks the file as the take's, whole: a take that lacked the request has it now.
     pub fn mark_clean(&mut self)
         ensures { self.new ≡ record self.old { dirty = false; ahead = false } }
     {
