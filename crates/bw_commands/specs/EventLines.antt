@@ -1,32 +1,21 @@
 -- The events that an input's lines encode.
-use Rattle.std.specs.Prelude.{◌≡◌, ◌⊎◌, ℕ, ◌+◌, List, [], ◌∷◌}
+use Rattle.std.specs.Prelude.{ℕ, List}
 use Rattle.bw_model.specs.World.{Event}
 use Rattle.bw_rehearsal.specs.EventLines.{SaysEvent}
+use Rattle.bw_console.specs.Lines.{SayEach, FirstWithout}
 use Rattle.bw_console.specs.declared.fault.Fault.{Fault}
-use Rattle.bw_console.specs.declared.fault.Fault.TheVariants.{TooLong, NotHex, NotEvent}
-use Rattle.bw_console.specs.declared.fault.Fault.TheVariants.{NotRequest}
-use Rattle.bw_console.specs.declared.fault.Fault.TheVariants.{Unreadable, Unwritable, Memory}
+use Rattle.bw_console.specs.declared.fault.Fault.TheVariants.{NotEvent, Memory}
 
 -- each line encodes its event
 abbrev pub SayEvents : List (List ℕ) → List Event → Type 0
-SayEvents [] [] = Unit {0}
-SayEvents (line ∷ lines) (e ∷ es) = SaysEvent line e × SayEvents lines es
-SayEvents [] (e ∷ es) = ⊥
-SayEvents (line ∷ lines) [] = ⊥
+SayEvents = SayEach SaysEvent
 
 -- the line with this number, counted from n on, is the first that encodes no event
 abbrev pub FirstOther : ℕ → List (List ℕ) → ℕ → Type 0
-FirstOther n [] number = ⊥
-FirstOther n (line ∷ lines) number =
-    ((number ≡ n) × ((e : Event) → ¬ SaysEvent line e))
-    ⊎ (((e : Event) × SaysEvent line e) × FirstOther (n + 1) lines number)
+FirstOther = FirstWithout SaysEvent
 
 -- lack of memory, or the first line that encodes no event
 abbrev pub IsEventFault : Fault → List (List ℕ) → Type 0
 IsEventFault (NotEvent number) lines = FirstOther 1 lines number
 IsEventFault Memory lines = Unit {0}
-IsEventFault (NotHex number) lines = ⊥
-IsEventFault (NotRequest number) lines = ⊥
-IsEventFault TooLong lines = ⊥
-IsEventFault Unreadable lines = ⊥
-IsEventFault Unwritable lines = ⊥
+IsEventFault _ lines = ⊥

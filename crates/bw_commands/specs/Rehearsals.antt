@@ -18,8 +18,7 @@ use Rattle.bw_commands.specs.EventLines.{SayEvents, FirstOther}
 use Rattle.bw_console.specs.Input.{longest_input}
 use Rattle.bw_console.specs.Lines.{lines_of}
 use Rattle.bw_console.specs.Printing.{Print, Nothing, Whole, Part}
-use Rattle.bw_console.specs.Faults.{IsReportedBy, exit_of, is_read}
-use Rattle.bw_console.specs.Outcomes.{Outcome}
+use Rattle.bw_console.specs.Outcomes.{Outcome, ResultsIn}
 use Rattle.bw_console.specs.Text.{as_line}
 use Rattle.bw_commands.specs.Text.{files_text}
 use Rattle.bw_console.specs.declared.fault.Fault.{Fault}
@@ -114,24 +113,8 @@ abbrev pub IsPrintOfWorld : List ℕ → ℕ → Option (List ℕ) → Result (U
 IsPrintOfWorld name limit input (Ok x) print = PrintsWorld name limit input Whole print
 IsPrintOfWorld name limit input (Err faults.Unwritable) print =
     PrintsWorld name limit input Part print
-IsPrintOfWorld name limit input (Err faults.TooLong) print =
-    RefusesWorld input faults.TooLong print
-IsPrintOfWorld name limit input (Err (faults.NotHex n)) print =
-    RefusesWorld input (faults.NotHex n) print
-IsPrintOfWorld name limit input (Err (faults.NotEvent n)) print =
-    RefusesWorld input (faults.NotEvent n) print
-IsPrintOfWorld name limit input (Err (faults.NotRequest n)) print =
-    RefusesWorld input (faults.NotRequest n) print
-IsPrintOfWorld name limit input (Err faults.Unreadable) print =
-    RefusesWorld input faults.Unreadable print
-IsPrintOfWorld name limit input (Err faults.Memory) print =
-    RefusesWorld input faults.Memory print
+IsPrintOfWorld name limit input (Err fault) print = RefusesWorld input fault print
 
 -- a rehearsal of this input did this
-pub record IsRehearsal (name : List ℕ) (limit : ℕ) (input : Option (List ℕ)) (did : Outcome)
-    : Type 0 where
-  pub outcome : Result (Unit {0}) Fault
-  pub exit_is : did.exit ≡ exit_of outcome
-  pub reads : did.reads_all ≡ is_read outcome
-  pub prints : IsPrintOfWorld name limit input outcome did.out
-  pub reports : IsReportedBy outcome did.faults
+abbrev pub IsRehearsal : List ℕ → ℕ → Option (List ℕ) → Outcome → Type 0
+IsRehearsal name limit input = ResultsIn (IsPrintOfWorld name limit input)

@@ -2,8 +2,8 @@
 use Rattle.std.specs.Prelude.{◌≡◌, ◌≤◌, ◌+◌, ◌*◌, ◌++◌, ℕ, Option, List, Result, Ok, Err}
 use Rattle.bw_store.specs.MemoryNames.{AreNames}
 use Rattle.bw_stream.specs.Readers.{Of}
-use Rattle.bw_console.specs.Outcomes.{Outcome}
-use Rattle.bw_console.specs.Faults.{IsReportedBy, RefusesInput, exit_of, is_read}
+use Rattle.bw_console.specs.Outcomes.{Outcome, ResultsIn}
+use Rattle.bw_console.specs.Faults.{RefusesInput}
 use Rattle.bw_console.specs.Input.{Asked, asked_by, TooLong, NotHex, Exchanges}
 use Rattle.bw_engine.specs.ServerRuns.{all_done}
 use Rattle.bw_commands.specs.OneFuse.{failures_under, SufficeFor}
@@ -55,23 +55,9 @@ abbrev pub IsPrintOf : ℕ → Option ℕ → Option (List ℕ) → Result (Unit
     Type 0
 IsPrintOf limit fuse input (Ok x) print = PrintsRun limit fuse input Whole print
 IsPrintOf limit fuse input (Err faults.Unwritable) print = PrintsRun limit fuse input Part print
-IsPrintOf limit fuse input (Err faults.TooLong) print = PrintsNothing input faults.TooLong print
-IsPrintOf limit fuse input (Err (faults.NotHex n)) print =
-    PrintsNothing input (faults.NotHex n) print
-IsPrintOf limit fuse input (Err (faults.NotEvent n)) print =
-    PrintsNothing input (faults.NotEvent n) print
-IsPrintOf limit fuse input (Err (faults.NotRequest n)) print =
-    PrintsNothing input (faults.NotRequest n) print
-IsPrintOf limit fuse input (Err faults.Unreadable) print =
-    PrintsNothing input faults.Unreadable print
-IsPrintOf limit fuse input (Err faults.Memory) print = PrintsNothing input faults.Memory print
+IsPrintOf limit fuse input (Err fault) print = PrintsNothing input fault print
 
 -- a replay of this input did this, over a store of which the call of the fuse's number fails, if
 -- there is a fuse
-pub record IsReplay (limit : ℕ) (fuse : Option ℕ) (input : Option (List ℕ)) (did : Outcome) :
-    Type 0 where
-  pub outcome : Result (Unit {0}) Fault
-  pub exit_is : did.exit ≡ exit_of outcome
-  pub reads : did.reads_all ≡ is_read outcome
-  pub prints : IsPrintOf limit fuse input outcome did.out
-  pub reports : IsReportedBy outcome did.faults
+abbrev pub IsReplay : ℕ → Option ℕ → Option (List ℕ) → Outcome → Type 0
+IsReplay limit fuse input = ResultsIn (IsPrintOf limit fuse input)

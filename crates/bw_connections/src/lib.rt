@@ -1,5 +1,5 @@
 //! Many exchanges at once over one server, a quantum of each in turn. Links never wait; sockets are
-//! in a crate above, behind `Link`.
+//! in a crate above, which implements `Link`.
 #![tactic(auto)]
 
 mod connection;

@@ -1,5 +1,5 @@
--- Lines of hex, each the bytes of one exchange.
-use Rattle.std.specs.Prelude.{ℕ, ◌+◌, Bool, List, [], ◌∷◌, ◌++◌, length, Result, Ok, Err, ◌==◌}
+-- Lines, and what each of them says: of hex, the bytes of one exchange.
+use Rattle.std.specs.Prelude.{◌≡◌, ◌⊎◌, ℕ, ◌+◌, Bool, List, [], ◌∷◌, ◌++◌, length, Result, Ok, Err, ◌==◌}
 use Rattle.std.specs.Prelude.{if◌then◌else◌}
 use Rattle.std.specs.Io.BufRead.{strip_last}
 use Rattle.hex.specs.Hex.{decode_of}
@@ -31,3 +31,17 @@ with_line n (Ok bytes) (Ok lines) = Ok (bytes ∷ lines)
 unfoldable pub decoded_from : ℕ → List (List ℕ) → Result (List (List ℕ)) ℕ
 decoded_from n [] = Ok []
 decoded_from n (line ∷ lines) = with_line n (decode_of line) (decoded_from (n + 1) lines)
+
+-- each line says its value
+abbrev pub SayEach : {X : Type 0} → (List ℕ → X → Type 0) → List (List ℕ) → List X → Type 0
+SayEach Says [] [] = Unit {0}
+SayEach Says (line ∷ lines) (x ∷ xs) = Says line x × SayEach Says lines xs
+SayEach Says [] (x ∷ xs) = ⊥
+SayEach Says (line ∷ lines) [] = ⊥
+
+-- the line with this number, counted from n on, is the first that says no value
+abbrev pub FirstWithout : {X : Type 0} → (List ℕ → X → Type 0) → ℕ → List (List ℕ) → ℕ → Type 0
+FirstWithout Says n [] number = ⊥
+FirstWithout {X = X} Says n (line ∷ lines) number =
+    ((number ≡ n) × ((x : X) → ¬ Says line x))
+    ⊎ (((x : X) × Says line x) × FirstWithout Says (n + 1) lines number)

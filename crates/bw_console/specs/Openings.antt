@@ -16,10 +16,14 @@ exit_unopened _ = exits.Device
 abbrev pub unopened_text : List ℕ → List ℕ → List ℕ
 unopened_text path reason = path ++ (codes " can't be opened: " ++ (reason ++ 10 ∷ []))
 
--- the file of this path can't be opened, for an error of this kind, whose reason is reported
-pub record IsUnopened (path : List ℕ) (kind : ErrorKind) (did : Outcome) : Type 0 where
+-- a call of the system failed, with an error of this kind, whose reason is in the line that is reported
+pub record ReportsFailure (line : List ℕ → List ℕ) (kind : ErrorKind) (did : Outcome) : Type 0 where
   pub exit_is : did.exit ≡ exit_unopened kind
   pub reads : did.reads_all ≡ true
   pub prints : did.out ≡ Nothing
   pub reason : List ℕ
-  pub reports : IsOf (unopened_text path reason) did.faults
+  pub reports : IsOf (line reason) did.faults
+
+-- the file of this path can't be opened, for an error of this kind, whose reason is reported
+abbrev pub IsUnopened : List ℕ → ErrorKind → Outcome → Type 0
+IsUnopened path = ReportsFailure (unopened_text path)

@@ -1,11 +1,13 @@
 -- What a command does.
-use Rattle.std.specs.Prelude.{◌≡◌, ℕ, Bool, true, Err}
-use Rattle.bw_console.specs.Faults.{IsReportedBy}
+use Rattle.std.specs.Prelude.{◌≡◌, ◌⊎◌, ℕ, Bool, true, List, Result, Err}
+use Rattle.bw_console.specs.Faults.{IsReportedBy, exit_of, input_fault_text, is_read}
 use Rattle.bw_stream.specs.declared.sink.Sink.{Ghosts as Writer}
 use Rattle.bw_stream.specs.declared.source.Source.{Ghosts as Reader}
-use Rattle.bw_console.specs.Printing.{Print, Nothing, IsPrint, failures_if}
+use Rattle.bw_console.specs.Printing.{Print, Nothing, Whole, Part, IsOf, IsPrint, failures_if}
+use Rattle.bw_console.specs.Text.{as_line}
 use Rattle.bw_console.specs.declared.exit.Exit.{Exit}
 use Rattle.bw_console.specs.declared.exit.Exit.TheVariants as exits
+use Rattle.bw_console.specs.declared.fault.Fault.{Fault}
 use Rattle.bw_console.specs.declared.fault.Fault.TheVariants as faults
 
 -- what a command did: whether its reads all succeeded, what it printed, what it reported of faults,
@@ -42,3 +44,18 @@ pub record IsOutOfMemory (did : Outcome) : Type 0 where
   pub reads : did.reads_all ≡ true
   pub prints : did.out ≡ Nothing
   pub reports : IsReportedBy (Err faults.Memory) did.faults
+
+-- the command resulted in this, which was printed so, and a fault's line alone was reported
+pub record ResultsIn (is_print : Result (Unit {0}) Fault → Print → Type 0) (did : Outcome) : Type 0 where
+  pub outcome : Result (Unit {0}) Fault
+  pub exit_is : did.exit ≡ exit_of outcome
+  pub reads : did.reads_all ≡ is_read outcome
+  pub prints : is_print outcome did.out
+  pub reports : IsReportedBy outcome did.faults
+
+-- the text is printed whole, or the writer fails, and that is reported
+abbrev pub PrintsText : List ℕ → Outcome → Type 0
+PrintsText text did = (did.reads_all ≡ true)
+    × (((did.exit ≡ exits.Done) × (did.out ≡ Whole text) × (did.faults ≡ Nothing))
+    ⊎ ((did.exit ≡ exits.Device) × (did.out ≡ Part text)
+    × IsOf (as_line (input_fault_text faults.Unwritable)) did.faults))

@@ -12,4 +12,4 @@ pub use bad_argv::report_bad_argv;
 pub use exit::Exit;
 pub use fault::Fault;
 pub use input::{all_bytes, exchanges, first_line};
-pub use opening::report_unopened;
+pub use opening::{report_failure, report_unopened};

@@ -3,7 +3,7 @@ ghost use Rattle.std.specs.Prelude.{◌≡◌, ◌⊎◌, ℕ, List, IfOk, strin
 ghost use Rattle.std.specs.IoError.{error_kind};
 ghost use Rattle.bw_console.specs.Outcomes.{Outcome, IsOutOfMemory};
 ghost use Rattle.bw_console.specs.Printing.{IsPrint};
-ghost use Rattle.bw_console.specs.Openings.{IsUnopened, unopened_text};
+ghost use Rattle.bw_console.specs.Openings.{IsUnopened, ReportsFailure, exit_unopened, unopened_text};
 
 use crate::exit::Exit;
 use crate::fault::Fault;
@@ -28,10 +28,33 @@ pub fn report_unopened<E: Sink>(
         × (IsUnopened path.now (error_kind error.now) did ⊎ IsOutOfMemory did)
         × IsPrint E.Sink did.faults faults.old faults.new }
 {
-    let Ok(line) = unopened_line(alloc, path, error) else {
+    report_failure(unopened_line(alloc, path, error), error, faults)
+}
+
+/// Reports a call of the system that failed, in a line with the reason. Returns `Memory` if memory
+/// was refused, even for this line, which is `out of memory` then; otherwise `Device`.
+pub fn report_failure<E: Sink>(
+    line: Result<String, AllocError>,
+    error: &io::Error,
+    faults: &mut E,
+) -> Exit
+    ensures { (text : List ℕ → List ℕ) →
+        IfOk line (λ l. (reason : List ℕ) × (string_bytes l ≡ text reason)) →
+        (did : Outcome) × (did.exit ≡ result)
+        × (ReportsFailure text (error_kind error.now) did ⊎ IsOutOfMemory did)
+        × IsPrint E.Sink did.faults faults.old faults.new }
+{
+    let Ok(line) = line else {
         return give_up(faults, &Fault::Memory);
     };
     print_diagnostic(faults, line.as_str().as_bytes());
+    exit_after(error)
+}
+
+/// How a command ends whose call failed with this error.
+fn exit_after(error: &io::Error) -> Exit
+    ensures { result ≡ exit_unopened (error_kind error.now) }
+{
     match error.kind() {
         ErrorKind::OutOfMemory => Exit::Memory,
         _ => Exit::Device,

@@ -1,6 +1,7 @@
 //! Texts to a writer.
 ghost use Rattle.std.specs.Prelude.{◌≡◌, OnOk, OnErr};
 ghost use Rattle.bw_console.specs.Faults.{exit_on, input_fault_text};
+ghost use Rattle.bw_console.specs.Outcomes.{HasWritten, Outcome, PrintsText};
 ghost use Rattle.bw_console.specs.Printing.{HasPrinted, HasStopped, IsOf, IsPrint, Print};
 ghost use Rattle.bw_console.specs.Text.{as_line};
 
@@ -45,4 +46,19 @@ pub fn give_up<E: Sink>(faults: &mut E, fault: &Fault) -> Exit
 {
     print_diagnostic(faults, fault.line().as_str().as_bytes());
     fault.exit()
+}
+
+/// Prints a text that is all of a command. Returns how the command ends: `Done`, or `Device` if the
+/// writer failed, which is reported.
+///
+/// # Not specified
+/// What `print` and `give_up` leave open.
+pub fn print_text<W: Sink, E: Sink>(text: &[u8], out: &mut W, faults: &mut E) -> Exit
+    ensures { (did : Outcome) × (did.exit ≡ result) × PrintsText text.now did
+        × HasWritten W.Sink E.Sink did out.old out.new faults.old faults.new }
+{
+    match print(out, text) {
+        Ok(()) => Exit::Done,
+        Err(_) => give_up(faults, &Fault::Unwritable),
+    }
 }

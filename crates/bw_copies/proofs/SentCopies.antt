@@ -4,8 +4,6 @@ use Rattle.std.proofs.Common.{refl, sym, ◌∙◌, ap, arith}
 use Rattle.std.specs.Prelude.{◌||◌, ◌/◌, ◌*◌, option_map, codes, string_bytes}
 use Rattle.std.specs.IoError.{error_kind}
 use Rattle.std.specs.List.{list_any}
-use Rattle.std.specs.declared.io.ErrorKind.{ErrorKind}
-use Rattle.std.specs.declared.io.ErrorKind.TheVariants as errors
 use Rattle.bw_model.specs.Take.{Request, Open, Close, block_align}
 use Rattle.bw_model.specs.Wire.{are_bytes}
 use Rattle.bw_model.specs.World.{is_close}
@@ -13,9 +11,6 @@ use Rattle.bw_stream.specs.declared.sink.Sink.{Ghosts as Writer}
 use Rattle.bw_stream.specs.declared.source.Source.{Ghosts as Reader}
 use Rattle.bw_store.specs.declared.store.TakeStore.{Ghosts as StoreGhosts}
 use Rattle.bw_journal.specs.declared.journal.Journal.{Ghosts as JournalGhosts}
-use Rattle.bw_inspect.specs.declared.fault.InspectKind.{InspectKind}
-use Rattle.bw_inspect.specs.declared.fault.InspectKind.TheVariants as kinds
-use Rattle.bw_console.specs.Openings.{exit_unopened}
 use Rattle.bw_console.specs.Printing.{Print}
 use Rattle.bw_console.specs.declared.exit.Exit.{Exit}
 use Rattle.bw_console.specs.declared.exit.Exit.TheVariants as exits
@@ -23,9 +18,7 @@ use Rattle.bw_ports.specs.declared.dial.Dial.{Ghosts as DialGhosts}
 use Rattle.bw_ports.specs.declared.pause.Pause.{Ghosts as PauseGhosts}
 use Rattle.bw_plan.specs.Plans.{plan, field_requests, block_requests, mark_request}
 use Rattle.bw_plan.specs.Recordings.{Options, Recording, block_frames, recording_of}
-use Rattle.bw_plan.specs.declared.fault.RecordingKind.{RecordingKind}
-use Rattle.bw_plan.specs.declared.fault.RecordingKind.TheVariants as recordings
-use Rattle.bw_recorder.specs.Openings.{exit_unread, exit_on_kind}
+use Rattle.bw_recorder.proofs.Statuses.{kind_ends, memory_ends, refused_ends, unopened_ends, usage_ends}
 use Rattle.bw_recorder.specs.Packs.{Packing, IsOpenReport}
 use Rattle.bw_recorder.specs.declared.fault.OpenFault.{OpenFault}
 use Rattle.bw_recorder.specs.declared.fault.OpenFault.TheVariants.{Unopened, Refused, Changed}
@@ -61,31 +54,6 @@ plan_closes frames r =
     (length r.samples / block_align r.outline.format)
 
 -- Where nothing was sent, the status isn't 0.
-
-refused_ends : exits.Refused ≡ exits.Done → ⊥
-refused_ends e = cc
-
-device_ends : exits.Device ≡ exits.Done → ⊥
-device_ends e = cc
-
-pub memory_ends : exits.Memory ≡ exits.Done → ⊥
-memory_ends e = cc
-
-pub usage_ends : exits.Usage ≡ exits.Done → ⊥
-usage_ends e = cc
-
-unread_ends : (k : InspectKind) → exit_unread k ≡ exits.Done → ⊥
-unread_ends kinds.Read e = device_ends e
-unread_ends kinds.Memory e = memory_ends e
-unread_ends _ e = refused_ends e
-
-kind_ends : (k : RecordingKind) → exit_on_kind k ≡ exits.Done → ⊥
-kind_ends (recordings.Unread k) e = unread_ends k e
-kind_ends _ e = refused_ends e
-
-unopened_ends : (k : ErrorKind) → exit_unopened k ≡ exits.Done → ⊥
-unopened_ends errors.OutOfMemory e = memory_ends e
-unopened_ends _ e = device_ends e
 
 pub open_ends : (command path : List ℕ) (fault : OpenFault) (exit : Exit) (print : Print) →
     IsOpenReport command path fault exit print → exit ≡ exits.Done → ⊥

@@ -24,7 +24,8 @@ use Rattle.bw_send_pcm.specs.declared.job.PcmFile.{PcmFile}
 use Rattle.bw_copies.specs.Copies.{plan_by}
 use Rattle.bw_copies.specs.SentSamples.{SendsSamplesCopy, HasOptions, FinishedSamplesAreCopied}
 use Rattle.bw_copies.specs.SentSamples.{FollowedSamplesAreCopied}
-use Rattle.bw_copies.proofs.SentCopies.{memory_ends, usage_ends, open_ends}
+use Rattle.bw_recorder.proofs.Statuses.{memory_ends, usage_ends}
+use Rattle.bw_copies.proofs.SentCopies.{open_ends}
 use Rattle.std.proofs.Common.{Ok, Err}
 use Rattle.bw_send_file.specs.Sendings.{Ways}
 use Rattle.bw_send_file.specs.declared.job.Recorder.{Recorder}

@@ -3,12 +3,8 @@ use Rattle.std.specs.Prelude.{◌≡◌, ◌⊎◌, ℕ, ◌-◌, Bool, true, Li
 use Rattle.bw_stream.specs.Readers.{Of}
 use Rattle.bw_model.specs.Report.{Report, report_of}
 use Rattle.bw_inspect.specs.Readings.{HasReading}
-use Rattle.bw_console.specs.Faults.{input_fault_text}
-use Rattle.bw_console.specs.Outcomes.{Outcome}
-use Rattle.bw_console.specs.Printing.{Nothing, Whole, Part, IsOf}
-use Rattle.bw_console.specs.Text.{as_line}
-use Rattle.bw_console.specs.declared.exit.Exit.TheVariants as exits
-use Rattle.bw_console.specs.declared.fault.Fault.TheVariants as faults
+use Rattle.bw_console.specs.Outcomes.{Outcome, PrintsText}
+use Rattle.bw_console.specs.Printing.{Nothing}
 use Rattle.bw_picture.specs.Fits.{fitting_shape}
 use Rattle.bw_picture.specs.Pages.{picture_text}
 use Rattle.bw_picture.specs.declared.drawing.Shape.{Shape}
@@ -51,19 +47,12 @@ pub record IsUndrawable (b : List ℕ) (fault : OpenFault) : Type 0 where
 abbrev pub RefusesPicture : List ℕ → OpenFault → Type 0
 RefusesPicture b fault = RefusesAs b no_options fault ⊎ IsUndrawable b fault
 
--- the text is printed whole, or the writer fails, and that is reported
-abbrev pub EndsPrinting : List ℕ → Outcome → Type 0
-EndsPrinting text did = (did.reads_all ≡ true)
-    × (((did.exit ≡ exits.Done) × (did.out ≡ Whole text) × (did.faults ≡ Nothing))
-    ⊎ ((did.exit ≡ exits.Device) × (did.out ≡ Part text)
-    × IsOf (as_line (input_fault_text faults.Unwritable)) did.faults))
-
 -- the picture of the file is printed
 pub record PrintsPicture (file : Option (List ℕ)) (gives_all : Bool) (did : Outcome) : Type 0 where
   pub text : List ℕ
   pub right : Of file (λ b. IsPictureOf b text)
   pub gives : gives_all ≡ true
-  pub prints : EndsPrinting text did
+  pub prints : PrintsText text did
 
 -- it isn't drawn, which is reported
 pub record DrawsNothing (file : Option (List ℕ)) (path : List ℕ) (gives_all : Bool) (did : Outcome)

@@ -2,13 +2,13 @@
 ghost use Rattle.std.specs.Prelude.{◌≡◌, Bool};
 ghost use Rattle.bw_console.specs.Outcomes.{HasWritten, Outcome};
 ghost use Rattle.bw_console.specs.Printing.{failures_if};
-ghost use Rattle.bw_draw.specs.Pictures.{IsDrawing, EndsPrinting};
+ghost use Rattle.bw_draw.specs.Pictures.{IsDrawing};
 
-use crate::fault::report_fault;
 use crate::opening::picture_at;
-use bw_console::print::{give_up, print};
-use bw_console::{Exit, Fault};
+use bw_console::Exit;
+use bw_console::print::print_text;
 use bw_ports::RecordingFiles;
+use bw_recorder::report_open_fault;
 use bw_stream::Sink;
 use std::alloc::Global;
 
@@ -38,17 +38,6 @@ pub fn draw_file<F: RecordingFiles, W: Sink, E: Sink>(
 {
     match picture_at(alloc, files, path) {
         Ok(text) => print_text(text.as_slice(), out, faults),
-        Err(fault) => report_fault(alloc, "picture", path, &fault, faults),
-    }
-}
-
-/// Prints a text. Returns how the command ends.
-fn print_text<W: Sink, E: Sink>(text: &[u8], out: &mut W, faults: &mut E) -> Exit
-    ensures { (did : Outcome) × (did.exit ≡ result) × EndsPrinting text.now did
-        × HasWritten W.Sink E.Sink did out.old out.new faults.old faults.new }
-{
-    match print(out, text) {
-        Ok(()) => Exit::Done,
-        Err(_) => give_up(faults, &Fault::Unwritable),
+        Err(fault) => report_open_fault(alloc, "picture", path, &fault, faults),
     }
 }

@@ -1,24 +1,23 @@
 //! The picture of the file at a path.
-ghost use Rattle.std.specs.Prelude.{◌≡◌, None, Some, codes, IfErr, IfOk, OnOk};
+ghost use Rattle.std.specs.Prelude.{◌≡◌, None, Some, IfErr, IfOk, OnOk};
 ghost use Rattle.bw_console.specs.Printing.{failures_if};
 ghost use Rattle.bw_draw.specs.Pictures.{HasRecording, IsPictureOf, RefusesPicture};
 ghost use Rattle.bw_draw.specs.Pictures.{too_long as too_long_at};
 ghost use Rattle.bw_inspect.specs.Reports.{reported_by};
-ghost use Rattle.bw_model.specs.Reading.{entry_of};
 ghost use Rattle.bw_picture.specs.Drawings.{LacksFrames};
 ghost use Rattle.bw_picture.specs.Fits.{IsDrawable, fitting_shape};
 ghost use Rattle.bw_picture.specs.Pages.{picture_text};
-ghost use Rattle.bw_plan.specs.Recordings.{extension_at, no_options};
+ghost use Rattle.bw_plan.specs.Recordings.{no_options};
 ghost use Rattle.bw_recorder.specs.FileReports.{HasReport};
 ghost use Rattle.bw_recorder.specs.Openings.{RefusesAs, is_system_well};
 ghost use Rattle.bw_stream.specs.Readers.{Of};
 
-use crate::fault::{read_again, too_long};
-use bw_inspect::{InspectFault, InspectKind, Report, inspect, skip_at};
+use crate::fault::too_long;
+use bw_inspect::{InspectFault, InspectKind, Report, skip_at};
 use bw_picture::{Shape, fit, picture};
-use bw_plan::{Options, outline_of, read_extension};
+use bw_plan::{Options, outline_of};
 use bw_ports::RecordingFiles;
-use bw_recorder::{OpenFault, unread};
+use bw_recorder::{OpenFault, extension_at_path, read_again, read_report};
 use bw_stream::Source;
 use std::alloc::Global;
 
@@ -42,29 +41,6 @@ pub(crate) fn picture_at<F: RecordingFiles>(
     draw_samples(alloc, files, path, &report, &shape)
 }
 
-/// The report of the file at a path.
-fn read_report<F: RecordingFiles>(
-    alloc: Global,
-    files: &mut F,
-    path: &str,
-) -> Result<Report, OpenFault>
-    ensures ok { IfOk result (λ r. Of (F.file_at files.old path.now) (λ b. HasReport b r)) }
-    ensures err { IfErr result (λ e. Of (F.file_at files.old path.now) (λ b.
-        RefusesAs b no_options e)) }
-    ensures files { F.file_at files.new ≡ F.file_at files.old }
-    ensures count { F.failures files.new
-        ≡ failures_if (is_system_well result) (F.failures files.old) }
-{
-    let mut file = match files.open(path) {
-        Ok(file) => file,
-        Err(error) => return Err(OpenFault::Unopened(error)),
-    };
-    match inspect(alloc, &mut file) {
-        Ok(report) => Ok(report),
-        Err(fault) => Err(OpenFault::Refused(unread(fault))),
-    }
-}
-
 /// Checks that the file at a path, which has this report, has a recording.
 fn check_recording<F: RecordingFiles>(
     alloc: Global,
@@ -85,31 +61,6 @@ fn check_recording<F: RecordingFiles>(
     match outline_of(alloc, report, extension.as_slice(), b"", &options) {
         Ok(_outline) => Ok(()),
         Err(fault) => Err(OpenFault::Refused(fault)),
-    }
-}
-
-/// What the file at a path has of an extensible format.
-fn extension_at_path<F: RecordingFiles>(
-    alloc: Global,
-    files: &mut F,
-    path: &str,
-    report: &Report,
-) -> Result<Vec<u8>, OpenFault>
-    ensures ok { IfOk result (λ v. Of (F.file_at files.old path.now) (λ b.
-        v.items ≡ extension_at b (entry_of (codes "fmt ") report.now.chunks))) }
-    ensures err { IfErr result (λ e. Of (F.file_at files.old path.now) (λ b.
-        HasReport b report.now → RefusesAs b no_options e)) }
-    ensures files { F.file_at files.new ≡ F.file_at files.old }
-    ensures count { F.failures files.new
-        ≡ failures_if (is_system_well result) (F.failures files.old) }
-{
-    let mut file = match files.open(path) {
-        Ok(file) => file,
-        Err(error) => return Err(OpenFault::Unopened(error)),
-    };
-    match read_extension(alloc, &mut file, report) {
-        Ok(extension) => Ok(extension),
-        Err(fault) => Err(read_again(fault)),
     }
 }
 

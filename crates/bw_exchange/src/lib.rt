@@ -1,6 +1,6 @@
 //! The machine of an exchange: from the bytes of a recorder, through whoever answers its frames, to
-//! the bytes of its replies. What a server keeps of each name is in a crate above, behind the trait
-//! `Turns`.
+//! the bytes of its replies. What a server keeps of each name is in a crate above, which
+//! implements the trait `Turns`.
 #![tactic(auto)]
 
 mod end_text;

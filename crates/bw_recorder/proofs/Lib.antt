@@ -3,3 +3,4 @@ pub mod PutSteps
 pub mod Lists
 pub mod RequestHex
 pub mod PackSteps
+pub mod Statuses

@@ -1,5 +1,5 @@
 -- What the command did, from what its steps did.
-use Rattle.std.proofs.Common.{◌≡◌, ℕ, Bool, true, List, Option, Some, Result, inl, inr, refl, subst}
+use Rattle.std.proofs.Common.{◌≡◌, ◌⊎◌, ℕ, Bool, true, List, Option, Some, Result, inl, inr, refl, subst}
 use Rattle.bw_stream.specs.Readers.{Of}
 use Rattle.bw_model.specs.Take.{Request}
 use Rattle.bw_console.specs.Printing.{Print, Nothing}
@@ -11,8 +11,29 @@ use Rattle.bw_recorder.specs.declared.fault.OpenFault.{OpenFault}
 use Rattle.bw_recorder.specs.declared.packing.PackFault.{PackFault}
 use Rattle.bw_recorder.specs.Openings.{IsOpenedAt, RefusesAs, is_well_at}
 use Rattle.bw_recorder.specs.Puts.{GivesRequests, Stands}
-use Rattle.bw_recorder.specs.SettingLists.{options_of}
-use Rattle.bw_recorder.specs.Packs.{IsOpenReport, IsPack, IsPrintOfPack, IsReportedText, ReportsPack, pack_exit}
+use Rattle.bw_recorder.specs.SettingLists.{LacksOptions, options_of}
+use Rattle.bw_recorder.specs.Packs.{IsOpenReport, IsOptionsReport, IsPack, IsPrintOfPack, IsReportedText, Packing}
+use Rattle.bw_recorder.specs.Packs.{RefusesAtOnce, ReportsPack, pack_exit}
+use Rattle.bw_recorder.specs.declared.fault.OptionsFault.{OptionsFault}
+use Rattle.bw_recorder.specs.declared.fault.OptionsFault.TheVariants as lacks
+
+-- nothing is done but that this is reported
+abbrev pub refusal : Exit → Print → Packing
+refusal exit print =
+    record { is_system_well = true; warned = Nothing; out = Nothing; faults = print; exit = exit }
+
+-- what is set can't be used
+pub refused : (texts : List (List ℕ)) (strict : Bool) (frames : Option ℕ) (fault : OptionsFault) (exit : Exit)
+    (print : Print) → LacksOptions texts strict frames fault → IsOptionsReport fault exit print →
+    RefusesAtOnce texts strict frames (refusal exit print)
+refused texts strict frames lacks.NotASetting exit print bad r =
+    inl (record { bad = bad; exit_is = r.0; well = refl; warned = refl; prints = refl; reports = r.1 })
+refused texts strict frames lacks.Memory exit print bad r =
+    inr (record { exit_is = r.0; well = refl; warned = refl; prints = refl; reports = r.1 })
+
+pub at_once : {P Q R : Type 0} → P ⊎ Q → P ⊎ Q ⊎ R
+at_once (inl p) = inl p
+at_once (inr q) = inr (inl q)
 
 -- the file is opened
 pub packs : (file : Option (List ℕ)) (path : List ℕ) (texts : List (List ℕ)) (strict : Bool) (frames : Option ℕ)

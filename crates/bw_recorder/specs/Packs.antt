@@ -24,12 +24,20 @@ use Rattle.bw_recorder.specs.SettingLists.{options_of}
 use Rattle.bw_recorder.specs.WarningTexts.{warning_lines}
 use Rattle.bw_recorder.specs.declared.fault.OpenFault.{OpenFault}
 use Rattle.bw_recorder.specs.declared.fault.OpenFault.TheVariants.{Unopened, Refused, Changed}
+use Rattle.bw_recorder.specs.declared.fault.OptionsFault.{OptionsFault}
+use Rattle.bw_recorder.specs.declared.fault.OptionsFault.TheVariants as lacks
 use Rattle.bw_recorder.specs.declared.packing.PackFault.{PackFault}
 use Rattle.bw_recorder.specs.declared.packing.PackFault.TheVariants.{Unread, Altered, Unsendable, Unwritable, Memory}
 
 -- what is reported of settings that can't be read
 abbrev pub bad_setting_line : List ℕ
 bad_setting_line = as_line (codes "a value of '--set' isn't KEY=VALUE, or isn't allowed")
+
+-- what is reported where what is set can't be used, and how the command ends
+abbrev pub IsOptionsReport : OptionsFault → Exit → Print → Type 0
+IsOptionsReport lacks.NotASetting exit print = (exit ≡ exits.Usage) × IsOf bad_setting_line print
+IsOptionsReport lacks.Memory exit print =
+    (exit ≡ exits.Memory) × IsOf (as_line (input_fault_text faults.Memory)) print
 
 -- what is reported of a file that isn't opened, and how the command of this name ends
 abbrev pub IsOpenReport : List ℕ → List ℕ → OpenFault → Exit → Print → Type 0
@@ -115,7 +123,8 @@ ReportsPack (Ok x) print = print ≡ Nothing
 ReportsPack (Err fault) print = IsOf (pack_line fault) print
 
 -- what is set can't be read: nothing else is done
-pub record RefusesSettings (texts : List (List ℕ)) (strict : Bool) (frames : Option ℕ) (did : Packing) : Type 0 where
+pub record RefusesSettings (texts : List (List ℕ)) (strict : Bool) (frames : Option ℕ) (did : Packing)
+    : Type 0 where
   pub bad : options_of texts strict frames ≡ None
   pub exit_is : did.exit ≡ exits.Usage
   pub well : did.is_system_well ≡ true
@@ -131,9 +140,13 @@ pub record RunsOutOfMemory (did : Packing) : Type 0 where
   pub prints : did.out ≡ Nothing
   pub reports : IsOf (as_line (input_fault_text faults.Memory)) did.faults
 
+-- what is set can't be used, or memory was refused
+abbrev pub RefusesAtOnce : List (List ℕ) → Bool → Option ℕ → Packing → Type 0
+RefusesAtOnce texts strict frames did = RefusesSettings texts strict frames did ⊎ RunsOutOfMemory did
+
 -- the file isn't opened by the command of this name
-pub record IsNotOpened (command : List ℕ) (file : Option (List ℕ)) (path : List ℕ) (o : Options) (did : Packing)
-    : Type 0 where
+pub record IsNotOpened (command : List ℕ) (file : Option (List ℕ)) (path : List ℕ) (o : Options)
+    (did : Packing) : Type 0 where
   pub fault : OpenFault
   pub right : Of file (λ b. RefusesAs b o fault)
   pub well : did.is_system_well ≡ is_well_at fault
@@ -142,8 +155,8 @@ pub record IsNotOpened (command : List ℕ) (file : Option (List ℕ)) (path : L
   pub reports : IsOpenReport command path fault did.exit did.faults
 
 -- these requests are given of the recording in these bytes, and this says what it loses of them
-pub record PacksRecording (b : List ℕ) (o : Options) (given : List Request) (outcome : Result (Unit {0}) PackFault)
-    (text : List ℕ) : Type 0 where
+pub record PacksRecording (b : List ℕ) (o : Options) (given : List Request)
+    (outcome : Result (Unit {0}) PackFault) (text : List ℕ) : Type 0 where
   pub recording : Recording
   pub is : recording_of b o ≡ Ok recording
   pub says : text ≡ warning_lines (warnings_in b recording.outline)
@@ -165,4 +178,5 @@ pub record PacksFile (file : Option (List ℕ)) (o : Options) (did : Packing) : 
 abbrev pub IsPack : Option (List ℕ) → List ℕ → List (List ℕ) → Bool → Option ℕ → Packing → Type 0
 IsPack file path texts strict frames did =
     RefusesSettings texts strict frames did ⊎ RunsOutOfMemory did
-    ⊎ ((o : Options) × ((options_of texts strict frames ≡ Some o) × (IsNotOpened (codes "pack") file path o did ⊎ PacksFile file o did)))
+    ⊎ ((o : Options) × ((options_of texts strict frames ≡ Some o)
+    × (IsNotOpened (codes "pack") file path o did ⊎ PacksFile file o did)))

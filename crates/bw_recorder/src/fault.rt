@@ -1,6 +1,7 @@
 //! Why the requests of a recording aren't all given, and what is reported of that.
 ghost use Rattle.std.specs.Prelude.{◌≡◌, ◌≤◌, length};
-ghost use Rattle.bw_recorder.specs.Openings.{recording_line, changed_line, exit_on_kind};
+ghost use Rattle.bw_inspect.specs.Faults.{is_of_bytes};
+ghost use Rattle.bw_recorder.specs.Openings.{recording_line, changed_line, exit_on_kind, fault_again};
 
 use arrayvec::ArrayString;
 use bw_console::Exit;
@@ -8,6 +9,15 @@ use bw_inspect::{InspectFault, InspectKind};
 use bw_plan::{RecordingFault, RecordingKind};
 use itoa::Buffer;
 use std::io;
+
+/// Why what is set can't be used.
+#[derive(Clone, Copy, Debug, PartialEq, Eq)]
+pub enum OptionsFault {
+    /// A text spells no setting.
+    NotASetting,
+    /// Memory was refused.
+    Memory,
+}
 
 /// Why a recording's file isn't opened.
 #[derive(Drop)]
@@ -31,15 +41,15 @@ pub fn unread(fault: InspectFault) -> RecordingFault
 }
 
 /// Memory was refused before the samples were read.
-pub(crate) const NO_MEMORY: RecordingFault = RecordingFault {
+pub const NO_MEMORY: RecordingFault = RecordingFault {
     kind: RecordingKind::Unread(InspectKind::Memory),
     offset: 0,
 };
 
-/// The line of a fault: the command's name, of at most 4 bytes, the kind, the place. It allocates
+/// The line of a fault: the command's name, of at most 8 bytes, the kind, the place. It allocates
 /// nothing, since memory may be what is lacking.
 pub fn line_of(command: &str, fault: &RecordingFault) -> ArrayString<64>
-    requires { length command.now ≤ 4 }
+    requires { length command.now ≤ 8 }
     ensures { result.bytes ≡ recording_line command.now fault.now }
 {
     let mut digits = Buffer::new();
@@ -55,7 +65,7 @@ pub fn line_of(command: &str, fault: &RecordingFault) -> ArrayString<64>
 
 /// The line of a file that has changed.
 pub(crate) fn changed(command: &str) -> ArrayString<64>
-    requires { length command.now ≤ 4 }
+    requires { length command.now ≤ 8 }
     ensures { result.bytes ≡ changed_line command.now }
 {
     let mut line = ArrayString::new();
@@ -72,5 +82,27 @@ pub(crate) fn exit_on(kind: RecordingKind) -> Exit
         RecordingKind::Unread(InspectKind::Read) => Exit::Device,
         RecordingKind::Unread(InspectKind::Memory) => Exit::Memory,
         _ => Exit::Refused,
+    }
+}
+
+/// What a fault means in a file that was read already: where it is one of its bytes, these have
+/// changed.
+pub fn read_again(fault: InspectFault) -> OpenFault
+    ensures { result ≡ fault_again fault }
+{
+    if is_of_file(fault.kind) {
+        return OpenFault::Changed;
+    }
+    OpenFault::Refused(unread(fault))
+}
+
+/// Whether a fault of this kind is one of the bytes.
+fn is_of_file(kind: InspectKind) -> bool
+    ensures { result ≡ is_of_bytes kind }
+{
+    match kind {
+        InspectKind::Read => false,
+        InspectKind::Memory => false,
+        _ => true,
     }
 }

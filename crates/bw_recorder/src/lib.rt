@@ -10,9 +10,9 @@ mod request_line;
 mod settings;
 mod warning_text;
 
-pub use fault::{OpenFault, line_of, unread};
+pub use fault::{NO_MEMORY, OpenFault, OptionsFault, line_of, read_again, unread};
 pub use job::RecordingFile;
-pub use opening::{Opened, open_recording};
-pub use packing::{pack, refuse_settings, report_open_fault, warn};
+pub use opening::{Opened, extension_at_path, open_recording, read_report};
+pub use packing::{pack, refuse_options, report_open_fault, warn};
 pub use request_line::law_request_lines;
-pub use settings::options_of;
+pub use settings::{options_of, read_options};

@@ -2,7 +2,6 @@
 ghost use Rattle.std.specs.Prelude.{◌≡◌, codes, IfOk, IfErr};
 ghost use Rattle.bw_console.specs.Printing.{failures_if};
 ghost use Rattle.bw_plan.specs.Progress.{IsSoundPlan};
-ghost use Rattle.bw_inspect.specs.Faults.{is_of_bytes};
 ghost use Rattle.bw_model.specs.Reading.{entry_of};
 ghost use Rattle.bw_plan.specs.Notes.{notes_by};
 ghost use Rattle.bw_plan.specs.Recordings.{Options as OptionsOf, extension_at, history_at};
@@ -10,11 +9,11 @@ ghost use Rattle.bw_plan.specs.Warnings.{warnings_of};
 ghost use Rattle.bw_recorder.specs.WarningTexts.{warning_lines};
 ghost use Rattle.bw_stream.specs.Readers.{Of};
 ghost use Rattle.bw_recorder.specs.FileReports.{HasExtras, HasReport};
-ghost use Rattle.bw_recorder.specs.Openings.{IsOpenedAt, IsOutlined, RefusesAs, fault_again, is_system_well};
+ghost use Rattle.bw_recorder.specs.Openings.{IsOpenedAt, IsOutlined, RefusesAs, is_system_well};
 
-use crate::fault::{NO_MEMORY, OpenFault, unread};
+use crate::fault::{NO_MEMORY, OpenFault, read_again, unread};
 use crate::warning_text::warning_text;
-use bw_inspect::{InspectFault, InspectKind, Report, inspect};
+use bw_inspect::{Report, inspect};
 use bw_plan::{
     Options, Outline, Plan, block_frames, outline_of, read_extension, read_history, warnings,
 };
@@ -80,7 +79,13 @@ pub fn open_recording<F: RecordingFiles>(
 }
 
 /// The report of the file at a path.
-fn read_report<F: RecordingFiles>(
+///
+/// # Errors
+/// Why there is none.
+///
+/// # Not specified
+/// When the system fails.
+pub fn read_report<F: RecordingFiles>(
     alloc: Global,
     files: &mut F,
     path: &str,
@@ -122,8 +127,14 @@ fn read_extras<F: RecordingFiles>(
     Ok(Extras { extension, history })
 }
 
-/// What the file at a path has of an extensible format.
-fn extension_at_path<F: RecordingFiles>(
+/// What the file at a path has of an extensible format, where it has this report.
+///
+/// # Errors
+/// Why it isn't read.
+///
+/// # Not specified
+/// When the system fails.
+pub fn extension_at_path<F: RecordingFiles>(
     alloc: Global,
     files: &mut F,
     path: &str,
@@ -225,26 +236,4 @@ fn lines_of_losses(
 {
     let losses = warnings(alloc, report, extras.history.as_slice(), outline)?;
     warning_text(alloc, losses.as_slice())
-}
-
-/// What a fault means in a file that was read already: where it is one of its bytes, these have
-/// changed.
-fn read_again(fault: InspectFault) -> OpenFault
-    ensures { result ≡ fault_again fault }
-{
-    if is_of_file(fault.kind) {
-        return OpenFault::Changed;
-    }
-    OpenFault::Refused(unread(fault))
-}
-
-/// Whether a fault of this kind is one of the bytes.
-fn is_of_file(kind: InspectKind) -> bool
-    ensures { result ≡ is_of_bytes kind }
-{
-    match kind {
-        InspectKind::Read => false,
-        InspectKind::Memory => false,
-        _ => true,
-    }
 }

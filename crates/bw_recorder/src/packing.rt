@@ -4,7 +4,7 @@ ghost use Rattle.bw_console.specs.Printing.{IsPrint, Print, failures_if, IsOf};
 ghost use Rattle.bw_plan.specs.Progress.{remaining};
 ghost use Rattle.bw_recorder.specs.Packs.{bad_setting_line, FinishesPrint, has_unwritable as is_writer_failed};
 ghost use Rattle.bw_recorder.specs.Packs.{HasPacked, IsPack, IsPrintOfPack, IsReportedText, Packing};
-ghost use Rattle.bw_recorder.specs.Packs.{ReportsPack, exit_of_pack, pack_exit, pack_line, IsOpenReport};
+ghost use Rattle.bw_recorder.specs.Packs.{IsOptionsReport, ReportsPack, exit_of_pack, pack_exit, pack_line, IsOpenReport};
 ghost use Rattle.bw_recorder.specs.Puts.{fault_going_on, GivesNextOf, GivesRequests, HasPut, HasText, PutsNoLine, Stands, count_given};
 ghost use Rattle.bw_recorder.specs.RequestLines.{request_hex};
 ghost use Rattle.bw_request.specs.Requests.{meaning};
@@ -12,11 +12,11 @@ ghost use Rattle.bw_model.specs.Take.{Request};
 ghost use Rattle.bw_console.specs.Text.{as_line};
 ghost use Rattle.bw_recorder.specs.declared.packing.PackFault.{PackFault};
 
-use crate::fault::{OpenFault, changed, exit_on, line_of, unread};
+use crate::fault::{OpenFault, OptionsFault, changed, exit_on, line_of, unread};
 use crate::job::RecordingFile;
 use crate::opening::{Opened, open_recording};
 use crate::request_line::line_of_request;
-use crate::settings::options_of;
+use crate::settings::read_options;
 use bw_console::print::{give_up, print_diagnostic};
 use bw_console::{Exit, Fault, report_unopened};
 use bw_inspect::{InspectFault, InspectKind};
@@ -69,10 +69,9 @@ pub fn pack<F: RecordingFiles, W: Sink, E: Sink>(
         × (F.failures files.new ≡ failures_if did.is_system_well (F.failures files.old))
         × HasPacked W.Sink E.Sink did out.old out.new faults.old faults.new }
 {
-    let options = match options_of(alloc, file) {
-        Ok(Some(options)) => options,
-        Ok(None) => return refuse_settings(faults),
-        Err(_) => return give_up(faults, &Fault::Memory),
+    let options = match read_options(alloc, file) {
+        Ok(options) => options,
+        Err(fault) => return refuse_options(fault, faults),
     };
     match open_recording(alloc, files, file.path, &options) {
         Ok(mut opened) => {
@@ -83,8 +82,19 @@ pub fn pack<F: RecordingFiles, W: Sink, E: Sink>(
     }
 }
 
+/// Reports why what is set can't be used. Returns how the command ends.
+pub fn refuse_options<E: Sink>(fault: OptionsFault, faults: &mut E) -> Exit
+    ensures { (print : Print) × IsOptionsReport fault result print
+        × IsPrint E.Sink print faults.old faults.new }
+{
+    match fault {
+        OptionsFault::NotASetting => refuse_settings(faults),
+        OptionsFault::Memory => give_up(faults, &Fault::Memory),
+    }
+}
+
 /// Reports that a text spells no setting. Returns how the command ends.
-pub fn refuse_settings<E: Sink>(faults: &mut E) -> Exit
+fn refuse_settings<E: Sink>(faults: &mut E) -> Exit
     ensures exit { result ≡ Exit.Usage }
     ensures line { (print : Print) × IsOf bad_setting_line print
         × IsPrint E.Sink print faults.old faults.new }
@@ -103,7 +113,7 @@ pub fn warn<E: Sink>(text: &[u8], faults: &mut E)
     }
 }
 
-/// Reports why a file isn't opened. Returns how the command of this name, of at most 4 bytes, ends.
+/// Reports why a file isn't opened. Returns how the command of this name, of at most 8 bytes, ends.
 pub fn report_open_fault<E: Sink>(
     alloc: Global,
     command: &str,
@@ -111,7 +121,7 @@ pub fn report_open_fault<E: Sink>(
     fault: &OpenFault,
     faults: &mut E,
 ) -> Exit
-    requires { length command.now ≤ 4 }
+    requires { length command.now ≤ 8 }
     ensures { (print : Print) × IsOpenReport command.now path.now fault.now result print
         × IsPrint E.Sink print faults.old faults.new }
 {

@@ -1,11 +1,33 @@
 //! What is set, from the texts of a command line.
-ghost use Rattle.std.specs.Prelude.{◌≡◌, [], ◌∷◌, ◌++◌, Some, option_map, map, string_bytes, IfOk, IfSome, IsTrue};
+ghost use Rattle.std.specs.Prelude.{◌≡◌, [], ◌∷◌, ◌++◌, Some, option_map, map, string_bytes, IfErr, IfOk, IfSome, IsTrue};
 ghost use Rattle.bw_plan.specs.AllowedSettings.{are_settings};
-ghost use Rattle.bw_recorder.specs.SettingLists.{options_of as options_by, settings_after};
+ghost use Rattle.bw_recorder.specs.SettingLists.{LacksOptions, options_of as options_by, settings_after};
 
+use crate::fault::OptionsFault;
 use crate::job::RecordingFile;
 use bw_plan::{Options, Setting, read_setting};
 use std::alloc::{AllocError, Global};
+
+/// What is asked for beside a recording's file.
+///
+/// # Errors
+/// Why what is set can't be used.
+///
+/// # Not specified
+/// When memory is refused.
+pub fn read_options(alloc: Global, file: &RecordingFile<'_>) -> Result<Options, OptionsFault>
+    ensures ok { IfOk result (λ o. options_by (map string_bytes file.now.settings.now)
+        file.now.is_strict file.now.frames ≡ Some o) }
+    ensures allowed { IfOk result (λ o. IsTrue (are_settings o.settings)) }
+    ensures err { IfErr result (λ f. LacksOptions (map string_bytes file.now.settings.now)
+        file.now.is_strict file.now.frames f) }
+{
+    match options_of(alloc, file) {
+        Ok(Some(options)) => Ok(options),
+        Ok(None) => Err(OptionsFault::NotASetting),
+        Err(_) => Err(OptionsFault::Memory),
+    }
+}
 
 /// What is asked for beside a recording's file; None where a text spells no setting.
 ///

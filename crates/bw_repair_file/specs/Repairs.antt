@@ -2,14 +2,11 @@
 use Rattle.std.specs.Prelude.{◌≡◌, ◌⊎◌, ℕ, Bool, true, false, List, Option}
 use Rattle.std.specs.declared.io.ErrorKind.{ErrorKind}
 use Rattle.bw_stream.specs.Readers.{Of}
-use Rattle.bw_console.specs.Faults.{input_fault_text}
-use Rattle.bw_console.specs.Openings.{IsUnopened, exit_unopened}
-use Rattle.bw_console.specs.Outcomes.{Outcome, IsOutOfMemory}
+use Rattle.bw_console.specs.Openings.{IsUnopened, ReportsFailure}
+use Rattle.bw_console.specs.Outcomes.{Outcome, IsOutOfMemory, PrintsText}
 use Rattle.bw_console.specs.Printing.{Nothing, Whole, Part, IsOf}
-use Rattle.bw_console.specs.Text.{as_line}
 use Rattle.bw_console.specs.declared.exit.Exit.{Exit}
 use Rattle.bw_console.specs.declared.exit.Exit.TheVariants as exits
-use Rattle.bw_console.specs.declared.fault.Fault.TheVariants as faults
 use Rattle.bw_edit.specs.Rewrites.{KeepsOtherPaths}
 use Rattle.bw_inspect.specs.declared.fault.InspectKind.{InspectKind}
 use Rattle.bw_inspect.specs.declared.fault.InspectKind.TheVariants.{Read, Memory}
@@ -35,13 +32,6 @@ abbrev pub exit_on_fault : RepairKind → Exit
 exit_on_fault (Unread kind) = exit_on_unread kind
 exit_on_fault _ = exits.Refused
 
--- the text is printed whole, or the writer fails, and that is reported
-abbrev pub PrintsText : List ℕ → Outcome → Type 0
-PrintsText text did = (did.reads_all ≡ true)
-    × (((did.exit ≡ exits.Done) × (did.out ≡ Whole text) × (did.faults ≡ Nothing))
-    ⊎ ((did.exit ≡ exits.Device) × (did.out ≡ Part text)
-    × IsOf (as_line (input_fault_text faults.Unwritable)) did.faults))
-
 -- a fault is reported
 pub record IsRefusedRepair (fault : RepairFault) (did : Outcome) : Type 0 where
   pub exit_is : did.exit ≡ exit_on_fault fault.kind
@@ -50,12 +40,8 @@ pub record IsRefusedRepair (fault : RepairFault) (did : Outcome) : Type 0 where
   pub reports : IsOf (repair_line fault) did.faults
 
 -- a write failed, for an error of this kind, whose reason is reported
-pub record IsUnwritten (path : List ℕ) (kind : ErrorKind) (did : Outcome) : Type 0 where
-  pub exit_is : did.exit ≡ exit_unopened kind
-  pub reads : did.reads_all ≡ true
-  pub prints : did.out ≡ Nothing
-  pub reason : List ℕ
-  pub reports : IsOf (unwritten_text path reason) did.faults
+abbrev pub IsUnwritten : List ℕ → ErrorKind → Outcome → Type 0
+IsUnwritten path = ReportsFailure (unwritten_text path)
 
 -- the file is sound, and stays as it is
 pub record TellsSound (before after : Contents) (path : List ℕ) (gives_all : Bool) (did : Outcome)

@@ -4,19 +4,19 @@ ghost use Rattle.std.specs.IoError.{error_kind};
 ghost use Rattle.bw_console.specs.Outcomes.{Outcome, HasWritten, IsOutOfMemory};
 ghost use Rattle.bw_console.specs.Printing.{IsPrint, failures_if};
 ghost use Rattle.bw_repair_file.specs.Repairs.{EndsWriting, IsRefusedRepair, IsRepair, IsUnwritten};
-ghost use Rattle.bw_repair_file.specs.Repairs.{PrintsText, exit_on_fault};
+ghost use Rattle.bw_repair_file.specs.Repairs.{exit_on_fault};
 
 use crate::plan::{PlanFault, SizePlan, Soundness, plan_repair};
 use crate::text::{plan_text, repair_line, sound_text, unwritten_line};
 use crate::writing::write_sizes;
-use bw_console::print::{give_up, print, print_diagnostic};
-use bw_console::{Exit, Fault, report_unopened};
+use bw_console::print::{print_diagnostic, print_text};
+use bw_console::{Exit, report_failure, report_unopened};
 use bw_edit::EditedFiles;
 use bw_inspect::InspectKind;
 use bw_repair::{RepairFault, RepairKind};
 use bw_stream::Sink;
 use std::alloc::Global;
-use std::io::{self, ErrorKind};
+use std::io;
 
 /// Prints which sizes the file at a path lacks, and how many frames it has with them; writes them
 /// into it if `is_written` says so. A file that is sound stays as it is.
@@ -78,17 +78,6 @@ fn write_plan<F: EditedFiles, W: Sink, E: Sink>(
     }
 }
 
-/// Prints a text. Returns how the command ends.
-fn print_text<W: Sink, E: Sink>(text: &[u8], out: &mut W, faults: &mut E) -> Exit
-    ensures { (did : Outcome) × (did.exit ≡ result) × PrintsText text.now did
-        × HasWritten W.Sink E.Sink did out.old out.new faults.old faults.new }
-{
-    match print(out, text) {
-        Ok(()) => Exit::Done,
-        Err(_) => give_up(faults, &Fault::Unwritable),
-    }
-}
-
 /// Reports a fault. Returns how the command ends.
 fn refuse<E: Sink>(fault: &RepairFault, faults: &mut E) -> Exit
     ensures { (did : Outcome) × (did.exit ≡ result) × IsRefusedRepair fault.now did
@@ -116,12 +105,5 @@ fn report_unwritten<E: Sink>(alloc: Global, path: &str, error: &io::Error, fault
         × (IsUnwritten path.now (error_kind error.now) did ⊎ IsOutOfMemory did)
         × IsPrint E.Sink did.faults faults.old faults.new }
 {
-    let Ok(line) = unwritten_line(alloc, path, error) else {
-        return give_up(faults, &Fault::Memory);
-    };
-    print_diagnostic(faults, line.as_str().as_bytes());
-    match error.kind() {
-        ErrorKind::OutOfMemory => Exit::Memory,
-        _ => Exit::Device,
-    }
+    report_failure(unwritten_line(alloc, path, error), error, faults)
 }

@@ -1,9 +1,9 @@
 -- The requests that an input's lines say.
-use Rattle.std.specs.Prelude.{◌≡◌, ◌⊎◌, ℕ, ◌+◌, ◌<◌, ◌≤◌, List, [], ◌∷◌, length}
+use Rattle.std.specs.Prelude.{ℕ, ◌<◌, ◌≤◌, List, length}
 use Rattle.bw_model.specs.Take.{Request}
 use Rattle.bw_wire.specs.RequestTexts.{IsRequestText}
 use Rattle.bw_console.specs.Input.{longest_input}
-use Rattle.bw_console.specs.Lines.{lines_of}
+use Rattle.bw_console.specs.Lines.{SayEach, FirstWithout, lines_of}
 use Rattle.bw_console.specs.declared.fault.Fault.{Fault}
 use Rattle.bw_console.specs.declared.fault.Fault.TheVariants.{TooLong, NotHex, NotEvent}
 use Rattle.bw_console.specs.declared.fault.Fault.TheVariants.{NotRequest, Unreadable}
@@ -11,17 +11,11 @@ use Rattle.bw_console.specs.declared.fault.Fault.TheVariants.{Unwritable, Memory
 
 -- each line is the hex of its request
 abbrev pub SayRequests : List (List ℕ) → List Request → Type 0
-SayRequests [] [] = Unit {0}
-SayRequests (line ∷ lines) (r ∷ rs) = IsRequestText line r × SayRequests lines rs
-SayRequests [] (r ∷ rs) = ⊥
-SayRequests (line ∷ lines) [] = ⊥
+SayRequests = SayEach IsRequestText
 
 -- the line with this number, counted from n on, is the first that is no request's
 abbrev pub FirstUnsaid : ℕ → List (List ℕ) → ℕ → Type 0
-FirstUnsaid n [] number = ⊥
-FirstUnsaid n (line ∷ lines) number =
-    ((number ≡ n) × ((r : Request) → ¬ IsRequestText line r))
-    ⊎ (((r : Request) × IsRequestText line r) × FirstUnsaid (n + 1) lines number)
+FirstUnsaid = FirstWithout IsRequestText
 
 -- the input's lines are those of these requests
 pub record AreRequestsOf (input : List ℕ) (requests : List Request) : Type 0 where
@@ -32,11 +26,7 @@ pub record AreRequestsOf (input : List ℕ) (requests : List Request) : Type 0 w
 abbrev pub IsRequestFault : Fault → List (List ℕ) → Type 0
 IsRequestFault (NotRequest number) lines = FirstUnsaid 1 lines number
 IsRequestFault Memory lines = Unit {0}
-IsRequestFault (NotHex number) lines = ⊥
-IsRequestFault (NotEvent number) lines = ⊥
-IsRequestFault TooLong lines = ⊥
-IsRequestFault Unreadable lines = ⊥
-IsRequestFault Unwritable lines = ⊥
+IsRequestFault _ lines = ⊥
 
 -- a fault that refuses is the one that the input has
 abbrev pub RefusesRequests : Fault → List ℕ → Type 0

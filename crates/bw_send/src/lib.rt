@@ -1,5 +1,5 @@
 //! The command `send`: requests of an input, sent in rounds until all are settled. Sockets are in a
-//! crate above, behind `Dial`.
+//! crate above, which implements `Dial`.
 #![tactic(auto)]
 
 mod dispatch;

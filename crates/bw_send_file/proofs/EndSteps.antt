@@ -1,21 +1,15 @@
 -- With the status 0 all that a feed was to give is stored.
 use Rattle.std.proofs.Common.{◌≡◌, ◌⊎◌, ◌∙◌, ℕ, List, ◌++◌, ap, sym, refl, true, inl, inr, append-nil}
 use Rattle.std.specs.declared.io.ErrorKind.{ErrorKind}
-use Rattle.std.specs.declared.io.ErrorKind.TheVariants as errors
 use Rattle.bw_model.specs.Take.{Request}
 use Rattle.bw_model.specs.World.{Sender}
-use Rattle.bw_sender.specs.Senders.{new_sender}
-use Rattle.bw_inspect.specs.declared.fault.InspectKind.{InspectKind}
-use Rattle.bw_inspect.specs.declared.fault.InspectKind.TheVariants as kinds
 use Rattle.std.specs.IoError.{error_kind}
-use Rattle.bw_console.specs.Openings.{IsUnopened, exit_unopened}
+use Rattle.bw_console.specs.Openings.{IsUnopened}
 use Rattle.bw_console.specs.Outcomes.{IsOutOfMemory, Outcome as Did}
 use Rattle.bw_console.specs.Printing.{Print}
 use Rattle.bw_console.specs.declared.exit.Exit.{Exit}
 use Rattle.bw_console.specs.declared.exit.Exit.TheVariants as exits
-use Rattle.bw_plan.specs.declared.fault.RecordingKind.{RecordingKind}
-use Rattle.bw_plan.specs.declared.fault.RecordingKind.TheVariants as recordings
-use Rattle.bw_recorder.specs.Openings.{exit_unread, exit_on_kind}
+use Rattle.bw_recorder.proofs.Statuses.{device_ends, kind_ends, memory_ends, refused_ends, unopened_ends, unread_ends}
 use Rattle.bw_upload.specs.Fed.{OffersFeed}
 use Rattle.bw_upload.specs.Links.{says_done}
 use Rattle.bw_upload.specs.declared.outcome.Outcome.{Outcome}
@@ -24,28 +18,6 @@ use Rattle.bw_send_file.specs.Endings.{EndsAfter, IsFileReport, IsOutcomeReport}
 use Rattle.bw_send_file.specs.Sendings.{StoresAll}
 use Rattle.bw_send_file.specs.declared.fault.FeedFault.{FeedFault}
 use Rattle.bw_send_file.specs.declared.fault.FeedFault.TheVariants.{Unread, Unstamped, Changed, Unsendable, Memory, Refused}
-
-refused_ends : exits.Refused ≡ exits.Done → ⊥
-refused_ends e = cc
-
-device_ends : exits.Device ≡ exits.Done → ⊥
-device_ends e = cc
-
-memory_ends : exits.Memory ≡ exits.Done → ⊥
-memory_ends e = cc
-
-unread_ends : (k : InspectKind) → exit_unread k ≡ exits.Done → ⊥
-unread_ends kinds.Read e = device_ends e
-unread_ends kinds.Memory e = memory_ends e
-unread_ends _ e = refused_ends e
-
-kind_ends : (k : RecordingKind) → exit_on_kind k ≡ exits.Done → ⊥
-kind_ends (recordings.Unread k) e = unread_ends k e
-kind_ends _ e = refused_ends e
-
-unopened_ends : (k : ErrorKind) → exit_unopened k ≡ exits.Done → ⊥
-unopened_ends errors.OutOfMemory e = memory_ends e
-unopened_ends _ e = device_ends e
 
 opening_ends : (path : List ℕ) (kind : ErrorKind) (did : Did) → IsUnopened path kind did ⊎ IsOutOfMemory did →
     did.exit ≡ exits.Done → ⊥
@@ -90,9 +62,3 @@ stores_after path first requests s outcome did ends feeds done =
           ∙ ap (λ (rest : List Request). feeds.given ++ rest) (sym (feeds.none_left says)) ∙ sym feeds.all);
       stored = feeds.stored says;
     }
-
-pub stores_all : (path name : List ℕ) (requests : List Request) (s : Sender) (outcome : Outcome FeedFault) (did : Did) →
-    EndsAfter path s outcome did → OffersFeed (new_sender name) requests (says_done outcome) s →
-    did.exit ≡ exits.Done → StoresAll requests s
-stores_all path name requests s outcome did ends feeds done =
-    stores_after path (new_sender name) requests s outcome did ends feeds done

@@ -62,7 +62,8 @@ IsFileReport path Memory exit print = EndsWithLine memory_line exits.Memory exit
 abbrev pub IsOutcomeReport : List ℕ → Outcome FeedFault → Exit → Print → Type 0
 IsOutcomeReport path outcomes.Done exit print = (exit ≡ exits.Done) × (print ≡ Nothing)
 IsOutcomeReport path (outcomes.Refused n v) exit print = (exit ≡ exits.Refused) × (print ≡ Nothing)
-IsOutcomeReport path (outcomes.Conflict n) exit print = EndsWithLine (conflict_line n) exits.Refused exit print
+IsOutcomeReport path (outcomes.Conflict n) exit print =
+    EndsWithLine (conflict_line n) exits.Refused exit print
 IsOutcomeReport path (outcomes.TooFar n) exit print = EndsWithLine (too_far_line n) exits.Refused exit print
 IsOutcomeReport path (outcomes.NotOffered error) exit print =
     EndsWithLine not_offered_line exits.Refused exit print

@@ -1,5 +1,5 @@
 -- What the requests of a feed are sent by, and how that ends.
-use Rattle.std.specs.Prelude.{◌≡◌, ◌⊎◌, ℕ, List, Option}
+use Rattle.std.specs.Prelude.{◌≡◌, ◌⊎◌, ◌++◌, ℕ, List, Option}
 use Rattle.bw_model.specs.Take.{Request}
 use Rattle.bw_model.specs.World.{Sender as Defined}
 use Rattle.bw_stream.specs.declared.sink.Sink.{Ghosts as Writer}
@@ -35,16 +35,22 @@ pub record StoresAll (requests : List Request) (s : Defined) : Type 0 where
 
 module _ {F P D R W : Type 0} (feed : FeedGhosts F FeedFault) (pause : PauseGhosts P)
     (dial : DialGhosts D R W) (reader : Reader R) (writer : Writer W) where
-  -- a new sender's upload of what the feed gives went so
-  pub record SendsFeed (e : Errand) (f f' : F) (old new : Ways P D) (did : Did) : Type 0 where
+  -- from this sender on, to which the first requests may have been offered, the upload of what the
+  -- feed gives went so
+  pub record SendsFeedAfter (s : Defined) (e : Errand) (f f' : F) (old new : Ways P D) (did : Did)
+      : Type 0 where
     pub outcome : Outcome FeedFault
     pub sender : Sender
-    pub went : Uploads feed pause dial reader writer e.most (new_sender e.name) sender outcome f f'
+    pub went : Uploads feed pause dial reader writer e.most s sender outcome f f'
         old.pause new.pause old.dial new.dial
     pub ends : EndsAfter e.path went.last.filling.sender outcome did
-    -- with the status 0 all that the feed was to give is stored
+    -- with the status 0 the first ones and all that the feed was to give are stored
     pub done : did.exit ≡ exits.Done → (requests : List Request) → feed.left f requests →
-        StoresAll requests went.last.filling.sender
+        StoresAll (s.offered ++ requests) went.last.filling.sender
+
+  -- a new sender's went so
+  abbrev pub SendsFeed : Errand → F → F → Ways P D → Ways P D → Did → Type 0
+  SendsFeed e = SendsFeedAfter (new_sender e.name) e
 
   -- memory was refused before anything was sent
   pub record SendsNothing (f f' : F) (old new : Ways P D) (did : Did) : Type 0 where
@@ -52,5 +58,9 @@ module _ {F P D R W : Type 0} (feed : FeedGhosts F FeedFault) (pause : PauseGhos
     pub unsent : new ≡ old
     pub ends : IsOutOfMemory did
 
+  abbrev pub IsFeedSentAfter : Defined → Errand → F → F → Ways P D → Ways P D → Did → Type 0
+  IsFeedSentAfter s e f f' old new did =
+      SendsFeedAfter s e f f' old new did ⊎ SendsNothing f f' old new did
+
   abbrev pub IsFeedSent : Errand → F → F → Ways P D → Ways P D → Did → Type 0
-  IsFeedSent e f f' old new did = SendsFeed e f f' old new did ⊎ SendsNothing f f' old new did
+  IsFeedSent e = IsFeedSentAfter (new_sender e.name) e

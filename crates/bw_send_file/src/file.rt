@@ -10,13 +10,12 @@ ghost use Rattle.bw_send_file.specs.FileSendings.{FeedsRecording, IsFileSent};
 use crate::feed::PlanFeed;
 use crate::job::Recorder;
 use crate::sending::send_feed;
-use bw_console::print::give_up;
-use bw_console::{Exit, Fault};
-use bw_inspect::InspectKind;
-use bw_plan::{Options, RecordingFault, RecordingKind};
+use bw_console::Exit;
+use bw_plan::Options;
 use bw_ports::{Dial, Pause, RecordingFiles};
 use bw_recorder::{
-    OpenFault, RecordingFile, open_recording, options_of, refuse_settings, report_open_fault, warn,
+    NO_MEMORY, OpenFault, RecordingFile, open_recording, read_options, refuse_options,
+    report_open_fault, warn,
 };
 use bw_stream::Sink;
 use bw_upload::{Feed, Observer};
@@ -53,10 +52,9 @@ pub fn send_file<F: RecordingFiles, P: Pause, D: Dial, V: Observer, W: Sink, E: 
         × (F.failures files.new ≡ failures_if did.is_system_well (F.failures files.old))
         × HasPacked W.Sink E.Sink did out.old out.new faults.old faults.new }
 {
-    let options = match options_of(alloc, file) {
-        Ok(Some(options)) => options,
-        Ok(None) => return refuse_settings(faults),
-        Err(_) => return give_up(faults, &Fault::Memory),
+    let options = match read_options(alloc, file) {
+        Ok(options) => options,
+        Err(fault) => return refuse_options(fault, faults),
     };
     match open_feed(alloc, files, file.path, &options) {
         Ok(mut opened) => {
@@ -85,12 +83,6 @@ pub struct Sendable<R, S> {
     /// A line for each thing that the recording loses of its file.
     pub warnings: Vec<u8>,
 }
-
-/// Memory was refused before the file was opened.
-const NO_MEMORY: RecordingFault = RecordingFault {
-    kind: RecordingKind::Unread(InspectKind::Memory),
-    offset: 0,
-};
 
 /// Looks at the file at a path, and opens its recording.
 ///

@@ -4,17 +4,16 @@ ghost use Rattle.bw_console.specs.Outcomes.{HasWritten, Outcome as Did};
 ghost use Rattle.bw_model.specs.Wire.{Second, last_number};
 ghost use Rattle.bw_model.specs.World.{Sender as Defined};
 ghost use Rattle.bw_sender.specs.Senders.{HasStored};
-ghost use Rattle.bw_send_file.specs.Resumptions.{IsFeedSentAfter};
+ghost use Rattle.bw_send_file.specs.Sendings.{IsFeedSentAfter};
 
-use crate::ending::report_end;
 use crate::fault::FeedFault;
 use crate::job::Recorder;
-use bw_console::print::give_up;
-use bw_console::{Exit, Fault};
+use crate::sending::send_by;
+use bw_console::Exit;
 use bw_ports::{Dial, Pause};
 use bw_sender::Sender;
 use bw_stream::Sink;
-use bw_upload::{Feed, Observer, upload};
+use bw_upload::{Feed, Observer};
 use std::alloc::Global;
 
 /// Sends what a feed gives as `send_feed` does, after the first `count` requests of the take, which
@@ -50,17 +49,8 @@ pub fn send_feed_after<
         (record { pause = pause.new; dial = dial.new }) did
         × HasWritten W.Sink E.Sink did out.old out.new faults.old faults.new }
 {
-    let Ok(sender) = Sender::resume(alloc, recorder.name.copy(), count) else {
-        return give_up(faults, &Fault::Memory);
-    };
-    let uploaded = upload(
-        alloc,
-        sender,
-        recorder.fruitless,
-        feed,
-        pause,
-        dial,
-        observer,
-    );
-    report_end(alloc, path, &uploaded, out, faults)
+    let sender = Sender::resume(alloc, recorder.name.copy(), count);
+    send_by(
+        alloc, sender, recorder, path, feed, pause, dial, observer, out, faults,
+    )
 }

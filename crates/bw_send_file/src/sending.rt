@@ -1,7 +1,9 @@
 //! The requests of a feed are sent, and its end is reported.
-ghost use Rattle.std.specs.Prelude.{◌≡◌};
+ghost use Rattle.std.specs.Prelude.{◌≡◌, IfOk};
 ghost use Rattle.bw_console.specs.Outcomes.{HasWritten, Outcome as Did};
-ghost use Rattle.bw_send_file.specs.Sendings.{IsFeedSent};
+ghost use Rattle.bw_model.specs.World.{Sender as Defined};
+ghost use Rattle.bw_sender.specs.Senders.{IsSender};
+ghost use Rattle.bw_send_file.specs.Sendings.{IsFeedSent, IsFeedSentAfter};
 
 use crate::ending::report_end;
 use crate::fault::FeedFault;
@@ -12,7 +14,7 @@ use bw_ports::{Dial, Pause};
 use bw_sender::Sender;
 use bw_stream::Sink;
 use bw_upload::{Feed, Observer, upload};
-use std::alloc::Global;
+use std::alloc::{AllocError, Global};
 
 /// Sends what a feed gives of the file at a path, as a recorder, and prints how many requests are
 /// settled and stored, and which are refused. Unless all are stored or one is refused, a line on
@@ -45,7 +47,34 @@ pub fn send_feed<X: Feed<Fault = FeedFault>, P: Pause, D: Dial, V: Observer, W: 
         (record { pause = pause.new; dial = dial.new }) did
         × HasWritten W.Sink E.Sink did out.old out.new faults.old faults.new }
 {
-    let Ok(sender) = Sender::new(alloc, recorder.name.copy()) else {
+    let sender = Sender::new(alloc, recorder.name.copy());
+    send_by(
+        alloc, sender, recorder, path, feed, pause, dial, observer, out, faults,
+    )
+}
+
+/// Sends what a feed gives of the file at a path as `send_feed` does, by this sender; or reports that
+/// memory was refused for it.
+pub(crate) fn send_by<X: Feed<Fault = FeedFault>, P: Pause, D: Dial, V: Observer, W: Sink, E: Sink>(
+    alloc: Global,
+    sender: Result<Sender, AllocError>,
+    recorder: &Recorder<'_>,
+    path: &str,
+    feed: &mut X,
+    pause: &mut P,
+    dial: &mut D,
+    observer: &mut V,
+    out: &mut W,
+    faults: &mut E,
+) -> Exit
+    ensures { (s : Defined) → IfOk sender (IsSender s) → (did : Did) × (did.exit ≡ result)
+        × IsFeedSentAfter X.Feed P.Pause D.Dial D.Reader.Source D.Writer.Sink s
+        (record { name = recorder.now.name.now; path = path.now; most = recorder.now.fruitless })
+        feed.old feed.new (record { pause = pause.old; dial = dial.old })
+        (record { pause = pause.new; dial = dial.new }) did
+        × HasWritten W.Sink E.Sink did out.old out.new faults.old faults.new }
+{
+    let Ok(sender) = sender else {
         return give_up(faults, &Fault::Memory);
     };
     let uploaded = upload(

@@ -9,12 +9,10 @@ ghost use Rattle.bw_send_pcm.specs.PcmSendings.{IsPcmSent, OpensSamples};
 
 use crate::job::PcmFile;
 use crate::sending::send_opened;
-use bw_console::print::give_up;
-use bw_console::{Exit, Fault};
-use bw_inspect::InspectKind;
-use bw_plan::{Options, Pcm, Plan, RecordingFault, RecordingKind, block_frames};
+use bw_console::Exit;
+use bw_plan::{Options, Pcm, Plan, block_frames};
 use bw_ports::{Dial, Pause, RecordingFiles};
-use bw_recorder::{OpenFault, options_of, refuse_settings, unread};
+use bw_recorder::{NO_MEMORY, OpenFault, read_options, refuse_options, unread};
 use bw_send_file::{PlanFeed, Recorder};
 use bw_stream::Sink;
 use bw_upload::{Feed, Observer};
@@ -54,10 +52,9 @@ pub fn send_samples<F: RecordingFiles, P: Pause, D: Dial, V: Observer, W: Sink, 
         × (F.failures files.new ≡ failures_if did.is_system_well (F.failures files.old))
         × HasPacked W.Sink E.Sink did out.old out.new faults.old faults.new }
 {
-    let options = match options_of(alloc, &file.file) {
-        Ok(Some(options)) => options,
-        Ok(None) => return refuse_settings(faults),
-        Err(_) => return give_up(faults, &Fault::Memory),
+    let options = match read_options(alloc, &file.file) {
+        Ok(options) => options,
+        Err(fault) => return refuse_options(fault, faults),
     };
     let opened = open_samples(alloc, files, file.file.path, file.pcm, &options);
     send_opened(
@@ -72,12 +69,6 @@ pub fn send_samples<F: RecordingFiles, P: Pause, D: Dial, V: Observer, W: Sink, 
         faults,
     )
 }
-
-/// Memory was refused before the file was opened.
-const NO_MEMORY: RecordingFault = RecordingFault {
-    kind: RecordingKind::Unread(InspectKind::Memory),
-    offset: 0,
-};
 
 /// Looks at the file at a path, and opens its samples.
 ///

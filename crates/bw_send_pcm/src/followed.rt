@@ -9,12 +9,11 @@ ghost use Rattle.bw_send_pcm.specs.PcmSendings.{FollowsFile, IsKnownLen, IsPcmSe
 use crate::feed::PcmFeed;
 use crate::job::PcmFile;
 use crate::sending::send_opened;
-use bw_console::print::give_up;
-use bw_console::{Exit, Fault};
+use bw_console::Exit;
 use bw_follow::PcmRequests;
 use bw_plan::{Options, Pcm};
 use bw_ports::{Dial, Pause, RecordingFiles};
-use bw_recorder::{OpenFault, options_of, refuse_settings};
+use bw_recorder::{OpenFault, read_options, refuse_options};
 use bw_send_file::Recorder;
 use bw_stream::Sink;
 use bw_upload::{Feed, Observer};
@@ -58,10 +57,9 @@ pub fn follow_samples<F: RecordingFiles, P: Pause, D: Dial, V: Observer, W: Sink
         × (F.failures files.new ≡ failures_if did.is_system_well (F.failures files.old))
         × HasPacked W.Sink E.Sink did out.old out.new faults.old faults.new }
 {
-    let options = match options_of(alloc, &file.file) {
-        Ok(Some(options)) => options,
-        Ok(None) => return refuse_settings(faults),
-        Err(_) => return give_up(faults, &Fault::Memory),
+    let options = match read_options(alloc, &file.file) {
+        Ok(options) => options,
+        Err(fault) => return refuse_options(fault, faults),
     };
     let opened = open_followed(alloc, files, file.file.path, until, file.pcm, &options);
     send_opened(

@@ -1,17 +1,19 @@
 -- What is reported of a state.
-use Rattle.std.proofs.Common.{◌≡◌, ◌≢◌, ℕ, List, Result, Ok, Err, IfOk, refl}
+use Rattle.std.proofs.Common.{◌≡◌, ◌⊎◌, ◌∙◌, ℕ, List, inl, inr, sym}
 use Rattle.std.specs.declared.io.ErrorKind.{ErrorKind}
-use Rattle.std.specs.declared.io.ErrorKind.TheVariants as kinds
-use Rattle.bw_console.specs.Openings.{exit_unopened}
-use Rattle.bw_console.specs.declared.exit.Exit.TheVariants as exits
+use Rattle.bw_stream.specs.declared.sink.Sink.{Ghosts as Writer}
+use Rattle.bw_console.specs.Openings.{ReportsFailure}
+use Rattle.bw_console.specs.Outcomes.{IsOutOfMemory, Outcome}
+use Rattle.bw_console.specs.Printing.{IsPrint, Print}
+use Rattle.bw_console.specs.declared.exit.Exit.{Exit}
+use Rattle.bw_send_state.specs.StateReports.{ReportsUnkept, unkept_text}
 
--- a line with some reason is the line with this one
-pub reasoned : {X Y : Type 0} (r : Result X Y) (bytes : X → List ℕ) (line : List ℕ → List ℕ) (reason : List ℕ)
-    → IfOk r (λ x. bytes x ≡ line reason) → IfOk r (λ x. (why : List ℕ) × (bytes x ≡ line why))
-reasoned (Ok x) bytes line reason h = (reason, h)
-reasoned (Err e) bytes line reason h = tt
-
--- a file that isn't kept is a device that failed, unless memory was refused
-pub exit_device : (kind : ErrorKind) → kind ≢ kinds.OutOfMemory → exit_unopened kind ≡ exits.Device
-exit_device kinds.OutOfMemory n = absurd (n refl)
-exit_device _ n = refl
+-- a failure that is reported so is one to keep the state
+pub unkept : {E : Type 0} (writer : Writer E) (path : List ℕ) (kind : ErrorKind) (exit : Exit) (faults faults' : E) →
+    ((did : Outcome) × (did.exit ≡ exit) × (ReportsFailure (unkept_text path) kind did ⊎ IsOutOfMemory did)
+    × IsPrint writer did.faults faults faults') →
+    (print : Print) × ReportsUnkept path kind exit print × IsPrint writer print faults faults'
+unkept writer path kind exit faults faults' (did, same, inl x, printed) =
+    (did.faults, inl (x.reason, (sym same ∙ x.exit_is, x.reports)), printed)
+unkept writer path kind exit faults faults' (did, same, inr x, printed) =
+    (did.faults, inr (sym same ∙ x.exit_is, x.reports), printed)

@@ -10,7 +10,7 @@ use Rattle.bw_ports.specs.declared.pause.Pause.{Ghosts as PauseGhosts}
 use Rattle.bw_console.specs.Outcomes.{Outcome as Did}
 use Rattle.bw_console.specs.declared.exit.Exit.TheVariants as exits
 use Rattle.bw_upload.specs.declared.feed.Feed.{Ghosts as FeedGhosts}
-use Rattle.bw_send_file.specs.Resumptions.{IsFeedSentAfter}
+use Rattle.bw_send_file.specs.Sendings.{IsFeedSentAfter}
 use Rattle.bw_send_file.specs.Sendings.{Errand, StoresAll, Ways}
 use Rattle.bw_send_file.specs.declared.fault.FeedFault.{FeedFault}
 use Rattle.bw_send_state.specs.SentOn.{UploadsAll, WasStoredBefore}

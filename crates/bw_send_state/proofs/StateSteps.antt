@@ -3,17 +3,16 @@ use Rattle.std.proofs.Common.{◌≡◌, ◌∙◌, ℕ, List, MatchOption, None
 use Rattle.std.specs.IoError.{error_kind}
 use Rattle.std.specs.declared.io.Error.{Error}
 use Rattle.std.specs.declared.io.ErrorKind.{ErrorKind}
-use Rattle.std.specs.declared.io.ErrorKind.TheVariants as kinds
 use Rattle.bw_stream.specs.declared.sink.Sink.{Ghosts as Writer}
 use Rattle.bw_stream.specs.declared.source.Source.{Ghosts as Reader}
 use Rattle.bw_ports.specs.declared.dial.Dial.{Ghosts as DialGhosts}
 use Rattle.bw_ports.specs.declared.pause.Pause.{Ghosts as PauseGhosts}
-use Rattle.bw_console.specs.Openings.{exit_unopened}
 use Rattle.bw_console.specs.Printing.{IsPrint, Nothing, Print}
 use Rattle.bw_console.specs.declared.exit.Exit.{Exit}
 use Rattle.bw_console.specs.declared.exit.Exit.TheVariants as exits
 use Rattle.bw_plan.specs.Recordings.{Options}
 use Rattle.bw_ports.specs.declared.recording_files.FileStamp.{FileStamp}
+use Rattle.bw_recorder.proofs.Statuses.{memory_ends, unopened_ends}
 use Rattle.bw_recorder.specs.Packs.{Packing}
 use Rattle.bw_send_file.specs.Sendings.{Ways}
 use Rattle.bw_send_state.proofs.AskSteps.{has_answered}
@@ -24,16 +23,6 @@ use Rattle.bw_send_state.specs.FoundCounts.{IsCountFound, IsStateFound, ResumesA
 use Rattle.bw_send_state.specs.StateReports.{ReportsUnkept}
 use Rattle.bw_send_state.specs.declared.job.Job.{Job}
 use Rattle.bw_send_state.specs.declared.place.Found.{Found}
-
-device_ends : exits.Device ≡ exits.Done → ⊥
-device_ends e = cc
-
-memory_ends : exits.Memory ≡ exits.Done → ⊥
-memory_ends e = cc
-
-unopened_ends : (k : ErrorKind) → exit_unopened k ≡ exits.Done → ⊥
-unopened_ends kinds.OutOfMemory e = memory_ends e
-unopened_ends _ e = device_ends e
 
 unkept_ends : (path : List ℕ) (kind : ErrorKind) (exit : Exit) (print : Print) → ReportsUnkept path kind exit print →
     exit ≡ exits.Done → ⊥

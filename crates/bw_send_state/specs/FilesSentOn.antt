@@ -10,18 +10,20 @@ use Rattle.bw_stream.specs.declared.source.Source.{Ghosts as Reader}
 use Rattle.bw_ports.specs.declared.dial.Dial.{Ghosts as DialGhosts}
 use Rattle.bw_ports.specs.declared.pause.Pause.{Ghosts as PauseGhosts}
 use Rattle.bw_ports.specs.declared.recording_files.FileStamp.{FileStamp}
+use Rattle.bw_ports.specs.declared.recording_files.RecordingFiles.{Ghosts as FileGhosts}
 use Rattle.bw_console.specs.Outcomes.{Outcome as Did}
 use Rattle.bw_console.specs.Printing.{Print, Nothing, IsPrint}
 use Rattle.bw_console.specs.declared.exit.Exit.{Exit}
 use Rattle.bw_console.specs.declared.exit.Exit.TheVariants as exits
 use Rattle.bw_plan.specs.Recordings.{Options}
-use Rattle.bw_recorder.specs.Packs.{HasPacked, IsNotOpened, IsReportedText, Packing, RefusesSettings, RunsOutOfMemory}
+use Rattle.bw_recorder.specs.Packs.{HasPacked, IsNotOpened, IsReportedText, Packing, RefusesAtOnce}
 use Rattle.bw_recorder.specs.SettingLists.{options_of}
+use Rattle.bw_resume.specs.declared.state_files.StateFiles.{Ghosts as StateGhosts}
 use Rattle.bw_resume.specs.declared.state_files.StateLog.{Ghosts as LogGhosts}
 use Rattle.bw_upload.specs.declared.feed.Feed.{Ghosts as FeedGhosts}
 use Rattle.bw_send_file.specs.Endings.{EndsWithLine, IsFileReport, fruitless_line, memory_line}
 use Rattle.bw_send_file.specs.FileSendings.{FeedsRecording, errand_of}
-use Rattle.bw_send_file.specs.Resumptions.{IsFeedSentAfter}
+use Rattle.bw_send_file.specs.Sendings.{IsFeedSentAfter}
 use Rattle.bw_send_file.specs.Sendings.{Ways}
 use Rattle.bw_send_file.specs.declared.fault.FeedFault.{FeedFault}
 use Rattle.bw_send_file.specs.declared.fault.FeedFault.TheVariants.{Changed}
@@ -53,6 +55,11 @@ pub record Outside : Type 0 where
 
 abbrev pub outside_of : KnownFile → (List ℕ → Option (List ℕ)) → (List ℕ → Option (List ℕ)) → Outside
 outside_of file states states' = record { file = file; states = states; states' = states' }
+
+-- .. as files and states say that give themselves so
+abbrev pub outside_by : {F H G M B L : Type 0} → FileGhosts F H G M → StateGhosts B L → Job → F → B → B → Outside
+outside_by files states job f s s' =
+    outside_of (known_file_of job (files.file_at f) (files.stamp_at f)) (states.state_at s) (states.state_at s')
 
 -- what is waited by, and what links are made by
 abbrev pub ways : {P D : Type 0} → P → D → Ways P D
@@ -137,7 +144,8 @@ pub record KnowsState (job : Job) (o : Options) (outside : Outside) (header : Li
       IsHeaderFor job.recorder.name.now job.place.address.now outside.file.stamp o b header)
   pub says : IsStateFound (outside.states job.place.path.now) header found
 
-module _ {F : Type 0} (feed : FeedGhosts F FeedFault) (looks_at : Option FileStamp → F → Type 0) (job : Job) where
+module _ {F : Type 0} (feed : FeedGhosts F FeedFault) (looks_at : Option FileStamp → F → Type 0)
+    (job : Job) where
   -- the opened file gives the recording's requests, and this says what it loses
   pub record OpensFile (o : Options) (file : KnownFile) (begun : F) (text : List ℕ) : Type 0 where
     pub looked : looks_at file.stamp begun
@@ -308,9 +316,8 @@ module _ {F P D R W : Type 0} (side : SendingSide F P D R W) (job : Job) where
 
   -- what is set can't be read, or memory was refused
   abbrev pub RefusesJob : Packing → Type 0
-  RefusesJob did =
-      RefusesSettings (map string_bytes job.file.settings.now) job.file.is_strict job.file.frames did
-      ⊎ RunsOutOfMemory did
+  RefusesJob =
+      RefusesAtOnce (map string_bytes job.file.settings.now) job.file.is_strict job.file.frames
 
   -- the command did this
   abbrev pub IsFileSentOn : {L : Type 0} → LogGhosts L → Outside → Ways P D → Ways P D → Continuation → Type 0

@@ -8,7 +8,7 @@ ghost use Rattle.bw_resume.specs.Counts.{most_settled};
 ghost use Rattle.bw_resume.specs.States.{state_bytes};
 ghost use Rattle.bw_send_file.specs.FileLooks.{LooksAt};
 ghost use Rattle.bw_send_state.specs.FilesSentOn.{BeginsState, Continuation, HasReported};
-ghost use Rattle.bw_send_state.specs.FilesSentOn.{StopsBeforeSending, known_file_of, outside_of};
+ghost use Rattle.bw_send_state.specs.FilesSentOn.{StopsBeforeSending, outside_by};
 ghost use Rattle.bw_send_state.specs.FilesSentOn.{sending_side, ways};
 ghost use Rattle.bw_send_state.specs.FoundCounts.{BeginsLog, counts_begun, goes_on as is_gone_on};
 ghost use Rattle.bw_stream.specs.Moves.{one_more};
@@ -60,19 +60,16 @@ pub(crate) fn begin<F: RecordingFiles, B: StateFiles, P: Pause, D: Dial, E: Sink
     ensures stamps { F.stamp_at files.new ≡ F.stamp_at files.old }
     ensures ok { IfOk result (λ x. (began : Print)
         × BeginsState (sending_side ⟦<PlanFeed<F::File, F::Stamped> as Feed>⟧
-        (LooksAt F.Stamped.Stamped) P.Pause D.Dial D.Reader.Source D.Writer.Sink) job.now
-        options.now (outside_of (known_file_of job.now (F.file_at files.old) (F.stamp_at files.old))
-        (B.state_at states.old) (B.state_at states.new)) x.count (B.Log.written x.log)
-        (ways pause.old dial.old) (ways pause.new dial.new) began
-        × (F.failures files.new ≡ F.failures files.old)
-        × (B.failures states.new ≡ B.failures states.old)
+        (LooksAt F.Stamped.Stamped) P.Pause D.Dial D.Reader.Source D.Writer.Sink) job.now options.now
+        (outside_by F.RecordingFiles B.StateFiles job.now files.old states.old states.new) x.count
+        (B.Log.written x.log) (ways pause.old dial.old) (ways pause.new dial.new) began
+        × (F.failures files.new ≡ F.failures files.old) × (B.failures states.new ≡ B.failures states.old)
         × IsPrint E.Sink began faults.old faults.new) }
     ensures err { IfErr result (λ exit. (did : Continuation) × (did.exit ≡ exit)
         × StopsBeforeSending (sending_side ⟦<PlanFeed<F::File, F::Stamped> as Feed>⟧
-        (LooksAt F.Stamped.Stamped) P.Pause D.Dial D.Reader.Source D.Writer.Sink) job.now
-        options.now (outside_of (known_file_of job.now (F.file_at files.old) (F.stamp_at files.old))
-        (B.state_at states.old) (B.state_at states.new)) (ways pause.old dial.old)
-        (ways pause.new dial.new) did
+        (LooksAt F.Stamped.Stamped) P.Pause D.Dial D.Reader.Source D.Writer.Sink) job.now options.now
+        (outside_by F.RecordingFiles B.StateFiles job.now files.old states.old states.new)
+        (ways pause.old dial.old) (ways pause.new dial.new) did
         × (F.failures files.new ≡ failures_if did.sent.is_system_well (F.failures files.old))
         × (B.failures states.new ≡ failures_if did.is_state_well (B.failures states.old))
         × HasReported E.Sink did faults.old faults.new) }

@@ -3,7 +3,7 @@ ghost use Rattle.std.specs.Prelude.{◌≡◌};
 ghost use Rattle.bw_console.specs.Printing.{failures_if};
 ghost use Rattle.bw_send_file.specs.FileLooks.{LooksAt};
 ghost use Rattle.bw_send_state.specs.FilesSentOn.{Continuation, HasContinued, IsFileSentOn};
-ghost use Rattle.bw_send_state.specs.FilesSentOn.{known_file_of, outside_of, sending_side, ways};
+ghost use Rattle.bw_send_state.specs.FilesSentOn.{outside_by, sending_side, ways};
 
 use crate::beginning::{Beginning, begin};
 use crate::job::Job;
@@ -11,10 +11,9 @@ use crate::keeper::StateKeeper;
 use crate::observers::Observers;
 use crate::reports::report_end;
 use crate::rest::send_rest;
-use bw_console::print::give_up;
-use bw_console::{Exit, Fault};
+use bw_console::Exit;
 use bw_ports::{Dial, Pause, RecordingFiles};
-use bw_recorder::{options_of, refuse_settings};
+use bw_recorder::{read_options, refuse_options};
 use bw_resume::{StateFiles, Stopwatch};
 use bw_send_file::PlanFeed;
 use bw_stream::Sink;
@@ -59,17 +58,15 @@ pub fn send_file_on<
     ensures { (did : Continuation) × (did.exit ≡ result)
         × IsFileSentOn (sending_side ⟦<PlanFeed<F::File, F::Stamped> as Feed>⟧
         (LooksAt F.Stamped.Stamped) P.Pause D.Dial D.Reader.Source D.Writer.Sink) job.now
-        B.Log.StateLog (outside_of (known_file_of job.now (F.file_at files.old) (F.stamp_at files.old))
-        (B.state_at states.old) (B.state_at states.new))
+        B.Log.StateLog (outside_by F.RecordingFiles B.StateFiles job.now files.old states.old states.new)
         (ways pause.old dial.old) (ways pause.new dial.new) did
         × (F.failures files.new ≡ failures_if did.sent.is_system_well (F.failures files.old))
         × (B.failures states.new ≡ failures_if did.is_state_well (B.failures states.old))
         × HasContinued W.Sink E.Sink did out.old out.new faults.old faults.new }
 {
-    let options = match options_of(alloc, &job.file) {
-        Ok(Some(options)) => options,
-        Ok(None) => return refuse_settings(faults),
-        Err(_) => return give_up(faults, &Fault::Memory),
+    let options = match read_options(alloc, &job.file) {
+        Ok(options) => options,
+        Err(fault) => return refuse_options(fault, faults),
     };
     let beginning = match begin(alloc, job, &options, files, states, pause, dial, faults) {
         Ok(beginning) => beginning,

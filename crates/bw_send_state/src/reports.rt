@@ -5,11 +5,11 @@ ghost use Rattle.bw_console.specs.Printing.{IsPrint, Nothing, Print};
 ghost use Rattle.bw_send_state.specs.StateReports.{ReportsStart, ReportsUnkept};
 ghost use Rattle.bw_send_state.specs.StateReports.{start_text, unkept_text};
 
-use bw_console::print::{give_up, print_diagnostic};
-use bw_console::{Exit, Fault};
+use bw_console::print::print_diagnostic;
+use bw_console::{Exit, report_failure};
 use bw_stream::Sink;
 use std::alloc::{AllocError, Global};
-use std::io::{self, ErrorKind};
+use std::io;
 
 /// Reports that a state isn't kept, if it isn't. Returns how the command ends that would end by
 /// `exit` else.
@@ -41,14 +41,7 @@ pub(crate) fn report_unkept<E: Sink>(
     ensures { (print : Print) × ReportsUnkept path.now (error_kind error.now) result print
         × IsPrint E.Sink print faults.old faults.new }
 {
-    let Ok(line) = unkept_line(alloc, path, error) else {
-        return give_up(faults, &Fault::Memory);
-    };
-    print_diagnostic(faults, line.as_str().as_bytes());
-    match error.kind() {
-        ErrorKind::OutOfMemory => Exit::Memory,
-        _ => Exit::Device,
-    }
+    report_failure(unkept_line(alloc, path, error), error, faults)
 }
 
 fn unkept_line(alloc: Global, path: &str, error: &io::Error) -> Result<String, AllocError>

@@ -58,7 +58,8 @@ pub record PeerSlotOf {L : Type 0} (G : LinkGhosts L) (c : EventLoop L) (trace :
 
 -- this holds for each connection that is there
 abbrev pub CountsOwn : {L : Type 0} → LinkGhosts L → EventLoop L → List Tagged → Type 0
-CountsOwn {L} G c trace = (i : ℕ) (d : Connection L) → HoldsConnectionAt c.connections i d → PeerSlotOf G c trace i d
+CountsOwn {L} G c trace =
+    (i : ℕ) (d : Connection L) → HoldsConnectionAt c.connections i d → PeerSlotOf G c trace i d
 
 -- none of these frames came over one of these connections
 abbrev pub AreSilent : {L : Type 0} → List (Closed L) → List Tagged → Type 0
@@ -86,7 +87,8 @@ AcceptsPeer {L} now d = (link : L) × (number : ℕ) × BeginsConnection link nu
 -- each connection that was at a place is still there, as it was, and each other one was accepted at
 -- this time
 pub record LetsIn {L : Type 0} (now : ℕ) (c c' : EventLoop L) : Type 0 where
-  pub stands : (i : ℕ) (d : Connection L) → HoldsConnectionAt c.connections i d → HoldsConnectionAt c'.connections i d
+  pub stands : (i : ℕ) (d : Connection L) → HoldsConnectionAt c.connections i d →
+      HoldsConnectionAt c'.connections i d
   pub received : (i : ℕ) (d : Connection L) → HoldsConnectionAt c'.connections i d →
       HoldsConnectionAt c.connections i d ⊎ AcceptsPeer now d
 
@@ -124,7 +126,8 @@ module _ {L S : Type 0} (G : LinkGhosts L) (answers : S → Frame → List Reply
     pub peer_slot' : PeerSlot
     pub sets : SetsPlace c.peer_slots.items place peer_slot' c'.peer_slots.items
     pub address : peer_slot'.address ≡ peer_slot.address
-    pub counted : peer_slot'.link_stats ≡ fold counting_frame peer_slot.link_stats (answered_frames works.answered)
+    pub counted : peer_slot'.link_stats
+        ≡ fold counting_frame peer_slot.link_stats (answered_frames works.answered)
     pub peer_slots_are : vec_len c'.peer_slots ≡ vec_len c.peer_slots
     pub ended : c'.ended ≡ c.ended
 

@@ -24,4 +24,5 @@ pub record LogsAt {E : Type 0} (reported : Writer E) (log : Bool) (place : ℕ) 
     (peer_slots : List PeerSlot) (e e' : E) : Type 0 where
   pub peer_slot : PeerSlot
   pub stands : slice_get peer_slots place ≡ Some peer_slot
-  pub logs : Logs reported log (peer_line peer_slot.address (name_of_connection_end end) peer_slot.link_stats) e e'
+  pub logs : Logs reported log
+      (peer_line peer_slot.address (name_of_connection_end end) peer_slot.link_stats) e e'

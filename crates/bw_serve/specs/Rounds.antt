@@ -105,22 +105,21 @@ module _ {B L S O E : Type 0} (reactor : ReactorGhosts B L) (G : LinkGhosts L)
     pub lets_in : LetsIn (reactor.time b') noticed between
     pub welcomes : Welcomes reactor (reactor.time b') b b' noticed between
     pub asks : AsksIn reactor exchanges b' between
-    pub in_turn : InTurn G answers out reported log (reactor.time b') idle (connection_count between.connections)
-        between
-        c' s s' o o' e e'
+    pub in_turn : InTurn G answers out reported log (reactor.time b') idle
+        (connection_count between.connections) between c' s s' o o' e e'
 
   -- what it took from the connections, and ended
   abbrev pub frames_in_round : (idle exchanges : ℕ) (c c' : EventLoop L) (s s' : S) (b b' : B)
       (o o' : O) (e e' : E) → ServesRound idle exchanges c c' s s' b b' o o' e e' → List Tagged
   frames_in_round idle exchanges c c' s s' b b' o o' e e' round =
-      frames_in_turn G answers out reported log (reactor.time b') idle (connection_count round.between.connections)
-      round.between c' s s' o o' e e' round.in_turn
+      frames_in_turn G answers out reported log (reactor.time b') idle
+      (connection_count round.between.connections) round.between c' s s' o o' e e' round.in_turn
 
   abbrev pub ended_in_round : (idle exchanges : ℕ) (c c' : EventLoop L) (s s' : S) (b b' : B)
       (o o' : O) (e e' : E) → ServesRound idle exchanges c c' s s' b b' o o' e e' → List (Closed L)
   ended_in_round idle exchanges c c' s s' b b' o o' e e' round =
-      ended_in_turn G answers out reported log (reactor.time b') idle (connection_count round.between.connections)
-      round.between c' s s' o o' e e' round.in_turn
+      ended_in_turn G answers out reported log (reactor.time b') idle
+      (connection_count round.between.connections) round.between c' s s' o o' e e' round.in_turn
 
   -- this many rounds, one after another, each begun where fewer were over than are asked for
   abbrev pub ServesRounds : ℕ → ℕ → ℕ → EventLoop L → EventLoop L → S → S → B → B →

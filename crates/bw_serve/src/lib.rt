@@ -1,6 +1,6 @@
 //! Servers of recorders, one after another or many at once: peers are accepted, each connection
 //! gets a quantum a round, and each that ends is printed as a line. Sockets are in a crate above,
-//! behind `Peers` and `Reactor`.
+//! which implements `Peers` and `Reactor`.
 #![tactic(auto)]
 
 mod event_loop;

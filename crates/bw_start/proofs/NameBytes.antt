@@ -73,7 +73,7 @@ ascii (c ∷ xs) h = go (ascii xs p.1)
     go more zero = (plain c p.0).small
     go more (suc i) = more i
 
-small_ascii : (xs : List ℕ) → list_all (λ b. nat_lt b 128) xs ≡ true → IsAscii xs
+pub small_ascii : (xs : List ℕ) → list_all (λ b. nat_lt b 128) xs ≡ true → IsAscii xs
 small_ascii [] h = IsAscii-nil
 small_ascii (c ∷ xs) h = go (small_ascii xs p.1)
   where

@@ -181,7 +181,13 @@ fn judge_begun<D: Volume>(
 }
 
 /// The bytes of a take's file before its samples; none if it isn't opened.
-fn header_if(alloc: Global, state: &TakeState, limit: Limit) -> Result<Vec<u8>, ReadFault>
+///
+/// # Errors
+/// `Memory` if memory was refused.
+///
+/// # Not specified
+/// When memory is refused.
+pub fn header_if(alloc: Global, state: &TakeState, limit: Limit) -> Result<Vec<u8>, ReadFault>
     ensures { IfOk result (λ header. (f : Format) → state.now.parts.format ≡ Some f →
         IsFileHeader limit state.now.parts f header.items) }
 {
@@ -258,7 +264,7 @@ fn is_take_at<D: Volume>(disk: &mut D, alloc: Global, path: &str) -> Result<bool
 
 /// Whether a file with these first bytes, as many as there are up to 20, begins as a take of this
 /// server: with a RIFF form and JUNK, or a BW64 form and `ds64`, of 28 bytes.
-fn is_take(front: &[u8]) -> bool
+pub fn is_take(front: &[u8]) -> bool
     ensures { result ≡ begins_take front.now }
 {
     begins_with(front, b"RIFF", b"WAVEJUNK\x1c\0\0\0")

@@ -20,7 +20,8 @@ pub use adoption::{
     Adoption, FileFacts, Mending, data_end, data_place, file_len, header_of, judge_file,
 };
 pub use fault::FileFault;
-pub use finding::{Begun, Finding, NameFault, look};
+pub use finding::{Begun, Finding, NameFault, header_if, is_take, look};
+pub use lines::{file_cause, journal_cause};
 pub use listing::{FoundName, journal_name, list_names, look_at_each};
 pub use mending::mend;
 pub use paths::path_in;

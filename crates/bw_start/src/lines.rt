@@ -76,7 +76,7 @@ fn limit_cause(alloc: Global, limit: u32) -> Result<String, AllocError>
 }
 
 /// What is wrong with a journal.
-fn journal_cause(fault: ReplayFault) -> &'static str
+pub fn journal_cause(fault: ReplayFault) -> &'static str
     ensures { result.now ≡ journal_text fault }
 {
     match fault {
@@ -92,7 +92,7 @@ fn journal_cause(fault: ReplayFault) -> &'static str
 }
 
 /// What is wrong with a file.
-fn file_cause(fault: FileFault) -> &'static str
+pub fn file_cause(fault: FileFault) -> &'static str
     ensures { result.now ≡ file_cause_text fault }
 {
     match fault {

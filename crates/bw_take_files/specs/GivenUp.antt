@@ -66,7 +66,8 @@ StopsBoth p before after =
 -- what is left where a take isn't given up for this reason
 abbrev pub StaysUnlessFailedAt : TakePaths → GiveUpFault → (List ℕ → Option (List ℕ)) →
     (List ℕ → Option (List ℕ)) → Type 0
-StaysUnlessFailedAt p Unknown before after = (before p.notes ≡ None) × (before p.wave ≡ None) × KeepsEach before after
+StaysUnlessFailedAt p Unknown before after =
+    (before p.notes ≡ None) × (before p.wave ≡ None) × KeepsEach before after
 StaysUnlessFailedAt p Earlier before after =
     (IsBarred p.notes p.notes_to before ⊎ IsBarred p.wave p.wave_to before) × KeepsEach before after
 StaysUnlessFailedAt p Disk before after = StopsBoth p before after
@@ -79,7 +80,8 @@ PutsTakeAside folder name before after = PutsTakeAsideAt (paths_in folder name) 
 -- or it isn't, for this reason
 abbrev pub StaysUnlessFailed : List ℕ → List ℕ → GiveUpFault → (List ℕ → Option (List ℕ)) →
     (List ℕ → Option (List ℕ)) → Type 0
-StaysUnlessFailed folder name fault before after = StaysUnlessFailedAt (paths_in folder name) fault before after
+StaysUnlessFailed folder name fault before after =
+    StaysUnlessFailedAt (paths_in folder name) fault before after
 
 -- a call of the disk failed
 abbrev pub is_disk_failure : {T : Type 0} → Result T GiveUpFault → Bool
@@ -95,7 +97,8 @@ IsWayClear true from to = IsSome from × (to ≡ None)
 IsWayClear false from to = from ≡ None
 
 -- the same of a take's journal and file
-pub record AreWaysClear (standing : Standing) (p : TakePaths) (contents : List ℕ → Option (List ℕ)) : Type 0 where
+pub record AreWaysClear (standing : Standing) (p : TakePaths) (contents : List ℕ → Option (List ℕ))
+    : Type 0 where
   pub notes : IsWayClear standing.notes (contents p.notes) (contents p.notes_to)
   pub wave : IsWayClear standing.wave (contents p.wave) (contents p.wave_to)
 

@@ -1,13 +1,13 @@
 -- The takes that the files of a folder belong to.
-use Rattle.std.proofs.Common.{◌≡◌, ◌⊎◌, inl, inr, ℕ, zero, suc, ◌+◌, ◌<◌, ◌≤◌, Bool, true, false, cond, ◌&&◌, not, List, [], ◌∷◌, ◌++◌, length, take}
+use Rattle.std.proofs.Common.{◌≡◌, ◌⊎◌, inl, inr, ℕ, ◌+◌, ◌<◌, ◌≤◌, Bool, true, false, cond, ◌&&◌, not, List, [], ◌∷◌, ◌++◌, length, take}
 use Rattle.std.proofs.Common.{Option, Some, None, refl, sym, ◌∙◌, ap, subst, IsTrue}
-use Rattle.std.specs.Prelude.{◌↔◌, ◌==◌, IsSome, IfSome, nat_lt, get_or, codes, IsUtf8}
+use Rattle.std.specs.Prelude.{◌↔◌, ◌==◌, IsSome, IfSome, get_or, codes, IsUtf8}
 use Rattle.std.specs.Option.{SomeIff}
 use Rattle.std.specs.List.{All, Contains, list_all}
 use Rattle.std.specs.Ordering.{nat_cmp}
 use Rattle.std.specs.Cmp.Lexicographic.{slice_cmp}
 use Rattle.std.specs.BTreeSet.{BTreeSet, contains, Updates}
-use Rattle.std.proofs.lemmas.Bool.{and_parts, and_from, ltb-true}
+use Rattle.std.proofs.lemmas.Bool.{and_parts, and_from}
 use Rattle.std.proofs.lemmas.Cmp.{nat_list_cmp_total}
 use Rattle.std.proofs.lemmas.Map.Lookups.{exact_bytes}
 use Rattle.std.proofs.lemmas.Map.Views.{btree_set_contains_iff, tells_apart}
@@ -15,26 +15,13 @@ use Rattle.std.specs.BTreeMap.{is_at}
 use Rattle.std.proofs.lemmas.List.{take_all}
 use Rattle.std.proofs.lemmas.List.Folds.{list_all-append}
 use Rattle.std.proofs.lemmas.Str.{IsUtf8-append, IsUtf8-take, IsUtf8-from_ascii, IsCharBoundary-at_seam}
-use Rattle.std.proofs.lemmas.Str.Ascii.{IsAscii-nil}
-use Rattle.std.specs.Str.{IsAscii}
 use Rattle.std.proofs.Math.Seq.{take-append_seam}
 use Rattle.bw_model.specs.Wire.{is_name}
 use Rattle.bw_disk.specs.Volumes.{Lists, is_listed, in_folder}
 use Rattle.bw_start.proofs.PathLemmas.{path_listed, wave_no_notes}
-use Rattle.bw_start.proofs.NameBytes.{journal_is_listed, journal_is_utf8}
+use Rattle.bw_start.proofs.NameBytes.{journal_is_listed, journal_is_utf8, small_ascii}
 use Rattle.bw_start.proofs.ListForms.{contains_step}
 use Rattle.bw_takes.specs.TakeNames.{IsFileOf, IsTakeIn, ListsTakes, AddsTake}
-
-small_ascii : (xs : List ℕ) → list_all (λ b. nat_lt b 128) xs ≡ true → IsAscii xs
-small_ascii [] h = IsAscii-nil
-small_ascii (c ∷ xs) h = go (small_ascii xs p.1)
-  where
-    p : (nat_lt c 128 ≡ true) × (list_all (λ b. nat_lt b 128) xs ≡ true)
-    p = and_parts (nat_lt c 128) (list_all (λ b. nat_lt b 128) xs) h
-
-    go : IsAscii xs → IsAscii (c ∷ xs)
-    go more zero = ltb-true c 128 p.0
-    go more (suc i) = more i
 
 -- the file of a name has a name in UTF-8
 wave_is_utf8 : (name : List ℕ) → IsTrue (is_name name) → IsUtf8 (name ++ codes ".wav")

@@ -1,11 +1,9 @@
 //! What is found of a take: by its journal, and by its file as far as a start reads it.
 ghost use Rattle.std.specs.Prelude.{◌≡◌, ℕ, List, Option, Some, Ok, Err, Result, IsTrue, IfOk};
 ghost use Rattle.bw_disk.specs.DiskSteps.{StaysWhole};
-ghost use Rattle.bw_model.specs.Take.{Format};
 ghost use Rattle.bw_journal.specs.Faults.{IsJournalFault};
 ghost use Rattle.bw_journal.specs.Replays.{Story, JournalFault, NotBegun as not_begun};
 ghost use Rattle.bw_journal.specs.Stories.{story_of};
-ghost use Rattle.bw_start.specs.Adoptions.{IsFileHeader};
 ghost use Rattle.bw_start.specs.FilesRead.{SeesRead};
 ghost use Rattle.bw_start.specs.Paths.{wave_path, notes_path};
 ghost use Rattle.bw_takes.specs.TakeFindings.{IsTakeFound, IsFoundBeside, IsLengthOf};
@@ -17,7 +15,7 @@ use bw_disk::{ReadFault, Volume, read_file};
 use bw_journal::{ReplayFault, Replayed, replay};
 use bw_layout::Limit;
 use bw_request::Name;
-use bw_start::{FileRead, NameFault, data_end, header_of, judge_file, path_in, read_take};
+use bw_start::{FileRead, NameFault, data_end, header_if, judge_file, path_in, read_take};
 use bw_take::TakeState;
 use std::alloc::Global;
 
@@ -167,20 +165,6 @@ fn judge_begun<D: Volume>(
     match judge_file(&replayed.state, limit, &header, facts) {
         Ok(_) => Ok(TakeFinding::Begun(replayed)),
         Err(fault) => Ok(TakeFinding::Refused(NameFault::File(fault))),
-    }
-}
-
-/// The bytes of a take's file before its samples; none if it isn't opened.
-fn header_if(alloc: Global, state: &TakeState, limit: Limit) -> Result<Vec<u8>, ReadFault>
-    ensures { IfOk result (λ header. (f : Format) → state.now.parts.format ≡ Some f →
-        IsFileHeader limit state.now.parts f header.items) }
-{
-    if state.format().is_none() {
-        return Ok(Vec::new(alloc));
-    }
-    match header_of(alloc, state, limit) {
-        Ok(header) => Ok(header),
-        Err(_) => Err(ReadFault::Memory),
     }
 }
 

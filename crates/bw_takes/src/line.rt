@@ -1,16 +1,15 @@
 //! The line of a take.
 ghost use Rattle.std.specs.Prelude.{◌≡◌, ◌++◌, ◌≤◌, OnOk};
 ghost use Rattle.bw_journal.specs.Rows.{row_count};
-ghost use Rattle.bw_start.specs.FaultLines.{journal_text, file_cause_text};
 ghost use Rattle.bw_takes.specs.TakeLines.{next_line, numbered_line, opened_line, word_line};
 ghost use Rattle.bw_takes.specs.TakeLines.{timed_end, timed_start, state_word as word_of};
 ghost use Rattle.bw_takes.specs.TakeReports.{cause_word as word_of_cause, finding_summary, summary_line};
 ghost use Rattle.bw_takes.specs.TakeSummaries.{story_summary};
 
 use crate::finding::TakeFinding;
-use bw_journal::{ReplayFault, Replayed};
+use bw_journal::Replayed;
 use bw_request::Name;
-use bw_start::{FileFault, NameFault};
+use bw_start::{NameFault, file_cause, journal_cause};
 use std::alloc::{AllocError, Global};
 
 /// Appends the line of a take, ended by a line feed: its name; whether it is open, closed or not
@@ -171,35 +170,8 @@ pub(crate) fn cause_word(fault: &NameFault) -> &'static str
     ensures { result.now ≡ word_of_cause fault.now }
 {
     match fault {
-        NameFault::Journal(fault) => journal_word(*fault),
+        NameFault::Journal(fault) => journal_cause(*fault),
         NameFault::OtherLimit(_) => "OtherLimit",
-        NameFault::File(fault) => file_word(*fault),
-    }
-}
-
-/// What is wrong with a journal.
-fn journal_word(fault: ReplayFault) -> &'static str
-    ensures { result.now ≡ journal_text fault }
-{
-    match fault {
-        ReplayFault::NotBegun => "NotBegun",
-        ReplayFault::NotAJournal => "NotAJournal",
-        ReplayFault::OtherName => "OtherName",
-        ReplayFault::OtherLimit => "OtherLimit",
-        ReplayFault::OtherVerdict => "OtherVerdict",
-        ReplayFault::NotAnEntry => "NotAnEntry",
-        ReplayFault::Damaged => "Damaged",
-        ReplayFault::Memory => "Memory",
-    }
-}
-
-/// What is wrong with a file.
-fn file_word(fault: FileFault) -> &'static str
-    ensures { result.now ≡ file_cause_text fault }
-{
-    match fault {
-        FileFault::Lost => "LostFile",
-        FileFault::Changed => "ChangedFile",
-        FileFault::Long => "LongFile",
+        NameFault::File(fault) => file_cause(*fault),
     }
 }

@@ -1,14 +1,15 @@
 use Rattle.std.proofs.Common.{◌+◌, ◌≤◌, length, map}
 use Rattle.bw_rehearsal.specs.Rehearsing.{event_meaning}
 use Rattle.bw_console.specs.Lines.{lines_of}
-use Rattle.bw_commands.proofs.EventLemmas.{SaidSoFar}
+use Rattle.bw_rehearsal.specs.EventLines.{SaysEvent}
+use Rattle.bw_console.proofs.SaidLines.{SaidSoFar}
 use Rattle.bw_commands.proofs.events.events.Given as goal
 
 abbrev pub invariant-loop-rest : goal.invariant-loop-rest
 invariant-loop-rest l = record {
   within : length l.rest ≤ length l.input;
   number : l.number + length l.rest ≤ 1 + length l.input;
-  said : SaidSoFar (lines_of l.input) (lines_of l.rest) (map event_meaning l.found.items) l.number;
+  said : SaidSoFar SaysEvent (lines_of l.input) (lines_of l.rest) (map event_meaning l.found.items) l.number;
 }
 
 abbrev pub decreases-loop-rest : goal.decreases-loop-rest

@@ -1,42 +1,22 @@
-use Rattle.std.proofs.Common.{map, refl, sym, subst}
+use Rattle.std.proofs.Common.{refl}
 use Rattle.std.proofs.lemmas.Result.{err_from_is_err_and}
-use Rattle.bw_rehearsal.specs.Rehearsing.{event_meaning}
 use Rattle.bw_console.specs.Printing.{Nothing, Whole, Part}
-use Rattle.bw_commands.specs.Rehearsals.{IsWorldText}
-use Rattle.bw_commands.proofs.EventLemmas.{refuses_prints}
+use Rattle.bw_commands.proofs.EventLemmas.{refuses_prints, world_printed}
 use Rattle.bw_commands.proofs.rehearsal.play.Goals as goal
 
 pub returns-in-Ok-clause-prints : goal.returns-in-Ok-clause-prints
 returns-in-Ok-clause-prints g c = (
   Whole c.as_slice-2.result.now,
-  record {
-    text = c.as_slice-2.result.now;
-    is = refl;
-    right = λ xs reported. record {
-      within = (c.in_ok-events.ensures.ok xs reported).0;
-      events = map event_meaning c.in_ok-events.events.items;
-      said = (c.in_ok-events.ensures.ok xs reported).1;
-      right = subst (IsWorldText c.args.name c.args.limit (map event_meaning c.in_ok-events.events.items))
-          (sym c.as_slice-2.ensures.value) (rw c.as_slice.ensures.value at c.in_ok-text.ensures);
-    };
-  },
+  world_printed c.args.name c.args.limit _ _ Whole _ _ c.in_ok-events.ensures.ok
+      (rw c.as_slice.ensures.value at c.in_ok-text.ensures) c.as_slice-2.ensures.value,
   c.in-Ok.ensures.ok,
 )
 
 pub returns-clause-prints : goal.returns-clause-prints
 returns-clause-prints g c = (
   Part c.as_slice-2.result.now,
-  record {
-    text = c.as_slice-2.result.now;
-    is = refl;
-    right = λ xs reported. record {
-      within = (c.in_ok-events.ensures.ok xs reported).0;
-      events = map event_meaning c.in_ok-events.events.items;
-      said = (c.in_ok-events.ensures.ok xs reported).1;
-      right = subst (IsWorldText c.args.name c.args.limit (map event_meaning c.in_ok-events.events.items))
-          (sym c.as_slice-2.ensures.value) (rw c.as_slice.ensures.value at c.in_ok-text.ensures);
-    };
-  },
+  world_printed c.args.name c.args.limit _ _ Part _ _ c.in_ok-events.ensures.ok
+      (rw c.as_slice.ensures.value at c.in_ok-text.ensures) c.as_slice-2.ensures.value,
   c.in-Err.ensures.err,
 )
 

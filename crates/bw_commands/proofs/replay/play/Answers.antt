@@ -1,36 +1,22 @@
-use Rattle.std.proofs.Common.{map, refl, sym, subst}
+use Rattle.std.proofs.Common.{refl}
 use Rattle.std.proofs.lemmas.Result.{err_from_is_err_and}
 use Rattle.bw_console.specs.Printing.{Nothing, Whole, Part}
-use Rattle.bw_console.specs.Input.{Asked}
-use Rattle.bw_commands.specs.Replays.{IsTextFor, IsRunText}
-use Rattle.bw_commands.proofs.EventLemmas.{refuses_run}
+use Rattle.bw_commands.proofs.EventLemmas.{refuses_run, run_printed}
 use Rattle.bw_commands.proofs.replay.play.Goals as goal
 
 pub returns-in-Ok-clause-prints : goal.returns-in-Ok-clause-prints
 returns-in-Ok-clause-prints g c = (
   Whole c.as_slice-2.result.now,
-  record {
-    text = c.as_slice-2.result.now;
-    is = refl;
-    right = λ xs reported. subst (λ (a : Asked). IsTextFor c.args.limit c.args.fuse a c.as_slice-2.result.now)
-        (sym (c.in_ok-inputs.ensures.ok xs reported))
-        (subst (IsRunText c.args.limit c.args.fuse (map (λ x. x.items) c.in_ok-inputs.inputs.items)) (sym c.as_slice-2.ensures.value)
-        (rw c.as_slice.ensures.value at c.in_ok-text.ensures));
-  },
+  run_printed c.args.limit c.args.fuse _ _ Whole _ _ c.in_ok-inputs.ensures.ok
+      (rw c.as_slice.ensures.value at c.in_ok-text.ensures) c.as_slice-2.ensures.value,
   c.in-Ok.ensures.ok,
 )
 
 pub returns-clause-prints : goal.returns-clause-prints
 returns-clause-prints g c = (
   Part c.as_slice-2.result.now,
-  record {
-    text = c.as_slice-2.result.now;
-    is = refl;
-    right = λ xs reported. subst (λ (a : Asked). IsTextFor c.args.limit c.args.fuse a c.as_slice-2.result.now)
-        (sym (c.in_ok-inputs.ensures.ok xs reported))
-        (subst (IsRunText c.args.limit c.args.fuse (map (λ x. x.items) c.in_ok-inputs.inputs.items)) (sym c.as_slice-2.ensures.value)
-        (rw c.as_slice.ensures.value at c.in_ok-text.ensures));
-  },
+  run_printed c.args.limit c.args.fuse _ _ Part _ _ c.in_ok-inputs.ensures.ok
+      (rw c.as_slice.ensures.value at c.in_ok-text.ensures) c.as_slice-2.ensures.value,
   c.in-Err.ensures.err,
 )
 

@@ -1,27 +1,14 @@
-use Rattle.std.proofs.Common.{Ok, Err, true, refl, sym}
-use Rattle.bw_console.specs.Faults.{exit_on, is_readable}
-use Rattle.bw_console.specs.Printing.{Nothing}
-use Rattle.bw_console.specs.declared.exit.Exit.TheVariants.{Done}
+use Rattle.bw_console.proofs.OutcomeLemmas.{ends_done, ends_at}
 use Rattle.bw_commands.proofs.replay.replay_over.Goals as goal
 
 pub returns-in-Ok-clause-did : goal.returns-in-Ok-clause-did
 returns-in-Ok-clause-did g c =
-    let p = c.in-Ok.ensures.prints in (
-      record { reads_all = true; out = p.0; faults = Nothing; exit = Done },
-      refl,
-      record { outcome = Ok tt; exit_is = refl; reads = refl; prints = p.1; reports = refl },
-      c.in-Ok.ensures.count,
-      record { printed = p.2; reported = refl },
-    )
+    let p = c.in-Ok.ensures.prints in
+    ends_done g.W.Sink g.E.Sink _ _ _ _ _ _ p.0 p.1 p.2 c.in-Ok.ensures.count
 
 pub returns-in-Err-clause-did : goal.returns-in-Err-clause-did
 returns-in-Err-clause-did g c =
-    let fault = c.in-Err.fault in
     let p = c.in-Err.ensures.prints in
-    let l = c.give_up.ensures.line in (
-      record { reads_all = is_readable fault; out = p.0; faults = l.0; exit = exit_on fault },
-      sym c.give_up.ensures.exit,
-      record { outcome = Err fault; exit_is = refl; reads = refl; prints = p.1; reports = l.1 },
-      c.in-Err.ensures.count,
-      record { printed = p.2; reported = l.2 },
-    )
+    let l = c.give_up.ensures.line in
+    ends_at g.W.Sink g.E.Sink _ c.in-Err.fault _ _ _ _ _ _ _ p.0 l.0 p.1 p.2 c.in-Err.ensures.count
+    c.give_up.ensures.exit l.1 l.2

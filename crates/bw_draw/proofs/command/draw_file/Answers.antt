@@ -1,6 +1,6 @@
 use Rattle.std.proofs.Common.{true, refl, subst, inl, inr, List, ℕ}
 use Rattle.bw_console.specs.Printing.{Nothing}
-use Rattle.bw_draw.specs.Pictures.{EndsPrinting}
+use Rattle.bw_console.specs.Outcomes.{PrintsText}
 use Rattle.bw_recorder.specs.Openings.{is_well_at}
 use Rattle.bw_draw.proofs.command.draw_file.Goals as goal
 
@@ -14,7 +14,7 @@ returns-in-Ok g c =
         text = c.in-Ok.text.items;
         right = c.in-Ok.ensures.ok;
         gives = refl;
-        prints = subst (λ (t : List ℕ). EndsPrinting t p.0) c.as_slice.ensures.value p.2;
+        prints = subst (λ (t : List ℕ). PrintsText t p.0) c.as_slice.ensures.value p.2;
       }),
       c.in-Ok.ensures.count,
       p.3,
@@ -22,9 +22,9 @@ returns-in-Ok g c =
 
 pub returns-in-Err : goal.returns-in-Err
 returns-in-Err g c =
-    let r = c.report_fault.ensures in
+    let r = c.report_open_fault.ensures in
     let fault = c.in-Err.fault in (
-      record { reads_all = true; out = Nothing; faults = r.0; exit = c.report_fault.result },
+      record { reads_all = true; out = Nothing; faults = r.0; exit = c.report_open_fault.result },
       refl,
       is_well_at fault,
       inr (record {

@@ -1,12 +1,13 @@
 use Rattle.std.proofs.Common.{rules}
 use Rattle.std.proofs.lemmas.Result.{err_from_is_err_and}
+use Rattle.bw_plan.specs.Recordings.{no_options}
 use Rattle.bw_draw.proofs.Recorded.{recorded_by, refused_by}
 use Rattle.bw_draw.proofs.opening.check_recording.Goals as goal
 
 pub returns-in_err-extension-clause-err : goal.returns-in_err-extension-clause-err
 returns-in_err-extension-clause-err g c =
     let answer = err_from_is_err_and c.from_residual.result c.from_residual.ensures.1 in
-    rw (answer.1, answer.2) (λ b e h. c.in_err-extension.ensures.err b e h)
+    rw (answer.1, answer.2) (λ b e h. c.in_err-extension.ensures.err no_options b e h)
 
 pub returns-in-Ok-clause-ok : goal.returns-in-Ok-clause-ok
 returns-in-Ok-clause-ok g c = λ b e h.

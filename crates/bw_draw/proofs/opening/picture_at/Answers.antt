@@ -1,12 +1,13 @@
 use Rattle.std.proofs.Common.{List, ℕ, Option, ◌∙◌, ap, inl, inr}
 use Rattle.std.proofs.lemmas.Result.{IfErr-weaker, IfOk-weaker, err_from_is_err_and}
+use Rattle.bw_plan.specs.Recordings.{no_options}
 use Rattle.bw_draw.proofs.Pictured.{pictured, undrawable}
 use Rattle.bw_draw.proofs.opening.picture_at.Goals as goal
 
 pub returns-in_err-report-clause-err : goal.returns-in_err-report-clause-err
 returns-in_err-report-clause-err g c =
     let answer = err_from_is_err_and c.from_residual.result c.from_residual.ensures.1 in
-    rw (answer.1, answer.2) (λ b e. inl (c.in_err-report.ensures.err b e))
+    rw (answer.1, answer.2) (λ b e. inl (c.in_err-report.ensures.err no_options b e))
 
 pub returns-in_err-check_recording-clause-err : goal.returns-in_err-check_recording-clause-err
 returns-in_err-check_recording-clause-err g c =

@@ -1,5 +1,5 @@
 use Rattle.std.proofs.Common.{◌≡◌, ◌∙◌, inl, inr, true, refl}
-use Rattle.bw_repair_file.specs.Repairs.{PrintsText}
+use Rattle.bw_console.specs.Outcomes.{PrintsText}
 use Rattle.bw_repair_file.specs.Texts.{sound_text}
 use Rattle.bw_repair_file.proofs.command.repair_file.Goals as goal
 

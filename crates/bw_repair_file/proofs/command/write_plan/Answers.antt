@@ -1,6 +1,6 @@
 use Rattle.std.proofs.Common.{◌≡◌, ◌∙◌, inl, inr, true, false, refl}
 use Rattle.std.specs.IoError.{error_kind}
-use Rattle.bw_repair_file.specs.Repairs.{PrintsText}
+use Rattle.bw_console.specs.Outcomes.{PrintsText}
 use Rattle.bw_repair_file.specs.Texts.{plan_text}
 use Rattle.bw_repair_file.proofs.Reports.{unwritten_prints}
 use Rattle.bw_repair_file.proofs.command.write_plan.Goals as goal

@@ -1,6 +1,6 @@
 use Rattle.std.proofs.Common.{string_bytes}
 use Rattle.bw_send_state.specs.StateReports.{unkept_text}
-use Rattle.bw_send_state.proofs.ReportSteps.{reasoned}
+use Rattle.bw_console.proofs.OpeningLemmas.{reasoned}
 use Rattle.bw_send_state.proofs.reports.unkept_line.Goals as goal
 
 pub returns : goal.returns

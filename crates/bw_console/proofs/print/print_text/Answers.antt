@@ -1,7 +1,7 @@
 use Rattle.std.proofs.Common.{inl, inr, true, refl, sym}
 use Rattle.bw_console.specs.Printing.{Nothing, Whole, Part}
 use Rattle.bw_console.specs.declared.exit.Exit.TheVariants.{Done, Device}
-use Rattle.bw_draw.proofs.command.print_text.Goals as goal
+use Rattle.bw_console.proofs.print.print_text.Goals as goal
 
 pub returns-in-Ok : goal.returns-in-Ok
 returns-in-Ok g c = (
