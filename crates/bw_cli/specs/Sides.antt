@@ -5,7 +5,6 @@ use Rattle.bw_stream.specs.declared.source.Source.{Ghosts as Reader}
 use Rattle.bw_store.specs.declared.store.TakeStore.{Ghosts as StoreGhosts}
 use Rattle.bw_journal.specs.declared.journal.Journal.{Ghosts as JournalGhosts}
 use Rattle.bw_one_name.specs.declared.network.NameRule.{Ghosts as RuleGhosts}
-use Rattle.bw_operators.specs.declared.port.StatusSetup.{Ghosts as StatusGhosts}
 use Rattle.bw_disk.specs.declared.disk.Disk.{Ghosts as DiskGhosts}
 use Rattle.bw_ports.specs.declared.dial.Dial.{Ghosts as DialGhosts}
 use Rattle.bw_ports.specs.declared.link.Link.{Ghosts as LinkGhosts}
@@ -20,6 +19,7 @@ use Rattle.bw_ports.specs.declared.recording_files.FileStamp.{FileStamp}
 use Rattle.bw_resume.specs.declared.state_files.StateFiles.{Ghosts as StateGhosts}
 use Rattle.bw_resume.specs.declared.state_files.StateLog.{Ghosts as LogGhosts}
 use Rattle.bw_send_file.specs.declared.fault.FeedFault.{FeedFault}
+use Rattle.bw_serve_status.specs.Shown.{StatusSide}
 use Rattle.bw_upload.specs.declared.feed.Feed.{Ghosts as FeedGhosts}
 
 -- what the states of senders have, and the files that they are kept in
@@ -74,11 +74,11 @@ pub record ServerSide (X Y Z P R W L K N SP SK : Type 0) : Type 1 where
   -- and how it chooses whether a link may have one name alone
   pub rule : RuleGhosts N
   -- and by what it hears operators
-  pub status : StatusGhosts N L SP SK
+  pub status : StatusSide N L SP SK
 
 abbrev pub server_side : {X Y Z P R W L K N SP SK : Type 0} → StoreGhosts X → JournalGhosts Y →
     JournalGhosts Z → PeerGhosts P R W → Reader R → Writer W → ReactorGhosts L K → LinkGhosts K →
-    RuleGhosts N → StatusGhosts N L SP SK → ServerSide X Y Z P R W L K N SP SK
+    RuleGhosts N → StatusSide N L SP SK → ServerSide X Y Z P R W L K N SP SK
 server_side store journal none peers reader writer reactor link rule status = record {
   store = store;
   journal = journal;

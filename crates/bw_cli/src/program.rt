@@ -9,6 +9,7 @@ ghost use Rattle.bw_console.specs.Exits.{status_of};
 ghost use Rattle.bw_send_file.specs.FileLooks.{LooksAt};
 ghost use Rattle.bw_cli.specs.Programs.{IsDoneFor, IsProgram, IsReporting};
 ghost use Rattle.bw_cli.specs.Sides.{host_side, sender_side, server_side, state_side, upload_side};
+ghost use Rattle.bw_serve_status.specs.Shown.{status_side};
 
 use crate::folders::work_on_takes;
 use crate::inspections::{inspect_as, inspect_one};
@@ -73,7 +74,7 @@ pub fn start<
         F.EditedFiles F.FolderLocks D.Disk R.Source W.Sink E.Sink)
         (server_side N.Store.TakeStore J.Journal ⟦<NoJournal as Journal>⟧ N.Peers.Peers
         N.Peers.Reader.Source N.Peers.Writer.Sink N.Reactor.Reactor N.Reactor.Link.Link N.NameRule
-        N.StatusSetup)
+        (status_side N.StatusSetup N.Port.StatusPort N.Port.Link.Link))
         (sender_side N.Dial.Dial N.Dial.Reader.Source N.Dial.Writer.Sink)
         (upload_side ⟦<PlanFeed<F::File, F::Stamped> as Feed>⟧ (LooksAt F.Stamped.Stamped)
         ⟦<PcmFeed<F::Growing> as Feed>⟧ P.Pause)
@@ -104,7 +105,7 @@ fn obey<
         F.EditedFiles F.FolderLocks D.Disk R.Source W.Sink E.Sink)
         (server_side N.Store.TakeStore J.Journal ⟦<NoJournal as Journal>⟧ N.Peers.Peers
         N.Peers.Reader.Source N.Peers.Writer.Sink N.Reactor.Reactor N.Reactor.Link.Link N.NameRule
-        N.StatusSetup)
+        (status_side N.StatusSetup N.Port.StatusPort N.Port.Link.Link))
         (sender_side N.Dial.Dial N.Dial.Reader.Source N.Dial.Writer.Sink)
         (upload_side ⟦<PlanFeed<F::File, F::Stamped> as Feed>⟧ (LooksAt F.Stamped.Stamped)
         ⟦<PcmFeed<F::Growing> as Feed>⟧ P.Pause)
@@ -138,7 +139,7 @@ fn answer<
         F.EditedFiles F.FolderLocks D.Disk R.Source W.Sink E.Sink)
         (server_side N.Store.TakeStore J.Journal ⟦<NoJournal as Journal>⟧ N.Peers.Peers
         N.Peers.Reader.Source N.Peers.Writer.Sink N.Reactor.Reactor N.Reactor.Link.Link N.NameRule
-        N.StatusSetup)
+        (status_side N.StatusSetup N.Port.StatusPort N.Port.Link.Link))
         (sender_side N.Dial.Dial N.Dial.Reader.Source N.Dial.Writer.Sink)
         (upload_side ⟦<PlanFeed<F::File, F::Stamped> as Feed>⟧ (LooksAt F.Stamped.Stamped)
         ⟦<PcmFeed<F::Growing> as Feed>⟧ P.Pause)
@@ -173,7 +174,7 @@ fn perform<
         F.EditedFiles F.FolderLocks D.Disk R.Source W.Sink E.Sink)
         (server_side N.Store.TakeStore J.Journal ⟦<NoJournal as Journal>⟧ N.Peers.Peers
         N.Peers.Reader.Source N.Peers.Writer.Sink N.Reactor.Reactor N.Reactor.Link.Link N.NameRule
-        N.StatusSetup)
+        (status_side N.StatusSetup N.Port.StatusPort N.Port.Link.Link))
         (sender_side N.Dial.Dial N.Dial.Reader.Source N.Dial.Writer.Sink)
         (upload_side ⟦<PlanFeed<F::File, F::Stamped> as Feed>⟧ (LooksAt F.Stamped.Stamped)
         ⟦<PcmFeed<F::Growing> as Feed>⟧ P.Pause)
@@ -213,7 +214,7 @@ fn run<
         F.EditedFiles F.FolderLocks D.Disk R.Source W.Sink E.Sink)
         (server_side N.Store.TakeStore J.Journal ⟦<NoJournal as Journal>⟧ N.Peers.Peers
         N.Peers.Reader.Source N.Peers.Writer.Sink N.Reactor.Reactor N.Reactor.Link.Link N.NameRule
-        N.StatusSetup)
+        (status_side N.StatusSetup N.Port.StatusPort N.Port.Link.Link))
         (sender_side N.Dial.Dial N.Dial.Reader.Source N.Dial.Writer.Sink)
         (upload_side ⟦<PlanFeed<F::File, F::Stamped> as Feed>⟧ (LooksAt F.Stamped.Stamped)
         ⟦<PcmFeed<F::Growing> as Feed>⟧ P.Pause)

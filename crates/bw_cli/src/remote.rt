@@ -4,6 +4,7 @@ ghost use Rattle.bw_layout.specs.Limits.{IsLimit};
 ghost use Rattle.bw_cli.specs.Remote.{HostsAs, IsHosting, IsServingAs, ResumesAs, ResumesShown, Sends};
 ghost use Rattle.bw_cli.specs.Remote.{ServesAs, ServesByRule, exchanges_of};
 ghost use Rattle.bw_cli.specs.Sides.{sender_side, server_side};
+ghost use Rattle.bw_serve_status.specs.Shown.{status_side};
 
 use bw_args::{End, Journaling, Recorders, Send, Serve};
 use bw_console::Exit;
@@ -32,7 +33,7 @@ pub(crate) fn serve_as<
     requires { IsLimit server.now.limit }
     ensures { ServesByRule (server_side N.Store.TakeStore J.Journal ⟦<NoJournal as Journal>⟧
         N.Peers.Peers N.Peers.Reader.Source N.Peers.Writer.Sink N.Reactor.Reactor
-        N.Reactor.Link.Link N.NameRule N.StatusSetup)
+        N.Reactor.Link.Link N.NameRule (status_side N.StatusSetup N.Port.StatusPort N.Port.Link.Link))
         W.Sink E.Sink N.Network N.ListenerSetup N.Starts server.now result network.old
         network.new out.old out.new faults.old faults.new }
 {
@@ -57,7 +58,7 @@ fn serve_new<
     requires { limit ≡ server.now.limit }
     ensures { ServesAs (server_side N.Store.TakeStore J.Journal ⟦<NoJournal as Journal>⟧
         N.Peers.Peers N.Peers.Reader.Source N.Peers.Writer.Sink N.Reactor.Reactor
-        N.Reactor.Link.Link N.NameRule N.StatusSetup)
+        N.Reactor.Link.Link N.NameRule (status_side N.StatusSetup N.Port.StatusPort N.Port.Link.Link))
         W.Sink E.Sink N.Network N.ListenerSetup N.Starts server.now.recorders server.now result
         network.old network.new out.old out.new faults.old faults.new }
 {
@@ -90,7 +91,7 @@ fn serve_at_once<
 ) -> Exit
     ensures { HostsAs (server_side N.Store.TakeStore J.Journal ⟦<NoJournal as Journal>⟧
         N.Peers.Peers N.Peers.Reader.Source N.Peers.Writer.Sink N.Reactor.Reactor
-        N.Reactor.Link.Link N.NameRule N.StatusSetup)
+        N.Reactor.Link.Link N.NameRule (status_side N.StatusSetup N.Port.StatusPort N.Port.Link.Link))
         W.Sink E.Sink N.Network N.ListenerSetup N.Starts status hosting.now result network.old
         network.new out.old out.new faults.old faults.new }
 {
@@ -118,7 +119,7 @@ fn serve_resumed<
     requires { limit ≡ server.now.limit }
     ensures { ResumesAs (server_side N.Store.TakeStore J.Journal ⟦<NoJournal as Journal>⟧
         N.Peers.Peers N.Peers.Reader.Source N.Peers.Writer.Sink N.Reactor.Reactor
-        N.Reactor.Link.Link N.NameRule N.StatusSetup)
+        N.Reactor.Link.Link N.NameRule (status_side N.StatusSetup N.Port.StatusPort N.Port.Link.Link))
         W.Sink E.Sink N.Network N.ListenerSetup N.Starts server.now.recorders sync server.now result
         network.old network.new out.old out.new faults.old faults.new }
 {
@@ -151,7 +152,7 @@ fn resume_at_once<
 ) -> Exit
     ensures { ResumesShown (server_side N.Store.TakeStore J.Journal ⟦<NoJournal as Journal>⟧
         N.Peers.Peers N.Peers.Reader.Source N.Peers.Writer.Sink N.Reactor.Reactor
-        N.Reactor.Link.Link N.NameRule N.StatusSetup)
+        N.Reactor.Link.Link N.NameRule (status_side N.StatusSetup N.Port.StatusPort N.Port.Link.Link))
         W.Sink E.Sink N.Network N.ListenerSetup N.Starts status hosting.now sync result network.old
         network.new out.old out.new faults.old faults.new }
 {

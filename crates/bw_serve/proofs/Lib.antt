@@ -3,7 +3,7 @@ mod Admitting
 mod Growing
 mod Noticing
 mod Rounds
-mod Leaving
+pub mod Leaving
 mod Quanta
 mod Running
 mod Silence
@@ -12,3 +12,4 @@ pub mod NewServers
 pub mod RunSteps
 pub mod AnsweredRuns
 pub mod WrappedRuns
+pub mod WrappedLooks

@@ -5,7 +5,6 @@ use Rattle.bw_model.specs.Wire.{Frame}
 use Rattle.bw_model.specs.Replies.{Reply}
 use Rattle.bw_stream.specs.declared.sink.Sink.{Ghosts as Writer}
 use Rattle.bw_console.specs.declared.exit.Exit.{Exit}
-use Rattle.bw_console.specs.declared.exit.Exit.TheVariants.{Done, Refused, Usage, Device, Memory}
 use Rattle.bw_exchange.specs.Answering.{Answered, AnswersAll}
 use Rattle.bw_ports.specs.declared.link.Link.{Ghosts as LinkGhosts}
 use Rattle.bw_ports.specs.declared.reactor.Reactor.{Ghosts as ReactorGhosts}
@@ -19,7 +18,7 @@ use Rattle.bw_serve.specs.declared.serving.Bounds.{Bounds}
 use Rattle.bw_serve.specs.EventLoops.{InTurn, ServesPlace, ended_in_turn, frames_in_turn}
 use Rattle.bw_serve.specs.Rounds.{ServesInRounds, ServesRound, ServesRounds, ended_in_rounds, ended_of_run}
 use Rattle.bw_serve.specs.Rounds.{frames_in_rounds, frames_of_run}
-use Rattle.bw_serve.specs.Serving.{HasServed, RunsEventLoop}
+use Rattle.bw_serve.specs.Serving.{HasServed}
 
 both : {X : Type 0} {xs xs' ys ys' : List X} → xs ≡ xs' → ys ≡ ys' → xs ++ ys ≡ xs' ++ ys'
 both {X} {xs} {xs'} {ys} {ys'} e f = ap (λ zs. zs ++ ys) e ∙ ap (λ zs. xs' ++ zs) f
@@ -28,7 +27,7 @@ module _ {T S : Type 0} (inner : T → S) (outer : T → Frame → List Reply �
     (answers : S → Frame → List Reply → S → Type 0)
     (passes : (t : T) (frame : Frame) (replies : List Reply) (t' : T) → outer t frame replies t' →
     answers (inner t) frame replies (inner t')) where
-  answers_inner : (t : T) (xs : List Answered) (t' : T) → AnswersAll outer t xs t' →
+  pub answers_inner : (t : T) (xs : List Answered) (t' : T) → AnswersAll outer t xs t' →
       AnswersAll answers (inner t) xs (inner t')
   answers_inner t [] t' h = ap inner h
   answers_inner t (a ∷ rest) t' h =
@@ -136,7 +135,7 @@ module _ {T S : Type 0} (inner : T → S) (outer : T → Frame → List Reply �
               o o' e e' r.in_turn;
         }
 
-        abbrev rounds_inner : (idle exchanges n : ℕ) (c c' : EventLoop L) (t t' : T) (b b' : B) (o o' : O) (e e' : E) →
+        abbrev pub rounds_inner : (idle exchanges n : ℕ) (c c' : EventLoop L) (t t' : T) (b b' : B) (o o' : O) (e e' : E) →
             ServesRounds reactor G outer out reported log idle exchanges n c c' t t' b b' o o' e e' →
             ServesRounds reactor G answers out reported log idle exchanges n c c' (inner t) (inner t') b b' o o' e e'
         rounds_inner idle exchanges zero c c' t t' b b' o o' e e' h = (h.0, ap inner h.1, h.2, h.3, h.4)
@@ -151,7 +150,7 @@ module _ {T S : Type 0} (inner : T → S) (outer : T → Frame → List Reply �
           round_inner idle exchanges h.0 c' h.1 t' h.2 b' h.3 o' h.4 e' h.7,
         )
 
-        frames_rounds : (idle exchanges n : ℕ) (c c' : EventLoop L) (t t' : T) (b b' : B) (o o' : O) (e e' : E)
+        pub frames_rounds : (idle exchanges n : ℕ) (c c' : EventLoop L) (t t' : T) (b b' : B) (o o' : O) (e e' : E)
             (h : ServesRounds reactor G outer out reported log idle exchanges n c c' t t' b b' o o' e e') →
             frames_in_rounds reactor G answers out reported log idle exchanges n c c' (inner t) (inner t') b b' o o'
             e e' (rounds_inner idle exchanges n c c' t t' b b' o o' e e' h)
@@ -162,7 +161,7 @@ module _ {T S : Type 0} (inner : T → S) (outer : T → Frame → List Reply �
             (frames_turn (reactor.time b') idle (connection_count h.7.between.connections) h.7.between c' h.1 t' h.3
             o' h.4 e' h.7.in_turn)
 
-        ended_rounds : (idle exchanges n : ℕ) (c c' : EventLoop L) (t t' : T) (b b' : B) (o o' : O) (e e' : E)
+        pub ended_rounds : (idle exchanges n : ℕ) (c c' : EventLoop L) (t t' : T) (b b' : B) (o o' : O) (e e' : E)
             (h : ServesRounds reactor G outer out reported log idle exchanges n c c' t t' b b' o o' e e') →
             ended_in_rounds reactor G answers out reported log idle exchanges n c c' (inner t) (inner t') b b' o o'
             e e' (rounds_inner idle exchanges n c c' t t' b b' o o' e e' h)
@@ -184,7 +183,7 @@ module _ {T S : Type 0} (inner : T → S) (outer : T → Frame → List Reply �
           each = rounds_inner idle exchanges r.count r.empty c t t' b b' o o' e e' r.each;
         }
 
-        served_inner : (bounds : Bounds) (exit : Exit) (t t' : T) (b b' : B) (o o' : O) (e e' : E) →
+        abbrev pub served_inner : (bounds : Bounds) (exit : Exit) (t t' : T) (b b' : B) (o o' : O) (e e' : E) →
             HasServed reactor G outer out reported log bounds exit t t' b b' o o' e e' →
             HasServed reactor G answers out reported log bounds exit (inner t) (inner t') b b' o o' e e'
         served_inner bounds exit t t' b b' o o' e e' r = record {
@@ -211,12 +210,3 @@ module _ {T S : Type 0} (inner : T → S) (outer : T → Frame → List Reply �
           unasked = r.unasked;
           ends = r.ends;
         }
-
-        pub event_loop_inner : (bounds : Bounds) (exit : Exit) (t t' : T) (b b' : B) (o o' : O) (e e' : E) →
-            RunsEventLoop reactor G outer out reported log bounds exit t t' b b' o o' e e' →
-            RunsEventLoop reactor G answers out reported log bounds exit (inner t) (inner t') b b' o o' e e'
-        event_loop_inner bounds Done t t' b b' o o' e e' r = served_inner bounds Done t t' b b' o o' e e' r
-        event_loop_inner bounds Refused t t' b b' o o' e e' r = served_inner bounds Refused t t' b b' o o' e e' r
-        event_loop_inner bounds Usage t t' b b' o o' e e' r = served_inner bounds Usage t t' b b' o o' e e' r
-        event_loop_inner bounds Device t t' b b' o o' e e' r = served_inner bounds Device t t' b b' o o' e e' r
-        event_loop_inner bounds Memory t t' b b' o o' e e' r = (ap inner r.0, r.1, r.2, r.3)

@@ -1,5 +1,5 @@
 -- What a server leaves that shows its status.
-use Rattle.std.proofs.Common.{◌≡◌, inl, inr, ℕ, List, []}
+use Rattle.std.proofs.Common.{◌≡◌, inl, inr, ℕ, List, [], subst}
 use Rattle.bw_stream.specs.declared.sink.Sink.{Ghosts as Writer}
 use Rattle.bw_store.specs.declared.store.TakeStore.{Ghosts as StoreGhosts}
 use Rattle.bw_journal.specs.declared.journal.Journal.{Ghosts as JournalGhosts}
@@ -8,31 +8,69 @@ use Rattle.bw_session.specs.declared.server.Server.{Server}
 use Rattle.bw_console.specs.declared.exit.Exit.{Exit}
 use Rattle.bw_ports.specs.declared.link.Link.{Ghosts as LinkGhosts}
 use Rattle.bw_ports.specs.declared.reactor.Reactor.{Ghosts as ReactorGhosts}
+use Rattle.bw_operators.specs.declared.port.StatusPort.{Ghosts as PortGhosts}
 use Rattle.bw_serve.specs.Hosted.{listening_line}
-use Rattle.bw_serve.specs.HostedMany.{HostsManyOver}
-use Rattle.bw_serve.specs.HostedResumed.{HostsManyStartedOver, OpensWith}
+use Rattle.bw_serve.specs.HostedResumed.{OpensWith}
 use Rattle.bw_serve.specs.Names.{NamesStandApart}
 use Rattle.bw_serve.specs.declared.hosting.Hosting.{Hosting}
-use Rattle.bw_serve.proofs.NewServers.{hosts_many_new}
-use Rattle.bw_serve_status.specs.Shown.{HostsShown}
+use Rattle.bw_serve.proofs.Leaving.{event_loop_leaves}
+use Rattle.bw_serve_status.specs.Shown.{HostsNewShowing, HostsShowing, HostsShown, HostsStartedShowing}
+use Rattle.bw_serve_status.specs.Shown.{ShowsHosted}
 
 module _ {X Y B L O E : Type 0} (S : StoreGhosts X) (J : JournalGhosts Y) (reactor : ReactorGhosts B L)
     (link : LinkGhosts L) (out : Writer O) (reported : Writer E) where
-  -- a new one
-  pub shown_new : NamesStandApart S J → (hosting : Hosting) (exit : Exit) (store : X) (server : Server X Y S J)
-      (b b' : B) (o o' : O) (e e' : E) → server.stores.store ≡ store → server.limit ≡ hosting.limit →
-      HoldsBook S J (S.contents store) server [] →
-      HostsShown S J reactor link out reported (listening_line hosting.address) hosting.bounds hosting.log exit server
-      b b' o o' e e' → HostsManyOver S J reactor link out reported hosting exit store b b' o o' e e'
-  shown_new law hosting exit store server b b' o o' e e' begun limited empty (inl x) =
-      hosts_many_new S J reactor link out reported law hosting exit store server b b' o o' e e' begun limited empty x
-  shown_new law hosting exit store server b b' o o' e e' begun limited empty (inr x) = inr (inl x)
+  module _ {P K : Type 0} (port : PortGhosts P K) (operators : LinkGhosts K) (opened : P) where
+    -- a new one
+    new_shown : NamesStandApart S J → (hosting : Hosting) (exit : Exit) (store : X) (server : Server X Y S J)
+        (b b' : B) (o o' : O) (e e' : E) → server.stores.store ≡ store → server.limit ≡ hosting.limit →
+        HoldsBook S J (S.contents store) server [] →
+        (h : HostsShown S J reactor link out reported (listening_line hosting.address) hosting.bounds hosting.log exit
+        server b b' o o' e e') →
+        ShowsHosted S J reactor link out reported port operators opened (listening_line hosting.address) hosting.bounds
+        hosting.log exit server b b' o o' e e' h →
+        HostsNewShowing S J reactor link out reported port operators opened hosting exit store b b' o o' e e'
+    new_shown law hosting exit store server b b' o o' e e' begun limited empty (inl (inl x)) shown = (
+      inl (record {
+        server = server;
+        store_is = begun;
+        limit_is = limited;
+        new = empty;
+        following = x.following;
+        between = x.between;
+        listens = x.opens;
+        ended = x.ended;
+        logged = x.logged;
+        run = x.run;
+        leaves = event_loop_leaves S J reactor link out reported hosting.log law hosting.limit store server x.following
+            hosting.bounds x.ended b b' x.between o' e x.logged begun limited empty x.run;
+        reports = x.reports;
+      }),
+      shown,
+    )
+    new_shown law hosting exit store server b b' o o' e e' begun limited empty (inl (inr x)) shown =
+        (inr (inr (record { reactor_is = x.unmet; printed = x.printed; reports = x.reports })), tt)
+    new_shown law hosting exit store server b b' o o' e e' begun limited empty (inr x) shown = (inr (inl x), tt)
 
-  -- one that was started, with these first lines
-  pub shown_started : (hosting : Hosting) (exit : Exit) (server : Server X Y S J) (b b' : B) (o o' : O) (e e' : E)
-      (opening : List ℕ) → OpensWith S J hosting.address server opening →
-      HostsShown S J reactor link out reported opening hosting.bounds hosting.log exit server b b' o o' e e' →
-      HostsManyStartedOver S J reactor link out reported hosting exit server b b' o o' e e'
-  shown_started hosting exit server b b' o o' e e' opening opens (inl x) =
-      inl (record { opening = opening; opens = opens; hosts = x })
-  shown_started hosting exit server b b' o o' e e' opening opens (inr x) = inr x
+    -- the same of one whose first lines are these
+    pub shown_new : NamesStandApart S J → (hosting : Hosting) (exit : Exit) (store : X) (server : Server X Y S J)
+        (b b' : B) (o o' : O) (e e' : E) (opening : List ℕ) → server.stores.store ≡ store →
+        server.limit ≡ hosting.limit → HoldsBook S J (S.contents store) server [] →
+        opening ≡ listening_line hosting.address →
+        HostsShowing S J reactor link out reported port operators opened opening hosting.bounds hosting.log exit server b
+        b' o o' e e' →
+        HostsNewShowing S J reactor link out reported port operators opened hosting exit store b b' o o' e e'
+    shown_new law hosting exit store server b b' o o' e e' opening begun limited empty line shows =
+        let moved = subst (λ (xs : List ℕ). HostsShowing S J reactor link out reported port operators opened xs
+        hosting.bounds hosting.log exit server b b' o o' e e') line shows in
+        new_shown law hosting exit store server b b' o o' e e' begun limited empty moved.0 moved.1
+
+    -- one that was started, with these first lines
+    pub shown_started : (hosting : Hosting) (exit : Exit) (server : Server X Y S J) (b b' : B) (o o' : O) (e e' : E)
+        (opening : List ℕ) → OpensWith S J hosting.address server opening →
+        (h : HostsShown S J reactor link out reported opening hosting.bounds hosting.log exit server b b' o o' e e') →
+        ShowsHosted S J reactor link out reported port operators opened opening hosting.bounds hosting.log exit server b
+        b' o o' e e' h →
+        HostsStartedShowing S J reactor link out reported port operators opened hosting exit server b b' o o' e e'
+    shown_started hosting exit server b b' o o' e e' opening opens (inl x) shown =
+        (inl (record { opening = opening; opens = opens; hosts = x }), shown)
+    shown_started hosting exit server b b' o o' e e' opening opens (inr x) shown = (inr x, tt)

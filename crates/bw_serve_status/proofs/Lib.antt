@@ -4,3 +4,4 @@ mod TakePlaces
 mod ShownTakes
 mod HostedShown
 mod LookSteps
+mod CountedRuns

@@ -1,9 +1,10 @@
 -- When each name grew last.
 use Rattle.std.specs.Prelude.{◌≡◌, ◌≤◌, ℕ, ◌==◌, Option, Some, None, List, [], ◌∷◌, length, slice_get}
-use Rattle.std.specs.Prelude.{if◌then◌else◌}
+use Rattle.std.specs.Prelude.{if◌then◌else◌, replicate}
 use Rattle.std.specs.Str.{bytes_eq}
 use Rattle.bw_serve_status.specs.declared.growth.Growth.{Growth}
 use Rattle.bw_serve_status.specs.declared.name_tally.NameTally.{NameTally}
+use Rattle.bw_serve_status.specs.Names.{most_name_tallies}
 
 -- a name of which so many messages are stored at this time: it has grown if there were others before
 abbrev pub growth_noted : ℕ → ℕ → Growth → Growth
@@ -15,6 +16,10 @@ pub record NotesGrowth (now : ℕ) (names : List NameTally) (old new : List Grow
       slice_get old place ≡ Some g → slice_get new place ≡ Some (growth_noted now t.stored g)
   pub others : (place : ℕ) → length names ≤ place → slice_get new place ≡ slice_get old place
   pub count : length new ≡ length old
+
+-- no name has grown yet
+abbrev pub no_growth : List Growth
+no_growth = replicate most_name_tallies (record { stored = 0; at = None })
 
 -- when a name grew last, if it did
 abbrev pub grown_at : List ℕ → List NameTally → List Growth → Option ℕ

@@ -5,4 +5,5 @@ pub mod CountNames
 pub mod Takes
 pub mod Snapshots
 pub mod Shown
+pub mod ShownRounds
 pub mod Looks

@@ -5,6 +5,7 @@ use Rattle.bw_model.specs.Replies.{Reply, Judged, Noticed, Refused, Notice, noti
 use Rattle.bw_model.specs.CountedTurn.{is_delay}
 use Rattle.bw_model.specs.Take.{Request, Open, Block, Mark, SetField, Close, is_stored}
 use Rattle.bw_model.specs.Wire.{Frame, Says, Asks, Bye, message_body}
+use Rattle.bw_exchange.specs.Answering.{Answered}
 use Rattle.bw_exchange.specs.LinkCounts.{up_to_last}
 use Rattle.bw_serve_status.specs.declared.name_tally.Change.{Change}
 use Rattle.bw_serve_status.specs.declared.name_tally.Change.TheVariants as changes
@@ -75,3 +76,7 @@ tallied_reply t (Refused reason offset) = t
 -- a frame more, and its replies
 abbrev pub tallied : Tally → Frame → List Reply → Tally
 tallied t frame replies = fold tallied_reply (tallied_frame t frame) replies
+
+-- these frames, one after another, and the replies to each
+abbrev pub tallied_all : Tally → List Answered → Tally
+tallied_all t answered = fold (λ so_far a. tallied so_far a.frame a.replies) t answered

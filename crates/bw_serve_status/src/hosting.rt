@@ -1,8 +1,7 @@
 //! The command `serve --status` for many recorders at once.
 ghost use Rattle.std.specs.Prelude.{◌≡◌};
-ghost use Rattle.bw_serve.specs.HostedMany.{HostsManyOver};
-ghost use Rattle.bw_serve.specs.HostedResumed.{HostsManyStartedOver};
-ghost use Rattle.bw_serve_status.specs.Shown.{HostsManyResumedShown, HostsManyShown, HostsShown};
+ghost use Rattle.bw_serve_status.specs.Shown.{HostsManyResumedShown, HostsManyShown, HostsNewShowing};
+ghost use Rattle.bw_serve_status.specs.Shown.{HostsShowing, HostsStartedShowing, status_side};
 
 use crate::observer::StatusObserver;
 use crate::tallied::Tallied;
@@ -24,13 +23,15 @@ use bw_stream::Sink;
 use std::alloc::Global;
 use std::net::SocketAddr;
 
-/// Serves as `serve_many` does, and shows operators who connect to an address what it is doing.
+/// Serves as `serve_many` does, and shows operators who connect to an address what it is doing:
+/// after each round its server is looked at, as that round left it, and one of those who ask gets
+/// its response.
 ///
 /// An address for operators that can't be used is reported like the one for recorders, after that
 /// one was opened: `Device`, or `Memory`, and nothing is printed.
 ///
 /// # Not specified
-/// - Which operators connect, and what they are sent.
+/// - Which operators connect, and when.
 /// - What `serve_many` leaves open.
 pub fn serve_many_shown<N: Network + ListenerSetup + StatusSetup<N::Reactor>, O: Sink, E: Sink>(
     alloc: Global,
@@ -41,8 +42,9 @@ pub fn serve_many_shown<N: Network + ListenerSetup + StatusSetup<N::Reactor>, O:
     faults: &mut E,
 ) -> Exit
     ensures { HostsManyShown N.Store.TakeStore ⟦<NoJournal as Journal>⟧ N.Reactor.Reactor
-        N.Reactor.Link.Link O.Sink E.Sink N.Network N.ListenerSetup N.StatusSetup hosting.now status
-        result network.old network.new out.old out.new faults.old faults.new }
+        N.Reactor.Link.Link O.Sink E.Sink N.Network N.ListenerSetup
+        (status_side N.StatusSetup N.Port.StatusPort N.Port.Link.Link) hosting.now status result
+        network.old network.new out.old out.new faults.old faults.new }
 {
     let store = match network.store(hosting.folder) {
         Ok(store) => store,
@@ -72,8 +74,9 @@ fn serve_over<S: TakeStore, B: Reactor, P: StatusPort + Drop, O: Sink, E: Sink>(
     out: &mut O,
     faults: &mut E,
 ) -> Exit
-    ensures { HostsManyOver S.TakeStore ⟦<NoJournal as Journal>⟧ B.Reactor B.Link.Link O.Sink E.Sink
-        hosting.now result store reactor.old reactor.new out.old out.new faults.old faults.new }
+    ensures { HostsNewShowing S.TakeStore ⟦<NoJournal as Journal>⟧ B.Reactor B.Link.Link O.Sink E.Sink
+        P.StatusPort P.Link.Link port hosting.now result store reactor.old reactor.new out.old out.new
+        faults.old faults.new }
 {
     let Ok(server) = Server::new(alloc, store, hosting.limit) else {
         return give_up(faults, &Fault::Memory);
@@ -118,8 +121,8 @@ pub fn serve_many_journaled_shown<
     faults: &mut E,
 ) -> Exit
     ensures { HostsManyResumedShown S.TakeStore J.Journal N.Reactor.Reactor N.Reactor.Link.Link O.Sink
-        E.Sink N.ListenerSetup N.Starts N.StatusSetup hosting.now sync status result network.old
-        network.new out.old out.new faults.old faults.new }
+        E.Sink N.ListenerSetup N.Starts (status_side N.StatusSetup N.Port.StatusPort N.Port.Link.Link)
+        hosting.now sync status result network.old network.new out.old out.new faults.old faults.new }
 {
     let server = match network.start(hosting.folder, hosting.limit, sync) {
         Ok(server) => server,
@@ -150,8 +153,9 @@ fn serve_started<S: TakeStore, J: Journal, B: Reactor, P: StatusPort + Drop, O: 
     out: &mut O,
     faults: &mut E,
 ) -> Exit
-    ensures { HostsManyStartedOver S.TakeStore J.Journal B.Reactor B.Link.Link O.Sink E.Sink
-        hosting.now result server reactor.old reactor.new out.old out.new faults.old faults.new }
+    ensures { HostsStartedShowing S.TakeStore J.Journal B.Reactor B.Link.Link O.Sink E.Sink
+        P.StatusPort P.Link.Link port hosting.now result server reactor.old reactor.new out.old out.new
+        faults.old faults.new }
 {
     let Ok(opening) = format_opening(alloc, server.names(), hosting.address) else {
         return give_up(faults, &Fault::Memory);
@@ -183,8 +187,9 @@ fn serve_from<S: TakeStore, J: Journal, B: Reactor, P: StatusPort + Drop, O: Sin
     out: &mut O,
     faults: &mut E,
 ) -> Exit
-    ensures { HostsShown S.TakeStore J.Journal B.Reactor B.Link.Link O.Sink E.Sink opening.now
-        bounds.now log result server reactor.old reactor.new out.old out.new faults.old faults.new }
+    ensures { HostsShowing S.TakeStore J.Journal B.Reactor B.Link.Link O.Sink E.Sink P.StatusPort
+        P.Link.Link port opening.now bounds.now log result server reactor.old reactor.new out.old
+        out.new faults.old faults.new }
 {
     let resumed = server.names() as u64;
     let Ok(mut observer) = StatusObserver::new(alloc, port, resumed) else {

@@ -1,5 +1,5 @@
 //! An observer of a server's rounds, that serves operators.
-ghost use Rattle.std.specs.Prelude.{◌≡◌, ℕ, IfOk, Some};
+ghost use Rattle.std.specs.Prelude.{◌≡◌, ◌<◌, ℕ, IfOk, Some};
 
 use crate::growth::{Growth, note_growth};
 use crate::name_tally::NAMES;
@@ -26,7 +26,9 @@ pub(crate) struct StatusObserver<P: StatusPort> {
 }
 
 impl<P: StatusPort + Drop> StatusObserver<P> {
-    ghost use Rattle.bw_operators.specs.Placed.{AreConnections, LeavesOtherPlaces, asked_at};
+    ghost use Rattle.bw_operators.specs.Placed.{AreConnections, IsFreeAt, LeavesOtherPlaces, asked_at};
+    ghost use Rattle.bw_operators.specs.Placed.{place_count};
+    ghost use Rattle.bw_serve_status.specs.Growing.{no_growth};
     ghost use Rattle.bw_serve_status.specs.Looks.{AcceptsAt, RespondsToOne, ShowsIn, ShowsOrCloses};
     ghost use Rattle.bw_serve_status.specs.Looks.{moment_of};
 
@@ -38,6 +40,9 @@ impl<P: StatusPort + Drop> StatusObserver<P> {
         ensures connections { IfOk result (λ o. AreConnections P.Link.Link o.operators) }
         ensures port { IfOk result (λ o. o.port ≡ port) }
         ensures resumed { IfOk result (λ o. o.resumed ≡ resumed) }
+        ensures places { IfOk result (λ o. place_count o.operators ≡ 4) }
+        ensures free { IfOk result (λ o. (place : ℕ) → place < 4 → IsFreeAt o.operators place) }
+        ensures growth { IfOk result (λ o. o.growth.items ≡ no_growth) }
     {
         let none = Growth {
             stored: 0,

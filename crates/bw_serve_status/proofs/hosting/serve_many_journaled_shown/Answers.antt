@@ -13,13 +13,14 @@ returns-in-Ok-status_port g c = inl (record {
     opened = c.in-Ok-reactor.ensures.received;
     counted = c.in-Ok-reactor.ensures.count;
     left = c.serve_started.new.reactor;
-    hosts = c.serve_started.ensures;
+    hosts = c.serve_started.ensures.0;
   };
   shows = record {
     port = c.in-Ok-status_port.port;
     opened = c.in-Ok-status_port.ensures.received;
     counted = c.in-Ok-status_port.ensures.count;
   };
+  shown = c.serve_started.ensures.1;
 })
 
 pub returns-in-Err-status_port : goal.returns-in-Err-status_port
