@@ -45,7 +45,7 @@ pub enum Listened {
 /// A sender's talk with a server over one link.
 ///
 /// It holds a buffer of 65,536 bytes, and at most 46 bytes of a reply that isn't whole yet, in a
-/// block of at most 590,578.
+/// block of at most 65,618.
 #[derive(Drop)]
 pub struct Talk {
     pub(crate) framer: ReplyFramer,

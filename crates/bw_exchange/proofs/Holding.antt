@@ -10,15 +10,15 @@ use Rattle.bw_model.proofs.FrameLaws.{has_body, first_by, first_frame-by}
 use Rattle.bw_wire.specs.Codecs.{message_codec}
 use Rattle.bw_wire.specs.Held.{longest_rest}
 use Rattle.bw_wire.specs.Pending.{Phase, Reading, Left, Failed, Pending, Reported, Nothing, compacted, next_of}
-use Rattle.bw_wire.specs.Pending.{HasSmallBlock}
+use Rattle.bw_wire.specs.Pending.{HasBoundedBlock}
 use Rattle.bw_wire.specs.Pending.{KeepsAtMost, HoldsLittle}
 use Rattle.bw_wire.specs.Runs.{given_by}
 use Rattle.bw_wire.proofs.FramerLaws.{next_of-left, next_of-failed, next_of-partial, next_of-bad, next_of-value}
 use Rattle.bw_wire.proofs.FramerLaws.{next_of-last, cut_or_not}
 
--- at most this many bytes are held, in a block that isn't large
+-- at most this many bytes are held, in a block of a rest and a piece at most
 abbrev pub HoldsUpTo : ℕ → Pending → Type 0
-HoldsUpTo limit q = (q.held ≤ limit) × HasSmallBlock q
+HoldsUpTo limit q = (q.held ≤ limit) × HasBoundedBlock q
 
 -- what the framer keeps is no more than it was, or what is left of it is little
 held_in : (limit : ℕ) (h : Phase) (read : Result (Frame × List ℕ) Reason) (p : Pending) → p.phase ≡ h →
@@ -42,7 +42,8 @@ held_in limit Reading (Ok (Bye, more)) p e f low held little =
 held_in limit Reading (Err reason) p e f low held little = elim (cut_or_not reason) [
   | inl cut ↦ let a = next_of-partial message_codec p e (f ∙ ap (λ (r : Reason). Err r) cut) in
       let small : KeepsAtMost longest_rest (compacted p) = subst (HoldsLittle message_codec) a little in
-      subst (HoldsUpTo limit) (sym (ap (λ (y : Reported Frame × Pending). y.1) a)) (omega (arith, small.0, low), small.1)
+      subst (HoldsUpTo limit) (sym (ap (λ (y : Reported Frame × Pending). y.1) a))
+      (omega (arith, small.0, low), omega (arith, small.1))
   | inr other ↦ subst (HoldsUpTo limit)
       (sym (ap (λ (y : Reported Frame × Pending). y.1) (next_of-bad message_codec p reason e f other)))
       (omega arith, omega arith)

@@ -3,7 +3,7 @@ ghost use Rattle.std.specs.Prelude.{◌≡◌, ◌+◌, ◌≤◌, [], length, t
 ghost use Rattle.std.specs.Prelude.{OnErr, None, vec_len, vec_capacity, is_some, if◌then◌else◌};
 ghost use Rattle.bw_wire.specs.Codecs.{message_codec};
 ghost use Rattle.bw_wire.specs.Held.{longest_rest, longest_message_piece};
-ghost use Rattle.bw_wire.specs.Pending.{Nothing, next_of, KeepsAtMost, HasSmallBlock};
+ghost use Rattle.bw_wire.specs.Pending.{Nothing, next_of, KeepsAtMost, HasBoundedBlock};
 ghost use Rattle.bw_exchange.specs.Bounds.{longest_reply_frame, longest_answer, most_waiting};
 ghost use Rattle.bw_exchange.specs.Bounds.{most_held, most_before_answer};
 ghost use Rattle.bw_exchange.specs.Feeding.{IsFeeding};
@@ -35,9 +35,9 @@ pub enum FeedError {
 
 /// One exchange with a recorder, between the pieces of its bytes.
 ///
-/// It holds at most 295,289 bytes of frames, in a block of at most 590,578, and at most 65,600 bytes
-/// of replies. While replies aren't taken, no more frames are answered, and so no more bytes are
-/// wanted.
+/// While it wants to read it holds at most 32,809 bytes of frames, in a block of at most 65,618;
+/// else at most 295,289, in a block that is no larger. It holds at most 65,600 bytes of replies.
+/// While replies aren't taken, no more frames are answered, and so no more bytes are wanted.
 #[derive(Drop)]
 pub struct Exchange {
     framer: Framer,
@@ -51,7 +51,7 @@ pub struct Exchange {
     ghost quiet: { wants_read ≡ true →
         ((next_of message_codec framer).0 ≡ Nothing) × KeepsAtMost longest_rest framer },
     ghost held: { framer.held ≤ most_held },
-    ghost block: { HasSmallBlock framer },
+    ghost block: { HasBoundedBlock framer },
 }
 
 impl Exchange {

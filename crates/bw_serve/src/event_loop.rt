@@ -1,5 +1,5 @@
 //! An event loop: many connections, as they come and end.
-ghost use Rattle.std.specs.Prelude.{◌-◌, ◌≡◌, ◌+◌, ◌≤◌, ◌<◌, ℕ, List, [], ◌∷◌, length, vec_len, IfOk};
+ghost use Rattle.std.specs.Prelude.{◌≡◌, ◌+◌, ◌≤◌, ◌<◌, ℕ, List, [], ◌∷◌, length, vec_len, IfOk};
 ghost use Rattle.std.specs.Prelude.{OnOk};
 ghost use Rattle.bw_wire.specs.Held.{longest_message_piece};
 ghost use Rattle.bw_stream.specs.Moves.{failures_after};
@@ -69,13 +69,6 @@ impl<L: Link + Drop> EventLoop<L> {
         ensures { result ≡ self.now.ended }
     {
         self.ended
-    }
-
-    /// How many connections there are.
-    pub(crate) fn connected(&self) -> u64
-        ensures { result ≡ begun_of self.now.connections - self.now.ended }
-    {
-        self.connections.begun().saturating_sub(self.ended)
     }
 
     /// Whether a connection can proceed before its link has more bytes, or room.

@@ -16,13 +16,6 @@ use bw_ports::Reactor;
 use bw_stream::Sink;
 use std::alloc::Global;
 
-/// The longest piece that is read from one of many, in bytes.
-const SHORTER_PIECE: usize = 65_536;
-
-/// While there are so many connections, the longest pieces are read, whatever their places: what
-/// they hold of them is memory for each connection.
-const FEW: u64 = 16;
-
 /// The longest wait, in milliseconds: a silent connection may be ended this much later than its
 /// time.
 const LONGEST_WAIT: u64 = 250;
@@ -120,17 +113,6 @@ pub fn run_observed<B: Reactor, T: Turns, V: RoundObserver<T>, O: Sink, E: Sink>
     Exit::Device
 }
 
-/// How many bytes are read at once, by how many connections there are.
-fn piece_for(connected: u64) -> usize
-    ensures { result ≤ longest_message_piece }
-{
-    if connected > FEW {
-        SHORTER_PIECE
-    } else {
-        MESSAGE_PIECE
-    }
-}
-
 /// The longest wait in milliseconds, by whether a connection can proceed.
 fn patience(can_go_on: bool) -> u64
     ensures { result ≡ patience_of can_go_on }
@@ -178,7 +160,6 @@ fn serve_round<B: Reactor, T: Turns, O: Sink, E: Sink>(
         idle: bounds.idle,
         log,
     };
-    let piece = piece_for(event_loop.connected()).min(buffer.len());
-    event_loop.serve_each(alloc, server, &mut buffer[..piece], round, out, faults);
+    event_loop.serve_each(alloc, server, buffer.as_mut_slice(), round, out, faults);
     Ok(())
 }

@@ -23,9 +23,13 @@ longest_piece = 65536
 abbrev pub longest_message_piece : ℕ
 longest_message_piece = 8 * (4 + longest_body)
 
--- a larger block isn't kept for a further piece: such pieces leave none
+-- a larger block isn't kept once the whole frames are taken
 abbrev pub largest_kept : ℕ
-largest_kept = 2 * (longest_rest + longest_message_piece)
+largest_kept = 2 * longest_rest
+
+-- no block is larger: that of a rest and a piece after it
+abbrev pub largest_block : ℕ
+largest_block = longest_rest + longest_message_piece
 
 -- bytes, and the room of their block
 pub record Held : Type 0 where

@@ -4,7 +4,7 @@ use Rattle.std.specs.Prelude.{Err}
 use Rattle.std.specs.Prelude.{IsTrue, List, [], ◌∷◌, ◌++◌, length}
 use Rattle.bw_model.specs.Wire.{Reason, Cut}
 use Rattle.bw_wire.specs.Codecs.{Codec}
-use Rattle.bw_wire.specs.Held.{largest_kept, room_for, room_kept}
+use Rattle.bw_wire.specs.Held.{largest_block, largest_kept, room_for, room_kept}
 
 -- whether more is read
 pub data Phase : Type 0 where
@@ -96,6 +96,10 @@ next_of codec p = next_in codec p.phase p
 -- the block isn't too large to be kept for a further piece
 abbrev pub HasSmallBlock : Pending → Type 0
 HasSmallBlock p = p.room ≤ largest_kept
+
+-- the block is no larger than a rest and a piece
+abbrev pub HasBoundedBlock : Pending → Type 0
+HasBoundedBlock p = p.room ≤ largest_block
 
 -- at most this many bytes are held, in a block that may be kept
 abbrev pub KeepsAtMost : ℕ → Pending → Type 0

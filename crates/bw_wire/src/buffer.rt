@@ -1,6 +1,6 @@
 //! Bytes of a stream that are kept, in a block of memory whose size is known.
 ghost use Rattle.std.specs.Prelude.{◌≡◌, ◌+◌, ◌≤◌, ◌<◌, [], ◌++◌, length, take, drop, vec_len};
-ghost use Rattle.std.specs.Prelude.{vec_capacity, IsOk, OnOk, OnErr};
+ghost use Rattle.std.specs.Prelude.{vec_capacity, IfOk, IsOk, OnOk, OnErr};
 
 use std::alloc::{AllocError, Global};
 use std::marker::Model;
@@ -9,9 +9,9 @@ use std::mem;
 /// After the whole frames at most this many bytes are left, of a frame that isn't whole.
 const LONGEST_REST: usize = 32_809;
 
-/// A larger block isn't kept for the next piece. With pieces of at most 262,480 bytes none is
-/// larger: with what is left of the piece before, it has at most twice 295,289 bytes.
-const LARGEST_KEPT: usize = 590_578;
+/// A larger block isn't kept once its whole frames are taken: of many streams most wait for their
+/// next piece, and each of these would keep one.
+const LARGEST_KEPT: usize = 65_618;
 
 /// Bytes at the start of a block of memory, which has room for more after them.
 ///
@@ -102,14 +102,19 @@ impl Buffer {
         ensures ok { OnOk result (self.new ≡ with_room self.old size) }
         ensures err { OnErr result (self.new ≡ self.old) }
     {
+        let alloc = *self.block.allocator();
         if size > LARGEST_KEPT && self.spare.is_empty() {
-            fill_up(&mut self.spare, LONGEST_REST)?;
+            self.spare = zeros(alloc, LONGEST_REST)?;
         }
-        let grown = fill_up(&mut self.block, size);
-        if self.block.len() <= LARGEST_KEPT {
-            let_go(&mut self.spare);
-        }
-        grown
+        let Ok(mut grown) = zeros(alloc, size) else {
+            if self.block.len() <= LARGEST_KEPT {
+                let_go(&mut self.spare);
+            }
+            return Err(AllocError);
+        };
+        copy_in(&mut grown, 0, &self.block[..self.len]);
+        self.block = grown;
+        Ok(())
     }
 
     /// Releases this many bytes at the start, and a block that is too large to be kept.
@@ -142,21 +147,17 @@ impl Buffer {
     }
 }
 
-/// Makes a block this large, with zeros after what it has.
-fn fill_up(block: &mut Vec<u8>, size: usize) -> Result<(), AllocError>
-    requires full { vec_capacity block.old ≡ vec_len block.old }
-    requires larger { vec_len block.old ≤ size }
-    ensures len { OnOk result (vec_len block.new ≡ size) }
-    ensures capacity { OnOk result (vec_capacity block.new ≡ size) }
-    ensures prefix { OnOk result (take (vec_len block.old) block.new.items ≡ block.old.items) }
-    ensures items { OnErr result (block.new.items ≡ block.old.items) }
-    ensures err { OnErr result (vec_capacity block.new ≡ vec_capacity block.old) }
+/// A block of so many zeros. It is a value of this function's own while it is filled: behind a
+/// `&mut` each byte would be stored by itself.
+fn zeros(alloc: Global, size: usize) -> Result<Vec<u8>, AllocError>
+    ensures len { IfOk result (λ block. vec_len block ≡ size) }
+    ensures capacity { IfOk result (λ block. vec_capacity block ≡ size) }
 {
-    block.reserve_exact(size - block.len())?;
+    let mut block = Vec::with_capacity(alloc, size)?;
     while block.len() < size {
         block.push_reserved(0);
     }
-    Ok(())
+    Ok(block)
 }
 
 /// Releases a block.

@@ -11,8 +11,8 @@ use std::marker::Model;
 
 /// Takes the frames of an exchange out of its bytes, which come in pieces of any size.
 ///
-/// If all frames are taken out before the next piece is fed, little is held: at most 32,809 bytes,
-/// in a block of at most 590,578.
+/// If all frames are taken out before the next piece is fed, little is held between two pieces: at
+/// most 32,809 bytes, in a block of at most 65,618.
 #[derive(Drop)]
 pub struct Framer {
     intake: Intake,
@@ -40,7 +40,7 @@ impl Framer {
     ghost use Rattle.bw_wire.specs.Codecs.{message_codec};
     ghost use Rattle.bw_wire.specs.Frames.{frame_of};
     ghost use Rattle.bw_wire.specs.Held.{longest_rest, longest_message_piece, longest_stream};
-    ghost use Rattle.bw_wire.specs.Pending.{fresh, with_piece, next_of, KeepsAtMost, HasSmallBlock};
+    ghost use Rattle.bw_wire.specs.Pending.{fresh, with_piece, next_of, KeepsAtMost, HasBoundedBlock};
     ghost use Rattle.bw_wire.specs.Pending.{HoldsLittle, end_fault, IsOver};
     ghost use Rattle.bw_wire.specs.Reporting.{reported_as, end_reported};
 
@@ -66,7 +66,7 @@ impl Framer {
     /// exchange or a fault the piece is dropped.
     ///
     /// If at most 32,809 bytes are held, as between two pieces, a piece of at most 262,480 bytes
-    /// makes no block larger than 590,578.
+    /// makes no block larger than 295,289.
     ///
     /// # Errors
     /// `AllocError` if memory was refused: nothing changed. It is never refused if there is room,
@@ -82,7 +82,7 @@ impl Framer {
         ensures room { self.old.held + length piece.now ≤ self.old.room → IsOk result }
         ensures empty { length piece.now ≡ 0 → IsOk result }
         ensures bounded { KeepsAtMost longest_rest self.old →
-            length piece.now ≤ longest_message_piece → HasSmallBlock self.new }
+            length piece.now ≤ longest_message_piece → HasBoundedBlock self.new }
     {
         self.digests = None;
         self.intake.feed(piece)
@@ -107,7 +107,7 @@ impl Framer {
 
     /// The first frame of the bytes that are left, which is used up; None if it isn't whole yet.
     ///
-    /// Between two pieces at most 32,809 bytes are held, in a block of at most 590,578.
+    /// Between two pieces at most 32,809 bytes are held, in a block of at most 65,618.
     ///
     /// # Errors
     /// `WireFault` if the bytes are no frame: the first reason that holds of `Length`, `Kind`,

@@ -2,7 +2,7 @@
 ghost use Rattle.std.specs.Prelude.{◌≡◌, ◌+◌, ◌≤◌, length, drop, IsOk, OnOk, OnErr};
 ghost use Rattle.bw_wire.specs.Held.{nothing_held, without_prefix, longest_rest, longest_stream};
 ghost use Rattle.bw_wire.specs.Held.{longest_message_piece};
-ghost use Rattle.bw_wire.specs.Pending.{fresh, with_piece, KeepsAtMost, HasSmallBlock, end_fault};
+ghost use Rattle.bw_wire.specs.Pending.{fresh, with_piece, KeepsAtMost, HasBoundedBlock, end_fault};
 ghost use Rattle.bw_wire.specs.Pending.{IsOver};
 ghost use Rattle.bw_wire.specs.Intakes.{pending_in, IsIntake};
 ghost use Rattle.bw_wire.specs.Reporting.{end_reported};
@@ -63,7 +63,7 @@ impl Intake {
             IsOk result }
         ensures empty { length piece.now ≡ 0 → IsOk result }
         ensures bounded { KeepsAtMost longest_rest (pending_in self.old) →
-            length piece.now ≤ longest_message_piece → HasSmallBlock (pending_in self.new) }
+            length piece.now ≤ longest_message_piece → HasBoundedBlock (pending_in self.new) }
     {
         match self.phase {
             Phase::Reading => {

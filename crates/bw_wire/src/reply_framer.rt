@@ -11,7 +11,7 @@ use std::marker::Model;
 /// Takes the replies of an exchange out of its bytes, which come in pieces of any size.
 ///
 /// If all replies are taken out before the next piece is fed, little is held: at most 46 bytes, in
-/// a block of at most 590,578.
+/// a block of at most 65,618.
 #[derive(Drop)]
 pub struct ReplyFramer {
     intake: Intake,
@@ -32,7 +32,7 @@ impl Model for ReplyFramer {
 impl ReplyFramer {
     ghost use Rattle.bw_wire.specs.Codecs.{reply_codec};
     ghost use Rattle.bw_wire.specs.Held.{longest_rest, longest_piece, longest_stream};
-    ghost use Rattle.bw_wire.specs.Pending.{fresh, with_piece, next_of, KeepsAtMost, HasSmallBlock};
+    ghost use Rattle.bw_wire.specs.Pending.{fresh, with_piece, next_of, KeepsAtMost, HasBoundedBlock};
     ghost use Rattle.bw_wire.specs.Pending.{HoldsLittle, end_fault, IsOver};
     ghost use Rattle.bw_wire.specs.Replies.{reply_of};
     ghost use Rattle.bw_wire.specs.Reporting.{reported_as, end_reported};
@@ -58,7 +58,7 @@ impl ReplyFramer {
     /// dropped.
     ///
     /// If at most 46 bytes are held, as between two pieces, a piece of at most 65,536 bytes
-    /// makes no block larger than 590,578.
+    /// makes no block larger than 295,289.
     ///
     /// # Errors
     /// `AllocError` if memory was refused: nothing changed. It is never refused if there is room,
@@ -74,14 +74,14 @@ impl ReplyFramer {
         ensures room { self.old.held + length piece.now ≤ self.old.room → IsOk result }
         ensures empty { length piece.now ≡ 0 → IsOk result }
         ensures bounded { KeepsAtMost longest_rest self.old → length piece.now ≤ longest_piece →
-            HasSmallBlock self.new }
+            HasBoundedBlock self.new }
     {
         self.intake.feed(piece)
     }
 
     /// The first reply of the bytes that are left, which is used up; None if it isn't whole yet.
     ///
-    /// Between two pieces at most 46 bytes are held, in a block of at most 590,578.
+    /// Between two pieces at most 46 bytes are held, in a block of at most 65,618.
     ///
     /// # Errors
     /// `WireFault` if the bytes are no reply's frame: the first reason that holds, and the

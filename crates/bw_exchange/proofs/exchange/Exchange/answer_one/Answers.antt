@@ -26,7 +26,7 @@ invariant_of-self g c =
       «open» = λ h. c.requires.«open»;
       quiet = λ h. (stays s.framer c.take_next.new.framer Nothing a.comes.0 a.next tt, little);
       held = omega (arith, little.0);
-      block = little.1;
+      block = omega (arith, little.1);
     }
 
 pub invariant_of-self-in-Answered-clause-held : goal.invariant_of-self-in-Answered-clause-held
