@@ -1,5 +1,4 @@
 use Rattle.std.proofs.Common.{true, refl, sym, inl, inr}
-use Rattle.std.specs.Prelude.{IfOk}
 use Rattle.bw_console.specs.Printing.{Nothing}
 use Rattle.bw_console.specs.declared.exit.Exit.TheVariants as exits
 use Rattle.bw_send_file.proofs.EndSteps.{stores_after}
