@@ -80,8 +80,7 @@ module _ {X Y : Type 0} (S : StoreGhosts X) (J : JournalGhosts Y) where
         RunsShown bounds exit (server_in t) (server_in t') b b' o o' e e' opened
     runs_shown bounds exit t t' b b' o o' e e' v v' opened none begins run seen =
         let both = run_seen server_in CountsTurn (ServerTurn S J) turn_in (with_counts S J) reactor G out reported log
-        (Looks S J port link) bounds exit t t' b b' o o' e e' v v' (with_counts_is t none) run seen in
-        (
+        (Looks S J port link) bounds exit t t' b b' o o' e e' v v' (with_counts_is t none) run seen in (
           both.0,
           record {
             books = books_after law (server_in t) _ (run_answers G (ServerTurn S J) out reported log reactor bounds exit

@@ -19,8 +19,7 @@ returns g c =
     g.P.StatusPort g.P.Link.Link c.law_server_runs.ensures c.args.server c.args.bounds.now ran.result _ _ _ _ _ _ _ _ _ _
     c.args.port (ap (λ t. t.server) c.new-server.ensures.server ∙ c.in-Ok-new.ensures.server)
     (ap (λ t. t.tallies) c.new-server.ensures.server ∙ c.in-Ok-new.ensures.tallies) begins ran.ensures.runs
-    ran.ensures.observed in
-    (
+    ran.ensures.observed in (
       inl (inl (record {
         following = ran.new.server.server.server;
         between = c.print.new.out;
