@@ -12,7 +12,7 @@ returns g c =
       port = made.port;
       places = made.places;
       free = made.free;
-      resumed = λ first book holds. made.resumed ∙ c.names.ensures.value first book holds;
+      resumed = λ first book holds. made.resumed ∙ c.names-resumed.ensures.value first book holds;
       growth = made.growth;
     } in
     let run = counted_shown g.S.TakeStore g.J.Journal g.B.Reactor g.B.Link.Link g.O.Sink g.E.Sink c.args.log
