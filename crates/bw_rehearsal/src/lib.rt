@@ -10,3 +10,4 @@ mod simulation;
 pub use event::Event;
 pub use line::event_in;
 pub use rehearsal::{World, rehearse};
+pub use simulation::{append, message_in, unless_memory};

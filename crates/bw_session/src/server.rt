@@ -37,7 +37,7 @@ use std::collections::HashMap;
 /// The most names that a server takes.
 const NAMES: usize = 256;
 
-/// A server over a store, and optionally a journal, which no call lends or returns.
+/// A server over a store, and optionally a journal.
 #[derive(Drop)]
 pub struct Server<S: TakeStore, J: Journal = NoJournal> {
     pub(crate) sessions: HashMap<Name, Session>,
