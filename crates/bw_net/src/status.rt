@@ -84,6 +84,12 @@ impl StatusPort for TcpStatusPort<'_> {
 
     ghost used = { λ _ _. ⊤ };
 
+    ghost asked = { λ _ _. ⊤ };
+
+    ghost admitted = { λ _ _. ⊤ };
+
+    ghost nobody = { λ _. ⊤ };
+
     fn accept(&mut self) -> Option<Socket> {
         let Ok((stream, _address)) = self.listener.accept() else {
             return None;

@@ -1,8 +1,9 @@
 //! What the status of a server asks of the system.
-ghost use Rattle.std.specs.Prelude.{◌≡◌, ℕ, Bool, List, Option, Result, IfSome, []};
+ghost use Rattle.std.specs.Prelude.{◌≡◌, ◌++◌, ◌+◌, ℕ, Bool, List, Option, Result, IfNone, IfSome, []};
 ghost use Rattle.std.specs.declared.io.Error.{Error as IoError};
 ghost use Rattle.std.specs.declared.net.socket_addr.SocketAddr.{SocketAddr};
 ghost use Rattle.bw_stream.specs.Moves.{failures_after};
+ghost use Rattle.bw_ports.specs.Reactors.{those};
 
 use bw_ports::Link;
 use std::io;
@@ -26,6 +27,15 @@ pub trait StatusPort {
     /// The memory that the process uses may have been reported so, in bytes.
     ghost used: { Self → Option ℕ → Type 0 };
 
+    /// Its time may have been asked for this often.
+    ghost asked: { Self → ℕ → Type 0 };
+
+    /// These may be all links that it gave so far, in order.
+    ghost admitted: { Self → List Self.Link → Type 0 };
+
+    /// There may be nobody who waits to be accepted.
+    ghost nobody: { Self → Type 0 };
+
     /// The next operator who waits to be accepted, if there is one.
     ///
     /// # Not specified
@@ -34,7 +44,11 @@ pub trait StatusPort {
         ensures given { IfSome result (λ link. Self.Link.given link []) }
         ensures taken { IfSome result (λ link. Self.Link.taken link []) }
         ensures time { time self.new ≡ time self.old }
-        ensures started { started self.new ≡ started self.old };
+        ensures started { started self.new ≡ started self.old }
+        ensures asked { (n : ℕ) → asked self.old n → asked self.new n }
+        ensures admitted { (xs : List Self.Link) → admitted self.old xs →
+            admitted self.new (xs ++ those result) }
+        ensures nobody { IfNone result (nobody self.new) };
 
     /// Makes the next wait of the server end at once.
     ///
@@ -42,7 +56,10 @@ pub trait StatusPort {
     /// That it does.
     fn wake(&mut self)
         ensures time { time self.new ≡ time self.old }
-        ensures started { started self.new ≡ started self.old };
+        ensures started { started self.new ≡ started self.old }
+        ensures asked { (n : ℕ) → asked self.old n → asked self.new n }
+        ensures admitted { (xs : List Self.Link) → admitted self.old xs → admitted self.new xs }
+        ensures nobody { nobody self.old → nobody self.new };
 
     /// The time, in milliseconds since the start. If it can't be read, the last one.
     ///
@@ -50,7 +67,9 @@ pub trait StatusPort {
     /// What time it is.
     fn now(&mut self) -> u64
         ensures time { result ≡ time self.new }
-        ensures started { started self.new ≡ started self.old };
+        ensures started { started self.new ≡ started self.old }
+        ensures asked { (n : ℕ) → asked self.old n → asked self.new (n + 1) }
+        ensures admitted { (xs : List Self.Link) → admitted self.old xs → admitted self.new xs };
 
     /// When it was started, in seconds since 1970; 0 if that couldn't be read.
     fn since(&self) -> u64
@@ -63,7 +82,10 @@ pub trait StatusPort {
     fn has_folder(&mut self) -> bool
         ensures usable { usable self.new result }
         ensures time { time self.new ≡ time self.old }
-        ensures started { started self.new ≡ started self.old };
+        ensures started { started self.new ≡ started self.old }
+        ensures asked { (n : ℕ) → asked self.old n → asked self.new n }
+        ensures admitted { (xs : List Self.Link) → admitted self.old xs → admitted self.new xs }
+        ensures nobody { nobody self.old → nobody self.new };
 
     /// How much memory the process uses, in bytes, if that is known.
     ///
@@ -72,7 +94,10 @@ pub trait StatusPort {
     fn memory(&mut self) -> Option<u64>
         ensures used { used self.new result }
         ensures time { time self.new ≡ time self.old }
-        ensures started { started self.new ≡ started self.old };
+        ensures started { started self.new ≡ started self.old }
+        ensures asked { (n : ℕ) → asked self.old n → asked self.new n }
+        ensures admitted { (xs : List Self.Link) → admitted self.old xs → admitted self.new xs }
+        ensures nobody { nobody self.old → nobody self.new };
 }
 
 /// Opens a port for operators beside a reactor, and counts failures.

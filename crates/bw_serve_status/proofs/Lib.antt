@@ -4,4 +4,5 @@ mod TakePlaces
 mod ShownTakes
 mod HostedShown
 mod LookSteps
+mod WelcomeSteps
 mod CountedRuns

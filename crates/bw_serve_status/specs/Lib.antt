@@ -6,4 +6,5 @@ pub mod Takes
 pub mod Snapshots
 pub mod Shown
 pub mod ShownRounds
+pub mod Welcoming
 pub mod Looks

@@ -19,6 +19,7 @@ use Rattle.bw_serve_status.specs.Growing.{NotesGrowth}
 use Rattle.bw_serve_status.specs.declared.growth.Growth.{Growth}
 use Rattle.bw_serve_status.specs.Snapshots.{CopiesCounts}
 use Rattle.bw_serve_status.specs.Takes.{ShowsTakes}
+use Rattle.bw_serve_status.specs.Welcoming.{AsksTime, WelcomesOperators}
 use Rattle.bw_serve_status.specs.declared.observer.StatusObserver.{StatusObserver}
 use Rattle.bw_serve_status.specs.declared.snapshots.Surroundings.{Surroundings}
 use Rattle.bw_serve_status.specs.declared.tallied.Tallied.{Tallied}
@@ -116,5 +117,9 @@ module _ {X Y : Type 0} (S : StoreGhosts X) (J : JournalGhosts Y) where
         pub steps : (place : ℕ) → StepsAt G (port.time o'.port) o.operators worked place
         pub accepted : Operators L
         pub accepts : (place : ℕ) → AcceptsAt (port.time o'.port) worked accepted place
+        -- each link that the port gave, after its time was asked for, has a place
+        pub timed : P
+        pub asks : AsksTime port o.port timed
+        pub welcomes : WelcomesOperators port (port.time o'.port) timed o'.port worked accepted
         pub responds : RespondsToOne server round (moment_of port o') accepted o'.operators
         pub connections : AreConnections G o.operators → AreConnections G o'.operators

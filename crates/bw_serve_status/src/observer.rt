@@ -29,6 +29,7 @@ impl<P: StatusPort + Drop> StatusObserver<P> {
     ghost use Rattle.bw_operators.specs.Placed.{AreConnections, IsFreeAt, LeavesOtherPlaces, asked_at};
     ghost use Rattle.bw_operators.specs.Placed.{place_count};
     ghost use Rattle.bw_serve_status.specs.Growing.{no_growth};
+    ghost use Rattle.bw_serve_status.specs.Welcoming.{KeepsPort, WelcomesOperators};
     ghost use Rattle.bw_serve_status.specs.Looks.{AcceptsAt, RespondsToOne, ShowsIn, ShowsOrCloses};
     ghost use Rattle.bw_serve_status.specs.Looks.{moment_of};
 
@@ -61,6 +62,8 @@ impl<P: StatusPort + Drop> StatusObserver<P> {
     fn accept(&mut self, now: u64)
         ensures kept { moment_of P.StatusPort self.new ≡ moment_of P.StatusPort self.old }
         ensures accepts { (place : ℕ) → AcceptsAt now self.old.operators self.new.operators place }
+        ensures welcomes { WelcomesOperators P.StatusPort now self.old.port self.new.port
+            self.old.operators self.new.operators }
         ensures connections { AreConnections P.Link.Link self.old.operators →
             AreConnections P.Link.Link self.new.operators }
     {
@@ -85,6 +88,7 @@ impl<P: StatusPort + Drop> StatusObserver<P> {
     )
         requires { now ≡ P.time self.old.port }
         ensures kept { moment_of P.StatusPort self.new ≡ moment_of P.StatusPort self.old }
+        ensures port { KeepsPort P.StatusPort self.old.port self.new.port }
         ensures responds { RespondsToOne S.TakeStore J.Journal P.StatusPort P.Link.Link server.now
             round.now (moment_of P.StatusPort self.new) self.old.operators self.new.operators }
         ensures connections { AreConnections P.Link.Link self.old.operators →
@@ -111,6 +115,7 @@ impl<P: StatusPort + Drop> StatusObserver<P> {
         requires time { now ≡ P.time self.old.port }
         requires asked { asked_at self.old.operators place ≡ Some answer }
         ensures kept { moment_of P.StatusPort self.new ≡ moment_of P.StatusPort self.old }
+        ensures port { KeepsPort P.StatusPort self.old.port self.new.port }
         ensures responds { ShowsOrCloses S.TakeStore J.Journal P.StatusPort server.now round.now
             (moment_of P.StatusPort self.new) place answer self.old.operators self.new.operators }
         ensures others { LeavesOtherPlaces place self.old.operators self.new.operators }
@@ -136,6 +141,7 @@ impl<P: StatusPort + Drop> StatusObserver<P> {
     ) -> Result<Vec<u8>, AllocError>
         requires { now ≡ P.time self.old.port }
         ensures kept { moment_of P.StatusPort self.new ≡ moment_of P.StatusPort self.old }
+        ensures port { KeepsPort P.StatusPort self.old.port self.new.port }
         ensures operators { self.new.operators ≡ self.old.operators }
         ensures shows { IfOk result (λ bytes. ShowsIn S.TakeStore J.Journal P.StatusPort server.now
             round.now (moment_of P.StatusPort self.new) answer bytes.items) }
@@ -155,6 +161,7 @@ impl<P: StatusPort + Drop> StatusObserver<P> {
     /// Makes the next round begin at once, if another operator asks.
     fn wake_if_asked(&mut self)
         ensures kept { moment_of P.StatusPort self.new ≡ moment_of P.StatusPort self.old }
+        ensures port { KeepsPort P.StatusPort self.old.port self.new.port }
         ensures operators { self.new.operators ≡ self.old.operators }
     {
         if self.operators.asked().is_some() {

@@ -2,10 +2,14 @@ use Rattle.std.proofs.Common.{◌∙◌, sym, subst, ap}
 use Rattle.bw_operators.specs.Placed.{AreConnections}
 use Rattle.bw_serve_status.specs.Looks.{Moment}
 use Rattle.bw_serve_status.proofs.LookSteps.{responds_to_oldest}
+use Rattle.bw_serve_status.proofs.WelcomeSteps.{keeps_then}
 use Rattle.bw_serve_status.proofs.observer.StatusObserver.respond_to_oldest.Goals as goal
 
 pub returns-clause-kept : goal.returns-clause-kept
 returns-clause-kept g c = c.wake_if_asked.ensures.kept ∙ c.respond.ensures.kept
+
+pub returns-clause-port : goal.returns-clause-port
+returns-clause-port g c = keeps_then g.P.StatusPort _ _ _ c.respond.ensures.port c.wake_if_asked.ensures.port
 
 pub returns-clause-responds : goal.returns-clause-responds
 returns-clause-responds g c = responds_to_oldest g.S.TakeStore g.J.Journal g.P.StatusPort g.P.Link.Link

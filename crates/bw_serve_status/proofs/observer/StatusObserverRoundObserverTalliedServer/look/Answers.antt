@@ -3,6 +3,7 @@ use Rattle.bw_operators.specs.Placed.{StepsAt}
 use Rattle.bw_serve_status.specs.Growing.{NotesGrowth}
 use Rattle.bw_serve_status.specs.Looks.{AcceptsAt, Moment}
 use Rattle.bw_serve_status.proofs.LookSteps.{written_over}
+use Rattle.bw_serve_status.proofs.WelcomeSteps.{welcomes_kept}
 use Rattle.bw_serve_status.proofs.observer.StatusObserverRoundObserverTalliedServer.look.Goals as goal
 
 pub returns : goal.returns
@@ -33,6 +34,10 @@ returns g c =
       accepted = c.accept.new.self.operators;
       accepts = subst (λ n. (place : ℕ) → AcceptsAt n c.work.new.self c.accept.new.self.operators place) at
           c.accept.ensures.accepts;
+      timed = c.now-now.new.self;
+      asks = record { asked = c.now-now.ensures.asked; admitted = c.now-now.ensures.admitted };
+      welcomes = welcomes_kept g.P.StatusPort _ _ _ _ _ _ _ at c.accept.ensures.welcomes
+          c.respond_to_oldest.ensures.port;
       responds = c.respond_to_oldest.ensures.responds;
       connections = λ is. c.respond_to_oldest.ensures.connections
           (c.accept.ensures.connections (c.work.ensures.connections is));
