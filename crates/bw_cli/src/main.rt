@@ -1,24 +1,14 @@
 //! The program `bwingest`: its commands, over standard input and output.
 #![tactic(auto)]
 
-mod folders;
-mod inspections;
-mod outside;
-pub mod program;
-mod recordings;
-mod remote;
-mod samples;
-mod uploads;
-
 use bw_disk::SystemDisk;
 use bw_net::{ClockStopwatch, Host, HostRecordings, SpoolCell, SpoolPause, TcpNetwork, Terminal};
 use bw_one_name::FilteredNetwork;
+use bw_program::{Outside, start};
 use bw_progress::{ClearingSink, LineHandle, RenewingPause, SendWatch, SharedProgress};
 use bw_send_file::LinkLog;
 use bw_stream::StdIo;
 use bw_takes::ScreenStyle;
-use outside::Outside;
-use program::start;
 use std::io::IsTerminal;
 use std::process::ExitCode;
 

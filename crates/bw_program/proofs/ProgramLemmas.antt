@@ -1,0 +1,98 @@
+-- What the program does, from what its parts do.
+use Rattle.std.proofs.Common.{◌≡◌, ◌≢◌, ℕ, List, [], Bool, true, false, Option, Some, Result, Err, inl, inr, refl}
+use Rattle.std.proofs.Common.{subst}
+use Rattle.clap.specs.Walk.{Text}
+use Rattle.clap.specs.declared.error.ErrorKind.{ErrorKind as TextKind}
+use Rattle.clap.specs.declared.error.ErrorKind.TheVariants as texts
+use Rattle.bw_args.specs.Lines.{IsLineOf}
+use Rattle.bw_console.specs.Faults.{IsReportedBy, exit_of}
+use Rattle.bw_commands.specs.Inspections.{IsPrintOfText}
+use Rattle.bw_console.specs.Printing.{IsOf, Nothing, Print}
+use Rattle.bw_ports.specs.declared.network.Network.{Ghosts as NetworkGhosts}
+use Rattle.bw_ports.specs.declared.listener_setup.ListenerSetup.{Ghosts as ListenerSetupGhosts}
+use Rattle.bw_ports.specs.declared.starts.Starts.{Ghosts as StartGhosts}
+use Rattle.bw_session.specs.declared.server.Server.{Server}
+use Rattle.bw_program.specs.Sides.{HostSide, SenderSide, ServerSide, UploadSide}
+use Rattle.bw_program.specs.declared.outside.Outside.{Outside}
+use Rattle.bw_args.specs.declared.CommandLine.{CommandLine}
+use Rattle.bw_args.specs.declared.CommandLine.TheVariants.{Run, BadValue as Bad, Report}
+use Rattle.bw_args.specs.declared.Task.TheVariants.{Replay, Inspect, Rehearse, Serve, Send, SendFile, SendPcm}
+use Rattle.bw_args.specs.declared.Task.TheVariants.{Pack, Picture, InspectFiles, Repair, Takes}
+use Rattle.bw_program.specs.Programs.{DoesAlone, IsDoneFor, IsProgram, IsReporting, IsUnread}
+use Rattle.bw_console.specs.declared.exit.Exit.{Exit}
+use Rattle.bw_console.specs.declared.exit.Exit.TheVariants as exits
+use Rattle.bw_console.specs.declared.fault.Fault.{Fault}
+use Rattle.bw_console.specs.declared.fault.Fault.TheVariants as faults
+
+-- lack of memory ends the writing of any text
+pub reported-memory : (kind : TextKind) (reported : Print) → IsReportedBy (Err faults.Memory) reported
+    → IsReporting kind (record { reads_all = true; out = Nothing; faults = reported; exit = exits.Memory })
+reported-memory texts.DisplayHelp reported t =
+    record { outcome = Err faults.Memory; exit_is = refl; reads = refl; text = []; prints = refl; reports = t }
+reported-memory texts.DisplayVersion reported t =
+    record { outcome = Err faults.Memory; exit_is = refl; reads = refl; text = []; prints = refl; reports = t }
+reported-memory _ reported t = inr (record { exit_is = refl; reads = refl; prints = refl; reports = t })
+
+-- what is neither help nor the version is a fault of usage
+pub reported-usage : (kind : TextKind) (text : List ℕ) (reported : Print) → kind ≢ texts.DisplayHelp →
+    kind ≢ texts.DisplayVersion
+    → IsOf text reported → IsReporting kind (record { reads_all = true; out = Nothing; faults = reported; exit = exits.Usage })
+reported-usage texts.DisplayHelp text reported h v t = absurd (h refl)
+reported-usage texts.DisplayVersion text reported h v t = absurd (v refl)
+reported-usage _ text reported h v t = inl (record { exit_is = refl; reads = refl; prints = refl; text = text; reports = t })
+
+-- help and the version are printed
+pub reported-help : (kind : TextKind) (outcome : Result (Unit {0}) Fault) (text : List ℕ) (out reported : Print)
+    → ¬ ((kind ≢ texts.DisplayHelp) × (kind ≢ texts.DisplayVersion)) → IsPrintOfText text outcome out →
+    IsReportedBy outcome reported
+    → IsReporting kind (record { reads_all = true; out = out; faults = reported; exit = exit_of outcome })
+reported-help texts.DisplayHelp outcome text out reported n p t =
+    record { outcome = outcome; exit_is = refl; reads = refl; text = text; prints = p; reports = t }
+reported-help texts.DisplayVersion outcome text out reported n p t =
+    record { outcome = outcome; exit_is = refl; reads = refl; text = text; prints = p; reports = t }
+reported-help _ outcome text out reported n p t = absurd (n ((λ e. cc), (λ e. cc)))
+
+module _ {S T F H G M SB SL Ed LK DK DF N X Y Z P R W L K SP SK D A B U J Q I O E V C : Type 0} (host : HostSide S T F H G M SB SL Ed LK DK DF I O E)
+    (server_side : ServerSide X Y Z P R W L K N SP SK) (sender_side : SenderSide D A B)
+    (upload_side : UploadSide U J Q) (network : NetworkGhosts N X P D R W A B) (listener_setup : ListenerSetupGhosts N L K)
+    (starter : StartGhosts N (Server X Y server_side.store server_side.journal)) where
+  -- what is done for the words that were found is done for those that the system reported before
+  pub reported-words : (words : Option (List Text)) (found : List Text) (exit : Exit) (system : S)
+      (x x' : Outside S F DK N Q I O E V C) →
+      ((reported : List Text) → words ≡ Some reported → found ≡ reported)
+      → host.system.file_at system ≡ host.system.file_at x.system
+      → host.system.failures system ≡ host.system.failures x.system
+      → IsProgram host server_side sender_side upload_side network listener_setup starter (Some found) exit
+      (record x { system = system }) x'
+      → IsProgram host server_side sender_side upload_side network listener_setup starter words exit x x'
+  reported-words words found exit system x x' same files counts (inl a) =
+      inl (record {
+        line = a.line;
+        comes = λ reported e. subst (λ (w : List Text). IsLineOf w a.line) (same reported e) (a.comes found refl);
+        done = done_for a.line (subst (λ (g : Text → Option (List ℕ)). IsDoneFor host server_side sender_side upload_side network
+            listener_setup starter g (host.system.failures x.system) a.line exit (record x { system = system }) x') files
+            (subst (λ (k : ℕ). IsDoneFor host server_side sender_side upload_side network listener_setup starter
+            (host.system.file_at system) k a.line exit (record x { system = system }) x') counts a.done));
+      })
+    where
+      done_for : (line : CommandLine) → IsDoneFor host server_side sender_side upload_side network listener_setup starter
+          (host.system.file_at x.system) (host.system.failures x.system) line exit (record x { system = system }) x'
+          → IsDoneFor host server_side sender_side upload_side network listener_setup starter (host.system.file_at x.system)
+          (host.system.failures x.system) line exit x x'
+      done_for (Run (Replay limit fuse)) done = record { does = done.does; unused = done.unused; unread = done.unread; unpaused = done.unpaused; kept = done.kept }
+      done_for (Run (Rehearse name limit)) done = record { does = done.does; unused = done.unused; unread = done.unread; unpaused = done.unpaused; kept = done.kept }
+      done_for (Run (Inspect file)) done = record { does = done.does; unused = done.unused; unread = done.unread; unpaused = done.unpaused; kept = done.kept }
+      done_for (Run (InspectFiles inspection)) done = done
+      done_for (Run (Serve server)) done = done
+      done_for (Run (Send sender)) done = done
+      done_for (Run (SendFile sender)) done = done
+      done_for (Run (SendPcm sender)) done = done
+      done_for (Run (Pack source)) done = done
+      done_for (Run (Picture file)) done = done
+      done_for (Run (Repair file write)) done = done
+      done_for (Run (Takes listing)) done = done
+      done_for (Bad value) done = record { does = done.does; unused = done.unused; unread = done.unread; unpaused = done.unpaused; kept = done.kept }
+      done_for (Report error) done = record { does = done.does; unused = done.unused; unread = done.unread; unpaused = done.unpaused; kept = done.kept }
+  reported-words words found exit system x x' same files counts (inr w) =
+      inr (subst (λ (k : ℕ). DoesAlone host server_side sender_side upload_side network listener_setup starter IsUnread exit k x x') counts
+      (record { does = w.does; unused = w.unused; unread = w.unread; unpaused = w.unpaused; kept = w.kept }))

@@ -1,0 +1,48 @@
+use Rattle.std.proofs.Common.{Ok, Err, true, refl, sym}
+use Rattle.bw_console.specs.Printing.{Nothing, Whole, Part}
+use Rattle.bw_console.specs.declared.exit.Exit.TheVariants.{Done, Device, Memory, Usage}
+use Rattle.bw_console.specs.declared.fault.Fault.TheVariants as faults
+use Rattle.bw_program.proofs.ProgramLemmas.{reported-help, reported-usage, reported-memory}
+use Rattle.bw_program.proofs.program.show.Goals as goal
+
+pub returns-in_default : goal.returns-in_default
+returns-in_default g c =
+    let l = c.give_up.ensures.line in (
+      record { reads_all = true; out = Nothing; faults = l.0; exit = Memory },
+      sym c.give_up.ensures.exit,
+      reported-memory _ l.0 l.1,
+      refl,
+      record { printed = refl; reported = l.2 },
+    )
+
+pub returns-then-use_stderr : goal.returns-then-use_stderr
+returns-then-use_stderr g c =
+    let l = c.print_diagnostic.ensures in
+    let usage = c.use_stderr.ensures.0 c.if-use_stderr.true in (
+      record { reads_all = true; out = Nothing; faults = l.0; exit = Usage },
+      refl,
+      reported-usage _ _ l.0 usage.0 usage.1 l.1,
+      refl,
+      record { printed = refl; reported = l.2 },
+    )
+
+pub returns-in-Ok-print : goal.returns-in-Ok-print
+returns-in-Ok-print g c = (
+  record { reads_all = true; out = Whole c.as_bytes-2.result.now; faults = Nothing; exit = Done },
+  refl,
+  reported-help _ (Ok tt) c.as_bytes-2.result.now _ _
+      (λ p. let t = c.use_stderr.ensures.1 p in let f = c.if-use_stderr.false in cc) refl refl,
+  refl,
+  record { printed = c.in-Ok-print.ensures.ok; reported = refl },
+)
+
+pub returns : goal.returns
+returns g c =
+    let l = c.give_up-in-Err.ensures.line in (
+      record { reads_all = true; out = Part c.as_bytes-2.result.now; faults = l.0; exit = Device },
+      sym c.give_up-in-Err.ensures.exit,
+      reported-help _ (Err faults.Unwritable) c.as_bytes-2.result.now _ l.0
+          (λ p. let t = c.use_stderr.ensures.1 p in let f = c.if-use_stderr.false in cc) refl l.1,
+      refl,
+      record { printed = c.in-Err.ensures.err; reported = l.2 },
+    )

@@ -1,0 +1,38 @@
+use Rattle.std.proofs.Common.{sym}
+use Rattle.bw_program.proofs.samples.send_pcm_as.Goals as goal
+
+pub returns-in-Some : goal.returns-in-Some
+returns-in-Some g c =
+    let s = c.follow_samples.ensures in
+    record {
+      first = c.dial_paced-dial.result;
+      calls = c.dial_paced-dial.ensures.received;
+      last = c.follow_samples.new.dial;
+      recorder = c.recorder_of-recorder.result;
+      recorder_is = c.recorder_of-recorder.ensures;
+      file = c.pcm_file_of-file.result;
+      file_is = c.pcm_file_of-file.ensures;
+      did = s.0;
+      ends = s.1;
+      is = rw (sym c.ending_of.ensures, c.in-Some.is) s.2;
+      failures = s.3;
+      writes = s.4;
+    }
+
+pub returns : goal.returns
+returns g c =
+    let s = c.send_samples.ensures in
+    record {
+      first = c.dial_paced-dial.result;
+      calls = c.dial_paced-dial.ensures.received;
+      last = c.send_samples.new.dial;
+      recorder = c.recorder_of-recorder.result;
+      recorder_is = c.recorder_of-recorder.ensures;
+      file = c.pcm_file_of-file.result;
+      file_is = c.pcm_file_of-file.ensures;
+      did = s.0;
+      ends = s.1;
+      is = rw (sym c.ending_of.ensures, c.in-None.is) s.2;
+      failures = s.3;
+      writes = s.4;
+    }

@@ -1,0 +1,74 @@
+-- What is done for the command lines that send headerless samples.
+use Rattle.std.specs.Prelude.{◌≡◌, ℕ, Bool, true, false, Option, Some, None, map, min, string_bytes}
+use Rattle.bw_stream.specs.declared.sink.Sink.{Ghosts as Writer}
+use Rattle.bw_args.specs.declared.recordings.PcmSender.{PcmSender}
+use Rattle.bw_console.specs.Printing.{failures_if}
+use Rattle.bw_console.specs.declared.exit.Exit.{Exit}
+use Rattle.bw_ports.specs.declared.network.Network.{Ghosts as NetworkGhosts}
+use Rattle.bw_ports.specs.declared.recording_files.RecordingFiles.{Ghosts as FileGhosts}
+use Rattle.bw_recorder.specs.Packs.{HasPacked, Packing}
+use Rattle.bw_send_file.specs.Sendings.{Ways}
+use Rattle.bw_send_file.specs.declared.job.Recorder.{Recorder}
+use Rattle.bw_send_pcm.specs.PcmSendings.{FollowsFile, IsPcmSent, OpensSamples}
+use Rattle.bw_send_pcm.specs.declared.job.PcmFile.{PcmFile}
+use Rattle.bw_program.specs.Sides.{SenderSide, UploadSide}
+
+-- the recorder that a command line asks for
+pub record IsPcmRecorderOf (sender : PcmSender) (recorder : Recorder) : Type 0 where
+  pub named : recorder.name.now ≡ sender.name
+  pub ends : recorder.fruitless ≡ sender.fruitless
+
+-- the greatest number of channels, and of bits, that a format's field holds
+abbrev pub most_in_field : ℕ
+most_in_field = 65_535
+
+-- the file of headerless samples that a command line names; numbers that their fields don't hold are
+-- refused as the greatest that they hold is
+pub record IsPcmFileOf (sender : PcmSender) (file : PcmFile) : Type 0 where
+  pub path : file.file.path.now ≡ string_bytes sender.source.path
+  pub settings : map string_bytes file.file.settings.now ≡ map string_bytes sender.source.settings.items
+  pub strict : file.file.is_strict ≡ sender.source.strict
+  pub blocks : file.file.frames ≡ sender.pcm.block
+  pub rate : file.pcm.rate ≡ sender.pcm.rate
+  pub channels : file.pcm.channels ≡ min sender.pcm.channels most_in_field
+  pub bits : file.pcm.bits ≡ min sender.pcm.bits most_in_field
+  pub begins : file.pcm.skip ≡ sender.pcm.skip
+
+-- whether a path says that a recording that is still made has ended, or the end of standard input does;
+-- none where it has ended
+abbrev pub awaited_end : {T : Type 0} → Bool → Option T → Option Bool
+awaited_end true until = Some false
+awaited_end false (Some until) = Some true
+awaited_end false None = None
+
+module _ {U J F H G M Q N X P R W D A B O E : Type 0} (upload : UploadSide U J Q)
+    (side : SenderSide D A B) (network : NetworkGhosts N X P D R W A B) (files : FileGhosts F H G M) (out : Writer O)
+    (reported : Writer E) where
+  -- the samples were sent: of a file as it is; or, of a recording that is still made, of one that is
+  -- still written, by another program or from standard input
+  abbrev pub SendsSamples : Option Bool → Recorder → PcmFile → F → Ways Q D → Ways Q D → Packing →
+      Type 0
+  SendsSamples None recorder file f old new did =
+      IsPcmSent upload.feed upload.pause side.dial side.replies side.requests recorder file
+      (OpensSamples upload.feed upload.looks_at (files.file_at f file.file.path.now)
+      (files.stamp_at f file.file.path.now) file.pcm) old new did
+  SendsSamples (Some by_path) recorder file f old new did =
+      IsPcmSent upload.follow upload.pause side.dial side.replies side.requests recorder file
+      (FollowsFile upload.follow by_path (files.file_at f file.file.path.now) file.pcm) old new did
+
+  -- they were sent over links that are made so, after such pauses
+  pub record SendsPcm (sender : PcmSender) (exit : Exit) (f f' : F) (n : N) (q q' : Q) (o o' : O)
+      (e e' : E) : Type 0 where
+    pub first : D
+    pub calls : network.calls n sender.connect (Some sender.timeout) first
+    pub last : D
+    pub recorder : Recorder
+    pub recorder_is : IsPcmRecorderOf sender recorder
+    pub file : PcmFile
+    pub file_is : IsPcmFileOf sender file
+    pub did : Packing
+    pub ends : did.exit ≡ exit
+    pub is : SendsSamples (awaited_end sender.pcm.is_spooled sender.pcm.until) recorder file f
+        (record { pause = q; dial = first }) (record { pause = q'; dial = last }) did
+    pub failures : files.failures f' ≡ failures_if did.is_system_well (files.failures f)
+    pub writes : HasPacked out reported did o o' e e'

@@ -1,0 +1,184 @@
+-- What the program does for a command line.
+use Rattle.std.specs.Prelude.{◌≡◌, ◌⊎◌, ℕ, Bool, true, false, Option, Some, List, Result}
+use Rattle.std.specs.Prelude.{string_bytes}
+use Rattle.std.specs.declared.io.ErrorKind.{ErrorKind}
+use Rattle.clap.specs.Walk.{Text}
+use Rattle.clap.specs.Values.{kind_of}
+use Rattle.clap.specs.declared.error.ErrorKind.{ErrorKind as TextKind}
+use Rattle.clap.specs.declared.error.ErrorKind.TheVariants as texts
+use Rattle.bw_args.specs.Lines.{IsLineOf}
+use Rattle.bw_args.specs.BadValues.{text_of}
+use Rattle.bw_args.specs.declared.CommandLine.{CommandLine}
+use Rattle.bw_args.specs.declared.CommandLine.TheVariants.{Run, BadValue as Bad, Report}
+use Rattle.bw_args.specs.declared.Task.{Task}
+use Rattle.bw_args.specs.declared.Task.TheVariants.{Replay, Inspect, Rehearse, Serve, Send, SendFile, SendPcm}
+use Rattle.bw_args.specs.declared.Task.TheVariants.{Pack, Picture, InspectFiles, Repair, Takes}
+use Rattle.bw_console.specs.Outcomes.{Outcome, Does, IsOutOfMemory}
+use Rattle.bw_commands.specs.Replays.{IsReplay}
+use Rattle.bw_console.specs.Faults.{IsReportedBy, exit_of}
+use Rattle.bw_commands.specs.Inspections.{IsPrintOfText}
+use Rattle.bw_console.specs.Printing.{Nothing, IsOf}
+use Rattle.bw_commands.specs.Rehearsals.{IsRehearsal}
+use Rattle.bw_console.specs.BadArgv.{IsBadArgv}
+use Rattle.bw_console.specs.declared.exit.Exit.{Exit}
+use Rattle.bw_console.specs.declared.exit.Exit.TheVariants as exits
+use Rattle.bw_console.specs.declared.fault.Fault.{Fault}
+use Rattle.bw_ports.specs.declared.network.Network.{Ghosts as NetworkGhosts}
+use Rattle.bw_ports.specs.declared.listener_setup.ListenerSetup.{Ghosts as ListenerSetupGhosts}
+use Rattle.bw_ports.specs.declared.starts.Starts.{Ghosts as StartGhosts}
+use Rattle.bw_session.specs.declared.server.Server.{Server}
+use Rattle.bw_program.specs.Inspected.{InspectsFiles, IsInspectedAt}
+use Rattle.bw_program.specs.Listed.{WorksOnTakes, folder_side, folder_world}
+use Rattle.bw_program.specs.Drawn.{DrawsFile}
+use Rattle.bw_program.specs.Packed.{Packs}
+use Rattle.bw_program.specs.Repaired.{RepairsFile}
+use Rattle.bw_program.specs.Remote.{Sends, ServesByRule}
+use Rattle.bw_program.specs.PcmUploads.{SendsPcm}
+use Rattle.bw_program.specs.Uploads.{SendsByState}
+use Rattle.bw_program.specs.Sides.{HostSide, SenderSide, ServerSide, UploadSide}
+use Rattle.bw_program.specs.declared.outside.Outside.{Outside}
+
+-- help or the version is printed
+pub record IsHelp (did : Outcome) : Type 0 where
+  pub outcome : Result (Unit {0}) Fault
+  pub exit_is : did.exit ≡ exit_of outcome
+  pub reads : did.reads_all ≡ true
+  pub text : List ℕ
+  pub prints : IsPrintOfText text outcome did.out
+  pub reports : IsReportedBy outcome did.faults
+
+-- what is wrong with the command line is reported
+pub record IsUsage (did : Outcome) : Type 0 where
+  pub exit_is : did.exit ≡ exits.Usage
+  pub reads : did.reads_all ≡ true
+  pub prints : did.out ≡ Nothing
+  pub text : List ℕ
+  pub reports : IsOf text did.faults
+
+-- exactly this is reported, a fault of usage
+pub record IsBadValue (text : List ℕ) (did : Outcome) : Type 0 where
+  pub exit_is : did.exit ≡ exits.Usage
+  pub reads : did.reads_all ≡ true
+  pub prints : did.out ≡ Nothing
+  pub reports : IsOf text did.faults
+
+-- a text of this kind is reported where it belongs
+abbrev pub IsReporting : TextKind → Outcome → Type 0
+IsReporting texts.DisplayHelp did = IsHelp did
+IsReporting texts.DisplayVersion did = IsHelp did
+IsReporting _ did = IsUsage did ⊎ IsOutOfMemory did
+
+-- what is done for a task over these files and this input, where the system gives what is asked of
+-- it, or not; those that use the network, recordings or a folder are elsewhere
+abbrev pub IsTaskDone : (Text → Option (List ℕ)) → Option (List ℕ) → Task → Bool →
+    Outcome → Type 0
+IsTaskDone file_at input (Replay limit fuse) gives_all did =
+    IsReplay limit fuse input did × (gives_all ≡ true)
+IsTaskDone file_at input (Inspect file) gives_all did =
+    IsInspectedAt file_at input (string_bytes file) gives_all did
+IsTaskDone file_at input (Rehearse name limit) gives_all did =
+    IsRehearsal name limit input did × (gives_all ≡ true)
+IsTaskDone file_at input (InspectFiles inspection) gives_all did = ⊥
+IsTaskDone file_at input (Serve server) gives_all did = ⊥
+IsTaskDone file_at input (Send sender) gives_all did = ⊥
+IsTaskDone file_at input (SendFile sender) gives_all did = ⊥
+IsTaskDone file_at input (SendPcm sender) gives_all did = ⊥
+IsTaskDone file_at input (Pack source) gives_all did = ⊥
+IsTaskDone file_at input (Picture file) gives_all did = ⊥
+IsTaskDone file_at input (Repair file write) gives_all did = ⊥
+IsTaskDone file_at input (Takes listing) gives_all did = ⊥
+
+-- for a command line
+abbrev pub IsLineDone : (Text → Option (List ℕ)) → Option (List ℕ) → CommandLine → Bool →
+    Outcome → Type 0
+IsLineDone file_at input (Run task) gives_all did = IsTaskDone file_at input task gives_all did
+IsLineDone file_at input (Bad value) gives_all did =
+    IsBadValue (text_of value) did × (gives_all ≡ true)
+IsLineDone file_at input (Report error) gives_all did =
+    IsReporting (kind_of error) did × (gives_all ≡ true)
+
+-- the words can't be read: if the system fails, that is reported; if it doesn't, memory is lacking
+abbrev pub IsUnread : Bool → Outcome → Type 0
+IsUnread true did = IsOutOfMemory did
+IsUnread false did = (kind : ErrorKind) × IsBadArgv kind did
+
+module _ {S T F H G M SB SL Ed LK DK DF N X Y Z P R W L K SP SK D A B U J Q I O E V C : Type 0} (host : HostSide S T F H G M SB SL Ed LK DK DF I O E)
+    (server_side : ServerSide X Y Z P R W L K N SP SK) (sender_side : SenderSide D A B)
+    (upload_side : UploadSide U J Q) (network : NetworkGhosts N X P D R W A B) (listener_setup : ListenerSetupGhosts N L K)
+    (starter : StartGhosts N (Server X Y server_side.store server_side.journal)) where
+  -- this is done without the network, recordings and folders, where so many calls of the system
+  -- had failed
+  pub record DoesAlone (is_asked : Bool → Outcome → Type 0) (exit : Exit) (failed : ℕ)
+      (x x' : Outside S F DK N Q I O E V C) : Type 0 where
+    pub does : Does host.input host.out host.reported is_asked exit failed
+        (host.system.failures x'.system) x.input x'.input x.out x'.out x.faults x'.faults
+    pub unused : x'.network ≡ x.network
+    pub unread : x'.files ≡ x.files
+    pub unpaused : x'.pause ≡ x.pause
+    pub kept : x'.disk ≡ x.disk
+
+  -- the system didn't fail
+  abbrev pub IsHostWell : ℕ → Outside S F DK N Q I O E V C → Type 0
+  IsHostWell failed x' = host.system.failures x'.system ≡ failed
+
+  -- what is done for a command line, and how the program ends, where the system has these files and
+  -- so many calls of it had failed
+  abbrev pub IsDoneFor : (Text → Option (List ℕ)) → ℕ → CommandLine → Exit →
+      Outside S F DK N Q I O E V C → Outside S F DK N Q I O E V C → Type 0
+  IsDoneFor file_at failed (Run (Serve server)) exit x x' =
+      ServesByRule server_side host.out host.reported network listener_setup starter server exit
+      x.network x'.network x.out x'.out x.faults x'.faults
+      × IsHostWell failed x' × (x'.files ≡ x.files) × (x'.input ≡ x.input)
+      × (x'.pause ≡ x.pause) × (x'.disk ≡ x.disk)
+  IsDoneFor file_at failed (Run (Send sender)) exit x x' =
+      Sends network sender_side host.input host.out host.reported sender exit
+      x.network x.input x'.input x.out x'.out x.faults x'.faults
+      × IsHostWell failed x' × (x'.files ≡ x.files) × (x'.network ≡ x.network)
+      × (x'.pause ≡ x.pause) × (x'.disk ≡ x.disk)
+  IsDoneFor file_at failed (Run (SendFile sender)) exit x x' =
+      SendsByState upload_side sender_side network host.files host.states host.out host.reported sender exit
+      x.files x'.files x.network x.pause x'.pause x.out x'.out x.faults x'.faults
+      × IsHostWell failed x' × (x'.network ≡ x.network) × (x'.input ≡ x.input) × (x'.disk ≡ x.disk)
+  IsDoneFor file_at failed (Run (SendPcm sender)) exit x x' =
+      SendsPcm upload_side sender_side network host.files host.out host.reported sender exit
+      x.files x'.files x.network x.pause x'.pause x.out x'.out x.faults x'.faults
+      × IsHostWell failed x' × (x'.network ≡ x.network) × (x'.input ≡ x.input) × (x'.disk ≡ x.disk)
+  IsDoneFor file_at failed (Run (Pack source)) exit x x' =
+      Packs host.out host.reported (host.files.file_at x.files) source exit
+      (host.files.failures x.files) (host.files.failures x'.files) x.out x'.out x.faults x'.faults
+      × IsHostWell failed x' × (x'.network ≡ x.network) × (x'.input ≡ x.input)
+      × (x'.pause ≡ x.pause) × (x'.disk ≡ x.disk)
+  IsDoneFor file_at failed (Run (InspectFiles inspection)) exit x x' =
+      InspectsFiles host.files host.input host.out host.reported inspection exit
+      x.files x'.files x.input x'.input x.out x'.out x.faults x'.faults
+      × IsHostWell failed x' × (x'.network ≡ x.network) × (x'.pause ≡ x.pause) × (x'.disk ≡ x.disk)
+  IsDoneFor file_at failed (Run (Picture file)) exit x x' =
+      DrawsFile host.files host.out host.reported (string_bytes file) exit
+      x.files x'.files x.out x'.out x.faults x'.faults
+      × IsHostWell failed x' × (x'.network ≡ x.network) × (x'.input ≡ x.input)
+      × (x'.pause ≡ x.pause) × (x'.disk ≡ x.disk)
+  IsDoneFor file_at failed (Run (Repair file write)) exit x x' =
+      RepairsFile host.edits host.out host.reported (string_bytes file) write exit
+      x.files x'.files x.out x'.out x.faults x'.faults
+      × IsHostWell failed x' × (x'.network ≡ x.network) × (x'.input ≡ x.input)
+      × (x'.pause ≡ x.pause) × (x'.disk ≡ x.disk)
+  IsDoneFor file_at failed (Run (Takes listing)) exit x x' =
+      WorksOnTakes (folder_side host.disk host.locks upload_side.pause host.out host.reported)
+      x.screens listing exit (folder_world x.disk x.files x.pause x.out x.faults)
+      (folder_world x'.disk x'.files x'.pause x'.out x'.faults)
+      × IsHostWell failed x' × (x'.network ≡ x.network) × (x'.input ≡ x.input)
+  IsDoneFor file_at failed line exit x x' =
+      DoesAlone (IsLineDone file_at (host.input.left x.input) line) exit failed x x'
+
+  -- the words result in a command line, and this is done for it
+  pub record IsAnswered (words : Option (List Text)) (exit : Exit) (x x' : Outside S F DK N Q I O E V C)
+      : Type 0 where
+    pub line : CommandLine
+    pub comes : (given : List Text) → words ≡ Some given → IsLineOf given line
+    pub done : IsDoneFor (host.system.file_at x.system) (host.system.failures x.system) line exit x x'
+
+  -- what the program does if the system reports these words, or none
+  abbrev pub IsProgram : Option (List Text) → Exit → Outside S F DK N Q I O E V C →
+      Outside S F DK N Q I O E V C → Type 0
+  IsProgram words exit x x' = IsAnswered words exit x x'
+      ⊎ DoesAlone IsUnread exit (host.system.failures x.system) x x'

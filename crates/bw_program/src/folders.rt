@@ -1,0 +1,60 @@
+//! The commands on a folder of takes, as a command line asks for them.
+ghost use Rattle.std.specs.Prelude.{◌≡◌};
+ghost use Rattle.bw_program.specs.Listed.{WorksOnTakes, depth_if, folder_side, folder_world};
+ghost use Rattle.bw_program.specs.Listed.{style_if};
+
+use bw_args::{FolderWork, TakesFolder};
+use bw_console::Exit;
+use bw_disk::Volume;
+use bw_lock::FolderLocks;
+use bw_ports::Pause;
+use bw_stream::Sink;
+use bw_takes::{Depth, LineStyle, ScreenStyle, give_up_locked, show_takes, watch_takes};
+use std::alloc::Global;
+
+/// Reports the takes of the folder that the command line names, once or until the program is stopped,
+/// or gives one of them up.
+pub(crate) fn work_on_takes<D: Volume, L: FolderLocks, P: Pause, W: Sink, E: Sink>(
+    alloc: Global,
+    listing: &TakesFolder,
+    screens: ScreenStyle,
+    disk: &mut D,
+    locks: &mut L,
+    pause: &mut P,
+    out: &mut W,
+    faults: &mut E,
+) -> Exit
+    ensures { WorksOnTakes (folder_side D.Disk L.FolderLocks P.Pause W.Sink E.Sink) screens listing.now
+        result (folder_world disk.old locks.old pause.old out.old faults.old)
+        (folder_world disk.new locks.new pause.new out.new faults.new) }
+{
+    let folder = listing.folder.as_str();
+    match &listing.work {
+        FolderWork::Report { check, json } => {
+            let (style, depth) = (style_of(*json), depth_of(*check));
+            show_takes(alloc, disk, folder, style, depth, out, faults)
+        }
+        FolderWork::Watch => watch_takes(alloc, disk, folder, screens, pause, out, faults),
+        FolderWork::GiveUp(name) => give_up_locked(alloc, disk, locks, folder, name, out, faults),
+    }
+}
+
+fn style_of(json: bool) -> LineStyle
+    ensures { result ≡ style_if json }
+{
+    if json {
+        LineStyle::Json
+    } else {
+        LineStyle::Words
+    }
+}
+
+fn depth_of(check: bool) -> Depth
+    ensures { result ≡ depth_if check }
+{
+    if check {
+        Depth::Samples
+    } else {
+        Depth::Journals
+    }
+}

@@ -1,0 +1,14 @@
+//! What the program `bwingest` does: its command line, and what each command is given of the outside.
+#![tactic(auto)]
+
+mod folders;
+mod inspections;
+mod outside;
+mod program;
+mod recordings;
+mod remote;
+mod samples;
+mod uploads;
+
+pub use outside::Outside;
+pub use program::start;

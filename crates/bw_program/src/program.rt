@@ -1,0 +1,293 @@
+//! What the program does: its words, and what they ask for.
+ghost use Rattle.std.specs.Prelude.{◌≡◌, true, Some, map, string_bytes};
+ghost use Rattle.std.specs.Process.{exit_status};
+ghost use Rattle.clap.specs.Values.{kind_of};
+ghost use Rattle.bw_args.specs.Lines.{HasNumbersInRange};
+ghost use Rattle.bw_console.specs.Outcomes.{Outcome, HasWritten};
+ghost use Rattle.bw_console.specs.declared.exit.Exit.{Exit};
+ghost use Rattle.bw_console.specs.Exits.{status_of};
+ghost use Rattle.bw_send_file.specs.FileLooks.{LooksAt};
+ghost use Rattle.bw_program.specs.Programs.{IsDoneFor, IsProgram, IsReporting};
+ghost use Rattle.bw_program.specs.Sides.{host_side, sender_side, server_side, state_side, upload_side};
+ghost use Rattle.bw_serve_status.specs.Shown.{status_side};
+
+use crate::folders::work_on_takes;
+use crate::inspections::{inspect_as, inspect_one};
+use crate::outside::Outside;
+use crate::recordings::pack_as;
+use crate::remote::{send_as, serve_as};
+use crate::samples::{send_pcm_as, send_pcm_watched};
+use crate::uploads::{send_file_as, send_file_watched};
+use bw_args::{CommandLine, Task, parse};
+use bw_commands::rehearse_run;
+use bw_commands::replay::{replay, replay_fused};
+use bw_console::print::{give_up, print, print_diagnostic};
+use bw_console::{Exit, Fault, report_bad_argv};
+use bw_disk::Volume;
+use bw_draw::draw_file;
+use bw_edit::EditedFiles;
+use bw_journal::{Journal, NoJournal};
+use bw_layout::Limit;
+use bw_lock::FolderLocks;
+use bw_one_name::NameRule;
+use bw_operators::StatusSetup;
+use bw_pace::PacedNetwork;
+use bw_ports::{ListenerSetup, Network, Pause, RecordingFiles, Starts, System, Watch};
+use bw_progress::UploadWatch;
+use bw_repair_file::repair_file;
+use bw_resume::StateKeeping;
+use bw_send_file::PlanFeed;
+use bw_send_pcm::PcmFeed;
+use bw_session::Server;
+use bw_stream::{Sink, Source};
+use bw_upload::{Feed, Observer};
+use clap::Error;
+use std::alloc::Global;
+use std::process::ExitCode;
+
+/// Reads the command line, does what it asks for, and returns the program's exit status, 0 to 4.
+/// The watcher gets the progress of `send`, unless its links are logged.
+///
+/// # Not specified
+/// - When the status 4 is returned.
+/// - Which command line is obeyed if the system reports no words, as `Host` doesn't.
+/// - The texts of help, version and usage errors.
+pub fn start<
+    S: System,
+    F: RecordingFiles + StateKeeping + EditedFiles + FolderLocks,
+    D: Volume,
+    J: Journal,
+    N: PacedNetwork
+        + ListenerSetup
+        + Starts<Server<N::Store, J>>
+        + NameRule
+        + StatusSetup<N::Reactor>,
+    P: Pause,
+    R: Source,
+    W: Sink,
+    E: Sink,
+    V: Watch + UploadWatch,
+    G: Observer,
+>(alloc: Global, outside: &mut Outside<S, F, D, N, P, R, W, E, V, G>) -> ExitCode
+    ensures { (exit : Exit) × (exit_status result ≡ status_of exit) × IsProgram
+        (host_side S.System F.RecordingFiles (state_side F.kept_at F.States.StateFiles F.States.Log.StateLog)
+        F.EditedFiles F.FolderLocks D.Disk R.Source W.Sink E.Sink)
+        (server_side N.Store.TakeStore J.Journal ⟦<NoJournal as Journal>⟧ N.Peers.Peers
+        N.Peers.Reader.Source N.Peers.Writer.Sink N.Reactor.Reactor N.Reactor.Link.Link N.NameRule
+        (status_side N.StatusSetup N.Port.StatusPort N.Port.Link.Link))
+        (sender_side N.Dial.Dial N.Dial.Reader.Source N.Dial.Writer.Sink)
+        (upload_side ⟦<PlanFeed<F::File, F::Stamped> as Feed>⟧ (LooksAt F.Stamped.Stamped)
+        ⟦<PcmFeed<F::Growing> as Feed>⟧ P.Pause)
+        N.Network N.ListenerSetup N.Starts (S.words outside.old.system) exit outside.old outside.new }
+{
+    ExitCode::from(obey(alloc, outside).status())
+}
+
+/// Reads the command line, and does what it asks for.
+fn obey<
+    S: System,
+    F: RecordingFiles + StateKeeping + EditedFiles + FolderLocks,
+    D: Volume,
+    J: Journal,
+    N: PacedNetwork
+        + ListenerSetup
+        + Starts<Server<N::Store, J>>
+        + NameRule
+        + StatusSetup<N::Reactor>,
+    P: Pause,
+    R: Source,
+    W: Sink,
+    E: Sink,
+    V: Watch + UploadWatch,
+    G: Observer,
+>(alloc: Global, outside: &mut Outside<S, F, D, N, P, R, W, E, V, G>) -> Exit
+    ensures { IsProgram (host_side S.System F.RecordingFiles (state_side F.kept_at F.States.StateFiles F.States.Log.StateLog)
+        F.EditedFiles F.FolderLocks D.Disk R.Source W.Sink E.Sink)
+        (server_side N.Store.TakeStore J.Journal ⟦<NoJournal as Journal>⟧ N.Peers.Peers
+        N.Peers.Reader.Source N.Peers.Writer.Sink N.Reactor.Reactor N.Reactor.Link.Link N.NameRule
+        (status_side N.StatusSetup N.Port.StatusPort N.Port.Link.Link))
+        (sender_side N.Dial.Dial N.Dial.Reader.Source N.Dial.Writer.Sink)
+        (upload_side ⟦<PlanFeed<F::File, F::Stamped> as Feed>⟧ (LooksAt F.Stamped.Stamped)
+        ⟦<PcmFeed<F::Growing> as Feed>⟧ P.Pause)
+        N.Network N.ListenerSetup N.Starts (S.words outside.old.system) result outside.old outside.new }
+{
+    match outside.system.words() {
+        Ok(words) => answer(alloc, words.as_slice(), outside),
+        Err(error) => report_bad_argv(&error, &mut outside.faults),
+    }
+}
+
+/// Does what these words ask for.
+fn answer<
+    S: System,
+    F: RecordingFiles + StateKeeping + EditedFiles + FolderLocks,
+    D: Volume,
+    J: Journal,
+    N: PacedNetwork
+        + ListenerSetup
+        + Starts<Server<N::Store, J>>
+        + NameRule
+        + StatusSetup<N::Reactor>,
+    P: Pause,
+    R: Source,
+    W: Sink,
+    E: Sink,
+    V: Watch + UploadWatch,
+    G: Observer,
+>(alloc: Global, words: &[String], outside: &mut Outside<S, F, D, N, P, R, W, E, V, G>) -> Exit
+    ensures { IsProgram (host_side S.System F.RecordingFiles (state_side F.kept_at F.States.StateFiles F.States.Log.StateLog)
+        F.EditedFiles F.FolderLocks D.Disk R.Source W.Sink E.Sink)
+        (server_side N.Store.TakeStore J.Journal ⟦<NoJournal as Journal>⟧ N.Peers.Peers
+        N.Peers.Reader.Source N.Peers.Writer.Sink N.Reactor.Reactor N.Reactor.Link.Link N.NameRule
+        (status_side N.StatusSetup N.Port.StatusPort N.Port.Link.Link))
+        (sender_side N.Dial.Dial N.Dial.Reader.Source N.Dial.Writer.Sink)
+        (upload_side ⟦<PlanFeed<F::File, F::Stamped> as Feed>⟧ (LooksAt F.Stamped.Stamped)
+        ⟦<PcmFeed<F::Growing> as Feed>⟧ P.Pause)
+        N.Network N.ListenerSetup N.Starts (Some (map string_bytes words.now)) result outside.old outside.new }
+{
+    match parse(alloc, words) {
+        Ok(line) => perform(alloc, &line, outside),
+        Err(_) => give_up(&mut outside.faults, &Fault::Memory),
+    }
+}
+
+/// Does what a command line asks for.
+fn perform<
+    S: System,
+    F: RecordingFiles + StateKeeping + EditedFiles + FolderLocks,
+    D: Volume,
+    J: Journal,
+    N: PacedNetwork
+        + ListenerSetup
+        + Starts<Server<N::Store, J>>
+        + NameRule
+        + StatusSetup<N::Reactor>,
+    P: Pause,
+    R: Source,
+    W: Sink,
+    E: Sink,
+    V: Watch + UploadWatch,
+    G: Observer,
+>(alloc: Global, line: &CommandLine, outside: &mut Outside<S, F, D, N, P, R, W, E, V, G>) -> Exit
+    requires { HasNumbersInRange line.now }
+    ensures { IsDoneFor (host_side S.System F.RecordingFiles (state_side F.kept_at F.States.StateFiles F.States.Log.StateLog)
+        F.EditedFiles F.FolderLocks D.Disk R.Source W.Sink E.Sink)
+        (server_side N.Store.TakeStore J.Journal ⟦<NoJournal as Journal>⟧ N.Peers.Peers
+        N.Peers.Reader.Source N.Peers.Writer.Sink N.Reactor.Reactor N.Reactor.Link.Link N.NameRule
+        (status_side N.StatusSetup N.Port.StatusPort N.Port.Link.Link))
+        (sender_side N.Dial.Dial N.Dial.Reader.Source N.Dial.Writer.Sink)
+        (upload_side ⟦<PlanFeed<F::File, F::Stamped> as Feed>⟧ (LooksAt F.Stamped.Stamped)
+        ⟦<PcmFeed<F::Growing> as Feed>⟧ P.Pause)
+        N.Network N.ListenerSetup N.Starts (S.file_at outside.old.system) (S.failures outside.old.system) line.now result
+        outside.old outside.new }
+{
+    match line {
+        CommandLine::Run(task) => run(alloc, task, outside),
+        CommandLine::BadValue(value) => {
+            print_diagnostic(&mut outside.faults, value.text().as_bytes());
+            Exit::Usage
+        }
+        CommandLine::Report(text) => show(alloc, text, &mut outside.out, &mut outside.faults),
+    }
+}
+
+/// Runs a task.
+fn run<
+    S: System,
+    F: RecordingFiles + StateKeeping + EditedFiles + FolderLocks,
+    D: Volume,
+    J: Journal,
+    N: PacedNetwork
+        + ListenerSetup
+        + Starts<Server<N::Store, J>>
+        + NameRule
+        + StatusSetup<N::Reactor>,
+    P: Pause,
+    R: Source,
+    W: Sink,
+    E: Sink,
+    V: Watch + UploadWatch,
+    G: Observer,
+>(alloc: Global, task: &Task, outside: &mut Outside<S, F, D, N, P, R, W, E, V, G>) -> Exit
+    requires { HasNumbersInRange (CommandLine.Run task.now) }
+    ensures { IsDoneFor (host_side S.System F.RecordingFiles (state_side F.kept_at F.States.StateFiles F.States.Log.StateLog)
+        F.EditedFiles F.FolderLocks D.Disk R.Source W.Sink E.Sink)
+        (server_side N.Store.TakeStore J.Journal ⟦<NoJournal as Journal>⟧ N.Peers.Peers
+        N.Peers.Reader.Source N.Peers.Writer.Sink N.Reactor.Reactor N.Reactor.Link.Link N.NameRule
+        (status_side N.StatusSetup N.Port.StatusPort N.Port.Link.Link))
+        (sender_side N.Dial.Dial N.Dial.Reader.Source N.Dial.Writer.Sink)
+        (upload_side ⟦<PlanFeed<F::File, F::Stamped> as Feed>⟧ (LooksAt F.Stamped.Stamped)
+        ⟦<PcmFeed<F::Growing> as Feed>⟧ P.Pause)
+        N.Network N.ListenerSetup N.Starts (S.file_at outside.old.system) (S.failures outside.old.system)
+        (CommandLine.Run task.now) result outside.old outside.new }
+{
+    let Outside {
+        system,
+        files,
+        disk,
+        network,
+        pause,
+        input,
+        out,
+        faults,
+        watch,
+        log,
+        screens,
+    } = outside;
+    match task {
+        Task::Replay { limit, fuse } => match (Limit::new(*limit), fuse) {
+            (Some(limit), Some(fuse)) => replay_fused(alloc, limit, *fuse, input, out, faults),
+            (Some(limit), None) => replay(alloc, limit, input, out, faults),
+            (None, _) => unreachable!(),
+        },
+        Task::Inspect { file } => { inspect_one(alloc, system, input, file.as_str(), out, faults) }
+        Task::InspectFiles(inspection) => {
+            inspect_as(alloc, inspection, files, input, out, faults)
+        }
+        Task::Rehearse { name, limit } => match Limit::new(*limit) {
+            Some(limit) => rehearse_run(alloc, name.copy(), limit, input, out, faults),
+            None => unreachable!(),
+        },
+        Task::Serve(server) => serve_as(alloc, server, network, out, faults),
+        Task::Send(sender) => send_as(alloc, sender, network, input, out, faults, watch),
+        Task::SendFile(sender) if sender.log => {
+            send_file_as(alloc, sender, files, network, pause, log, out, faults)
+        }
+        Task::SendFile(sender) => {
+            send_file_watched(alloc, sender, files, network, pause, watch, out, faults)
+        }
+        Task::SendPcm(sender) if sender.log => {
+            send_pcm_as(alloc, sender, files, network, pause, log, out, faults)
+        }
+        Task::SendPcm(sender) => {
+            send_pcm_watched(alloc, sender, files, network, pause, watch, out, faults)
+        }
+        Task::Pack(source) => pack_as(alloc, source, files, out, faults),
+        Task::Picture { file } => draw_file(alloc, files, file.as_str(), out, faults),
+        Task::Repair { file, write } => {
+            repair_file(alloc, files, file.as_str(), *write, out, faults)
+        }
+        Task::Takes(listing) => {
+            work_on_takes(alloc, listing, *screens, disk, files, pause, out, faults)
+        }
+    }
+}
+
+/// Prints help or the version, or says what is wrong with the command line.
+fn show<W: Sink, E: Sink>(alloc: Global, text: &Error, out: &mut W, faults: &mut E) -> Exit
+    ensures { (did : Outcome) × (did.exit ≡ result) × IsReporting (kind_of text.now) did
+        × (did.reads_all ≡ true)
+        × HasWritten W.Sink E.Sink did out.old out.new faults.old faults.new }
+{
+    let Ok(words) = format!(in alloc; "{text}") else {
+        return give_up(faults, &Fault::Memory);
+    };
+    if text.use_stderr() {
+        print_diagnostic(faults, words.as_bytes());
+        return Exit::Usage;
+    }
+    match print(out, words.as_bytes()) {
+        Ok(()) => Exit::Done,
+        Err(_) => give_up(faults, &Fault::Unwritable),
+    }
+}

@@ -1,0 +1,35 @@
+//! The commands on recordings, as a command line asks for them.
+ghost use Rattle.bw_program.specs.Packed.{IsRecordingFile, Packs};
+
+use bw_args::SourceFile;
+use bw_console::Exit;
+use bw_ports::RecordingFiles;
+use bw_recorder::{RecordingFile, pack};
+use bw_stream::Sink;
+use std::alloc::Global;
+
+/// Prints the requests of the recording that the command line names.
+pub(crate) fn pack_as<F: RecordingFiles, W: Sink, E: Sink>(
+    alloc: Global,
+    source: &SourceFile,
+    files: &mut F,
+    out: &mut W,
+    faults: &mut E,
+) -> Exit
+    ensures { Packs W.Sink E.Sink (F.file_at files.old) source.now result (F.failures files.old)
+        (F.failures files.new) out.old out.new faults.old faults.new }
+{
+    pack(alloc, files, &recording_of(source), out, faults)
+}
+
+/// The recording's file that the command line names.
+pub(crate) fn recording_of(source: &SourceFile) -> RecordingFile<'_>
+    ensures { IsRecordingFile source.now result }
+{
+    RecordingFile {
+        path: source.path.as_str(),
+        settings: source.settings.as_slice(),
+        is_strict: source.strict,
+        frames: None,
+    }
+}

@@ -1,0 +1,146 @@
+//! The command that sends headerless samples, as a command line asks for it.
+ghost use Rattle.std.specs.Prelude.{◌≡◌, is_some, min, option_map};
+ghost use Rattle.bw_send_file.specs.FileLooks.{LooksAt};
+ghost use Rattle.bw_program.specs.PcmUploads.{IsPcmFileOf, IsPcmRecorderOf, SendsPcm, awaited_end, most_in_field};
+ghost use Rattle.bw_program.specs.Sides.{sender_side, upload_side};
+
+use bw_args::PcmSender;
+use bw_console::Exit;
+use bw_pace::PacedNetwork;
+use bw_plan::Pcm;
+use bw_ports::{Network, Pause, RecordingFiles};
+use bw_progress::{Extent, UploadWatch};
+use bw_recorder::RecordingFile;
+use bw_send_file::{PlanFeed, Recorder};
+use bw_send_pcm::{PcmFeed, PcmFile, follow_samples, send_samples};
+use bw_stream::Sink;
+use bw_upload::{Feed, Observer};
+use std::alloc::Global;
+
+/// Sends the headerless samples that the command line names, and reports each change of the link to
+/// the observer.
+pub(crate) fn send_pcm_as<
+    F: RecordingFiles,
+    N: PacedNetwork,
+    P: Pause,
+    G: Observer,
+    W: Sink,
+    E: Sink,
+>(
+    alloc: Global,
+    sender: &PcmSender,
+    files: &mut F,
+    network: &N,
+    pause: &mut P,
+    observer: &mut G,
+    out: &mut W,
+    faults: &mut E,
+) -> Exit
+    ensures { SendsPcm
+        (upload_side ⟦<PlanFeed<F::File, F::Stamped> as Feed>⟧ (LooksAt F.Stamped.Stamped)
+        ⟦<PcmFeed<F::Growing> as Feed>⟧ P.Pause)
+        (sender_side N.Dial.Dial N.Dial.Reader.Source N.Dial.Writer.Sink) N.Network
+        F.RecordingFiles W.Sink E.Sink sender.now result files.old files.new network.now
+        pause.old pause.new out.old out.new faults.old faults.new }
+{
+    let mut dial = network.dial_paced(sender.connect, Some(sender.timeout), sender.rate);
+    let file = pcm_file_of(sender);
+    let recorder = recorder_of(sender);
+    match ending_of(sender) {
+        Some(until) => follow_samples(
+            alloc, &recorder, &file, until, files, pause, &mut dial, observer, out, faults,
+        ),
+        None => send_samples(
+            alloc, &recorder, &file, files, pause, &mut dial, observer, out, faults,
+        ),
+    }
+}
+
+/// Sends the headerless samples that the command line names as `send_pcm_as` does, and has its
+/// progress shown.
+pub(crate) fn send_pcm_watched<
+    F: RecordingFiles,
+    N: PacedNetwork,
+    P: Pause,
+    V: UploadWatch,
+    W: Sink,
+    E: Sink,
+>(
+    alloc: Global,
+    sender: &PcmSender,
+    files: &mut F,
+    network: &N,
+    pause: &mut P,
+    watch: &mut V,
+    out: &mut W,
+    faults: &mut E,
+) -> Exit
+    ensures { SendsPcm
+        (upload_side ⟦<PlanFeed<F::File, F::Stamped> as Feed>⟧ (LooksAt F.Stamped.Stamped)
+        ⟦<PcmFeed<F::Growing> as Feed>⟧ P.Pause)
+        (sender_side N.Dial.Dial N.Dial.Reader.Source N.Dial.Writer.Sink) N.Network
+        F.RecordingFiles W.Sink E.Sink sender.now result files.old files.new network.now
+        pause.old pause.new out.old out.new faults.old faults.new }
+{
+    let file = pcm_file_of(sender);
+    let extent = match ending_of(sender) {
+        Some(_until) => Extent::Growing,
+        None => Extent::Whole,
+    };
+    watch.begin_samples(alloc, &sender.name, &file.file, file.pcm, extent);
+    let exit = send_pcm_as(alloc, sender, files, network, pause, watch, out, faults);
+    watch.end();
+    exit
+}
+
+/// What says that the recording has ended: the path, or none for the end of standard input; None of
+/// the whole where it has ended.
+fn ending_of(sender: &PcmSender) -> Option<Option<&str>>
+    ensures { option_map (λ until. is_some until) result
+        ≡ awaited_end sender.now.pcm.is_spooled sender.now.pcm.until }
+{
+    if sender.pcm.is_spooled {
+        return Some(None);
+    }
+    match &sender.pcm.until {
+        Some(until) => Some(Some(until.as_str())),
+        None => None,
+    }
+}
+
+/// The recorder that the command line asks for.
+fn recorder_of(sender: &PcmSender) -> Recorder<'_>
+    ensures { IsPcmRecorderOf sender.now result }
+{
+    Recorder {
+        name: &sender.name,
+        fruitless: sender.fruitless,
+    }
+}
+
+/// The file of samples that the command line names.
+fn pcm_file_of(sender: &PcmSender) -> PcmFile<'_>
+    ensures { IsPcmFileOf sender.now result }
+{
+    PcmFile {
+        file: RecordingFile {
+            path: sender.source.path.as_str(),
+            settings: sender.source.settings.as_slice(),
+            is_strict: sender.source.strict,
+            frames: sender.pcm.block,
+        },
+        pcm: Pcm {
+            rate: sender.pcm.rate,
+            channels: in_field(sender.pcm.channels),
+            bits: in_field(sender.pcm.bits),
+            skip: u64::from(sender.pcm.skip),
+        },
+    }
+}
+
+/// A number of a format, or the greatest that its field holds: no format has that one.
+fn in_field(number: u32) -> u16
+    ensures { result ≡ min number most_in_field }
+{
+    number.min(65_535) as u16
+}
