@@ -30,3 +30,8 @@ pub mod AskForms
 pub mod ServerAnswers
 pub mod PromiseForms
 pub mod ResumeForms
+pub mod ClosedForms
+pub mod RestForms
+pub mod RestLaws
+pub mod WakeLaws
+pub mod RestBooks

@@ -27,3 +27,4 @@ pub mod Judging
 pub mod Asking
 pub mod Numbering
 pub mod Promises
+pub mod RestingNames

@@ -1,0 +1,5 @@
+use Rattle.bw_session.proofs.RestBooks.{closed_names_rest, resting_names_wake}
+use Rattle.bw_session.proofs.laws.law_rest.Goals as goal
+
+pub returns : goal.returns
+returns g c = record { rests = closed_names_rest _ _ _; wakes = resting_names_wake _ _ _ }
