@@ -30,8 +30,9 @@ pub mod AskForms
 pub mod ServerAnswers
 pub mod PromiseForms
 pub mod ResumeForms
-pub mod ClosedForms
 pub mod RestForms
 pub mod RestLaws
+pub mod ClosedForms
 pub mod WakeLaws
 pub mod RestBooks
+pub mod RestTables

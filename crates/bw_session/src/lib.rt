@@ -13,6 +13,7 @@ mod ledger;
 mod listing;
 mod numbering;
 mod replying;
+mod resting;
 mod resuming;
 mod server;
 mod server_turns;
