@@ -36,3 +36,5 @@ pub mod ClosedForms
 pub mod WakeLaws
 pub mod RestBooks
 pub mod RestTables
+pub mod WokenForms
+pub mod SameJournalForms

@@ -20,8 +20,10 @@ mod server_turns;
 mod serving;
 mod session;
 mod settling;
+mod waking;
 mod window;
 mod writing;
 
 pub use kept_take::KeptTake;
 pub use server::Server;
+pub use waking::WakeFault;
