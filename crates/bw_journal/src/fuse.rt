@@ -74,6 +74,8 @@ impl Journal for FuseJournal {
 
     ghost header = { λ j name. header_for j.inner name };
 
+    ghost resting = { λ _ _. None };
+
     ghost failures = { λ j. j.failures };
 
     ghost honest = { λ _. true };

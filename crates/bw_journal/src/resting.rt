@@ -11,9 +11,6 @@ use bw_store::StoreFault;
 ///
 /// As those of `Journal`, the clauses on what rests speak of an honest journal.
 pub trait RestingJournal: Journal {
-    /// What rests under each name.
-    ghost resting: { Self → List ℕ → Option (List ℕ) };
-
     /// Puts the journal of a name to rest, and returns true; false if nothing is noted under the
     /// name, a file of it existed before, or one rests under it already: nothing changes then.
     ///
@@ -28,11 +25,11 @@ pub trait RestingJournal: Journal {
         ensures honest { Self.honest self.new ≡ Self.honest self.old }
         ensures rested { IsTrue (Self.honest self.old) → IfOk result (λ rested.
             RestsIf rested name.now
-            (journals (Self.notes self.old) (resting self.old) (Self.header self.old))
-            (journals (Self.notes self.new) (resting self.new) (Self.header self.new))) }
+            (journals (Self.notes self.old) (Self.resting self.old) (Self.header self.old))
+            (journals (Self.notes self.new) (Self.resting self.new) (Self.header self.new))) }
         ensures failed { IsTrue (Self.honest self.old) → OnErr result (SameJournals
-            (journals (Self.notes self.old) (resting self.old) (Self.header self.old))
-            (journals (Self.notes self.new) (resting self.new) (Self.header self.new))) };
+            (journals (Self.notes self.old) (Self.resting self.old) (Self.header self.old))
+            (journals (Self.notes self.new) (Self.resting self.new) (Self.header self.new))) };
 
     /// Reads the journal that rests under a name; None if none does.
     ///
@@ -45,10 +42,10 @@ pub trait RestingJournal: Journal {
         ensures failures { Counts (Self.failures self.old) (Self.failures self.new) (is_err result) }
         ensures honest { Self.honest self.new ≡ Self.honest self.old }
         ensures read { IsTrue (Self.honest self.old) → IfOk result (λ found.
-            option_map (λ v. v.items) found ≡ resting self.old name.now) }
+            option_map (λ v. v.items) found ≡ Self.resting self.old name.now) }
         ensures kept { IsTrue (Self.honest self.old) → SameJournals
-            (journals (Self.notes self.old) (resting self.old) (Self.header self.old))
-            (journals (Self.notes self.new) (resting self.new) (Self.header self.new)) };
+            (journals (Self.notes self.old) (Self.resting self.old) (Self.header self.old))
+            (journals (Self.notes self.new) (Self.resting self.new) (Self.header self.new)) };
 
     /// Wakes the journal of a name, and returns true; false if none rests under it.
     ///
@@ -63,9 +60,9 @@ pub trait RestingJournal: Journal {
         ensures honest { Self.honest self.new ≡ Self.honest self.old }
         ensures woken { IsTrue (Self.honest self.old) → IfOk result (λ woken.
             WakesIf woken name.now
-            (journals (Self.notes self.old) (resting self.old) (Self.header self.old))
-            (journals (Self.notes self.new) (resting self.new) (Self.header self.new))) }
+            (journals (Self.notes self.old) (Self.resting self.old) (Self.header self.old))
+            (journals (Self.notes self.new) (Self.resting self.new) (Self.header self.new))) }
         ensures failed { IsTrue (Self.honest self.old) → OnErr result (SameJournals
-            (journals (Self.notes self.old) (resting self.old) (Self.header self.old))
-            (journals (Self.notes self.new) (resting self.new) (Self.header self.new))) };
+            (journals (Self.notes self.old) (Self.resting self.old) (Self.header self.old))
+            (journals (Self.notes self.new) (Self.resting self.new) (Self.header self.new))) };
 }

@@ -146,12 +146,12 @@ module _ (limit : ℕ) (store : Store) (sessions sessions' : List ℕ → Option
 
   journal_whole : before.noted name ≡ Some (journal_of (before.header name) name log)
   journal_whole = elim (n.known name s found).stands [
-      | inl none ↦ absurd (let e = none.0 in omega (arith, e, some_done))
-      | inr more ↦ more.1
-          ∙ ap (λ (xs : List ℕ). Some (journal_of (before.header name) name log ++ xs))
-          (entries_end (before.header name) more.0)
-          ∙ ap Some (append-nil (journal_of (before.header name) name log))
-    ]
+    | inl none ↦ absurd (let e = none.0 in omega (arith, e, some_done))
+    | inr more ↦ more.1
+        ∙ ap (λ (xs : List ℕ). Some (journal_of (before.header name) name log ++ xs))
+        (entries_end (before.header name) more.0)
+        ∙ ap Some (append-nil (journal_of (before.header name) name log))
+  ]
 
   pub at_rest : (before.header name).limit ≡ limit →
       IsAtRest limit name (cut_log log) (after.resting name) (store.contents name)

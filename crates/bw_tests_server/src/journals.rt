@@ -51,6 +51,8 @@ impl Journal for Expecting {
 
     ghost header = { λ _ _. record { limit = 0; existed = false } };
 
+    ghost resting = { λ _ _. None };
+
     ghost failures = { λ j. j.call_counter.failures };
 
     ghost honest = { λ _. false };
