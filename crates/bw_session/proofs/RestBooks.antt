@@ -20,7 +20,7 @@ use Rattle.bw_journal.specs.Stops.{without}
 use Rattle.bw_session.specs.RestingNames.{IsAtRest, IsMadeFrom, with_first, is_restable, RestsBook, journals_of}
 use Rattle.bw_session.specs.RestingNames.{ClosedNamesRest, RestingNamesWake, KeepsOtherNames, RestsNow, WakesNow}
 use Rattle.bw_session.specs.RestingNames.{is_restable_in}
-use Rattle.bw_session.specs.RestFaults.{is_fit, may_wake}
+use Rattle.bw_session.specs.RestFaults.{is_fit_to_wake, may_wake}
 use Rattle.bw_session.specs.declared.server.Server.{Server}
 use Rattle.bw_session.specs.Servers.{HoldsIn}
 use Rattle.bw_session.specs.Windows.{count_held}
@@ -113,7 +113,7 @@ module _ {X Y : Type 0} (S : StoreGhosts X) (J : JournalGhosts Y) where
       hash_map_len old.sessions < most_takes → session_in new.sessions name ≡ Some s →
       s.progress.growing.name ≡ name → s.progress.growing.limit ≡ old.limit →
       (IsTrue (J.honest old.stores.journal) → J.resting old.stores.journal name ≡ Some bytes) →
-      is_fit old.limit name bytes ≡ true →
+      is_fit_to_wake old.limit name bytes ≡ true →
       ((log : Log) (file : Option (List ℕ)) → IsAtRest old.limit name log (Some bytes) file →
       IsMadeFrom log bytes file s) →
       (IsTrue (J.honest old.stores.journal) → WakesJournal name (journals_of S J old) (journals_of S J new)) →

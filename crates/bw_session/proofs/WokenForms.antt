@@ -21,7 +21,7 @@ use Rattle.bw_journal.proofs.ReportLaws.{journals_report_logs}
 use Rattle.bw_journal.proofs.Taken.{taken-made, taken_reported}
 use Rattle.bw_session.specs.Keeping.{KeepsDone}
 use Rattle.bw_session.specs.Prefixes.{take_done, FileFollows}
-use Rattle.bw_session.specs.RestFaults.{is_fit, may_wake}
+use Rattle.bw_session.specs.RestFaults.{is_fit_to_wake, may_wake}
 use Rattle.bw_session.specs.RestingNames.{IsAtRest, IsMadeFrom, NamesAtRestMayWake}
 use Rattle.bw_session.specs.Resumed.{ResumesFrom}
 use Rattle.bw_session.specs.declared.kept_take.KeptTake.{KeptTake}
@@ -95,7 +95,7 @@ module _ (limit : ℕ) (name : List ℕ) (log : Log) (bytes : List ℕ) (file : 
   said_at_rest story e = ap (λ (r : Result Story JournalFault). said_by r (story_of_log head name log)) (sym e ∙ story_is)
 
   -- what rests is fit to wake its name
-  pub fit_at_rest : is_fit limit name bytes ≡ true
+  pub fit_at_rest : is_fit_to_wake limit name bytes ≡ true
   fit_at_rest =
       fit_by (length bytes) (replay limit name bytes) (story_of_log head name log) story_is story_used story_closed
       table_length

@@ -29,9 +29,9 @@ is_unfit (Err wake_faults.Memory) = false
 is_unfit (Err wake_faults.Unfit) = true
 
 -- What a replay says of this many bytes is all of them: no entry is torn.
-abbrev pub is_whole : ℕ → Result Story JournalFault → Bool
-is_whole len (Ok story) = story.used == len
-is_whole len (Err fault) = false
+abbrev pub is_replayed_whole : ℕ → Result Story JournalFault → Bool
+is_replayed_whole len (Ok story) = story.used == len
+is_replayed_whole len (Err fault) = false
 
 -- It is of a closed take, with no more numbers than messages have.
 abbrev pub is_of_closed : Result Story JournalFault → Bool
@@ -40,11 +40,11 @@ is_of_closed (Ok story) =
 is_of_closed (Err fault) = false
 
 -- whether a name may wake by these bytes, in a server of this limit
-abbrev pub is_fit : ℕ → List ℕ → List ℕ → Bool
-is_fit limit name bytes =
-    is_whole (length bytes) (replay limit name bytes) && is_of_closed (replay limit name bytes)
+abbrev pub is_fit_to_wake : ℕ → List ℕ → List ℕ → Bool
+is_fit_to_wake limit name bytes =
+    is_replayed_whole (length bytes) (replay limit name bytes) && is_of_closed (replay limit name bytes)
 
 -- whether it may wake by what rests under it
 abbrev pub may_wake : ℕ → List ℕ → Option (List ℕ) → Bool
 may_wake limit name None = false
-may_wake limit name (Some bytes) = is_fit limit name bytes
+may_wake limit name (Some bytes) = is_fit_to_wake limit name bytes

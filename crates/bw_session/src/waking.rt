@@ -10,7 +10,7 @@ ghost use Rattle.bw_journal.specs.Replays.{replay as replay_of};
 ghost use Rattle.bw_journal.specs.Stories.{story_of};
 ghost use Rattle.bw_session.specs.RestingNames.{IsAtRest, IsMadeFrom};
 ghost use Rattle.bw_session.specs.Tables.{session_in};
-ghost use Rattle.bw_session.specs.RestFaults.{is_wake_failed, is_unfit, is_fit, is_whole, may_wake};
+ghost use Rattle.bw_session.specs.RestFaults.{is_wake_failed, is_unfit, is_fit_to_wake, is_replayed_whole, may_wake};
 
 use crate::kept_take::KeptTake;
 use crate::resuming::session_of;
@@ -122,8 +122,8 @@ fn session_at_rest(
     ensures made { IfOk result (λ s. (log : Log) (file : Option (List ℕ)) →
         IsAtRest limit name.now log (Some bytes.now) file → IsMadeFrom log bytes.now file s) }
     ensures err { is_wake_failed result ≡ false }
-    ensures fit { IfOk result (λ _. IsTrue (is_fit limit name.now bytes.now)) }
-    ensures unfit { IsTrue (is_unfit result) → is_fit limit name.now bytes.now ≡ false }
+    ensures fit { IfOk result (λ _. IsTrue (is_fit_to_wake limit name.now bytes.now)) }
+    ensures unfit { IsTrue (is_unfit result) → is_fit_to_wake limit name.now bytes.now ≡ false }
 {
     let _range = limit.bytes();
     let replayed = replay_whole(alloc, limit, name, bytes)?;
@@ -154,7 +154,7 @@ fn replay_whole(
     ensures whole { IfOk result (λ r. r.used ≡ length bytes.now) }
     ensures err { is_wake_failed result ≡ false }
     ensures unfit { IsTrue (is_unfit result) →
-        is_whole (length bytes.now) (replay_of limit name.now bytes.now) ≡ false }
+        is_replayed_whole (length bytes.now) (replay_of limit name.now bytes.now) ≡ false }
 {
     if bytes.len() > JOURNAL_MAX {
         return Err(WakeFault::Memory);

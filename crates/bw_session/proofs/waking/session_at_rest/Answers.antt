@@ -4,7 +4,7 @@ use Rattle.bw_model.specs.Wire.{Second, last_number}
 use Rattle.bw_journal.specs.Replays.{replay}
 use Rattle.bw_journal.specs.Stories.{story_of}
 use Rattle.bw_journal.specs.declared.story.Replayed.{Replayed}
-use Rattle.bw_session.specs.RestFaults.{is_whole, is_of_closed}
+use Rattle.bw_session.specs.RestFaults.{is_replayed_whole, is_of_closed}
 use Rattle.bw_session.proofs.FitForms.{first_no, fit_by, open_unfit, long_unfit}
 use Rattle.bw_session.proofs.WokenForms.{made_at_rest}
 use Rattle.bw_session.proofs.waking.session_at_rest.Goals as goal
@@ -13,7 +13,7 @@ pub returns-in_err-replayed-clause-unfit : goal.returns-in_err-replayed-clause-u
 returns-in_err-replayed-clause-unfit c = λ bad.
     let said = replay c.args.limit c.args.name.now c.args.bytes.now in
     let unfit = c.in_err-replayed.ensures.unfit in
-    first_no (is_whole (length c.args.bytes.now) said) (is_of_closed said) (search (rules, unfit, bad))
+    first_no (is_replayed_whole (length c.args.bytes.now) said) (is_of_closed said) (search (rules, unfit, bad))
 
 pub returns-then-not-is_closed-clause-unfit : goal.returns-then-not-is_closed-clause-unfit
 returns-then-not-is_closed-clause-unfit c = λ bad.

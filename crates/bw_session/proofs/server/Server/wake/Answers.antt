@@ -3,7 +3,7 @@ use Rattle.std.specs.HashMap.{spare}
 use Rattle.std.specs.Str.{bytes_eq}
 use Rattle.bw_model.specs.Book.{Log}
 use Rattle.bw_journal.specs.Resting.{journals}
-use Rattle.bw_session.specs.RestFaults.{is_fit, may_wake}
+use Rattle.bw_session.specs.RestFaults.{is_fit_to_wake, may_wake}
 use Rattle.bw_session.specs.RestingNames.{IsAtRest, IsMadeFrom, journals_of}
 use Rattle.bw_session.specs.Tables.{session_in}
 use Rattle.bw_session.specs.declared.session.Session.{Session}
@@ -54,18 +54,18 @@ returns-clause-woken g c =
     c.requires.fresh c.len-names.ensures.unique c.requires.place here
     (s.progress.same_name ∙ c.in_ok-session.ensures.name) c.in_ok-session.ensures.limit
     (λ honest_notes. let read = c.in-Ok.ensures.read honest_notes in search (rules, read))
-    (subst (λ (b : List ℕ). is_fit c.args.self.now.limit c.args.name.now b ≡ true) c.deref.ensures.value
+    (subst (λ (b : List ℕ). is_fit_to_wake c.args.self.now.limit c.args.name.now b ≡ true) c.deref.ensures.value
     c.in_ok-session.ensures.fit)
     (subst (λ (b : List ℕ). (l : Log) (f : Option (List ℕ)) →
     IsAtRest c.args.self.now.limit c.args.name.now l (Some b) f → IsMadeFrom l b f s) c.deref.ensures.value
     c.in_ok-session.ensures.made)
     (λ honest_notes.
-        let still : IsTrue (g.J.Journal.honest c.read_resting.new.self) =
-        subst IsTrue (sym c.read_resting.ensures.honest) honest_notes in
-        wakes_if c.in-Ok-wake.woken c.args.name.now
-        (journals_of g.S.TakeStore g.J.Journal c.args.self.now)
-        (journals (g.J.Journal.notes c.read_resting.new.self) (g.J.Journal.resting c.read_resting.new.self)
-        (g.J.Journal.header c.read_resting.new.self))
-        (journals (g.J.Journal.notes c.wake.new.self) (g.J.Journal.resting c.wake.new.self)
-        (g.J.Journal.header c.wake.new.self))
-        (c.in-Ok.ensures.kept honest_notes) (search rules) (c.in-Ok-wake.ensures.woken still))
+    let still : IsTrue (g.J.Journal.honest c.read_resting.new.self) =
+    subst IsTrue (sym c.read_resting.ensures.honest) honest_notes in
+    wakes_if c.in-Ok-wake.woken c.args.name.now
+    (journals_of g.S.TakeStore g.J.Journal c.args.self.now)
+    (journals (g.J.Journal.notes c.read_resting.new.self) (g.J.Journal.resting c.read_resting.new.self)
+    (g.J.Journal.header c.read_resting.new.self))
+    (journals (g.J.Journal.notes c.wake.new.self) (g.J.Journal.resting c.wake.new.self)
+    (g.J.Journal.header c.wake.new.self))
+    (c.in-Ok.ensures.kept honest_notes) (search rules) (c.in-Ok-wake.ensures.woken still))
