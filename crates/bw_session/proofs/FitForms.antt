@@ -59,11 +59,11 @@ module _ (len : ℕ) (said : Result Story JournalFault) (story : Story) (is : sa
       (ne_eqb story.used len (λ same. some (omega (arith, all, same))))
 
 -- a journal that can't be replayed
-pub fault_unfit : (len : ℕ) (said : Result Story JournalFault) (fault : ReplayFault) (x : WakeFault) →
-    IsJournalFault fault said → (fault_meaning fault ≡ None → x ≡ Memory) → is_unfit {ℕ} (Err x) ≡ true →
+pub fault_unfit : (T : Type 0) (len : ℕ) (said : Result Story JournalFault) (fault : ReplayFault) (x : WakeFault) →
+    IsJournalFault fault said → (fault_meaning fault ≡ None → x ≡ Memory) → is_unfit {T = T} (Err x) ≡ true →
     is_replayed_whole len said ≡ false
-fault_unfit len said fault x reported memory bad = go (fault_meaning fault) refl
+fault_unfit T len said fault x reported memory bad = go (fault_meaning fault) refl
   where
     go : (o : Option JournalFault) → fault_meaning fault ≡ o → is_replayed_whole len said ≡ false
-    go None e = never (sym (ap (λ (w : WakeFault). is_unfit {ℕ} (Err w)) (memory e)) ∙ bad)
+    go None e = never (sym (ap (λ (w : WakeFault). is_unfit {T = T} (Err w)) (memory e)) ∙ bad)
     go (Some f) e = ap (is_replayed_whole len) (reported f e)

@@ -155,7 +155,7 @@ module _ (limit : ℕ) (name : List ℕ) (log : Log) (bytes : List ℕ) (file : 
     }
 
 pub names_at_rest_may_wake : NamesAtRestMayWake
-names_at_rest_may_wake limit name log journal file small rest =
+names_at_rest_may_wake limit name log noted file small rest =
     let head : Header = record { limit = limit; existed = false } in
     subst (λ (o : Option (List ℕ)). may_wake limit name o ≡ true) (sym rest.notes)
     (fit_at_rest limit name log (journal_of head name log) file small
