@@ -1,4 +1,4 @@
-use Rattle.std.proofs.Common.{rules, ◌≡◌, ◌<◌, ◌≤◌, ◌∙◌, IsTrue, List, ℕ, Option, Some, None, sym, ap, subst, arith, true, refl}
+use Rattle.std.proofs.Common.{rules, ◌≡◌, ◌<◌, ◌≤◌, ◌∙◌, IsTrue, List, ℕ, Option, Some, None, sym, ap, subst, arith, true, false, refl}
 use Rattle.std.specs.HashMap.{spare}
 use Rattle.std.specs.Str.{bytes_eq}
 use Rattle.bw_model.specs.Book.{Log}
