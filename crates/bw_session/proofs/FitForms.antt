@@ -1,7 +1,7 @@
 -- Which journals are fit to wake a name, from what a replay says of them.
-use Rattle.std.proofs.Common.{◌≡◌, ◌≢◌, ℕ, ◌+◌, ◌*◌, ◌≤◌, Bool, true, false, List, length, arith}
+use Rattle.std.proofs.Common.{◌≡◌, ◌≢◌, ℕ, ◌+◌, ◌*◌, ◌≤◌, Bool, true, false, length, arith}
 use Rattle.std.proofs.Common.{Option, Some, None, refl, sym, ◌∙◌, ap, subst}
-use Rattle.std.specs.Prelude.{◌&&◌, ◌==◌, nat_le, Ok, Err, Result, IsTrue}
+use Rattle.std.specs.Prelude.{◌&&◌, ◌==◌, nat_le, Ok, Err, Result}
 use Rattle.std.proofs.lemmas.Bool.{and_from, eq-eqb, ne_eqb, le-leb, leb-true}
 use Rattle.bw_model.specs.Wire.{Second, last_number}
 use Rattle.bw_journal.specs.Faults.{fault_meaning, IsJournalFault}

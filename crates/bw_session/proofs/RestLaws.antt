@@ -6,7 +6,7 @@ use Rattle.std.specs.Bool.{MatchBool}
 use Rattle.std.specs.Str.{bytes_eq}
 use Rattle.std.proofs.lemmas.List.{append-nil}
 use Rattle.bw_model.specs.Bytes.{at}
-use Rattle.bw_model.specs.Take.{Take, Parts, Format, parts}
+use Rattle.bw_model.specs.Take.{Take, Parts, Format}
 use Rattle.bw_model.specs.File.{file_of, file_with}
 use Rattle.bw_model.specs.Book.{Log, Book, log_of, made}
 use Rattle.bw_model.specs.Holds.{Store, HoldsName, body_of}

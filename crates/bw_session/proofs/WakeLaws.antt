@@ -1,5 +1,5 @@
 -- A name wakes.
-use Rattle.std.proofs.Common.{◌≡◌, ℕ, ◌<◌, Bool, true, false, cond, List, ◌∷◌, length, take, arith}
+use Rattle.std.proofs.Common.{◌≡◌, ℕ, ◌<◌, Bool, true, false, cond, List, ◌∷◌, length, arith}
 use Rattle.std.proofs.Common.{Option, Some, None, refl, sym, ◌∙◌, ap, subst, inl, inr, ◌||◌}
 use Rattle.std.specs.Prelude.{IsTrue, is_some}
 use Rattle.std.specs.Str.{bytes_eq}
@@ -12,7 +12,6 @@ use Rattle.bw_model.proofs.BookLemmas.{name_refl}
 use Rattle.bw_journal.specs.JournalHeaders.{Header}
 use Rattle.bw_journal.specs.Noted.{journal_of}
 use Rattle.bw_journal.specs.Resting.{Journals, WakesJournal}
-use Rattle.bw_journal.specs.Stops.{without}
 use Rattle.bw_session.specs.Journaled.{NotesNames}
 use Rattle.bw_session.specs.Noting.{IsNoted}
 use Rattle.bw_session.specs.RestingNames.{IsAtRest, IsMadeFrom, with_first}

@@ -3,7 +3,7 @@ use Rattle.std.proofs.Common.{◌≡◌, ℕ, ◌+◌, ◌*◌, ◌^◌, ◌<◌
 use Rattle.std.proofs.Common.{Option, Some, None, refl, sym, ◌∙◌, ap, subst}
 use Rattle.std.specs.Prelude.{is_some, Ok, Err, Result}
 use Rattle.std.proofs.lemmas.List.{append-nil}
-use Rattle.bw_model.specs.Bytes.{at, zeros}
+use Rattle.bw_model.specs.Bytes.{zeros}
 use Rattle.bw_model.specs.Take.{Parts, Close, Stored, parts, Verdict}
 use Rattle.bw_model.specs.Wire.{Second, last_number}
 use Rattle.bw_model.specs.File.{file_of}
@@ -95,7 +95,7 @@ module _ (limit : ℕ) (name : List ℕ) (log : Log) (bytes : List ℕ) (file : 
   said_at_rest story e = ap (λ (r : Result Story JournalFault). said_by r (story_of_log head name log)) (sym e ∙ story_is)
 
   -- what rests is fit to wake its name
-  pub fit_at_rest : is_fit_to_wake limit name bytes ≡ true
+  fit_at_rest : is_fit_to_wake limit name bytes ≡ true
   fit_at_rest =
       fit_by (length bytes) (replay limit name bytes) (story_of_log head name log) story_is story_used story_closed
       table_length

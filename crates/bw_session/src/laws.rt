@@ -1,7 +1,8 @@
 //! Laws of the definitions on which servers of many names rely.
 ghost use Rattle.bw_model.specs.Turn.{IsolatesEachName};
 ghost use Rattle.bw_session.specs.Books.{QuietBooksAreInOrder, WaitingNumbersAreInOrder};
-ghost use Rattle.bw_session.specs.RestingNames.{ClosedNamesRest, RestingNamesWake, NamesAtRestMayWake};
+ghost use Rattle.bw_session.specs.RestingNames.{ClosedNamesRest, RestingNamesWake};
+ghost use Rattle.bw_session.specs.RestingNames.{NamesAtRestMayWake};
 ghost use Rattle.bw_session.specs.Settled.{SettledTurnsMeetNoFaults};
 
 use bw_journal::{Journal, RestingJournal};

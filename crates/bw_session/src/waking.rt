@@ -10,7 +10,8 @@ ghost use Rattle.bw_journal.specs.Replays.{replay as replay_of};
 ghost use Rattle.bw_journal.specs.Stories.{story_of};
 ghost use Rattle.bw_session.specs.RestingNames.{IsAtRest, IsMadeFrom};
 ghost use Rattle.bw_session.specs.Tables.{session_in};
-ghost use Rattle.bw_session.specs.RestFaults.{is_wake_failed, is_unfit, is_fit_to_wake, is_replayed_whole, may_wake};
+ghost use Rattle.bw_session.specs.RestFaults.{is_wake_failed, is_unfit, is_fit_to_wake};
+ghost use Rattle.bw_session.specs.RestFaults.{is_replayed_whole, may_wake};
 
 use crate::kept_take::KeptTake;
 use crate::resuming::session_of;
@@ -30,9 +31,10 @@ const JOURNAL_MAX: usize = 1 << 40;
 pub enum WakeFault {
     /// The journal failed.
     Journal,
-    /// Memory was refused.
+    /// Memory was refused, or the journal has more than 2^40 bytes.
     Memory,
-    /// What rests isn't the journal of a closed take, whole and of the server's limit.
+    /// What rests isn't the journal of a closed take, whole, of the server's limit, and with no more
+    /// numbers than messages have.
     Unfit,
 }
 
@@ -62,6 +64,7 @@ impl<S: TakeStore, J: RestingJournal> Server<S, J> {
 
     /// Wakes a name: what is kept of it is made anew from its journal, which is as before its rest.
     /// It returns false, and nothing changes, if none rests under the name. The store isn't asked.
+    /// The name must not be known, and the table not be full: `is_known` and `is_full` say whether.
     ///
     /// # Errors
     /// The fault; nothing has changed.

@@ -1,4 +1,4 @@
-use Rattle.std.proofs.Common.{rules, ◌≡◌, ◌≢◌, length}
+use Rattle.std.proofs.Common.{rules, length}
 use Rattle.bw_journal.specs.Replays.{replay}
 use Rattle.bw_journal.specs.Stories.{story_of}
 use Rattle.bw_journal.specs.declared.story.Replayed.{Replayed}

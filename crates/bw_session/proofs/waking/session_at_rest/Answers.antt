@@ -1,4 +1,4 @@
-use Rattle.std.proofs.Common.{rules, ◌≡◌, ◌<◌, ◌≤◌, ◌+◌, ◌*◌, ◌^◌, ◌∙◌, sym, ap, subst, length}
+use Rattle.std.proofs.Common.{rules, ◌<◌, ◌≤◌, ◌+◌, ◌*◌, ◌^◌, ◌∙◌, sym, ap, subst, length}
 use Rattle.std.specs.Prelude.{Ok}
 use Rattle.bw_model.specs.Wire.{Second, last_number}
 use Rattle.bw_journal.specs.Replays.{replay}

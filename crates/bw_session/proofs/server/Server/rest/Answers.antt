@@ -1,4 +1,4 @@
-use Rattle.std.proofs.Common.{rules, ◌≡◌, IsTrue, sym, ◌∙◌, subst, true}
+use Rattle.std.proofs.Common.{rules, ◌≡◌, IsTrue, sym, ◌∙◌, subst}
 use Rattle.bw_journal.specs.Resting.{journals, PutsToRest}
 use Rattle.bw_session.proofs.RestBooks.{rests_now}
 use Rattle.bw_session.proofs.RestTables.{table_less, put_if}

@@ -1,4 +1,4 @@
-use Rattle.std.proofs.Common.{rules, ◌≡◌, ◌<◌, ◌≤◌, ◌∙◌, IsTrue, List, ℕ, Option, Some, None, sym, ap, subst, arith, true, false, refl}
+use Rattle.std.proofs.Common.{rules, ◌≡◌, ◌<◌, ◌∙◌, IsTrue, List, ℕ, Option, Some, None, sym, ap, subst, arith, true, false, refl}
 use Rattle.std.specs.HashMap.{spare}
 use Rattle.std.specs.Str.{bytes_eq}
 use Rattle.bw_model.specs.Book.{Log}
@@ -6,7 +6,6 @@ use Rattle.bw_journal.specs.Resting.{journals}
 use Rattle.bw_session.specs.RestFaults.{is_fit_to_wake, may_wake}
 use Rattle.bw_session.specs.RestingNames.{IsAtRest, IsMadeFrom, journals_of}
 use Rattle.bw_session.specs.Tables.{session_in}
-use Rattle.bw_session.specs.declared.session.Session.{Session}
 use Rattle.bw_session.proofs.RestBooks.{wakes_now}
 use Rattle.bw_session.proofs.SameJournalForms.{wakes_if}
 use Rattle.bw_session.proofs.ServerForms.{table_set, one_more, inserted}
