@@ -1,3 +1,4 @@
 pub mod Folders
 pub mod Journals
 pub mod Syncing
+pub mod RestingJournals

@@ -448,7 +448,7 @@ impl<D: Volume> FolderJournal<D> {
 }
 
 /// The place of a name among the open journals.
-fn find<F: Drop>(journals: &[OpenJournal<F>], name: &Name) -> Option<usize>
+pub(crate) fn find<F: Drop>(journals: &[OpenJournal<F>], name: &Name) -> Option<usize>
     ensures open { IsSome result ↔ IsSome (existence_of (existences journals.now) name.now) }
     ensures place { IfSome result (λ place. (place < length journals.now)
         × HoldsAt (λ journal. (journal.name ≡ name.now)

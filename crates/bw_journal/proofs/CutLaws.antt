@@ -87,16 +87,16 @@ names_up y = record { of = λ _. true; step = λ entry book. either (bytes_eq en
     either true b = refl
     either false b = refl
 
-log-without_same : (book : Book) (x y : List ℕ) → bytes_eq x y ≡ true → log_of (without x book) y ≡ no_log
+pub log-without_same : (book : Book) (x y : List ℕ) → bytes_eq x y ≡ true → log_of (without x book) y ≡ no_log
 log-without_same book x y e = up-without_same y (λ b. log_of b y) (logs_up y) book x e
 
-log-without_other : (book : Book) (x y : List ℕ) → bytes_eq x y ≡ false → log_of (without x book) y ≡ log_of book y
+pub log-without_other : (book : Book) (x y : List ℕ) → bytes_eq x y ≡ false → log_of (without x book) y ≡ log_of book y
 log-without_other book x y e = up-without_other y (λ b. log_of b y) (logs_up y) book x e
 
-known-without_same : (book : Book) (x y : List ℕ) → bytes_eq x y ≡ true → is_known (without x book) y ≡ false
+pub known-without_same : (book : Book) (x y : List ℕ) → bytes_eq x y ≡ true → is_known (without x book) y ≡ false
 known-without_same book x y e = up-without_same y (λ b. is_known b y) (names_up y) book x e
 
-known-without_other : (book : Book) (x y : List ℕ) → bytes_eq x y ≡ false →
+pub known-without_other : (book : Book) (x y : List ℕ) → bytes_eq x y ≡ false →
     is_known (without x book) y ≡ is_known book y
 known-without_other book x y e = up-without_other y (λ b. is_known b y) (names_up y) book x e
 
@@ -167,7 +167,7 @@ fits-take (suc d) (x ∷ s) h =
     let both = and_parts (is_admitted x) (list_all is_admitted s) h in
     and_from (is_admitted x) (list_all is_admitted (take d s)) both.0 (fits-take d s both.1)
 
-log_left : (log : Log) → IsLog log → 0 < log.done → IsLog (cut_log log)
+pub log_left : (log : Log) → IsLog log → 0 < log.done → IsLog (cut_log log)
 log_left log h some =
     let most : length (take log.done log.admitted) ≤ log.done = length-take_most log.done log.admitted in
     record {
@@ -184,7 +184,7 @@ known-without book x y e = go (bytes_eq x y) refl
     go true same = known-without_same book x y same
     go false other = known-without_other book x y other ∙ e
 
-once-without : (book : Book) (x : List ℕ) → HasEachOnce book → HasEachOnce (without x book)
+pub once-without : (book : Book) (x : List ℕ) → HasEachOnce book → HasEachOnce (without x book)
 once-without [] x h = tt
 once-without (entry ∷ book) x h = go (bytes_eq entry.0 x) (once-without book x h.1)
   where
@@ -205,7 +205,7 @@ once-cut (entry ∷ book) h = go (nat_lt 0 entry.1.done) (once-cut book h.1)
     go true further = (unknown, further)
     go false further = once-without (cut_book book) entry.0 further
 
-length-without : (book : Book) (x : List ℕ) → length (without x book) ≤ length book
+pub length-without : (book : Book) (x : List ℕ) → length (without x book) ≤ length book
 length-without [] x = omega arith
 length-without (entry ∷ book) x = go (bytes_eq entry.0 x) (length-without book x)
   where

@@ -55,7 +55,7 @@ held_files_survive limit store kept_of book holds honest name none = go (known_o
         )
 
 -- as many outcomes as requests
-finished-length : (existed : Bool) (s : List (Option Request)) (name : List ℕ) (n : ℕ) (rest : List (Option Request)) →
+pub finished-length : (existed : Bool) (s : List (Option Request)) (name : List ℕ) (n : ℕ) (rest : List (Option Request)) →
     list_all fits rest ≡ true
     → length (finished_from existed s name n rest) ≡ length rest
 finished-length existed s name n [] h = refl

@@ -13,3 +13,4 @@ pub mod Noted
 pub mod Rows
 pub mod Stops
 pub mod Recovery
+pub mod Resting

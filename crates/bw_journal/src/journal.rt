@@ -5,15 +5,15 @@ ghost use Rattle.bw_model.specs.Counts.{Counts};
 ghost use Rattle.bw_store.specs.Stores.{KeepsOthers};
 ghost use Rattle.bw_journal.specs.JournalHeaders.{Header};
 ghost use Rattle.bw_journal.specs.Notes.{BeginsNotes, BeginsInPart, Notes, NotesInPart};
-ghost use Rattle.bw_journal.specs.Notes.{KeepsHeaders};
+ghost use Rattle.bw_journal.specs.Notes.{KeepsHeaders, KeepsResting};
 
 use bw_request::Name;
 use bw_store::StoreFault;
 
 /// Bytes by name that begin with a header and grow at their end.
 ///
-/// The clauses on notes and headers speak of an honest journal: one that keeps what it reported as
-/// successful.
+/// The clauses on notes, headers and what rests speak of an honest journal: one that keeps what it
+/// reported as successful.
 pub trait Journal: Drop {
     /// What is noted under each name.
     ghost notes: { Self → List ℕ → Option (List ℕ) };
@@ -22,10 +22,13 @@ pub trait Journal: Drop {
     /// whether a file of the name existed.
     ghost header: { Self → List ℕ → Header };
 
+    /// What rests under each name, apart from what is noted; nothing where no name can rest.
+    ghost resting: { Self → List ℕ → Option (List ℕ) };
+
     /// How many calls failed; the count stays at 2^64 - 1.
     ghost failures: { Self → ℕ };
 
-    /// Whether the journal does what the clauses on notes and headers say.
+    /// Whether the journal does what the clauses on notes, headers and what rests say.
     ghost honest: { Self → Bool };
 
     /// Writes the header of a name's journal, unless it is there whole.
@@ -45,6 +48,8 @@ pub trait Journal: Drop {
         ensures honest { honest self.new ≡ honest self.old }
         ensures headers { IsTrue (honest self.old) →
             KeepsHeaders (header self.old) (header self.new) }
+        ensures resting { IsTrue (honest self.old) →
+            KeepsResting (resting self.old) (resting self.new) }
         ensures begun { IsTrue (honest self.old) → OnOk result
             (BeginsNotes name.now (header self.old name.now)
             (notes self.old name.now) (notes self.new name.now)) }
@@ -69,6 +74,8 @@ pub trait Journal: Drop {
         ensures honest { honest self.new ≡ honest self.old }
         ensures headers { IsTrue (honest self.old) →
             KeepsHeaders (header self.old) (header self.new) }
+        ensures resting { IsTrue (honest self.old) →
+            KeepsResting (resting self.old) (resting self.new) }
         ensures noted { IsTrue (honest self.old) → OnOk result
             (Notes offset bytes.now (notes self.old name.now) (notes self.new name.now)) }
         ensures failed { IsTrue (honest self.old) → OnErr result
@@ -85,6 +92,8 @@ impl Journal for NoJournal {
     ghost notes = { λ _ _. None };
 
     ghost header = { λ _ _. record { limit = 0; existed = false } };
+
+    ghost resting = { λ _ _. None };
 
     ghost failures = { λ _. 0 };
 

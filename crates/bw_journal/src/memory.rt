@@ -100,6 +100,8 @@ impl Journal for MemoryJournal {
 
     ghost header = { λ j name. header_for j name };
 
+    ghost resting = { λ _ _. None };
+
     ghost failures = { λ j. j.failures };
 
     ghost honest = { λ _. true };

@@ -30,3 +30,12 @@ pub mod AskForms
 pub mod ServerAnswers
 pub mod PromiseForms
 pub mod ResumeForms
+pub mod RestForms
+pub mod RestLaws
+pub mod ClosedForms
+pub mod WakeLaws
+pub mod RestBooks
+pub mod RestTables
+pub mod FitForms
+pub mod WokenForms
+pub mod SameJournalForms

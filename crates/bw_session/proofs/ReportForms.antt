@@ -15,10 +15,10 @@ use Rattle.bw_session.specs.Windows.{count_held}
 use Rattle.bw_session.specs.declared.session.Session.{Session}
 
 -- one for what is there, else none
-abbrev one_if : Bool → ℕ
+abbrev pub one_if : Bool → ℕ
 one_if b = cond b 1 0
 
-count_more : {X : Type 0} (x : Option X) (xs : List (Option X)) →
+pub count_more : {X : Type 0} (x : Option X) (xs : List (Option X)) →
     count_by is_some (x ∷ xs) ≡ one_if (is_some x) + count_by is_some xs
 count_more x xs = sum_by-cons (λ o. one_if (is_some o)) x xs
 

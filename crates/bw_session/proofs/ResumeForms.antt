@@ -46,7 +46,7 @@ use Rattle.bw_session.proofs.NewForms.{at-empty}
 use Rattle.bw_session.proofs.Packing.{verdict_of-code}
 
 -- Rows are read back from their bytes.
-unpacked : (rows : List (List ℕ × Verdict)) → AllByRecursion (λ (r : List ℕ × Verdict). length r.0 ≡ 32) rows →
+pub unpacked : (rows : List (List ℕ × Verdict)) → AllByRecursion (λ (r : List ℕ × Verdict). length r.0 ≡ 32) rows →
     (length (packed rows) ≡ 33 * length rows) × (entries_in (length rows) (packed rows) ≡ rows)
 unfolding entries_in
 unpacked [] h = (refl, refl)
@@ -69,14 +69,14 @@ unpacked (x ∷ rows) h =
           (ap (λ (xs : List (List ℕ × Verdict)). x ∷ xs) more.1),
     )
 
-digests_kept : (existed : Bool) (s : List (Option Request)) (name : List ℕ) (n : ℕ) (rest : List (Option Request)) →
+pub digests_kept : (existed : Bool) (s : List (Option Request)) (name : List ℕ) (n : ℕ) (rest : List (Option Request)) →
     AllByRecursion (λ (r : List ℕ × Verdict). length r.0 ≡ 32) (finished_from existed s name n rest)
 digests_kept existed s name n [] = tt
 digests_kept existed s name n (None ∷ rest) = tt
 digests_kept existed s name n (Some r ∷ rest) =
     (length-sha256 (body_of name n r), digests_kept existed s name (suc n) rest)
 
-unpacked_table : (table : List ℕ) (rows : List (List ℕ × Verdict)) → table ≡ packed rows →
+pub unpacked_table : (table : List ℕ) (rows : List (List ℕ × Verdict)) → table ≡ packed rows →
     AllByRecursion (λ (r : List ℕ × Verdict). length r.0 ≡ 32) rows → entries_in (row_count table) table ≡ rows
 unpacked_table table rows e h =
     let u = unpacked rows h in
@@ -152,7 +152,7 @@ holds_alike limit store k k' book h al = record {
 }
 
 -- Each number below `done` was admitted.
-all_fit : (s : List (Option Request)) (d : ℕ) → d ≤ first_free s → list_all is_admitted s ≡ true →
+pub all_fit : (s : List (Option Request)) (d : ℕ) → d ≤ first_free s → list_all is_admitted s ≡ true →
     (length (take d s) ≡ d) × (list_all fits (take d s) ≡ true)
 all_fit s zero h each = (refl, refl)
 all_fit [] (suc d) h each = absurd (omega arith)
@@ -171,6 +171,16 @@ book_admits book h name = go (is_known book name) refl
         let all = all_fit (log_of book name).admitted (log_of book name).done log.all_done log.fits in
         record { long = all.0; each = all.1 }
     go false e = subst AdmitsDone (sym (unknown_log book name e)) (record { long = refl; each = refl })
+
+-- a journal has the done numbers alone
+pub journal_cut : (h : Header) (name : List ℕ) (log : Log) → journal_of h name (cut_log log) ≡ journal_of h name log
+journal_cut h name log =
+    ap (λ (es : List JournalEntry). header_bytes name h ++ sealed_entries es)
+    (ap (entries_from h.existed (take log.done log.admitted) name 0)
+    (take-take log.done log.done log.admitted (omega arith))
+    ∙ entries_same h.existed log.admitted (take log.done log.admitted) name 0 log.done (take log.done log.admitted)
+    (λ n below. verdict-cut h.existed log.admitted log.done n below)
+    (let short = take-short log.done log.admitted in omega (arith, short)))
 
 -- what the journals and files of a book say
 module _ (limit : ℕ) (header : List ℕ → Header) (first contents : List ℕ → Option (List ℕ)) (kept : List KeptTake)
@@ -244,15 +254,6 @@ module _ (limit : ℕ) (header : List ℕ → Header) (first contents : List ℕ
           StandsAhead o log g found
       level None log g found e = λ has. true_false (sym has ∙ e)
       level (Some bytes) log g found e = e
-
-  journal_cut : (h : Header) (name : List ℕ) (log : Log) → journal_of h name (cut_log log) ≡ journal_of h name log
-  journal_cut h name log =
-      ap (λ (es : List JournalEntry). header_bytes name h ++ sealed_entries es)
-      (ap (entries_from h.existed (take log.done log.admitted) name 0)
-      (take-take log.done log.done log.admitted (omega arith))
-      ∙ entries_same h.existed log.admitted (take log.done log.admitted) name 0 log.done (take log.done log.admitted)
-      (λ n below. verdict-cut h.existed log.admitted log.done n below)
-      (let short = take-short log.done log.admitted in omega (arith, short)))
 
   pub resumed_notes : (notes : List ℕ → Option (List ℕ)) → HasDoneNotes header notes book →
       NotesNames header notes first sessions (cut_book book)

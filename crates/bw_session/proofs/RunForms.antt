@@ -40,6 +40,7 @@ module _ {X Y : Type 0} (S : StoreGhosts X) (J : JournalGhosts Y) where
         others = λ h n apart. b.others (a.honest ∙ h) n apart ∙ a.others h n apart;
         honest_notes = b.honest_notes ∙ a.honest_notes;
         headers = λ h n. b.headers (a.honest_notes ∙ h) n ∙ a.headers h n;
+        resting = λ h n. b.resting (a.honest_notes ∙ h) n ∙ a.resting h n;
         other_notes = λ h n apart. b.other_notes (a.honest_notes ∙ h) n apart ∙ a.other_notes h n apart;
       }
 

@@ -62,6 +62,7 @@ uses_none {X} {Y} S J name s s' j j' done later rs store journal same none =
         others = λ honest other apart. refl;
         honest_notes = refl;
         headers = λ honest other. refl;
+        resting = λ honest other. refl;
         other_notes = λ honest other apart. refl;
       },
       omega (arith, same),

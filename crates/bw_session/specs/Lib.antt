@@ -27,3 +27,5 @@ pub mod Judging
 pub mod Asking
 pub mod Numbering
 pub mod Promises
+pub mod RestingNames
+pub mod RestFaults

@@ -17,7 +17,7 @@ use Rattle.bw_store.specs.declared.store.StoreFault.{StoreFault}
 use Rattle.bw_store.specs.declared.store.TakeStore.{Ghosts as StoreGhosts}
 use Rattle.bw_journal.specs.Entries.{sealed_entry, longest_entry}
 use Rattle.bw_journal.specs.JournalHeaders.{header_len}
-use Rattle.bw_journal.specs.Notes.{KeepsHeaders}
+use Rattle.bw_journal.specs.Notes.{KeepsHeaders, KeepsResting}
 use Rattle.bw_journal.specs.declared.journal.Journal.{Ghosts as JournalGhosts}
 use Rattle.bw_session.specs.Writing.{is_mark}
 use Rattle.bw_session.specs.Keeping.{KeepsDone}
@@ -28,16 +28,17 @@ abbrev pub failed_calls : ℕ → ℕ → ℕ
 failed_calls of_store of_journal = min (of_store + of_journal) last_count
 
 -- A failure of the journal is counted, it is as honest as it was, each name's notes begin as they
--- began, and each other name has what it had.
+-- began, what rests goes on resting, and each other name has what it had.
 pub record KeepsJournal {Y : Type 0} (J : JournalGhosts Y) (fails : Bool) (name : List ℕ)
     (old new : Y) : Type 0 where
   pub failures : Counts (J.failures old) (J.failures new) fails
   pub honest : J.honest new ≡ J.honest old
   pub headers : IsTrue (J.honest old) → KeepsHeaders (J.header old) (J.header new)
+  pub resting : IsTrue (J.honest old) → KeepsResting (J.resting old) (J.resting new)
   pub others : IsTrue (J.honest old) → KeepsOthers (J.notes old) (J.notes new) name
 
 -- A failure of either is counted; both are as honest as they were, each name's notes begin as they
--- began, and each other name has what it had.
+-- began, what rests goes on resting, and each other name has what it had.
 pub record KeepsBoth {X Y : Type 0} (S : StoreGhosts X) (J : JournalGhosts Y) (fails : Bool)
     (name : List ℕ) (store store' : X) (journal journal' : Y) : Type 0 where
   pub failures : Counts (failed_calls (S.failures store) (J.failures journal))
@@ -46,6 +47,7 @@ pub record KeepsBoth {X Y : Type 0} (S : StoreGhosts X) (J : JournalGhosts Y) (f
   pub others : IsTrue (S.honest store) → KeepsOthers (S.contents store) (S.contents store') name
   pub honest_notes : J.honest journal' ≡ J.honest journal
   pub headers : IsTrue (J.honest journal) → KeepsHeaders (J.header journal) (J.header journal')
+  pub resting : IsTrue (J.honest journal) → KeepsResting (J.resting journal) (J.resting journal')
   pub other_notes : IsTrue (J.honest journal) →
       KeepsOthers (J.notes journal) (J.notes journal') name
 

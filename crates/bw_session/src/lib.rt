@@ -13,14 +13,18 @@ mod ledger;
 mod listing;
 mod numbering;
 mod replying;
+mod resting;
 mod resuming;
 mod server;
 mod server_turns;
 mod serving;
 mod session;
 mod settling;
+mod waking;
 mod window;
 mod writing;
 
 pub use kept_take::KeptTake;
+pub use resting::RestFault;
 pub use server::Server;
+pub use waking::WakeFault;

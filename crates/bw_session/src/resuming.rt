@@ -123,7 +123,7 @@ fn keep(
 }
 
 /// The session of a name of which nothing waits.
-fn session_of(alloc: Global, limit: Limit, take: KeptTake) -> Result<Session, AllocError>
+pub(crate) fn session_of(alloc: Global, limit: Limit, take: KeptTake) -> Result<Session, AllocError>
     ensures { IfOk result (λ s. ResumesFrom limit take s) }
 {
     let KeptTake {

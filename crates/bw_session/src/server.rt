@@ -35,7 +35,7 @@ use std::alloc::{AllocError, Global};
 use std::collections::HashMap;
 
 /// The most names that a server takes.
-const NAMES: usize = 256;
+pub(crate) const NAMES: usize = 256;
 
 /// Answers messages over a store and, optionally, a journal, which no call lends or returns.
 #[derive(Drop)]

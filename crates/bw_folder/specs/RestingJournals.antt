@@ -1,0 +1,60 @@
+-- Where the journals of a folder are of which some rest.
+use Rattle.std.specs.Prelude.{◌≡◌, ◌&&◌, ◌||◌, ℕ, Bool, not, List, ◌++◌, codes, Option, None, is_some}
+use Rattle.std.specs.Prelude.{if◌then◌else◌, string_bytes}
+use Rattle.std.specs.Option.{option_or}
+use Rattle.std.specs.HashSet.{HashSet, contains}
+use Rattle.std.specs.Str.{bytes_eq}
+use Rattle.bw_journal.specs.JournalHeaders.{Header}
+use Rattle.bw_journal.specs.Resting.{Journals, journals}
+use Rattle.bw_disk.specs.declared.disk.Disk.{Ghosts}
+use Rattle.bw_folder.specs.Journals.{journal_path, existences, header_at}
+use Rattle.bw_folder.specs.declared.resting.RestingFolderJournal.{RestingFolderJournal}
+
+-- the path of a name's journal in a folder while it rests
+unfoldable pub closed_path : List ℕ → List ℕ → List ℕ
+closed_path folder name = folder ++ codes "/" ++ name ++ codes ".closed"
+
+-- whether the journal of a name is loose: not open, and at one of its two paths
+abbrev pub is_loose : {H : Type 0} → HashSet (List ℕ) H → List ℕ → Bool
+is_loose loose name = contains bytes_eq loose name
+
+-- what is noted under a name: under a loose one, what stands at either path
+abbrev pub noted_at : Bool → (List ℕ → Option (List ℕ)) → List ℕ → List ℕ → Option (List ℕ)
+noted_at loose contents folder name =
+    if loose then option_or (contents (journal_path folder name)) (contents (closed_path folder name))
+    else contents (journal_path folder name)
+
+-- what rests under a name
+abbrev pub resting_at : Bool → (List ℕ → Option (List ℕ)) → List ℕ → List ℕ → Option (List ℕ)
+resting_at loose contents folder name = if loose then None else contents (closed_path folder name)
+
+-- What the journal of a name begins with: no file of a loose one existed; where one rests, its take's
+-- file exists.
+abbrev pub resting_header : Bool → Option (List ℕ) → Header → Header
+resting_header loose closed header =
+    record header { existed = not loose && (header.existed || is_some closed) }
+
+-- the journals of a folder, by the names that are loose and what the others begin with
+abbrev pub folder_journals : (List ℕ → Bool) → (List ℕ → Header) → (List ℕ → Option (List ℕ)) → List ℕ →
+    Journals
+folder_journals loose header contents folder = journals
+    (λ name. noted_at (loose name) contents folder name)
+    (λ name. resting_at (loose name) contents folder name)
+    (λ name. resting_header (loose name) (contents (closed_path folder name)) (header name))
+
+module _ {D F : Type 0} (G : Ghosts D F) where
+  -- what the journals that don't rest begin with
+  abbrev pub inner_header : RestingFolderJournal D F G → List ℕ → Header
+  inner_header j name = header_at j.inner.limit (existences j.inner.journals.items)
+      (G.contents j.inner.disk) (string_bytes j.inner.folder) name
+
+  -- all journals of the folder
+  abbrev pub all_journals : RestingFolderJournal D F G → Journals
+  all_journals j = folder_journals (is_loose j.loose) (inner_header j) (G.contents j.inner.disk)
+      (string_bytes j.inner.folder)
+
+  -- the settings are the same
+  pub record KeepsSettings (old new : RestingFolderJournal D F G) : Type 0 where
+    pub limit : new.inner.limit ≡ old.inner.limit
+    pub sync : new.inner.sync ≡ old.inner.sync
+    pub folder : new.inner.folder ≡ old.inner.folder

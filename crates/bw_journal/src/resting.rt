@@ -1,0 +1,68 @@
+//! Journals that can rest.
+ghost use Rattle.std.specs.Prelude.{◌≡◌, ℕ, List, Option, IsTrue, IfOk, OnErr, is_err, option_map};
+ghost use Rattle.bw_model.specs.Counts.{Counts};
+ghost use Rattle.bw_journal.specs.Resting.{journals, SameJournals, RestsIf, WakesIf};
+
+use crate::journal::Journal;
+use bw_request::Name;
+use bw_store::StoreFault;
+
+/// Journals that can rest, each by itself: nothing is noted under its name until it wakes.
+///
+/// As those of `Journal`, the clauses on what rests speak of an honest journal.
+pub trait RestingJournal: Journal {
+    /// Puts the journal of a name to rest, and returns true; false if nothing is noted under the
+    /// name, a file of it existed before, or one rests under it already: nothing changes then.
+    ///
+    /// # Errors
+    /// `StoreFault` if the journal failed: nothing has changed.
+    ///
+    /// # Not specified
+    /// - When the journal fails.
+    /// - Whether it succeeds where it could.
+    fn rest(&mut self, name: &Name) -> Result<bool, StoreFault>
+        ensures failures { Counts (Self.failures self.old) (Self.failures self.new) (is_err result) }
+        ensures honest { Self.honest self.new ≡ Self.honest self.old }
+        ensures rested { IsTrue (Self.honest self.old) → IfOk result (λ rested.
+            RestsIf rested name.now
+            (journals (Self.notes self.old) (Self.resting self.old) (Self.header self.old))
+            (journals (Self.notes self.new) (Self.resting self.new) (Self.header self.new))) }
+        ensures failed { IsTrue (Self.honest self.old) → OnErr result (SameJournals
+            (journals (Self.notes self.old) (Self.resting self.old) (Self.header self.old))
+            (journals (Self.notes self.new) (Self.resting self.new) (Self.header self.new))) };
+
+    /// Reads the journal that rests under a name; None if none does.
+    ///
+    /// # Errors
+    /// `StoreFault` if the journal failed, or memory was refused.
+    ///
+    /// # Not specified
+    /// When the journal fails, and when memory is refused.
+    fn read_resting(&mut self, name: &Name) -> Result<Option<Vec<u8>>, StoreFault>
+        ensures failures { Counts (Self.failures self.old) (Self.failures self.new) (is_err result) }
+        ensures honest { Self.honest self.new ≡ Self.honest self.old }
+        ensures read { IsTrue (Self.honest self.old) → IfOk result (λ found.
+            option_map (λ v. v.items) found ≡ Self.resting self.old name.now) }
+        ensures kept { IsTrue (Self.honest self.old) → SameJournals
+            (journals (Self.notes self.old) (Self.resting self.old) (Self.header self.old))
+            (journals (Self.notes self.new) (Self.resting self.new) (Self.header self.new)) };
+
+    /// Wakes the journal of a name, and returns true; false if none rests under it.
+    ///
+    /// # Errors
+    /// `StoreFault` if the journal failed, memory was refused, or something is noted under the name:
+    /// nothing has changed.
+    ///
+    /// # Not specified
+    /// When the journal fails, and when memory is refused.
+    fn wake(&mut self, name: &Name) -> Result<bool, StoreFault>
+        ensures failures { Counts (Self.failures self.old) (Self.failures self.new) (is_err result) }
+        ensures honest { Self.honest self.new ≡ Self.honest self.old }
+        ensures woken { IsTrue (Self.honest self.old) → IfOk result (λ woken.
+            WakesIf woken name.now
+            (journals (Self.notes self.old) (Self.resting self.old) (Self.header self.old))
+            (journals (Self.notes self.new) (Self.resting self.new) (Self.header self.new))) }
+        ensures failed { IsTrue (Self.honest self.old) → OnErr result (SameJournals
+            (journals (Self.notes self.old) (Self.resting self.old) (Self.header self.old))
+            (journals (Self.notes self.new) (Self.resting self.new) (Self.header self.new))) };
+}
