@@ -1,5 +1,5 @@
 //! A journal in memory that fails chosen calls.
-ghost use Rattle.std.specs.Prelude.{◌≡◌, ◌<◌, ◌==◌, List, not, true, IsTrue, OnOk, OnErr, is_err};
+ghost use Rattle.std.specs.Prelude.{None, ◌≡◌, ◌<◌, ◌==◌, List, not, true, IsTrue, OnOk, OnErr, is_err};
 ghost use Rattle.std.specs.Prelude.{filter};
 ghost use Rattle.bw_model.specs.Counts.{Counts, last_count};
 ghost use Rattle.bw_store.specs.Fuses.{has_fuse, Blows, first_half};

@@ -66,6 +66,11 @@ log_over logs (e ∷ entries) n h = go (bytes_eq e.0 n) refl h (log_over logs en
     go true is known rest = ap logs (same_name e.0 n is)
     go false is known rest = rest known
 
+-- something is kept where there is a session
+pub plain_kept : (o : Option Session) → is_some (option_map kept_by o) ≡ is_some o
+plain_kept None = refl
+plain_kept (Some s) = refl
+
 pub counted : {H : Type 0} (sessions : Table H) (book : Book) → IsUnique bytes_eq sessions → IsBook book →
     hash_map_len sessions ≤ most_takes →
     ((n : List ℕ) → is_known book n ≡ is_some (option_map kept_by (session_in sessions n))) →
@@ -76,12 +81,8 @@ counted sessions book unique h few names =
     over : Book
     over = book_over (log_of book) sessions.entries
 
-    plain : (o : Option Session) → is_some (option_map kept_by o) ≡ is_some o
-    plain None = refl
-    plain (Some s) = refl
-
     same : (n : List ℕ) → is_known book n ≡ is_known over n
-    same n = names n ∙ plain (session_in sessions n) ∙ sym (known_over (log_of book) sessions.entries n)
+    same n = names n ∙ plain_kept (session_in sessions n) ∙ sym (known_over (log_of book) sessions.entries n)
 
     over_is : IsBook over
     over_is = record {

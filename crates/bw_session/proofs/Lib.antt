@@ -36,5 +36,6 @@ pub mod ClosedForms
 pub mod WakeLaws
 pub mod RestBooks
 pub mod RestTables
+pub mod FitForms
 pub mod WokenForms
 pub mod SameJournalForms

@@ -21,11 +21,13 @@ use Rattle.bw_journal.proofs.ReportLaws.{journals_report_logs}
 use Rattle.bw_journal.proofs.Taken.{taken-made, taken_reported}
 use Rattle.bw_session.specs.Keeping.{KeepsDone}
 use Rattle.bw_session.specs.Prefixes.{take_done, FileFollows}
-use Rattle.bw_session.specs.RestingNames.{IsAtRest, IsMadeFrom}
+use Rattle.bw_session.specs.RestFaults.{is_fit_to_wake, may_wake}
+use Rattle.bw_session.specs.RestingNames.{IsAtRest, IsMadeFrom, NamesAtRestMayWake}
 use Rattle.bw_session.specs.Resumed.{ResumesFrom}
 use Rattle.bw_session.specs.declared.kept_take.KeptTake.{KeptTake}
 use Rattle.bw_session.specs.declared.session.Session.{Session}
 use Rattle.bw_session.proofs.ClosedForms.{made_format}
+use Rattle.bw_session.proofs.FitForms.{fit_by}
 use Rattle.bw_session.proofs.NewForms.{resumed_part}
 use Rattle.bw_session.proofs.ResumeForms.{all_fit, digests_kept, unpacked, unpacked_table}
 use Rattle.bw_session.proofs.RestLaws.{has_file}
@@ -65,15 +67,15 @@ module _ (limit : ℕ) (name : List ℕ) (log : Log) (bytes : List ℕ) (file : 
   journal : bytes ≡ journal_of head name log
   journal = same_bytes rest.notes
 
-  pub story_is : replay limit name bytes ≡ Ok (story_of_log head name log)
+  story_is : replay limit name bytes ≡ Ok (story_of_log head name log)
   story_is =
       ap (replay limit name) (journal ∙ sym (append-nil (journal_of head name log)))
       ∙ journals_report_logs head name log [] small admits nothing_cut
 
-  pub story_used : (story_of_log head name log).used ≡ length bytes
+  story_used : (story_of_log head name log).used ≡ length bytes
   story_used = ap length (sym journal)
 
-  pub story_closed : (story_of_log head name log).parts.closed ≡ true
+  story_closed : (story_of_log head name log).parts.closed ≡ true
   story_closed = rest.closed
 
   abbrev outcomes : List (List ℕ × Verdict)
@@ -82,28 +84,27 @@ module _ (limit : ℕ) (name : List ℕ) (log : Log) (bytes : List ℕ) (file : 
   long : length outcomes ≡ log.done
   long = finished-length false log.admitted name 0 (take log.done log.admitted) admits.each ∙ admits.long
 
-  pub table_length : length (story_of_log head name log).table ≤ 33 * (last_number Second + 1)
+  table_length : length (story_of_log head name log).table ≤ 33 * (last_number Second + 1)
   table_length =
       let packs = unpacked outcomes (digests_kept false log.admitted name 0 (take log.done log.admitted)) in
       let few = rest.numbers in
       let size : length (story_of_log head name log).table ≡ 33 * length outcomes = packs.0 in
       omega (arith, size, long, few)
 
-  pub told : (story : Story) → replay limit name bytes ≡ Ok story → story ≡ story_of_log head name log
-  told story e = ap (λ (r : Result Story JournalFault). said_by r (story_of_log head name log)) (sym e ∙ story_is)
+  said_at_rest : (story : Story) → replay limit name bytes ≡ Ok story → story ≡ story_of_log head name log
+  said_at_rest story e = ap (λ (r : Result Story JournalFault). said_by r (story_of_log head name log)) (sym e ∙ story_is)
 
-  pub says_closed : (story : Story) → replay limit name bytes ≡ Ok story → story.parts.closed ≡ true
-  says_closed story e = ap (λ (x : Story). x.parts.closed) (told story e) ∙ story_closed
-
-  pub says_few : (story : Story) → replay limit name bytes ≡ Ok story →
-      length story.table ≤ 33 * (last_number Second + 1)
-  says_few story e = subst (λ (x : Story). length x.table ≤ 33 * (last_number Second + 1)) (sym (told story e)) table_length
+  -- what rests is fit to wake its name
+  pub fit_at_rest : is_fit_to_wake limit name bytes ≡ true
+  fit_at_rest =
+      fit_by (length bytes) (replay limit name bytes) (story_of_log head name log) story_is story_used story_closed
+      table_length
 
   module _ (k : KeptTake) (s : Session) (named : k.name ≡ name) (makes : k.made ≡ true)
       (story : replay limit name bytes ≡ Ok (story_of k.replayed))
       (from : ResumesFrom limit k s) where
     is : story_of k.replayed ≡ story_of_log head name log
-    is = told (story_of k.replayed) story
+    is = said_at_rest (story_of k.replayed) story
 
     state_is : s.progress.state.parts ≡ parts (made false log.admitted log.done)
     state_is = from.state ∙ ap (λ (x : Story). x.parts) is
@@ -152,3 +153,10 @@ module _ (limit : ℕ) (name : List ℕ) (log : Log) (bytes : List ℕ) (file : 
           (record { fits = rest.is_log.fits; all = rest.all }) (ap (λ (g : Growing). g.dirty) from.growing) keeps
           follows s.window from.window;
     }
+
+pub names_at_rest_may_wake : NamesAtRestMayWake
+names_at_rest_may_wake limit name log journal file small rest =
+    let head : Header = record { limit = limit; existed = false } in
+    subst (λ (o : Option (List ℕ)). may_wake limit name o ≡ true) (sym rest.notes)
+    (fit_at_rest limit name log (journal_of head name log) file small
+    (subst (λ (o : Option (List ℕ)). IsAtRest limit name log o file) rest.notes rest))

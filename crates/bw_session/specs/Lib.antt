@@ -28,4 +28,4 @@ pub mod Asking
 pub mod Numbering
 pub mod Promises
 pub mod RestingNames
-pub mod WakeFaults
+pub mod RestFaults

@@ -1,9 +1,8 @@
 -- Names that rest: what a server has of them, and what their rest and their waking do to its book.
 use Rattle.std.specs.Prelude.{◌≡◌, ◌≤◌, ◌+◌, ℕ, Bool, true, false, Option, Some, None, IsTrue, IsSome, List}
 use Rattle.std.specs.Prelude.{◌∷◌, length, if◌then◌else◌}
-use Rattle.std.specs.Prelude.{◌&&◌, ◌==◌}
+use Rattle.std.specs.Prelude.{◌&&◌, ◌==◌, ◌<◌, ◌^◌}
 use Rattle.std.specs.Option.{option_map_or}
-use Rattle.std.specs.Prelude.{◌<◌}
 use Rattle.std.specs.HashMap.{IsUnique, hash_map_len}
 use Rattle.std.specs.Str.{bytes_eq}
 use Rattle.bw_model.specs.Turn.{most_takes}
@@ -17,6 +16,7 @@ use Rattle.bw_journal.specs.Noted.{journal_of}
 use Rattle.bw_journal.specs.Resting.{Journals, journals, SameJournals, PutsToRest, WakesJournal}
 use Rattle.bw_journal.specs.Stops.{cut_log, without}
 use Rattle.bw_session.specs.Books.{HoldsBook, NotesBook, count_waiting}
+use Rattle.bw_session.specs.RestFaults.{may_wake}
 use Rattle.bw_session.specs.Sessions.{HoldsLog, part_of}
 use Rattle.bw_session.specs.Tables.{Table, session_in}
 use Rattle.bw_session.specs.Windows.{count_held}
@@ -53,17 +53,23 @@ abbrev pub with_first : (List ℕ → Option (List ℕ)) → List ℕ → Option
     Option (List ℕ)
 with_first first name content other = if bytes_eq name other then content else first other
 
-module _ {X Y : Type 0} (S : StoreGhosts X) (J : JournalGhosts Y)
-    (resting : Y → List ℕ → Option (List ℕ)) where
+module _ {X Y : Type 0} (S : StoreGhosts X) (J : JournalGhosts Y) where
   -- the server's journals
   abbrev pub journals_of : Server X Y S J → Journals
-  journals_of s =
-      journals (J.notes s.stores.journal) (resting s.stores.journal) (J.header s.stores.journal)
+  journals_of s = journals (J.notes s.stores.journal) (J.resting s.stores.journal)
+      (J.header s.stores.journal)
 
   -- what is kept of each name is as it was, and so is each journal
   pub record KeepsNames (old new : Server X Y S J) : Type 0 where
     pub sessions : (name : List ℕ) → session_in new.sessions name ≡ session_in old.sessions name
     pub same : IsTrue (J.honest old.stores.journal) → SameJournals (journals_of old) (journals_of new)
+
+  -- the later server has the same store and limit, and of each other name the same
+  pub record KeepsOtherNames (name : List ℕ) (old new : Server X Y S J) : Type 0 where
+    pub store : new.stores.store ≡ old.stores.store
+    pub limit : new.limit ≡ old.limit
+    pub others : (other : List ℕ) → bytes_eq name other ≡ false →
+        session_in new.sessions other ≡ session_in old.sessions other
 
   -- A name rests now: its log, cut to the done numbers, is one at rest. The server holds the book
   -- without it, over a store in which its file existed at the start.
@@ -72,7 +78,7 @@ module _ {X Y : Type 0} (S : StoreGhosts X) (J : JournalGhosts Y)
     pub new_name : first name ≡ None
     pub quiet : count_waiting (log_of book name) ≡ 0
     pub at_rest : IsAtRest old.limit name (cut_log (log_of book name))
-        (resting new.stores.journal name) (S.contents old.stores.store name)
+        (J.resting new.stores.journal name) (S.contents old.stores.store name)
     pub held : HoldsBook S J (with_first first name (S.contents old.stores.store name)) new
         (without name book)
     pub noted : NotesBook S J (with_first first name (S.contents old.stores.store name)) new
@@ -98,27 +104,39 @@ module _ {X Y : Type 0} (S : StoreGhosts X) (J : JournalGhosts Y)
       IsTrue (J.honest old.stores.journal) → (first : List ℕ → Option (List ℕ)) (book : Book)
       (log : Log) → HoldsBook S J first old book → NotesBook S J first old book →
       (J.header old.stores.journal name).limit ≡ old.limit →
-      IsAtRest old.limit name log (resting old.stores.journal name)
+      IsAtRest old.limit name log (J.resting old.stores.journal name)
       (S.contents old.stores.store name) → WakesBook first name log new book
 
-  -- a name rests, or nothing has changed
+  -- A name that might rest was put to rest: nothing is kept of it but its journal, which rests.
+  pub record RestsNow (name : List ℕ) (old new : Server X Y S J) : Type 0 where
+    pub ready : IsTrue (is_restable_in old.sessions name)
+    pub gone : session_in new.sessions name ≡ None
+    pub others : KeepsOtherNames name old new
+    pub journal : IsTrue (J.honest old.stores.journal) →
+        PutsToRest name (journals_of old) (journals_of new)
+    pub rests : RestsName name old new
+
+  -- A name woke by its journal, which is that of a closed take and is noted again.
+  pub record WakesNow (name : List ℕ) (old new : Server X Y S J) : Type 0 where
+    pub fit : IsTrue (J.honest old.stores.journal) →
+        IsTrue (may_wake old.limit name (J.resting old.stores.journal name))
+    pub here : IsSome (session_in new.sessions name)
+    pub others : KeepsOtherNames name old new
+    pub journal : IsTrue (J.honest old.stores.journal) →
+        WakesJournal name (journals_of old) (journals_of new)
+    pub wakes : WakesName name old new
+
+  -- a name was put to rest, or nothing has changed
   abbrev pub RestsNameIf : Bool → List ℕ → Server X Y S J → Server X Y S J → Type 0
-  RestsNameIf true name old new = (session_in new.sessions name ≡ None) × RestsName name old new
+  RestsNameIf true name old new = RestsNow name old new
   RestsNameIf false name old new = KeepsNames old new
 
   -- a name woke; or none rests there, and nothing has changed
   abbrev pub WakesNameIf : Bool → List ℕ → Server X Y S J → Server X Y S J → Type 0
-  WakesNameIf true name old new = IsSome (session_in new.sessions name) × WakesName name old new
+  WakesNameIf true name old new = WakesNow name old new
   WakesNameIf false name old new =
-      (IsTrue (J.honest old.stores.journal) → resting old.stores.journal name ≡ None)
+      (IsTrue (J.honest old.stores.journal) → J.resting old.stores.journal name ≡ None)
       × KeepsNames old new
-
-  -- the later server has the same store and limit, and of each other name the same
-  pub record KeepsOtherNames (name : List ℕ) (old new : Server X Y S J) : Type 0 where
-    pub store : new.stores.store ≡ old.stores.store
-    pub limit : new.limit ≡ old.limit
-    pub others : (other : List ℕ) → bytes_eq name other ≡ false →
-        session_in new.sessions other ≡ session_in old.sessions other
 
   -- A name whose take is closed, and of which nothing waits, rests if nothing is kept of it any more
   -- and its journal is put to rest.
@@ -133,7 +151,12 @@ module _ {X Y : Type 0} (S : StoreGhosts X) (J : JournalGhosts Y)
       KeepsOtherNames name old new → session_in old.sessions name ≡ None →
       IsUnique bytes_eq old.sessions → hash_map_len old.sessions < most_takes →
       session_in new.sessions name ≡ Some s → s.progress.growing.name ≡ name →
-      s.progress.growing.limit ≡ old.limit → resting old.stores.journal name ≡ Some bytes →
+      s.progress.growing.limit ≡ old.limit → J.resting old.stores.journal name ≡ Some bytes →
       ((log : Log) (file : Option (List ℕ)) → IsAtRest old.limit name log (Some bytes) file →
       IsMadeFrom log bytes file s) →
       WakesJournal name (journals_of old) (journals_of new) → WakesName name old new
+
+-- what rests after a name was put to rest is fit to wake it
+abbrev pub NamesAtRestMayWake : Type 0
+NamesAtRestMayWake = (limit : ℕ) (name : List ℕ) (log : Log) (journal file : Option (List ℕ)) →
+    limit < 2 ^ 32 → IsAtRest limit name log journal file → IsTrue (may_wake limit name journal)

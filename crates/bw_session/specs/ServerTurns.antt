@@ -8,6 +8,7 @@ use Rattle.bw_model.specs.Book.{Book}
 use Rattle.bw_model.specs.CountedTurn.{IsTurn, is_delayed}
 use Rattle.bw_store.specs.declared.store.TakeStore.{Ghosts as StoreGhosts}
 use Rattle.bw_model.specs.Turn.{is_turned_away}
+use Rattle.bw_journal.specs.Notes.{KeepsHeaders, KeepsResting}
 use Rattle.bw_journal.specs.declared.journal.Journal.{Ghosts as JournalGhosts}
 use Rattle.bw_session.specs.Books.{failures_of, HoldsBook, NotesBook, SameStores, AsksTurn}
 use Rattle.bw_session.specs.Servers.{done_in}
@@ -51,6 +52,11 @@ module _ {X Y : Type 0} (S : StoreGhosts X) (J : JournalGhosts Y) where
     pub limit : new.limit ≡ old.limit
     pub honest : S.honest new.stores.store ≡ S.honest old.stores.store
     pub honest_notes : J.honest new.stores.journal ≡ J.honest old.stores.journal
+    -- an honest journal begins each name's notes as before, and what rests goes on resting
+    pub headers : IsTrue (J.honest old.stores.journal) →
+        KeepsHeaders (J.header old.stores.journal) (J.header new.stores.journal)
+    pub resting : IsTrue (J.honest old.stores.journal) →
+        KeepsResting (J.resting old.stores.journal) (J.resting new.stores.journal)
     pub few : length replies ≤ most_replies
     -- whether a call of store or journal failed: then the count of failures rises by one, else it
     -- stays

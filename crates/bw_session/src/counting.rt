@@ -1,9 +1,10 @@
 //! How many names a server knows.
-ghost use Rattle.std.specs.Prelude.{◌≡◌, ◌≤◌, ℕ, List, Option, length};
+ghost use Rattle.std.specs.Prelude.{◌≡◌, ◌≤◌, ℕ, List, Option, length, nat_le};
+ghost use Rattle.std.specs.HashMap.{hash_map_len};
 ghost use Rattle.bw_model.specs.Book.{Book};
-ghost use Rattle.bw_model.specs.Turn.{most_takes};
+ghost use Rattle.bw_model.specs.Turn.{most_takes, is_full};
 
-use crate::server::Server;
+use crate::server::{NAMES, Server};
 use bw_journal::Journal;
 use bw_store::TakeStore;
 
@@ -17,8 +18,21 @@ impl<S: TakeStore, J: Journal> Server<S, J> {
     pub fn names(&self) -> usize
         ensures value { (first : List ℕ → Option (List ℕ)) (book : Book) →
             HoldsBook S.TakeStore J.Journal first self.now book → result ≡ length book }
+        ensures kept { result ≡ hash_map_len self.now.sessions }
         ensures range { result ≤ most_takes }
     {
         self.sessions.len()
+    }
+
+    /// Whether it knows as many names as it takes, 256.
+    ///
+    /// # Not specified
+    /// How it follows from the messages, after a turn over a store that isn't honest.
+    pub fn is_full(&self) -> bool
+        ensures value { (first : List ℕ → Option (List ℕ)) (book : Book) →
+            HoldsBook S.TakeStore J.Journal first self.now book → result ≡ is_full book }
+        ensures kept { result ≡ nat_le most_takes (hash_map_len self.now.sessions) }
+    {
+        NAMES <= self.names()
     }
 }

@@ -1,7 +1,7 @@
 //! Laws of the definitions on which servers of many names rely.
 ghost use Rattle.bw_model.specs.Turn.{IsolatesEachName};
 ghost use Rattle.bw_session.specs.Books.{QuietBooksAreInOrder, WaitingNumbersAreInOrder};
-ghost use Rattle.bw_session.specs.RestingNames.{ClosedNamesRest, RestingNamesWake};
+ghost use Rattle.bw_session.specs.RestingNames.{ClosedNamesRest, RestingNamesWake, NamesAtRestMayWake};
 ghost use Rattle.bw_session.specs.Settled.{SettledTurnsMeetNoFaults};
 
 use bw_journal::{Journal, RestingJournal};
@@ -31,8 +31,9 @@ pub fn law_order<S: TakeStore, J: Journal>()
 
 /// The name of a closed take rests if its journal does and nothing else is kept of it: the book that
 /// the server held goes on without it, and its log is at rest. It wakes if its journal does, and what
-/// is kept is made from that: the book has it again.
+/// is kept is made from that: the book has it again. What rests is always fit to wake it.
 pub fn law_rest<S: TakeStore, J: RestingJournal>()
-    ensures rests { ClosedNamesRest S.TakeStore J.Journal J.resting }
-    ensures wakes { RestingNamesWake S.TakeStore J.Journal J.resting }
+    ensures rests { ClosedNamesRest S.TakeStore J.Journal }
+    ensures wakes { RestingNamesWake S.TakeStore J.Journal }
+    ensures fit { NamesAtRestMayWake }
 {}

@@ -25,5 +25,6 @@ mod window;
 mod writing;
 
 pub use kept_take::KeptTake;
+pub use resting::RestFault;
 pub use server::Server;
 pub use waking::WakeFault;

@@ -5,6 +5,7 @@ ghost use Rattle.bw_model.specs.Take.{is_format};
 ghost use Rattle.bw_model.specs.Turn.{most_takes};
 ghost use Rattle.bw_session.specs.Listing.{KnowsTaken, ListsNames, format_in, is_known_in};
 ghost use Rattle.bw_session.specs.Listing.{is_taken_in};
+ghost use Rattle.bw_session.specs.Tables.{session_in};
 
 use crate::server::Server;
 use bw_journal::Journal;
@@ -48,6 +49,19 @@ impl<S: TakeStore, J: Journal> Server<S, J> {
             Some(session) => session.progress.state.is_taken(),
             None => false,
         }
+    }
+
+    /// Whether it knows a name: a message of it was served, and it wasn't put to rest since.
+    ///
+    /// # Not specified
+    /// How it follows from the messages, after a turn over a store that isn't honest.
+    pub fn is_known(&self, name: &Name) -> bool
+        ensures kept { result ≡ is_some (session_in self.now.sessions name.now) }
+        ensures value { (first : List ℕ → Option (List ℕ)) (book : Book) →
+            HoldsBook S.TakeStore J.Journal first self.now book →
+            result ≡ is_known book name.now }
+    {
+        self.sessions.contains_key(name)
     }
 
     /// The names that it knows, each once, in no order: at most 256.

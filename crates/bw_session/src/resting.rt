@@ -1,9 +1,11 @@
 //! Names that rest: nothing is kept of them but their journals.
-ghost use Rattle.std.specs.Prelude.{◌≡◌, ◌<◌, ◌+◌, ◌&&◌, ◌==◌, ℕ, List, Option, IsTrue, IfOk, OnErr, is_err, is_some};
+ghost use Rattle.std.specs.Prelude.{◌≡◌, ◌<◌, ◌+◌, ◌&&◌, ◌==◌, ℕ, List, Option, IfOk, OnOk, OnErr, Ok};
+ghost use Rattle.std.specs.Prelude.{false, is_some};
 ghost use Rattle.std.specs.HashMap.{hash_map_len, spare};
 ghost use Rattle.bw_model.specs.Counts.{Counts};
 ghost use Rattle.bw_model.specs.Book.{Book, log_of, is_known, made};
 ghost use Rattle.bw_model.specs.Turn.{most_takes};
+ghost use Rattle.bw_session.specs.RestFaults.{is_rest_failed};
 ghost use Rattle.bw_session.specs.RestingNames.{is_restable, is_restable_in};
 ghost use Rattle.bw_session.specs.Tables.{session_in};
 
@@ -11,7 +13,17 @@ use crate::server::{NAMES, Server};
 use crate::session::Session;
 use bw_journal::{Journal, RestingJournal};
 use bw_request::Name;
-use bw_store::{StoreFault, TakeStore};
+use bw_store::TakeStore;
+use std::alloc::AllocError;
+
+/// Why a name can't be put to rest that may rest.
+#[derive(Clone, Copy, Debug, PartialEq, Eq)]
+pub enum RestFault {
+    /// The journal failed.
+    Journal,
+    /// Memory was refused.
+    Memory,
+}
 
 impl Session {
     /// Whether the name may rest: its take is closed, and nothing waits.
@@ -43,21 +55,20 @@ impl<S: TakeStore, J: Journal> Server<S, J> {
         }
     }
 
-    /// Whether a name may rest, once the table has room for as many names as before without it.
-    fn prepares_rest(&mut self, name: &Name) -> bool
-        ensures ready { IsTrue result → IsTrue (is_restable_in self.old.sessions name.now) }
-        ensures place { IsTrue result →
-            most_takes < hash_map_len self.new.sessions + spare self.new.sessions }
-        ensures sessions { (other : List ℕ) →
-            session_in self.new.sessions other ≡ session_in self.old.sessions other }
+    /// Makes room in the table for as many names as a server takes, once one has left it.
+    ///
+    /// # Errors
+    /// `AllocError` if memory was refused.
+    fn make_place(&mut self) -> Result<(), AllocError>
+        ensures place { OnOk result
+            (most_takes < hash_map_len self.new.sessions + spare self.new.sessions) }
+        ensures sessions { (name : List ℕ) →
+            session_in self.new.sessions name ≡ session_in self.old.sessions name }
         ensures stores { SameStores S.TakeStore J.Journal self.old self.new }
         ensures limit { self.new.limit ≡ self.old.limit }
     {
-        if !self.may_rest(name) {
-            return false;
-        }
         let needed = NAMES + 1 - self.sessions.len();
-        self.sessions.reserve(needed).is_ok()
+        self.sessions.reserve(needed)
     }
 }
 
@@ -65,29 +76,35 @@ impl<S: TakeStore, J: RestingJournal> Server<S, J> {
     ghost use Rattle.bw_session.specs.RestingNames.{KeepsNames, RestsNameIf};
 
     /// Puts a name to rest: nothing is kept of it any more but its journal, which rests, and its
-    /// file. It returns false, and nothing changes, if the name may not rest, its journal can't, or
-    /// memory was refused for room in the table.
+    /// file. It returns false, and nothing changes, if the name may not rest, or its journal can't.
     ///
     /// # Errors
-    /// `StoreFault` if the journal failed: nothing has changed.
+    /// The fault; nothing has changed, and the name may rest.
     ///
     /// # Not specified
     /// When memory is refused.
-    pub fn rest(&mut self, name: &Name) -> Result<bool, StoreFault>
+    pub fn rest(&mut self, name: &Name) -> Result<bool, RestFault>
         ensures store { self.new.stores.store ≡ self.old.stores.store }
         ensures limit { self.new.limit ≡ self.old.limit }
         ensures failures { Counts (J.failures self.old.stores.journal)
-            (J.failures self.new.stores.journal) (is_err result) }
+            (J.failures self.new.stores.journal) (is_rest_failed result) }
         ensures honest { J.honest self.new.stores.journal ≡ J.honest self.old.stores.journal }
+        ensures unready { is_restable_in self.old.sessions name.now ≡ false →
+            (result ≡ Ok false) × (self.new ≡ self.old) }
         ensures rested { IfOk result (λ rested.
-            RestsNameIf S.TakeStore J.Journal J.resting rested name.now self.old self.new) }
-        ensures failed { OnErr result
-            (KeepsNames S.TakeStore J.Journal J.resting self.old self.new) }
+            RestsNameIf S.TakeStore J.Journal rested name.now self.old self.new) }
+        ensures failed { OnErr result (KeepsNames S.TakeStore J.Journal self.old self.new) }
     {
-        if !self.prepares_rest(name) {
+        if !self.may_rest(name) {
             return Ok(false);
         }
-        if !self.stores.journal.rest(name)? {
+        if let Err(_refused) = self.make_place() {
+            return Err(RestFault::Memory);
+        }
+        let Ok(rested) = self.stores.journal.rest(name) else {
+            return Err(RestFault::Journal);
+        };
+        if !rested {
             return Ok(false);
         }
         self.sessions.remove(name);

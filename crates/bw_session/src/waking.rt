@@ -6,11 +6,11 @@ ghost use Rattle.bw_model.specs.Counts.{Counts};
 ghost use Rattle.bw_model.specs.Book.{Log};
 ghost use Rattle.bw_model.specs.Turn.{most_takes};
 ghost use Rattle.bw_journal.specs.Faults.{fault_meaning};
-ghost use Rattle.bw_journal.specs.Replays.{Story, replay as replay_of};
+ghost use Rattle.bw_journal.specs.Replays.{replay as replay_of};
 ghost use Rattle.bw_journal.specs.Stories.{story_of};
 ghost use Rattle.bw_session.specs.RestingNames.{IsAtRest, IsMadeFrom};
 ghost use Rattle.bw_session.specs.Tables.{session_in};
-ghost use Rattle.bw_session.specs.WakeFaults.{is_journal_fault, is_unfit};
+ghost use Rattle.bw_session.specs.RestFaults.{is_wake_failed, is_unfit, is_fit_to_wake, is_replayed_whole, may_wake};
 
 use crate::kept_take::KeptTake;
 use crate::resuming::session_of;
@@ -54,7 +54,7 @@ impl<S: TakeStore, J: RestingJournal> Server<S, J> {
         ensures honest { J.honest self.new.stores.journal ≡ J.honest self.old.stores.journal }
         ensures value { IsTrue (J.honest self.old.stores.journal) → IfOk result (λ rests.
             rests ≡ is_some (J.resting self.old.stores.journal name.now)) }
-        ensures kept { KeepsNames S.TakeStore J.Journal J.resting self.old self.new }
+        ensures kept { KeepsNames S.TakeStore J.Journal self.old self.new }
     {
         let found = self.stores.journal.read_resting(name)?;
         Ok(found.is_some())
@@ -74,15 +74,13 @@ impl<S: TakeStore, J: RestingJournal> Server<S, J> {
         ensures store { self.new.stores.store ≡ self.old.stores.store }
         ensures limit { self.new.limit ≡ self.old.limit }
         ensures failures { Counts (J.failures self.old.stores.journal)
-            (J.failures self.new.stores.journal) (is_journal_fault result) }
+            (J.failures self.new.stores.journal) (is_wake_failed result) }
         ensures honest { J.honest self.new.stores.journal ≡ J.honest self.old.stores.journal }
         ensures woken { IfOk result (λ woken.
-            WakesNameIf S.TakeStore J.Journal J.resting woken name.now self.old self.new) }
-        ensures failed { OnErr result
-            (KeepsNames S.TakeStore J.Journal J.resting self.old self.new) }
-        ensures sound { IsTrue (J.honest self.old.stores.journal) →
-            (log : Log) (file : Option (List ℕ)) → IsAtRest self.old.limit name.now log
-            (J.resting self.old.stores.journal name.now) file → is_unfit result ≡ false }
+            WakesNameIf S.TakeStore J.Journal woken name.now self.old self.new) }
+        ensures failed { OnErr result (KeepsNames S.TakeStore J.Journal self.old self.new) }
+        ensures unfit { IsTrue (J.honest self.old.stores.journal) → IsTrue (is_unfit result) →
+            may_wake self.old.limit name.now (J.resting self.old.stores.journal name.now) ≡ false }
     {
         let alloc = self.stores.alloc;
         // Its clause says that no name is in the table twice.
@@ -123,9 +121,9 @@ fn session_at_rest(
     ensures limit { IfOk result (λ s. s.progress.growing.limit ≡ limit) }
     ensures made { IfOk result (λ s. (log : Log) (file : Option (List ℕ)) →
         IsAtRest limit name.now log (Some bytes.now) file → IsMadeFrom log bytes.now file s) }
-    ensures err { is_journal_fault result ≡ false }
-    ensures sound { (log : Log) (file : Option (List ℕ)) →
-        IsAtRest limit name.now log (Some bytes.now) file → is_unfit result ≡ false }
+    ensures err { is_wake_failed result ≡ false }
+    ensures fit { IfOk result (λ _. IsTrue (is_fit_to_wake limit name.now bytes.now)) }
+    ensures unfit { IsTrue (is_unfit result) → is_fit_to_wake limit name.now bytes.now ≡ false }
 {
     let _range = limit.bytes();
     let replayed = replay_whole(alloc, limit, name, bytes)?;
@@ -154,9 +152,9 @@ fn replay_whole(
 ) -> Result<Replayed, WakeFault>
     ensures story { IfOk result (λ r. replay_of limit name.now bytes.now ≡ Ok (story_of r)) }
     ensures whole { IfOk result (λ r. r.used ≡ length bytes.now) }
-    ensures err { is_journal_fault result ≡ false }
-    ensures sound { (story : Story) → replay_of limit name.now bytes.now ≡ Ok story →
-        story.used ≡ length bytes.now → is_unfit result ≡ false }
+    ensures err { is_wake_failed result ≡ false }
+    ensures unfit { IsTrue (is_unfit result) →
+        is_replayed_whole (length bytes.now) (replay_of limit name.now bytes.now) ≡ false }
 {
     if bytes.len() > JOURNAL_MAX {
         return Err(WakeFault::Memory);

@@ -22,7 +22,7 @@ const OPEN: &[u8] = b"\x01\x02a1\0\0\0\0\x80\xbb\0\0\x01\0\x10\0\0\0";
 const BLOCK: &[u8] = b"\x02\x02a1\x01\0\0\0\x01\0\x02\0";
 
 /// The messages of `JOURNAL`, with their verdicts.
-static MESSAGES: [(&[u8], Reported); 6] = [
+pub(crate) static MESSAGES: [(&[u8], Reported); 6] = [
     (
         b"\x01\x02a1\0\0\0\0\x80\xbb\0\0\x01\0\x10\0\x05\0A=PCM",
         Judged(0, Stored),

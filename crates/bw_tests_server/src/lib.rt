@@ -9,3 +9,5 @@ mod entries;
 mod journals;
 #[cfg(test)]
 mod play;
+#[cfg(test)]
+mod resting;

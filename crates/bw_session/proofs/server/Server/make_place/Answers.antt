@@ -1,5 +1,5 @@
 use Rattle.bw_session.proofs.RestTables.{table_kept}
-use Rattle.bw_session.proofs.server.Server.prepares_rest.Goals as goal
+use Rattle.bw_session.proofs.server.Server.make_place.Goals as goal
 
 pub invariant_of-self : goal.invariant_of-self
 invariant_of-self g c = record {
