@@ -5,9 +5,12 @@ use Rattle.std.specs.Option.{option_or}
 use Rattle.std.specs.Str.{bytes_eq}
 use Rattle.bw_model.proofs.BookLemmas.{same_name, name_refl}
 use Rattle.bw_journal.specs.JournalHeaders.{Header}
-use Rattle.bw_journal.specs.Resting.{Journals, SameJournals, KeepsOtherJournals, PutsToRest, WakesJournal}
+use Rattle.bw_journal.specs.Resting.{Journals, SameJournals, PutsToRest, WakesJournal}
 use Rattle.bw_folder.specs.Journals.{journal_path}
-use Rattle.bw_folder.specs.RestingJournals.{closed_path, noted_at, resting_at, resting_header, folder_journals}
+use Rattle.bw_folder.specs.RestingJournals.{closed_path, resting_header, folder_journals, KeepsBeside}
+use Rattle.bw_store.specs.Stores.{KeepsOthers}
+use Rattle.bw_folder.proofs.JournalPaths.{journal_path_injective}
+use Rattle.bw_folder.proofs.ClosedPaths.{closed_apart}
 
 -- same after same
 pub same_twice : (a b c : Journals) → SameJournals a b → SameJournals b c → SameJournals a c
@@ -55,6 +58,14 @@ same_then_wakes name a b c x y = record {
   };
 }
 
+-- something changed beside a name after nothing changed
+pub same_then_beside : (name : List ℕ) (a b c : Journals) → SameJournals a b → KeepsBeside name b c → KeepsBeside name a c
+same_then_beside name a b c x y = record {
+  headers = λ n. y.headers n ∙ x.header n;
+  resting = λ n. y.resting n ∙ x.resting n;
+  others = λ n apart. y.others n apart ∙ x.noted n;
+}
+
 pub or_none : (o : Option (List ℕ)) → option_or o None ≡ o
 or_none None = refl
 or_none (Some x) = refl
@@ -67,11 +78,10 @@ pub or_false : (b : Bool) → (b || false) ≡ b
 or_false true = refl
 or_false false = refl
 
-header_of : ℕ → Bool → Header
+abbrev header_of : ℕ → Bool → Header
 header_of limit existed = record { limit = limit; existed = existed }
 
 headers : (m n : ℕ) (x y : Bool) → m ≡ n → x ≡ y → header_of m x ≡ header_of n y
-unfolding header_of
 headers m n x y e f = ap (λ (k : ℕ). header_of k x) e ∙ ap (λ (b : Bool). header_of n b) f
 
 abbrev noted_of : Bool → Option (List ℕ) → Option (List ℕ) → Option (List ℕ)
@@ -227,6 +237,19 @@ module _ (loose loose' : List ℕ → Bool) (header header' : List ℕ → Heade
           header = λ n differ. (same_at n (tied_else n (apart name n differ)) (eh n) (ec (noted n)) (ec (closed n))).header_same;
         };
       }
+
+  -- something was written where a name is noted that isn't loose
+  pub beside : (name : List ℕ) → ((n : List ℕ) → loose' n ≡ loose n) → ((n : List ℕ) → header' n ≡ header n) →
+      KeepsOthers c c' (journal_path folder name) → KeepsBeside name before after
+  beside name el eh keeps = record {
+    headers = λ n. header_eq (loose n) (loose' n) (c (closed n)) (c' (closed n)) (header n) (header' n) (el n)
+        (keeps (closed n) (closed_apart folder n name)) (eh n);
+    resting = λ n. resting_eq (loose n) (loose' n) (c (closed n)) (c' (closed n)) (el n)
+        (keeps (closed n) (closed_apart folder n name));
+    others = λ n differ. noted_eq (loose n) (loose' n) (c (noted n)) (c' (noted n)) (c (closed n)) (c' (closed n)) (el n)
+        (keeps (noted n) (λ same. differ (journal_path_injective folder n name same)))
+        (keeps (closed n) (closed_apart folder n name));
+  }
 
   -- a loose journal was moved from one of its paths to the other, or nothing changed
   pub moved_loose : (name : List ℕ) → ((n : List ℕ) → loose' n ≡ loose n) → (header' name).limit ≡ (header name).limit →

@@ -2,16 +2,17 @@
 use Rattle.std.proofs.Common.{◌≡◌, ◌∙◌, List, ℕ, Bool, true, false, Option, Some, None, refl, sym, ap, subst, IsTrue, ◌⊎◌, inl, inr, Result, Ok, Err, string_bytes, cond, IfOk, OnErr, not}
 use Rattle.std.specs.Prelude.{filter, unwrap_or, is_some}
 use Rattle.std.specs.Option.{option_or}
+use Rattle.std.specs.HashSet.{HashSet}
 use Rattle.std.specs.Str.{bytes_eq}
 use Rattle.bw_model.proofs.BookLemmas.{same_name, name_refl}
-use Rattle.bw_disk.specs.DiskSteps.{StaysWhole}
 use Rattle.bw_disk.specs.Volumes.{Moves, Renames, KeepsEach, KeepsAllBut}
 use Rattle.bw_disk.specs.declared.disk.Disk.{Ghosts}
 use Rattle.bw_journal.specs.JournalHeaders.{Header}
 use Rattle.bw_journal.specs.Resting.{Journals, SameJournals}
 use Rattle.bw_folder.specs.Folders.{take_path}
-use Rattle.bw_folder.specs.Journals.{journal_path, existences, existence_of, header_at}
-use Rattle.bw_folder.specs.RestingJournals.{closed_path, is_loose, folder_journals}
+use Rattle.bw_folder.specs.Journals.{journal_path, notes_at, existences, existence_of, header_at}
+use Rattle.bw_folder.proofs.Headings.{moved}
+use Rattle.bw_folder.specs.RestingJournals.{closed_path, is_loose, folder_journals, KeepsBeside}
 use Rattle.bw_folder.specs.RestingFolders.{StaysOpen, OnlyReads, MovesFile, inner_header, all_journals}
 use Rattle.bw_folder.proofs.ClosedNames.{closed_gone, closed_others}
 use Rattle.bw_folder.specs.declared.journal.OpenJournal.{OpenJournal}
@@ -20,7 +21,8 @@ use Rattle.bw_folder.specs.declared.resting.RestingFolderJournal.{RestingFolderJ
 use Rattle.bw_folder.proofs.JournalPaths.{journal_path_injective, paths_apart}
 use Rattle.bw_folder.proofs.ClosedPaths.{closed_path_injective, closed_apart, takes_apart}
 use Rattle.bw_folder.proofs.HeaderKeeping.{header_kept}
-use Rattle.bw_folder.proofs.LooseForms.{same_parts, moved_loose, loosened, or_none}
+use Rattle.bw_folder.proofs.LooseForms.{same_parts, moved_loose, loosened, beside, same_back, or_none}
+use Rattle.bw_store.specs.Stores.{KeepsOthers}
 
 -- a file was moved, or nothing changed
 abbrev pub MovedOrKept : List ℕ → List ℕ → (List ℕ → Option (List ℕ)) → (List ℕ → Option (List ℕ)) → Type 0
@@ -33,6 +35,12 @@ moved_or_kept from to before after (Ok true) m f = inl m
 moved_or_kept from to before after (Ok false) m f = inr m.1
 moved_or_kept from to before after (Err e) m f = f
 
+-- each other path has what it had
+pub keeps_all_but : (from to : List ℕ) (before after : List ℕ → Option (List ℕ)) → MovedOrKept from to before after →
+    KeepsAllBut from to before after
+keeps_all_but from to before after (inl m) = m.others
+keeps_all_but from to before after (inr k) = λ p a b. k p
+
 -- distinct names, by the test
 differ : (name n : List ℕ) → bytes_eq name n ≡ false → n ≡ name → ⊥
 differ name n e same =
@@ -41,7 +49,7 @@ differ name n e same =
 
 module _ (c c' : List ℕ → Option (List ℕ)) (folder name : List ℕ) where
   -- each path but those of the name's journal has what it had
-  abbrev KeepsBut : Type 0
+  abbrev pub KeepsBut : Type 0
   KeepsBut = KeepsAllBut (journal_path folder name) (closed_path folder name) c c'
 
   keeps_takes : KeepsBut → (n : List ℕ) → c' (take_path folder n) ≡ c (take_path folder n)
@@ -58,10 +66,10 @@ module _ (c c' : List ℕ → Option (List ℕ)) (folder name : List ℕ) where
       (λ same. differ name n e (closed_path_injective folder n name same))
 
   -- the name's journal is at one of its paths, as it was
-  record IsMoved : Type 0 where
-    keeps : KeepsBut
-    same : option_or (c' (journal_path folder name)) (c' (closed_path folder name))
-    ≡ option_or (c (journal_path folder name)) (c (closed_path folder name))
+  pub record IsMoved : Type 0 where
+    pub keeps : KeepsBut
+    pub same : option_or (c' (journal_path folder name)) (c' (closed_path folder name))
+        ≡ option_or (c (journal_path folder name)) (c (closed_path folder name))
 
   kept : KeepsEach c c' → IsMoved
   kept k = record {
@@ -139,23 +147,45 @@ module _ {D F : Type 0} (G : Ghosts D F) where
       (λ n e. header_same old.inner new.inner s (keeps_takes c c' folder name m.keeps) n) was m.same
       (keeps_noted c c' folder name m.keeps) (keeps_closed c c' folder name m.keeps))
 
+  -- something was written where a name is noted that isn't loose
+  pub written_beside : (name : List ℕ) (old new : RestingFolderJournal D F G) → new.inner.folder ≡ old.inner.folder →
+      new.loose ≡ old.loose → ((n : List ℕ) → inner_header G new.inner n ≡ inner_header G old.inner n) →
+      KeepsOthers (G.contents old.inner.disk) (G.contents new.inner.disk) (journal_path (string_bytes old.inner.folder) name) →
+      KeepsBeside name (all_journals G old) (all_journals G new)
+  written_beside name old new ef el eh keeps =
+      subst (λ v. KeepsBeside name (all_journals G old) (folder_journals (is_loose new.loose) (inner_header G new.inner)
+      (G.contents new.inner.disk) (string_bytes v))) (sym ef)
+      (beside (is_loose old.loose) (is_loose new.loose) (inner_header G old.inner) (inner_header G new.inner)
+      (G.contents old.inner.disk) (G.contents new.inner.disk) (string_bytes old.inner.folder) name
+      (λ n. ap (λ v. is_loose v n) el) eh keeps)
+
   -- to where it rests
-  pub rests_moved : {E : Type 0} (name : List ℕ) (old new : RestingFolderJournal D F G) (r : Result Bool E) →
-      MovesFile G (journal_path (string_bytes old.inner.folder) name) (closed_path (string_bytes old.inner.folder) name) r
-      old.inner new.inner → new.loose ≡ old.loose → is_loose old.loose name ≡ true → IsTrue (G.honest old.inner.disk) →
-      SameJournals (all_journals G old) (all_journals G new)
-  rests_moved name old new r m el was honest =
+  pub rests_moved : {E : Type 0} (name : List ℕ) (old new : RestingFolderJournal D F G) (r : Result Bool E) (from to : List ℕ) →
+      MovesFile G from to r old.inner new.inner → from ≡ journal_path (string_bytes old.inner.folder) name →
+      to ≡ closed_path (string_bytes old.inner.folder) name → new.loose ≡ old.loose → is_loose old.loose name ≡ true →
+      IsTrue (G.honest old.inner.disk) → SameJournals (all_journals G old) (all_journals G new)
+  rests_moved name old new r from to m ef et el was honest =
+      let c = G.contents old.inner.disk in
+      let c' = G.contents new.inner.disk in
+      let folder : List ℕ = string_bytes old.inner.folder in
+      let moved : MovedOrKept from to c c' = moved_or_kept from to c c' r (m.moved honest) (m.failed honest) in
       moved_same name old new m.stays el was
-      (to_rest _ _ _ _ (moved_or_kept _ _ _ _ r (m.moved honest) (m.failed honest)))
+      (to_rest c c' folder name (subst (λ (p : List ℕ). MovedOrKept p (closed_path folder name) c c') ef
+      (subst (λ (p : List ℕ). MovedOrKept from p c c') et moved)))
 
   -- back
-  pub back_moved : {E : Type 0} (name : List ℕ) (old new : RestingFolderJournal D F G) (r : Result Bool E) →
-      MovesFile G (closed_path (string_bytes old.inner.folder) name) (journal_path (string_bytes old.inner.folder) name) r
-      old.inner new.inner → new.loose ≡ old.loose → is_loose old.loose name ≡ true → IsTrue (G.honest old.inner.disk) →
-      SameJournals (all_journals G old) (all_journals G new)
-  back_moved name old new r m el was honest =
+  pub back_moved : {E : Type 0} (name : List ℕ) (old new : RestingFolderJournal D F G) (r : Result Bool E) (from to : List ℕ) →
+      MovesFile G from to r old.inner new.inner → from ≡ closed_path (string_bytes old.inner.folder) name →
+      to ≡ journal_path (string_bytes old.inner.folder) name → new.loose ≡ old.loose → is_loose old.loose name ≡ true →
+      IsTrue (G.honest old.inner.disk) → SameJournals (all_journals G old) (all_journals G new)
+  back_moved name old new r from to m ef et el was honest =
+      let c = G.contents old.inner.disk in
+      let c' = G.contents new.inner.disk in
+      let folder : List ℕ = string_bytes old.inner.folder in
+      let moved : MovedOrKept from to c c' = moved_or_kept from to c c' r (m.moved honest) (m.failed honest) in
       moved_same name old new m.stays el was
-      (from_rest _ _ _ _ (moved_or_kept _ _ _ _ r (m.moved honest) (m.failed honest)))
+      (from_rest c c' folder name (subst (λ (p : List ℕ). MovedOrKept p (journal_path folder name) c c') ef
+      (subst (λ (p : List ℕ). MovedOrKept from p c c') et moved)))
 
   module _ (name : List ℕ) (old new : RestingFolderJournal D F G) (disk : new.inner.disk ≡ old.inner.disk)
       (limit : new.inner.limit ≡ old.inner.limit) (folder : new.inner.folder ≡ old.inner.folder)
@@ -206,3 +236,87 @@ module _ {D F : Type 0} (G : Ghosts D F) where
         (G.contents old.inner.disk) (G.contents new.inner.disk) (string_bytes old.inner.folder) name contents_kept el tied
         (ap (λ (k : Option Bool). unwrap_or k (is_some (G.contents old.inner.disk (take_path (string_bytes old.inner.folder) name)))) own)
         limit others_kept free)
+
+  -- the journals by the parts of their state
+  parts : {H V S : Type 0} (items : V → List (OpenJournal F)) (bytes : S → List ℕ) → ℕ → V → D → S → HashSet (List ℕ) H → Journals
+  parts items bytes limit js disk folder loose =
+      folder_journals (is_loose loose) (λ n. header_at limit (existences (items js)) (G.contents disk) (bytes folder) n)
+      (G.contents disk) (bytes folder)
+
+  -- a call that failed was counted
+  pub counted : (old new : RestingFolderJournal D F G) → new.inner.disk ≡ old.inner.disk →
+      new.inner.limit ≡ old.inner.limit → new.inner.folder ≡ old.inner.folder → new.inner.journals ≡ old.inner.journals →
+      new.loose ≡ old.loose → all_journals G new ≡ all_journals G old
+  unfolding parts
+  counted old new ed el ef ej es =
+      ap (λ d. parts (λ v. v.items) string_bytes new.inner.limit new.inner.journals d new.inner.folder new.loose) ed
+      ∙ ap (λ l. parts (λ v. v.items) string_bytes l new.inner.journals old.inner.disk new.inner.folder new.loose) el
+      ∙ ap (λ f. parts (λ v. v.items) string_bytes old.inner.limit new.inner.journals old.inner.disk f new.loose) ef
+      ∙ ap (λ v. parts (λ w. w.items) string_bytes old.inner.limit v old.inner.disk old.inner.folder new.loose) ej
+      ∙ ap (λ s. parts (λ v. v.items) string_bytes old.inner.limit old.inner.journals old.inner.disk old.inner.folder s) es
+
+  -- what is noted under a name that isn't loose
+  pub noted_tied : (name : List ℕ) (j : RestingFolderJournal D F G) → is_loose j.loose name ≡ false →
+      (all_journals G j).noted name ≡ G.contents j.inner.disk (journal_path (string_bytes j.inner.folder) name)
+  noted_tied name j tied =
+      ap (λ (l : Bool). cond l (option_or (G.contents j.inner.disk (journal_path (string_bytes j.inner.folder) name))
+      (G.contents j.inner.disk (closed_path (string_bytes j.inner.folder) name)))
+      (G.contents j.inner.disk (journal_path (string_bytes j.inner.folder) name))) tied
+
+  -- a journal that wasn't opened
+  pub unopened : (old new : RestingFolderJournal D F G) → new.inner.folder ≡ old.inner.folder → new.loose ≡ old.loose →
+      ((n : List ℕ) → inner_header G new.inner n ≡ inner_header G old.inner n) →
+      KeepsEach (G.contents old.inner.disk) (G.contents new.inner.disk) → SameJournals (all_journals G old) (all_journals G new)
+  unopened old new ef el eh ec =
+      in_folder old new ef
+      (same_parts (is_loose old.loose) (is_loose new.loose) (inner_header G old.inner) (inner_header G new.inner)
+      (G.contents old.inner.disk) (G.contents new.inner.disk) (string_bytes old.inner.folder)
+      (λ n. ap (λ v. is_loose v n) el) eh ec)
+
+  -- a loose journal was opened where it is noted in
+  module _ (name : List ℕ) (old new : RestingFolderJournal D F G) (folder : new.inner.folder ≡ old.inner.folder)
+      (limit : new.inner.limit ≡ old.inner.limit)
+      (same : KeepsEach (G.contents old.inner.disk) (G.contents new.inner.disk))
+      (heads : (n : List ℕ) → inner_header G new.inner n
+      ≡ cond (bytes_eq name n) (record (inner_header G old.inner n) { existed = false }) (inner_header G old.inner n))
+      (el : (n : List ℕ) → is_loose new.loose n ≡ cond (bytes_eq name n) false (is_loose old.loose n))
+      (was : is_loose old.loose name ≡ true)
+      (free : G.contents old.inner.disk (closed_path (string_bytes old.inner.folder) name) ≡ None) where
+    loose_back : (n : List ℕ) → is_loose old.loose n ≡ cond (bytes_eq name n) true (is_loose new.loose n)
+    loose_back n = go (bytes_eq name n) refl
+      where
+        go : (b : Bool) → bytes_eq name n ≡ b → is_loose old.loose n ≡ cond b true (is_loose new.loose n)
+        go true e = subst (λ (m : List ℕ). is_loose old.loose m ≡ true) (same_name name n e) was
+        go false e = sym (el n ∙ ap (λ (b : Bool). cond b false (is_loose old.loose n)) e)
+
+    pub opened_same : SameJournals (all_journals G old) (all_journals G new)
+    opened_same =
+        in_folder old new folder
+        (same_back (folder_journals (is_loose new.loose) (inner_header G new.inner) (G.contents new.inner.disk)
+        (string_bytes old.inner.folder)) (all_journals G old)
+        (loosened (is_loose new.loose) (is_loose old.loose) (inner_header G new.inner) (inner_header G old.inner)
+        (G.contents new.inner.disk) (G.contents old.inner.disk) (string_bytes old.inner.folder) name
+        (λ p. sym (same p)) loose_back
+        (el name ∙ ap (λ (b : Bool). cond b false (is_loose old.loose name)) (name_refl name))
+        (ap (λ (h : Header). h.existed) (heads name
+        ∙ ap (λ (b : Bool). cond b (record (inner_header G old.inner name) { existed = false }) (inner_header G old.inner name))
+        (name_refl name)))
+        (sym limit)
+        (λ n e. sym (heads n ∙ ap (λ (b : Bool). cond b (record (inner_header G old.inner n) { existed = false })
+        (inner_header G old.inner n)) e))
+        (same (closed_path (string_bytes old.inner.folder) name) ∙ free)))
+
+  -- after a note under a name that isn't loose
+  module _ (name : List ℕ) (old mid new : RestingFolderJournal D F G) (same : SameJournals (all_journals G old) (all_journals G mid))
+      (tied : is_loose mid.loose name ≡ false) (folder : new.inner.folder ≡ mid.inner.folder) (loose : new.loose ≡ mid.loose) where
+    -- a relation of what is noted before and after it
+    pub noted_as : (P : Option (List ℕ) → Option (List ℕ) → Type 0) →
+        P (notes_at (G.contents mid.inner.disk) (string_bytes mid.inner.folder) name)
+        (notes_at (G.contents new.inner.disk) (string_bytes mid.inner.folder) name) →
+        P ((all_journals G old).noted name) ((all_journals G new).noted name)
+    noted_as P p =
+        moved P (notes_at (G.contents mid.inner.disk) (string_bytes mid.inner.folder) name) ((all_journals G old).noted name)
+        (notes_at (G.contents new.inner.disk) (string_bytes mid.inner.folder) name) ((all_journals G new).noted name)
+        (sym (noted_tied name mid tied) ∙ same.noted name)
+        (ap (λ v. notes_at (G.contents new.inner.disk) (string_bytes v) name) (sym folder)
+        ∙ sym (noted_tied name new (ap (λ v. is_loose v name) loose ∙ tied))) p

@@ -48,7 +48,7 @@ module _ {D F : Type 0} (G : Ghosts D F) where
       (string_bytes j.inner.folder)
 
   -- the settings and the count of failures are the same, and the disk is as honest as it was
-  pub record StaysSet (old new : RestingFolderJournal D F G) : Type 0 where
+  pub record KeepsSettings (old new : RestingFolderJournal D F G) : Type 0 where
     pub limit : new.inner.limit ≡ old.inner.limit
     pub sync : new.inner.sync ≡ old.inner.sync
     pub folder : new.inner.folder ≡ old.inner.folder

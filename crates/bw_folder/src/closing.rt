@@ -2,6 +2,7 @@
 ghost use Rattle.std.specs.Prelude.{◌≡◌, ℕ, Some, IsTrue, IfOk, filter, not, is_some, option_map, false};
 ghost use Rattle.std.specs.Str.{bytes_eq};
 ghost use Rattle.bw_store.specs.Stores.{Counts};
+ghost use Rattle.bw_disk.specs.Volumes.{KeepsAllBut};
 ghost use Rattle.bw_folder.specs.Journals.{existences, existence_of, failure_of};
 
 use crate::heading::exists;
@@ -62,7 +63,9 @@ impl<D: Volume> FolderJournal<D> {
 
     /// Moves a file of the folder, and returns true; false if something stands in its way.
     pub(crate) fn move_file(&mut self, from: &str, to: &str) -> Result<bool, StoreFault>
-        ensures { MovesFile D.Disk from.now to.now result self.old self.new }
+        ensures moves { MovesFile D.Disk from.now to.now result self.old self.new }
+        ensures others { IsTrue (D.honest self.old.disk) → KeepsAllBut from.now to.now
+            (D.contents self.old.disk) (D.contents self.new.disk) }
     {
         self.disk.rename(from, to).map_err(|_| StoreFault)
     }
@@ -70,7 +73,10 @@ impl<D: Volume> FolderJournal<D> {
     /// Counts a call that failed.
     pub(crate) fn count(&mut self, fails: bool)
         ensures counted { Counts self.old.failures self.new.failures fails }
-        ensures rest { self.new ≡ record self.old { failures = self.new.failures } }
+        ensures disk { self.new.disk ≡ self.old.disk }
+        ensures settings { (self.new.limit ≡ self.old.limit) × (self.new.sync ≡ self.old.sync)
+            × (self.new.folder ≡ self.old.folder) }
+        ensures journals { self.new.journals ≡ self.old.journals }
     {
         if fails {
             self.failures = self.failures.saturating_add(1);

@@ -406,7 +406,12 @@ impl<D: Volume> FolderJournal<D> {
 
     /// Writes bytes into the file of a name's journal; with `sync` the take's file is synced before
     /// that, and the journal after it.
-    pub(crate) fn note_in_file(&mut self, name: &Name, offset: u64, bytes: &[u8]) -> Result<(), StoreFault>
+    pub(crate) fn note_in_file(
+        &mut self,
+        name: &Name,
+        offset: u64,
+        bytes: &[u8],
+    ) -> Result<(), StoreFault>
         ensures failures { self.new.failures ≡ self.old.failures }
         ensures settings { (self.new.limit ≡ self.old.limit) × (self.new.sync ≡ self.old.sync)
             × (self.new.folder ≡ self.old.folder) }

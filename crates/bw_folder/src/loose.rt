@@ -1,6 +1,11 @@
 //! Journals of which some rest, and some are loose.
 ghost use Rattle.std.specs.Prelude.{◌≡◌, ℕ, List, None, Ok, IsTrue, IsSome, IfOk, OnOk, OnErr, string_bytes};
 ghost use Rattle.std.specs.Prelude.{option_map, is_some, true, false, Some};
+ghost use Rattle.bw_store.specs.Stores.{KeepsOthers};
+ghost use Rattle.bw_disk.specs.DiskSteps.{StaysWhole};
+ghost use Rattle.bw_disk.specs.Volumes.{KeepsAllBut};
+ghost use Rattle.bw_folder.specs.Folders.{take_path as path_of_take};
+ghost use Rattle.bw_folder.specs.Syncing.{IsSyncedAt};
 ghost use Rattle.bw_journal.specs.Notes.{BeginsNotes, BeginsInPart, Notes, NotesInPart};
 ghost use Rattle.bw_journal.specs.Resting.{SameJournals, RestsIf, WakesIf};
 ghost use Rattle.bw_folder.specs.Journals.{journal_path as path_of_journal, existences, existence_of, failure_of};
@@ -13,7 +18,7 @@ use bw_request::Name;
 use bw_store::StoreFault;
 
 impl<D: Volume> RestingFolderJournal<D> {
-    ghost use Rattle.bw_folder.specs.RestingFolders.{all_journals, inner_header, OnlyReads, StaysOpen, StaysSet};
+    ghost use Rattle.bw_folder.specs.RestingFolders.{all_journals, inner_header, OnlyReads, StaysOpen, KeepsSettings};
 
     /// Whether something is where the journal of a name rests.
     fn stands_closed(&mut self, name: &Name) -> Result<bool, StoreFault>
@@ -41,7 +46,7 @@ impl<D: Volume> RestingFolderJournal<D> {
 
     /// Puts the journal of a name to rest; false if it may not rest.
     pub(crate) fn rest_file(&mut self, name: &Name) -> Result<bool, StoreFault>
-        ensures settings { StaysSet D.Disk self.old self.new }
+        ensures settings { KeepsSettings D.Disk self.old self.new }
         ensures rested { IsTrue (D.honest self.old.inner.disk) → IfOk result (λ rested. RestsIf rested
             name.now (all_journals D.Disk self.old) (all_journals D.Disk self.new)) }
         ensures failed { IsTrue (D.honest self.old.inner.disk) → OnErr result
@@ -51,6 +56,10 @@ impl<D: Volume> RestingFolderJournal<D> {
         ensures stopped { is_loose self.old.loose name.now ≡ false →
             failure_of self.old.inner.journals.items name.now ≡ Some true →
             (result ≡ Ok false) × (self.new ≡ self.old) }
+        ensures files { IsTrue (D.honest self.old.inner.disk) → KeepsAllBut
+            (path_of_journal (string_bytes self.old.inner.folder) name.now)
+            (path_of_closed (string_bytes self.old.inner.folder) name.now)
+            (D.contents self.old.inner.disk) (D.contents self.new.inner.disk) }
     {
         if !self.loosen(name)? {
             return Ok(false);
@@ -64,7 +73,7 @@ impl<D: Volume> RestingFolderJournal<D> {
 
     /// Makes the journal of a name loose, if it may rest, and returns whether it is.
     fn loosen(&mut self, name: &Name) -> Result<bool, StoreFault>
-        ensures settings { StaysSet D.Disk self.old self.new }
+        ensures settings { KeepsSettings D.Disk self.old self.new }
         ensures loose { IfOk result (λ loose. IsTrue loose → IsTrue (is_loose self.new.loose name.now)) }
         ensures same { IsTrue (D.honest self.old.inner.disk) →
             SameJournals (all_journals D.Disk self.old) (all_journals D.Disk self.new) }
@@ -73,6 +82,7 @@ impl<D: Volume> RestingFolderJournal<D> {
         ensures stopped { is_loose self.old.loose name.now ≡ false →
             failure_of self.old.inner.journals.items name.now ≡ Some true →
             (result ≡ Ok false) × (self.new ≡ self.old) }
+        ensures disk { StaysWhole D.Disk self.old.inner.disk self.new.inner.disk }
     {
         if self.loose.contains(name) {
             self.inner.close(name);
@@ -81,10 +91,12 @@ impl<D: Volume> RestingFolderJournal<D> {
         if !self.inner.may_close(name) {
             return Ok(false);
         }
-        if self.stands_closed(name)? {
+        let closed = self.stands_closed(name)?;
+        if closed {
             return Ok(false);
         }
-        self.loose.insert(name.copy()).map_err(|_| StoreFault)?;
+        let loose = name.copy();
+        self.loose.insert(loose).map_err(|_| StoreFault)?;
         self.inner.close(name);
         Ok(true)
     }
@@ -101,6 +113,10 @@ impl<D: Volume> RestingFolderJournal<D> {
             IsSome (D.contents self.new.inner.disk (path_of_closed (string_bytes self.old.inner.folder) name.now))
             × (D.contents self.new.inner.disk (path_of_journal (string_bytes self.old.inner.folder) name.now)
             ≡ None)) }
+        ensures files { IsTrue (D.honest self.old.inner.disk) → KeepsAllBut
+            (path_of_journal (string_bytes self.old.inner.folder) name.now)
+            (path_of_closed (string_bytes self.old.inner.folder) name.now)
+            (D.contents self.old.inner.disk) (D.contents self.new.inner.disk) }
     {
         if self.stands_closed(name)? {
             return Ok(!self.stands_noted(name)?);
@@ -120,8 +136,8 @@ impl<D: Volume> RestingFolderJournal<D> {
         if self.loose.contains(name) {
             return Ok(None);
         }
-        let path = closed_path(self.inner.alloc, &self.inner.folder, name)?;
-        self.inner.read(&path)
+        let closed = closed_path(self.inner.alloc, &self.inner.folder, name)?;
+        self.inner.read(&closed)
     }
 
     /// Wakes the journal of a name; false if none rests under it.
@@ -147,7 +163,7 @@ impl<D: Volume> RestingFolderJournal<D> {
 
     /// Begins the journal of a name of which none rests, and none is loose.
     pub(crate) fn begin_free(&mut self, name: &Name) -> Result<(), StoreFault>
-        ensures settings { StaysSet D.Disk self.old self.new }
+        ensures settings { KeepsSettings D.Disk self.old self.new }
         ensures begun { IsTrue (D.honest self.old.inner.disk) → OnOk result (BeginsNotes name.now
             ((all_journals D.Disk self.old).header name.now)
             ((all_journals D.Disk self.old).noted name.now)
@@ -158,11 +174,15 @@ impl<D: Volume> RestingFolderJournal<D> {
             ((all_journals D.Disk self.new).noted name.now)) }
         ensures rest { IsTrue (D.honest self.old.inner.disk) → KeepsBeside name.now
             (all_journals D.Disk self.old) (all_journals D.Disk self.new) }
+        ensures files { IsTrue (D.honest self.old.inner.disk) → KeepsOthers
+            (D.contents self.old.inner.disk) (D.contents self.new.inner.disk)
+            (path_of_journal (string_bytes self.old.inner.folder) name.now) }
     {
         if self.loose.contains(name) {
             return Err(StoreFault);
         }
-        if self.stands_closed(name)? {
+        let rests = self.stands_closed(name)?;
+        if rests {
             return Err(StoreFault);
         }
         self.inner.begin_file(name)
@@ -175,7 +195,7 @@ impl<D: Volume> RestingFolderJournal<D> {
         offset: u64,
         bytes: &[u8],
     ) -> Result<(), StoreFault>
-        ensures settings { StaysSet D.Disk self.old self.new }
+        ensures settings { KeepsSettings D.Disk self.old self.new }
         ensures noted { IsTrue (D.honest self.old.inner.disk) → OnOk result (Notes offset bytes.now
             ((all_journals D.Disk self.old).noted name.now)
             ((all_journals D.Disk self.new).noted name.now)) }
@@ -184,6 +204,15 @@ impl<D: Volume> RestingFolderJournal<D> {
             ((all_journals D.Disk self.new).noted name.now)) }
         ensures rest { IsTrue (D.honest self.old.inner.disk) → KeepsBeside name.now
             (all_journals D.Disk self.old) (all_journals D.Disk self.new) }
+        ensures files { IsTrue (D.honest self.old.inner.disk) → KeepsAllBut
+            (path_of_journal (string_bytes self.old.inner.folder) name.now)
+            (path_of_closed (string_bytes self.old.inner.folder) name.now)
+            (D.contents self.old.inner.disk) (D.contents self.new.inner.disk) }
+        ensures synced { IsTrue (D.honest self.old.inner.disk) → IsTrue self.old.inner.sync → OnOk result
+            (IsSyncedAt (D.contents self.new.inner.disk) (D.synced self.new.inner.disk)
+            (path_of_take (string_bytes self.old.inner.folder) name.now)
+            × IsSyncedAt (D.contents self.new.inner.disk) (D.synced self.new.inner.disk)
+            (path_of_journal (string_bytes self.old.inner.folder) name.now)) }
     {
         self.tie(name)?;
         self.inner.note_in_file(name, offset, bytes)
@@ -191,10 +220,14 @@ impl<D: Volume> RestingFolderJournal<D> {
 
     /// Opens the journal of a name, if it is loose.
     fn tie(&mut self, name: &Name) -> Result<(), StoreFault>
-        ensures settings { StaysSet D.Disk self.old self.new }
+        ensures settings { KeepsSettings D.Disk self.old self.new }
         ensures same { IsTrue (D.honest self.old.inner.disk) →
             SameJournals (all_journals D.Disk self.old) (all_journals D.Disk self.new) }
         ensures tied { OnOk result (is_loose self.new.loose name.now ≡ false) }
+        ensures files { IsTrue (D.honest self.old.inner.disk) → KeepsAllBut
+            (path_of_journal (string_bytes self.old.inner.folder) name.now)
+            (path_of_closed (string_bytes self.old.inner.folder) name.now)
+            (D.contents self.old.inner.disk) (D.contents self.new.inner.disk) }
     {
         if !self.loose.contains(name) {
             return Ok(());
@@ -216,6 +249,10 @@ impl<D: Volume> RestingFolderJournal<D> {
             SameJournals (all_journals D.Disk self.old) (all_journals D.Disk self.new) }
         ensures moved { IsTrue (D.honest self.old.inner.disk) → OnOk result (D.contents self.new.inner.disk
             (path_of_closed (string_bytes self.old.inner.folder) name.now) ≡ None) }
+        ensures files { IsTrue (D.honest self.old.inner.disk) → KeepsAllBut
+            (path_of_journal (string_bytes self.old.inner.folder) name.now)
+            (path_of_closed (string_bytes self.old.inner.folder) name.now)
+            (D.contents self.old.inner.disk) (D.contents self.new.inner.disk) }
     {
         if !self.stands_closed(name)? {
             return Ok(());

@@ -1,11 +1,16 @@
 //! Journals in a folder of which some rest.
-ghost use Rattle.std.specs.Prelude.{◌≡◌, ℕ, List, Option, Some, None, Ok, IsTrue, IfOk, OnOk, OnErr, string_bytes};
+ghost use Rattle.std.specs.Prelude.{◌≡◌, ℕ, List, Some, None, Ok, IsTrue, IfOk, OnOk, OnErr, string_bytes};
 ghost use Rattle.std.specs.Prelude.{is_err, option_map, true, false};
 ghost use Rattle.bw_store.specs.Stores.{Counts, KeepsOthers};
+ghost use Rattle.bw_disk.specs.DiskSteps.{StaysWhole};
+ghost use Rattle.bw_disk.specs.Volumes.{KeepsAllBut};
 ghost use Rattle.bw_journal.specs.Notes.{BeginsNotes, BeginsInPart, Notes, NotesInPart, KeepsHeaders};
 ghost use Rattle.bw_journal.specs.Notes.{KeepsResting};
+ghost use Rattle.bw_folder.specs.Folders.{take_path as path_of_take};
+ghost use Rattle.bw_folder.specs.Syncing.{IsSyncedAt};
 ghost use Rattle.bw_journal.specs.Resting.{SameJournals, RestsIf, WakesIf};
 ghost use Rattle.bw_folder.specs.Journals.{notes_at, existences, existence_of, failure_of};
+ghost use Rattle.bw_folder.specs.Journals.{journal_path as path_of_journal};
 ghost use Rattle.bw_folder.specs.RestingJournals.{closed_path as path_of_closed};
 
 use crate::journal::FolderJournal;
@@ -94,7 +99,27 @@ impl<D: Volume> Journal for RestingFolderJournal<D> {
     ///
     /// # Not specified
     /// When memory is refused.
-    fn begin(&mut self, name: &Name) -> Result<(), StoreFault> {
+    fn begin(&mut self, name: &Name) -> Result<(), StoreFault>
+        ensures failures { Counts self.old.inner.failures self.new.inner.failures (is_err result) }
+        ensures honest { D.honest self.new.inner.disk ≡ D.honest self.old.inner.disk }
+        ensures headers { IsTrue (D.honest self.old.inner.disk) → KeepsHeaders
+            (all_journals D.Disk self.old).header (all_journals D.Disk self.new).header }
+        ensures resting { IsTrue (D.honest self.old.inner.disk) → KeepsResting
+            (all_journals D.Disk self.old).resting (all_journals D.Disk self.new).resting }
+        ensures begun { IsTrue (D.honest self.old.inner.disk) → OnOk result (BeginsNotes name.now
+            ((all_journals D.Disk self.old).header name.now)
+            ((all_journals D.Disk self.old).noted name.now)
+            ((all_journals D.Disk self.new).noted name.now)) }
+        ensures failed { IsTrue (D.honest self.old.inner.disk) → OnErr result (BeginsInPart name.now
+            ((all_journals D.Disk self.old).header name.now)
+            ((all_journals D.Disk self.old).noted name.now)
+            ((all_journals D.Disk self.new).noted name.now)) }
+        ensures others { IsTrue (D.honest self.old.inner.disk) → KeepsOthers
+            (all_journals D.Disk self.old).noted (all_journals D.Disk self.new).noted name.now }
+        ensures files { IsTrue (D.honest self.old.inner.disk) → KeepsOthers
+            (D.contents self.old.inner.disk) (D.contents self.new.inner.disk)
+            (path_of_journal (string_bytes self.old.inner.folder) name.now) }
+    {
         let answer = self.begin_free(name);
         self.inner.count(answer.is_err());
         answer
@@ -109,7 +134,31 @@ impl<D: Volume> Journal for RestingFolderJournal<D> {
     /// # Not specified
     /// - When memory is refused.
     /// - When the folder is synced.
-    fn note(&mut self, name: &Name, offset: u64, bytes: &[u8]) -> Result<(), StoreFault> {
+    fn note(&mut self, name: &Name, offset: u64, bytes: &[u8]) -> Result<(), StoreFault>
+        ensures failures { Counts self.old.inner.failures self.new.inner.failures (is_err result) }
+        ensures honest { D.honest self.new.inner.disk ≡ D.honest self.old.inner.disk }
+        ensures headers { IsTrue (D.honest self.old.inner.disk) → KeepsHeaders
+            (all_journals D.Disk self.old).header (all_journals D.Disk self.new).header }
+        ensures resting { IsTrue (D.honest self.old.inner.disk) → KeepsResting
+            (all_journals D.Disk self.old).resting (all_journals D.Disk self.new).resting }
+        ensures noted { IsTrue (D.honest self.old.inner.disk) → OnOk result (Notes offset bytes.now
+            ((all_journals D.Disk self.old).noted name.now)
+            ((all_journals D.Disk self.new).noted name.now)) }
+        ensures failed { IsTrue (D.honest self.old.inner.disk) → OnErr result (NotesInPart offset bytes.now
+            ((all_journals D.Disk self.old).noted name.now)
+            ((all_journals D.Disk self.new).noted name.now)) }
+        ensures others { IsTrue (D.honest self.old.inner.disk) → KeepsOthers
+            (all_journals D.Disk self.old).noted (all_journals D.Disk self.new).noted name.now }
+        ensures files { IsTrue (D.honest self.old.inner.disk) → KeepsAllBut
+            (path_of_journal (string_bytes self.old.inner.folder) name.now)
+            (path_of_closed (string_bytes self.old.inner.folder) name.now)
+            (D.contents self.old.inner.disk) (D.contents self.new.inner.disk) }
+        ensures synced { IsTrue (D.honest self.old.inner.disk) → IsTrue self.old.inner.sync → OnOk result
+            (IsSyncedAt (D.contents self.new.inner.disk) (D.synced self.new.inner.disk)
+            (path_of_take (string_bytes self.old.inner.folder) name.now)
+            × IsSyncedAt (D.contents self.new.inner.disk) (D.synced self.new.inner.disk)
+            (path_of_journal (string_bytes self.old.inner.folder) name.now)) }
+    {
         let answer = self.note_tied(name, offset, bytes);
         self.inner.count(answer.is_err());
         answer
@@ -118,6 +167,7 @@ impl<D: Volume> Journal for RestingFolderJournal<D> {
 
 impl<D: Volume> RestingJournal for RestingFolderJournal<D> {
     ghost use Rattle.bw_folder.specs.RestingFolders.{all_journals};
+    ghost use Rattle.bw_folder.specs.RestingJournals.{is_loose};
 
     /// Moves the journal to `NAME.closed`, unless it is there already; it isn't open afterwards.
     ///
@@ -129,7 +179,23 @@ impl<D: Volume> RestingJournal for RestingFolderJournal<D> {
     ///
     /// # Not specified
     /// When memory is refused.
-    fn rest(&mut self, name: &Name) -> Result<bool, StoreFault> {
+    fn rest(&mut self, name: &Name) -> Result<bool, StoreFault>
+        ensures failures { Counts self.old.inner.failures self.new.inner.failures (is_err result) }
+        ensures honest { D.honest self.new.inner.disk ≡ D.honest self.old.inner.disk }
+        ensures rested { IsTrue (D.honest self.old.inner.disk) → IfOk result (λ rested. RestsIf rested
+            name.now (all_journals D.Disk self.old) (all_journals D.Disk self.new)) }
+        ensures failed { IsTrue (D.honest self.old.inner.disk) → OnErr result
+            (SameJournals (all_journals D.Disk self.old) (all_journals D.Disk self.new)) }
+        ensures files { IsTrue (D.honest self.old.inner.disk) → KeepsAllBut
+            (path_of_journal (string_bytes self.old.inner.folder) name.now)
+            (path_of_closed (string_bytes self.old.inner.folder) name.now)
+            (D.contents self.old.inner.disk) (D.contents self.new.inner.disk) }
+        ensures closed { IfOk result (λ rested. IsTrue rested →
+            existence_of (existences self.new.inner.journals.items) name.now ≡ None) }
+        ensures stopped { is_loose self.old.loose name.now ≡ false →
+            failure_of self.old.inner.journals.items name.now ≡ Some true →
+            (result ≡ Ok false) × (self.new.inner.disk ≡ self.old.inner.disk) }
+    {
         let answer = self.rest_file(name);
         self.inner.count(answer.is_err());
         answer
@@ -142,7 +208,15 @@ impl<D: Volume> RestingJournal for RestingFolderJournal<D> {
     ///
     /// # Not specified
     /// When memory is refused.
-    fn read_resting(&mut self, name: &Name) -> Result<Option<Vec<u8>>, StoreFault> {
+    fn read_resting(&mut self, name: &Name) -> Result<Option<Vec<u8>>, StoreFault>
+        ensures failures { Counts self.old.inner.failures self.new.inner.failures (is_err result) }
+        ensures honest { D.honest self.new.inner.disk ≡ D.honest self.old.inner.disk }
+        ensures read { IsTrue (D.honest self.old.inner.disk) → IfOk result (λ found.
+            option_map (λ v. v.items) found ≡ (all_journals D.Disk self.old).resting name.now) }
+        ensures kept { IsTrue (D.honest self.old.inner.disk) →
+            SameJournals (all_journals D.Disk self.old) (all_journals D.Disk self.new) }
+        ensures disk { StaysWhole D.Disk self.old.inner.disk self.new.inner.disk }
+    {
         let answer = self.read_closed(name);
         self.inner.count(answer.is_err());
         answer
@@ -156,7 +230,15 @@ impl<D: Volume> RestingJournal for RestingFolderJournal<D> {
     ///
     /// # Not specified
     /// When memory is refused.
-    fn wake(&mut self, name: &Name) -> Result<bool, StoreFault> {
+    fn wake(&mut self, name: &Name) -> Result<bool, StoreFault>
+        ensures failures { Counts self.old.inner.failures self.new.inner.failures (is_err result) }
+        ensures honest { D.honest self.new.inner.disk ≡ D.honest self.old.inner.disk }
+        ensures woken { IsTrue (D.honest self.old.inner.disk) → IfOk result (λ woken. WakesIf woken
+            name.now (all_journals D.Disk self.old) (all_journals D.Disk self.new)) }
+        ensures failed { IsTrue (D.honest self.old.inner.disk) → OnErr result
+            (SameJournals (all_journals D.Disk self.old) (all_journals D.Disk self.new)) }
+        ensures disk { StaysWhole D.Disk self.old.inner.disk self.new.inner.disk }
+    {
         let answer = self.wake_file(name);
         self.inner.count(answer.is_err());
         answer
