@@ -2,3 +2,4 @@ pub mod Folders
 pub mod Journals
 pub mod Syncing
 pub mod RestingJournals
+pub mod RestingFolders

@@ -1,14 +1,14 @@
 -- Where the journals of a folder are of which some rest.
-use Rattle.std.specs.Prelude.{◌≡◌, ◌&&◌, ◌||◌, ℕ, Bool, not, List, ◌++◌, codes, Option, None, is_some}
-use Rattle.std.specs.Prelude.{if◌then◌else◌, string_bytes}
+use Rattle.std.specs.Prelude.{◌&&◌, ◌||◌, ℕ, Bool, not, List, ◌++◌, codes, Option, None, is_some}
+use Rattle.std.specs.Prelude.{if◌then◌else◌}
 use Rattle.std.specs.Option.{option_or}
 use Rattle.std.specs.HashSet.{HashSet, contains}
 use Rattle.std.specs.Str.{bytes_eq}
 use Rattle.bw_journal.specs.JournalHeaders.{Header}
 use Rattle.bw_journal.specs.Resting.{Journals, journals}
-use Rattle.bw_disk.specs.declared.disk.Disk.{Ghosts}
-use Rattle.bw_folder.specs.Journals.{journal_path, existences, header_at}
-use Rattle.bw_folder.specs.declared.resting.RestingFolderJournal.{RestingFolderJournal}
+use Rattle.bw_journal.specs.Notes.{KeepsHeaders, KeepsResting}
+use Rattle.bw_store.specs.Stores.{KeepsOthers}
+use Rattle.bw_folder.specs.Journals.{journal_path}
 
 -- the path of a name's journal in a folder while it rests
 unfoldable pub closed_path : List ℕ → List ℕ → List ℕ
@@ -42,19 +42,9 @@ folder_journals loose header contents folder = journals
     (λ name. resting_at (loose name) contents folder name)
     (λ name. resting_header (loose name) (contents (closed_path folder name)) (header name))
 
-module _ {D F : Type 0} (G : Ghosts D F) where
-  -- what the journals that don't rest begin with
-  abbrev pub inner_header : RestingFolderJournal D F G → List ℕ → Header
-  inner_header j name = header_at j.inner.limit (existences j.inner.journals.items)
-      (G.contents j.inner.disk) (string_bytes j.inner.folder) name
-
-  -- all journals of the folder
-  abbrev pub all_journals : RestingFolderJournal D F G → Journals
-  all_journals j = folder_journals (is_loose j.loose) (inner_header j) (G.contents j.inner.disk)
-      (string_bytes j.inner.folder)
-
-  -- the settings are the same
-  pub record KeepsSettings (old new : RestingFolderJournal D F G) : Type 0 where
-    pub limit : new.inner.limit ≡ old.inner.limit
-    pub sync : new.inner.sync ≡ old.inner.sync
-    pub folder : new.inner.folder ≡ old.inner.folder
+-- Each name's journal begins with what it began with, what rests goes on resting, and each other name
+-- has what it had.
+pub record KeepsBeside (name : List ℕ) (before after : Journals) : Type 0 where
+  pub headers : KeepsHeaders before.header after.header
+  pub resting : KeepsResting before.resting after.resting
+  pub others : KeepsOthers before.noted after.noted name

@@ -1,5 +1,5 @@
 //! Journals in a folder.
-ghost use Rattle.std.specs.Prelude.{◌≡◌, ◌<◌, ◌⊎◌, ◌↔◌, ℕ, List, [], Some, IsTrue, IsErr, IsSome, IsNone, IfOk, IfSome, Ok};
+ghost use Rattle.std.specs.Prelude.{◌≡◌, ◌<◌, ◌⊎◌, ◌↔◌, ℕ, List, [], Some, None, IsTrue, IsErr, IsSome, IsNone, IfOk, IfSome, Ok};
 ghost use Rattle.std.specs.Prelude.{OnOk, OnErr, string_bytes, length, is_err, false, true};
 ghost use Rattle.std.specs.List.{All, HoldsAt, position};
 ghost use Rattle.std.specs.Str.{bytes_eq};
@@ -70,13 +70,13 @@ impl<F: Drop> OpenJournal<F> {
 /// although bytes are lost. Without `sync` nothing is synced.
 #[derive(Drop)]
 pub struct FolderJournal<D: Volume> {
-    disk: D,
-    alloc: Global,
-    folder: String,
-    limit: Limit,
-    sync: bool,
-    journals: Vec<OpenJournal<D::File>>,
-    failures: u64,
+    pub(crate) disk: D,
+    pub(crate) alloc: Global,
+    pub(crate) folder: String,
+    pub(crate) limit: Limit,
+    pub(crate) sync: bool,
+    pub(crate) journals: Vec<OpenJournal<D::File>>,
+    pub(crate) failures: u64,
     ghost paths: { IsTrue (D.honest disk) → All
         (λ journal. D.path_of journal.file ≡ path_of_journal (string_bytes folder) journal.name)
         journals.items },
@@ -235,6 +235,8 @@ impl<D: Volume> Journal for FolderJournal<D> {
     ghost header = { λ j name. header_at j.limit (existences j.journals.items) (D.contents j.disk)
         (string_bytes j.folder) name };
 
+    ghost resting = { λ _ _. None };
+
     ghost failures = { λ j. j.failures };
 
     ghost honest = { λ j. D.honest j.disk };
@@ -333,7 +335,7 @@ impl<D: Volume> Journal for FolderJournal<D> {
 
 impl<D: Volume> FolderJournal<D> {
     /// Writes the header into the file of a name's journal.
-    fn begin_file(&mut self, name: &Name) -> Result<(), StoreFault>
+    pub(crate) fn begin_file(&mut self, name: &Name) -> Result<(), StoreFault>
         ensures failures { self.new.failures ≡ self.old.failures }
         ensures settings { (self.new.limit ≡ self.old.limit) × (self.new.sync ≡ self.old.sync)
             × (self.new.folder ≡ self.old.folder) }
@@ -404,7 +406,12 @@ impl<D: Volume> FolderJournal<D> {
 
     /// Writes bytes into the file of a name's journal; with `sync` the take's file is synced before
     /// that, and the journal after it.
-    fn note_in_file(&mut self, name: &Name, offset: u64, bytes: &[u8]) -> Result<(), StoreFault>
+    pub(crate) fn note_in_file(
+        &mut self,
+        name: &Name,
+        offset: u64,
+        bytes: &[u8],
+    ) -> Result<(), StoreFault>
         ensures failures { self.new.failures ≡ self.old.failures }
         ensures settings { (self.new.limit ≡ self.old.limit) × (self.new.sync ≡ self.old.sync)
             × (self.new.folder ≡ self.old.folder) }

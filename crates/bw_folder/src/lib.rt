@@ -5,6 +5,7 @@ mod closing;
 mod folder;
 mod heading;
 mod journal;
+mod loose;
 mod paths;
 mod resting;
 mod syncing;

@@ -3,3 +3,4 @@
 
 mod deaths;
 mod noting;
+mod resting;
