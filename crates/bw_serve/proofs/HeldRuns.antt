@@ -16,8 +16,7 @@ use Rattle.bw_console.specs.declared.exit.Exit.TheVariants.{Done, Refused, Usage
 use Rattle.bw_ports.specs.declared.link.Link.{Ghosts as LinkGhosts}
 use Rattle.bw_ports.specs.declared.peers.Peers.{Ghosts as PeerGhosts}
 use Rattle.bw_ports.specs.declared.reactor.Reactor.{Ghosts as ReactorGhosts}
-use Rattle.bw_serve.specs.HostedFrom.{LeavesRunsFrom}
-use Rattle.bw_serve.specs.HostedMany.{answered_in_loop}
+use Rattle.bw_serve.specs.HostedFrom.{LeavesRunsFrom, answered_in_loop}
 use Rattle.bw_serve.specs.ServedAll.{ServesRun, answered_in_run}
 use Rattle.bw_serve.specs.Serving.{RunsEventLoop}
 use Rattle.bw_serve.specs.declared.serving.Bounds.{Bounds}

@@ -8,6 +8,7 @@ mod Quanta
 mod Running
 mod Silence
 pub mod HeldRuns
+pub mod Beginning
 pub mod NewServers
 pub mod RunSteps
 pub mod AnsweredRuns

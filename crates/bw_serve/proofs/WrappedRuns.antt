@@ -16,12 +16,40 @@ use Rattle.bw_connections.specs.Working.{WorksAt}
 use Rattle.bw_serve.specs.declared.event_loop.EventLoop.{EventLoop}
 use Rattle.bw_serve.specs.declared.serving.Bounds.{Bounds}
 use Rattle.bw_serve.specs.EventLoops.{InTurn, ServesPlace, ended_in_turn, frames_in_turn}
-use Rattle.bw_serve.specs.Rounds.{ServesInRounds, ServesRound, ServesRounds, ended_in_rounds, ended_of_run}
-use Rattle.bw_serve.specs.Rounds.{frames_in_rounds, frames_of_run}
+use Rattle.bw_serve.specs.Rounds.{ServesInRounds, ServesRound, ServesRounds, ended_in_rounds}
+use Rattle.bw_serve.specs.Rounds.{frames_in_rounds}
 use Rattle.bw_serve.specs.Serving.{HasServed}
 
 both : {X : Type 0} {xs xs' ys ys' : List X} → xs ≡ xs' → ys ≡ ys' → xs ++ ys ≡ xs' ++ ys'
 both {X} {xs} {xs'} {ys} {ys'} e f = ap (λ zs. zs ++ ys) e ∙ ap (λ zs. xs' ++ zs) f
+
+-- A quantum of one server is one of another that gave the same answers.
+abbrev pub works_by : {L T S : Type 0} (G : LinkGhosts L) (outer : T → Frame → List Reply → T → Type 0)
+    (answers : S → Frame → List Reply → S → Type 0) (place now : ℕ) (closed : Option (Closed L))
+    (m m' : Connections L) (t t' : T) (s s' : S) (w : WorksAt G outer place now closed m m' t t') →
+    AnswersAll answers s w.answered s' → WorksAt G answers place now closed m m' s s'
+works_by G outer answers place now closed m m' t t' s s' w by_server = record {
+  number = w.number;
+  answered = w.answered;
+  by_server = by_server;
+  most = w.most;
+  is_its = w.is_its;
+  ends_its = w.ends_its;
+  existed = w.existed;
+  nobody = w.nobody;
+  adds = w.adds;
+  others = w.others;
+  unended = w.unended;
+  since = w.since;
+  moved = w.moved;
+  lets_go = w.lets_go;
+  learns = w.learns;
+  finished = w.finished;
+  left = w.left;
+  no_silence = w.no_silence;
+  served = w.served;
+  heard = w.heard;
+}
 
 module _ {T S : Type 0} (inner : T → S) (outer : T → Frame → List Reply → T → Type 0)
     (answers : S → Frame → List Reply → S → Type 0)
@@ -37,28 +65,9 @@ module _ {T S : Type 0} (inner : T → S) (outer : T → Frame → List Reply �
     abbrev works_inner : (place now : ℕ) (closed : Option (Closed L)) (m m' : Connections L) (t t' : T) →
         WorksAt G outer place now closed m m' t t' →
         WorksAt G answers place now closed m m' (inner t) (inner t')
-    works_inner place now closed m m' t t' w = record {
-      number = w.number;
-      answered = w.answered;
-      by_server = answers_inner t w.answered t' w.by_server;
-      most = w.most;
-      is_its = w.is_its;
-      ends_its = w.ends_its;
-      existed = w.existed;
-      nobody = w.nobody;
-      adds = w.adds;
-      others = w.others;
-      unended = w.unended;
-      since = w.since;
-      moved = w.moved;
-      lets_go = w.lets_go;
-      learns = w.learns;
-      finished = w.finished;
-      left = w.left;
-      no_silence = w.no_silence;
-      served = w.served;
-      heard = w.heard;
-    }
+    works_inner place now closed m m' t t' w =
+        works_by G outer answers place now closed m m' t t' (inner t) (inner t') w
+        (answers_inner t w.answered t' w.by_server)
 
     module _ {O E : Type 0} (out : Writer O) (reported : Writer E) (log : Bool) where
       abbrev place_inner : (now idle place : ℕ) (c c' : EventLoop L) (t t' : T) (o o' : O) (e e' : E) →

@@ -1,8 +1,10 @@
 -- What a server does that holds books already, from its opening lines to its end.
-use Rattle.std.specs.Prelude.{◌≡◌, ◌⊎◌, ℕ, Bool, true, false, Option, List, IsTrue}
+use Rattle.std.specs.Prelude.{◌≡◌, ◌⊎◌, ℕ, Bool, true, false, Option, List, [], IsTrue}
 use Rattle.bw_model.specs.Book.{Book, log_of}
 use Rattle.bw_model.specs.CountedTurn.{is_pending}
 use Rattle.bw_model.specs.Exchange.{take_in, content_in}
+use Rattle.bw_model.specs.Wire.{Frame}
+use Rattle.bw_model.specs.Replies.{Reply}
 use Rattle.bw_stream.specs.declared.sink.Sink.{Ghosts as Writer}
 use Rattle.bw_stream.specs.declared.source.Source.{Ghosts as Reader}
 use Rattle.bw_store.specs.declared.store.TakeStore.{Ghosts as StoreGhosts}
@@ -12,14 +14,15 @@ use Rattle.bw_session.specs.ServerTurns.{ServerTurn}
 use Rattle.bw_session.specs.declared.server.Server.{Server}
 use Rattle.bw_exchange.specs.Answering.{Answered}
 use Rattle.bw_engine.specs.ServerRuns.{RunsOn}
-use Rattle.bw_console.specs.Printing.{HasPrinted, HasStopped}
+use Rattle.bw_console.specs.Printing.{HasPrinted}
 use Rattle.bw_console.specs.declared.exit.Exit.{Exit}
-use Rattle.bw_console.specs.declared.fault.Fault.TheVariants as faults
+use Rattle.bw_console.specs.declared.exit.Exit.TheVariants.{Done, Refused, Usage, Device, Memory}
 use Rattle.bw_ports.specs.declared.link.Link.{Ghosts as LinkGhosts}
 use Rattle.bw_ports.specs.declared.peers.Peers.{Ghosts as PeerGhosts}
 use Rattle.bw_ports.specs.declared.reactor.Reactor.{Ghosts as ReactorGhosts}
-use Rattle.bw_serve.specs.Hosted.{GivesUp, ReportsExit}
-use Rattle.bw_serve.specs.HostedMany.{answered_in_loop}
+use Rattle.bw_connections.specs.Keeping.{all_answered}
+use Rattle.bw_serve.specs.Beginnings.{CantOpen}
+use Rattle.bw_serve.specs.Reported.{ReportsExit}
 use Rattle.bw_serve.specs.ServedAll.{ServesRun, answered_in_run}
 use Rattle.bw_serve.specs.Serving.{RunsEventLoop}
 use Rattle.bw_serve.specs.declared.serving.Bounds.{Bounds}
@@ -40,13 +43,6 @@ module _ {X Y : Type 0} (S : StoreGhosts X) (J : JournalGhosts Y) where
   LeavesRunsFrom old new answered = IsTrue (S.honest old.stores.store) →
       (first : List ℕ → Option (List ℕ)) (book : Book) → HoldsBook S J first old book →
       LeavesRunFrom first book old new answered
-
--- the opening can't be written, and nothing is served
-pub record CantOpen {P O E : Type 0} (out : Writer O) (reported : Writer E) (opening : List ℕ)
-    (exit : Exit) (p p' : P) (o o' : O) (e e' : E) : Type 0 where
-  pub unmet : p' ≡ p
-  pub printed : HasStopped out opening o o'
-  pub reports : GivesUp reported faults.Unwritable exit e e'
 
 module _ {X Y P R W O E : Type 0} (S : StoreGhosts X) (J : JournalGhosts Y)
     (peers : PeerGhosts P R W) (reader : Reader R) (writer : Writer W) (out : Writer O)
@@ -70,6 +66,19 @@ module _ {X Y P R W O E : Type 0} (S : StoreGhosts X) (J : JournalGhosts Y)
   HostsFrom opening exchanges log exit server p p' o o' e e' =
       ServesFrom opening exchanges log exit server p p' o o' e e'
       ⊎ CantOpen out reported opening exit p p' o o' e e'
+
+module _ {B L T O E : Type 0} (reactor : ReactorGhosts B L) (link : LinkGhosts L)
+    (answers : T → Frame → List Reply → T → Type 0) (out : Writer O) (reported : Writer E)
+    (log : Bool) where
+  -- what a server has answered in a run, over all its connections
+  abbrev pub answered_in_loop : (bounds : Bounds) (exit : Exit) (t t' : T) (b b' : B) (o o' : O)
+      (e e' : E) → RunsEventLoop reactor link answers out reported log bounds exit t t' b b' o o' e e' →
+      List Answered
+  answered_in_loop bounds Done t t' b b' o o' e e' run = all_answered run.trace
+  answered_in_loop bounds Refused t t' b b' o o' e e' run = all_answered run.trace
+  answered_in_loop bounds Usage t t' b b' o o' e e' run = all_answered run.trace
+  answered_in_loop bounds Device t t' b b' o o' e e' run = all_answered run.trace
+  answered_in_loop bounds Memory t t' b b' o o' e e' run = []
 
 module _ {X Y B L O E : Type 0} (S : StoreGhosts X) (J : JournalGhosts Y) (reactor : ReactorGhosts B L)
     (link : LinkGhosts L) (out : Writer O) (reported : Writer E) where

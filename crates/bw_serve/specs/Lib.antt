@@ -8,6 +8,7 @@ pub mod Observing
 pub mod Names
 pub mod Reported
 pub mod Refusals
+pub mod Beginnings
 pub mod HostedMany
 pub mod LinkLines
 pub mod ServedOne

@@ -94,23 +94,13 @@ fn serve_over<S: TakeStore, B: Reactor, O: Sink, E: Sink>(
         return give_up(faults, &Fault::Memory);
     };
     law_names::<S>();
-    let (bounds, log) = (&hosting.bounds, hosting.log);
-    serve_many_from(
-        alloc,
-        server,
-        line.as_str(),
-        reactor,
-        bounds,
-        log,
-        out,
-        faults,
-    )
+    serve_many_from(alloc, server, line.as_str(), reactor, hosting, out, faults)
 }
 
 /// Prints the opening lines, and serves a number of exchanges, many at once, from the books that the
 /// server holds.
 ///
-/// A line for each exchange is printed, and with `log` each connection is a line on `faults`, as
+/// A line for each exchange is printed, and with a log each connection is a line on `faults`, as
 /// `run_event_loop` says; if the opening can't be printed, nothing is served. Over an honest store
 /// it is a run from any book that the server holds; an honest journal that notes that book then
 /// notes the book after the run.
@@ -126,19 +116,20 @@ pub fn serve_many_from<S: TakeStore, J: Journal, B: Reactor, O: Sink, E: Sink>(
     server: Server<S, J>,
     opening: &str,
     reactor: &mut B,
-    bounds: &Bounds,
-    log: bool,
+    hosting: &Hosting<'_>,
     out: &mut O,
     faults: &mut E,
 ) -> Exit
     ensures { HostsManyFrom S.TakeStore J.Journal B.Reactor B.Link.Link O.Sink E.Sink opening.now
-        bounds.now log result server reactor.old reactor.new out.old out.new faults.old faults.new }
+        hosting.now.bounds hosting.now.log result server reactor.old reactor.new out.old out.new
+        faults.old faults.new }
 {
     let Ok(()) = print(out, opening.as_bytes()) else {
         return give_up(faults, &Fault::Unwritable);
     };
     law_server_runs::<S, J>();
     let mut server = Metered::new(server);
+    let (bounds, log) = (&hosting.bounds, hosting.log);
     let exit = run_event_loop(alloc, &mut server, reactor, bounds, log, out, faults);
     report_end(exit, faults)
 }

@@ -114,22 +114,12 @@ fn serve_over<S: TakeStore, P: Peers, O: Sink, E: Sink>(
     let Ok(line) = format_listening(alloc, serving.address) else {
         return give_up(faults, &Fault::Memory);
     };
-    let (exchanges, log) = (serving.exchanges, serving.log);
-    serve_from(
-        alloc,
-        server,
-        line.as_str(),
-        peers,
-        exchanges,
-        log,
-        out,
-        faults,
-    )
+    serve_from(alloc, server, line.as_str(), peers, serving, out, faults)
 }
 
 /// Prints the opening lines, and serves a number of exchanges from the books that the server holds.
 ///
-/// A line for each exchange is printed, and with `log` each link is a line on `faults`, as
+/// A line for each exchange is printed, and with a log each link is a line on `faults`, as
 /// `serve_run` says; if the opening can't be printed, nothing is served. Over an honest store the
 /// exchanges are a run from any book that the server holds; an honest journal that notes that book
 /// then notes the book after the run.
@@ -145,20 +135,20 @@ pub fn serve_from<S: TakeStore, J: Journal, P: Peers, O: Sink, E: Sink>(
     server: Server<S, J>,
     opening: &str,
     peers: &mut P,
-    exchanges: u64,
-    log: bool,
+    serving: &Serving<'_>,
     out: &mut O,
     faults: &mut E,
 ) -> Exit
     ensures { HostsFrom S.TakeStore J.Journal P.Peers P.Reader.Source P.Writer.Sink O.Sink E.Sink
-        opening.now exchanges log result server peers.old peers.new out.old out.new faults.old
-        faults.new }
+        opening.now serving.now.exchanges serving.now.log result server peers.old peers.new out.old
+        out.new faults.old faults.new }
 {
     let Ok(()) = print(out, opening.as_bytes()) else {
         return give_up(faults, &Fault::Unwritable);
     };
     law_server_runs::<S, J>();
     let mut server = Metered::new(server);
+    let (exchanges, log) = (serving.exchanges, serving.log);
     let exit = serve_run(alloc, &mut server, peers, exchanges, log, out, faults);
     report_end(exit, faults)
 }

@@ -74,17 +74,7 @@ fn serve_started<S: TakeStore, J: Journal, P: Peers, O: Sink, E: Sink>(
     let Ok(opening) = format_opening(alloc, server.names(), serving.address) else {
         return give_up(faults, &Fault::Memory);
     };
-    let (exchanges, log) = (serving.exchanges, serving.log);
-    serve_from(
-        alloc,
-        server,
-        opening.as_str(),
-        peers,
-        exchanges,
-        log,
-        out,
-        faults,
-    )
+    serve_from(alloc, server, opening.as_str(), peers, serving, out, faults)
 }
 
 /// Serves a number of exchanges, many at once, from what an earlier server left in the folder; with
@@ -136,20 +126,10 @@ fn serve_many_started<S: TakeStore, J: Journal, B: Reactor, O: Sink, E: Sink>(
     ensures { HostsManyStartedOver S.TakeStore J.Journal B.Reactor B.Link.Link O.Sink E.Sink
         hosting.now result server reactor.old reactor.new out.old out.new faults.old faults.new }
 {
-    let Ok(opening) = format_opening(alloc, server.names(), hosting.address) else {
+    let Ok(lines) = format_opening(alloc, server.names(), hosting.address) else {
         return give_up(faults, &Fault::Memory);
     };
-    let (bounds, log) = (&hosting.bounds, hosting.log);
-    serve_many_from(
-        alloc,
-        server,
-        opening.as_str(),
-        reactor,
-        bounds,
-        log,
-        out,
-        faults,
-    )
+    serve_many_from(alloc, server, lines.as_str(), reactor, hosting, out, faults)
 }
 
 /// The first lines of a server that has resumed this many takes.

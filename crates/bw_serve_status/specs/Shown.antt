@@ -1,11 +1,8 @@
 -- What the command `serve --status` does for many recorders at once.
 use mathlib.Core.Logic.{inl, inr}
-use Rattle.std.specs.Prelude.{◌≡◌, ◌⊎◌, Bool, List, ℕ, Ok, Err}
-use Rattle.std.specs.IoError.{error_kind}
-use Rattle.std.specs.Net.Text.{socket_text}
+use Rattle.std.specs.Prelude.{◌⊎◌, Bool, List, ℕ}
 use Rattle.std.specs.declared.io.Error.{Error as IoError}
 use Rattle.std.specs.declared.net.socket_addr.SocketAddr.{SocketAddr}
-use Rattle.bw_stream.specs.Moves.{one_more}
 use Rattle.bw_stream.specs.declared.sink.Sink.{Ghosts as Writer}
 use Rattle.bw_store.specs.declared.store.TakeStore.{Ghosts as StoreGhosts}
 use Rattle.bw_journal.specs.declared.journal.Journal.{Ghosts as JournalGhosts}
@@ -16,16 +13,19 @@ use Rattle.bw_ports.specs.declared.link.Link.{Ghosts as LinkGhosts}
 use Rattle.bw_ports.specs.declared.listener_setup.ListenerSetup.{Ghosts as ListenerSetupGhosts}
 use Rattle.bw_ports.specs.declared.network.Network.{Ghosts as NetworkGhosts}
 use Rattle.bw_ports.specs.declared.reactor.Reactor.{Ghosts as ReactorGhosts}
+use Rattle.bw_ports.specs.declared.starts.StartRefusal.{StartRefusal}
 use Rattle.bw_ports.specs.declared.starts.Starts.{Ghosts as StartGhosts}
 use Rattle.bw_operators.specs.declared.port.StatusPort.{Ghosts as PortGhosts}
 use Rattle.bw_operators.specs.declared.port.StatusSetup.{Ghosts as StatusGhosts}
-use Rattle.bw_serve.specs.Hosted.{ReportsUnopened}
+use Rattle.bw_serve.specs.Beginnings.{BeginsServing, CallFails, CallGives, Calls, CantBind}
+use Rattle.bw_serve.specs.Beginnings.{ReportsUnbound, WantsFirst}
+use Rattle.bw_serve.specs.Beginnings.{reactor_calls, start_calls, store_calls}
+use Rattle.bw_serve.specs.Hosted.{listening_line}
 use Rattle.bw_serve.specs.HostedFrom.{HostsManyFrom}
-use Rattle.bw_serve.specs.HostedMany.{CantListenMany, CantStoreMany, HostsManyAt, HostsManyOver}
-use Rattle.bw_serve.specs.HostedMany.{WantsBefore}
-use Rattle.bw_serve.specs.HostedResumed.{CantListenStarted, CantStart, HostsManyStartedAt}
+use Rattle.bw_serve.specs.HostedMany.{HostsManyOver}
 use Rattle.bw_serve.specs.HostedResumed.{HostsManyStartedOver}
 use Rattle.bw_serve.specs.Observing.{left_in_run}
+use Rattle.bw_serve.specs.Refusals.{ReportsRefusal}
 use Rattle.bw_serve.specs.declared.hosting.Hosting.{Hosting}
 use Rattle.bw_serve.specs.declared.serving.Bounds.{Bounds}
 use Rattle.bw_serve_status.specs.ShownRounds.{ShowsEachRound}
@@ -37,7 +37,7 @@ abbrev pub HostsShown : {X Y B L O E : Type 0} → (S : StoreGhosts X) → (J : 
     Server X Y S J → B → B → O → O → E → E → Type 0
 HostsShown S J reactor link out reported opening bounds log exit server b b' o o' e e' =
     HostsManyFrom S J reactor link out reported opening bounds log exit server b b' o o' e e'
-    ⊎ WantsBefore S J reactor link out reported exit b b' o o' e e'
+    ⊎ WantsFirst reported exit b b' o o' e e'
 
 -- what a setup of ports for operators, these ports and their links say of themselves
 pub record StatusSide (N B P K : Type 0) : Type 1 where
@@ -75,9 +75,8 @@ module _ {X Y B L O E P K : Type 0} (S : StoreGhosts X) (J : JournalGhosts Y)
   abbrev pub ShowsNew : (hosting : Hosting) (exit : Exit) (store : X) (b b' : B) (o o' : O) (e e' : E) →
       HostsManyOver S J reactor link out reported hosting exit store b b' o o' e e' → Type 0
   ShowsNew hosting exit store b b' o o' e e' (inl made) =
-      ShowsEachRound S J port operators opened made.server (left_in_run reactor link (ServerTurn S J)
-      out reported hosting.log hosting.bounds made.ended made.server made.following b b' made.between o'
-      e made.logged made.run)
+      ShowsFrom (listening_line hosting.address) hosting.bounds hosting.log exit made.server b b' o o' e
+      e' (inl made.serves)
   ShowsNew hosting exit store b b' o o' e e' (inr unserved) = Unit {0}
 
   -- the same of a server that was started
@@ -105,91 +104,63 @@ module _ {X Y B L O E P K : Type 0} (S : StoreGhosts X) (J : JournalGhosts Y)
       (hosts : HostsManyStartedOver S J reactor link out reported hosting exit server b b' o o' e e')
       × ShowsStarted hosting exit server b b' o o' e e' hosts
 
-module _ {N B P K : Type 0} (setup : StatusGhosts N B P K) where
-  -- operators can connect at this address, beside this reactor of a server over the folder
-  pub record OpensPort (address : SocketAddr) (folder : List ℕ) (reactor : B) (n n' : N) : Type 0 where
-    pub port : P
-    pub opened : setup.shows n reactor address folder (Ok port) n'
-    pub counted : setup.failures n' ≡ setup.failures n
+-- the calls for a port for operators at this address, beside this reactor of a server over the folder
+abbrev pub port_calls : {N B P K : Type 0} → StatusGhosts N B P K → SocketAddr → List ℕ → B →
+    Calls N P IoError
+port_calls setup status folder b =
+    record { returns = λ n. setup.shows n b status folder; failures = setup.failures }
 
-  -- they can't: this is reported, and nothing is printed
-  pub record CantShow {O E : Type 0} (reported : Writer E) (address : SocketAddr) (folder : List ℕ)
-      (reactor : B) (exit : Exit) (n n' : N) (o o' : O) (e e' : E) : Type 0 where
-    pub error : IoError
-    pub refused : setup.shows n reactor address folder (Err error) n'
-    pub counted : setup.failures n' ≡ one_more (setup.failures n)
-    pub printed : o' ≡ o
-    pub reports : ReportsUnopened reported (socket_text address) (error_kind error) exit e e'
+module _ {N T B P K O E : Type 0} (starts : Calls N T StartRefusal) (binds : Calls N B IoError)
+    (reported : Writer E) (side : StatusSide N B P K) (folder : List ℕ) (status : SocketAddr) where
+  -- it serves as a server that doesn't show its status, operators can connect meanwhile, and those
+  -- who do are shown this
+  pub record BeginsShown (serves : T → B → B → O → O → E → E → Type 0)
+      (shows : P → (t : T) (b b' : B) (o o' : O) (e e' : E) → serves t b b' o o' e e' → Type 0)
+      (n n' : N) (o o' : O) (e e' : E) : Type 0 where
+    pub between : N
+    pub begins : BeginsServing starts binds reported serves n between o o' e e'
+    pub port : CallGives (port_calls side.setup status folder begins.bound.it) between n'
+    pub shown : shows port.it begins.started.it begins.bound.it begins.left o o' e e' begins.hosts
+
+  -- folder and address can be used, and the address for operators can't
+  pub record CantShow (exit : Exit) (n n' : N) (o o' : O) (e e' : E) : Type 0 where
+    pub with_start : N
+    pub started : CallGives starts n with_start
+    pub between : N
+    pub bound : CallGives binds with_start between
+    pub unshown : CallFails (port_calls side.setup status folder bound.it) (ReportsUnbound reported status)
+        exit between n' o o' e e'
+
+  -- one of both, or it can't even serve so
+  abbrev pub ServesShown : SocketAddr → (serves : T → B → B → O → O → E → E → Type 0) →
+      (P → (t : T) (b b' : B) (o o' : O) (e e' : E) → serves t b b' o o' e e' → Type 0) → Exit → N → N →
+      O → O → E → E → Type 0
+  ServesShown address serves shows exit n n' o o' e e' =
+      BeginsShown serves shows n n' o o' e e'
+      ⊎ (CallFails starts (ReportsRefusal reported folder) exit n n' o o' e e'
+      ⊎ (CantBind starts binds reported address exit n n' o o' e e' ⊎ CantShow exit n n' o o' e e'))
 
 module _ {X Y B L O E : Type 0} (S : StoreGhosts X) (J : JournalGhosts Y) (reactor : ReactorGhosts B L)
     (link : LinkGhosts L) (out : Writer O) (reported : Writer E) where
   module _ {N V R W D A C P K : Type 0} (network : NetworkGhosts N X V D R W A C)
       (listener_setup : ListenerSetupGhosts N B L) (side : StatusSide N B P K) where
-    -- it serves as a server that doesn't show its status, operators can connect meanwhile, and those
-    -- who do are shown each round of this server
-    pub record HostsManyShownAt (hosting : Hosting) (status : SocketAddr) (exit : Exit) (n n' : N)
-        (o o' : O) (e e' : E) : Type 0 where
-      pub between : N
-      pub hosts : HostsManyAt S J reactor link out reported network listener_setup hosting exit n between
-          o o' e e'
-      pub shows : OpensPort side.setup status hosting.folder.now hosts.begun between n'
-      pub shown : ShowsNew S J reactor link out reported side.port side.link shows.port hosting exit
-          hosts.store hosts.begun hosts.left o o' e e' hosts.hosts
-
-    -- folder and address can be used, and the address for operators can't
-    pub record CantShowMany (hosting : Hosting) (status : SocketAddr) (exit : Exit) (n n' : N)
-        (o o' : O) (e e' : E) : Type 0 where
-      pub store : X
-      pub with_store : N
-      pub stored : network.stores n hosting.folder.now (Ok store) with_store
-      pub kept : network.failures with_store ≡ network.failures n
-      pub begun : B
-      pub between : N
-      pub opened : listener_setup.opens with_store hosting.address hosting.folder.now
-          hosting.bounds.places (Ok begun) between
-      pub counted : listener_setup.failures between ≡ listener_setup.failures with_store
-      pub unshown : CantShow side.setup reported status hosting.folder.now begun exit between n' o o' e e'
-
-    -- what the command does
+    -- what the command does: operators are shown each round of a new server
     abbrev pub HostsManyShown : Hosting → SocketAddr → Exit → N → N → O → O → E → E → Type 0
     HostsManyShown hosting status exit n n' o o' e e' =
-        HostsManyShownAt hosting status exit n n' o o' e e'
-        ⊎ (CantStoreMany S J reactor link out reported network listener_setup hosting exit n n' o o' e e'
-        ⊎ (CantListenMany S J reactor link out reported network listener_setup hosting exit n n' o o' e e'
-        ⊎ CantShowMany hosting status exit n n' o o' e e'))
+        ServesShown (store_calls network hosting.folder.now) (reactor_calls listener_setup hosting)
+        reported side hosting.folder.now status hosting.address
+        (HostsManyOver S J reactor link out reported hosting exit)
+        (λ port. ShowsNew S J reactor link out reported side.port side.link port hosting exit) exit n n'
+        o o' e e'
 
   module _ {N P K : Type 0} (listener_setup : ListenerSetupGhosts N B L)
       (starter : StartGhosts N (Server X Y S J)) (side : StatusSide N B P K) where
-    -- from what an earlier server left it serves as one that doesn't show its status, operators can
-    -- connect meanwhile, and those who do are shown each round of this server
-    pub record HostsManyResumedAt (hosting : Hosting) (sync : Bool) (status : SocketAddr) (exit : Exit)
-        (n n' : N) (o o' : O) (e e' : E) : Type 0 where
-      pub between : N
-      pub hosts : HostsManyStartedAt S J reactor link out reported listener_setup starter hosting sync
-          exit n between o o' e e'
-      pub shows : OpensPort side.setup status hosting.folder.now hosts.begun between n'
-      pub shown : ShowsStarted S J reactor link out reported side.port side.link shows.port hosting exit
-          hosts.server hosts.begun hosts.left o o' e e' hosts.hosts
-
-    -- a server was started at its address, and the address for operators can't be used
-    pub record CantShowStarted (hosting : Hosting) (sync : Bool) (status : SocketAddr) (exit : Exit)
-        (n n' : N) (o o' : O) (e e' : E) : Type 0 where
-      pub server : Server X Y S J
-      pub started_at : N
-      pub started : starter.starts n hosting.folder.now hosting.limit sync (Ok server) started_at
-      pub kept : starter.failures started_at ≡ starter.failures n
-      pub begun : B
-      pub between : N
-      pub opened : listener_setup.opens started_at hosting.address hosting.folder.now
-          hosting.bounds.places (Ok begun) between
-      pub counted : listener_setup.failures between ≡ listener_setup.failures started_at
-      pub unshown : CantShow side.setup reported status hosting.folder.now begun exit between n' o o' e e'
-
-    -- what the command does with journals
+    -- what the command does with journals: operators are shown each round of a server over what an
+    -- earlier one left
     abbrev pub HostsManyResumedShown : Hosting → Bool → SocketAddr → Exit → N → N → O → O → E → E → Type 0
     HostsManyResumedShown hosting sync status exit n n' o o' e e' =
-        HostsManyResumedAt hosting sync status exit n n' o o' e e'
-        ⊎ (CantStart starter out reported hosting.folder.now hosting.limit sync exit n n' o o' e e'
-        ⊎ (CantListenStarted S J reactor link out reported listener_setup starter hosting sync exit n n' o o'
-        e e'
-        ⊎ CantShowStarted hosting sync status exit n n' o o' e e'))
+        ServesShown (start_calls starter hosting.folder.now hosting.limit sync)
+        (reactor_calls listener_setup hosting) reported side hosting.folder.now status hosting.address
+        (HostsManyStartedOver S J reactor link out reported hosting exit)
+        (λ port. ShowsStarted S J reactor link out reported side.port side.link port hosting exit) exit n
+        n' o o' e e'

@@ -14,7 +14,7 @@ use bw_operators::{StatusPort, StatusSetup};
 use bw_ports::{ListenerSetup, Network, Reactor, Starts};
 use bw_serve::laws::law_names;
 use bw_serve::{
-    Bounds, Hosting, format_listening, format_opening, report_end, report_refusal, report_unbound,
+    Hosting, format_listening, format_opening, report_end, report_refusal, report_unbound,
     run_observed,
 };
 use bw_session::Server;
@@ -85,15 +85,13 @@ fn serve_over<S: TakeStore, B: Reactor, P: StatusPort + Drop, O: Sink, E: Sink>(
         return give_up(faults, &Fault::Memory);
     };
     law_names::<S>();
-    let (bounds, log) = (&hosting.bounds, hosting.log);
     serve_from(
         alloc,
         server,
         line.as_str(),
         reactor,
         port,
-        bounds,
-        log,
+        hosting,
         out,
         faults,
     )
@@ -160,15 +158,13 @@ fn serve_started<S: TakeStore, J: Journal, B: Reactor, P: StatusPort + Drop, O: 
     let Ok(opening) = format_opening(alloc, server.names(), hosting.address) else {
         return give_up(faults, &Fault::Memory);
     };
-    let (bounds, log) = (&hosting.bounds, hosting.log);
     serve_from(
         alloc,
         server,
         opening.as_str(),
         reactor,
         port,
-        bounds,
-        log,
+        hosting,
         out,
         faults,
     )
@@ -182,14 +178,13 @@ fn serve_from<S: TakeStore, J: Journal, B: Reactor, P: StatusPort + Drop, O: Sin
     opening: &str,
     reactor: &mut B,
     port: P,
-    bounds: &Bounds,
-    log: bool,
+    hosting: &Hosting<'_>,
     out: &mut O,
     faults: &mut E,
 ) -> Exit
     ensures { HostsShowing S.TakeStore J.Journal B.Reactor B.Link.Link O.Sink E.Sink P.StatusPort
-        P.Link.Link port opening.now bounds.now log result server reactor.old reactor.new out.old
-        out.new faults.old faults.new }
+        P.Link.Link port opening.now hosting.now.bounds hosting.now.log result server reactor.old
+        reactor.new out.old out.new faults.old faults.new }
 {
     let resumed = server.names() as u64;
     let Ok(mut observer) = StatusObserver::new(alloc, port, resumed) else {
@@ -204,6 +199,7 @@ fn serve_from<S: TakeStore, J: Journal, B: Reactor, P: StatusPort + Drop, O: Sin
     law_server_runs::<S, J>();
     let mut server = Metered::new(server);
     let observer = &mut observer;
+    let (bounds, log) = (&hosting.bounds, hosting.log);
     let exit = run_observed(
         alloc,
         &mut server,

@@ -13,8 +13,8 @@ returns g c =
       ended = ran.result;
       logged = ran.new.faults;
       run = run;
-      leaves = loop_leaves_from g.S.TakeStore g.J.Journal g.B.Reactor g.B.Link.Link g.O.Sink g.E.Sink c.args.log
-          c.law_server_runs.ensures c.args.bounds.now ran.result c.args.server ran.new.server.server c.args.reactor.now
+      leaves = loop_leaves_from g.S.TakeStore g.J.Journal g.B.Reactor g.B.Link.Link g.O.Sink g.E.Sink c.args.hosting.now.log
+          c.law_server_runs.ensures c.args.hosting.now.bounds ran.result c.args.server ran.new.server.server c.args.reactor.now
           ran.new.reactor c.print.new.out ran.new.out c.args.faults.now ran.new.faults run;
       reports = c.report_end.ensures;
     })

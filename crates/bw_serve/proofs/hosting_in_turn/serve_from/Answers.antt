@@ -14,7 +14,7 @@ returns g c =
       logged = ran.new.faults;
       run = run;
       leaves = run_leaves_from g.S.TakeStore g.J.Journal g.P.Peers g.P.Reader.Source g.P.Writer.Sink g.O.Sink g.E.Sink
-          c.args.log c.law_server_runs.ensures c.args.exchanges ran.result c.args.server ran.new.server.server
+          c.args.serving.now.log c.law_server_runs.ensures c.args.serving.now.exchanges ran.result c.args.server ran.new.server.server
           c.args.peers.now ran.new.peers c.print.new.out ran.new.out c.args.faults.now ran.new.faults run;
       reports = c.report_end.ensures;
     })

@@ -8,5 +8,8 @@ returns g c =
     let line : c.as_str.result.now ≡ listening_line c.args.serving.now.address =
     c.as_str.ensures.value ∙ c.in-Ok-format_listening.ensures in
     hosts_new g.S.TakeStore _ (λ y. refl) g.P.Peers g.P.Reader.Source g.P.Writer.Sink g.O.Sink g.E.Sink
-    c.args.serving.now _ c.args.store c.in-Ok.server _ _ _ _ _ _ c.in-Ok.ensures.store c.in-Ok.ensures.limit
-    c.in-Ok.ensures.book (rw line at c.serve_from.ensures)
+    c.args.serving.now _ c.args.store c.in-Ok.server _ _ _ _ _ _ (record {
+      store_is = c.in-Ok.ensures.store;
+      limit_is = c.in-Ok.ensures.limit;
+      empty = c.in-Ok.ensures.book;
+    }) (rw line at c.serve_from.ensures)

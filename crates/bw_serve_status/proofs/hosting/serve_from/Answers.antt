@@ -15,8 +15,8 @@ returns g c =
       resumed = λ first book holds. made.resumed ∙ c.names-resumed.ensures.value first book holds;
       growth = made.growth;
     } in
-    let run = counted_shown g.S.TakeStore g.J.Journal g.B.Reactor g.B.Link.Link g.O.Sink g.E.Sink c.args.log
-    g.P.StatusPort g.P.Link.Link c.law_server_runs.ensures c.args.server c.args.bounds.now ran.result _ _ _ _ _ _ _ _ _ _
+    let run = counted_shown g.S.TakeStore g.J.Journal g.B.Reactor g.B.Link.Link g.O.Sink g.E.Sink c.args.hosting.now.log
+    g.P.StatusPort g.P.Link.Link c.law_server_runs.ensures c.args.server c.args.hosting.now.bounds ran.result _ _ _ _ _ _ _ _ _ _
     c.args.port (ap (λ t. t.server) c.new-server.ensures.server ∙ c.in-Ok-new.ensures.server)
     (ap (λ t. t.tallies) c.new-server.ensures.server ∙ c.in-Ok-new.ensures.tallies) begins ran.ensures.runs
     ran.ensures.observed in (
@@ -27,8 +27,8 @@ returns g c =
         ended = ran.result;
         logged = ran.new.faults;
         run = run.0;
-        leaves = loop_leaves_from g.S.TakeStore g.J.Journal g.B.Reactor g.B.Link.Link g.O.Sink g.E.Sink c.args.log
-            c.law_server_runs.ensures c.args.bounds.now ran.result c.args.server ran.new.server.server.server
+        leaves = loop_leaves_from g.S.TakeStore g.J.Journal g.B.Reactor g.B.Link.Link g.O.Sink g.E.Sink c.args.hosting.now.log
+            c.law_server_runs.ensures c.args.hosting.now.bounds ran.result c.args.server ran.new.server.server.server
             c.args.reactor.now ran.new.reactor c.print.new.out ran.new.out c.args.faults.now ran.new.faults run.0;
         reports = c.report_end.ensures;
       })),
@@ -46,7 +46,7 @@ returns-in_default-print g c = (
 )
 
 pub returns-in_default : goal.returns-in_default
-returns-in_default g c = (inr (record { reactor_is = refl; printed = refl; reports = search rules }), tt)
+returns-in_default g c = (inr (record { unmet = refl; printed = refl; reports = search rules }), tt)
 
 pub returns-in_default-new : goal.returns-in_default-new
-returns-in_default-new g c = (inr (record { reactor_is = refl; printed = refl; reports = search rules }), tt)
+returns-in_default-new g c = (inr (record { unmet = refl; printed = refl; reports = search rules }), tt)

@@ -9,4 +9,4 @@ returns g c =
     c.serve_from.ensures.1
 
 pub returns-in_default : goal.returns-in_default
-returns-in_default g c = (inr (record { reactor_is = refl; printed = refl; reports = search rules }), tt)
+returns-in_default g c = (inr (record { unmet = refl; printed = refl; reports = search rules }), tt)

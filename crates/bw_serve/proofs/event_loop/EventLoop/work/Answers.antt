@@ -3,6 +3,7 @@ use Rattle.bw_exchange.specs.Answering.{AnswersAll, answered_frames}
 use Rattle.bw_connections.proofs.Standing.{sets_again, some_is}
 use Rattle.bw_exchange.specs.LinkCounts.{counting_frame}
 use Rattle.bw_exchange.proofs.LinkStatsLemmas.{all_by_server, all_counted}
+use Rattle.bw_serve.proofs.WrappedRuns.{works_by}
 use Rattle.bw_serve.proofs.event_loop.EventLoop.work.Goals as goal
 
 pub returns : goal.returns
@@ -13,30 +14,11 @@ returns g c =
     let t = c.swap_at.new.server in
     let u = c.work-closed.new.server in
     record {
-      works = record {
-        number = w.number;
-        answered = w.answered;
-        by_server = subst (λ s. AnswersAll g.T.Turns.answers c.args.server.now.server w.answered s) (sym following.server)
-            (subst (λ s. AnswersAll g.T.Turns.answers s w.answered u.server) before.server
-            (all_by_server g.T.Turns.answers t w.answered u w.by_server));
-        most = w.most;
-        is_its = w.is_its;
-        ends_its = w.ends_its;
-        existed = w.existed;
-        nobody = w.nobody;
-        adds = w.adds;
-        others = w.others;
-        unended = w.unended;
-        since = w.since;
-        moved = w.moved;
-        lets_go = w.lets_go;
-        learns = w.learns;
-        finished = w.finished;
-        left = w.left;
-        no_silence = w.no_silence;
-        served = w.served;
-        heard = w.heard;
-      };
+      works = works_by g.L.Link _ g.T.Turns.answers _ _ _ _ _ t u c.args.server.now.server
+          c.swap_at-2.new.server.server w
+          (subst (λ s. AnswersAll g.T.Turns.answers c.args.server.now.server w.answered s) (sym following.server)
+          (subst (λ s. AnswersAll g.T.Turns.answers s w.answered u.server) before.server
+          (all_by_server g.T.Turns.answers t w.answered u w.by_server)));
       peer_slot = before.peer_slot;
       was = before.was;
       peer_slot' = following.peer_slot';
