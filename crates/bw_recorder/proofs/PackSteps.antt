@@ -12,7 +12,7 @@ use Rattle.bw_recorder.specs.declared.packing.PackFault.{PackFault}
 use Rattle.bw_recorder.specs.Openings.{IsOpenedAt, RefusesAs, is_well_at}
 use Rattle.bw_recorder.specs.Puts.{GivesRequests, Stands}
 use Rattle.bw_recorder.specs.SettingLists.{LacksOptions, options_of}
-use Rattle.bw_recorder.specs.Packs.{IsOpenReport, IsOptionsReport, IsPack, IsPrintOfPack, IsReportedText, Packing}
+use Rattle.bw_recorder.specs.Packs.{IsNotOpened, IsOpenReport, IsOptionsReport, IsPack, IsPrintOfPack, IsReportedText, Packing}
 use Rattle.bw_recorder.specs.Packs.{RefusesAtOnce, ReportsPack, pack_exit}
 use Rattle.bw_recorder.specs.declared.fault.OptionsFault.{OptionsFault}
 use Rattle.bw_recorder.specs.declared.fault.OptionsFault.TheVariants as lacks
@@ -21,6 +21,18 @@ use Rattle.bw_recorder.specs.declared.fault.OptionsFault.TheVariants as lacks
 abbrev pub refusal : Exit → Print → Packing
 refusal exit print =
     record { is_system_well = true; warned = Nothing; out = Nothing; faults = print; exit = exit }
+
+-- .. of a file that isn't opened
+abbrev pub unopened : OpenFault → Exit → Print → Packing
+unopened fault exit print =
+    record { is_system_well = is_well_at fault; warned = Nothing; out = Nothing; faults = print; exit = exit }
+
+-- it isn't opened for this reason
+pub not_opened : (command : List ℕ) (file : Option (List ℕ)) (path : List ℕ) (o : Options) (fault : OpenFault)
+    (exit : Exit) (print : Print) → Of file (λ b. RefusesAs b o fault) → IsOpenReport command path fault exit print →
+    IsNotOpened command file path o (unopened fault exit print)
+not_opened command file path o fault exit print right reports =
+    record { fault = fault; right = right; well = refl; warned = refl; prints = refl; reports = reports }
 
 -- what is set can't be used
 pub refused : (texts : List (List ℕ)) (strict : Bool) (frames : Option ℕ) (fault : OptionsFault) (exit : Exit)
@@ -80,25 +92,6 @@ packs file path texts strict frames o asked p text left outcome given warned pri
 pub opens_nothing : (file : Option (List ℕ)) (path : List ℕ) (texts : List (List ℕ)) (strict : Bool) (frames : Option ℕ)
     (o : Options) → options_of texts strict frames ≡ Some o → (fault : OpenFault) (reported : Print) (exit : Exit) →
     Of file (λ b. RefusesAs b o fault) → IsOpenReport (codes "pack") path fault exit reported →
-    IsPack file path texts strict frames (record {
-      is_system_well = is_well_at fault;
-      warned = Nothing;
-      out = Nothing;
-      faults = reported;
-      exit = exit;
-    })
+    IsPack file path texts strict frames (unopened fault exit reported)
 opens_nothing file path texts strict frames o asked fault reported exit right reports =
-    inr (inr (
-      o,
-      (
-        asked,
-        inl (record {
-          fault = fault;
-          right = right;
-          well = refl;
-          warned = refl;
-          prints = refl;
-          reports = reports;
-        }),
-      ),
-    ))
+    inr (inr (o, (asked, inl (not_opened _ file path o fault exit reported right reports))))

@@ -1,6 +1,7 @@
 -- A feed gives requests, one after another.
-use Rattle.std.proofs.Common.{◌≡◌, ◌<◌, ◌+◌, ◌∙◌, ℕ, Bool, true, false, List, [], ◌∷◌, ◌++◌, Ok, Err, length, ap, sym, refl, arith, inl, inr, subst, length-append}
-use Rattle.std.specs.Prelude.{◌||◌}
+use Rattle.std.proofs.Common.{◌≡◌, ◌<◌, ◌+◌, ◌∙◌, ℕ, Bool, true, false, List, [], ◌∷◌, ◌++◌, Ok, Err, length, ap}
+use Rattle.std.proofs.Common.{sym, refl, arith, inl, inr, subst, length-append}
+use Rattle.std.specs.Prelude.{◌⊎◌, ◌||◌}
 use Rattle.std.specs.List.{list_any, AllByRecursion}
 use Rattle.std.proofs.lemmas.List.Folds.{list_any-append}
 use Rattle.bw_model.specs.Take.{Request}
@@ -56,44 +57,24 @@ module _ {F X : Type 0} (feed : FeedGhosts F X) where
             ∙ ap (λ (b : Bool). b || list_any is_close (r ∷ [])) old.unclosed ∙ ap (λ (b : Bool). b || false) closes);
       }
 
-  -- it has ended
-  pub lacks_end : (n count : ℕ) (given : List Request) (f g h : F) → n < count → PassesFirst feed n given f g →
-      AsksFeed feed g (Ok gives.End) h → LacksFirst feed count f
-  lacks_end n count given f g h more old asks =
+  few_passed : (n count : ℕ) (given : List Request) (f g : F) → n < count → PassesFirst feed n given f g →
+      length given < count
+  few_passed n count given f g more old =
       let many = old.many in
-      record {
-        given = given;
-        at = g;
-        went = old.went;
-        few = omega (arith, many, more);
-        why = inr (omega (arith, many, more), h, inl asks);
-      }
+      omega (arith, many, more)
 
-  -- it has nothing yet
-  pub lacks_yet : (n count : ℕ) (given : List Request) (f g h : F) → n < count → PassesFirst feed n given f g →
-      AsksFeed feed g (Ok gives.NotYet) h → LacksFirst feed count f
-  lacks_yet n count given f g h more old asks =
-      let many = old.many in
-      record {
-        given = given;
-        at = g;
-        went = old.went;
-        few = omega (arith, many, more);
-        why = inr (omega (arith, many, more), h, inr asks);
-      }
+  -- it has ended, or has nothing yet
+  pub lacks_more : (n count : ℕ) (given : List Request) (f g h : F) → n < count → PassesFirst feed n given f g →
+      AsksFeed feed g (Ok gives.End) h ⊎ AsksFeed feed g (Ok gives.NotYet) h → LacksFirst feed count f
+  lacks_more n count given f g h more old asks =
+      let few = few_passed n count given f g more old in
+      record { given = given; at = g; went = old.went; few = omega (arith, few); why = inr (few, h, asks) }
 
   pub fails_first : (n count : ℕ) (given : List Request) (f g h : F) (fault : X) → n < count →
       PassesFirst feed n given f g → AsksFeed feed g (Err fault) h → FailsFirst feed count f fault
   fails_first n count given f g h fault more old asks =
-      let many = old.many in
-      record {
-        given = given;
-        at = g;
-        went = old.went;
-        few = omega (arith, many, more);
-        after = h;
-        fails = asks;
-      }
+      let few = few_passed n count given f g more old in
+      record { given = given; at = g; went = old.went; few = few; after = h; fails = asks }
 
   -- they were passed over
   pub passed : (all : Bool) (now first : FileStamp) (count : ℕ) (f g : F) → all ≡ true →

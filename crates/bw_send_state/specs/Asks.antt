@@ -1,5 +1,6 @@
 -- What a server answers to an ask, and how it is asked.
-use Rattle.std.specs.Prelude.{◌≡◌, ◌⊎◌, ◌++◌, ◌∷◌, ◌^◌, ◌-◌, ◌≤◌, ℕ, zero, suc, true, false, Option, Some, None, Result, Ok, Err}
+use Rattle.std.specs.Prelude.{◌≡◌, ◌⊎◌, ◌++◌, ◌∷◌, ◌^◌, ◌-◌, ◌≤◌, ℕ, zero, suc, true, false}
+use Rattle.std.specs.Prelude.{Option, Some, None, Result, Ok, Err}
 use Rattle.std.specs.Prelude.{List, [], length}
 use Rattle.bw_model.specs.Bytes.{u32_at}
 use Rattle.bw_model.specs.Replies.{Reply, Noticed, Next, decoded_reply}

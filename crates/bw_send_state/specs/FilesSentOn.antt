@@ -57,9 +57,11 @@ abbrev pub outside_of : KnownFile → (List ℕ → Option (List ℕ)) → (List
 outside_of file states states' = record { file = file; states = states; states' = states' }
 
 -- .. as files and states say that give themselves so
-abbrev pub outside_by : {F H G M B L : Type 0} → FileGhosts F H G M → StateGhosts B L → Job → F → B → B → Outside
+abbrev pub outside_by : {F H G M B L : Type 0} → FileGhosts F H G M → StateGhosts B L → Job → F → B → B →
+    Outside
 outside_by files states job f s s' =
-    outside_of (known_file_of job (files.file_at f) (files.stamp_at f)) (states.state_at s) (states.state_at s')
+    outside_of (known_file_of job (files.file_at f) (files.stamp_at f)) (states.state_at s)
+    (states.state_at s')
 
 -- what is waited by, and what links are made by
 abbrev pub ways : {P D : Type 0} → P → D → Ways P D

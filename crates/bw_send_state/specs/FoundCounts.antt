@@ -1,6 +1,7 @@
 -- What is found at a state's path, and where a sender begins by it.
-use Rattle.std.specs.Prelude.{◌≡◌, ◌⊎◌, ◌-◌, ℕ, zero, suc, Option, Some, List, [], ◌∷◌, nat_lt, take, unwrap_or, length}
-use Rattle.std.specs.Prelude.{if◌then◌else◌, Bool, true, false, ◌||◌, ◌&&◌, ◌==◌, nat_eq, is_none, is_some, codes}
+use Rattle.std.specs.Prelude.{◌≡◌, ◌⊎◌, ◌-◌, ℕ, zero, suc, Option, Some, List, [], ◌∷◌, nat_lt, take}
+use Rattle.std.specs.Prelude.{unwrap_or, length, if◌then◌else◌, Bool, true, false, ◌||◌, ◌&&◌, ◌==◌}
+use Rattle.std.specs.Prelude.{nat_eq, is_none, is_some, codes}
 use Rattle.std.specs.List.{starts_with, slice_index}
 use Rattle.bw_stream.specs.Moves.{Keeps}
 use Rattle.bw_stream.specs.Readers.{Of}

@@ -1,5 +1,6 @@
 -- The first requests of a feed are passed over.
-use Rattle.std.specs.Prelude.{◌≡◌, ◌≢◌, ◌⊎◌, ◌++◌, ◌≤◌, ◌<◌, ℕ, Bool, true, false, List, [], ◌∷◌, Ok, Err, length}
+use Rattle.std.specs.Prelude.{◌≡◌, ◌≢◌, ◌⊎◌, ◌++◌, ◌≤◌, ◌<◌, ℕ, Bool, true, false, List, [], ◌∷◌}
+use Rattle.std.specs.Prelude.{Ok, Err, length}
 use Rattle.std.specs.List.{list_any}
 use Rattle.bw_model.specs.Take.{Request}
 use Rattle.bw_model.specs.World.{is_close}

@@ -1,9 +1,7 @@
 use Rattle.std.proofs.Common.{true, refl, subst}
 use Rattle.std.specs.Prelude.{List, ℕ}
-use Rattle.bw_console.specs.Printing.{Nothing}
-use Rattle.bw_recorder.specs.Openings.{is_well_at}
 use Rattle.bw_recorder.specs.Packs.{IsReportedText}
-use Rattle.bw_recorder.proofs.PackSteps.{at_once, opens_nothing, packs, refusal, refused}
+use Rattle.bw_recorder.proofs.PackSteps.{at_once, opens_nothing, packs, refusal, refused, unopened}
 use Rattle.bw_recorder.proofs.packing.pack.Goals as goal
 
 pub returns-in-Err : goal.returns-in-Err
@@ -33,13 +31,7 @@ pub returns : goal.returns
 returns g c =
     let r = c.report_open_fault.ensures in
     let fault = c.in-Err-open_recording.fault in (
-      record {
-        is_system_well = is_well_at fault;
-        warned = Nothing;
-        out = Nothing;
-        faults = r.0;
-        exit = c.report_open_fault.result;
-      },
+      unopened fault c.report_open_fault.result r.0,
       refl,
       opens_nothing _ _ _ _ _ c.in-Ok.options c.in-Ok.ensures.ok fault r.0 c.report_open_fault.result
           c.in-Err-open_recording.ensures.err r.1,

@@ -1,8 +1,6 @@
 use Rattle.std.proofs.Common.{ℕ, List, true, refl, sym, subst, inl, inr}
-use Rattle.bw_console.specs.Printing.{Nothing}
-use Rattle.bw_recorder.specs.Openings.{is_well_at}
 use Rattle.bw_recorder.specs.Packs.{IsReportedText}
-use Rattle.bw_recorder.proofs.PackSteps.{at_once, refusal, refused}
+use Rattle.bw_recorder.proofs.PackSteps.{at_once, not_opened, refusal, refused, unopened}
 use Rattle.bw_send_file.proofs.file.send_file.Goals as goal
 
 pub returns-in-Err : goal.returns-in-Err
@@ -53,26 +51,13 @@ pub returns : goal.returns
 returns g c =
     let r = c.report_open_fault.ensures in
     let fault = c.in-Err-open_feed.fault in (
-      record {
-        is_system_well = is_well_at fault;
-        warned = Nothing;
-        out = Nothing;
-        faults = r.0;
-        exit = c.report_open_fault.result;
-      },
+      unopened fault c.report_open_fault.result r.0,
       refl,
       inl (
         inr (inr (
           c.in-Ok.options,
           c.in-Ok.ensures.ok,
-          record {
-            fault = fault;
-            right = c.in-Err-open_feed.ensures.err;
-            well = refl;
-            warned = refl;
-            prints = refl;
-            reports = r.1;
-          },
+          not_opened _ _ _ _ fault _ r.0 c.in-Err-open_feed.ensures.err r.1,
         )),
         refl,
       ),

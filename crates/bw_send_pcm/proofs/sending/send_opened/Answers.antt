@@ -1,6 +1,6 @@
 use Rattle.std.proofs.Common.{true, refl, sym}
 use Rattle.bw_console.specs.Printing.{Nothing}
-use Rattle.bw_recorder.specs.Openings.{is_well_at}
+use Rattle.bw_recorder.proofs.PackSteps.{unopened}
 use Rattle.bw_send_pcm.proofs.sending.send_opened.Goals as goal
 
 pub returns-in-Ok : goal.returns-in-Ok
@@ -30,13 +30,7 @@ returns-in-Ok g c =
 pub returns-in-Err : goal.returns-in-Err
 returns-in-Err g c =
     let r = c.report_open_fault.ensures in (
-      record {
-        is_system_well = is_well_at c.in-Err.fault;
-        warned = Nothing;
-        out = Nothing;
-        faults = r.0;
-        exit = c.report_open_fault.result;
-      },
+      unopened c.in-Err.fault c.report_open_fault.result r.0,
       refl,
       rw c.in-Err.is refl,
       rw c.in-Err.is (record { warned = refl; prints = refl; reports = r.1 }, refl),

@@ -2,6 +2,7 @@ use Rattle.std.proofs.Common.{◌∙◌, Bool, List, ℕ, ap, inl, inr, refl, su
 use Rattle.std.proofs.lemmas.Result.{err_from_is_err_and}
 use Rattle.std.specs.IoError.{error_kind}
 use Rattle.bw_console.specs.Printing.{IsPrint, Nothing, failures_if}
+use Rattle.bw_recorder.proofs.PackSteps.{refusal}
 use Rattle.bw_send_state.specs.FoundCounts.{IsStateFound}
 use Rattle.bw_send_state.proofs.BeginSteps.{silent_of, well_of}
 use Rattle.bw_send_state.proofs.beginning.begin.Goals as goal
@@ -33,7 +34,7 @@ returns-in-Err-clause-err g c =
       record {
         is_state_well = w.0;
         began = Nothing;
-        sent = record { is_system_well = true; warned = Nothing; out = Nothing; faults = r.0; exit = c.report_unkept.result };
+        sent = refusal c.report_unkept.result r.0;
         unkept = Nothing;
         exit = c.report_unkept.result;
       },
@@ -85,13 +86,7 @@ returns-clause-err g c =
       record {
         is_state_well = w.0;
         began = s.0;
-        sent = record {
-          is_system_well = true;
-          warned = Nothing;
-          out = Nothing;
-          faults = r.0;
-          exit = c.report_unkept-in-Err-open_log.result;
-        };
+        sent = refusal c.report_unkept-in-Err-open_log.result r.0;
         unkept = Nothing;
         exit = c.report_unkept-in-Err-open_log.result;
       },

@@ -1,8 +1,7 @@
-use Rattle.std.proofs.Common.{inl, inr, refl, true}
-use Rattle.bw_console.specs.Printing.{Nothing}
+use Rattle.std.proofs.Common.{inl, inr, refl}
 use Rattle.bw_plan.specs.Plans.{plan}
 use Rattle.bw_plan.specs.Recordings.{block_frames}
-use Rattle.bw_recorder.specs.Openings.{is_well_at}
+use Rattle.bw_recorder.proofs.PackSteps.{not_opened, refusal, unopened}
 use Rattle.bw_send_state.proofs.header.read_header.Goals as goal
 
 pub returns-in-Ok-header_of-clause-ok : goal.returns-in-Ok-header_of-clause-ok
@@ -20,7 +19,7 @@ returns-in-Ok-header_of-clause-ok g c = λ b at.
 pub returns-in-Ok-clause-err : goal.returns-in-Ok-clause-err
 returns-in-Ok-clause-err g c =
     let r = c.report_file_fault.ensures in (
-      record { is_system_well = true; warned = Nothing; out = Nothing; faults = r.0; exit = c.report_file_fault.result },
+      refusal c.report_file_fault.result r.0,
       refl,
       inr (record {
         begun = c.in-Ok.opened.feed;
@@ -40,22 +39,9 @@ pub returns-clause-err : goal.returns-clause-err
 returns-clause-err g c =
     let r = c.report_open_fault.ensures in
     let fault = c.in-Err.fault in (
-      record {
-        is_system_well = is_well_at fault;
-        warned = Nothing;
-        out = Nothing;
-        faults = r.0;
-        exit = c.report_open_fault.result;
-      },
+      unopened fault c.report_open_fault.result r.0,
       refl,
-      inl (record {
-        fault = fault;
-        right = c.in-Err.ensures.err;
-        well = refl;
-        warned = refl;
-        prints = refl;
-        reports = r.1;
-      }),
+      inl (not_opened _ _ _ _ fault _ r.0 c.in-Err.ensures.err r.1),
       c.in-Err.ensures.count,
       r.2,
     )

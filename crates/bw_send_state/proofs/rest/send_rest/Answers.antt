@@ -2,8 +2,8 @@ use Rattle.std.proofs.Common.{◌∙◌, List, ℕ, inl, inr, refl, sym, subst, 
 use Rattle.bw_console.specs.Printing.{Nothing}
 use Rattle.bw_plan.specs.Plans.{plan}
 use Rattle.bw_plan.specs.Recordings.{block_frames}
-use Rattle.bw_recorder.specs.Openings.{is_well_at}
 use Rattle.bw_recorder.specs.Packs.{IsReportedText}
+use Rattle.bw_recorder.proofs.PackSteps.{not_opened, unopened}
 use Rattle.bw_send_file.specs.declared.fault.FeedFault.TheVariants.{Changed}
 use Rattle.bw_send_state.specs.SentOn.{stored_sender}
 use Rattle.bw_send_state.proofs.RestSteps.{rest_sent}
@@ -115,25 +115,9 @@ pub returns-in-Err-clause-did : goal.returns-in-Err-clause-did
 returns-in-Err-clause-did g c =
     let r = c.report_open_fault.ensures in
     let fault = c.in-Err.fault in (
-      record {
-        is_system_well = is_well_at fault;
-        warned = Nothing;
-        out = Nothing;
-        faults = r.0;
-        exit = c.report_open_fault.result;
-      },
+      unopened fault c.report_open_fault.result r.0,
       refl,
-      inl (
-        record {
-          fault = fault;
-          right = c.in-Err.ensures.err;
-          well = refl;
-          warned = refl;
-          prints = refl;
-          reports = r.1;
-        },
-        refl,
-      ),
+      inl (not_opened _ _ _ _ fault _ r.0 c.in-Err.ensures.err r.1, refl),
       c.in-Err.ensures.count,
       record { between = c.args.faults.now; warns = refl; prints = refl; reports = r.2 },
     )

@@ -1,7 +1,7 @@
-use Rattle.std.proofs.Common.{◌∙◌, sym}
+use Rattle.std.proofs.Common.{◌∙◌, inl, inr, sym}
 use Rattle.std.proofs.lemmas.Result.{err_from_is_err_and}
 use Rattle.bw_send_state.proofs.FeedSteps.{given_is, one_skipped}
-use Rattle.bw_send_state.proofs.SkipSteps.{fails_first, given_as, lacks_close, lacks_end, lacks_yet, passes_more}
+use Rattle.bw_send_state.proofs.SkipSteps.{fails_first, given_as, lacks_close, lacks_more, passes_more}
 use Rattle.bw_upload.specs.declared.feed.Given.TheVariants as gives
 use Rattle.bw_send_state.proofs.skipping.skip.Goals as goal
 
@@ -34,16 +34,16 @@ returns-then-is_close-clause-ok g c =
 pub returns-in-NotYet-clause-ok : goal.returns-in-NotYet-clause-ok
 returns-in-NotYet-clause-ok g c =
     let p = c.loop-skipped.invariant.passes in
-    lacks_yet g.X.Feed c.loop-skipped._skipped c.args.count p.0 _ _ _ c.loop-skipped-test.true p.1
-    (given_as g.X.Feed _ _ _ _ c.in-NotYet.is
-    (record { received = c.in_ok-request.ensures.received; left = c.in_ok-request.ensures.left }))
+    lacks_more g.X.Feed c.loop-skipped._skipped c.args.count p.0 _ _ _ c.loop-skipped-test.true p.1
+    (inr (given_as g.X.Feed _ _ _ _ c.in-NotYet.is
+    (record { received = c.in_ok-request.ensures.received; left = c.in_ok-request.ensures.left })))
 
 pub returns-in-End-clause-ok : goal.returns-in-End-clause-ok
 returns-in-End-clause-ok g c =
     let p = c.loop-skipped.invariant.passes in
-    lacks_end g.X.Feed c.loop-skipped._skipped c.args.count p.0 _ _ _ c.loop-skipped-test.true p.1
-    (given_as g.X.Feed _ _ _ _ c.in-End.is
-    (record { received = c.in_ok-request.ensures.received; left = c.in_ok-request.ensures.left }))
+    lacks_more g.X.Feed c.loop-skipped._skipped c.args.count p.0 _ _ _ c.loop-skipped-test.true p.1
+    (inl (given_as g.X.Feed _ _ _ _ c.in-End.is
+    (record { received = c.in_ok-request.ensures.received; left = c.in_ok-request.ensures.left })))
 
 pub returns-in_err-request-clause-err : goal.returns-in_err-request-clause-err
 returns-in_err-request-clause-err g c =
