@@ -1,1 +1,6 @@
+pub mod Folders
+pub mod Folding
+pub mod Making
+pub mod OwnRuns
 pub mod Resting
+pub mod Runs

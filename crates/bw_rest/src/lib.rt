@@ -1,7 +1,10 @@
 //! A server whose names rest: with a journal it knows more names than its table has places for.
 #![tactic(auto)]
 
+mod finding;
+pub mod laws;
 mod resting;
+mod room;
 mod uses;
 
 pub use resting::RestingServer;

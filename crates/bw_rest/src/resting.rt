@@ -1,121 +1,160 @@
 //! A server whose names rest.
+ghost use Rattle.std.specs.Prelude.{◌≡◌, ◌≤◌, [], ◌∷◌, map, IfOk, IfErr};
+ghost use Rattle.std.specs.List.{All};
+ghost use Rattle.bw_model.specs.Replies.{Noticed, DelayedStore};
+ghost use Rattle.bw_model.specs.Wire.{Says, Second, last_number};
+ghost use Rattle.bw_wire.specs.Frames.{message_of};
+ghost use Rattle.bw_wire.specs.Replies.{reply_of, HasWireNumbers};
+ghost use Rattle.bw_session.specs.ServerTurns.{ServerTurn};
+
+use crate::finding::Found;
 use crate::uses::Uses;
 use arrayvec::ArrayVec;
 use bw_exchange::Turns;
 use bw_journal::RestingJournal;
-use bw_request::Name;
+use bw_request::{Name, RequestRef};
 use bw_session::Server;
 use bw_store::TakeStore;
 use bw_wire::{Ask, Message, Notice, Reply};
 use std::alloc::{AllocError, Global};
 
 /// A server, in whose table a name that rests has no place: it wakes at its next message. If the
-/// table is full then, the name rests that may and was used the longest time ago.
+/// table is full then, a name rests whose take is closed: the one used the longest time ago.
+///
+/// A frame of a name that can't be woken, or for which no room can be made, is answered
+/// DelayedStore with next 0, and nothing has changed. A name in the table is answered as by the
+/// server alone.
+///
+/// # Not specified
+/// Which of several names rests.
 #[derive(Drop)]
 pub struct RestingServer<S: TakeStore, J: RestingJournal> {
-    server: Server<S, J>,
-    uses: Uses,
-}
-
-/// What comes of making room in a table.
-enum Room {
-    /// There is a free place.
-    Free,
-    /// None of its names can rest.
-    Full,
-    /// The journal failed.
-    Failed,
+    pub(crate) server: Server<S, J>,
+    pub(crate) uses: Uses,
+    pub(crate) alloc: Global,
 }
 
 impl<S: TakeStore, J: RestingJournal> RestingServer<S, J> {
-    /// A server whose names may rest, as if each were used once, in any order.
+    /// A server whose names may rest.
     ///
     /// # Errors
-    /// `AllocError` if memory was refused. The server isn't given back.
-    pub fn new(alloc: Global, server: Server<S, J>) -> Result<RestingServer<S, J>, AllocError> {
-        let names = server.known_names(alloc)?;
-        let mut uses = Uses::new();
-        for name in &names {
-            uses.touch(name);
+    /// `AllocError`, with the server, if memory was refused.
+    ///
+    /// # Not specified
+    /// When memory is refused.
+    pub fn new(
+        alloc: Global,
+        server: Server<S, J>,
+    ) -> Result<RestingServer<S, J>, (AllocError, Server<S, J>)>
+        ensures server { IfOk result (λ r. r.server ≡ server) }
+        ensures back { IfErr result (λ e. e.1 ≡ server) }
+    {
+        match Uses::new(alloc) {
+            Ok(uses) => Ok(RestingServer {
+                server,
+                uses,
+                alloc,
+            }),
+            Err(error) => Err((error, server)),
         }
-        Ok(RestingServer { server, uses })
     }
 
     /// The server of the names in the table.
-    pub fn server(&self) -> &Server<S, J> {
+    pub fn server(&self) -> &Server<S, J>
+        ensures { result.now ≡ self.now.server }
+    {
         &self.server
     }
 
-    /// Makes a message of this name one that the server can take: it wakes a name that rests, and
-    /// makes room for a new one. False if that can't be done now.
-    fn prepare(&mut self, name: &Name) -> bool {
-        if self.server.is_known(name) {
-            return true;
-        }
-        match self.make_room() {
-            Room::Free => self.server.wake(name).is_ok(),
-            // A new name is answered TableFull; one that rests is put off.
-            Room::Full => matches!(self.server.rests(name), Ok(false)),
-            Room::Failed => false,
-        }
+    /// The server of the names in the table, by value.
+    pub fn into_server(self) -> Server<S, J>
+        ensures { result ≡ self.server }
+    {
+        let RestingServer {
+            server,
+            uses: _,
+            alloc: _,
+        } = self;
+        server
     }
 
-    /// Notes that a name was used, if it is in the table.
-    fn note_use(&mut self, name: &Name) {
-        if self.server.is_known(name) {
+    /// Has the server answer a message, and notes the use of its name.
+    fn serve(
+        &mut self,
+        name: &Name,
+        message: &Message<'_>,
+        found: Found,
+        replies: &mut ArrayVec<Reply, 17>,
+    )
+        ensures turned { ServerTurn S.TakeStore J.Journal self.old.server
+            (Says (message_of message.now)) (map reply_of replies.new.items) self.new.server }
+        ensures numbers { All HasWireNumbers replies.new.items }
+    {
+        Turns::turn(&mut self.server, message, replies);
+        self.note_use(name, message, found);
+    }
+
+    /// Notes that a name was used, if it is in the table and its take may be closed.
+    fn note_use(&mut self, name: &Name, message: &Message<'_>, found: Found)
+        ensures { self.new.server ≡ self.old.server }
+    {
+        if is_use(message, found) && self.server.is_known(name) {
             self.uses.touch(name);
         }
     }
+}
 
-    /// Makes a place free in a full table, by the rest of a name.
-    fn make_room(&mut self) -> Room {
-        let mut place = 0;
-        while self.server.is_full() {
-            let Some(name) = self.uses.at(place) else {
-                return Room::Full;
-            };
-            let Ok(rested) = self.server.rest(&name) else {
-                return Room::Failed;
-            };
-            if rested {
-                self.uses.forget(&name);
-            }
-            place += 1;
-        }
-        Room::Free
+/// Whether a message is a use of its name: the first since it was in the table, or a CLOSE.
+fn is_use(message: &Message<'_>, found: Found) -> bool {
+    match found {
+        Found::Known => matches!(message.request(), RequestRef::CloseTake { .. }),
+        _ => true,
     }
 }
 
 impl<S: TakeStore, J: RestingJournal> Turns for RestingServer<S, J> {
+    ghost use Rattle.bw_rest.specs.Resting.{RestingTurn};
+
+    ghost answers = { λ old frame replies new.
+        RestingTurn S.TakeStore J.Journal old.server frame replies new.server };
+
     fn turn(&mut self, message: &Message<'_>, replies: &mut ArrayVec<Reply, 17>) {
         let name = message.name();
-        if self.prepare(&name) {
-            self.server.turn(message, replies);
-            self.note_use(&name);
-        } else {
-            put_off(name, message.number(), replies);
+        match self.prepare(&name) {
+            Found::Known => self.serve(&name, message, Found::Known, replies),
+            Found::New => self.serve(&name, message, Found::New, replies),
+            Found::PutOff => put_off(name, message.number(), replies),
+            Found::Failed => put_off(name, message.number(), replies),
         }
     }
 
     fn ask(&mut self, ask: &Ask<'_>) -> Reply {
         let name = ask.name();
-        if self.prepare(&name) {
-            self.note_use(&name);
-            self.server.ask(&name, ask.number())
-        } else {
-            delayed(name, ask.number())
+        match self.find(&name) {
+            Found::Known => Turns::ask(&mut self.server, ask),
+            Found::New => Turns::ask(&mut self.server, ask),
+            Found::PutOff => delayed(name, ask.number()),
+            Found::Failed => delayed(name, ask.number()),
         }
     }
 }
 
 /// The reply to a message that is put off.
-fn put_off(name: Name, number: u32, replies: &mut ArrayVec<Reply, 17>) {
+fn put_off(name: Name, number: u32, replies: &mut ArrayVec<Reply, 17>)
+    requires range { number ≤ last_number Second }
+    ensures replies { map reply_of replies.new.items ≡ Noticed name number DelayedStore 0 ∷ [] }
+    ensures numbers { All HasWireNumbers replies.new.items }
+{
     replies.clear();
     replies.push(delayed(name, number));
 }
 
-/// The notice that nothing could be done with a name now.
-fn delayed(name: Name, number: u32) -> Reply {
+/// The notice that nothing can be done with a name now.
+fn delayed(name: Name, number: u32) -> Reply
+    requires range { number ≤ last_number Second }
+    ensures reply { reply_of result ≡ Noticed name number DelayedStore 0 }
+    ensures numbers { HasWireNumbers result }
+{
     Reply::Notice {
         name,
         number,

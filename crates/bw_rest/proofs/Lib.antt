@@ -1,0 +1,10 @@
+pub mod LogEnds
+pub mod FolderForms
+pub mod FolderRests
+pub mod FolderWakes
+pub mod FolderTurns
+pub mod RestRuns
+pub mod PrepareForms
+pub mod MakingForms
+pub mod FoundForms
+pub mod OwnRuns

@@ -1,0 +1,52 @@
+-- Frames one after another, over a folder in which names rest.
+use Rattle.std.proofs.Common.{◌≡◌, List, [], ◌∷◌, refl, sym, ◌∙◌, ap, subst, inl, inr}
+use Rattle.bw_model.specs.Replies.{Reply}
+use Rattle.bw_model.specs.Wire.{Frame}
+use Rattle.bw_store.specs.declared.store.TakeStore.{Ghosts as StoreGhosts}
+use Rattle.bw_journal.specs.declared.journal.Journal.{Ghosts as JournalGhosts}
+use Rattle.bw_session.specs.Books.{failures_of}
+use Rattle.bw_session.specs.declared.server.Server.{Server}
+use Rattle.bw_rest.specs.Folders.{HoldsFolder}
+use Rattle.bw_rest.specs.Resting.{RestingTurn, FolderTurn}
+use Rattle.bw_rest.specs.Runs.{RestsOn, RunsRestOn}
+
+module _ {X Y : Type 0} (S : StoreGhosts X) (J : JournalGhosts Y) where
+  -- a turn leaves store and journal as honest as they were
+  honest_then : (old new : Server X Y S J) (f : Frame) (replies : List Reply) → RestingTurn S J old f replies new →
+      (S.honest new.stores.store ≡ S.honest old.stores.store)
+      × (J.honest new.stores.journal ≡ J.honest old.stores.journal)
+  honest_then old new f replies t = elim (t.answered) [
+    | inl served ↦ (
+      served.1.honest ∙ ap S.honest t.prepared.store,
+      served.1.honest_notes ∙ t.prepared.honest,
+    )
+    | inr off ↦ (
+      ap (λ (s : Server X Y S J). S.honest s.stores.store) off.1 ∙ ap S.honest t.prepared.store,
+      ap (λ (s : Server X Y S J). J.honest s.stores.journal) off.1 ∙ t.prepared.honest,
+    )
+  ]
+
+  pub runs_rest_on : RunsRestOn S J
+  runs_rest_on old new [] same honest honest_notes first book h = record {
+    later = book;
+    held = subst (λ (s : Server X Y S J). HoldsFolder S J first s book) (sym same) h;
+    turned = (ap (failures_of S J) same, refl);
+  }
+  runs_rest_on old new (a ∷ rest) (mid, t, more) honest honest_notes first book h =
+      let turn : FolderTurn S J first old mid book a.frame a.replies = t.turned honest honest_notes first book h in
+      let kept = honest_then old mid a.frame a.replies t in
+      let on : RestsOn S J first mid new turn.later rest =
+      runs_rest_on mid new rest more (kept.0 ∙ honest) (kept.1 ∙ honest_notes) first turn.later turn.held in
+      record {
+        later = on.later;
+        held = on.held;
+        turned = (
+          failures_of S J mid,
+          turn.later,
+          elim (turn.turned) [
+            | inl served ↦ inl (turn.full, served)
+            | inr off ↦ inr (off.1.answered, off.1.left)
+          ],
+          on.turned,
+        );
+      }

@@ -1,0 +1,21 @@
+use Rattle.std.proofs.Common.{sym, ◌∙◌}
+use Rattle.bw_rest.proofs.room.room_after.Goals as goal
+
+pub returns-else-full-clause-place : goal.returns-else-full-clause-place
+returns-else-full-clause-place g c = λ free first book h. sym (c.is_full-full.ensures.value first book h) ∙ c.if-full.false
+
+pub returns-then-full-2-clause-refused : goal.returns-then-full-2-clause-refused
+returns-then-full-2-clause-refused g c = λ refused first book h.
+    sym (c.is_full-full.ensures.value first book h) ∙ c.if-full-2.true
+
+pub returns-else-full-2-clause-place : goal.returns-else-full-2-clause-place
+returns-else-full-2-clause-place g c = λ free first book h.
+    sym (c.is_full-full.ensures.value first book h) ∙ c.if-full-2.false
+
+pub returns-then-full-3-clause-refused : goal.returns-then-full-3-clause-refused
+returns-then-full-3-clause-refused g c = λ refused first book h.
+    sym (c.is_full-full.ensures.value first book h) ∙ c.if-full-3.true
+
+pub returns-else-full-3-clause-place : goal.returns-else-full-3-clause-place
+returns-else-full-3-clause-place g c = λ free first book h.
+    sym (c.is_full-full.ensures.value first book h) ∙ c.if-full-3.false

@@ -1,0 +1,32 @@
+-- Runs of a server over a folder in which names rest.
+use Rattle.std.specs.Prelude.{◌≡◌, ℕ, Bool, not, ◌&&◌, Option, is_some, IsTrue, List, [], ◌∷◌, map, filter}
+use Rattle.bw_model.specs.Wire.{Frame}
+use Rattle.bw_model.specs.Replies.{Reply}
+use Rattle.bw_model.specs.Book.{Book, log_of, is_known}
+use Rattle.bw_model.specs.Turn.{Faults, run, book_after, is_of, is_turned_away}
+use Rattle.bw_exchange.specs.Answering.{Answered, AnswersAll}
+use Rattle.bw_exchange.specs.TurnRuns.{answers_in}
+use Rattle.bw_store.specs.declared.store.TakeStore.{Ghosts as StoreGhosts}
+use Rattle.bw_journal.specs.declared.journal.Journal.{Ghosts as JournalGhosts}
+use Rattle.bw_session.specs.Books.{failures_of}
+use Rattle.bw_session.specs.declared.server.Server.{Server}
+use Rattle.bw_rest.specs.Folders.{HoldsFolder}
+use Rattle.bw_rest.specs.Folding.{IsFolderRun}
+use Rattle.bw_rest.specs.Resting.{RestingTurn}
+
+module _ {X Y : Type 0} (S : StoreGhosts X) (J : JournalGhosts Y) where
+  -- The frames were served or put off, each on the folder's book that the one before left, and the
+  -- server, with what rests, holds the last of these.
+  pub record RestsOn (first : List ℕ → Option (List ℕ)) (old new : Server X Y S J) (book : Book)
+      (answered : List Answered) : Type 0 where
+    pub later : Book
+    pub held : HoldsFolder S J first new later
+    pub turned : IsFolderRun (λ name. is_some (first name)) (failures_of S J old)
+        (failures_of S J new) book answered later
+
+  -- so it is after any frames, over honest store and journal
+  abbrev pub RunsRestOn : Type 0
+  RunsRestOn = (old new : Server X Y S J) (answered : List Answered) →
+      AnswersAll (RestingTurn S J) old answered new → IsTrue (S.honest old.stores.store) →
+      IsTrue (J.honest old.stores.journal) → (first : List ℕ → Option (List ℕ)) (book : Book) →
+      HoldsFolder S J first old book → RestsOn first old new book answered

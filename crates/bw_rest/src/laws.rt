@@ -1,0 +1,20 @@
+//! Laws of servers whose names rest. Each function's contract is one; nothing runs.
+ghost use Rattle.bw_rest.specs.OwnRuns.{NamesRunAlone};
+ghost use Rattle.bw_rest.specs.Runs.{RunsRestOn};
+
+use bw_journal::Journal;
+use bw_store::TakeStore;
+
+/// Whatever frames come: the server, with what rests, holds a book of the folder, and this follows
+/// from the definitions' turns on it as if no name had ever rested.
+pub fn law_rests_on<S: TakeStore, J: Journal>()
+    ensures { RunsRestOn S.TakeStore J.Journal }
+{}
+
+/// One name's frames, but for those put off or turned away for lack of room, are a run of the
+/// definitions on the book of this name alone, as if no name had ever rested: with the same
+/// replies, so that a repeat gets its first verdict, and with the same log.
+#[tactic(auto, using(crate::proofs::OwnRuns::names_run_alone))]
+pub fn law_names_alone()
+    ensures { NamesRunAlone }
+{}
