@@ -17,16 +17,16 @@ pub(crate) struct ReplayStore {
     fuse: Option<u32>,
     /// A call other than the fuse's failed.
     failed: bool,
-    ghost counts: { KeepsFuse fuse failed store.fuses.items
-        store.call_counter.calls store.call_counter.failures },
-    ghost took: { SufficeForAll (content_under store.inner.files) store.call_counter.calls },
+    ghost counts: { KeepsFuse fuse failed store.fuses
+        store.calls store.failures },
+    ghost took: { SufficeForAll (content_under store.inner.files) store.calls },
 }
 
 impl ReplayStore {
     /// An empty store that has had no call.
     pub(crate) fn new(alloc: Global, fuse: Option<u32>) -> Result<ReplayStore, AllocError>
-        ensures failures { IfOk result (λ s. s.store.call_counter.failures ≡ 0) }
-        ensures calls { IfOk result (λ s. s.store.call_counter.calls ≡ 0) }
+        ensures failures { IfOk result (λ s. s.store.failures ≡ 0) }
+        ensures calls { IfOk result (λ s. s.store.calls ≡ 0) }
         ensures empty { IfOk result (λ s. (name : List ℕ) →
             content_under s.store.inner.files name ≡ None) }
     {
@@ -50,15 +50,15 @@ impl ReplayStore {
 
     /// Whether the store has this fuse, and no call failed but the fuse's.
     pub(crate) fn kept_to(&self, fuse: Option<u32>) -> bool
-        ensures { IsTrue result → self.now.store.call_counter.failures
-            ≡ failures_under fuse self.now.store.call_counter.calls }
+        ensures { IsTrue result → self.now.store.failures
+            ≡ failures_under fuse self.now.store.calls }
     {
         self.fuse == fuse && !self.failed
     }
 
     /// Whether the next call is the fuse's.
     fn is_at_fuse(&self) -> bool
-        ensures { result ≡ is_at self.now.fuse self.now.store.call_counter.calls }
+        ensures { result ≡ is_at self.now.fuse self.now.store.calls }
     {
         match self.fuse {
             Some(fuse) => u64::from(fuse) == self.store.calls(),
@@ -70,9 +70,9 @@ impl ReplayStore {
 impl TakeStore for ReplayStore {
     ghost contents = { λ s name. content_under s.store.inner.files name };
 
-    ghost failures = { λ s. s.store.call_counter.failures };
+    ghost failures = { λ s. s.store.failures };
 
-    ghost calls = { λ s. s.store.call_counter.calls };
+    ghost calls = { λ s. s.store.calls };
 
     ghost honest = { λ s. true };
 

@@ -4,3 +4,6 @@ pub mod FileWrites
 pub mod Volumes
 pub mod DiskSteps
 pub mod ReadFaults
+pub mod MortalDisks
+pub mod SystemDisks
+pub mod MemoryVolumes

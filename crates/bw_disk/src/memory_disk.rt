@@ -64,17 +64,20 @@ impl MemoryDisk {
 }
 
 impl Disk for MemoryDisk {
+    ghost use Rattle.bw_disk.specs.MemoryVolumes.{files_on, disk_content, disk_synced, open_path};
+    ghost use Rattle.bw_disk.specs.MemoryVolumes.{disk_calls, disk_failures};
+
     type File = MemoryFile;
 
-    ghost contents = { λ d path. content_at d.files.items path };
+    ghost contents = { disk_content };
 
-    ghost synced = { λ d path. synced_at d.files.items path };
+    ghost synced = { disk_synced };
 
-    ghost path_of = { λ file. string_bytes file.path };
+    ghost path_of = { open_path };
 
-    ghost failures = { λ d. d.call_counter.failures };
+    ghost failures = { disk_failures };
 
-    ghost calls = { λ d. d.call_counter.calls };
+    ghost calls = { disk_calls };
 
     ghost honest = { λ d. true };
 
@@ -87,19 +90,19 @@ impl Disk for MemoryDisk {
     /// # Not specified
     /// When memory is refused.
     fn create_new(&mut self, path: &str) -> Result<Option<MemoryFile>, DiskFault>
-        ensures failures { Counts self.old.call_counter.failures self.new.call_counter.failures (is_err result) }
-        ensures calls { Counts self.old.call_counter.calls self.new.call_counter.calls true }
+        ensures failures { Counts (disk_failures self.old) (disk_failures self.new) (is_err result) }
+        ensures calls { Counts (disk_calls self.old) (disk_calls self.new) true }
         ensures path { IfOk result (λ made.
-            IfSome made (λ file. string_bytes file.path ≡ path.now)) }
+            IfSome made (λ file. open_path file ≡ path.now)) }
         ensures made { IfOk result (λ made. Makes made
-            (content_at self.old.files.items path.now)
-            (content_at self.new.files.items path.now)) }
-        ensures failed { OnErr result (self.new.files.items ≡ self.old.files.items) }
+            (disk_content self.old path.now)
+            (disk_content self.new path.now)) }
+        ensures failed { OnErr result (files_on self.new ≡ files_on self.old) }
         ensures others { KeepsOthers
-            (content_at self.old.files.items) (content_at self.new.files.items) path.now }
+            (disk_content self.old) (disk_content self.new) path.now }
         ensures synced { (other : List ℕ) →
-            synced_at self.new.files.items other ≡ synced_at self.old.files.items other }
-        ensures stands { IsSome (content_at self.old.files.items path.now) → IsOk result }
+            disk_synced self.new other ≡ disk_synced self.old other }
+        ensures stands { IsSome (disk_content self.old path.now) → IsOk result }
     {
         let answer = make(&mut self.files, self.alloc, path);
         self.call_counter.count(answer.is_err());
@@ -120,20 +123,20 @@ impl Disk for MemoryDisk {
         offset: u64,
         bytes: &[u8],
     ) -> Result<(), DiskFault>
-        ensures failures { Counts self.old.call_counter.failures self.new.call_counter.failures (is_err result) }
-        ensures calls { Counts self.old.call_counter.calls self.new.call_counter.calls true }
+        ensures failures { Counts (disk_failures self.old) (disk_failures self.new) (is_err result) }
+        ensures calls { Counts (disk_calls self.old) (disk_calls self.new) true }
         ensures path { file.new ≡ file.old }
         ensures written { OnOk result (Written
-            (content_at self.old.files.items (string_bytes file.old.path)) offset bytes.now
-            (content_at self.new.files.items (string_bytes file.old.path))) }
+            (disk_content self.old (open_path file.old)) offset bytes.now
+            (disk_content self.new (open_path file.old))) }
         ensures failed { OnErr result
-            (content_at self.new.files.items (string_bytes file.old.path)
-            ≡ content_at self.old.files.items (string_bytes file.old.path)) }
-        ensures others { KeepsOthers (content_at self.old.files.items)
-            (content_at self.new.files.items) (string_bytes file.old.path) }
+            (disk_content self.new (open_path file.old)
+            ≡ disk_content self.old (open_path file.old)) }
+        ensures others { KeepsOthers (disk_content self.old)
+            (disk_content self.new) (open_path file.old) }
         ensures synced { (other : List ℕ) →
-            synced_at self.new.files.items other ≡ synced_at self.old.files.items other }
-        ensures over { IfSome (content_at self.old.files.items (string_bytes file.old.path))
+            disk_synced self.new other ≡ disk_synced self.old other }
+        ensures over { IfSome (disk_content self.old (open_path file.old))
             (λ old. offset + length bytes.now ≤ length old → IsOk result) }
     {
         let answer = write(&mut self.files, file.path.as_str(), offset, bytes);
@@ -149,16 +152,16 @@ impl Disk for MemoryDisk {
     /// # Not specified
     /// That it succeeds if the file is there and there is memory.
     fn sync(&mut self, file: &MemoryFile) -> Result<(), DiskFault>
-        ensures failures { Counts self.old.call_counter.failures self.new.call_counter.failures (is_err result) }
-        ensures calls { Counts self.old.call_counter.calls self.new.call_counter.calls true }
+        ensures failures { Counts (disk_failures self.old) (disk_failures self.new) (is_err result) }
+        ensures calls { Counts (disk_calls self.old) (disk_calls self.new) true }
         ensures unchanged { (other : List ℕ) →
-            content_at self.new.files.items other ≡ content_at self.old.files.items other }
+            disk_content self.new other ≡ disk_content self.old other }
         ensures synced { Syncs result
-            (content_at self.old.files.items (string_bytes file.now.path))
-            (synced_at self.old.files.items) (synced_at self.new.files.items)
-            (string_bytes file.now.path) }
+            (disk_content self.old (open_path file.now))
+            (disk_synced self.old) (disk_synced self.new)
+            (open_path file.now) }
         ensures stands { OnOk result
-            (IsSome (content_at self.old.files.items (string_bytes file.now.path))) }
+            (IsSome (disk_content self.old (open_path file.now))) }
     {
         let answer = keep(&mut self.files, self.alloc, file.path.as_str());
         self.call_counter.count(answer.is_err());

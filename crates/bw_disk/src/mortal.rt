@@ -10,6 +10,7 @@ ghost use Rattle.bw_disk.specs.Volumes.{Moves, Renames, Lists, KeepsEach, KeepsA
 use crate::disk::{Disk, DiskFault};
 use crate::volume::Volume;
 use bw_store::CallCounter;
+use std::marker::Model;
 
 /// A disk that is as the inner one up to the call of a chosen number, counted from 0, in which it
 /// dies: that call and each later one fails, and the later ones change nothing.
@@ -27,14 +28,28 @@ pub struct MortalDisk<D: Volume> {
     call_counter: CallCounter,
 }
 
+impl<D: Volume> Model for MortalDisk<D> {
+    ghost use Rattle.bw_disk.specs.MortalDisks.{Mortal};
+
+    ghost Value = { Mortal D };
+
+    ghost view = { λ d. record {
+      inner = d.inner;
+      life = d.life;
+      reached = d.reached;
+      calls = d.call_counter.calls;
+      failures = d.call_counter.failures;
+    } };
+}
+
 impl<D: Volume> MortalDisk<D> {
     /// A disk that dies in the call after `life` others, of which `reached` bytes are written.
     pub fn new(inner: D, life: u64, reached: usize) -> MortalDisk<D>
         ensures inner { result.inner ≡ inner }
         ensures life { result.life ≡ life }
         ensures reached { result.reached ≡ reached }
-        ensures calls { result.call_counter.calls ≡ 0 }
-        ensures failures { result.call_counter.failures ≡ 0 }
+        ensures calls { result.calls ≡ 0 }
+        ensures failures { result.failures ≡ 0 }
     {
         MortalDisk {
             inner,
@@ -46,14 +61,14 @@ impl<D: Volume> MortalDisk<D> {
 
     /// How many calls there were, failed ones included.
     pub fn calls(&self) -> u64
-        ensures { result ≡ self.now.call_counter.calls }
+        ensures { result ≡ self.now.calls }
     {
         self.call_counter.calls()
     }
 
     /// Whether it has died.
     pub fn is_dead(&self) -> bool
-        ensures { IsTrue result ↔ (self.now.life < self.now.call_counter.calls) }
+        ensures { IsTrue result ↔ (self.now.life < self.now.calls) }
     {
         self.call_counter.calls() > self.life
     }
@@ -80,7 +95,7 @@ impl<D: Volume> MortalDisk<D> {
 
     /// Whether the next call is one of the inner disk.
     fn is_alive(&self) -> bool
-        ensures { IsTrue result ↔ (self.now.call_counter.calls < self.now.life) }
+        ensures { IsTrue result ↔ (self.now.calls < self.now.life) }
     {
         self.call_counter.calls() < self.life
     }
@@ -88,14 +103,14 @@ impl<D: Volume> MortalDisk<D> {
     /// Whether it dies in the next call, and that call is done if it can't be done in part.
     fn succeeds_unseen(&self) -> bool
         ensures { IsTrue result ↔
-            ((self.now.call_counter.calls ≡ self.now.life) × (0 < self.now.reached)) }
+            ((self.now.calls ≡ self.now.life) × (0 < self.now.reached)) }
     {
         self.call_counter.calls() == self.life && self.reached > 0
     }
 
     /// Whether it dies in the next call.
     fn is_dying(&self) -> bool
-        ensures { IsTrue result ↔ (self.now.call_counter.calls ≡ self.now.life) }
+        ensures { IsTrue result ↔ (self.now.calls ≡ self.now.life) }
     {
         self.call_counter.calls() == self.life
     }
@@ -110,9 +125,9 @@ impl<D: Volume> Disk for MortalDisk<D> {
 
     ghost path_of = { λ file. D.path_of file };
 
-    ghost failures = { λ d. d.call_counter.failures };
+    ghost failures = { λ d. d.failures };
 
-    ghost calls = { λ d. d.call_counter.calls };
+    ghost calls = { λ d. d.calls };
 
     ghost honest = { λ d. D.honest d.inner };
 
@@ -122,9 +137,9 @@ impl<D: Volume> Disk for MortalDisk<D> {
     /// `DiskFault` if the inner call failed, or the disk dies or is dead: the inner disk isn't
     /// called then.
     fn create_new(&mut self, path: &str) -> Result<Option<D::File>, DiskFault>
-        ensures call { IsOneCall (λ d. d.call_counter.calls) (λ d. d.call_counter.failures)
+        ensures call { IsOneCall (λ d. d.calls) (λ d. d.failures)
             self.old self.new (is_err result) }
-        ensures lives { LivesUntil D.Disk self.old.life self.old.call_counter.calls (is_err result)
+        ensures lives { LivesUntil D.Disk self.old.life self.old.calls (is_err result)
             self.old.inner self.new.inner }
         ensures span { (self.new.life ≡ self.old.life) × (self.new.reached ≡ self.old.reached) }
         ensures path { IsTrue (D.honest self.old.inner) →
@@ -151,12 +166,12 @@ impl<D: Volume> Disk for MortalDisk<D> {
     /// `DiskFault` if the inner call failed, or the disk dies or is dead: the inner disk isn't
     /// called once it is dead.
     fn write_at(&mut self, file: &mut D::File, offset: u64, bytes: &[u8]) -> Result<(), DiskFault>
-        ensures call { IsOneCall (λ d. d.call_counter.calls) (λ d. d.call_counter.failures)
+        ensures call { IsOneCall (λ d. d.calls) (λ d. d.failures)
             self.old self.new (is_err result) }
-        ensures lives { LivesUntil D.Disk self.old.life self.old.call_counter.calls (is_err result)
+        ensures lives { LivesUntil D.Disk self.old.life self.old.calls (is_err result)
             self.old.inner self.new.inner }
         ensures span { (self.new.life ≡ self.old.life) × (self.new.reached ≡ self.old.reached) }
-        ensures share { self.old.call_counter.calls ≡ self.old.life → WritesItsShare D.Disk
+        ensures share { self.old.calls ≡ self.old.life → WritesItsShare D.Disk
             (D.path_of file.old) offset bytes.now self.old.reached self.old.inner self.new.inner }
         ensures path { D.path_of file.new ≡ D.path_of file.old }
         ensures written { IsTrue (D.honest self.old.inner) → OnOk result (Written
@@ -185,9 +200,9 @@ impl<D: Volume> Disk for MortalDisk<D> {
     /// `DiskFault` if the inner call failed, or the disk dies or is dead: the inner disk isn't
     /// called then.
     fn sync(&mut self, file: &D::File) -> Result<(), DiskFault>
-        ensures call { IsOneCall (λ d. d.call_counter.calls) (λ d. d.call_counter.failures)
+        ensures call { IsOneCall (λ d. d.calls) (λ d. d.failures)
             self.old self.new (is_err result) }
-        ensures lives { LivesUntil D.Disk self.old.life self.old.call_counter.calls (is_err result)
+        ensures lives { LivesUntil D.Disk self.old.life self.old.calls (is_err result)
             self.old.inner self.new.inner }
         ensures span { (self.new.life ≡ self.old.life) × (self.new.reached ≡ self.old.reached) }
         ensures honest { D.honest self.new.inner ≡ D.honest self.old.inner }
@@ -253,9 +268,9 @@ impl<D: Volume> Volume for MortalDisk<D> {
     /// `DiskFault` if the inner call failed, or the disk dies or is dead: the inner disk isn't
     /// called then.
     fn open(&mut self, path: &str) -> Result<Option<D::File>, DiskFault>
-        ensures call { IsOneCall (λ d. d.call_counter.calls) (λ d. d.call_counter.failures)
+        ensures call { IsOneCall (λ d. d.calls) (λ d. d.failures)
             self.old self.new (is_err result) }
-        ensures lives { LivesUntil D.Disk self.old.life self.old.call_counter.calls (is_err result)
+        ensures lives { LivesUntil D.Disk self.old.life self.old.calls (is_err result)
             self.old.inner self.new.inner }
         ensures span { (self.new.life ≡ self.old.life) × (self.new.reached ≡ self.old.reached) }
         ensures found { IsTrue (D.honest self.old.inner) → IfOk result
@@ -277,9 +292,9 @@ impl<D: Volume> Volume for MortalDisk<D> {
     /// `DiskFault` if the inner call failed, or the disk dies or is dead: the inner disk isn't
     /// called then.
     fn len(&mut self, file: &D::File) -> Result<u64, DiskFault>
-        ensures call { IsOneCall (λ d. d.call_counter.calls) (λ d. d.call_counter.failures)
+        ensures call { IsOneCall (λ d. d.calls) (λ d. d.failures)
             self.old self.new (is_err result) }
-        ensures lives { LivesUntil D.Disk self.old.life self.old.call_counter.calls (is_err result)
+        ensures lives { LivesUntil D.Disk self.old.life self.old.calls (is_err result)
             self.old.inner self.new.inner }
         ensures span { (self.new.life ≡ self.old.life) × (self.new.reached ≡ self.old.reached) }
         ensures value { IsTrue (D.honest self.old.inner) → IfOk result (λ len.
@@ -306,9 +321,9 @@ impl<D: Volume> Volume for MortalDisk<D> {
         offset: u64,
         room: &mut [u8],
     ) -> Result<usize, DiskFault>
-        ensures call { IsOneCall (λ d. d.call_counter.calls) (λ d. d.call_counter.failures)
+        ensures call { IsOneCall (λ d. d.calls) (λ d. d.failures)
             self.old self.new (is_err result) }
-        ensures lives { LivesUntil D.Disk self.old.life self.old.call_counter.calls (is_err result)
+        ensures lives { LivesUntil D.Disk self.old.life self.old.calls (is_err result)
             self.old.inner self.new.inner }
         ensures span { (self.new.life ≡ self.old.life) × (self.new.reached ≡ self.old.reached) }
         ensures path { D.path_of file.new ≡ D.path_of file.old }
@@ -334,12 +349,12 @@ impl<D: Volume> Volume for MortalDisk<D> {
     /// `DiskFault` if the inner call failed, or the disk dies or is dead: the inner disk isn't
     /// called once it is dead.
     fn append(&mut self, file: &mut D::File, offset: u64, bytes: &[u8]) -> Result<(), DiskFault>
-        ensures call { IsOneCall (λ d. d.call_counter.calls) (λ d. d.call_counter.failures)
+        ensures call { IsOneCall (λ d. d.calls) (λ d. d.failures)
             self.old self.new (is_err result) }
-        ensures lives { LivesUntil D.Disk self.old.life self.old.call_counter.calls (is_err result)
+        ensures lives { LivesUntil D.Disk self.old.life self.old.calls (is_err result)
             self.old.inner self.new.inner }
         ensures span { (self.new.life ≡ self.old.life) × (self.new.reached ≡ self.old.reached) }
-        ensures share { self.old.call_counter.calls ≡ self.old.life → WritesItsShare D.Disk
+        ensures share { self.old.calls ≡ self.old.life → WritesItsShare D.Disk
             (D.path_of file.old) offset bytes.now self.old.reached self.old.inner self.new.inner }
         ensures path { D.path_of file.new ≡ D.path_of file.old }
         ensures written { IsTrue (D.honest self.old.inner) → OnOk result (Written
@@ -369,9 +384,9 @@ impl<D: Volume> Volume for MortalDisk<D> {
     /// `DiskFault` if the inner call failed, or the disk dies or is dead: the inner disk isn't
     /// called once it is dead.
     fn cut(&mut self, file: &mut D::File, len: u64) -> Result<(), DiskFault>
-        ensures call { IsOneCall (λ d. d.call_counter.calls) (λ d. d.call_counter.failures)
+        ensures call { IsOneCall (λ d. d.calls) (λ d. d.failures)
             self.old self.new (is_err result) }
-        ensures lives { LivesUntil D.Disk self.old.life self.old.call_counter.calls (is_err result)
+        ensures lives { LivesUntil D.Disk self.old.life self.old.calls (is_err result)
             self.old.inner self.new.inner }
         ensures span { (self.new.life ≡ self.old.life) × (self.new.reached ≡ self.old.reached) }
         ensures path { D.path_of file.new ≡ D.path_of file.old }
@@ -402,9 +417,9 @@ impl<D: Volume> Volume for MortalDisk<D> {
     /// `DiskFault` if the inner call failed, or the disk dies or is dead: the inner disk isn't
     /// called once it is dead.
     fn rename(&mut self, from: &str, to: &str) -> Result<bool, DiskFault>
-        ensures call { IsOneCall (λ d. d.call_counter.calls) (λ d. d.call_counter.failures)
+        ensures call { IsOneCall (λ d. d.calls) (λ d. d.failures)
             self.old self.new (is_err result) }
-        ensures lives { LivesUntil D.Disk self.old.life self.old.call_counter.calls (is_err result)
+        ensures lives { LivesUntil D.Disk self.old.life self.old.calls (is_err result)
             self.old.inner self.new.inner }
         ensures span { (self.new.life ≡ self.old.life) × (self.new.reached ≡ self.old.reached) }
         ensures honest { D.honest self.new.inner ≡ D.honest self.old.inner }
@@ -434,9 +449,9 @@ impl<D: Volume> Volume for MortalDisk<D> {
     /// `DiskFault` if the inner call failed, or the disk dies or is dead: the inner disk isn't
     /// called then.
     fn list(&mut self, folder: &str) -> Result<Vec<String>, DiskFault>
-        ensures call { IsOneCall (λ d. d.call_counter.calls) (λ d. d.call_counter.failures)
+        ensures call { IsOneCall (λ d. d.calls) (λ d. d.failures)
             self.old self.new (is_err result) }
-        ensures lives { LivesUntil D.Disk self.old.life self.old.call_counter.calls (is_err result)
+        ensures lives { LivesUntil D.Disk self.old.life self.old.calls (is_err result)
             self.old.inner self.new.inner }
         ensures span { (self.new.life ≡ self.old.life) × (self.new.reached ≡ self.old.reached) }
         ensures names { IsTrue (D.honest self.old.inner) → IfOk result (λ names.
@@ -458,9 +473,9 @@ impl<D: Volume> Volume for MortalDisk<D> {
     /// `DiskFault` if the inner call failed, or the disk dies or is dead: the inner disk isn't
     /// called then.
     fn sync_data(&mut self, file: &D::File) -> Result<(), DiskFault>
-        ensures call { IsOneCall (λ d. d.call_counter.calls) (λ d. d.call_counter.failures)
+        ensures call { IsOneCall (λ d. d.calls) (λ d. d.failures)
             self.old self.new (is_err result) }
-        ensures lives { LivesUntil D.Disk self.old.life self.old.call_counter.calls (is_err result)
+        ensures lives { LivesUntil D.Disk self.old.life self.old.calls (is_err result)
             self.old.inner self.new.inner }
         ensures span { (self.new.life ≡ self.old.life) × (self.new.reached ≡ self.old.reached) }
         ensures honest { D.honest self.new.inner ≡ D.honest self.old.inner }
@@ -485,9 +500,9 @@ impl<D: Volume> Volume for MortalDisk<D> {
     /// `DiskFault` if the inner call failed, or the disk dies or is dead: the inner disk isn't
     /// called then.
     fn sync_folder(&mut self, folder: &str) -> Result<(), DiskFault>
-        ensures call { IsOneCall (λ d. d.call_counter.calls) (λ d. d.call_counter.failures)
+        ensures call { IsOneCall (λ d. d.calls) (λ d. d.failures)
             self.old self.new (is_err result) }
-        ensures lives { LivesUntil D.Disk self.old.life self.old.call_counter.calls (is_err result)
+        ensures lives { LivesUntil D.Disk self.old.life self.old.calls (is_err result)
             self.old.inner self.new.inner }
         ensures span { (self.new.life ≡ self.old.life) × (self.new.reached ≡ self.old.reached) }
         ensures rest { StaysWhole D.Disk self.old.inner self.new.inner }

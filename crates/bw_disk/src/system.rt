@@ -8,6 +8,7 @@ use bw_store::CallCounter;
 use std::fs::{File, Files, OpenFile};
 use std::io;
 use std::io::{ErrorKind, Seek, SeekFrom, Write};
+use std::marker::Model;
 
 /// The files of the system, by the calls of std.
 ///
@@ -24,6 +25,18 @@ pub struct SystemDisk<R> {
     pub(crate) call_counter: CallCounter,
 }
 
+impl<R> Model for SystemDisk<R> {
+    ghost use Rattle.bw_disk.specs.SystemDisks.{OfSystem};
+
+    ghost Value = { OfSystem R };
+
+    ghost view = { λ d. record {
+      rt = d.rt;
+      calls = d.call_counter.calls;
+      failures = d.call_counter.failures;
+    } };
+}
+
 impl<R> SystemDisk<R> {
     /// The disk that a runtime gives.
     ///
@@ -32,8 +45,8 @@ impl<R> SystemDisk<R> {
     /// are proved: no clause says that they call std; only runs show it.
     pub fn new(rt: R) -> SystemDisk<R>
         ensures rt { result.rt ≡ rt }
-        ensures failures { result.call_counter.failures ≡ 0 }
-        ensures calls { result.call_counter.calls ≡ 0 }
+        ensures failures { result.failures ≡ 0 }
+        ensures calls { result.calls ≡ 0 }
     {
         SystemDisk {
             rt,
@@ -51,9 +64,9 @@ impl<R: Files + Drop> Disk for SystemDisk<R> {
 
     ghost path_of = { λ file. [] };
 
-    ghost failures = { λ d. d.call_counter.failures };
+    ghost failures = { λ d. d.failures };
 
-    ghost calls = { λ d. d.call_counter.calls };
+    ghost calls = { λ d. d.calls };
 
     ghost honest = { λ d. false };
 
@@ -75,7 +88,7 @@ impl<R: Files + Drop> Disk for SystemDisk<R> {
     /// # Not specified
     /// After a failed write that a seek came before: what the file holds, and its position.
     fn write_at(&mut self, file: &mut R::File, offset: u64, bytes: &[u8]) -> Result<(), DiskFault>
-        ensures call { IsOneCall (λ d. d.call_counter.calls) (λ d. d.call_counter.failures) self.old self.new
+        ensures call { IsOneCall (λ d. d.calls) (λ d. d.failures) self.old self.new
             (is_err result) }
         ensures puts { PutsFrom R.File.Seek R.File.Write offset bytes.now file.old file.new result }
     {

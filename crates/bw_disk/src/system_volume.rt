@@ -58,7 +58,7 @@ impl<R: Files + AllocGlobal + Clone + Drop> Volume for SystemDisk<R> {
     /// # Not specified
     /// After a failed write that a seek came before: what the file holds, and its position.
     fn append(&mut self, file: &mut R::File, offset: u64, bytes: &[u8]) -> Result<(), DiskFault>
-        ensures call { IsOneCall (λ d. d.call_counter.calls) (λ d. d.call_counter.failures) self.old self.new
+        ensures call { IsOneCall (λ d. d.calls) (λ d. d.failures) self.old self.new
             (is_err result) }
         ensures puts { PutsFrom R.File.Seek R.File.Write offset bytes.now file.old file.new result }
     {

@@ -12,6 +12,16 @@ use Rattle.bw_store.specs.declared.store.TakeStore.{Ghosts}
 abbrev pub has_fuse : List ℕ → ℕ → Bool
 has_fuse fuses call = list_any (λ f. f == call) fuses
 
+-- What is seen of a store with fuses: the inner store, the numbers of the calls that are still to
+-- fail, whether one has failed so, how many bytes calls that succeeded have written, and the counts.
+pub record Fused (X : Type 0) : Type 0 where
+  pub inner : X
+  pub fuses : List ℕ
+  pub blown : Bool
+  pub written : ℕ
+  pub calls : ℕ
+  pub failures : ℕ
+
 -- A call fails at its fuse; without one it fails exactly if the inner store's call fails.
 pub record Blows (fused fails : Bool) (inner_before inner_after : ℕ) : Type 0 where
   pub at_fuse : IsTrue fused → IsTrue fails

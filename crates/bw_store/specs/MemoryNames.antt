@@ -1,11 +1,24 @@
--- The names in a memory store.
+-- What is seen of a store in memory.
 use Rattle.std.specs.Prelude.{ℕ, List, Option, IsSome, ◌↔◌}
 use Rattle.std.specs.Ordering.{nat_cmp}
 use Rattle.std.specs.Cmp.Lexicographic.{slice_cmp}
 use Rattle.std.specs.List.{Contains}
 use Rattle.std.specs.List.Sorted.{IsStrictlySortedBy}
 use Rattle.std.specs.BTreeMap.{keys}
+use Rattle.bw_store.specs.Memory.{content_under}
 use Rattle.bw_store.specs.declared.memory.MemoryStore.{MemoryStore}
+
+-- what the store has under a name
+abbrev pub memory_content : MemoryStore → List ℕ → Option (List ℕ)
+memory_content s name = content_under s.files name
+
+-- how many calls it has got
+abbrev pub memory_calls : MemoryStore → ℕ
+memory_calls s = s.call_counter.calls
+
+-- and how many of them have failed
+abbrev pub memory_failures : MemoryStore → ℕ
+memory_failures s = s.call_counter.failures
 
 -- the names of the files, in their order
 abbrev pub names_of : MemoryStore → List (List ℕ)

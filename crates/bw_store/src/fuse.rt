@@ -11,6 +11,7 @@ ghost use Rattle.bw_store.specs.Fuses.{AsksPassed, WritesHalf};
 use crate::call_counter::CallCounter;
 use crate::store::{Created, StoreFault, TakeStore};
 use bw_request::Name;
+use std::marker::Model;
 
 /// A store with fuses: the calls of chosen numbers, counted from 0, fail, each once.
 ///
@@ -25,14 +26,29 @@ pub struct FuseStore<S: TakeStore> {
     call_counter: CallCounter,
 }
 
+impl<S: TakeStore> Model for FuseStore<S> {
+    ghost use Rattle.bw_store.specs.Fuses.{Fused};
+
+    ghost Value = { Fused S };
+
+    ghost view = { λ s. record {
+      inner = s.inner;
+      fuses = s.fuses.items;
+      blown = s.blown;
+      written = s.written;
+      calls = s.call_counter.calls;
+      failures = s.call_counter.failures;
+    } };
+}
+
 impl<S: TakeStore> FuseStore<S> {
     /// A store whose calls of these numbers fail.
     pub fn new(inner: S, fuses: Vec<u64>) -> FuseStore<S>
         ensures inner { result.inner ≡ inner }
-        ensures fuses { result.fuses.items ≡ fuses.items }
+        ensures fuses { result.fuses ≡ fuses.items }
         ensures blown { result.blown ≡ false }
-        ensures calls { result.call_counter.calls ≡ 0 }
-        ensures failures { result.call_counter.failures ≡ 0 }
+        ensures calls { result.calls ≡ 0 }
+        ensures failures { result.failures ≡ 0 }
         ensures written { result.written ≡ 0 }
     {
         FuseStore {
@@ -46,7 +62,7 @@ impl<S: TakeStore> FuseStore<S> {
 
     /// How many calls there were, failed ones included.
     pub fn calls(&self) -> u64
-        ensures { result ≡ self.now.call_counter.calls }
+        ensures { result ≡ self.now.calls }
     {
         self.call_counter.calls()
     }
@@ -90,9 +106,9 @@ impl<S: TakeStore> FuseStore<S> {
 impl<S: TakeStore> TakeStore for FuseStore<S> {
     ghost contents = { λ s name. S.contents s.inner name };
 
-    ghost failures = { λ s. s.call_counter.failures };
+    ghost failures = { λ s. s.failures };
 
-    ghost calls = { λ s. s.call_counter.calls };
+    ghost calls = { λ s. s.calls };
 
     ghost asked = { λ s. passed_on s.blown (S.asked s.inner) };
 
@@ -108,8 +124,8 @@ impl<S: TakeStore> TakeStore for FuseStore<S> {
     /// Whether a call without a fuse fails as the inner one does, once the inner store's count of
     /// failures is 2^64 - 1.
     fn create(&mut self, name: &Name) -> Result<Created, StoreFault>
-        ensures failures { Counts self.old.call_counter.failures self.new.call_counter.failures (is_err result) }
-        ensures calls { Counts self.old.call_counter.calls self.new.call_counter.calls true }
+        ensures failures { Counts self.old.failures self.new.failures (is_err result) }
+        ensures calls { Counts self.old.calls self.new.calls true }
         ensures asked { AsksPassed (Create name.now ∷ []) self.old.blown
             (S.asked self.old.inner) self.new.blown (S.asked self.new.inner) }
         ensures honest { S.honest self.new.inner ≡ S.honest self.old.inner }
@@ -119,18 +135,18 @@ impl<S: TakeStore> TakeStore for FuseStore<S> {
             (S.contents self.new.inner name.now ≡ S.contents self.old.inner name.now) }
         ensures others { IsTrue (S.honest self.old.inner) →
             KeepsOthers (S.contents self.old.inner) (S.contents self.new.inner) name.now }
-        ensures blows { Blows (has_fuse self.old.fuses.items self.old.call_counter.calls) (is_err result)
+        ensures blows { Blows (has_fuse self.old.fuses self.old.calls) (is_err result)
             (S.failures self.old.inner) (S.failures self.new.inner) }
-        ensures untouched { IsTrue (has_fuse self.old.fuses.items self.old.call_counter.calls) →
+        ensures untouched { IsTrue (has_fuse self.old.fuses self.old.calls) →
             self.new.inner ≡ self.old.inner }
         ensures inner { WasAsked S.TakeStore
-            (unless_fused (has_fuse self.old.fuses.items self.old.call_counter.calls)
+            (unless_fused (has_fuse self.old.fuses self.old.calls)
             (Create name.now ∷ []))
             self.old.inner self.new.inner }
         ensures blown { self.new.blown ≡ (self.old.blown
-            || has_fuse self.old.fuses.items self.old.call_counter.calls) }
-        ensures spent { self.new.fuses.items
-            ≡ filter (λ f. not (f == self.old.call_counter.calls)) self.old.fuses.items }
+            || has_fuse self.old.fuses self.old.calls) }
+        ensures spent { self.new.fuses
+            ≡ filter (λ f. not (f == self.old.calls)) self.old.fuses }
         ensures written { self.new.written ≡ self.old.written }
     {
         let answer = if blow(&mut self.fuses, self.call_counter.calls()) {
@@ -154,8 +170,8 @@ impl<S: TakeStore> TakeStore for FuseStore<S> {
     ///   failures is 2^64 - 1.
     /// - At a fuse, whether the inner store took the half: only its count of failures shows it.
     fn write_at(&mut self, name: &Name, offset: u64, bytes: &[u8]) -> Result<(), StoreFault>
-        ensures failures { Counts self.old.call_counter.failures self.new.call_counter.failures (is_err result) }
-        ensures calls { Counts self.old.call_counter.calls self.new.call_counter.calls true }
+        ensures failures { Counts self.old.failures self.new.failures (is_err result) }
+        ensures calls { Counts self.old.calls self.new.calls true }
         ensures asked { AsksPassed (WriteAt name.now offset (length bytes.now) ∷ []) self.old.blown
             (S.asked self.old.inner) self.new.blown (S.asked self.new.inner) }
         ensures honest { S.honest self.new.inner ≡ S.honest self.old.inner }
@@ -167,18 +183,18 @@ impl<S: TakeStore> TakeStore for FuseStore<S> {
             (S.contents self.new.inner name.now)) }
         ensures others { IsTrue (S.honest self.old.inner) →
             KeepsOthers (S.contents self.old.inner) (S.contents self.new.inner) name.now }
-        ensures blows { Blows (has_fuse self.old.fuses.items self.old.call_counter.calls) (is_err result)
+        ensures blows { Blows (has_fuse self.old.fuses self.old.calls) (is_err result)
             (S.failures self.old.inner) (S.failures self.new.inner) }
-        ensures half { IsTrue (has_fuse self.old.fuses.items self.old.call_counter.calls) →
+        ensures half { IsTrue (has_fuse self.old.fuses self.old.calls) →
             WritesHalf S.TakeStore name.now offset bytes.now self.old.inner self.new.inner }
         ensures inner { WasAsked S.TakeStore
             (WriteAt name.now offset (length (let_through
-            (has_fuse self.old.fuses.items self.old.call_counter.calls) bytes.now)) ∷ [])
+            (has_fuse self.old.fuses self.old.calls) bytes.now)) ∷ [])
             self.old.inner self.new.inner }
         ensures blown { self.new.blown ≡ (self.old.blown
-            || has_fuse self.old.fuses.items self.old.call_counter.calls) }
-        ensures spent { self.new.fuses.items
-            ≡ filter (λ f. not (f == self.old.call_counter.calls)) self.old.fuses.items }
+            || has_fuse self.old.fuses self.old.calls) }
+        ensures spent { self.new.fuses
+            ≡ filter (λ f. not (f == self.old.calls)) self.old.fuses }
         ensures written { self.new.written ≡ (if is_ok result
             then raised self.old.written (length bytes.now)
             else self.old.written) }
@@ -207,25 +223,25 @@ impl<S: TakeStore> TakeStore for FuseStore<S> {
     /// Whether a call without a fuse fails as the inner one does, once the inner store's count of
     /// failures is 2^64 - 1.
     fn finish(&mut self, name: &Name) -> Result<(), StoreFault>
-        ensures failures { Counts self.old.call_counter.failures self.new.call_counter.failures (is_err result) }
-        ensures calls { Counts self.old.call_counter.calls self.new.call_counter.calls true }
+        ensures failures { Counts self.old.failures self.new.failures (is_err result) }
+        ensures calls { Counts self.old.calls self.new.calls true }
         ensures asked { AsksPassed (Finish name.now ∷ []) self.old.blown
             (S.asked self.old.inner) self.new.blown (S.asked self.new.inner) }
         ensures honest { S.honest self.new.inner ≡ S.honest self.old.inner }
         ensures unchanged { IsTrue (S.honest self.old.inner) → (other : List ℕ) →
             S.contents self.new.inner other ≡ S.contents self.old.inner other }
-        ensures blows { Blows (has_fuse self.old.fuses.items self.old.call_counter.calls) (is_err result)
+        ensures blows { Blows (has_fuse self.old.fuses self.old.calls) (is_err result)
             (S.failures self.old.inner) (S.failures self.new.inner) }
-        ensures untouched { IsTrue (has_fuse self.old.fuses.items self.old.call_counter.calls) →
+        ensures untouched { IsTrue (has_fuse self.old.fuses self.old.calls) →
             self.new.inner ≡ self.old.inner }
         ensures inner { WasAsked S.TakeStore
-            (unless_fused (has_fuse self.old.fuses.items self.old.call_counter.calls)
+            (unless_fused (has_fuse self.old.fuses self.old.calls)
             (Finish name.now ∷ []))
             self.old.inner self.new.inner }
         ensures blown { self.new.blown ≡ (self.old.blown
-            || has_fuse self.old.fuses.items self.old.call_counter.calls) }
-        ensures spent { self.new.fuses.items
-            ≡ filter (λ f. not (f == self.old.call_counter.calls)) self.old.fuses.items }
+            || has_fuse self.old.fuses self.old.calls) }
+        ensures spent { self.new.fuses
+            ≡ filter (λ f. not (f == self.old.calls)) self.old.fuses }
         ensures written { self.new.written ≡ self.old.written }
     {
         let answer = if blow(&mut self.fuses, self.call_counter.calls()) {

@@ -21,7 +21,8 @@ pub struct MemoryStore {
 }
 
 impl MemoryStore {
-    ghost use Rattle.bw_store.specs.MemoryNames.{names_of, AreNames};
+    ghost use Rattle.bw_store.specs.MemoryNames.{names_of, AreNames, memory_content};
+    ghost use Rattle.bw_store.specs.MemoryNames.{memory_calls, memory_failures};
 
     /// An empty store.
     pub fn new(alloc: Global) -> MemoryStore
@@ -45,12 +46,13 @@ impl MemoryStore {
     /// # Not specified
     /// When memory is refused.
     pub fn plant(&mut self, name: &Name, bytes: &[u8]) -> Result<(), AllocError>
-        ensures ok { OnOk result (content_under self.new.files name.now ≡ Some bytes.now) }
+        ensures ok { OnOk result (memory_content self.new name.now ≡ Some bytes.now) }
         ensures err { OnErr result
-            (content_under self.new.files name.now ≡ content_under self.old.files name.now) }
+            (memory_content self.new name.now ≡ memory_content self.old name.now) }
         ensures others { KeepsOthers
-            (content_under self.old.files) (content_under self.new.files) name.now }
-        ensures call_counter { self.new.call_counter ≡ self.old.call_counter }
+            (memory_content self.old) (memory_content self.new) name.now }
+        ensures calls { memory_calls self.new ≡ memory_calls self.old }
+        ensures failures { memory_failures self.new ≡ memory_failures self.old }
     {
         let content = bytes.to_vec(self.alloc)?;
         match self.files.insert(name.copy(), content) {
@@ -72,7 +74,7 @@ impl MemoryStore {
     /// How many names are in the store.
     pub fn name_count(&self) -> usize
         ensures count { result ≡ length (names_of self.now) }
-        ensures names { AreNames (names_of self.now) (content_under self.now.files) }
+        ensures names { AreNames (names_of self.now) (memory_content self.now) }
     {
         self.files.keys().len()
     }
@@ -81,18 +83,20 @@ impl MemoryStore {
     /// last.
     pub fn name_at(&self, place: usize) -> Option<&Name>
         ensures name { option_copied result ≡ slice_get (names_of self.now) place }
-        ensures names { AreNames (names_of self.now) (content_under self.now.files) }
+        ensures names { AreNames (names_of self.now) (memory_content self.now) }
     {
         self.files.keys().nth(place)
     }
 }
 
 impl TakeStore for MemoryStore {
-    ghost contents = { λ s name. content_under s.files name };
+    ghost use Rattle.bw_store.specs.MemoryNames.{names_of, memory_content, memory_calls, memory_failures};
 
-    ghost failures = { λ s. s.call_counter.failures };
+    ghost contents = { memory_content };
 
-    ghost calls = { λ s. s.call_counter.calls };
+    ghost failures = { memory_failures };
+
+    ghost calls = { memory_calls };
 
     ghost honest = { λ s. true };
 
@@ -105,16 +109,16 @@ impl TakeStore for MemoryStore {
     /// # Not specified
     /// When memory is refused.
     fn create(&mut self, name: &Name) -> Result<Created, StoreFault>
-        ensures failures { Counts self.old.call_counter.failures self.new.call_counter.failures (is_err result) }
-        ensures calls { Counts self.old.call_counter.calls self.new.call_counter.calls true }
+        ensures failures { Counts (memory_failures self.old) (memory_failures self.new) (is_err result) }
+        ensures calls { Counts (memory_calls self.old) (memory_calls self.new) true }
         ensures created { IfOk result (λ c.
-            Creates c (content_under self.old.files name.now)
-            (content_under self.new.files name.now)) }
+            Creates c (memory_content self.old name.now)
+            (memory_content self.new name.now)) }
         ensures failed { OnErr result
-            (content_under self.new.files name.now ≡ content_under self.old.files name.now) }
+            (memory_content self.new name.now ≡ memory_content self.old name.now) }
         ensures others { KeepsOthers
-            (content_under self.old.files) (content_under self.new.files) name.now }
-        ensures stands { IsSome (content_under self.old.files name.now) → IsOk result }
+            (memory_content self.old) (memory_content self.new) name.now }
+        ensures stands { IsSome (memory_content self.old name.now) → IsOk result }
     {
         let answer = make(&mut self.files, self.alloc, name);
         self.call_counter.count(answer.is_err());
@@ -130,15 +134,15 @@ impl TakeStore for MemoryStore {
     /// # Not specified
     /// When memory is refused.
     fn write_at(&mut self, name: &Name, offset: u64, bytes: &[u8]) -> Result<(), StoreFault>
-        ensures failures { Counts self.old.call_counter.failures self.new.call_counter.failures (is_err result) }
-        ensures calls { Counts self.old.call_counter.calls self.new.call_counter.calls true }
-        ensures written { OnOk result (Written (content_under self.old.files name.now)
-            offset bytes.now (content_under self.new.files name.now)) }
+        ensures failures { Counts (memory_failures self.old) (memory_failures self.new) (is_err result) }
+        ensures calls { Counts (memory_calls self.old) (memory_calls self.new) true }
+        ensures written { OnOk result (Written (memory_content self.old name.now)
+            offset bytes.now (memory_content self.new name.now)) }
         ensures failed { OnErr result
-            (content_under self.new.files name.now ≡ content_under self.old.files name.now) }
+            (memory_content self.new name.now ≡ memory_content self.old name.now) }
         ensures others { KeepsOthers
-            (content_under self.old.files) (content_under self.new.files) name.now }
-        ensures over { IfSome (content_under self.old.files name.now) (λ old.
+            (memory_content self.old) (memory_content self.new) name.now }
+        ensures over { IfSome (memory_content self.old name.now) (λ old.
             offset + length bytes.now ≤ length old → IsOk result) }
     {
         let answer = write(&mut self.files, name, offset, bytes);
@@ -151,10 +155,11 @@ impl TakeStore for MemoryStore {
     /// # Errors
     /// `StoreFault` if the name isn't there.
     fn finish(&mut self, name: &Name) -> Result<(), StoreFault>
-        ensures failures { Counts self.old.call_counter.failures self.new.call_counter.failures (is_err result) }
-        ensures calls { Counts self.old.call_counter.calls self.new.call_counter.calls true }
-        ensures unchanged { self.new.files ≡ self.old.files }
-        ensures stands { IsOk result ↔ IsSome (content_under self.old.files name.now) }
+        ensures failures { Counts (memory_failures self.old) (memory_failures self.new) (is_err result) }
+        ensures calls { Counts (memory_calls self.old) (memory_calls self.new) true }
+        ensures unchanged { (other : List ℕ) → memory_content self.new other ≡ memory_content self.old other }
+        ensures names { names_of self.new ≡ names_of self.old }
+        ensures stands { IsOk result ↔ IsSome (memory_content self.old name.now) }
     {
         let stands = self.files.contains_key(name);
         self.call_counter.count(!stands);

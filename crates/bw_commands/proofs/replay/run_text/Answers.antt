@@ -10,7 +10,7 @@ use Rattle.bw_commands.proofs.replay.run_text.Goals as goal
 pub returns : goal.returns
 returns c =
     let run = c.in-Ok.run' in
-    let calls = run.store.store.call_counter.calls in
+    let calls = run.store.store.calls in
     let h = c.in-Ok.ensures.ok in
     let ran = replayed _ c.args.limit c.in_ok-store.store c.args.inputs.now run refl c.in-Ok.ensures.honest
     c.in_ok-store.ensures.empty c.requires (failures_under c.args.fuse calls) (one_at_most c.args.fuse calls)

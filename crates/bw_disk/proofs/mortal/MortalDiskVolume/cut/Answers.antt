@@ -9,5 +9,5 @@ returns-clause-failed g c =
       | then-is_alive w ↦ search rules
       | else-is_alive+then-succeeds_unseen w ↦ search rules
       | else-is_alive+else-succeeds_unseen w ↦
-          λ honest. rw (w.self-is, w.answer-is) (uncut (g.D.Disk.contents c.args.self.now.inner (g.D.Disk.path_of c.args.file.now)) c.args.len)
+          λ honest. rw (w.self-inside-is, w.answer-is, ← c.self.view_is) (uncut (g.D.Disk.contents c.self.inside.inner (g.D.Disk.path_of c.args.file.now)) c.args.len)
     ]
