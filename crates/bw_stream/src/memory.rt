@@ -1,6 +1,6 @@
 //! Readers and writers over memory.
 ghost use Rattle.std.specs.Prelude.{◌≡◌, ◌+◌, ◌≤◌, ◌++◌, true, length, Some, IfOk, IsOk, OnOk};
-ghost use Rattle.std.specs.Prelude.{OnErr, vec_len, vec_capacity};
+ghost use Rattle.std.specs.Prelude.{OnErr};
 ghost use Rattle.bw_stream.specs.Moves.{failures_after};
 
 use crate::sink::Sink;
@@ -15,11 +15,13 @@ pub struct MemorySource<'a> {
 }
 
 impl<'a> MemorySource<'a> {
+    ghost use Rattle.bw_stream.specs.Shown.{memory_left, memory_moved, memory_reads};
+
     /// A reader of these bytes, at their start.
     pub fn new(bytes: &'a [u8]) -> MemorySource<'a>
-        ensures bytes { result.bytes.now ≡ bytes.now }
-        ensures moved { result.moved ≡ 0 }
-        ensures calls { result.calls ≡ 0 }
+        ensures bytes { memory_left result ≡ bytes.now }
+        ensures moved { memory_moved result ≡ 0 }
+        ensures calls { memory_reads result ≡ 0 }
     {
         MemorySource {
             bytes,
@@ -30,11 +32,13 @@ impl<'a> MemorySource<'a> {
 }
 
 impl<'a> Source for MemorySource<'a> {
-    ghost left = { λ s. Some s.bytes.now };
+    ghost use Rattle.bw_stream.specs.Shown.{memory_left, memory_moved, memory_reads};
 
-    ghost moved = { λ s. s.moved };
+    ghost left = { λ s. Some (memory_left s) };
 
-    ghost calls = { λ s. s.calls };
+    ghost moved = { memory_moved };
+
+    ghost calls = { memory_reads };
 
     ghost failures = { λ s. 0 };
 
@@ -65,26 +69,30 @@ pub struct MemorySink {
 }
 
 impl MemorySink {
+    ghost use Rattle.bw_stream.specs.Shown.{memory_written, memory_refusals};
+
     /// A writer that appends to these bytes.
     pub fn new(bytes: Vec<u8>) -> MemorySink
-        ensures bytes { result.bytes.items ≡ bytes.items }
-        ensures failures { result.failures ≡ 0 }
+        ensures bytes { memory_written result ≡ bytes.items }
+        ensures failures { memory_refusals result ≡ 0 }
     {
         MemorySink { bytes, failures: 0 }
     }
 
     /// All bytes: those from the start, then those that were written.
     pub fn into_bytes(self) -> Vec<u8>
-        ensures { result.items ≡ self.bytes.items }
+        ensures { result.items ≡ memory_written self }
     {
         self.bytes
     }
 }
 
 impl Sink for MemorySink {
-    ghost written = { λ s. Some s.bytes.items };
+    ghost use Rattle.bw_stream.specs.Shown.{memory_written, memory_room, memory_refusals};
 
-    ghost failures = { λ s. s.failures };
+    ghost written = { λ s. Some (memory_written s) };
+
+    ghost failures = { memory_refusals };
 
     ghost is_flushed = { λ s. true };
 
@@ -97,12 +105,13 @@ impl Sink for MemorySink {
     /// # Not specified
     /// When a growth is refused.
     fn write(&mut self, bytes: &[u8]) -> Result<usize, IoFailed>
-        ensures count { self.new.failures ≡ failures_after result self.old.failures }
+        ensures count { memory_refusals self.new
+            ≡ failures_after result (memory_refusals self.old) }
         ensures all { IfOk result (λ n. n ≡ length bytes.now) }
-        ensures ok { OnOk result (self.new.bytes.items ≡ self.old.bytes.items ++ bytes.now) }
-        ensures err { OnErr result (self.new.bytes.items ≡ self.old.bytes.items) }
-        ensures succeeds { vec_len self.old.bytes + length bytes.now ≤ vec_capacity self.old.bytes →
-            IsOk result }
+        ensures ok { OnOk result (memory_written self.new ≡ memory_written self.old ++ bytes.now) }
+        ensures err { OnErr result (memory_written self.new ≡ memory_written self.old) }
+        ensures succeeds { length (memory_written self.old) + length bytes.now
+            ≤ memory_room self.old → IsOk result }
     {
         let Ok(()) = self.bytes.extend_from_slice(bytes) else {
             self.failures = self.failures.saturating_add(1);

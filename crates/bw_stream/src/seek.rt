@@ -1,8 +1,8 @@
 //! A file as a `Source` that passes over bytes by seeking.
 ghost use Rattle.std.specs.Prelude.{◌≡◌, ◌≤◌, None, unwrap_or, length, IfOk, OnOk, OnErr};
 ghost use Rattle.std.specs.Io.Seek.{MovesTo};
-ghost use Rattle.bw_stream.specs.Moves.{one_more, failures_after, moved_after, Keeps, Reads, ReadsOn};
-ghost use Rattle.bw_stream.specs.Moves.{SeeksOver};
+ghost use Rattle.bw_stream.specs.Moves.{one_more, failures_after, moved_after, Keeps, Reads};
+ghost use Rattle.bw_stream.specs.Moves.{SeeksOver, ReadsOn};
 
 use crate::source::{IoFailed, Source};
 use crate::std_io::StdIo;
@@ -26,17 +26,20 @@ pub struct SeekSource<T> {
 }
 
 impl<T: Drop> SeekSource<T> {
+    ghost use Rattle.bw_stream.specs.Shown.{sought_inner, sought_place, sought_len};
+    ghost use Rattle.bw_stream.specs.Shown.{sought_reads, sought_failures};
+
     /// A reader at its start, with `len` bytes; None if the length isn't known, as for a pipe.
     ///
     /// # Not specified
     /// Which bytes it has: it reports none, so nothing that is proved about a file's bytes covers
     /// one that is read through it.
     pub fn new(inner: T, len: Option<u64>) -> SeekSource<T>
-        ensures inner { result.std_io.inner ≡ inner }
-        ensures calls { result.std_io.calls ≡ 0 }
-        ensures failures { result.std_io.failures ≡ 0 }
-        ensures place { result.place ≡ 0 }
-        ensures len { result.len ≡ unwrap_or len 0 }
+        ensures inner { sought_inner result ≡ inner }
+        ensures calls { sought_reads result ≡ 0 }
+        ensures failures { sought_failures result ≡ 0 }
+        ensures place { sought_place result ≡ 0 }
+        ensures len { sought_len result ≡ unwrap_or len 0 }
     {
         SeekSource {
             std_io: StdIo::new(inner),
@@ -68,13 +71,16 @@ impl<T: Seek> SeekSource<T> {
 }
 
 impl<T: Read + Seek> Source for SeekSource<T> {
+    ghost use Rattle.bw_stream.specs.Shown.{sought_inner, sought_place, sought_len};
+    ghost use Rattle.bw_stream.specs.Shown.{sought_reads, sought_failures};
+
     ghost left = { λ s. None };
 
-    ghost moved = { λ s. s.place };
+    ghost moved = { sought_place };
 
-    ghost calls = { λ s. s.std_io.calls };
+    ghost calls = { sought_reads };
 
-    ghost failures = { λ s. s.std_io.failures };
+    ghost failures = { sought_failures };
 
     /// Reads the next bytes of its reader, and moves the place by as many.
     ///
@@ -85,15 +91,16 @@ impl<T: Read + Seek> Source for SeekSource<T> {
     /// - When the reader fails.
     /// - What `buf` holds after an error, and after the bytes that were read.
     fn read(&mut self, buf: &mut [u8]) -> Result<usize, IoFailed>
-        ensures calls { self.new.std_io.calls ≡ one_more self.old.std_io.calls }
-        ensures count { self.new.std_io.failures ≡ failures_after result self.old.std_io.failures }
-        ensures moved { self.new.place ≡ moved_after result self.old.place }
+        ensures calls { sought_reads self.new ≡ one_more (sought_reads self.old) }
+        ensures count { sought_failures self.new
+            ≡ failures_after result (sought_failures self.old) }
+        ensures moved { sought_place self.new ≡ moved_after result (sought_place self.old) }
         ensures within { IfOk result (λ n. n ≤ length buf.old) }
         ensures given { IfOk result (λ n.
-            Reads (T.remaining self.old.std_io.inner) (length buf.old) n
-            buf.new (T.remaining self.new.std_io.inner)) }
+            Reads (T.remaining (sought_inner self.old)) (length buf.old) n
+            buf.new (T.remaining (sought_inner self.new))) }
         ensures kept { OnErr result
-            (Keeps (T.remaining self.old.std_io.inner) (T.remaining self.new.std_io.inner)) }
+            (Keeps (T.remaining (sought_inner self.old)) (T.remaining (sought_inner self.new))) }
     {
         let count = self.std_io.read(buf)?;
         self.place = self.place.saturating_add(count as u64);
@@ -109,15 +116,16 @@ impl<T: Read + Seek> Source for SeekSource<T> {
     /// - When the reader fails, and its position after a read.
     /// - That 0 is returned only at the end.
     fn skip(&mut self, most: u64) -> Result<u64, IoFailed>
-        ensures calls { self.new.std_io.calls ≡ one_more self.old.std_io.calls }
-        ensures count { self.new.std_io.failures ≡ failures_after result self.old.std_io.failures }
-        ensures moved { self.new.place ≡ moved_after result self.old.place }
+        ensures calls { sought_reads self.new ≡ one_more (sought_reads self.old) }
+        ensures count { sought_failures self.new
+            ≡ failures_after result (sought_failures self.old) }
+        ensures moved { sought_place self.new ≡ moved_after result (sought_place self.old) }
         ensures within { IfOk result (λ n. n ≤ most) }
-        ensures seeks { SeeksOver self.old.place self.old.len most
-            (T.stream_position self.old.std_io.inner) (T.stream_position self.new.std_io.inner)
+        ensures seeks { SeeksOver (sought_place self.old) (sought_len self.old) most
+            (T.stream_position (sought_inner self.old)) (T.stream_position (sought_inner self.new))
             result }
-        ensures reads { ReadsOn self.old.place self.old.len most
-            (T.remaining self.old.std_io.inner) (T.remaining self.new.std_io.inner) result }
+        ensures reads { ReadsOn (sought_place self.old) (sought_len self.old) most
+            (T.remaining (sought_inner self.old)) (T.remaining (sought_inner self.new)) result }
     {
         let count = most.min(self.len.saturating_sub(self.place));
         if count > 0 {

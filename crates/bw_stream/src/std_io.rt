@@ -23,13 +23,16 @@ pub struct StdIo<T> {
 }
 
 impl<T: Drop> StdIo<T> {
+    ghost use Rattle.bw_stream.specs.Shown.{std_inner, std_moved, std_reads};
+    ghost use Rattle.bw_stream.specs.Shown.{std_failures, std_flushed};
+
     /// This reader or writer, which has not failed yet and holds nothing back.
     pub fn new(inner: T) -> StdIo<T>
-        ensures inner { result.inner ≡ inner }
-        ensures moved { result.moved ≡ 0 }
-        ensures calls { result.calls ≡ 0 }
-        ensures failures { result.failures ≡ 0 }
-        ensures flushed { result.is_flushed ≡ true }
+        ensures inner { std_inner result ≡ inner }
+        ensures moved { std_moved result ≡ 0 }
+        ensures calls { std_reads result ≡ 0 }
+        ensures failures { std_failures result ≡ 0 }
+        ensures flushed { std_flushed result ≡ true }
     {
         StdIo {
             inner,
@@ -42,7 +45,7 @@ impl<T: Drop> StdIo<T> {
 
     /// The reader or writer of std itself.
     pub fn into_inner(self) -> T
-        ensures { result ≡ self.inner }
+        ensures { result ≡ std_inner self }
     {
         self.inner
     }
@@ -88,13 +91,15 @@ impl<T: Read> StdIo<T> {
 }
 
 impl<T: Read> Source for StdIo<T> {
-    ghost left = { λ s. T.remaining s.inner };
+    ghost use Rattle.bw_stream.specs.Shown.{std_inner, std_moved, std_reads, std_failures};
 
-    ghost moved = { λ s. s.moved };
+    ghost left = { λ s. T.remaining (std_inner s) };
 
-    ghost calls = { λ s. s.calls };
+    ghost moved = { std_moved };
 
-    ghost failures = { λ s. s.failures };
+    ghost calls = { std_reads };
+
+    ghost failures = { std_failures };
 
     fn read(&mut self, buf: &mut [u8]) -> Result<usize, IoFailed> {
         self.read_counted(buf)
@@ -106,11 +111,13 @@ impl<T: Read> Source for StdIo<T> {
 }
 
 impl<T: Write> Sink for StdIo<T> {
-    ghost written = { λ s. T.contents s.inner };
+    ghost use Rattle.bw_stream.specs.Shown.{std_inner, std_failures, std_flushed};
 
-    ghost failures = { λ s. s.failures };
+    ghost written = { λ s. T.contents (std_inner s) };
 
-    ghost is_flushed = { λ s. s.is_flushed };
+    ghost failures = { std_failures };
+
+    ghost is_flushed = { std_flushed };
 
     /// Writes with one call of std's writer, which may hold bytes back after it, also after an
     /// error.
@@ -121,13 +128,15 @@ impl<T: Write> Sink for StdIo<T> {
     /// # Not specified
     /// What std's writer holds after an error, if it doesn't report its contents.
     fn write(&mut self, bytes: &[u8]) -> Result<usize, IoFailed>
-        ensures count { self.new.failures ≡ failures_after result self.old.failures }
+        ensures count { std_failures self.new ≡ failures_after result (std_failures self.old) }
         ensures within { IfOk result (λ n. n ≤ length bytes.now) }
         ensures some { IfOk result (λ n. 0 < length bytes.now → 0 < n) }
         ensures ok { IfOk result (λ n.
-            Writes (T.contents self.old.inner) (take n bytes.now) (T.contents self.new.inner)) }
-        ensures err { OnErr result (Keeps (T.contents self.old.inner) (T.contents self.new.inner)) }
-        ensures held { self.new.is_flushed ≡ false }
+            Writes (T.contents (std_inner self.old)) (take n bytes.now)
+            (T.contents (std_inner self.new))) }
+        ensures err { OnErr result
+            (Keeps (T.contents (std_inner self.old)) (T.contents (std_inner self.new))) }
+        ensures held { std_flushed self.new ≡ false }
     {
         self.is_flushed = false;
         match self.inner.write(bytes) {
