@@ -15,6 +15,7 @@ mod numbering;
 mod replying;
 mod resuming;
 mod server;
+mod server_stores;
 mod server_turns;
 mod serving;
 mod session;
