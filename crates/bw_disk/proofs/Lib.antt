@@ -4,3 +4,4 @@ pub mod PrefixReads
 pub mod DiskChains
 pub mod Removals
 pub mod Listings
+pub mod Copies

@@ -1,7 +1,7 @@
 -- What is on a disk in memory.
-use Rattle.std.specs.Prelude.{◌≡◌, ◌≢◌, ◌⊎◌, ℕ, List, [], ◌∷◌, ◌++◌, Option, Some, None, Bool, IsTrue, IsUtf8, string_bytes}
-use Rattle.std.specs.Option.{option_map, option_and_then}
-use Rattle.std.specs.List.{Contains, find}
+use Rattle.std.specs.Prelude.{◌≡◌, ◌≢◌, ◌⊎◌, ◌==◌, ◌&&◌, if◌then◌else◌, ℕ, List, [], ◌∷◌, ◌++◌, Option, Some, None, Bool, IsTrue, IsUtf8, string_bytes}
+use Rattle.std.specs.Option.{option_map, option_and_then, option_or}
+use Rattle.std.specs.List.{Contains, find, ends_with}
 use Rattle.std.specs.Str.{bytes_eq}
 use Rattle.bw_disk.specs.Volumes.{in_folder, is_listed}
 use Rattle.bw_disk.specs.declared.memory_disk.StoredFile.{StoredFile}
@@ -36,3 +36,15 @@ AddsFileName before (Some name) after =
 abbrev pub AddsListed : List ℕ → List ℕ → List (List ℕ) → List (List ℕ) → Type 0
 AddsListed folder path before after =
     (found : Option (List ℕ)) × IsNameIn folder path found × AddsFileName before found after
+
+-- what a path has after a copy of a file was added to others, if its path ends so and nothing was
+-- there
+abbrev pub added_at : List ℕ → (List ℕ → Option (List ℕ)) → List ℕ → List ℕ → List ℕ → Option (List ℕ)
+added_at ending before from content path =
+    option_or (before path) (if bytes_eq from path && ends_with ◌==◌ path ending then Some content else None)
+
+-- what a path has after the files of another disk whose paths end so were copied to where nothing was
+abbrev pub copied_at : List ℕ → (List ℕ → Option (List ℕ)) → (List ℕ → Option (List ℕ)) → List ℕ →
+    Option (List ℕ)
+copied_at ending before other path =
+    option_or (before path) (if ends_with ◌==◌ path ending then other path else None)

@@ -2,6 +2,7 @@
 #![tactic(auto)]
 
 mod disk;
+mod memory_copy;
 mod memory_disk;
 mod memory_volume;
 mod mortal;

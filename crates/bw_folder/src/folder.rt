@@ -100,6 +100,13 @@ impl<D: Disk> FolderStore<D> {
         &self.disk
     }
 
+    /// The path of the folder.
+    pub fn folder(&self) -> &str
+        ensures { result.now ≡ string_bytes self.now.folder }
+    {
+        self.folder.as_str()
+    }
+
     /// The disk of the folder, by value.
     pub fn into_disk(self) -> D
         ensures { result ≡ self.disk }

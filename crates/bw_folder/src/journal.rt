@@ -168,6 +168,13 @@ impl<D: Volume> FolderJournal<D> {
         &self.disk
     }
 
+    /// The path of the folder.
+    pub fn folder(&self) -> &str
+        ensures { result.now ≡ string_bytes self.now.folder }
+    {
+        self.folder.as_str()
+    }
+
     /// The disk of the folder, by value.
     pub fn into_disk(self) -> D
         ensures { result ≡ self.disk }

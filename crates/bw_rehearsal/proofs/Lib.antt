@@ -1,4 +1,4 @@
-mod Staging
+pub mod Staging
 mod Playing
 mod Schedules
 mod FaultLaws

@@ -8,5 +8,6 @@ mod rehearsal;
 mod simulation;
 
 pub use event::Event;
-pub use line::event_in;
+pub use line::{event_in, following, index};
 pub use rehearsal::{World, rehearse};
+pub use simulation::{append, message_in, unless_memory};

@@ -56,7 +56,7 @@ pub fn event_in(alloc: Global, line: &[u8]) -> Result<Option<Event>, AllocError>
 }
 
 /// The rest of a line after a word, if it begins with it.
-fn following<'a>(word: &[u8], line: &'a [u8]) -> Option<&'a [u8]>
+pub fn following<'a>(word: &[u8], line: &'a [u8]) -> Option<&'a [u8]>
     ensures { MatchOption result ((rest : List ℕ) → line.now ≢ word.now ++ rest)
         (λ rest. line.now ≡ word.now ++ rest.now) }
 {
@@ -64,7 +64,7 @@ fn following<'a>(word: &[u8], line: &'a [u8]) -> Option<&'a [u8]>
 }
 
 /// The number that one to ten decimal digits write, below 2^32.
-fn index(text: &[u8]) -> Option<usize>
+pub fn index(text: &[u8]) -> Option<usize>
     ensures { SomeIff result (IsIndexText text.now) (index_written text.now) }
 {
     match str::from_utf8(text) {

@@ -177,7 +177,7 @@ impl Simulation {
 ///
 /// # Errors
 /// `AllocError` if the cause was lack of memory.
-fn unless_memory(error: OfferError) -> Result<(), AllocError>
+pub fn unless_memory(error: OfferError) -> Result<(), AllocError>
     ensures ok { OnOk result (IsSome (fault_of error)) }
     ensures err { OnErr result (fault_of error ≡ None) }
 {
@@ -191,7 +191,7 @@ fn unless_memory(error: OfferError) -> Result<(), AllocError>
 }
 
 /// The message of a frame.
-fn message_in(frame: &[u8]) -> Option<Message<'_>>
+pub fn message_in(frame: &[u8]) -> Option<Message<'_>>
     ensures { (m : Said) → IsFrameOf (Says m) frame.now → option_map message_of result ≡ Some m }
 {
     if frame.len() < 4 {
@@ -206,7 +206,7 @@ fn message_in(frame: &[u8]) -> Option<Message<'_>>
 }
 
 /// Adds the replies of a turn after the others; there is room for them.
-fn append(replies: &mut Vec<Reply>, reported: ArrayVec<Reply, 17>)
+pub fn append(replies: &mut Vec<Reply>, reported: ArrayVec<Reply, 17>)
     requires { length replies.old.items + length reported.items ≤ vec_capacity replies.old }
     ensures { replies.new.items ≡ replies.old.items ++ reported.items }
 {

@@ -16,6 +16,7 @@ mod replying;
 mod resting;
 mod resuming;
 mod server;
+mod server_stores;
 mod server_turns;
 mod serving;
 mod session;

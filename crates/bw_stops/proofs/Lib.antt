@@ -1,0 +1,5 @@
+mod Endings
+mod MachineForms
+mod NetworkForms
+mod PlayForms
+mod Schedules

@@ -1,0 +1,275 @@
+-- What an event makes of a world, with the network and the machine that have it.
+use Rattle.std.proofs.Common.{◌≡◌, ℕ, inl, inr, refl, Bool, true, false, List, [], ◌∷◌, ◌++◌, Option, Some, None, sym, ap, ◌∙◌, subst}
+use Rattle.std.specs.Prelude.{slice_get, IsTrue, Result, Ok, Err, IfOk}
+use Rattle.std.proofs.lemmas.List.{append-nil}
+use Rattle.bw_model.specs.Take.{Request}
+use Rattle.bw_model.specs.Wire.{Message, Says, Second, is_frame}
+use Rattle.bw_model.specs.Replies.{Reply, Noticed, Next}
+use Rattle.bw_model.specs.Book.{Book, log_of}
+use Rattle.bw_model.specs.Turn.{Faults, good, turn}
+use Rattle.bw_model.specs.Exchange.{nothing_stands}
+use Rattle.bw_model.specs.World.{World, Event, Offer, Send, Deliver, Bring, Ask, happens, send, bring, deliver, comes, pending}
+use Rattle.bw_journal.specs.Stops.{cut_book}
+use Rattle.bw_left.specs.StoppedWorlds.{WorldStep, Happens, Dies, Stops, Starts, MayCome, IsNextStep}
+use Rattle.bw_rehearsal.specs.Rehearsing.{event_meaning}
+use Rattle.bw_rehearsal.specs.declared.event.Event.{Event as Played}
+use Rattle.bw_stops.specs.Machines.{IsRunning, IsLeftAt, IsMachine, KeepsRunning, DiesInTurn, TurnsMachine, runs}
+use Rattle.bw_stops.specs.Networks.{IsNetwork}
+use Rattle.bw_stops.specs.declared.event.StopEvent.{StopEvent}
+use Rattle.bw_stops.specs.Playing.{PlaysBy, LeavesBook, IsPlayed, IsPlayedEvent, DeliversIf, AsksIf, StopsIf, StartsIf}
+use Rattle.bw_stops.specs.declared.machine.Machine.{Machine}
+use Rattle.bw_stops.specs.declared.machine.Machine.TheVariants.{Runs, Stopped}
+use Rattle.bw_stops.specs.declared.machine.Life.{Life}
+use Rattle.bw_stops.specs.declared.machine.Folder.{Folder}
+use Rattle.bw_stops.specs.declared.network.Network.{Network}
+
+-- the world with another book, and with more replies
+abbrev pub with_replies : World → List Reply → Book → World
+with_replies w replies book =
+    record { sender = w.sender; sent = w.sent; book = book; replies = w.replies ++ replies }
+
+pub other_book : (w : World) (n : Network) (book : Book) → IsNetwork w n → IsNetwork (record w { book = book }) n
+other_book w n book k = record { sender = k.sender; offered = k.offered; sent = k.sent; replies = k.replies }
+
+-- what changes the book alone
+pub by_machine : (limit : ℕ) (w : World) (AreSteps : List WorldStep → Bool → Type 0) (n : Network) (m : Machine) →
+    IsNetwork w n → LeavesBook limit w AreSteps m → PlaysBy limit w AreSteps n m
+by_machine limit w AreSteps n m k l = record {
+  steps = l.steps;
+  world = record w { book = l.book };
+  played = l.played;
+  went = l.went;
+  network_is = other_book w n l.book k;
+  machine_is = l.machine_is;
+}
+
+pub each_by_machine : {E : Type 0} (limit : ℕ) (w : World) (AreSteps : List WorldStep → Bool → Type 0) (n : Network)
+    (r : Result Machine E) → IsNetwork w n → IfOk r (λ m. LeavesBook limit w AreSteps m) →
+    IfOk r (λ m. PlaysBy limit w AreSteps n m)
+each_by_machine limit w AreSteps n (Ok m) k l = by_machine limit w AreSteps n m k l
+each_by_machine limit w AreSteps n (Err e) k l = l
+
+-- the same event by another word
+module _ (limit : ℕ) (w : World) (n : Network) (was : Bool) where
+  pub by_event : (m : Machine) (e other : Played) → e ≡ other →
+      PlaysBy limit w (IsPlayedEvent w was (event_meaning other)) n m →
+      PlaysBy limit w (IsPlayedEvent w was (event_meaning e)) n m
+  by_event m e other same p =
+      subst (λ (x : Played). PlaysBy limit w (IsPlayedEvent w was (event_meaning x)) n m) (sym same) p
+
+  pub each_by_event : {E : Type 0} (r : Result Machine E) (e other : Played) → e ≡ other →
+      IfOk r (λ m. PlaysBy limit w (IsPlayedEvent w was (event_meaning other)) n m) →
+      IfOk r (λ m. PlaysBy limit w (IsPlayedEvent w was (event_meaning e)) n m)
+  each_by_event (Ok m) e other same p = by_event m e other same p
+  each_by_event (Err x) e other same p = p
+
+  pub by_stop : (m : Machine) (e other : StopEvent) → e ≡ other → PlaysBy limit w (IsPlayed w was other) n m →
+      PlaysBy limit w (IsPlayed w was e) n m
+  by_stop m e other same p = subst (λ (x : StopEvent). PlaysBy limit w (IsPlayed w was x) n m) (sym same) p
+
+  pub each_by_stop : {E : Type 0} (r : Result Machine E) (e other : StopEvent) → e ≡ other →
+      IfOk r (λ m. PlaysBy limit w (IsPlayed w was other) n m) → IfOk r (λ m. PlaysBy limit w (IsPlayed w was e) n m)
+  each_by_stop (Ok m) e other same p = by_stop m e other same p
+  each_by_stop (Err x) e other same p = p
+
+sent_book : (w : World) (o : Option (ℕ × Request)) → (send w o).book ≡ w.book
+sent_book w None = refl
+sent_book w (Some p) = refl
+
+brought_book : (w : World) (o : Option Reply) → (bring w o).book ≡ w.book
+brought_book w None = refl
+brought_book w (Some r) = refl
+
+module _ (limit : ℕ) (w : World) (later : Network) where
+  pub offered : (m : Machine) (r : Request) → IsNetwork (happens nothing_stands w (Offer r) good) later →
+      IsMachine limit w.book m → PlaysBy limit w (IsPlayedEvent w (runs m) (Offer r)) later m
+  unfolding happens
+  offered m r n is = record {
+    steps = Happens (Offer r) good ∷ [];
+    world = happens nothing_stands w (Offer r) good;
+    played = (refl, refl);
+    went = (tt, refl);
+    network_is = n;
+    machine_is = is;
+  }
+
+  pub sent : (m : Machine) (i : ℕ) → IsNetwork (happens nothing_stands w (Send i) good) later →
+      IsMachine limit w.book m → PlaysBy limit w (IsPlayedEvent w (runs m) (Send i)) later m
+  unfolding happens
+  sent m i n is = record {
+    steps = Happens (Send i) good ∷ [];
+    world = happens nothing_stands w (Send i) good;
+    played = (refl, refl);
+    went = (tt, refl);
+    network_is = n;
+    machine_is = subst (λ (b : Book). IsMachine limit b m) (sym (sent_book w (pending w.sender i))) is;
+  }
+
+  pub brought : (m : Machine) (i : ℕ) → IsNetwork (happens nothing_stands w (Bring i) good) later →
+      IsMachine limit w.book m → PlaysBy limit w (IsPlayedEvent w (runs m) (Bring i)) later m
+  unfolding happens
+  brought m i n is = record {
+    steps = Happens (Bring i) good ∷ [];
+    world = happens nothing_stands w (Bring i) good;
+    played = (refl, refl);
+    went = (tt, refl);
+    network_is = n;
+    machine_is = subst (λ (b : Book). IsMachine limit b m) (sym (brought_book w (slice_get w.replies i))) is;
+  }
+
+  -- what comes while no server runs is lost
+  pub lost : (m : Machine) (folder : Folder) (k : ℕ) → m ≡ Stopped folder → IsNetwork w later →
+      IsMachine limit w.book m → PlaysBy limit w (IsPlayedEvent w (runs m) (Deliver k)) later (Stopped folder)
+  lost m folder k e n is = record {
+    steps = [];
+    world = w;
+    played = subst (λ (b : Bool). DeliversIf b (slice_get w.sent k) k [] false) (sym (ap runs e)) (refl, refl);
+    went = refl;
+    network_is = n;
+    machine_is = subst (IsMachine limit w.book) e is;
+  }
+
+  pub unasked : (m : Machine) (folder : Folder) → m ≡ Stopped folder → IsNetwork w later →
+      IsMachine limit w.book m → PlaysBy limit w (IsPlayedEvent w (runs m) Ask) later (Stopped folder)
+  unasked m folder e n is = record {
+    steps = [];
+    world = w;
+    played = subst (λ (b : Bool). (false ≡ b) × AsksIf b []) (sym (ap runs e)) (refl, refl);
+    went = refl;
+    network_is = n;
+    machine_is = subst (IsMachine limit w.book) e is;
+  }
+
+  -- what a server does that runs
+  pub on_runs : {E : Type 0} (m : Machine) (life : Life) (e : Event) (r : Result Machine E) → m ≡ Runs life →
+      IsMachine limit w.book m →
+      (IsRunning limit w.book life → IfOk r (λ other. PlaysBy limit w (IsPlayedEvent w true e) later other)) →
+      IfOk r (λ other. PlaysBy limit w (IsPlayedEvent w (runs m) e) later other)
+  on_runs m life e r same is f =
+      subst (λ (b : Bool). IfOk r (λ (other : Machine). PlaysBy limit w (IsPlayedEvent w b e) later other))
+      (sym (ap runs same)) (f (subst (IsMachine limit w.book) same is))
+
+  -- there is no such message
+  pub unsent : (life : Life) (k : ℕ) → slice_get w.sent k ≡ None → IsNetwork w later → IsRunning limit w.book life →
+      PlaysBy limit w (IsPlayedEvent w true (Deliver k)) later (Runs life)
+  unsent life k none n is = record {
+    steps = [];
+    world = w;
+    played = subst (λ (o : Option Message). DeliversIf true o k [] true) (sym none) (refl, refl);
+    went = refl;
+    network_is = n;
+    machine_is = is;
+  }
+
+  pub asked : (life : Life) → IsNetwork (with_replies w
+      (Noticed w.sender.name 0 Next (log_of w.book w.sender.name).done ∷ []) w.book) later →
+      IsRunning limit w.book life → PlaysBy limit w (IsPlayedEvent w true Ask) later (Runs life)
+  unfolding turn happens
+  asked life n is = record {
+    steps = Happens Ask good ∷ [];
+    world = happens nothing_stands w Ask good;
+    played = (refl, refl);
+    went = (tt, refl);
+    network_is = n;
+    machine_is = is;
+  }
+
+  -- a message comes to the server
+  module _ (k : ℕ) (m : Message) (replies : List Reply) (at : slice_get w.sent k ≡ Some m)
+      (n : (book : Book) → IsNetwork (with_replies w replies book) later) where
+    went_on : (life : Life) → KeepsRunning limit w m replies life →
+        PlaysBy limit w (IsPlayedEvent w true (Deliver k)) later (Runs life)
+    unfolding happens
+    went_on life g = record {
+      steps = Happens (Deliver k) g.faults ∷ [];
+      world = happens nothing_stands w (Deliver k) g.faults;
+      played = subst (λ (o : Option Message). DeliversIf true o k (Happens (Deliver k) g.faults ∷ []) true) (sym at)
+          (inl (refl, (g.faults, refl)));
+      went = (tt, refl);
+      network_is = subst (λ (o : Option Message). IsNetwork (deliver nothing_stands w o g.faults) later) (sym at)
+          (subst (λ (rs : List Reply). IsNetwork (record {
+            sender = w.sender;
+            sent = w.sent;
+            book = (comes nothing_stands w (Says m) g.faults).book;
+            replies = rs;
+          }) later) (sym g.written) (n (comes nothing_stands w (Says m) g.faults).book));
+      machine_is = subst (λ (o : Option Message). IsRunning limit (deliver nothing_stands w o g.faults).book life) (sym at)
+          g.running;
+    }
+
+    stopped : (folder : Folder) → DiesInTurn limit w m replies folder →
+        PlaysBy limit w (IsPlayedEvent w true (Deliver k)) later (Stopped folder)
+    stopped folder d = record {
+      steps = Dies m d.faults d.left ∷ [];
+      world = record w { book = d.left };
+      played = subst (λ (o : Option Message). DeliversIf true o k (Dies m d.faults d.left ∷ []) false) (sym at)
+          (inr (refl, (d.faults, (d.left, refl))));
+      went = (d.next, refl);
+      network_is = subst (λ (rs : List Reply). IsNetwork (record {
+        sender = w.sender;
+        sent = w.sent;
+        book = d.left;
+        replies = rs;
+      }) later) (ap (λ (rs : List Reply). w.replies ++ rs) d.silent ∙ append-nil w.replies) (n d.left);
+      machine_is = d.stands;
+    }
+
+    turned : (machine : Machine) → TurnsMachine limit w m replies machine →
+        PlaysBy limit w (IsPlayedEvent w true (Deliver k)) later machine
+    turned (Runs life) g = went_on life g
+    turned (Stopped folder) d = stopped folder d
+
+  -- the message at a place of what was sent comes to it
+  pub came : (k : ℕ) (s m : Message) (replies : List Reply) (machine : Machine) → slice_get w.sent k ≡ Some s →
+      IsTrue (is_frame Second (Says s)) → m ≡ s → ((book : Book) → IsNetwork (with_replies w replies book) later) →
+      (MayCome w m → IsTrue (is_frame Second (Says m)) → TurnsMachine limit w m replies machine) →
+      PlaysBy limit w (IsPlayedEvent w true (Deliver k)) later machine
+  came k s m replies machine at fits same n turns =
+      let there : slice_get w.sent k ≡ Some m = at ∙ ap Some (sym same) in
+      turned k m replies there n machine
+      (turns (inl (k, there)) (subst (λ (x : Message). IsTrue (is_frame Second (Says x))) (sym same) fits))
+
+-- A machine whose server stops, or which gets one.
+module _ (limit : ℕ) (w : World) (m : Machine) where
+  pub runs_already : (life : Life) → m ≡ Runs life → IsMachine limit w.book m →
+      LeavesBook limit w (λ steps on. (on ≡ true) × StartsIf (runs m) steps) (Runs life)
+  runs_already life e is = record {
+    steps = [];
+    book = w.book;
+    played = subst (λ (b : Bool). (true ≡ true) × StartsIf b []) (sym (ap runs e)) (refl, refl);
+    went = refl;
+    machine_is = subst (IsMachine limit w.book) e is;
+  }
+
+  pub started : (folder : Folder) (life : Life) → m ≡ Stopped folder → IsMachine limit w.book m →
+      (IsLeftAt limit w.book folder → IsRunning limit (cut_book w.book) life) →
+      LeavesBook limit w (λ steps on. (on ≡ true) × StartsIf (runs m) steps) (Runs life)
+  started folder life e is f = record {
+    steps = Starts ∷ [];
+    book = cut_book w.book;
+    played = subst (λ (b : Bool). (true ≡ true) × StartsIf b (Starts ∷ [])) (sym (ap runs e)) (refl, refl);
+    went = (tt, refl);
+    machine_is = f (subst (IsMachine limit w.book) e is);
+  }
+
+  pub stopped_already : (folder : Folder) → m ≡ Stopped folder → IsMachine limit w.book m →
+      LeavesBook limit w (λ steps on. (on ≡ false) × StopsIf (runs m) steps) (Stopped folder)
+  stopped_already folder e is = record {
+    steps = [];
+    book = w.book;
+    played = subst (λ (b : Bool). (false ≡ false) × StopsIf b []) (sym (ap runs e)) (refl, refl);
+    went = refl;
+    machine_is = subst (IsMachine limit w.book) e is;
+  }
+
+  pub stopped_now : (life : Life) (folder : Folder) (left : Book) → m ≡ Runs life →
+      IsNextStep nothing_stands w (Stops left) → IsLeftAt limit left folder →
+      LeavesBook limit w (λ steps on. (on ≡ false) × StopsIf (runs m) steps) (Stopped folder)
+  stopped_now life folder left e next stands = record {
+    steps = Stops left ∷ [];
+    book = left;
+    played = subst (λ (b : Bool). (false ≡ false) × StopsIf b (Stops left ∷ [])) (sym (ap runs e))
+        (refl, (left, refl));
+    went = (next, refl);
+    machine_is = stands;
+  }

@@ -1,0 +1,14 @@
+//! Rehearsals in which servers stop: between turns, or in a chosen call of a disk, and others start
+//! over what they left.
+#![tactic(auto)]
+
+mod event;
+mod machine;
+mod network;
+mod rehearsal;
+mod shown;
+mod takes;
+
+pub use event::{Lives, StopEvent};
+pub use machine::{Folder, Life, Machine};
+pub use rehearsal::{Rehearsed, StopsFault, rehearse_stops};

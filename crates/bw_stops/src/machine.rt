@@ -1,0 +1,233 @@
+//! A machine with a server over a folder in memory: its start, its turns, and what a stop leaves.
+ghost use Rattle.std.specs.Prelude.{◌≡◌, ◌≤◌, ◌<◌, ◌⊎◌, ℕ, [], true, false, IsTrue, IsFalse, IfOk, map, length};
+ghost use Rattle.std.specs.Prelude.{string_bytes};
+ghost use Rattle.bw_model.specs.Wire.{Says, Second, is_frame};
+ghost use Rattle.bw_model.specs.Book.{Book};
+ghost use Rattle.bw_model.specs.World.{World};
+ghost use Rattle.bw_journal.specs.Stops.{cut_book};
+ghost use Rattle.bw_wire.specs.Frames.{message_of};
+ghost use Rattle.bw_wire.specs.Replies.{reply_of};
+ghost use Rattle.bw_left.specs.StoppedWorlds.{MayCome};
+ghost use Rattle.bw_stops.specs.Machines.{IsRunning, IsLeftAt, IsMachine, TurnsMachine, the_folder, runs};
+ghost use Rattle.bw_stops.specs.Playing.{LeavesBook, StopsIf, StartsIf};
+
+use crate::event::Lives;
+use crate::rehearsal::StopsFault;
+use crate::shown::{copy_of, shown_notes};
+use arrayvec::ArrayVec;
+use bw_disk::{MemoryDisk, MortalDisk};
+use bw_folder::{FolderJournal, FolderStore};
+use bw_layout::Limit;
+use bw_session::Server;
+use bw_start::{Unwatched, start};
+use bw_wire::{Message, Reply};
+use std::alloc::{AllocError, Global};
+
+/// The folder of the takes and their journals.
+pub(crate) const FOLDER: &str = "takes";
+
+/// A server over disks in memory that die.
+type MachineServer = Server<
+    FolderStore<MortalDisk<MemoryDisk>>,
+    FolderJournal<MortalDisk<MemoryDisk>>,
+>;
+
+/// A server that runs.
+#[derive(Drop)]
+pub struct Life {
+    /// The server.
+    pub server: MachineServer,
+}
+
+/// What a server leaves that has stopped: the files of the takes, and their journals.
+#[derive(Drop)]
+pub struct Folder {
+    /// The disk of the takes.
+    pub takes: MemoryDisk,
+    /// The disk of the journals.
+    pub notes: MemoryDisk,
+}
+
+/// A machine.
+#[derive(Drop)]
+pub enum Machine {
+    /// Its server runs.
+    Runs(Life),
+    /// No server runs; this was left.
+    Stopped(Folder),
+}
+
+impl Folder {
+    /// A folder in which there is nothing.
+    pub fn new(alloc: Global) -> Folder
+        ensures { (limit : ℕ) → IsLeftAt limit [] result }
+    {
+        Folder {
+            takes: MemoryDisk::new(alloc),
+            notes: MemoryDisk::new(alloc),
+        }
+    }
+}
+
+/// Starts a server over what was left, if none runs.
+///
+/// # Errors
+/// `Memory` if memory was refused, `Start` if the start failed, as memory was refused in it. What such
+/// a start leaves isn't claimed, so the rehearsal ends.
+///
+/// # Not specified
+/// When memory is refused.
+pub(crate) fn start_again(
+    alloc: Global,
+    machine: Machine,
+    limit: Limit,
+    lives: &Lives,
+) -> Result<Machine, StopsFault>
+    ensures { (w : World) → IsMachine limit w.book machine → IfOk result (λ later.
+        LeavesBook limit w (λ steps on. (on ≡ true) × StartsIf (runs machine) steps) later) }
+{
+    match machine {
+        Machine::Runs(life) => Ok(Machine::Runs(life)),
+        Machine::Stopped(folder) => {
+            let life = start_over(alloc, folder, limit, lives)?;
+            Ok(Machine::Runs(life))
+        }
+    }
+}
+
+/// Starts a server over what was left, by disks that live so long after the start.
+fn start_over(
+    alloc: Global,
+    folder: Folder,
+    limit: Limit,
+    lives: &Lives,
+) -> Result<Life, StopsFault>
+    ensures { (book : Book) → IsLeftAt limit book folder →
+        IfOk result (λ life. IsRunning limit (cut_book book) life) }
+{
+    let Folder { takes, notes } = folder;
+    let Ok(shown) = shown_notes(alloc, &takes, &notes) else {
+        return Err(StopsFault::Memory);
+    };
+    let (of_takes, of_notes) = calls_of_start(alloc, &takes, &shown, limit)?;
+    let takes = MortalDisk::new(takes, of_takes.saturating_add(lives.takes), lives.reached);
+    let notes = MortalDisk::new(shown, of_notes.saturating_add(lives.notes), lives.reached);
+    match start(alloc, takes, notes, FOLDER, limit, false, &mut Unwatched) {
+        Ok(server) => {
+            if has_died(&server) {
+                return Err(StopsFault::Start);
+            }
+            Ok(Life { server })
+        }
+        Err(_) => Err(StopsFault::Start),
+    }
+}
+
+/// How many calls of each disk a start over these makes, by copies of them.
+fn calls_of_start(
+    alloc: Global,
+    takes: &MemoryDisk,
+    notes: &MemoryDisk,
+    limit: Limit,
+) -> Result<(u64, u64), StopsFault> {
+    let Ok(takes) = copy_of(alloc, takes) else {
+        return Err(StopsFault::Memory);
+    };
+    let Ok(notes) = copy_of(alloc, notes) else {
+        return Err(StopsFault::Memory);
+    };
+    let takes = MortalDisk::new(takes, u64::MAX, 0);
+    let notes = MortalDisk::new(notes, u64::MAX, 0);
+    match start(alloc, takes, notes, FOLDER, limit, false, &mut Unwatched) {
+        Ok(server) => Ok((
+            server.store().disk().calls(),
+            server.journal().disk().calls(),
+        )),
+        Err(_) => Err(StopsFault::Start),
+    }
+}
+
+/// Whether a disk of a server has died.
+fn has_died(server: &MachineServer) -> bool
+    ensures takes { IsFalse result → server.now.stores.store.disk.call_counter.calls
+        ≤ server.now.stores.store.disk.life }
+    ensures notes { IsFalse result → server.now.stores.journal.disk.call_counter.calls
+        ≤ server.now.stores.journal.disk.life }
+    ensures died { IsTrue result →
+        (server.now.stores.store.disk.life < server.now.stores.store.disk.call_counter.calls)
+        ⊎ (server.now.stores.journal.disk.life < server.now.stores.journal.disk.call_counter.calls) }
+{
+    if server.store().disk().is_dead() {
+        return true;
+    }
+    server.journal().disk().is_dead()
+}
+
+/// A message comes to a server, and its replies are put into `out`. If a disk died in this turn, the
+/// machine has stopped, and no reply is there: replies are sent after their turn.
+///
+/// # Errors
+/// `AllocError` if the server's folder isn't the one that it started over, which no clause of a
+/// server excludes.
+pub(crate) fn turn(
+    life: Life,
+    message: &Message<'_>,
+    out: &mut ArrayVec<Reply, 17>,
+) -> Result<Machine, AllocError>
+    ensures few { length out.new.items ≤ 17 }
+    ensures turned { (limit : ℕ) (w : World) → IsRunning limit w.book life →
+        MayCome w (message_of message.now) →
+        IsTrue (is_frame Second (Says (message_of message.now))) →
+        IfOk result (λ machine. TurnsMachine limit w (message_of message.now)
+        (map reply_of out.new.items) machine) }
+{
+    let Life { mut server } = life;
+    server.turn(message, out);
+    if !has_died(&server) {
+        return Ok(Machine::Runs(Life { server }));
+    }
+    out.clear();
+    let folder = take_apart(server)?;
+    Ok(Machine::Stopped(folder))
+}
+
+/// The server stops between turns, if one runs.
+///
+/// # Errors
+/// As those of `turn`.
+pub(crate) fn stop(machine: Machine) -> Result<Machine, AllocError>
+    ensures { (limit : ℕ) (w : World) → IsMachine limit w.book machine → IfOk result (λ later.
+        LeavesBook limit w (λ steps on. (on ≡ false) × StopsIf (runs machine) steps) later) }
+{
+    match machine {
+        Machine::Runs(life) => {
+            let Life { server } = life;
+            let folder = take_apart(server)?;
+            Ok(Machine::Stopped(folder))
+        }
+        Machine::Stopped(folder) => Ok(Machine::Stopped(folder)),
+    }
+}
+
+/// What the disks of a server have.
+///
+/// # Errors
+/// `AllocError` if its folder isn't the one that it started over.
+fn take_apart(server: MachineServer) -> Result<Folder, AllocError>
+    ensures takes { IfOk result (λ folder. folder.takes ≡ server.stores.store.disk.inner) }
+    ensures notes { IfOk result (λ folder. folder.notes ≡ server.stores.journal.disk.inner) }
+    ensures store { IfOk result (λ folder. string_bytes server.stores.store.folder ≡ the_folder) }
+    ensures journal { IfOk result (λ folder. string_bytes server.stores.journal.folder ≡ the_folder) }
+{
+    let (store, journal) = server.into_stores();
+    if store.folder() != FOLDER {
+        return Err(AllocError);
+    }
+    if journal.folder() != FOLDER {
+        return Err(AllocError);
+    }
+    Ok(Folder {
+        takes: store.into_disk().into_inner(),
+        notes: journal.into_disk().into_inner(),
+    })
+}

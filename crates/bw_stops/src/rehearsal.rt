@@ -1,0 +1,195 @@
+//! Rehearsals in which servers stop, event by event.
+ghost use Rattle.std.specs.Prelude.{◌≡◌, ℕ, true, IsTrue, IfOk};
+ghost use Rattle.bw_model.specs.World.{World, Deliver, Ask};
+ghost use Rattle.bw_rehearsal.specs.Rehearsing.{event_meaning};
+ghost use Rattle.bw_stops.specs.Machines.{IsMachine, IsRunning, runs};
+ghost use Rattle.bw_stops.specs.Networks.{IsNetwork};
+ghost use Rattle.bw_stops.specs.Playing.{PlaysBy, IsPlayed, IsPlayedEvent};
+ghost use Rattle.bw_stops.specs.Rehearsals.{WasRehearsedWithStops};
+
+use crate::event::StopEvent;
+use crate::machine::{Folder, Life, Machine, start_again, stop, turn};
+use crate::network::Network;
+use arrayvec::ArrayVec;
+use bw_layout::Limit;
+use bw_rehearsal::{Event, append, message_in};
+use bw_request::Name;
+use bw_sender::Sender;
+use std::alloc::{AllocError, Global};
+
+/// The most replies to one message.
+const REPLIES: usize = 17;
+
+/// Why a rehearsal ends before its last event.
+#[derive(Clone, Copy, Debug)]
+pub enum StopsFault {
+    /// Memory was refused.
+    Memory,
+    /// A start failed, as memory was refused in it.
+    Start,
+}
+
+/// What a rehearsal in which servers stop resulted in.
+#[derive(Drop)]
+pub struct Rehearsed {
+    /// How many requests the sender took over.
+    pub offered: u64,
+    /// How many messages were sent.
+    pub sent: usize,
+    /// How many replies were written.
+    pub replies: usize,
+    /// The sender.
+    pub sender: Sender,
+    /// The machine: its server, or what was left.
+    pub machine: Machine,
+}
+
+/// Plays the events, in their order, with a new sender of this name, and servers that follow one
+/// another over a folder in memory, which is empty at first. Each server has a store and a journal
+/// there, by disks that die in a chosen call.
+///
+/// All that was ever sent and written stays: what isn't delivered or brought is lost, and the rest
+/// may come again, in any order. A server stops in the turn in which a disk died, and none of that
+/// turn's replies is written.
+///
+/// # Errors
+/// `Memory` if memory was refused to the sender, for the messages and replies or for a folder's copy;
+/// `Start` if a start failed, as memory was refused in it. The name isn't given back.
+///
+/// # Not specified
+/// - When memory is refused, and which events were played before.
+/// - In which call a disk dies: contracts count only calls, and don't say how many a turn makes.
+/// - What a start leaves that fails.
+pub fn rehearse_stops(
+    alloc: Global,
+    name: Name,
+    limit: Limit,
+    events: &[StopEvent],
+) -> Result<Rehearsed, StopsFault>
+    ensures { IfOk result (λ it. WasRehearsedWithStops name limit events.now it) }
+{
+    let Ok(mut network) = Network::new(alloc, name) else {
+        return Err(StopsFault::Memory);
+    };
+    let mut machine = Machine::Stopped(Folder::new(alloc));
+    for event in events {
+        machine = play(alloc, limit, &mut network, machine, event)?;
+    }
+    let Network {
+        sender,
+        offered,
+        sent,
+        replies,
+        ..
+    } = network;
+    Ok(Rehearsed {
+        offered,
+        sent: sent.len(),
+        replies: replies.len(),
+        sender,
+        machine,
+    })
+}
+
+/// Plays an event.
+fn play(
+    alloc: Global,
+    limit: Limit,
+    network: &mut Network,
+    machine: Machine,
+    event: &StopEvent,
+) -> Result<Machine, StopsFault>
+    ensures { (w : World) → IsNetwork w network.old → IsMachine limit w.book machine →
+        IfOk result (λ later.
+        PlaysBy limit w (IsPlayed w (runs machine) event.now) network.new later) }
+{
+    match event {
+        StopEvent::Happens(event) => match happen(network, machine, event) {
+            Ok(later) => Ok(later),
+            Err(_) => Err(StopsFault::Memory),
+        },
+        StopEvent::Stop => match stop(machine) {
+            Ok(later) => Ok(later),
+            Err(_) => Err(StopsFault::Memory),
+        },
+        StopEvent::Start(lives) => start_again(alloc, machine, limit, lives),
+    }
+}
+
+/// Plays an event of a rehearsal without stops.
+fn happen(network: &mut Network, machine: Machine, event: &Event) -> Result<Machine, AllocError>
+    ensures { (limit : ℕ) (w : World) → IsNetwork w network.old → IsMachine limit w.book machine →
+        IfOk result (λ later. PlaysBy limit w
+        (IsPlayedEvent w (runs machine) (event_meaning event.now)) network.new later) }
+{
+    match event {
+        Event::Offer(request) => {
+            network.offer(request)?;
+            Ok(machine)
+        }
+        Event::Send(place) => {
+            network.send(*place)?;
+            Ok(machine)
+        }
+        Event::Deliver(place) => deliver(network, machine, *place),
+        Event::Bring(place) => {
+            network.bring(*place);
+            Ok(machine)
+        }
+        Event::Ask => ask(network, machine),
+    }
+}
+
+/// Gives the sent message at a place to the server, if one runs.
+fn deliver(network: &mut Network, machine: Machine, place: usize) -> Result<Machine, AllocError>
+    ensures { (limit : ℕ) (w : World) → IsNetwork w network.old → IsMachine limit w.book machine →
+        IfOk result (λ later. PlaysBy limit w
+        (IsPlayedEvent w (runs machine) (Deliver place)) network.new later) }
+{
+    match machine {
+        Machine::Runs(life) => deliver_to(network, life, place),
+        Machine::Stopped(folder) => Ok(Machine::Stopped(folder)),
+    }
+}
+
+/// Gives the sent message at a place to a server that runs.
+fn deliver_to(network: &mut Network, life: Life, place: usize) -> Result<Machine, AllocError>
+    ensures { (limit : ℕ) (w : World) → IsNetwork w network.old → IsRunning limit w.book life →
+        IfOk result (λ later. PlaysBy limit w
+        (IsPlayedEvent w true (Deliver place)) network.new later) }
+{
+    let Some(frame) = network.sent.get(place) else {
+        return Ok(Machine::Runs(life));
+    };
+    // What was sent is the frame of a message.
+    let Some(message) = message_in(frame) else {
+        return Ok(Machine::Runs(life));
+    };
+    network.replies.reserve(REPLIES)?;
+    let mut reported = ArrayVec::new();
+    let machine = turn(life, &message, &mut reported)?;
+    append(&mut network.replies, reported);
+    Ok(machine)
+}
+
+/// Asks the server for the sender's name, if one runs.
+fn ask(network: &mut Network, machine: Machine) -> Result<Machine, AllocError>
+    ensures { (limit : ℕ) (w : World) → IsNetwork w network.old → IsMachine limit w.book machine →
+        IfOk result (λ later. PlaysBy limit w
+        (IsPlayedEvent w (runs machine) Ask) network.new later) }
+{
+    match machine {
+        Machine::Runs(life) => ask_of(network, life),
+        Machine::Stopped(folder) => Ok(Machine::Stopped(folder)),
+    }
+}
+
+/// Asks a server that runs for the sender's name.
+fn ask_of(network: &mut Network, life: Life) -> Result<Machine, AllocError>
+    ensures { (limit : ℕ) (w : World) → IsNetwork w network.old → IsRunning limit w.book life →
+        IfOk result (λ later. PlaysBy limit w (IsPlayedEvent w true Ask) network.new later) }
+{
+    let reply = life.server.ask(network.sender.name(), 0);
+    network.replies.push(reply)?;
+    Ok(Machine::Runs(life))
+}

@@ -1,0 +1,169 @@
+//! A take of three messages whose server stops, in each call of its disks and between turns, and is
+//! finished by the next one.
+use bw_layout::Limit;
+use bw_rehearsal::event_in;
+use bw_request::Name;
+use bw_stops::{Lives, Machine, Rehearsed, StopEvent, StopsFault, rehearse_stops};
+use std::alloc::Global;
+use std::process::Abort;
+use std::test::Fail;
+
+/// An OPEN, a BLOCK of one frame and a CLOSE are offered and sent, and each comes to the server.
+const FIRST: [&str; 9] = [
+    "offer 0180bb0000010010000000",
+    "offer 0201000200",
+    "offer 050200000000000000",
+    "send 0",
+    "send 1",
+    "send 2",
+    "deliver 0",
+    "deliver 1",
+    "deliver 2",
+];
+
+/// Each comes again, and every reply to the sender.
+const SECOND: [&str; 9] = [
+    "deliver 0",
+    "deliver 1",
+    "deliver 2",
+    "bring 0",
+    "bring 1",
+    "bring 2",
+    "bring 3",
+    "bring 4",
+    "bring 5",
+];
+
+/// The OPEN alone comes before the stop, and the BLOCK while no server runs.
+const SPLIT: [&str; 6] = [
+    "offer 0180bb0000010010000000",
+    "offer 0201000200",
+    "send 0",
+    "send 1",
+    "deliver 0",
+    "bring 0",
+];
+
+/// Disks that don't die.
+const ENDLESS: Lives = Lives {
+    takes: u64::MAX,
+    notes: u64::MAX,
+    reached: 0,
+};
+
+/// More calls than a server makes here.
+const CALLS: u64 = 100;
+
+/// Adds the events of these lines.
+fn add(alloc: Global, events: &mut Vec<StopEvent>, lines: &[&'static str]) -> Result<(), Fail> {
+    for line in lines {
+        let event = event_in(alloc, line.as_bytes())?.ok_or("an event")?;
+        events.push(StopEvent::Happens(event))?;
+    }
+    Ok(())
+}
+
+/// Plays the events for the name `a1`.
+fn play(alloc: Global, events: &[StopEvent]) -> Result<Result<Rehearsed, StopsFault>, Fail> {
+    let name = Name::new(b"a1").ok_or("a name")?;
+    let limit = Limit::new(8_192).ok_or("a limit")?;
+    Ok(rehearse_stops(alloc, name, limit, events))
+}
+
+/// Two servers, of which the first has disks that live so long.
+fn two_lives(alloc: Global, first: Lives) -> Result<Result<Rehearsed, StopsFault>, Fail> {
+    let mut events = Vec::new(alloc);
+    events.push(StopEvent::Start(first))?;
+    add(alloc, &mut events, &FIRST)?;
+    events.push(StopEvent::Stop)?;
+    events.push(StopEvent::Start(ENDLESS))?;
+    add(alloc, &mut events, &SECOND)?;
+    play(alloc, events.as_slice())
+}
+
+/// Whether so many numbers are done on a server that runs, and counted by the sender.
+fn has_done(it: &Rehearsed, count: u32) -> bool {
+    let Machine::Runs(life) = &it.machine else {
+        return false;
+    };
+    it.sender.settled() == count
+        && it.sender.stored() == count
+        && life.server.done(it.sender.name()) == Some(count)
+}
+
+/// Whether the take is finished whenever the first server's disks live that much longer, until
+/// neither dies: then each verdict is written twice.
+fn is_always_finished(alloc: Global, reached: usize, of_takes: bool) -> Result<bool, Fail> {
+    for life in 0..CALLS {
+        let lives = if of_takes {
+            Lives {
+                takes: life,
+                notes: u64::MAX,
+                reached,
+            }
+        } else {
+            Lives {
+                takes: u64::MAX,
+                notes: life,
+                reached,
+            }
+        };
+        let Ok(it) = two_lives(alloc, lives)? else {
+            // The first server died in its start.
+            continue;
+        };
+        if !has_done(&it, 3) {
+            return Ok(false);
+        }
+        if it.replies == 6 {
+            return Ok(life > 0);
+        }
+    }
+    Ok(false)
+}
+
+/// Fails the test unless it is so for both disks.
+fn finishes(rt: &impl Abort, alloc: Global, reached: usize) -> Result<(), Fail> {
+    assert!(rt;
+        is_always_finished(alloc, reached, true)?,
+        "the takes' disk"
+    );
+    assert!(rt;
+        is_always_finished(alloc, reached, false)?,
+        "the journals' disk"
+    );
+    Ok(())
+}
+
+#[test]
+fn a_take_is_finished_after_a_death_between_calls(rt: HostRuntime) -> Result<(), Fail> {
+    finishes(&rt, rt.alloc(), 0)
+}
+
+#[test]
+fn a_take_is_finished_after_a_death_within_writes(rt: HostRuntime) -> Result<(), Fail> {
+    finishes(&rt, rt.alloc(), 20)
+}
+
+#[test]
+fn what_comes_while_no_server_runs_is_lost(rt: HostRuntime) -> Result<(), Fail> {
+    let alloc = rt.alloc();
+    let mut events = Vec::new(alloc);
+    events.push(StopEvent::Start(ENDLESS))?;
+    add(alloc, &mut events, &SPLIT)?;
+    events.push(StopEvent::Stop)?;
+    add(alloc, &mut events, &["deliver 1"])?;
+    events.push(StopEvent::Start(ENDLESS))?;
+    let Ok(before) = play(alloc, events.as_slice())? else {
+        return Err("a rehearsal")?;
+    };
+    assert!(rt; before.replies == 1);
+    assert!(rt; has_done(&before, 1));
+    add(alloc, &mut events, &["deliver 1", "bring 1"])?;
+    let Ok(after) = play(alloc, events.as_slice())? else {
+        return Err("a rehearsal")?;
+    };
+    assert!(rt; after.replies == 2);
+    assert!(rt; has_done(&after, 2));
+    Ok(())
+}
