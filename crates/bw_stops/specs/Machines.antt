@@ -29,9 +29,9 @@ the_folder = codes "takes"
 pub record IsRunning (limit : ℕ) (book : Book) (life : Life) : Type 0 where
   pub limited : life.server.limit ≡ limit
   pub holds : RunsHonestly _ _ no_contents life.server book
-  pub takes_live : life.server.stores.store.disk.call_counter.calls
+  pub takes_live : life.server.stores.store.disk.calls
       ≤ life.server.stores.store.disk.life
-  pub notes_live : life.server.stores.journal.disk.call_counter.calls
+  pub notes_live : life.server.stores.journal.disk.calls
       ≤ life.server.stores.journal.disk.life
 
 -- what was left is what a start takes over, from this book

@@ -149,13 +149,13 @@ fn calls_of_start(
 
 /// Whether a disk of a server has died.
 fn has_died(server: &MachineServer) -> bool
-    ensures takes { IsFalse result → server.now.stores.store.disk.call_counter.calls
+    ensures takes { IsFalse result → server.now.stores.store.disk.calls
         ≤ server.now.stores.store.disk.life }
-    ensures notes { IsFalse result → server.now.stores.journal.disk.call_counter.calls
+    ensures notes { IsFalse result → server.now.stores.journal.disk.calls
         ≤ server.now.stores.journal.disk.life }
     ensures died { IsTrue result →
-        (server.now.stores.store.disk.life < server.now.stores.store.disk.call_counter.calls)
-        ⊎ (server.now.stores.journal.disk.life < server.now.stores.journal.disk.call_counter.calls) }
+        (server.now.stores.store.disk.life < server.now.stores.store.disk.calls)
+        ⊎ (server.now.stores.journal.disk.life < server.now.stores.journal.disk.calls) }
 {
     if server.store().disk().is_dead() {
         return true;
