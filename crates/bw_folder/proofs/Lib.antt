@@ -5,6 +5,7 @@ pub mod JournalPaths
 pub mod Existences
 pub mod JournalNames
 pub mod HeaderKeeping
+pub mod ClosedTakes
 pub mod ClosedPaths
 pub mod ClosedNames
 pub mod LooseForms

@@ -1,5 +1,7 @@
 -- Where the takes of a folder are on a disk.
 use Rattle.std.specs.Prelude.{ℕ, List, [], ◌∷◌, ◌++◌, codes, map, Option, Result, Ok, Err, Bool, true, false}
+use Rattle.std.specs.Prelude.{filter, not}
+use Rattle.std.specs.Str.{bytes_eq}
 use Rattle.bw_store.specs.declared.store.Created.{Created}
 use Rattle.bw_store.specs.declared.store.Created.TheVariants.{New, Exists}
 use Rattle.bw_folder.specs.declared.folder.OpenTake.{OpenTake}
@@ -27,3 +29,8 @@ abbrev pub found_by : {E : Type 0} → Result Bool E → List ℕ → List (List
 found_by (Ok true) name names = names ++ name ∷ []
 found_by (Ok false) name names = names
 found_by (Err fault) name names = names
+
+-- the names of open takes after a `finish`: a name that is finished is open no more
+abbrev pub closed_by : {T E : Type 0} → Result T E → List ℕ → List (List ℕ) → List (List ℕ)
+closed_by (Ok done) name names = filter (λ other. not (bytes_eq other name)) names
+closed_by (Err fault) name names = names

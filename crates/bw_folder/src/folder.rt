@@ -6,6 +6,9 @@ ghost use Rattle.bw_store.specs.Stores.{Counts, Creates, Written, MayTear, Keeps
 ghost use Rattle.bw_disk.specs.Disks.{IsOneCall, AsksOnce, Syncs};
 ghost use Rattle.bw_disk.specs.DiskSteps.{StaysWhole};
 ghost use Rattle.bw_folder.specs.Folders.{take_path as path_of_take, take_content, open_names, opened_by, found_by};
+ghost use Rattle.bw_folder.specs.Folders.{closed_by};
+ghost use Rattle.std.specs.Prelude.{filter, not};
+ghost use Rattle.std.specs.Str.{bytes_eq};
 
 use crate::paths::take_path;
 use bw_disk::{Disk, SystemDisk, Volume};
@@ -155,6 +158,43 @@ impl<D: Disk> FolderStore<D> {
     }
 }
 
+impl<D: Disk> FolderStore<D> {
+    /// Syncs the file of an open take.
+    #[tactic(auto, using(crate::proofs::TakePaths::take_path_injective))]
+    fn sync_take(&mut self, name: &Name) -> Result<(), StoreFault>
+        ensures call_counter { self.new.call_counter ≡ self.old.call_counter }
+        ensures folder { self.new.folder ≡ self.old.folder }
+        ensures takes { self.new.takes ≡ self.old.takes }
+        ensures honest { D.honest self.new.disk ≡ D.honest self.old.disk }
+        ensures unchanged { IsTrue (D.honest self.old.disk) →
+            (path : List ℕ) → D.contents self.new.disk path ≡ D.contents self.old.disk path }
+        ensures synced { IsTrue (D.honest self.old.disk) → Syncs result
+            (take_content (D.contents self.old.disk) (string_bytes self.old.folder) name.now)
+            (take_content (D.synced self.old.disk) (string_bytes self.old.folder))
+            (take_content (D.synced self.new.disk) (string_bytes self.old.folder)) name.now }
+        ensures own { Contains (open_names self.old.takes.items) name.now →
+            IsOneCall D.calls D.failures self.old.disk self.new.disk (is_err result) }
+        ensures foreign { (Contains (open_names self.old.takes.items) name.now → ⊥) →
+            IsErr result × (self.new.disk ≡ self.old.disk) }
+    {
+        let Some(place) = find(&self.takes, name) else {
+            return Err(StoreFault);
+        };
+        let take = &self.takes[place];
+        self.disk.sync(&take.file).map_err(|_| StoreFault)
+    }
+
+    /// Closes the file of a take. The disk isn't called.
+    fn close(&mut self, name: &Name)
+        ensures rest { (self.new.disk ≡ self.old.disk) × (self.new.folder ≡ self.old.folder)
+            × (self.new.call_counter ≡ self.old.call_counter) }
+        ensures opened { open_names self.new.takes.items
+            ≡ filter (λ other. not (bytes_eq other name.now)) (open_names self.old.takes.items) }
+    {
+        self.takes.retain(|take| take.name != *name);
+    }
+}
+
 impl<D: Volume> FolderStore<D> {
     /// Opens the file of a take that an earlier server made, by one call of the disk, so that it
     /// can be written from then on. That is no call of the store. It returns false if nothing is
@@ -273,17 +313,16 @@ impl<D: Disk> TakeStore for FolderStore<D> {
         answer
     }
 
-    /// Syncs a file that this store made, by one call of the disk.
+    /// Syncs a file that this store made, by one call of the disk, and closes it: nothing is written to
+    /// it any more.
     ///
     /// # Errors
-    /// `StoreFault` if that call failed, and for a name that this store didn't make: the disk
-    /// isn't called then.
-    #[tactic(auto, using(crate::proofs::TakePaths::take_path_injective))]
+    /// `StoreFault` if that call failed, and for a name that this store didn't make or has finished:
+    /// the disk isn't called then.
     fn finish(&mut self, name: &Name) -> Result<(), StoreFault>
         ensures failures { Counts self.old.call_counter.failures self.new.call_counter.failures (is_err result) }
         ensures calls { Counts self.old.call_counter.calls self.new.call_counter.calls true }
         ensures folder { self.new.folder ≡ self.old.folder }
-        ensures takes { self.new.takes ≡ self.old.takes }
         ensures honest { D.honest self.new.disk ≡ D.honest self.old.disk }
         ensures unchanged { IsTrue (D.honest self.old.disk) →
             (path : List ℕ) → D.contents self.new.disk path ≡ D.contents self.old.disk path }
@@ -295,14 +334,14 @@ impl<D: Disk> TakeStore for FolderStore<D> {
             IsOneCall D.calls D.failures self.old.disk self.new.disk (is_err result) }
         ensures foreign { (Contains (open_names self.old.takes.items) name.now → ⊥) →
             IsErr result × (self.new.disk ≡ self.old.disk) }
+        ensures opened { open_names self.new.takes.items
+            ≡ closed_by result name.now (open_names self.old.takes.items) }
     {
-        let Some(place) = find(&self.takes, name) else {
-            self.call_counter.count(true);
-            return Err(StoreFault);
-        };
-        let take = &self.takes[place];
-        let answer = self.disk.sync(&take.file).map_err(|_| StoreFault);
+        let answer = self.sync_take(name);
         self.call_counter.count(answer.is_err());
+        if answer.is_ok() {
+            self.close(name);
+        }
         answer
     }
 }
