@@ -8,7 +8,7 @@ ghost use Rattle.bw_status.specs.Answers.{is_hosted, is_reading};
 pub enum Content {
     /// The page.
     Page,
-    /// What the page tells, as JSON.
+    /// What the page says, as JSON.
     Takes,
     /// The metrics.
     Metrics,

@@ -110,7 +110,7 @@ fn put_notices(out: &mut Vec<u8>, snapshot: &Snapshot) -> Result<(), AllocError>
     put_family(out, name, help, "notice", snapshot.notices.as_slice())
 }
 
-/// Appends what is told of the process.
+/// Appends what is reported of the process.
 #[tactic(auto, using(std::proofs::lemmas::List::append_assoc))]
 fn put_process(out: &mut Vec<u8>, snapshot: &Snapshot) -> Result<(), AllocError>
     ensures { OnOk result (out.new.items ≡ out.old.items ++ process_metrics snapshot.now) }

@@ -29,7 +29,7 @@ pub(crate) fn put_page(
     put_text(out, PAGE_END)
 }
 
-/// Appends what is told of the server.
+/// Appends what is reported of the server.
 #[tactic(auto, using(std::proofs::lemmas::List::append_assoc))]
 fn put_facts(out: &mut Vec<u8>, snapshot: &Snapshot) -> Result<(), AllocError>
     ensures { OnOk result (out.new.items ≡ out.old.items ++ facts snapshot.now) }

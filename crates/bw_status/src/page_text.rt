@@ -5,7 +5,7 @@
 pub(crate) const PAGE_POLICY: &str =
     "default-src 'none'; style-src 'sha256-IJ3G5VBVdM7TnevedWTJFW2peOZe2FTBvjaqq+BvJ3s='; script-src 'sha256-KKU1cvASbvnM6YBHVEmq2XwGrUj4/FCUb+Ozt0CHupQ='; connect-src 'self'; base-uri 'none'; form-action 'none'; frame-ancestors 'none'";
 
-/// Up to what is told of the server.
+/// Up to what is reported of the server.
 pub(crate) const PAGE_START: &str = "<!DOCTYPE html>
 <html lang=\"en\">
 <head>
@@ -64,7 +64,7 @@ pub(crate) const PAGE_COUNTS: &str = "</tbody>
 <dl id=\"counts\">
 ";
 
-/// From there to the end: the script, which renews each second what is told.
+/// From there to the end: the script, which renews each second what the page says.
 pub(crate) const PAGE_END: &str = "</dl>
 <script>
 'use strict';
