@@ -32,6 +32,7 @@ no_offers = not_in_scope
 """
 LEFT_OPEN = re.compile(r"note: (src/\S+\.rt):(\d+):\d+: it is not proved that .*?(?:\(`([^`]+)`\)|$)")
 CHECKED = re.compile(r"checked \w+::(\S+), \d+ of \d+")
+CLAUSE = re.compile(r"\bclause-([a-z]\w*)")
 DEAR = 8  # processor seconds of a function that a batch names
 
 
@@ -40,7 +41,7 @@ class Trial:
 
     def __init__(self, rt, crate):
         self.rt, self.crate, self.sources = rt, crate, Sources(crate.folder)
-        self.costs, self.dear, self.seconds = {}, [], 0
+        self.costs, self.dear, self.labels, self.seconds = {}, [], {}, 0
 
     def check(self, bodies, only=(), offers=True):
         """What a check of these functions, or else of all, says of a copy with these bodies, and the texts it read. It
@@ -183,7 +184,14 @@ class Trial:
         if strays := refusals.keys() - {it for body in bodies for it in body.functions}:
             why = f"NOT TRIED, as {', '.join(sorted(strays))} isn't proved, and no `refused:` names it"
             return dict.fromkeys(bodies, why)
+        self.labels |= {body: self.clauses_of(body, refusals) for body in bodies}
         return {body: None if body.refused & refusals.keys() else "NOT REFUSED" for body in bodies}
+
+    def clauses_of(self, body, refusals):
+        """The labels of the clauses at whose goals a body was refused, those first that a written answer refuses."""
+        lines = [line for path in sorted(body.refused & refusals.keys()) for line in refusals[path]]
+        lines.sort(key=lambda line: bool(LEFT_OPEN.match(line)))
+        return list(dict.fromkeys(label for line in lines for label in CLAUSE.findall(line)))
 
     def where(self, body):
         """Where a check of all functions refuses a body."""
