@@ -3,3 +3,4 @@ pub mod Journals
 pub mod Syncing
 pub mod RestingJournals
 pub mod RestingFolders
+pub mod Becoming
