@@ -1,7 +1,7 @@
 //! The store of a replay: in memory; one chosen call fails, or none.
 ghost use Rattle.std.specs.Prelude.{◌≡◌, ℕ, List, None, IsTrue, IfOk, true};
-ghost use Rattle.bw_store.specs.Memory.{content_under};
 ghost use Rattle.bw_commands.specs.OneFuse.{failures_under, is_at, KeepsFuse, SufficeForAll};
+ghost use Rattle.bw_store.specs.MemoryNames.{memory_content};
 
 use bw_request::Name;
 use bw_store::{Created, FuseStore, MemoryStore, StoreFault, TakeStore};
@@ -19,7 +19,7 @@ pub(crate) struct ReplayStore {
     failed: bool,
     ghost counts: { KeepsFuse fuse failed store.fuses
         store.calls store.failures },
-    ghost took: { SufficeForAll (content_under store.inner.files) store.calls },
+    ghost took: { SufficeForAll (memory_content store.inner) store.calls },
 }
 
 impl ReplayStore {
@@ -28,7 +28,7 @@ impl ReplayStore {
         ensures failures { IfOk result (λ s. s.store.failures ≡ 0) }
         ensures calls { IfOk result (λ s. s.store.calls ≡ 0) }
         ensures empty { IfOk result (λ s. (name : List ℕ) →
-            content_under s.store.inner.files name ≡ None) }
+            memory_content s.store.inner name ≡ None) }
     {
         let mut fuses = Vec::new(alloc);
         if let Some(fuse) = fuse {
@@ -68,7 +68,7 @@ impl ReplayStore {
 }
 
 impl TakeStore for ReplayStore {
-    ghost contents = { λ s name. content_under s.store.inner.files name };
+    ghost contents = { λ s name. memory_content s.store.inner name };
 
     ghost failures = { λ s. s.store.failures };
 

@@ -6,13 +6,13 @@ ghost use Rattle.hex.specs.Hex.{encode_lower};
 ghost use Rattle.bw_model.specs.Wire.{framed};
 ghost use Rattle.bw_model.specs.Replies.{Reply, is_reply};
 ghost use Rattle.bw_model.specs.Exchange.{replies_bytes};
-ghost use Rattle.bw_store.specs.Memory.{content_under};
 ghost use Rattle.bw_store.specs.MemoryNames.{names_of, AreNames};
 ghost use Rattle.bw_commands.specs.Runs.{ReportedExchange, AllReport};
 ghost use Rattle.bw_exchange.specs.EndNames.{name_of_end};
 ghost use Rattle.bw_commands.specs.Text.{reply_line};
 ghost use Rattle.bw_console.specs.Text.{as_line};
 ghost use Rattle.bw_commands.specs.Text.{exchanges_text, file_text, file_text_if, files_text};
+ghost use Rattle.bw_store.specs.MemoryNames.{memory_content};
 
 use bw_exchange::{ExchangeEnd, end_name};
 use bw_request::Name;
@@ -29,8 +29,8 @@ pub fn text_of_run(
     ensures text { IfOk result (λ text. (reported : List ReportedExchange) →
         AllReport replies.now ends.now reported → text.items
         ≡ exchanges_text 0 reported
-        ++ files_text (content_under store.now.files) (names_of store.now)) }
-    ensures names { OnOk result (AreNames (names_of store.now) (content_under store.now.files)) }
+        ++ files_text (memory_content store.now) (names_of store.now)) }
+    ensures names { OnOk result (AreNames (names_of store.now) (memory_content store.now)) }
 {
     let mut text = Vec::new(alloc);
     put_exchanges(alloc, &mut text, replies, ends)?;
@@ -112,8 +112,8 @@ pub(crate) fn put_files(
     store: &MemoryStore,
 ) -> Result<(), AllocError>
     ensures files { OnOk result (out.new.items ≡ out.old.items
-        ++ files_text (content_under store.now.files) (names_of store.now)) }
-    ensures names { AreNames (names_of store.now) (content_under store.now.files) }
+        ++ files_text (memory_content store.now) (names_of store.now)) }
+    ensures names { AreNames (names_of store.now) (memory_content store.now) }
 {
     for place in 0..store.name_count() {
         put_file_at(alloc, out, store, place)?;
@@ -130,7 +130,7 @@ fn put_file_at(
 ) -> Result<(), AllocError>
     ensures { OnOk result ((name : List ℕ) → slice_get (names_of store.now) place ≡ Some name →
         out.new.items ≡ out.old.items
-        ++ file_text_if name (content_under store.now.files name)) }
+        ++ file_text_if name (memory_content store.now name)) }
 {
     let Some(name) = store.name_at(place) else {
         return Ok(());

@@ -2,10 +2,12 @@
 ghost use Rattle.std.specs.Prelude.{◌≡◌, ◌++◌, length, IfOk, OnOk};
 ghost use Rattle.bw_model.specs.Book.{log_of};
 ghost use Rattle.bw_model.specs.World.{World as ReportedWorld, settled, stored};
-ghost use Rattle.bw_store.specs.Memory.{content_under};
 ghost use Rattle.bw_store.specs.MemoryNames.{names_of, AreNames};
-ghost use Rattle.bw_commands.specs.Rehearsals.{world_counts_line, world_progress_line, world_lines, HasWorld};
+ghost use Rattle.bw_commands.specs.Rehearsals.{world_counts_line, world_progress_line, world_lines};
+ghost use Rattle.bw_commands.specs.Rehearsals.{HasWorld};
 ghost use Rattle.bw_commands.specs.Text.{files_text};
+ghost use Rattle.bw_store.specs.MemoryNames.{memory_content};
+ghost use Rattle.bw_session.specs.SeenServers.{server_store};
 
 use crate::text::put_files;
 use bw_rehearsal::World;
@@ -16,10 +18,10 @@ use std::alloc::{AllocError, Global};
 pub fn text_of_world(alloc: Global, name: &Name, world: &World) -> Result<Vec<u8>, AllocError>
     ensures text { IfOk result (λ text. (w : ReportedWorld) →
         HasWorld w world.now → w.sender.name ≡ name.now →
-        text.items ≡ world_lines w ++ files_text (content_under world.now.server.stores.store.files)
-        (names_of world.now.server.stores.store)) }
-    ensures names { OnOk result (AreNames (names_of world.now.server.stores.store)
-        (content_under world.now.server.stores.store.files)) }
+        text.items ≡ world_lines w ++ files_text (memory_content (server_store world.now.server))
+        (names_of (server_store world.now.server))) }
+    ensures names { OnOk result (AreNames (names_of (server_store world.now.server))
+        (memory_content (server_store world.now.server))) }
 {
     let mut text = Vec::new(alloc);
     put_counts(alloc, &mut text, world)?;

@@ -157,8 +157,8 @@ impl<L: Link + Drop> Connections<L> {
         ensures begins { OnOk result (BeginsAt place link now self.old self.new) }
         ensures others { LeavesOthers place self.old self.new }
         ensures err { OnErr result (RefusesLink self.old self.new) }
-        ensures spent { result ≡ Err BeginError.NumbersSpent → 2 ^ 64 ≤ self.old.next + 1 }
-        ensures memory { result ≡ Err BeginError.Memory → self.old.next + 1 < 2 ^ 64 }
+        ensures spent { result ≡ Err BeginError.NumbersSpent → 2 ^ 64 ≤ begun_of self.old + 1 }
+        ensures memory { result ≡ Err BeginError.Memory → begun_of self.old + 1 < 2 ^ 64 }
     {
         let Some(next) = self.next.checked_add(1) else {
             self.refused = self.refused.saturating_add(1);

@@ -13,6 +13,7 @@ use Rattle.bw_exchange.specs.Answering.{Answered, AnswersAll}
 use Rattle.bw_session.specs.Books.{HoldsBook}
 use Rattle.bw_session.specs.ServerTurns.{ServerTurn}
 use Rattle.bw_session.specs.declared.server.Server.{Server}
+use Rattle.bw_session.specs.SeenServers.{server_store, server_limit}
 use Rattle.bw_console.specs.Outcomes.{Outcome as Did}
 use Rattle.bw_console.specs.declared.exit.Exit.TheVariants.{Done}
 use Rattle.bw_ports.specs.declared.dial.Dial.{Ghosts as DialGhosts}
@@ -47,8 +48,8 @@ module _ {F P D R W X Y : Type 0} (feed : FeedGhosts F FeedFault) (pause : Pause
   pub record ServesUpload (first : List ℕ → Option (List ℕ)) (name : List ℕ)
       (requests : List Request) (used : List (UsedLink R W)) (links : List (ℕ × LinkBytes))
       (trace : List Tagged) (old new : Server X Y S J) : Type 0 where
-    pub honest : IsTrue (S.honest old.stores.store)
-    pub limit : old.limit ≤ 4294967294
+    pub honest : IsTrue (S.honest (server_store old))
+    pub limit : server_limit old ≤ 4294967294
     pub book : Book
     pub held : HoldsBook S J first old book
     pub had : HasOnly requests (log_of book name)
@@ -79,7 +80,7 @@ module _ {F P D R W X Y : Type 0} (feed : FeedGhosts F FeedFault) (pause : Pause
       IsTrue (is_name name) →
       ServesUpload first name requests used links trace server later →
       AnswersAll (ServerTurn S J) later more last →
-      ReadsAsRecording (S.contents last.stores.store name) copy
+      ReadsAsRecording (S.contents (server_store last) name) copy
 
   -- So it is in each upload that stored all requests of the recording.
   abbrev pub UploadsAreCopied : Options → Recording → Type 0

@@ -12,6 +12,7 @@ use Rattle.bw_exchange.specs.Answering.{Answered, AnswersAll}
 use Rattle.bw_session.specs.Books.{HoldsBook}
 use Rattle.bw_session.specs.ServerTurns.{ServerTurn}
 use Rattle.bw_session.specs.declared.server.Server.{Server}
+use Rattle.bw_session.specs.SeenServers.{server_store, server_limit}
 use Rattle.bw_connections.specs.Keeping.{Tagged, all_answered, own}
 use Rattle.bw_delivery.specs.Deliveries.{LinkBytes, IsTrueLink, AnswersOver, IsOfAnother, HasOnly}
 use Rattle.bw_delivery.specs.Deliveries.{HeardOverLinks, IsDelivered}
@@ -34,7 +35,7 @@ module _ {X Y : Type 0} (S : StoreGhosts X) (J : JournalGhosts Y) where
   pub record ServesSender (first : List ℕ → Option (List ℕ)) (name : List ℕ) (requests : List Request)
       (verdicts : List (Option Verdict)) (links : List (ℕ × LinkBytes)) (trace : List Tagged)
       (old new : Server X Y S J) : Type 0 where
-    pub honest : IsTrue (S.honest old.stores.store)
+    pub honest : IsTrue (S.honest (server_store old))
     pub book : Book
     pub held : HoldsBook S J first old book
     pub had : HasOnly requests (log_of book name)
@@ -63,4 +64,4 @@ module _ {X Y : Type 0} (S : StoreGhosts X) (J : JournalGhosts Y) where
       ServesSender first name requests verdicts links trace old new →
       HasAllStored requests verdicts → IsTrue (list_any is_close requests) →
       (more : List Answered) (last : Server X Y S J) → AnswersAll (ServerTurn S J) new more last →
-      S.contents last.stores.store name ≡ file_of (made_by false requests) old.limit
+      S.contents (server_store last) name ≡ file_of (made_by false requests) (server_limit old)

@@ -26,6 +26,7 @@ use Rattle.bw_exchange.specs.TurnRuns.{IsRun, run_without_faults}
 use Rattle.bw_session.specs.declared.server.Server.{Server}
 use Rattle.bw_exchange.specs.Served.{AnswersAllRead}
 use Rattle.bw_session.specs.ServerTurns.{ServerTurn}
+use Rattle.bw_session.specs.SeenServers.{server_store, server_limit}
 use Rattle.bw_engine.specs.ServerRuns.{all_done}
 use Rattle.bw_engine.specs.declared.ingest.Run.{Run}
 use Rattle.bw_engine.specs.declared.ingest.Reported.{Reported}
@@ -172,12 +173,12 @@ module _ {X Y : Type 0} (S : StoreGhosts X) (J : JournalGhosts Y) (limit : ℕ) 
   -- that is left: whatever store it is, it was asked what the turns ask, and nothing else.
   pub record WentThrough (answered : List Answered) (after : X) : Type 0 where
     pub server : Server X Y S J
-    pub store_is : server.stores.store ≡ before
-    pub limit_is : server.limit ≡ limit
+    pub store_is : server_store server ≡ before
+    pub limit_is : server_limit server ≡ limit
     pub new : HoldsBook S J (S.contents before) server []
     pub following : Server X Y S J
     pub by_server : AnswersAll (ServerTurn S J) server answered following
-    pub left : after ≡ following.stores.store
+    pub left : after ≡ server_store following
 
   -- it did; or no server was made, nothing was answered, and the store is as it was
   abbrev pub ReceivedBack : List Answered → X → Type 0

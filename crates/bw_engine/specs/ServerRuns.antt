@@ -11,6 +11,7 @@ use Rattle.bw_session.specs.declared.server.Server.{Server}
 use Rattle.bw_exchange.specs.Answering.{Answered, AnswersAll, replies_of}
 use Rattle.bw_exchange.specs.TurnRuns.{IsRun}
 use Rattle.bw_session.specs.ServerTurns.{most_replies, ServerTurn}
+use Rattle.bw_session.specs.SeenServers.{server_store, server_journal, server_limit}
 
 -- how many numbers have their verdicts, of all names
 abbrev pub all_done : Book → ℕ
@@ -28,9 +29,9 @@ module _ {X Y : Type 0} (S : StoreGhosts X) (J : JournalGhosts Y) where
     -- the store was called at most four times for each number that was done, and four for each call
     -- that failed
     pub calls : failures_of S J new < last_count →
-        S.calls new.stores.store + 4 * (all_done book + failures_of S J old)
-        ≤ S.calls old.stores.store + 4 * (all_done later + failures_of S J new)
-    pub noted : IsTrue (J.honest old.stores.journal) → NotesBook S J first old book →
+        S.calls (server_store new) + 4 * (all_done book + failures_of S J old)
+        ≤ S.calls (server_store old) + 4 * (all_done later + failures_of S J new)
+    pub noted : IsTrue (J.honest (server_journal old)) → NotesBook S J first old book →
         NotesBook S J first new later
 
   -- A server may answer these frames so. Over any store and journal its limit stays, these are as
@@ -38,16 +39,16 @@ module _ {X Y : Type 0} (S : StoreGhosts X) (J : JournalGhosts Y) where
   -- counted; over an honest store it is a run from every book that the server holds.
   pub record ServerRun (old : Server X Y S J) (answered : List Answered)
       (new : Server X Y S J) : Type 0 where
-    pub limit : new.limit ≡ old.limit
-    pub honest : S.honest new.stores.store ≡ S.honest old.stores.store
-    pub honest_notes : J.honest new.stores.journal ≡ J.honest old.stores.journal
+    pub limit : server_limit new ≡ server_limit old
+    pub honest : S.honest (server_store new) ≡ S.honest (server_store old)
+    pub honest_notes : J.honest (server_journal new) ≡ J.honest (server_journal old)
     pub few : AllByRecursion (λ a. length a.replies ≤ most_replies) answered
     -- the count of failures never falls, and rises by one at most with each frame
     pub no_less : failures_of S J old ≤ failures_of S J new
     pub most : failures_of S J new ≤ failures_of S J old + length answered
     pub delays : failures_of S J old < last_count →
         IsTrue (list_any is_delayed (replies_of answered)) → failures_of S J old < failures_of S J new
-    pub runs : IsTrue (S.honest old.stores.store) → (first : List ℕ → Option (List ℕ))
+    pub runs : IsTrue (S.honest (server_store old)) → (first : List ℕ → Option (List ℕ))
         (book : Book) → HoldsBook S J first old book → RunsOn first old new book answered
 
   -- The answers of a server, one frame after another, are such a run.

@@ -7,7 +7,7 @@ use Rattle.bw_stream.specs.declared.source.Source.{Ghosts as Reader}
 use Rattle.bw_sender.specs.declared.sender.Sender.{Sender}
 use Rattle.bw_wire.specs.Codecs.{reply_codec}
 use Rattle.bw_wire.specs.Held.{longest_piece, longest_stream}
-use Rattle.bw_wire.specs.Pending.{Nothing, next_of}
+use Rattle.bw_wire.specs.Pending.{Pending, Nothing, next_of}
 use Rattle.bw_engine.specs.declared.send_fault.SendFault.{SendFault}
 use Rattle.bw_engine.specs.declared.send_fault.SendFault.TheVariants as faults
 use Rattle.bw_engine.specs.declared.stop.Stop.{Stop}
@@ -17,6 +17,14 @@ use Rattle.bw_engine.specs.declared.talk.Talk.{Talk}
 use Rattle.bw_exchange.specs.Served.{HasGiven, HasNoneLeft}
 use Rattle.bw_engine.specs.Hears.{CountsAll, GaveReplies, IsAllHeard, IsHeardUpTo}
 use Rattle.bw_engine.specs.Listening.{NotesStop}
+
+-- the first number that wasn't said over the link
+abbrev pub first_unsaid : Talk → ℕ
+first_unsaid t = t.next
+
+-- what is kept of the bytes that were read over it
+abbrev pub talk_pending : Talk → Pending
+talk_pending t = t.framer
 
 -- these bytes were read over the link, and these are all the whole replies among them
 pub record HasHeard (input : List ℕ) (heard : List Reply) (t : Talk) : Type 0 where

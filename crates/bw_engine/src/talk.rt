@@ -56,14 +56,14 @@ pub struct Talk {
 }
 
 impl Talk {
-    ghost use Rattle.bw_engine.specs.Talks.{HasHeard, Listens};
+    ghost use Rattle.bw_engine.specs.Talks.{HasHeard, Listens, first_unsaid, talk_pending};
 
     /// A talk in which nothing was said or heard yet.
     ///
     /// # Errors
     /// `AllocError` if memory was refused.
     pub fn new(alloc: Global) -> Result<Talk, AllocError>
-        ensures next { IfOk result (λ t. t.next ≡ 0) }
+        ensures next { IfOk result (λ t. first_unsaid t ≡ 0) }
         ensures heard { IfOk result (λ t. HasHeard [] [] t) }
     {
         Ok(Talk {
@@ -89,16 +89,16 @@ impl Talk {
         writer: &mut W,
     ) -> Result<(), SendFault>
         ensures ok { (s : Defined) → IsSender s sender.now → OnOk result
-            (WritesMessages (unsaid_messages s self.old.next)
+            (WritesMessages (unsaid_messages s (first_unsaid self.old))
             (W.written writer.old) (W.written writer.new)) }
         ensures next { (s : Defined) → IsSender s sender.now → OnOk result
-            (self.new.next ≡ length s.offered) }
+            (first_unsaid self.new ≡ length s.offered) }
         ensures err { (s : Defined) → IsSender s sender.now → IfErr result (λ fault.
-            BreaksOffSaying fault (unsaid_messages s self.old.next)
+            BreaksOffSaying fault (unsaid_messages s (first_unsaid self.old))
             (W.written writer.old) (W.written writer.new)) }
         ensures why { IfErr result BreaksBatch }
         ensures count { W.failures writer.new ≡ sends_failed result (W.failures writer.old) }
-        ensures heard { self.new.framer ≡ self.old.framer }
+        ensures heard { talk_pending self.new ≡ talk_pending self.old }
     {
         let next = self.next;
         say_from(alloc, sender, next, writer)?;
@@ -120,7 +120,7 @@ impl Talk {
     ) -> Result<Listened, SendFault>
         ensures listens { Listens R.Source result self.old self.new sender.old sender.new
             reader.old reader.new }
-        ensures said { self.new.next ≡ self.old.next }
+        ensures said { first_unsaid self.new ≡ first_unsaid self.old }
     {
         if self.framer.fed() > LAST_PIECE {
             return Err(SendFault::TurnLimit);

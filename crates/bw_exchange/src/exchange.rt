@@ -56,6 +56,7 @@ pub struct Exchange {
 
 impl Exchange {
     ghost use Rattle.bw_exchange.specs.Parts.{wants_piece, end_of, waiting_in, pending_of};
+    ghost use Rattle.bw_exchange.specs.Parts.{reply_room};
     ghost use Rattle.bw_exchange.specs.Done.{HasDone, DoesMore, AnswersSome, IsIdle};
 
     /// Creates an exchange that has been fed nothing.
@@ -69,7 +70,7 @@ impl Exchange {
         ensures fresh { IfOk result (λ e. HasDone [] [] [] e) }
         ensures wants_read { IfOk result (λ e. wants_piece e ≡ true) }
         ensures waiting { IfOk result (λ e. waiting_in e ≡ []) }
-        ensures small { IfOk result (λ e. vec_capacity e.outgoing ≡ most_waiting) }
+        ensures small { IfOk result (λ e. reply_room e ≡ most_waiting) }
     {
         Ok(Exchange {
             framer: Framer::new(alloc),

@@ -143,10 +143,12 @@ pub struct Metered<T> {
 }
 
 impl<T> Metered<T> {
+    ghost use Rattle.bw_exchange.specs.Metered.{metered_server, metered_counts};
+
     /// Wraps a server; nothing is counted yet.
     pub fn new(server: T) -> Metered<T>
-        ensures server { result.server ≡ server }
-        ensures link_stats { result.link_stats ≡ none_counted }
+        ensures server { metered_server result ≡ server }
+        ensures link_stats { metered_counts result ≡ none_counted }
     {
         Metered {
             server,
@@ -156,31 +158,31 @@ impl<T> Metered<T> {
 
     /// The wrapped server.
     pub fn server(&self) -> &T
-        ensures { result.now ≡ self.now.server }
+        ensures { result.now ≡ metered_server self.now }
     {
         &self.server
     }
 
     /// What was counted since the last `start`.
     pub fn link_stats(&self) -> &LinkStats
-        ensures { result.now ≡ self.now.link_stats }
+        ensures { result.now ≡ metered_counts self.now }
     {
         &self.link_stats
     }
 
     /// Swaps the counts so far with another link's, to continue from those.
     pub fn swap_link_stats(&mut self, link_stats: &mut LinkStats)
-        ensures server { self.new.server ≡ self.old.server }
-        ensures link_stats { self.new.link_stats ≡ link_stats.old }
-        ensures given { link_stats.new ≡ self.old.link_stats }
+        ensures server { metered_server self.new ≡ metered_server self.old }
+        ensures link_stats { metered_counts self.new ≡ link_stats.old }
+        ensures given { link_stats.new ≡ metered_counts self.old }
     {
         mem::swap(&mut self.link_stats, link_stats);
     }
 
     /// Starts counting for another link.
     pub fn start(&mut self)
-        ensures server { self.new.server ≡ self.old.server }
-        ensures link_stats { self.new.link_stats ≡ none_counted }
+        ensures server { metered_server self.new ≡ metered_server self.old }
+        ensures link_stats { metered_counts self.new ≡ none_counted }
     {
         self.link_stats = LinkStats::new();
     }

@@ -13,7 +13,8 @@ use Rattle.bw_folder.specs.Folders.{take_path}
 use Rattle.bw_folder.specs.Journals.{journal_path, notes_at, existences, existence_of, header_at}
 use Rattle.bw_folder.proofs.Headings.{moved}
 use Rattle.bw_folder.specs.RestingJournals.{closed_path, is_loose, folder_journals, KeepsBeside}
-use Rattle.bw_folder.specs.RestingFolders.{StaysOpen, OnlyReads, MovesFile, inner_header, all_journals}
+use Rattle.bw_folder.specs.JournalFolders.{header_in_folder}
+use Rattle.bw_folder.specs.RestingFolders.{StaysOpen, OnlyReads, MovesFile, all_journals}
 use Rattle.bw_folder.proofs.ClosedNames.{closed_gone, closed_others}
 use Rattle.bw_folder.specs.declared.journal.OpenJournal.{OpenJournal}
 use Rattle.bw_folder.specs.declared.journal.FolderJournal.{FolderJournal}
@@ -102,7 +103,7 @@ module _ {D F : Type 0} (G : Ghosts D F) where
   -- what a journal begins with, by its parts
   header_same : (old new : FolderJournal D F G) → StaysOpen G old new →
       ((n : List ℕ) → G.contents new.disk (take_path (string_bytes old.folder) n) ≡ G.contents old.disk (take_path (string_bytes old.folder) n)) →
-      (n : List ℕ) → inner_header G new n ≡ inner_header G old n
+      (n : List ℕ) → header_in_folder new n ≡ header_in_folder old n
   header_same old new s takes n =
       ap (λ (x : ℕ). header_at x (existences new.journals.items) (G.contents new.disk) (string_bytes new.folder) n) s.limit
       ∙ ap (λ v. header_at old.limit (existences v.items) (G.contents new.disk) (string_bytes new.folder) n) s.journals
@@ -112,14 +113,14 @@ module _ {D F : Type 0} (G : Ghosts D F) where
 
   -- two states with the same folder
   in_folder : (old new : RestingFolderJournal D F G) → new.inner.folder ≡ old.inner.folder →
-      SameJournals (all_journals G old) (folder_journals (is_loose new.loose) (inner_header G new.inner) (G.contents new.inner.disk) (string_bytes old.inner.folder)) →
+      SameJournals (all_journals G old) (folder_journals (is_loose new.loose) (header_in_folder new.inner) (G.contents new.inner.disk) (string_bytes old.inner.folder)) →
       SameJournals (all_journals G old) (all_journals G new)
   in_folder old new e s =
-      subst (λ v. SameJournals (all_journals G old) (folder_journals (is_loose new.loose) (inner_header G new.inner)
+      subst (λ v. SameJournals (all_journals G old) (folder_journals (is_loose new.loose) (header_in_folder new.inner)
       (G.contents new.inner.disk) (string_bytes v))) (sym e) s
 
   pub reads_header : (old new : FolderJournal D F G) → OnlyReads G old new → IsTrue (G.honest old.disk) → (n : List ℕ) →
-      inner_header G new n ≡ inner_header G old n
+      header_in_folder new n ≡ header_in_folder old n
   reads_header old new r honest n =
       header_same old new r.stays (λ m. r.disk.contents honest (take_path (string_bytes old.folder) m)) n
 
@@ -128,7 +129,7 @@ module _ {D F : Type 0} (G : Ghosts D F) where
       IsTrue (G.honest old.inner.disk) → SameJournals (all_journals G old) (all_journals G new)
   reads_same old new r el honest =
       in_folder old new r.stays.folder
-      (same_parts (is_loose old.loose) (is_loose new.loose) (inner_header G old.inner) (inner_header G new.inner)
+      (same_parts (is_loose old.loose) (is_loose new.loose) (header_in_folder old.inner) (header_in_folder new.inner)
       (G.contents old.inner.disk) (G.contents new.inner.disk) (string_bytes old.inner.folder)
       (λ n. ap (λ v. is_loose v n) el) (reads_header old.inner new.inner r honest) (r.disk.contents honest))
 
@@ -142,20 +143,20 @@ module _ {D F : Type 0} (G : Ghosts D F) where
       let c' = G.contents new.inner.disk in
       let folder : List ℕ = string_bytes old.inner.folder in
       in_folder old new s.folder
-      (moved_loose (is_loose old.loose) (is_loose new.loose) (inner_header G old.inner) (inner_header G new.inner) c c' folder
+      (moved_loose (is_loose old.loose) (is_loose new.loose) (header_in_folder old.inner) (header_in_folder new.inner) c c' folder
       name (λ n. ap (λ v. is_loose v n) el) s.limit
       (λ n e. header_same old.inner new.inner s (keeps_takes c c' folder name m.keeps) n) was m.same
       (keeps_noted c c' folder name m.keeps) (keeps_closed c c' folder name m.keeps))
 
   -- something was written where a name is noted that isn't loose
   pub written_beside : (name : List ℕ) (old new : RestingFolderJournal D F G) → new.inner.folder ≡ old.inner.folder →
-      new.loose ≡ old.loose → ((n : List ℕ) → inner_header G new.inner n ≡ inner_header G old.inner n) →
+      new.loose ≡ old.loose → ((n : List ℕ) → header_in_folder new.inner n ≡ header_in_folder old.inner n) →
       KeepsOthers (G.contents old.inner.disk) (G.contents new.inner.disk) (journal_path (string_bytes old.inner.folder) name) →
       KeepsBeside name (all_journals G old) (all_journals G new)
   written_beside name old new ef el eh keeps =
-      subst (λ v. KeepsBeside name (all_journals G old) (folder_journals (is_loose new.loose) (inner_header G new.inner)
+      subst (λ v. KeepsBeside name (all_journals G old) (folder_journals (is_loose new.loose) (header_in_folder new.inner)
       (G.contents new.inner.disk) (string_bytes v))) (sym ef)
-      (beside (is_loose old.loose) (is_loose new.loose) (inner_header G old.inner) (inner_header G new.inner)
+      (beside (is_loose old.loose) (is_loose new.loose) (header_in_folder old.inner) (header_in_folder new.inner)
       (G.contents old.inner.disk) (G.contents new.inner.disk) (string_bytes old.inner.folder) name
       (λ n. ap (λ v. is_loose v n) el) eh keeps)
 
@@ -194,7 +195,7 @@ module _ {D F : Type 0} (G : Ghosts D F) where
     contents_kept p = ap (λ (d : D). G.contents d p) disk
 
     -- what the journals of other names begin with
-    others_kept : (n : List ℕ) → bytes_eq name n ≡ false → inner_header G new.inner n ≡ inner_header G old.inner n
+    others_kept : (n : List ℕ) → bytes_eq name n ≡ false → header_in_folder new.inner n ≡ header_in_folder old.inner n
     others_kept n e =
         ap (λ (x : ℕ). header_at x (existences new.inner.journals.items) (G.contents new.inner.disk) (string_bytes new.inner.folder) n) limit
         ∙ ap (λ (d : D). header_at old.inner.limit (existences new.inner.journals.items) (G.contents d) (string_bytes new.inner.folder) n) disk
@@ -219,7 +220,7 @@ module _ {D F : Type 0} (G : Ghosts D F) where
         SameJournals (all_journals G old) (all_journals G new)
     closed_loose el was =
         in_folder old new folder
-        (moved_loose (is_loose old.loose) (is_loose new.loose) (inner_header G old.inner) (inner_header G new.inner)
+        (moved_loose (is_loose old.loose) (is_loose new.loose) (header_in_folder old.inner) (header_in_folder new.inner)
         (G.contents old.inner.disk) (G.contents new.inner.disk) (string_bytes old.inner.folder) name el limit others_kept was
         (ap (λ (d : D). option_or (G.contents d (journal_path (string_bytes old.inner.folder) name))
         (G.contents d (closed_path (string_bytes old.inner.folder) name))) disk)
@@ -232,7 +233,7 @@ module _ {D F : Type 0} (G : Ghosts D F) where
         SameJournals (all_journals G old) (all_journals G new)
     closed_open el tied own free =
         in_folder old new folder
-        (loosened (is_loose old.loose) (is_loose new.loose) (inner_header G old.inner) (inner_header G new.inner)
+        (loosened (is_loose old.loose) (is_loose new.loose) (header_in_folder old.inner) (header_in_folder new.inner)
         (G.contents old.inner.disk) (G.contents new.inner.disk) (string_bytes old.inner.folder) name contents_kept el tied
         (ap (λ (k : Option Bool). unwrap_or k (is_some (G.contents old.inner.disk (take_path (string_bytes old.inner.folder) name)))) own)
         limit others_kept free)
@@ -265,11 +266,11 @@ module _ {D F : Type 0} (G : Ghosts D F) where
 
   -- a journal that wasn't opened
   pub unopened : (old new : RestingFolderJournal D F G) → new.inner.folder ≡ old.inner.folder → new.loose ≡ old.loose →
-      ((n : List ℕ) → inner_header G new.inner n ≡ inner_header G old.inner n) →
+      ((n : List ℕ) → header_in_folder new.inner n ≡ header_in_folder old.inner n) →
       KeepsEach (G.contents old.inner.disk) (G.contents new.inner.disk) → SameJournals (all_journals G old) (all_journals G new)
   unopened old new ef el eh ec =
       in_folder old new ef
-      (same_parts (is_loose old.loose) (is_loose new.loose) (inner_header G old.inner) (inner_header G new.inner)
+      (same_parts (is_loose old.loose) (is_loose new.loose) (header_in_folder old.inner) (header_in_folder new.inner)
       (G.contents old.inner.disk) (G.contents new.inner.disk) (string_bytes old.inner.folder)
       (λ n. ap (λ v. is_loose v n) el) eh ec)
 
@@ -277,8 +278,8 @@ module _ {D F : Type 0} (G : Ghosts D F) where
   module _ (name : List ℕ) (old new : RestingFolderJournal D F G) (folder : new.inner.folder ≡ old.inner.folder)
       (limit : new.inner.limit ≡ old.inner.limit)
       (same : KeepsEach (G.contents old.inner.disk) (G.contents new.inner.disk))
-      (heads : (n : List ℕ) → inner_header G new.inner n
-      ≡ cond (bytes_eq name n) (record (inner_header G old.inner n) { existed = false }) (inner_header G old.inner n))
+      (heads : (n : List ℕ) → header_in_folder new.inner n
+      ≡ cond (bytes_eq name n) (record (header_in_folder old.inner n) { existed = false }) (header_in_folder old.inner n))
       (el : (n : List ℕ) → is_loose new.loose n ≡ cond (bytes_eq name n) false (is_loose old.loose n))
       (was : is_loose old.loose name ≡ true)
       (free : G.contents old.inner.disk (closed_path (string_bytes old.inner.folder) name) ≡ None) where
@@ -292,18 +293,18 @@ module _ {D F : Type 0} (G : Ghosts D F) where
     pub opened_same : SameJournals (all_journals G old) (all_journals G new)
     opened_same =
         in_folder old new folder
-        (same_back (folder_journals (is_loose new.loose) (inner_header G new.inner) (G.contents new.inner.disk)
+        (same_back (folder_journals (is_loose new.loose) (header_in_folder new.inner) (G.contents new.inner.disk)
         (string_bytes old.inner.folder)) (all_journals G old)
-        (loosened (is_loose new.loose) (is_loose old.loose) (inner_header G new.inner) (inner_header G old.inner)
+        (loosened (is_loose new.loose) (is_loose old.loose) (header_in_folder new.inner) (header_in_folder old.inner)
         (G.contents new.inner.disk) (G.contents old.inner.disk) (string_bytes old.inner.folder) name
         (λ p. sym (same p)) loose_back
         (el name ∙ ap (λ (b : Bool). cond b false (is_loose old.loose name)) (name_refl name))
         (ap (λ (h : Header). h.existed) (heads name
-        ∙ ap (λ (b : Bool). cond b (record (inner_header G old.inner name) { existed = false }) (inner_header G old.inner name))
+        ∙ ap (λ (b : Bool). cond b (record (header_in_folder old.inner name) { existed = false }) (header_in_folder old.inner name))
         (name_refl name)))
         (sym limit)
-        (λ n e. sym (heads n ∙ ap (λ (b : Bool). cond b (record (inner_header G old.inner n) { existed = false })
-        (inner_header G old.inner n)) e))
+        (λ n e. sym (heads n ∙ ap (λ (b : Bool). cond b (record (header_in_folder old.inner n) { existed = false })
+        (header_in_folder old.inner n)) e))
         (same (closed_path (string_bytes old.inner.folder) name) ∙ free)))
 
   -- after a note under a name that isn't loose

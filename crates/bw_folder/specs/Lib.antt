@@ -1,5 +1,7 @@
 pub mod Folders
 pub mod Journals
 pub mod Syncing
+pub mod TakeFolders
+pub mod JournalFolders
 pub mod RestingJournals
 pub mod RestingFolders

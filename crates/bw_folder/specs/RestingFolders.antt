@@ -1,12 +1,12 @@
 -- What is done to the journals of a folder of which some rest.
-use Rattle.std.specs.Prelude.{◌≡◌, ◌⊎◌, Bool, ℕ, List, Result, IsTrue, IfOk, OnErr}
+use Rattle.std.specs.Prelude.{◌≡◌, ◌⊎◌, Bool, ℕ, List, Option, Result, IsTrue, IfOk, OnErr}
 use Rattle.std.specs.Prelude.{string_bytes}
-use Rattle.bw_journal.specs.JournalHeaders.{Header}
 use Rattle.bw_journal.specs.Resting.{Journals}
 use Rattle.bw_disk.specs.DiskSteps.{StaysWhole}
 use Rattle.bw_disk.specs.Volumes.{Moves, Renames, KeepsEach}
 use Rattle.bw_disk.specs.declared.disk.Disk.{Ghosts}
-use Rattle.bw_folder.specs.Journals.{existences, header_at}
+use Rattle.bw_folder.specs.Journals.{existences, failure_of}
+use Rattle.bw_folder.specs.JournalFolders.{header_in_folder}
 use Rattle.bw_folder.specs.RestingJournals.{is_loose, folder_journals}
 use Rattle.bw_folder.specs.declared.journal.FolderJournal.{FolderJournal}
 use Rattle.bw_folder.specs.declared.resting.RestingFolderJournal.{RestingFolderJournal}
@@ -37,20 +37,48 @@ module _ {D F : Type 0} (G : Ghosts D F) where
         (Moves from to (G.contents old.disk) (G.contents new.disk)
         ⊎ KeepsEach (G.contents old.disk) (G.contents new.disk))
 
-  -- what the journals that aren't loose begin with, where none rests
-  abbrev pub inner_header : FolderJournal D F G → List ℕ → Header
-  inner_header j name = header_at j.limit (existences j.journals.items) (G.contents j.disk)
-      (string_bytes j.folder) name
-
   -- all journals of the folder
   abbrev pub all_journals : RestingFolderJournal D F G → Journals
-  all_journals j = folder_journals (is_loose j.loose) (inner_header j.inner) (G.contents j.inner.disk)
+  all_journals j = folder_journals (is_loose j.loose) (header_in_folder j.inner) (G.contents j.inner.disk)
       (string_bytes j.inner.folder)
 
   -- the settings and the count of failures are the same, and the disk is as honest as it was
   pub record KeepsSettings (old new : RestingFolderJournal D F G) : Type 0 where
     pub limit : new.inner.limit ≡ old.inner.limit
     pub sync : new.inner.sync ≡ old.inner.sync
-    pub folder : new.inner.folder ≡ old.inner.folder
+    pub folder : string_bytes new.inner.folder ≡ string_bytes old.inner.folder
     pub failures : new.inner.failures ≡ old.inner.failures
     pub honest : G.honest new.inner.disk ≡ G.honest old.inner.disk
+
+module _ {D F : Type 0} {G : Ghosts D F} where
+  -- the journals that don't rest
+  abbrev pub awake_journals : RestingFolderJournal D F G → FolderJournal D F G
+  awake_journals j = j.inner
+
+  -- the disk of all journals
+  abbrev pub disk_of_all : RestingFolderJournal D F G → D
+  disk_of_all j = j.inner.disk
+
+  -- the path of their folder
+  abbrev pub folder_of_all : RestingFolderJournal D F G → List ℕ
+  folder_of_all j = string_bytes j.inner.folder
+
+  -- whether notes are synced
+  abbrev pub syncs_all : RestingFolderJournal D F G → Bool
+  syncs_all j = j.inner.sync
+
+  -- how many calls have failed
+  abbrev pub failures_of_all : RestingFolderJournal D F G → ℕ
+  failures_of_all j = j.inner.failures
+
+  -- the names of open journals, each with whether a file of it existed before
+  abbrev pub open_of_all : RestingFolderJournal D F G → List (List ℕ × Bool)
+  open_of_all j = existences j.inner.journals.items
+
+  -- whether a sync failed for a name's journal, if it is open
+  abbrev pub sync_failed_of_all : RestingFolderJournal D F G → List ℕ → Option Bool
+  sync_failed_of_all j name = failure_of j.inner.journals.items name
+
+  -- whether the journal of a name is loose
+  abbrev pub is_loose_in : RestingFolderJournal D F G → List ℕ → Bool
+  is_loose_in j name = is_loose j.loose name

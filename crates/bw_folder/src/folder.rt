@@ -5,7 +5,8 @@ ghost use Rattle.std.specs.List.{All, Contains, HoldsAt};
 ghost use Rattle.bw_store.specs.Stores.{Counts, Creates, Written, MayTear, KeepsOthers};
 ghost use Rattle.bw_disk.specs.Disks.{IsOneCall, AsksOnce, Syncs};
 ghost use Rattle.bw_disk.specs.DiskSteps.{StaysWhole};
-ghost use Rattle.bw_folder.specs.Folders.{take_path as path_of_take, take_content, open_names, opened_by, found_by};
+ghost use Rattle.bw_folder.specs.Folders.{take_path as path_of_take, take_content, open_names};
+ghost use Rattle.bw_folder.specs.Folders.{opened_by, found_by};
 ghost use Rattle.bw_folder.specs.Folders.{closed_by};
 ghost use Rattle.std.specs.Prelude.{filter, not};
 ghost use Rattle.std.specs.Str.{bytes_eq};
@@ -41,6 +42,9 @@ pub struct FolderStore<D: Disk> {
 }
 
 impl<R: Files + Drop> FolderStore<SystemDisk<R>> {
+    ghost use Rattle.bw_folder.specs.TakeFolders.{takes_disk, takes_folder, open_takes};
+    ghost use Rattle.bw_folder.specs.TakeFolders.{takes_calls, takes_failures};
+
     /// The store of a folder of the system, which need not exist yet.
     ///
     /// # Errors
@@ -50,17 +54,20 @@ impl<R: Files + Drop> FolderStore<SystemDisk<R>> {
     /// - When memory is refused.
     /// - What the folder holds: by contract this store isn't honest.
     pub fn new(rt: R, alloc: Global, folder: &str) -> Result<FolderStore<SystemDisk<R>>, AllocError>
-        ensures rt { IfOk result (λ s. s.disk.rt ≡ rt) }
-        ensures folder { IfOk result (λ s. string_bytes s.folder ≡ folder.now) }
-        ensures takes { IfOk result (λ s. s.takes.items ≡ []) }
-        ensures failures { IfOk result (λ s. s.call_counter.failures ≡ 0) }
-        ensures calls { IfOk result (λ s. s.call_counter.calls ≡ 0) }
+        ensures rt { IfOk result (λ s. (takes_disk s).rt ≡ rt) }
+        ensures folder { IfOk result (λ s. takes_folder s ≡ folder.now) }
+        ensures takes { IfOk result (λ s. open_takes s ≡ []) }
+        ensures failures { IfOk result (λ s. takes_failures s ≡ 0) }
+        ensures calls { IfOk result (λ s. takes_calls s ≡ 0) }
     {
         FolderStore::over(SystemDisk::new(rt), alloc, folder)
     }
 }
 
 impl<D: Disk> FolderStore<D> {
+    ghost use Rattle.bw_folder.specs.TakeFolders.{takes_disk, takes_folder, open_takes};
+    ghost use Rattle.bw_folder.specs.TakeFolders.{takes_calls, takes_failures};
+
     /// The store of a folder of a disk.
     ///
     /// # Errors
@@ -69,11 +76,11 @@ impl<D: Disk> FolderStore<D> {
     /// # Not specified
     /// When memory is refused.
     pub fn over(disk: D, alloc: Global, folder: &str) -> Result<FolderStore<D>, AllocError>
-        ensures disk { IfOk result (λ s. s.disk ≡ disk) }
-        ensures folder { IfOk result (λ s. string_bytes s.folder ≡ folder.now) }
-        ensures takes { IfOk result (λ s. s.takes.items ≡ []) }
-        ensures failures { IfOk result (λ s. s.call_counter.failures ≡ 0) }
-        ensures calls { IfOk result (λ s. s.call_counter.calls ≡ 0) }
+        ensures disk { IfOk result (λ s. takes_disk s ≡ disk) }
+        ensures folder { IfOk result (λ s. takes_folder s ≡ folder.now) }
+        ensures takes { IfOk result (λ s. open_takes s ≡ []) }
+        ensures failures { IfOk result (λ s. takes_failures s ≡ 0) }
+        ensures calls { IfOk result (λ s. takes_calls s ≡ 0) }
     {
         let folder = String::from_str(alloc, folder)?;
         Ok(FolderStore::in_folder(disk, alloc, folder))
@@ -81,11 +88,11 @@ impl<D: Disk> FolderStore<D> {
 
     /// The same for a folder whose path is owned, so that nothing can fail.
     pub fn in_folder(disk: D, alloc: Global, folder: String) -> FolderStore<D>
-        ensures disk { result.disk ≡ disk }
-        ensures folder { string_bytes result.folder ≡ string_bytes folder }
-        ensures takes { result.takes.items ≡ [] }
-        ensures failures { result.call_counter.failures ≡ 0 }
-        ensures calls { result.call_counter.calls ≡ 0 }
+        ensures disk { takes_disk result ≡ disk }
+        ensures folder { takes_folder result ≡ string_bytes folder }
+        ensures takes { open_takes result ≡ [] }
+        ensures failures { takes_failures result ≡ 0 }
+        ensures calls { takes_calls result ≡ 0 }
     {
         FolderStore {
             disk,
@@ -98,21 +105,21 @@ impl<D: Disk> FolderStore<D> {
 
     /// The disk of the folder.
     pub fn disk(&self) -> &D
-        ensures { result.now ≡ self.now.disk }
+        ensures { result.now ≡ takes_disk self.now }
     {
         &self.disk
     }
 
     /// The path of the folder.
     pub fn folder(&self) -> &str
-        ensures { result.now ≡ string_bytes self.now.folder }
+        ensures { result.now ≡ takes_folder self.now }
     {
         self.folder.as_str()
     }
 
     /// The disk of the folder, by value.
     pub fn into_disk(self) -> D
-        ensures { result ≡ self.disk }
+        ensures { result ≡ takes_disk self }
     {
         let FolderStore {
             disk,
@@ -196,6 +203,9 @@ impl<D: Disk> FolderStore<D> {
 }
 
 impl<D: Volume> FolderStore<D> {
+    ghost use Rattle.bw_folder.specs.TakeFolders.{takes_disk, takes_folder, open_takes};
+    ghost use Rattle.bw_folder.specs.TakeFolders.{takes_calls, takes_failures, take_in_folder};
+
     /// Opens the file of a take that an earlier server made, by one call of the disk, so that it
     /// can be written from then on. That is no call of the store. It returns false if nothing is
     /// there.
@@ -206,14 +216,15 @@ impl<D: Volume> FolderStore<D> {
     /// # Not specified
     /// When memory is refused: an error without a call of the disk has no other cause.
     pub fn adopt(&mut self, name: &Name) -> Result<bool, StoreFault>
-        ensures call_counter { self.new.call_counter ≡ self.old.call_counter }
-        ensures folder { self.new.folder ≡ self.old.folder }
-        ensures disk { StaysWhole D.Disk self.old.disk self.new.disk }
-        ensures found { IsTrue (D.honest self.old.disk) → IfOk result (λ found. IsTrue found
-            ↔ IsSome (take_content (D.contents self.old.disk) (string_bytes self.old.folder) name.now)) }
-        ensures asks { AsksOnce D.calls D.failures self.old.disk self.new.disk result }
-        ensures opened { open_names self.new.takes.items
-            ≡ found_by result name.now (open_names self.old.takes.items) }
+        ensures calls { takes_calls self.new ≡ takes_calls self.old }
+        ensures failures { takes_failures self.new ≡ takes_failures self.old }
+        ensures folder { takes_folder self.new ≡ takes_folder self.old }
+        ensures disk { StaysWhole D.Disk (takes_disk self.old) (takes_disk self.new) }
+        ensures found { IsTrue (D.honest (takes_disk self.old)) → IfOk result (λ found. IsTrue found
+            ↔ IsSome (take_in_folder self.old name.now)) }
+        ensures asks { AsksOnce D.calls D.failures (takes_disk self.old) (takes_disk self.new)
+            result }
+        ensures opened { open_takes self.new ≡ found_by result name.now (open_takes self.old) }
     {
         let found = take_path(self.alloc, &self.folder, name)?;
         self.takes.reserve_exact(1).map_err(|_| StoreFault)?;
@@ -229,13 +240,17 @@ impl<D: Volume> FolderStore<D> {
 }
 
 impl<D: Disk> TakeStore for FolderStore<D> {
-    ghost contents = { λ s name. take_content (D.contents s.disk) (string_bytes s.folder) name };
+    ghost use Rattle.bw_folder.specs.TakeFolders.{takes_disk, takes_folder, open_takes};
+    ghost use Rattle.bw_folder.specs.TakeFolders.{takes_calls, takes_failures, take_in_folder};
+    ghost use Rattle.bw_folder.specs.TakeFolders.{synced_in_folder};
 
-    ghost failures = { λ s. s.call_counter.failures };
+    ghost contents = { take_in_folder };
 
-    ghost calls = { λ s. s.call_counter.calls };
+    ghost failures = { takes_failures };
 
-    ghost honest = { λ s. D.honest s.disk };
+    ghost calls = { takes_calls };
+
+    ghost honest = { λ s. D.honest (takes_disk s) };
 
     /// Makes the file FOLDER/NAME.wav, by one call of the disk.
     ///
@@ -246,24 +261,23 @@ impl<D: Disk> TakeStore for FolderStore<D> {
     /// # Not specified
     /// When memory is refused: an error without a call of the disk has no other cause.
     fn create(&mut self, name: &Name) -> Result<Created, StoreFault>
-        ensures failures { Counts self.old.call_counter.failures self.new.call_counter.failures (is_err result) }
-        ensures calls { Counts self.old.call_counter.calls self.new.call_counter.calls true }
-        ensures folder { self.new.folder ≡ self.old.folder }
-        ensures honest { D.honest self.new.disk ≡ D.honest self.old.disk }
-        ensures created { IsTrue (D.honest self.old.disk) → IfOk result (λ c. Creates c
-            (take_content (D.contents self.old.disk) (string_bytes self.old.folder) name.now)
-            (take_content (D.contents self.new.disk) (string_bytes self.new.folder) name.now)) }
-        ensures failed { IsTrue (D.honest self.old.disk) → OnErr result
-            (take_content (D.contents self.new.disk) (string_bytes self.new.folder) name.now
-            ≡ take_content (D.contents self.old.disk) (string_bytes self.old.folder) name.now) }
-        ensures others { IsTrue (D.honest self.old.disk) → KeepsOthers
-            (take_content (D.contents self.old.disk) (string_bytes self.old.folder))
-            (take_content (D.contents self.new.disk) (string_bytes self.new.folder)) name.now }
-        ensures synced { IsTrue (D.honest self.old.disk) →
-            (path : List ℕ) → D.synced self.new.disk path ≡ D.synced self.old.disk path }
-        ensures asks { AsksOnce D.calls D.failures self.old.disk self.new.disk result }
-        ensures opened { open_names self.new.takes.items
-            ≡ opened_by result name.now (open_names self.old.takes.items) }
+        ensures failures { Counts (takes_failures self.old) (takes_failures self.new)
+            (is_err result) }
+        ensures calls { Counts (takes_calls self.old) (takes_calls self.new) true }
+        ensures folder { takes_folder self.new ≡ takes_folder self.old }
+        ensures honest { D.honest (takes_disk self.new) ≡ D.honest (takes_disk self.old) }
+        ensures created { IsTrue (D.honest (takes_disk self.old)) → IfOk result (λ c. Creates c
+            (take_in_folder self.old name.now) (take_in_folder self.new name.now)) }
+        ensures failed { IsTrue (D.honest (takes_disk self.old)) → OnErr result
+            (take_in_folder self.new name.now ≡ take_in_folder self.old name.now) }
+        ensures others { IsTrue (D.honest (takes_disk self.old)) → KeepsOthers
+            (take_in_folder self.old) (take_in_folder self.new) name.now }
+        ensures synced { IsTrue (D.honest (takes_disk self.old)) →
+            (path : List ℕ) → D.synced (takes_disk self.new) path
+            ≡ D.synced (takes_disk self.old) path }
+        ensures asks { AsksOnce D.calls D.failures (takes_disk self.old) (takes_disk self.new)
+            result }
+        ensures opened { open_takes self.new ≡ opened_by result name.now (open_takes self.old) }
     {
         let answer = self.make(name);
         self.call_counter.count(answer.is_err());
@@ -277,28 +291,28 @@ impl<D: Disk> TakeStore for FolderStore<D> {
     /// isn't called then.
     #[tactic(auto, using(crate::proofs::TakePaths::take_path_injective))]
     fn write_at(&mut self, name: &Name, offset: u64, bytes: &[u8]) -> Result<(), StoreFault>
-        ensures failures { Counts self.old.call_counter.failures self.new.call_counter.failures (is_err result) }
-        ensures calls { Counts self.old.call_counter.calls self.new.call_counter.calls true }
-        ensures folder { self.new.folder ≡ self.old.folder }
-        ensures honest { D.honest self.new.disk ≡ D.honest self.old.disk }
-        ensures written { IsTrue (D.honest self.old.disk) → OnOk result (Written
-            (take_content (D.contents self.old.disk) (string_bytes self.old.folder) name.now)
-            offset bytes.now
-            (take_content (D.contents self.new.disk) (string_bytes self.new.folder) name.now)) }
-        ensures failed { IsTrue (D.honest self.old.disk) → OnErr result (MayTear
-            (take_content (D.contents self.old.disk) (string_bytes self.old.folder) name.now)
-            offset (length bytes.now)
-            (take_content (D.contents self.new.disk) (string_bytes self.new.folder) name.now)) }
-        ensures others { IsTrue (D.honest self.old.disk) → KeepsOthers
-            (take_content (D.contents self.old.disk) (string_bytes self.old.folder))
-            (take_content (D.contents self.new.disk) (string_bytes self.new.folder)) name.now }
-        ensures synced { IsTrue (D.honest self.old.disk) →
-            (path : List ℕ) → D.synced self.new.disk path ≡ D.synced self.old.disk path }
-        ensures own { Contains (open_names self.old.takes.items) name.now →
-            IsOneCall D.calls D.failures self.old.disk self.new.disk (is_err result) }
-        ensures foreign { (Contains (open_names self.old.takes.items) name.now → ⊥) →
-            IsErr result × (self.new.disk ≡ self.old.disk) }
-        ensures opened { open_names self.new.takes.items ≡ open_names self.old.takes.items }
+        ensures failures { Counts (takes_failures self.old) (takes_failures self.new)
+            (is_err result) }
+        ensures calls { Counts (takes_calls self.old) (takes_calls self.new) true }
+        ensures folder { takes_folder self.new ≡ takes_folder self.old }
+        ensures honest { D.honest (takes_disk self.new) ≡ D.honest (takes_disk self.old) }
+        ensures written { IsTrue (D.honest (takes_disk self.old)) → OnOk result (Written
+            (take_in_folder self.old name.now) offset bytes.now
+            (take_in_folder self.new name.now)) }
+        ensures failed { IsTrue (D.honest (takes_disk self.old)) → OnErr result (MayTear
+            (take_in_folder self.old name.now) offset (length bytes.now)
+            (take_in_folder self.new name.now)) }
+        ensures others { IsTrue (D.honest (takes_disk self.old)) → KeepsOthers
+            (take_in_folder self.old) (take_in_folder self.new) name.now }
+        ensures synced { IsTrue (D.honest (takes_disk self.old)) →
+            (path : List ℕ) → D.synced (takes_disk self.new) path
+            ≡ D.synced (takes_disk self.old) path }
+        ensures own { Contains (open_takes self.old) name.now →
+            IsOneCall D.calls D.failures (takes_disk self.old) (takes_disk self.new)
+            (is_err result) }
+        ensures foreign { (Contains (open_takes self.old) name.now → ⊥) →
+            IsErr result × (takes_disk self.new ≡ takes_disk self.old) }
+        ensures opened { open_takes self.new ≡ open_takes self.old }
     {
         let Some(place) = find(&self.takes, name) else {
             self.call_counter.count(true);
@@ -320,22 +334,23 @@ impl<D: Disk> TakeStore for FolderStore<D> {
     /// `StoreFault` if that call failed, and for a name that this store didn't make or has finished:
     /// the disk isn't called then.
     fn finish(&mut self, name: &Name) -> Result<(), StoreFault>
-        ensures failures { Counts self.old.call_counter.failures self.new.call_counter.failures (is_err result) }
-        ensures calls { Counts self.old.call_counter.calls self.new.call_counter.calls true }
-        ensures folder { self.new.folder ≡ self.old.folder }
-        ensures honest { D.honest self.new.disk ≡ D.honest self.old.disk }
-        ensures unchanged { IsTrue (D.honest self.old.disk) →
-            (path : List ℕ) → D.contents self.new.disk path ≡ D.contents self.old.disk path }
-        ensures synced { IsTrue (D.honest self.old.disk) → Syncs result
-            (take_content (D.contents self.old.disk) (string_bytes self.old.folder) name.now)
-            (take_content (D.synced self.old.disk) (string_bytes self.old.folder))
-            (take_content (D.synced self.new.disk) (string_bytes self.new.folder)) name.now }
-        ensures own { Contains (open_names self.old.takes.items) name.now →
-            IsOneCall D.calls D.failures self.old.disk self.new.disk (is_err result) }
-        ensures foreign { (Contains (open_names self.old.takes.items) name.now → ⊥) →
-            IsErr result × (self.new.disk ≡ self.old.disk) }
-        ensures opened { open_names self.new.takes.items
-            ≡ closed_by result name.now (open_names self.old.takes.items) }
+        ensures failures { Counts (takes_failures self.old) (takes_failures self.new)
+            (is_err result) }
+        ensures calls { Counts (takes_calls self.old) (takes_calls self.new) true }
+        ensures folder { takes_folder self.new ≡ takes_folder self.old }
+        ensures honest { D.honest (takes_disk self.new) ≡ D.honest (takes_disk self.old) }
+        ensures unchanged { IsTrue (D.honest (takes_disk self.old)) →
+            (path : List ℕ) → D.contents (takes_disk self.new) path
+            ≡ D.contents (takes_disk self.old) path }
+        ensures synced { IsTrue (D.honest (takes_disk self.old)) → Syncs result
+            (take_in_folder self.old name.now) (synced_in_folder self.old)
+            (synced_in_folder self.new) name.now }
+        ensures own { Contains (open_takes self.old) name.now →
+            IsOneCall D.calls D.failures (takes_disk self.old) (takes_disk self.new)
+            (is_err result) }
+        ensures foreign { (Contains (open_takes self.old) name.now → ⊥) →
+            IsErr result × (takes_disk self.new ≡ takes_disk self.old) }
+        ensures opened { open_takes self.new ≡ closed_by result name.now (open_takes self.old) }
     {
         let answer = self.sync_take(name);
         self.call_counter.count(answer.is_err());

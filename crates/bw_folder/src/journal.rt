@@ -1,14 +1,17 @@
 //! Journals in a folder.
-ghost use Rattle.std.specs.Prelude.{◌≡◌, ◌<◌, ◌⊎◌, ◌↔◌, ℕ, List, [], Some, None, IsTrue, IsErr, IsSome, IsNone, IfOk, IfSome, Ok};
+ghost use Rattle.std.specs.Prelude.{◌≡◌, ◌<◌, ◌⊎◌, ◌↔◌, ℕ, List, [], Some, None, IsTrue, IsErr};
+ghost use Rattle.std.specs.Prelude.{IsSome, IsNone, IfOk, IfSome, Ok};
 ghost use Rattle.std.specs.Prelude.{OnOk, OnErr, string_bytes, length, is_err, false, true};
 ghost use Rattle.std.specs.List.{All, HoldsAt, position};
 ghost use Rattle.std.specs.Str.{bytes_eq};
 ghost use Rattle.bw_store.specs.Stores.{Counts, KeepsOthers};
 ghost use Rattle.bw_disk.specs.Disks.{AsksOnce};
 ghost use Rattle.bw_disk.specs.DiskSteps.{StaysWhole, ChangesAt};
-ghost use Rattle.bw_journal.specs.Notes.{BeginsNotes, BeginsInPart, Notes, NotesInPart, KeepsHeaders};
+ghost use Rattle.bw_journal.specs.Notes.{BeginsNotes, BeginsInPart, Notes, NotesInPart};
+ghost use Rattle.bw_journal.specs.Notes.{KeepsHeaders};
 ghost use Rattle.bw_folder.specs.Folders.{take_path as path_of_take};
-ghost use Rattle.bw_folder.specs.Journals.{journal_path as path_of_journal, notes_at, existences, existence_of, header_at};
+ghost use Rattle.bw_folder.specs.Journals.{journal_path as path_of_journal, notes_at, existences};
+ghost use Rattle.bw_folder.specs.Journals.{existence_of, header_at};
 ghost use Rattle.bw_folder.specs.Journals.{adopted_by, adopted_header, failure_of, IsOpenAt};
 ghost use Rattle.bw_folder.specs.Syncing.{NotesPlainly, SyncsInOrder};
 
@@ -83,6 +86,10 @@ pub struct FolderJournal<D: Volume> {
 }
 
 impl<R: Files + AllocGlobal + Clone + Drop> FolderJournal<SystemDisk<R>> {
+    ghost use Rattle.bw_folder.specs.JournalFolders.{journals_disk, journals_folder};
+    ghost use Rattle.bw_folder.specs.JournalFolders.{journals_limit, journals_sync, open_journals};
+    ghost use Rattle.bw_folder.specs.JournalFolders.{journals_failures};
+
     /// The journals of a folder of the system, for a server of this limit. None is open yet.
     ///
     /// # Errors
@@ -98,18 +105,23 @@ impl<R: Files + AllocGlobal + Clone + Drop> FolderJournal<SystemDisk<R>> {
         limit: Limit,
         sync: bool,
     ) -> Result<FolderJournal<SystemDisk<R>>, AllocError>
-        ensures rt { IfOk result (λ j. j.disk.rt ≡ rt) }
-        ensures folder { IfOk result (λ j. string_bytes j.folder ≡ folder.now) }
-        ensures limit { IfOk result (λ j. j.limit ≡ limit) }
-        ensures sync { IfOk result (λ j. j.sync ≡ sync) }
-        ensures journals { IfOk result (λ j. j.journals.items ≡ []) }
-        ensures failures { IfOk result (λ j. j.failures ≡ 0) }
+        ensures rt { IfOk result (λ j. (journals_disk j).rt ≡ rt) }
+        ensures folder { IfOk result (λ j. journals_folder j ≡ folder.now) }
+        ensures limit { IfOk result (λ j. journals_limit j ≡ limit) }
+        ensures sync { IfOk result (λ j. journals_sync j ≡ sync) }
+        ensures journals { IfOk result (λ j. open_journals j ≡ []) }
+        ensures failures { IfOk result (λ j. journals_failures j ≡ 0) }
     {
         FolderJournal::over(SystemDisk::new(rt), alloc, folder, limit, sync)
     }
 }
 
 impl<D: Volume> FolderJournal<D> {
+    ghost use Rattle.bw_folder.specs.JournalFolders.{journals_disk, journals_folder};
+    ghost use Rattle.bw_folder.specs.JournalFolders.{journals_limit, journals_sync, open_journals};
+    ghost use Rattle.bw_folder.specs.JournalFolders.{journals_failures, noted_in_folder};
+    ghost use Rattle.bw_folder.specs.JournalFolders.{header_in_folder};
+
     /// The journals of a folder of a disk, for a server of this limit. None is open yet.
     ///
     /// # Errors
@@ -124,12 +136,12 @@ impl<D: Volume> FolderJournal<D> {
         limit: Limit,
         sync: bool,
     ) -> Result<FolderJournal<D>, AllocError>
-        ensures disk { IfOk result (λ j. j.disk ≡ disk) }
-        ensures folder { IfOk result (λ j. string_bytes j.folder ≡ folder.now) }
-        ensures limit { IfOk result (λ j. j.limit ≡ limit) }
-        ensures sync { IfOk result (λ j. j.sync ≡ sync) }
-        ensures journals { IfOk result (λ j. j.journals.items ≡ []) }
-        ensures failures { IfOk result (λ j. j.failures ≡ 0) }
+        ensures disk { IfOk result (λ j. journals_disk j ≡ disk) }
+        ensures folder { IfOk result (λ j. journals_folder j ≡ folder.now) }
+        ensures limit { IfOk result (λ j. journals_limit j ≡ limit) }
+        ensures sync { IfOk result (λ j. journals_sync j ≡ sync) }
+        ensures journals { IfOk result (λ j. open_journals j ≡ []) }
+        ensures failures { IfOk result (λ j. journals_failures j ≡ 0) }
     {
         let folder = String::from_str(alloc, folder)?;
         Ok(FolderJournal::in_folder(disk, alloc, folder, limit, sync))
@@ -143,12 +155,12 @@ impl<D: Volume> FolderJournal<D> {
         limit: Limit,
         sync: bool,
     ) -> FolderJournal<D>
-        ensures disk { result.disk ≡ disk }
-        ensures folder { string_bytes result.folder ≡ string_bytes folder }
-        ensures limit { result.limit ≡ limit }
-        ensures sync { result.sync ≡ sync }
-        ensures journals { result.journals.items ≡ [] }
-        ensures failures { result.failures ≡ 0 }
+        ensures disk { journals_disk result ≡ disk }
+        ensures folder { journals_folder result ≡ string_bytes folder }
+        ensures limit { journals_limit result ≡ limit }
+        ensures sync { journals_sync result ≡ sync }
+        ensures journals { open_journals result ≡ [] }
+        ensures failures { journals_failures result ≡ 0 }
     {
         FolderJournal {
             disk,
@@ -163,21 +175,21 @@ impl<D: Volume> FolderJournal<D> {
 
     /// The disk of the folder.
     pub fn disk(&self) -> &D
-        ensures { result.now ≡ self.now.disk }
+        ensures { result.now ≡ journals_disk self.now }
     {
         &self.disk
     }
 
     /// The path of the folder.
     pub fn folder(&self) -> &str
-        ensures { result.now ≡ string_bytes self.now.folder }
+        ensures { result.now ≡ journals_folder self.now }
     {
         self.folder.as_str()
     }
 
     /// The disk of the folder, by value.
     pub fn into_disk(self) -> D
-        ensures { result ≡ self.disk }
+        ensures { result ≡ journals_disk self }
     {
         let FolderJournal {
             disk,
@@ -202,25 +214,23 @@ impl<D: Volume> FolderJournal<D> {
     /// # Not specified
     /// When memory is refused: an error without a call of the disk has no other cause.
     pub fn adopt(&mut self, name: &Name, existed: bool) -> Result<bool, StoreFault>
-        ensures failures { self.new.failures ≡ self.old.failures }
-        ensures settings { (self.new.limit ≡ self.old.limit) × (self.new.sync ≡ self.old.sync)
-            × (self.new.folder ≡ self.old.folder) }
-        ensures known { existences self.new.journals.items
-            ≡ adopted_by result name.now existed (existences self.old.journals.items) }
-        ensures headers { IsTrue (D.honest self.old.disk) → (other : List ℕ) →
-            header_at self.new.limit (existences self.new.journals.items) (D.contents self.new.disk)
-            (string_bytes self.new.folder) other
-            ≡ adopted_header result name.now existed (header_at self.old.limit
-            (existences self.old.journals.items) (D.contents self.old.disk)
-            (string_bytes self.old.folder)) other }
-        ensures found { IsTrue (D.honest self.old.disk) → IfOk result (λ found.
-            IsTrue found ↔ (IsNone (existence_of (existences self.old.journals.items) name.now)
-            × IsSome (notes_at (D.contents self.old.disk) (string_bytes self.old.folder) name.now))) }
-        ensures asks { IsNone (existence_of (existences self.old.journals.items) name.now) →
-            AsksOnce D.calls D.failures self.old.disk self.new.disk result }
-        ensures again { IsSome (existence_of (existences self.old.journals.items) name.now) →
-            (result ≡ Ok false) × (self.new.disk ≡ self.old.disk) }
-        ensures disk { StaysWhole D.Disk self.old.disk self.new.disk }
+        ensures failures { journals_failures self.new ≡ journals_failures self.old }
+        ensures settings { (journals_limit self.new ≡ journals_limit self.old)
+            × (journals_sync self.new ≡ journals_sync self.old)
+            × (journals_folder self.new ≡ journals_folder self.old) }
+        ensures known { open_journals self.new
+            ≡ adopted_by result name.now existed (open_journals self.old) }
+        ensures headers { IsTrue (D.honest (journals_disk self.old)) → (other : List ℕ) →
+            header_in_folder self.new other
+            ≡ adopted_header result name.now existed (header_in_folder self.old) other }
+        ensures found { IsTrue (D.honest (journals_disk self.old)) → IfOk result (λ found.
+            IsTrue found ↔ (IsNone (existence_of (open_journals self.old) name.now)
+            × IsSome (noted_in_folder self.old name.now))) }
+        ensures asks { IsNone (existence_of (open_journals self.old) name.now) →
+            AsksOnce D.calls D.failures (journals_disk self.old) (journals_disk self.new) result }
+        ensures again { IsSome (existence_of (open_journals self.old) name.now) →
+            (result ≡ Ok false) × (journals_disk self.new ≡ journals_disk self.old) }
+        ensures disk { StaysWhole D.Disk (journals_disk self.old) (journals_disk self.new) }
     {
         if find(&self.journals, name).is_some() {
             return Ok(false);
@@ -237,16 +247,20 @@ impl<D: Volume> FolderJournal<D> {
 }
 
 impl<D: Volume> Journal for FolderJournal<D> {
-    ghost notes = { λ j name. notes_at (D.contents j.disk) (string_bytes j.folder) name };
+    ghost use Rattle.bw_folder.specs.JournalFolders.{journals_disk, journals_folder};
+    ghost use Rattle.bw_folder.specs.JournalFolders.{journals_limit, journals_sync, open_journals};
+    ghost use Rattle.bw_folder.specs.JournalFolders.{sync_failed_in, journals_failures};
+    ghost use Rattle.bw_folder.specs.JournalFolders.{noted_in_folder, header_in_folder};
 
-    ghost header = { λ j name. header_at j.limit (existences j.journals.items) (D.contents j.disk)
-        (string_bytes j.folder) name };
+    ghost notes = { noted_in_folder };
+
+    ghost header = { header_in_folder };
 
     ghost resting = { λ _ _. None };
 
-    ghost failures = { λ j. j.failures };
+    ghost failures = { journals_failures };
 
-    ghost honest = { λ j. D.honest j.disk };
+    ghost honest = { λ j. D.honest (journals_disk j) };
 
     /// Writes the header into the file of the name's journal, which is opened, or made if nothing is
     /// there. Nothing is synced.
@@ -259,30 +273,26 @@ impl<D: Volume> Journal for FolderJournal<D> {
     /// When memory is refused.
     #[tactic(auto, using(crate::proofs::JournalPaths::journal_path_injective))]
     fn begin(&mut self, name: &Name) -> Result<(), StoreFault>
-        ensures failures { Counts self.old.failures self.new.failures (is_err result) }
-        ensures settings { (self.new.limit ≡ self.old.limit) × (self.new.sync ≡ self.old.sync)
-            × (self.new.folder ≡ self.old.folder) }
-        ensures honest { D.honest self.new.disk ≡ D.honest self.old.disk }
-        ensures headers { IsTrue (D.honest self.old.disk) → KeepsHeaders
-            (header_at self.old.limit (existences self.old.journals.items) (D.contents self.old.disk)
-            (string_bytes self.old.folder))
-            (header_at self.new.limit (existences self.new.journals.items) (D.contents self.new.disk)
-            (string_bytes self.new.folder)) }
-        ensures begun { IsTrue (D.honest self.old.disk) → OnOk result (BeginsNotes name.now
-            (header_at self.old.limit (existences self.old.journals.items) (D.contents self.old.disk)
-            (string_bytes self.old.folder) name.now)
-            (notes_at (D.contents self.old.disk) (string_bytes self.old.folder) name.now)
-            (notes_at (D.contents self.new.disk) (string_bytes self.new.folder) name.now)) }
-        ensures failed { IsTrue (D.honest self.old.disk) → OnErr result (BeginsInPart name.now
-            (header_at self.old.limit (existences self.old.journals.items) (D.contents self.old.disk)
-            (string_bytes self.old.folder) name.now)
-            (notes_at (D.contents self.old.disk) (string_bytes self.old.folder) name.now)
-            (notes_at (D.contents self.new.disk) (string_bytes self.new.folder) name.now)) }
-        ensures others { IsTrue (D.honest self.old.disk) → KeepsOthers
-            (notes_at (D.contents self.old.disk) (string_bytes self.old.folder))
-            (notes_at (D.contents self.new.disk) (string_bytes self.new.folder)) name.now }
-        ensures rest { ChangesAt D.Disk (path_of_journal (string_bytes self.old.folder) name.now)
-            self.old.disk self.new.disk }
+        ensures failures { Counts (journals_failures self.old) (journals_failures self.new)
+            (is_err result) }
+        ensures settings { (journals_limit self.new ≡ journals_limit self.old)
+            × (journals_sync self.new ≡ journals_sync self.old)
+            × (journals_folder self.new ≡ journals_folder self.old) }
+        ensures honest { D.honest (journals_disk self.new) ≡ D.honest (journals_disk self.old) }
+        ensures headers { IsTrue (D.honest (journals_disk self.old)) → KeepsHeaders
+            (header_in_folder self.old) (header_in_folder self.new) }
+        ensures begun { IsTrue (D.honest (journals_disk self.old)) →
+            OnOk result (BeginsNotes name.now
+            (header_in_folder self.old name.now) (noted_in_folder self.old name.now)
+            (noted_in_folder self.new name.now)) }
+        ensures failed { IsTrue (D.honest (journals_disk self.old)) →
+            OnErr result (BeginsInPart name.now
+            (header_in_folder self.old name.now) (noted_in_folder self.old name.now)
+            (noted_in_folder self.new name.now)) }
+        ensures others { IsTrue (D.honest (journals_disk self.old)) → KeepsOthers
+            (noted_in_folder self.old) (noted_in_folder self.new) name.now }
+        ensures rest { ChangesAt D.Disk (path_of_journal (journals_folder self.old) name.now)
+            (journals_disk self.old) (journals_disk self.new) }
     {
         let answer = self.begin_file(name);
         if answer.is_err() {
@@ -304,33 +314,36 @@ impl<D: Volume> Journal for FolderJournal<D> {
     /// - When the folder is synced.
     #[tactic(auto, using(crate::proofs::JournalPaths::journal_path_injective))]
     fn note(&mut self, name: &Name, offset: u64, bytes: &[u8]) -> Result<(), StoreFault>
-        ensures failures { Counts self.old.failures self.new.failures (is_err result) }
-        ensures settings { (self.new.limit ≡ self.old.limit) × (self.new.sync ≡ self.old.sync)
-            × (self.new.folder ≡ self.old.folder) }
-        ensures honest { D.honest self.new.disk ≡ D.honest self.old.disk }
-        ensures known { existences self.new.journals.items ≡ existences self.old.journals.items }
-        ensures headers { IsTrue (D.honest self.old.disk) → KeepsHeaders
-            (header_at self.old.limit (existences self.old.journals.items) (D.contents self.old.disk)
-            (string_bytes self.old.folder))
-            (header_at self.new.limit (existences self.new.journals.items) (D.contents self.new.disk)
-            (string_bytes self.new.folder)) }
-        ensures noted { IsTrue (D.honest self.old.disk) → OnOk result (Notes offset bytes.now
-            (notes_at (D.contents self.old.disk) (string_bytes self.old.folder) name.now)
-            (notes_at (D.contents self.new.disk) (string_bytes self.new.folder) name.now)) }
-        ensures failed { IsTrue (D.honest self.old.disk) → OnErr result (NotesInPart offset bytes.now
-            (notes_at (D.contents self.old.disk) (string_bytes self.old.folder) name.now)
-            (notes_at (D.contents self.new.disk) (string_bytes self.new.folder) name.now)) }
-        ensures others { IsTrue (D.honest self.old.disk) → KeepsOthers
-            (notes_at (D.contents self.old.disk) (string_bytes self.old.folder))
-            (notes_at (D.contents self.new.disk) (string_bytes self.new.folder)) name.now }
-        ensures files { IsTrue (D.honest self.old.disk) → KeepsOthers (D.contents self.old.disk)
-            (D.contents self.new.disk) (path_of_journal (string_bytes self.old.folder) name.now) }
-        ensures stopped { failure_of self.old.journals.items name.now ≡ Some true →
-            IsErr result × (self.new.disk ≡ self.old.disk) }
-        ensures plain { self.old.sync ≡ false → NotesPlainly D.Disk result self.old.disk self.new.disk }
-        ensures order { IsTrue (D.honest self.old.disk) → IsTrue self.old.sync → SyncsInOrder D.Disk
-            result (path_of_take (string_bytes self.old.folder) name.now)
-            (path_of_journal (string_bytes self.old.folder) name.now) self.old.disk self.new.disk }
+        ensures failures { Counts (journals_failures self.old) (journals_failures self.new)
+            (is_err result) }
+        ensures settings { (journals_limit self.new ≡ journals_limit self.old)
+            × (journals_sync self.new ≡ journals_sync self.old)
+            × (journals_folder self.new ≡ journals_folder self.old) }
+        ensures honest { D.honest (journals_disk self.new) ≡ D.honest (journals_disk self.old) }
+        ensures known { open_journals self.new ≡ open_journals self.old }
+        ensures headers { IsTrue (D.honest (journals_disk self.old)) → KeepsHeaders
+            (header_in_folder self.old) (header_in_folder self.new) }
+        ensures noted { IsTrue (D.honest (journals_disk self.old)) →
+            OnOk result (Notes offset bytes.now
+            (noted_in_folder self.old name.now) (noted_in_folder self.new name.now)) }
+        ensures failed { IsTrue (D.honest (journals_disk self.old)) →
+            OnErr result (NotesInPart offset bytes.now
+            (noted_in_folder self.old name.now) (noted_in_folder self.new name.now)) }
+        ensures others { IsTrue (D.honest (journals_disk self.old)) → KeepsOthers
+            (noted_in_folder self.old) (noted_in_folder self.new) name.now }
+        ensures files { IsTrue (D.honest (journals_disk self.old)) →
+            KeepsOthers (D.contents (journals_disk self.old))
+            (D.contents (journals_disk self.new)) (path_of_journal (journals_folder self.old)
+            name.now) }
+        ensures stopped { sync_failed_in self.old name.now ≡ Some true →
+            IsErr result × (journals_disk self.new ≡ journals_disk self.old) }
+        ensures plain { journals_sync self.old ≡ false →
+            NotesPlainly D.Disk result (journals_disk self.old) (journals_disk self.new) }
+        ensures order { IsTrue (D.honest (journals_disk self.old)) →
+            IsTrue (journals_sync self.old) → SyncsInOrder D.Disk
+            result (path_of_take (journals_folder self.old) name.now)
+            (path_of_journal (journals_folder self.old) name.now) (journals_disk self.old)
+            (journals_disk self.new) }
     {
         let answer = self.note_in_file(name, offset, bytes);
         if answer.is_err() {

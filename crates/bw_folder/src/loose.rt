@@ -18,7 +18,7 @@ use bw_request::Name;
 use bw_store::StoreFault;
 
 impl<D: Volume> RestingFolderJournal<D> {
-    ghost use Rattle.bw_folder.specs.RestingFolders.{all_journals, inner_header, OnlyReads, StaysOpen, KeepsSettings};
+    ghost use Rattle.bw_folder.specs.RestingFolders.{all_journals, OnlyReads, StaysOpen, KeepsSettings};
 
     /// Whether something is where the journal of a name rests.
     fn stands_closed(&mut self, name: &Name) -> Result<bool, StoreFault>

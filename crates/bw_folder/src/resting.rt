@@ -1,15 +1,16 @@
 //! Journals in a folder of which some rest.
-ghost use Rattle.std.specs.Prelude.{◌≡◌, ℕ, List, Some, None, Ok, IsTrue, IfOk, OnOk, OnErr, string_bytes};
+ghost use Rattle.std.specs.Prelude.{◌≡◌, ℕ, List, Some, None, Ok, IsTrue, IfOk, OnOk, OnErr};
 ghost use Rattle.std.specs.Prelude.{is_err, option_map, true, false};
 ghost use Rattle.bw_store.specs.Stores.{Counts, KeepsOthers};
 ghost use Rattle.bw_disk.specs.DiskSteps.{StaysWhole};
 ghost use Rattle.bw_disk.specs.Volumes.{KeepsAllBut};
-ghost use Rattle.bw_journal.specs.Notes.{BeginsNotes, BeginsInPart, Notes, NotesInPart, KeepsHeaders};
+ghost use Rattle.bw_journal.specs.Notes.{BeginsNotes, BeginsInPart, Notes, NotesInPart};
+ghost use Rattle.bw_journal.specs.Notes.{KeepsHeaders};
 ghost use Rattle.bw_journal.specs.Notes.{KeepsResting};
 ghost use Rattle.bw_folder.specs.Folders.{take_path as path_of_take};
 ghost use Rattle.bw_folder.specs.Syncing.{IsSyncedAt};
 ghost use Rattle.bw_journal.specs.Resting.{SameJournals, RestsIf, WakesIf};
-ghost use Rattle.bw_folder.specs.Journals.{notes_at, existences, existence_of, failure_of};
+ghost use Rattle.bw_folder.specs.Journals.{existence_of};
 ghost use Rattle.bw_folder.specs.Journals.{journal_path as path_of_journal};
 ghost use Rattle.bw_folder.specs.RestingJournals.{closed_path as path_of_closed};
 
@@ -37,19 +38,21 @@ pub struct RestingFolderJournal<D: Volume> {
 }
 
 impl<D: Volume> RestingFolderJournal<D> {
-    ghost use Rattle.bw_folder.specs.RestingFolders.{all_journals, inner_header};
-    ghost use Rattle.bw_folder.specs.RestingJournals.{is_loose};
+    ghost use Rattle.bw_folder.specs.RestingFolders.{all_journals};
+    ghost use Rattle.bw_folder.specs.RestingFolders.{awake_journals, is_loose_in};
+    ghost use Rattle.bw_folder.specs.JournalFolders.{journals_disk, journals_folder};
+    ghost use Rattle.bw_folder.specs.JournalFolders.{noted_in_folder, header_in_folder};
 
     /// The journals of a folder, of which those at `NAME.closed` rest.
     pub fn new(alloc: Global, inner: FolderJournal<D>) -> RestingFolderJournal<D>
-        ensures inner { result.inner ≡ inner }
+        ensures inner { awake_journals result ≡ inner }
         ensures notes { (name : List ℕ) → (all_journals D.Disk result).noted name
-            ≡ notes_at (D.contents inner.disk) (string_bytes inner.folder) name }
+            ≡ noted_in_folder inner name }
         ensures resting { (name : List ℕ) → (all_journals D.Disk result).resting name
-            ≡ D.contents inner.disk (path_of_closed (string_bytes inner.folder) name) }
+            ≡ D.contents (journals_disk inner) (path_of_closed (journals_folder inner) name) }
         ensures headers { (name : List ℕ) → (all_journals D.Disk result).resting name ≡ None →
-            (all_journals D.Disk result).header name ≡ inner_header D.Disk inner name }
-        ensures loose { (name : List ℕ) → is_loose result.loose name ≡ false }
+            (all_journals D.Disk result).header name ≡ header_in_folder inner name }
+        ensures loose { (name : List ℕ) → is_loose_in result name ≡ false }
     {
         RestingFolderJournal {
             inner,
@@ -60,10 +63,9 @@ impl<D: Volume> RestingFolderJournal<D> {
     /// The journals that don't rest, by value. What is noted under a name that woke, and under which
     /// nothing was noted since, goes on resting.
     pub fn into_inner(self) -> FolderJournal<D>
-        ensures inner { result ≡ self.inner }
-        ensures notes { (name : List ℕ) → is_loose self.loose name ≡ false →
-            notes_at (D.contents result.disk) (string_bytes result.folder) name
-            ≡ (all_journals D.Disk self).noted name }
+        ensures inner { result ≡ awake_journals self }
+        ensures notes { (name : List ℕ) → is_loose_in self name ≡ false →
+            noted_in_folder result name ≡ (all_journals D.Disk self).noted name }
     {
         let RestingFolderJournal { inner, loose: _ } = self;
         inner
@@ -71,7 +73,7 @@ impl<D: Volume> RestingFolderJournal<D> {
 
     /// The journals that don't rest.
     pub fn inner(&self) -> &FolderJournal<D>
-        ensures { result.now ≡ self.now.inner }
+        ensures { result.now ≡ awake_journals self.now }
     {
         &self.inner
     }
@@ -79,6 +81,8 @@ impl<D: Volume> RestingFolderJournal<D> {
 
 impl<D: Volume> Journal for RestingFolderJournal<D> {
     ghost use Rattle.bw_folder.specs.RestingFolders.{all_journals};
+    ghost use Rattle.bw_folder.specs.RestingFolders.{disk_of_all, folder_of_all, failures_of_all};
+    ghost use Rattle.bw_folder.specs.RestingFolders.{syncs_all};
 
     ghost notes = { λ j. (all_journals D.Disk j).noted };
 
@@ -86,9 +90,9 @@ impl<D: Volume> Journal for RestingFolderJournal<D> {
 
     ghost resting = { λ j. (all_journals D.Disk j).resting };
 
-    ghost failures = { λ j. j.inner.failures };
+    ghost failures = { failures_of_all };
 
-    ghost honest = { λ j. D.honest j.inner.disk };
+    ghost honest = { λ j. D.honest (disk_of_all j) };
 
     /// Begins the journal of a name as a `FolderJournal` does, unless one rests under the name or is
     /// loose.
@@ -100,25 +104,27 @@ impl<D: Volume> Journal for RestingFolderJournal<D> {
     /// # Not specified
     /// When memory is refused.
     fn begin(&mut self, name: &Name) -> Result<(), StoreFault>
-        ensures failures { Counts self.old.inner.failures self.new.inner.failures (is_err result) }
-        ensures honest { D.honest self.new.inner.disk ≡ D.honest self.old.inner.disk }
-        ensures headers { IsTrue (D.honest self.old.inner.disk) → KeepsHeaders
+        ensures failures { Counts (failures_of_all self.old) (failures_of_all self.new)
+            (is_err result) }
+        ensures honest { D.honest (disk_of_all self.new) ≡ D.honest (disk_of_all self.old) }
+        ensures headers { IsTrue (D.honest (disk_of_all self.old)) → KeepsHeaders
             (all_journals D.Disk self.old).header (all_journals D.Disk self.new).header }
-        ensures resting { IsTrue (D.honest self.old.inner.disk) → KeepsResting
+        ensures resting { IsTrue (D.honest (disk_of_all self.old)) → KeepsResting
             (all_journals D.Disk self.old).resting (all_journals D.Disk self.new).resting }
-        ensures begun { IsTrue (D.honest self.old.inner.disk) → OnOk result (BeginsNotes name.now
+        ensures begun { IsTrue (D.honest (disk_of_all self.old)) → OnOk result (BeginsNotes name.now
             ((all_journals D.Disk self.old).header name.now)
             ((all_journals D.Disk self.old).noted name.now)
             ((all_journals D.Disk self.new).noted name.now)) }
-        ensures failed { IsTrue (D.honest self.old.inner.disk) → OnErr result (BeginsInPart name.now
+        ensures failed { IsTrue (D.honest (disk_of_all self.old)) →
+            OnErr result (BeginsInPart name.now
             ((all_journals D.Disk self.old).header name.now)
             ((all_journals D.Disk self.old).noted name.now)
             ((all_journals D.Disk self.new).noted name.now)) }
-        ensures others { IsTrue (D.honest self.old.inner.disk) → KeepsOthers
+        ensures others { IsTrue (D.honest (disk_of_all self.old)) → KeepsOthers
             (all_journals D.Disk self.old).noted (all_journals D.Disk self.new).noted name.now }
-        ensures files { IsTrue (D.honest self.old.inner.disk) → KeepsOthers
-            (D.contents self.old.inner.disk) (D.contents self.new.inner.disk)
-            (path_of_journal (string_bytes self.old.inner.folder) name.now) }
+        ensures files { IsTrue (D.honest (disk_of_all self.old)) → KeepsOthers
+            (D.contents (disk_of_all self.old)) (D.contents (disk_of_all self.new))
+            (path_of_journal (folder_of_all self.old) name.now) }
     {
         let answer = self.begin_free(name);
         self.inner.count(answer.is_err());
@@ -135,29 +141,33 @@ impl<D: Volume> Journal for RestingFolderJournal<D> {
     /// - When memory is refused.
     /// - When the folder is synced.
     fn note(&mut self, name: &Name, offset: u64, bytes: &[u8]) -> Result<(), StoreFault>
-        ensures failures { Counts self.old.inner.failures self.new.inner.failures (is_err result) }
-        ensures honest { D.honest self.new.inner.disk ≡ D.honest self.old.inner.disk }
-        ensures headers { IsTrue (D.honest self.old.inner.disk) → KeepsHeaders
+        ensures failures { Counts (failures_of_all self.old) (failures_of_all self.new)
+            (is_err result) }
+        ensures honest { D.honest (disk_of_all self.new) ≡ D.honest (disk_of_all self.old) }
+        ensures headers { IsTrue (D.honest (disk_of_all self.old)) → KeepsHeaders
             (all_journals D.Disk self.old).header (all_journals D.Disk self.new).header }
-        ensures resting { IsTrue (D.honest self.old.inner.disk) → KeepsResting
+        ensures resting { IsTrue (D.honest (disk_of_all self.old)) → KeepsResting
             (all_journals D.Disk self.old).resting (all_journals D.Disk self.new).resting }
-        ensures noted { IsTrue (D.honest self.old.inner.disk) → OnOk result (Notes offset bytes.now
+        ensures noted { IsTrue (D.honest (disk_of_all self.old)) →
+            OnOk result (Notes offset bytes.now
             ((all_journals D.Disk self.old).noted name.now)
             ((all_journals D.Disk self.new).noted name.now)) }
-        ensures failed { IsTrue (D.honest self.old.inner.disk) → OnErr result (NotesInPart offset bytes.now
+        ensures failed { IsTrue (D.honest (disk_of_all self.old)) →
+            OnErr result (NotesInPart offset bytes.now
             ((all_journals D.Disk self.old).noted name.now)
             ((all_journals D.Disk self.new).noted name.now)) }
-        ensures others { IsTrue (D.honest self.old.inner.disk) → KeepsOthers
+        ensures others { IsTrue (D.honest (disk_of_all self.old)) → KeepsOthers
             (all_journals D.Disk self.old).noted (all_journals D.Disk self.new).noted name.now }
-        ensures files { IsTrue (D.honest self.old.inner.disk) → KeepsAllBut
-            (path_of_journal (string_bytes self.old.inner.folder) name.now)
-            (path_of_closed (string_bytes self.old.inner.folder) name.now)
-            (D.contents self.old.inner.disk) (D.contents self.new.inner.disk) }
-        ensures synced { IsTrue (D.honest self.old.inner.disk) → IsTrue self.old.inner.sync → OnOk result
-            (IsSyncedAt (D.contents self.new.inner.disk) (D.synced self.new.inner.disk)
-            (path_of_take (string_bytes self.old.inner.folder) name.now)
-            × IsSyncedAt (D.contents self.new.inner.disk) (D.synced self.new.inner.disk)
-            (path_of_journal (string_bytes self.old.inner.folder) name.now)) }
+        ensures files { IsTrue (D.honest (disk_of_all self.old)) → KeepsAllBut
+            (path_of_journal (folder_of_all self.old) name.now)
+            (path_of_closed (folder_of_all self.old) name.now)
+            (D.contents (disk_of_all self.old)) (D.contents (disk_of_all self.new)) }
+        ensures synced { IsTrue (D.honest (disk_of_all self.old)) → IsTrue (syncs_all self.old) →
+            OnOk result
+            (IsSyncedAt (D.contents (disk_of_all self.new)) (D.synced (disk_of_all self.new))
+            (path_of_take (folder_of_all self.old) name.now)
+            × IsSyncedAt (D.contents (disk_of_all self.new)) (D.synced (disk_of_all self.new))
+            (path_of_journal (folder_of_all self.old) name.now)) }
     {
         let answer = self.note_tied(name, offset, bytes);
         self.inner.count(answer.is_err());
@@ -167,7 +177,8 @@ impl<D: Volume> Journal for RestingFolderJournal<D> {
 
 impl<D: Volume> RestingJournal for RestingFolderJournal<D> {
     ghost use Rattle.bw_folder.specs.RestingFolders.{all_journals};
-    ghost use Rattle.bw_folder.specs.RestingJournals.{is_loose};
+    ghost use Rattle.bw_folder.specs.RestingFolders.{disk_of_all, folder_of_all, failures_of_all};
+    ghost use Rattle.bw_folder.specs.RestingFolders.{open_of_all, is_loose_in, sync_failed_of_all};
 
     /// Moves the journal to `NAME.closed`, unless it is there already; it isn't open afterwards.
     ///
@@ -180,21 +191,23 @@ impl<D: Volume> RestingJournal for RestingFolderJournal<D> {
     /// # Not specified
     /// When memory is refused.
     fn rest(&mut self, name: &Name) -> Result<bool, StoreFault>
-        ensures failures { Counts self.old.inner.failures self.new.inner.failures (is_err result) }
-        ensures honest { D.honest self.new.inner.disk ≡ D.honest self.old.inner.disk }
-        ensures rested { IsTrue (D.honest self.old.inner.disk) → IfOk result (λ rested. RestsIf rested
+        ensures failures { Counts (failures_of_all self.old) (failures_of_all self.new)
+            (is_err result) }
+        ensures honest { D.honest (disk_of_all self.new) ≡ D.honest (disk_of_all self.old) }
+        ensures rested { IsTrue (D.honest (disk_of_all self.old)) →
+            IfOk result (λ rested. RestsIf rested
             name.now (all_journals D.Disk self.old) (all_journals D.Disk self.new)) }
-        ensures failed { IsTrue (D.honest self.old.inner.disk) → OnErr result
+        ensures failed { IsTrue (D.honest (disk_of_all self.old)) → OnErr result
             (SameJournals (all_journals D.Disk self.old) (all_journals D.Disk self.new)) }
-        ensures files { IsTrue (D.honest self.old.inner.disk) → KeepsAllBut
-            (path_of_journal (string_bytes self.old.inner.folder) name.now)
-            (path_of_closed (string_bytes self.old.inner.folder) name.now)
-            (D.contents self.old.inner.disk) (D.contents self.new.inner.disk) }
+        ensures files { IsTrue (D.honest (disk_of_all self.old)) → KeepsAllBut
+            (path_of_journal (folder_of_all self.old) name.now)
+            (path_of_closed (folder_of_all self.old) name.now)
+            (D.contents (disk_of_all self.old)) (D.contents (disk_of_all self.new)) }
         ensures closed { IfOk result (λ rested. IsTrue rested →
-            existence_of (existences self.new.inner.journals.items) name.now ≡ None) }
-        ensures stopped { is_loose self.old.loose name.now ≡ false →
-            failure_of self.old.inner.journals.items name.now ≡ Some true →
-            (result ≡ Ok false) × (self.new.inner.disk ≡ self.old.inner.disk) }
+            existence_of (open_of_all self.new) name.now ≡ None) }
+        ensures stopped { is_loose_in self.old name.now ≡ false →
+            sync_failed_of_all self.old name.now ≡ Some true →
+            (result ≡ Ok false) × (disk_of_all self.new ≡ disk_of_all self.old) }
     {
         let answer = self.rest_file(name);
         self.inner.count(answer.is_err());
@@ -209,13 +222,14 @@ impl<D: Volume> RestingJournal for RestingFolderJournal<D> {
     /// # Not specified
     /// When memory is refused.
     fn read_resting(&mut self, name: &Name) -> Result<Option<Vec<u8>>, StoreFault>
-        ensures failures { Counts self.old.inner.failures self.new.inner.failures (is_err result) }
-        ensures honest { D.honest self.new.inner.disk ≡ D.honest self.old.inner.disk }
-        ensures read { IsTrue (D.honest self.old.inner.disk) → IfOk result (λ found.
+        ensures failures { Counts (failures_of_all self.old) (failures_of_all self.new)
+            (is_err result) }
+        ensures honest { D.honest (disk_of_all self.new) ≡ D.honest (disk_of_all self.old) }
+        ensures read { IsTrue (D.honest (disk_of_all self.old)) → IfOk result (λ found.
             option_map (λ v. v.items) found ≡ (all_journals D.Disk self.old).resting name.now) }
-        ensures kept { IsTrue (D.honest self.old.inner.disk) →
+        ensures kept { IsTrue (D.honest (disk_of_all self.old)) →
             SameJournals (all_journals D.Disk self.old) (all_journals D.Disk self.new) }
-        ensures disk { StaysWhole D.Disk self.old.inner.disk self.new.inner.disk }
+        ensures disk { StaysWhole D.Disk (disk_of_all self.old) (disk_of_all self.new) }
     {
         let answer = self.read_closed(name);
         self.inner.count(answer.is_err());
@@ -231,13 +245,15 @@ impl<D: Volume> RestingJournal for RestingFolderJournal<D> {
     /// # Not specified
     /// When memory is refused.
     fn wake(&mut self, name: &Name) -> Result<bool, StoreFault>
-        ensures failures { Counts self.old.inner.failures self.new.inner.failures (is_err result) }
-        ensures honest { D.honest self.new.inner.disk ≡ D.honest self.old.inner.disk }
-        ensures woken { IsTrue (D.honest self.old.inner.disk) → IfOk result (λ woken. WakesIf woken
+        ensures failures { Counts (failures_of_all self.old) (failures_of_all self.new)
+            (is_err result) }
+        ensures honest { D.honest (disk_of_all self.new) ≡ D.honest (disk_of_all self.old) }
+        ensures woken { IsTrue (D.honest (disk_of_all self.old)) →
+            IfOk result (λ woken. WakesIf woken
             name.now (all_journals D.Disk self.old) (all_journals D.Disk self.new)) }
-        ensures failed { IsTrue (D.honest self.old.inner.disk) → OnErr result
+        ensures failed { IsTrue (D.honest (disk_of_all self.old)) → OnErr result
             (SameJournals (all_journals D.Disk self.old) (all_journals D.Disk self.new)) }
-        ensures disk { StaysWhole D.Disk self.old.inner.disk self.new.inner.disk }
+        ensures disk { StaysWhole D.Disk (disk_of_all self.old) (disk_of_all self.new) }
     {
         let answer = self.wake_file(name);
         self.inner.count(answer.is_err());

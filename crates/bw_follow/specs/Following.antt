@@ -77,6 +77,10 @@ module _ {F : Type 0} where
   abbrev pub progress_of : PcmRequests F → PcmProgress
   progress_of x = record { outline = x.outline; frames = x.frames; given = x.given }
 
+  -- which request comes next
+  abbrev pub pcm_step : PcmRequests F → PcmStep
+  pcm_step x = x.step
+
 module _ {F : Type 0} (followed : FollowedGhosts F) where
   -- these requests are still to come: those of the samples that are held and of those to be read
   abbrev pub RequestsLeft : PcmRequests F → List Request → Type 0

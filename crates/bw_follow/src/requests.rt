@@ -1,12 +1,15 @@
 //! The requests of headerless samples, one after another, while the samples are written.
-ghost use Rattle.std.specs.Prelude.{◌≡◌, ◌-◌, ◌≢◌, min, ℕ, List, ◌*◌, ◌<◌, ◌≤◌, ◌^◌, ◌+◌, ◌/◌, ◌⊎◌, [], Some, IfOk, IfErr, OnErr, length, drop, take, true, IsTrue};
+ghost use Rattle.std.specs.Prelude.{◌≡◌, ◌-◌, ◌≢◌, min, ℕ, List, ◌*◌, ◌<◌, ◌≤◌, ◌^◌, ◌+◌, ◌/◌, ◌⊎◌};
+ghost use Rattle.std.specs.Prelude.{[], Some, IfOk, IfErr, OnErr, length, drop, take, true, IsTrue};
 ghost use Rattle.bw_request.specs.Requests.{meaning};
 ghost use Rattle.bw_plan.specs.Plans.{plan};
 ghost use Rattle.bw_plan.specs.Recordings.{Recording, block_frames as frames_a_block};
 ghost use Rattle.bw_plan.specs.PcmRecordings.{pcm_recording_of, PcmFaultOf};
-ghost use Rattle.bw_follow.specs.Following.{RequestsLeft, GivesFrom, GivesNextRequest, GivesOf, ComesTo, NextComesTo, CountsUnread, TakesSamples};
+ghost use Rattle.bw_follow.specs.Following.{RequestsLeft, GivesFrom, GivesNextRequest, GivesOf};
+ghost use Rattle.bw_follow.specs.Following.{ComesTo, NextComesTo, CountsUnread, TakesSamples};
 ghost use Rattle.bw_follow.specs.Following.{RefusesCopying, RefusesBlock, IsBlockOf};
 ghost use Rattle.bw_follow.specs.declared.state.PcmStep.TheVariants as steps;
+ghost use Rattle.bw_follow.specs.Following.{pcm_step};
 
 use crate::buffer::SampleBuffer;
 use crate::fault::PcmFault;
@@ -47,7 +50,7 @@ impl<F: Followed + Drop> PcmRequests<F> {
         ensures plan { IfOk result (λ x. (b : List ℕ) (r : Recording) →
             F.to_come file ≡ Some (drop pcm.skip b) → pcm_recording_of b options.now pcm ≡ Ok r →
             RequestsLeft F.Followed x (plan (frames_a_block options.now r.outline.format) r)) }
-        ensures first { IfOk result (λ x. x.step ≡ steps.Open) }
+        ensures first { IfOk result (λ x. pcm_step x ≡ steps.Open) }
         ensures err { IfErr result (λ f. PcmFaultOf options.now pcm file_len f) }
     {
         let outline = match pcm.outline(alloc, file_len, options) {

@@ -5,6 +5,8 @@ pub mod Entries
 pub mod Notes
 pub mod Replays
 pub mod MemoryHeaders
+pub mod MemoryJournals
+pub mod FusedJournals
 pub mod Refs
 pub mod HeaderRefs
 pub mod Faults

@@ -1,5 +1,6 @@
 //! A journal in memory that fails chosen calls.
-ghost use Rattle.std.specs.Prelude.{None, ◌≡◌, ◌<◌, ◌==◌, List, not, true, IsTrue, OnOk, OnErr, is_err};
+ghost use Rattle.std.specs.Prelude.{None, ◌≡◌, ◌<◌, ◌==◌, List, not, true, IsTrue, OnOk, OnErr};
+ghost use Rattle.std.specs.Prelude.{is_err};
 ghost use Rattle.std.specs.Prelude.{filter};
 ghost use Rattle.bw_model.specs.Counts.{Counts, last_count};
 ghost use Rattle.bw_store.specs.Fuses.{has_fuse, Blows, first_half};
@@ -7,6 +8,7 @@ ghost use Rattle.bw_store.specs.Memory.{content_under as content_of};
 ghost use Rattle.bw_store.specs.Stores.{KeepsOthers};
 ghost use Rattle.bw_journal.specs.MemoryHeaders.{header_for};
 ghost use Rattle.bw_journal.specs.Notes.{BeginsNotes, KeepsHeaders, NotesOver, NotesInPart};
+ghost use Rattle.bw_journal.specs.MemoryJournals.{failures_in_memory};
 
 use crate::journal::Journal;
 use crate::memory::{MemoryJournal, count};
@@ -26,12 +28,15 @@ pub struct FuseJournal {
 }
 
 impl FuseJournal {
+    ghost use Rattle.bw_journal.specs.FusedJournals.{fused_journal, journal_fuses, fused_calls};
+    ghost use Rattle.bw_journal.specs.FusedJournals.{fused_failures};
+
     /// A journal whose calls of these numbers fail.
     pub fn new(inner: MemoryJournal, fuses: Vec<u64>) -> FuseJournal
-        ensures inner { result.inner ≡ inner }
-        ensures fuses { result.fuses.items ≡ fuses.items }
-        ensures calls { result.calls ≡ 0 }
-        ensures failures { result.failures ≡ 0 }
+        ensures inner { fused_journal result ≡ inner }
+        ensures fuses { journal_fuses result ≡ fuses.items }
+        ensures calls { fused_calls result ≡ 0 }
+        ensures failures { fused_failures result ≡ 0 }
     {
         FuseJournal {
             inner,
@@ -43,21 +48,21 @@ impl FuseJournal {
 
     /// How many calls there were, failed ones included.
     pub fn calls(&self) -> u64
-        ensures { result ≡ self.now.calls }
+        ensures { result ≡ fused_calls self.now }
     {
         self.calls
     }
 
     /// The inner journal.
     pub fn inner(&self) -> &MemoryJournal
-        ensures { result.now ≡ self.now.inner }
+        ensures { result.now ≡ fused_journal self.now }
     {
         &self.inner
     }
 
     /// The inner journal, by value.
     pub fn into_inner(self) -> MemoryJournal
-        ensures { result ≡ self.inner }
+        ensures { result ≡ fused_journal self }
     {
         let FuseJournal {
             inner,
@@ -70,13 +75,16 @@ impl FuseJournal {
 }
 
 impl Journal for FuseJournal {
-    ghost notes = { λ j name. content_of j.inner.notes name };
+    ghost use Rattle.bw_journal.specs.FusedJournals.{fused_journal, fused_notes, fused_header};
+    ghost use Rattle.bw_journal.specs.FusedJournals.{journal_fuses, fused_calls, fused_failures};
 
-    ghost header = { λ j name. header_for j.inner name };
+    ghost notes = { fused_notes };
+
+    ghost header = { fused_header };
 
     ghost resting = { λ _ _. None };
 
-    ghost failures = { λ j. j.failures };
+    ghost failures = { fused_failures };
 
     ghost honest = { λ _. true };
 
@@ -91,20 +99,21 @@ impl Journal for FuseJournal {
     /// - That a call at a fuse leaves that count as it was.
     /// - Without a fuse, that the failure that the inner journal counted is one of its `begin`.
     fn begin(&mut self, name: &Name) -> Result<(), StoreFault>
-        ensures failures { Counts self.old.failures self.new.failures (is_err result) }
-        ensures calls { Counts self.old.calls self.new.calls true }
-        ensures headers { KeepsHeaders (header_for self.old.inner) (header_for self.new.inner) }
-        ensures begun { OnOk result (BeginsNotes name.now (header_for self.old.inner name.now)
-            (content_of self.old.inner.notes name.now)
-            (content_of self.new.inner.notes name.now)) }
-        ensures failed { OnErr result (content_of self.new.inner.notes name.now
-            ≡ content_of self.old.inner.notes name.now) }
-        ensures others { KeepsOthers
-            (content_of self.old.inner.notes) (content_of self.new.inner.notes) name.now }
-        ensures blows { Blows (has_fuse self.old.fuses.items self.old.calls) (is_err result)
-            self.old.inner.failures self.new.inner.failures }
-        ensures spent { self.new.fuses.items
-            ≡ filter (λ f. not (f == self.old.calls)) self.old.fuses.items }
+        ensures failures { Counts (fused_failures self.old) (fused_failures self.new)
+            (is_err result) }
+        ensures calls { Counts (fused_calls self.old) (fused_calls self.new) true }
+        ensures headers { KeepsHeaders (fused_header self.old) (fused_header self.new) }
+        ensures begun { OnOk result (BeginsNotes name.now (fused_header self.old name.now)
+            (fused_notes self.old name.now) (fused_notes self.new name.now)) }
+        ensures failed { OnErr result (fused_notes self.new name.now
+            ≡ fused_notes self.old name.now) }
+        ensures others { KeepsOthers (fused_notes self.old) (fused_notes self.new) name.now }
+        ensures blows { Blows (has_fuse (journal_fuses self.old) (fused_calls self.old))
+            (is_err result)
+            (failures_in_memory (fused_journal self.old))
+            (failures_in_memory (fused_journal self.new)) }
+        ensures spent { journal_fuses self.new
+            ≡ filter (λ f. not (f == fused_calls self.old)) (journal_fuses self.old) }
     {
         let answer = if blow(&mut self.fuses, self.calls) {
             Err(StoreFault)
@@ -127,27 +136,27 @@ impl Journal for FuseJournal {
     /// - What an error leaves if other bytes followed the first `offset` ones.
     /// - At a fuse, whether the inner journal took the half: only its count of failures shows it.
     fn note(&mut self, name: &Name, offset: u64, bytes: &[u8]) -> Result<(), StoreFault>
-        ensures failures { Counts self.old.failures self.new.failures (is_err result) }
-        ensures calls { Counts self.old.calls self.new.calls true }
-        ensures headers { KeepsHeaders (header_for self.old.inner) (header_for self.new.inner) }
+        ensures failures { Counts (fused_failures self.old) (fused_failures self.new)
+            (is_err result) }
+        ensures calls { Counts (fused_calls self.old) (fused_calls self.new) true }
+        ensures headers { KeepsHeaders (fused_header self.old) (fused_header self.new) }
         ensures over { OnOk result (NotesOver offset bytes.now
-            (content_of self.old.inner.notes name.now)
-            (content_of self.new.inner.notes name.now)) }
+            (fused_notes self.old name.now) (fused_notes self.new name.now)) }
         ensures failed { OnErr result (NotesInPart offset bytes.now
-            (content_of self.old.inner.notes name.now)
-            (content_of self.new.inner.notes name.now)) }
-        ensures others { KeepsOthers
-            (content_of self.old.inner.notes) (content_of self.new.inner.notes) name.now }
-        ensures blows { Blows (has_fuse self.old.fuses.items self.old.calls) (is_err result)
-            self.old.inner.failures self.new.inner.failures }
-        ensures half { IsTrue (has_fuse self.old.fuses.items self.old.calls) →
-            self.old.inner.failures < last_count →
-            self.new.inner.failures ≡ self.old.inner.failures →
-            NotesOver offset (first_half bytes.now)
-            (content_of self.old.inner.notes name.now)
-            (content_of self.new.inner.notes name.now) }
-        ensures spent { self.new.fuses.items
-            ≡ filter (λ f. not (f == self.old.calls)) self.old.fuses.items }
+            (fused_notes self.old name.now) (fused_notes self.new name.now)) }
+        ensures others { KeepsOthers (fused_notes self.old) (fused_notes self.new) name.now }
+        ensures blows { Blows (has_fuse (journal_fuses self.old) (fused_calls self.old))
+            (is_err result)
+            (failures_in_memory (fused_journal self.old))
+            (failures_in_memory (fused_journal self.new)) }
+        ensures half { IsTrue (has_fuse (journal_fuses self.old) (fused_calls self.old)) →
+            failures_in_memory (fused_journal self.old) < last_count →
+            failures_in_memory (fused_journal self.new)
+            ≡ failures_in_memory (fused_journal self.old) →
+            NotesOver offset (first_half bytes.now) (fused_notes self.old name.now)
+            (fused_notes self.new name.now) }
+        ensures spent { journal_fuses self.new
+            ≡ filter (λ f. not (f == fused_calls self.old)) (journal_fuses self.old) }
     {
         let answer = if blow(&mut self.fuses, self.calls) {
             note_half(&mut self.inner, name, offset, bytes);

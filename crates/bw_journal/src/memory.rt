@@ -1,6 +1,7 @@
 //! A journal in memory.
 ghost use Rattle.std.specs.Prelude.{◌≡◌, ◌≤◌, ◌++◌, ◌∷◌, [], ℕ, List, Option, Some, None, IsTrue};
-ghost use Rattle.std.specs.Prelude.{OnOk, OnErr, IsOk, is_err, option_map, length, take, true, false};
+ghost use Rattle.std.specs.Prelude.{OnOk, OnErr, IsOk, is_err, option_map, length, take, true};
+ghost use Rattle.std.specs.Prelude.{false};
 ghost use Rattle.std.specs.Option.{option_copied};
 ghost use Rattle.std.specs.Str.{bytes_eq};
 ghost use Rattle.std.specs.List.{list_any};
@@ -32,6 +33,9 @@ pub struct MemoryJournal {
 }
 
 impl MemoryJournal {
+    ghost use Rattle.bw_journal.specs.MemoryJournals.{noted_in_memory, limit_in_memory};
+    ghost use Rattle.bw_journal.specs.MemoryJournals.{existed_in_memory, failures_in_memory};
+
     /// No journals yet, for a server of this limit.
     pub fn new(alloc: Global, limit: Limit) -> MemoryJournal
         ensures honest { IsTrue (⟦<MemoryJournal as Journal>⟧.honest result) }
@@ -57,10 +61,13 @@ impl MemoryJournal {
     /// # Not specified
     /// When memory is refused.
     pub fn set_existed(&mut self, name: &Name) -> Result<(), AllocError>
-        ensures ok { OnOk result (self.new.existed.items ≡ self.old.existed.items ++ name.now ∷ []) }
-        ensures err { OnErr result (self.new.existed.items ≡ self.old.existed.items) }
-        ensures rest { (self.new.limit ≡ self.old.limit) × (self.new.notes ≡ self.old.notes)
-            × (self.new.failures ≡ self.old.failures) }
+        ensures ok { OnOk result (existed_in_memory self.new
+            ≡ existed_in_memory self.old ++ name.now ∷ []) }
+        ensures err { OnErr result (existed_in_memory self.new ≡ existed_in_memory self.old) }
+        ensures limit { limit_in_memory self.new ≡ limit_in_memory self.old }
+        ensures notes { (other : List ℕ) → noted_in_memory self.new other
+            ≡ noted_in_memory self.old other }
+        ensures failures { failures_in_memory self.new ≡ failures_in_memory self.old }
     {
         match self.existed.push(name.copy()) {
             Ok(()) => Ok(()),
@@ -76,13 +83,14 @@ impl MemoryJournal {
     /// # Not specified
     /// When memory is refused.
     pub fn plant(&mut self, name: &Name, bytes: &[u8]) -> Result<(), AllocError>
-        ensures ok { OnOk result (content_of self.new.notes name.now ≡ Some bytes.now) }
+        ensures ok { OnOk result (noted_in_memory self.new name.now ≡ Some bytes.now) }
         ensures err { OnErr result
-            (content_of self.new.notes name.now ≡ content_of self.old.notes name.now) }
+            (noted_in_memory self.new name.now ≡ noted_in_memory self.old name.now) }
         ensures others { KeepsOthers
-            (content_of self.old.notes) (content_of self.new.notes) name.now }
-        ensures rest { (self.new.limit ≡ self.old.limit) × (self.new.existed ≡ self.old.existed)
-            × (self.new.failures ≡ self.old.failures) }
+            (noted_in_memory self.old) (noted_in_memory self.new) name.now }
+        ensures limit { limit_in_memory self.new ≡ limit_in_memory self.old }
+        ensures existed { existed_in_memory self.new ≡ existed_in_memory self.old }
+        ensures failures { failures_in_memory self.new ≡ failures_in_memory self.old }
     {
         put(&mut self.notes, self.alloc, name, bytes)
     }
@@ -96,13 +104,15 @@ impl MemoryJournal {
 }
 
 impl Journal for MemoryJournal {
-    ghost notes = { λ j name. content_of j.notes name };
+    ghost use Rattle.bw_journal.specs.MemoryJournals.{noted_in_memory, failures_in_memory};
 
-    ghost header = { λ j name. header_for j name };
+    ghost notes = { noted_in_memory };
+
+    ghost header = { header_for };
 
     ghost resting = { λ _ _. None };
 
-    ghost failures = { λ j. j.failures };
+    ghost failures = { failures_in_memory };
 
     ghost honest = { λ _. true };
 
@@ -115,16 +125,17 @@ impl Journal for MemoryJournal {
     /// # Not specified
     /// When memory is refused.
     fn begin(&mut self, name: &Name) -> Result<(), StoreFault>
-        ensures failures { Counts self.old.failures self.new.failures (is_err result) }
+        ensures failures { Counts (failures_in_memory self.old) (failures_in_memory self.new)
+            (is_err result) }
         ensures headers { KeepsHeaders (header_for self.old) (header_for self.new) }
         ensures begun { OnOk result (BeginsNotes name.now (header_for self.old name.now)
-            (content_of self.old.notes name.now) (content_of self.new.notes name.now)) }
+            (noted_in_memory self.old name.now) (noted_in_memory self.new name.now)) }
         ensures failed { OnErr result
-            (content_of self.new.notes name.now ≡ content_of self.old.notes name.now) }
+            (noted_in_memory self.new name.now ≡ noted_in_memory self.old name.now) }
         ensures stands { BeginsWith (header_bytes name.now (header_for self.old name.now))
-            (content_of self.old.notes name.now) → IsOk result }
+            (noted_in_memory self.old name.now) → IsOk result }
         ensures others { KeepsOthers
-            (content_of self.old.notes) (content_of self.new.notes) name.now }
+            (noted_in_memory self.old) (noted_in_memory self.new) name.now }
     {
         let header = JournalHeader {
             limit: self.limit,
@@ -144,14 +155,15 @@ impl Journal for MemoryJournal {
     /// # Not specified
     /// When memory is refused.
     fn note(&mut self, name: &Name, offset: u64, bytes: &[u8]) -> Result<(), StoreFault>
-        ensures failures { Counts self.old.failures self.new.failures (is_err result) }
+        ensures failures { Counts (failures_in_memory self.old) (failures_in_memory self.new)
+            (is_err result) }
         ensures headers { KeepsHeaders (header_for self.old) (header_for self.new) }
         ensures over { OnOk result (NotesOver offset bytes.now
-            (content_of self.old.notes name.now) (content_of self.new.notes name.now)) }
-        ensures cut { OnErr result (content_of self.new.notes name.now
-            ≡ option_map (take offset) (content_of self.old.notes name.now)) }
+            (noted_in_memory self.old name.now) (noted_in_memory self.new name.now)) }
+        ensures cut { OnErr result (noted_in_memory self.new name.now
+            ≡ option_map (take offset) (noted_in_memory self.old name.now)) }
         ensures others { KeepsOthers
-            (content_of self.old.notes) (content_of self.new.notes) name.now }
+            (noted_in_memory self.old) (noted_in_memory self.new) name.now }
     {
         let answer = append(&mut self.notes, name, offset, bytes);
         count(&mut self.failures, answer.is_err());

@@ -1,5 +1,5 @@
 -- What a server over a folder leaves on its disks that is killed.
-use Rattle.std.specs.Prelude.{◌≡◌, ℕ, Option, is_some, List, map, string_bytes}
+use Rattle.std.specs.Prelude.{◌≡◌, ℕ, Option, is_some, List, map}
 use Rattle.bw_model.specs.Wire.{Message, Says}
 use Rattle.bw_model.specs.Book.{Book}
 use Rattle.bw_model.specs.Turn.{book_after}
@@ -10,7 +10,10 @@ use Rattle.bw_wire.specs.declared.reply.Reply.{Reply}
 use Rattle.bw_folder.specs.Folders.{take_path}
 use Rattle.bw_folder.specs.declared.folder.FolderStore.{FolderStore}
 use Rattle.bw_folder.specs.declared.journal.FolderJournal.{FolderJournal}
+use Rattle.bw_folder.specs.TakeFolders.{takes_disk, takes_folder}
+use Rattle.bw_folder.specs.JournalFolders.{journals_disk, journals_folder}
 use Rattle.bw_session.specs.declared.server.Server.{Server}
+use Rattle.bw_session.specs.SeenServers.{server_store, server_journal, server_limit}
 use Rattle.bw_start.specs.Started.{IsLeftIn}
 use Rattle.bw_left.specs.LeftFolders.{GoesAhead}
 use Rattle.bw_left.specs.StoppedLives.{StoppedLife}
@@ -22,12 +25,12 @@ module _ {D E F H : Type 0} (G : DiskGhosts D F) (K : DiskGhosts E H)
   -- is at the path of a take
   pub record IsOverOneFolder (s : Server (FolderStore D F G) (FolderJournal E H K) S J) :
       Type 0 where
-    pub folder : string_bytes s.stores.journal.folder ≡ string_bytes s.stores.store.folder
+    pub folder : journals_folder (server_journal s) ≡ takes_folder (server_store s)
     pub alike : (name : List ℕ) →
-        is_some (K.contents s.stores.journal.disk
-        (take_path (string_bytes s.stores.store.folder) name))
-        ≡ is_some (G.contents s.stores.store.disk
-        (take_path (string_bytes s.stores.store.folder) name))
+        is_some (K.contents (journals_disk (server_journal s))
+        (take_path (takes_folder (server_store s)) name))
+        ≡ is_some (G.contents (takes_disk (server_store s))
+        (take_path (takes_folder (server_store s)) name))
 
   -- A server was killed: these messages had their turns, from this book, and its disks have what
   -- `start` takes as its premise, from the book that the life left.
@@ -37,8 +40,8 @@ module _ {D E F H : Type 0} (G : DiskGhosts D F) (K : DiskGhosts E H)
     pub began : life.began ≡ book
     pub frames : map (λ t. t.0) life.turns ≡ map Says messages
     pub ahead : GoesAhead (book_after (λ name. is_some (first name)) book life.turns) life.left
-    pub left : IsLeftIn new.limit (string_bytes new.stores.store.folder) first life.left
-        (K.contents new.stores.journal.disk) (G.contents new.stores.store.disk)
+    pub left : IsLeftIn (server_limit new) (takes_folder (server_store new)) first life.left
+        (K.contents (journals_disk (server_journal new))) (G.contents (takes_disk (server_store new)))
 
   -- Whatever its disks are, as those that die in a call, if they are honest: a server that is stopped
   -- after any turns, or in the last of them, leaves that, whichever calls failed in any of them.

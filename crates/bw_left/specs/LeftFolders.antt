@@ -16,6 +16,7 @@ use Rattle.bw_folder.specs.Journals.{notes_at}
 use Rattle.bw_session.specs.Numbered.{with_done}
 use Rattle.bw_session.specs.Books.{HoldsBook, NotesBook}
 use Rattle.bw_session.specs.declared.server.Server.{Server}
+use Rattle.bw_session.specs.SeenServers.{server_store, server_journal, server_limit}
 use Rattle.bw_start.specs.Left.{wanted_file}
 use Rattle.bw_start.specs.Names.{begins_take}
 use Rattle.bw_start.specs.LeftNames.{header_beside, IsLeftName, IsLeft}
@@ -88,27 +89,27 @@ module _ {X Y : Type 0} (S : StoreGhosts X) (J : JournalGhosts Y) where
   -- The server holds the book over an honest store, and its journal has what the book says.
   pub record RunsOver (first : List ℕ → Option (List ℕ)) (s : Server X Y S J) (book : Book) :
       Type 0 where
-    pub honest : IsTrue (S.honest s.stores.store)
+    pub honest : IsTrue (S.honest (server_store s))
     pub held : HoldsBook S J first s book
     pub noted : NotesBook S J first s book
-    pub own : IsOwnFolder s.limit first (J.header s.stores.journal) (J.notes s.stores.journal)
+    pub own : IsOwnFolder (server_limit s) first (J.header (server_journal s)) (J.notes (server_journal s))
 
   -- each number that waits was written in order
   abbrev pub EachIsInOrder : (List ℕ → Option (List ℕ)) → Server X Y S J → Book → Type 0
   EachIsInOrder first s book = (name : List ℕ) → is_pending (log_of book name) ≡ true →
-      IsWrittenInOrder s.limit (first name) name (log_of book name) (J.notes s.stores.journal name)
-      (S.contents s.stores.store name)
+      IsWrittenInOrder (server_limit s) (first name) name (log_of book name) (J.notes (server_journal s) name)
+      (S.contents (server_store s) name)
 
   -- A server under none of whose names a number waits, as after turns in which no call failed,
   -- leaves what a start takes over from the very book.
   abbrev pub QuietServersAreLeft : Type 0
   QuietServersAreLeft = (first : List ℕ → Option (List ℕ)) (s : Server X Y S J) (book : Book) →
       RunsOver first s book → ((name : List ℕ) → is_pending (log_of book name) ≡ false) →
-      IsLeft s.limit first book (J.notes s.stores.journal) (S.contents s.stores.store)
+      IsLeft (server_limit s) first book (J.notes (server_journal s)) (S.contents (server_store s))
 
   -- So does one that was stopped within a turn, or whose calls failed, if each number that waits
   -- was written in order: from its book, or one in which numbers that waited are done.
   abbrev pub OrderedServersAreLeft : Type 0
   OrderedServersAreLeft = (first : List ℕ → Option (List ℕ)) (s : Server X Y S J) (book : Book) →
       RunsOver first s book → EachIsInOrder first s book →
-      LeavesLater s.limit first book (J.notes s.stores.journal) (S.contents s.stores.store)
+      LeavesLater (server_limit s) first book (J.notes (server_journal s)) (S.contents (server_store s))

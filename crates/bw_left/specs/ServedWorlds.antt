@@ -12,8 +12,10 @@ use Rattle.bw_wire.specs.declared.reply.Reply.{Reply}
 use Rattle.bw_wire.specs.Replies.{reply_of}
 use Rattle.bw_folder.specs.declared.folder.FolderStore.{FolderStore}
 use Rattle.bw_folder.specs.declared.journal.FolderJournal.{FolderJournal}
+use Rattle.bw_folder.specs.JournalFolders.{journals_disk}
 use Rattle.bw_session.specs.Books.{HoldsBook, NotesBook}
 use Rattle.bw_session.specs.declared.server.Server.{Server}
+use Rattle.bw_session.specs.SeenServers.{server_store, server_journal, server_limit}
 use Rattle.bw_start.specs.Names.{begins_take}
 use Rattle.bw_start.specs.LeftNames.{IsLeft}
 use Rattle.bw_start.specs.Restored.{KeepsJournals}
@@ -53,8 +55,8 @@ module _ {X Y : Type 0} (S : StoreGhosts X) (J : JournalGhosts Y) where
     pub faults : Faults
     pub left : Book
     pub next : IsNextStep (existed_in first) w (Dies m faults left)
-    pub stands : IsLeft s.limit first (after_world_step (existed_in first) w (Dies m faults left)).book
-        (J.notes s.stores.journal) (S.contents s.stores.store)
+    pub stands : IsLeft (server_limit s) first (after_world_step (existed_in first) w (Dies m faults left)).book
+        (J.notes (server_journal s)) (S.contents (server_store s))
 
   -- So does each, whichever of its calls fail in that turn.
   abbrev pub DeathsAreSteps : Type 0
@@ -67,8 +69,8 @@ module _ {X Y : Type 0} (S : StoreGhosts X) (J : JournalGhosts Y) where
       Type 0 where
     pub left : Book
     pub next : IsNextStep (existed_in first) w (Stops left)
-    pub stands : IsLeft s.limit first (after_world_step (existed_in first) w (Stops left)).book
-        (J.notes s.stores.journal) (S.contents s.stores.store)
+    pub stands : IsLeft (server_limit s) first (after_world_step (existed_in first) w (Stops left)).book
+        (J.notes (server_journal s)) (S.contents (server_store s))
 
   -- So does each, also while numbers wait.
   abbrev pub StopsAreSteps : Type 0
@@ -85,12 +87,12 @@ module _ {D E F H : Type 0} (G : DiskGhosts D F) (K : DiskGhosts E H)
   pub record WasStarted (limit : ℕ) (folder : List ℕ) (sync : Bool) (first : List ℕ → Option (List ℕ))
       (book : Book) (notes : List ℕ → Option (List ℕ))
       (s : Server (FolderStore D F G) (FolderJournal E H K) S J) : Type 0 where
-    pub honest : IsTrue (S.honest s.stores.store)
-    pub honest_notes : IsTrue (J.honest s.stores.journal)
+    pub honest : IsTrue (S.honest (server_store s))
+    pub honest_notes : IsTrue (J.honest (server_journal s))
     pub held : HoldsBook S J first s (cut_book book)
     pub noted : NotesBook S J first s (cut_book book)
     pub settings : IsSetTo limit folder sync s
-    pub untouched : KeepsJournals folder notes (K.contents s.stores.journal.disk)
+    pub untouched : KeepsJournals folder notes (K.contents (journals_disk (server_journal s)))
 
   -- A start over what a server of the world left is the world's next step.
   abbrev pub StartsAreSteps : Type 0

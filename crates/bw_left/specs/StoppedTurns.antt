@@ -11,6 +11,7 @@ use Rattle.bw_wire.specs.declared.reply.Reply.{Reply}
 use Rattle.bw_wire.specs.Replies.{reply_of}
 use Rattle.bw_session.specs.Books.{failures_of, TurnsBooks, NotesBooks, OrdersBook, OrdersBooks, UsesInTurn}
 use Rattle.bw_session.specs.declared.server.Server.{Server}
+use Rattle.bw_session.specs.SeenServers.{server_store, server_journal, server_limit}
 use Rattle.bw_start.specs.Names.{begins_take}
 use Rattle.bw_start.specs.LeftNames.{IsLeft}
 use Rattle.bw_left.specs.LeftFolders.{RunsOver, LeavesLater, GoesAhead}
@@ -22,7 +23,7 @@ module _ {X Y : Type 0} (S : StoreGhosts X) (J : JournalGhosts Y) where
   pub record RunsHonestly (first : List ℕ → Option (List ℕ)) (s : Server X Y S J) (book : Book) :
       Type 0 where
     pub runs : RunsOver S J first s book
-    pub honest_notes : IsTrue (J.honest s.stores.journal)
+    pub honest_notes : IsTrue (J.honest (server_journal s))
     pub order : OrdersBook S J first s
     pub foreign : (name bytes : List ℕ) → (log_of book name).done ≡ 0 → first name ≡ Some bytes →
         begins_take bytes ≡ false
@@ -34,7 +35,7 @@ module _ {X Y : Type 0} (S : StoreGhosts X) (J : JournalGhosts Y) where
     pub noted : NotesBooks S J old new m replies
     pub ordered : OrdersBooks S J old new
     pub both : UsesInTurn S J old new m replies
-    pub limit : new.limit ≡ old.limit
+    pub limit : server_limit new ≡ server_limit old
 
   -- messages had their turns, one after another
   abbrev pub HadTurns : Server X Y S J → List (Message × List Reply) → Server X Y S J → Type 0
@@ -52,7 +53,7 @@ module _ {X Y : Type 0} (S : StoreGhosts X) (J : JournalGhosts Y) where
       × IsTurn (λ name. is_some (first name)) (failures_of S J old) (failures_of S J new) book
       (Says m) (map reply_of replies) later
       × RunsHonestly first new later
-      × LeavesLater new.limit first later (J.notes new.stores.journal) (S.contents new.stores.store)
+      × LeavesLater (server_limit new) first later (J.notes (server_journal new)) (S.contents (server_store new))
 
   -- A server was killed, and left this: these messages had their turns, from this book, and the
   -- folder is one that a start takes over from the book that the life left.
@@ -61,8 +62,8 @@ module _ {X Y : Type 0} (S : StoreGhosts X) (J : JournalGhosts Y) where
     pub began : life.began ≡ book
     pub frames : map (λ t. t.0) life.turns ≡ map Says messages
     pub ahead : GoesAhead (book_after (λ name. is_some (first name)) book life.turns) life.left
-    pub left : IsLeft new.limit first life.left (J.notes new.stores.journal)
-        (S.contents new.stores.store)
+    pub left : IsLeft (server_limit new) first life.left (J.notes (server_journal new))
+        (S.contents (server_store new))
 
   -- A server that is stopped after any turns, or in the last of them, leaves what a start takes over,
   -- whichever calls failed in any of them: a full disk may have got room again.

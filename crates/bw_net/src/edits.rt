@@ -11,11 +11,13 @@ use std::io::{self, Seek, SeekFrom, Write};
 /// The files of this machine. It doesn't report their bytes, since no clause of std says what they
 /// are.
 impl EditedFiles for HostRecordings<'_> {
+    ghost use Rattle.bw_net.specs.SeenFiles.{recordings_failures};
+
     type Edited = SeekSource<File>;
 
     ghost content_at = { λ s path. None };
 
-    ghost edit_failures = { λ s. s.failures };
+    ghost edit_failures = { recordings_failures };
 
     fn open_edited(&mut self, path: &str) -> io::Result<SeekSource<File>> {
         let opened = open_source(self.rt, path);

@@ -116,11 +116,13 @@ fn open_once_made(rt: &HostRuntime, path: &str, until: &str) -> io::Result<File>
 }
 
 impl Followed for FollowedFile<'_> {
+    ghost use Rattle.bw_net.specs.SeenFiles.{followed_failures, followed_has_ended};
+
     ghost to_come = { λ f. None };
 
-    ghost is_complete = { λ f. f.has_ended };
+    ghost is_complete = { followed_has_ended };
 
-    ghost failures = { λ f. f.failures };
+    ghost failures = { followed_failures };
 
     fn has_ended(&mut self) -> io::Result<bool> {
         match self.looks_ended() {

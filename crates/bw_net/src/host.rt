@@ -16,25 +16,29 @@ pub struct Host<'a> {
 }
 
 impl<'a> Host<'a> {
+    ghost use Rattle.bw_net.specs.SeenFiles.{host_failures};
+
     /// The system of this runtime, which has not failed yet.
     ///
     /// # Not specified
     /// What the words and files are: no clause of std says it.
     pub fn new(rt: &'a HostRuntime) -> Host<'a>
-        ensures { result.failures ≡ 0 }
+        ensures { host_failures result ≡ 0 }
     {
         Host { rt, failures: 0 }
     }
 }
 
 impl System for Host<'_> {
+    ghost use Rattle.bw_net.specs.SeenFiles.{host_failures};
+
     type File = SeekSource<File>;
 
     ghost words = { λ s. None };
 
     ghost file_at = { λ s path. None };
 
-    ghost failures = { λ s. s.failures };
+    ghost failures = { host_failures };
 
     fn words(&mut self) -> io::Result<Vec<String>> {
         let found = words(self.rt);

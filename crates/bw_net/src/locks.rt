@@ -7,9 +7,11 @@ use bw_lock::{FolderLocks, LockRefusal};
 ///
 /// No clause says when a call succeeds: that two processes don't have it is tested.
 impl FolderLocks for HostRecordings<'_> {
+    ghost use Rattle.bw_net.specs.SeenFiles.{recordings_failures};
+
     type Lock = FolderLock;
 
-    ghost lock_failures = { λ s. s.failures };
+    ghost lock_failures = { recordings_failures };
 
     ghost locks = { λ s folder result s'. Unit {0} };
 

@@ -1,7 +1,7 @@
 //! The network and the folders of this machine, for `serve` and `send`.
-ghost use Rattle.std.specs.Prelude.{◌≡◌, ◌*◌, ◌+◌, IfOk, option_map, string_bytes};
+ghost use Rattle.std.specs.Prelude.{◌≡◌, ◌*◌, ◌+◌, IfOk, option_map};
 ghost use Rattle.std.specs.Duration.{as_nanos};
-ghost use Rattle.mio.specs.Events.{capacity as room_of};
+ghost use Rattle.bw_folder.specs.TakeFolders.{takes_folder};
 
 use crate::folder::check_folder;
 use crate::journals::refuse_journals;
@@ -31,6 +31,10 @@ pub struct TcpNetwork<'a> {
 }
 
 impl<'a> TcpNetwork<'a> {
+    ghost use Rattle.bw_net.specs.SeenLinks.{network_failures, reactor_address, reactor_folder};
+    ghost use Rattle.bw_net.specs.SeenLinks.{reactor_room, reactor_failures, reactor_waits};
+    ghost use Rattle.bw_net.specs.SeenLinks.{peers_address, peers_folder, peers_timeout};
+
     /// The network of this runtime, which has not failed yet. This spool is filled while the calls of
     /// a link to a server wait.
     ///
@@ -39,7 +43,7 @@ impl<'a> TcpNetwork<'a> {
     /// - That a folder is tried before its store is given, that it listens and calls at the
     ///   address, and when an error is returned.
     pub fn new(rt: &'a HostRuntime, spool: &'a SpoolCell) -> TcpNetwork<'a>
-        ensures { result.failures ≡ 0 }
+        ensures { network_failures result ≡ 0 }
     {
         TcpNetwork {
             rt,
@@ -55,9 +59,10 @@ impl<'a> TcpNetwork<'a> {
         folder: &str,
         timeout: Option<u32>,
     ) -> io::Result<TcpPeers<'a, HostRuntime, TcpListener>>
-        ensures { IfOk result (λ peers. (peers.address ≡ address)
-            × (string_bytes peers.folder ≡ folder.now)
-            × (option_map as_nanos peers.timeout ≡ option_map (λ s. s * 1_000_000_000) timeout)) }
+        ensures { IfOk result (λ peers. (peers_address peers ≡ address)
+            × (peers_folder peers ≡ folder.now)
+            × (option_map as_nanos (peers_timeout peers)
+            ≡ option_map (λ s. s * 1_000_000_000) timeout)) }
     {
         let folder = String::from_str(self.rt.alloc(), folder)?;
         TcpPeers::listen(self.rt, address, folder, span(timeout))
@@ -69,10 +74,10 @@ impl<'a> TcpNetwork<'a> {
         folder: &str,
         places: usize,
     ) -> io::Result<TcpReactor<'a>>
-        ensures { IfOk result (λ reactor. (reactor.address ≡ address)
-            × (string_bytes reactor.folder ≡ folder.now)
-            × (room_of reactor.events ≡ places + 1) × (reactor.failures ≡ 0)
-            × (reactor.waits ≡ 0)) }
+        ensures { IfOk result (λ reactor. (reactor_address reactor ≡ address)
+            × (reactor_folder reactor ≡ folder.now)
+            × (reactor_room reactor ≡ places + 1) × (reactor_failures reactor ≡ 0)
+            × (reactor_waits reactor ≡ 0)) }
     {
         let folder = String::from_str(self.rt.alloc(), folder)?;
         TcpReactor::listen(self.rt, address, folder, places)
@@ -96,23 +101,26 @@ fn span(seconds: Option<u32>) -> Option<Duration>
 }
 
 impl<'a> Network for TcpNetwork<'a> {
+    ghost use Rattle.bw_net.specs.SeenLinks.{network_failures, dial_address, dial_timeout};
+    ghost use Rattle.bw_net.specs.SeenLinks.{peers_address, peers_folder, peers_timeout};
+
     type Store = FolderStore<SystemDisk<&'a HostRuntime>>;
 
     type Peers = TcpPeers<'a, HostRuntime, TcpListener>;
 
     type Dial = TcpDial<'a>;
 
-    ghost failures = { λ n. n.failures };
+    ghost failures = { network_failures };
 
-    ghost stores = { λ n folder result n'. IfOk result (λ store.
-        string_bytes store.folder ≡ folder) };
+    ghost stores = { λ n folder result n'. IfOk result (λ store. takes_folder store ≡ folder) };
 
     ghost listens = { λ n address folder timeout result n'. IfOk result (λ peers.
-        (peers.address ≡ address) × (string_bytes peers.folder ≡ folder)
-        × (option_map as_nanos peers.timeout ≡ option_map (λ s. s * 1_000_000_000) timeout)) };
+        (peers_address peers ≡ address) × (peers_folder peers ≡ folder)
+        × (option_map as_nanos (peers_timeout peers)
+        ≡ option_map (λ s. s * 1_000_000_000) timeout)) };
 
-    ghost calls = { λ n address timeout dial. (dial.address ≡ address)
-        × (option_map as_nanos dial.timeout ≡ option_map (λ s. s * 1_000_000_000) timeout) };
+    ghost calls = { λ n address timeout dial. (dial_address dial ≡ address)
+        × (option_map as_nanos (dial_timeout dial) ≡ option_map (λ s. s * 1_000_000_000) timeout) };
 
     fn store(
         &mut self,
@@ -162,13 +170,17 @@ impl<'a> PacedNetwork for TcpNetwork<'a> {
 }
 
 impl<'a> ListenerSetup for TcpNetwork<'a> {
+    ghost use Rattle.bw_net.specs.SeenLinks.{network_failures, reactor_address, reactor_folder};
+    ghost use Rattle.bw_net.specs.SeenLinks.{reactor_room, reactor_failures, reactor_waits};
+
     type Reactor = TcpReactor<'a>;
 
-    ghost failures = { λ n. n.failures };
+    ghost failures = { network_failures };
 
     ghost opens = { λ n address folder places result n'. IfOk result (λ reactor.
-        (reactor.address ≡ address) × (string_bytes reactor.folder ≡ folder)
-        × (room_of reactor.events ≡ places + 1) × (reactor.failures ≡ 0) × (reactor.waits ≡ 0)) };
+        (reactor_address reactor ≡ address) × (reactor_folder reactor ≡ folder)
+        × (reactor_room reactor ≡ places + 1) × (reactor_failures reactor ≡ 0)
+        × (reactor_waits reactor ≡ 0)) };
 
     fn reactor(
         &mut self,

@@ -13,12 +13,14 @@ pub struct ClockPause<R> {
 }
 
 impl<R> ClockPause<R> {
+    ghost use Rattle.bw_net.specs.SeenFiles.{pausing_runtime};
+
     /// Waits by this runtime's clock.
     ///
     /// # Not specified
     /// That so much time passes: no clause of std says it.
     pub fn new(rt: R) -> ClockPause<R>
-        ensures { result.rt ≡ rt }
+        ensures { pausing_runtime result ≡ rt }
     {
         ClockPause { rt }
     }

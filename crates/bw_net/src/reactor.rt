@@ -1,8 +1,7 @@
 //! Accepts many recorders over TCP, and says which of their sockets are ready.
-ghost use Rattle.std.specs.Prelude.{◌≡◌, ◌||◌, ◌+◌, IfOk, ⊤};
+ghost use Rattle.std.specs.Prelude.{◌≡◌, ◌||◌, ◌+◌, IfOk, ⊤, string_bytes};
 ghost use Rattle.mio.specs.Event.{event_token, is_error, is_readable, is_read_closed};
 ghost use Rattle.mio.specs.Event.{is_writable, is_write_closed};
-ghost use Rattle.mio.specs.Events.{capacity as room_of};
 
 use crate::folder::has_folder;
 use crate::socket::Socket;
@@ -43,6 +42,9 @@ pub struct TcpReactor<'a> {
 }
 
 impl<'a> TcpReactor<'a> {
+    ghost use Rattle.bw_net.specs.SeenLinks.{reactor_address, reactor_folder, reactor_room};
+    ghost use Rattle.bw_net.specs.SeenLinks.{reactor_failures, reactor_waits};
+
     /// Listens at an address for those who connect to a server over this folder, with `places`
     /// places.
     ///
@@ -62,11 +64,11 @@ impl<'a> TcpReactor<'a> {
         folder: String,
         places: usize,
     ) -> io::Result<TcpReactor<'a>>
-        ensures address { IfOk result (λ reactor. reactor.address ≡ address) }
-        ensures folder { IfOk result (λ reactor. reactor.folder ≡ folder) }
-        ensures room { IfOk result (λ reactor. room_of reactor.events ≡ places + 1) }
-        ensures failures { IfOk result (λ reactor. reactor.failures ≡ 0) }
-        ensures waits { IfOk result (λ reactor. reactor.waits ≡ 0) }
+        ensures address { IfOk result (λ reactor. reactor_address reactor ≡ address) }
+        ensures folder { IfOk result (λ reactor. reactor_folder reactor ≡ string_bytes folder) }
+        ensures room { IfOk result (λ reactor. reactor_room reactor ≡ places + 1) }
+        ensures failures { IfOk result (λ reactor. reactor_failures reactor ≡ 0) }
+        ensures waits { IfOk result (λ reactor. reactor_waits reactor ≡ 0) }
     {
         let Some(room) = places.checked_add(1) else {
             return Err(io::Error::from(ErrorKind::OutOfMemory));
@@ -94,15 +96,18 @@ impl<'a> TcpReactor<'a> {
 }
 
 impl Reactor for TcpReactor<'_> {
+    ghost use Rattle.bw_net.specs.SeenLinks.{reactor_failures, reactor_waits, reactor_time};
+    ghost use Rattle.bw_net.specs.SeenLinks.{reactor_patience};
+
     type Link = Socket;
 
-    ghost failures = { λ l. l.failures };
+    ghost failures = { reactor_failures };
 
-    ghost waits = { λ l. l.waits };
+    ghost waits = { reactor_waits };
 
-    ghost time = { λ l. l.now };
+    ghost time = { reactor_time };
 
-    ghost patience = { λ l. l.patience };
+    ghost patience = { reactor_patience };
 
     ghost reported = { λ _ _. ⊤ };
 

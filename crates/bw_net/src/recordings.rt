@@ -25,13 +25,15 @@ pub struct HostRecordings<'a> {
 }
 
 impl<'a> HostRecordings<'a> {
+    ghost use Rattle.bw_net.specs.SeenFiles.{recordings_failures};
+
     /// The files of this runtime's system, which has not failed yet. Standard input goes into this
     /// spool, where it is followed.
     ///
     /// # Not specified
     /// What the files hold, and when they were changed: no clause of std says it.
     pub fn new(rt: &'a HostRuntime, spool: &'a SpoolCell) -> HostRecordings<'a>
-        ensures { result.failures ≡ 0 }
+        ensures { recordings_failures result ≡ 0 }
     {
         HostRecordings {
             rt,
@@ -42,6 +44,8 @@ impl<'a> HostRecordings<'a> {
 }
 
 impl<'a> RecordingFiles for HostRecordings<'a> {
+    ghost use Rattle.bw_net.specs.SeenFiles.{recordings_failures};
+
     type File = SeekSource<File>;
 
     type Growing = FollowedFile<'a>;
@@ -52,7 +56,7 @@ impl<'a> RecordingFiles for HostRecordings<'a> {
 
     ghost stamp_at = { λ s path. None };
 
-    ghost failures = { λ s. s.failures };
+    ghost failures = { recordings_failures };
 
     fn open(&mut self, path: &str) -> io::Result<SeekSource<File>> {
         let opened = open_source(self.rt, path);
@@ -122,9 +126,11 @@ pub struct StampedFile<'a> {
 }
 
 impl Stamped for StampedFile<'_> {
+    ghost use Rattle.bw_net.specs.SeenFiles.{stamped_failures};
+
     ghost stamp_of = { λ s. None };
 
-    ghost failures = { λ s. s.failures };
+    ghost failures = { stamped_failures };
 
     fn stamp(&mut self) -> io::Result<FileStamp> {
         let stamp = stamp_of(self.rt, self.path.as_str());

@@ -50,9 +50,11 @@ fn report(alloc: Global, faults: &mut StdIo<Stderr>, error: &io::Error) {
 }
 
 impl Sink for SpoolFile {
+    ghost use Rattle.bw_net.specs.SeenFiles.{spool_failures};
+
     ghost written = { λ f. None };
 
-    ghost failures = { λ f. f.failures };
+    ghost failures = { spool_failures };
 
     ghost is_flushed = { λ f. true };
 

@@ -22,7 +22,9 @@ pub type FolderServer<'a> = Server<
 >;
 
 impl<'a> Starts<FolderServer<'a>> for TcpNetwork<'a> {
-    ghost failures = { λ n. n.failures };
+    ghost use Rattle.bw_net.specs.SeenLinks.{network_failures};
+
+    ghost failures = { network_failures };
 
     ghost starts = { λ n folder limit sync result n'. IfOk result (IsSetTo limit folder sync) };
 

@@ -15,23 +15,27 @@ pub struct HostStates<'a> {
 }
 
 impl<'a> HostStates<'a> {
+    ghost use Rattle.bw_net.specs.SeenFiles.{states_failures};
+
     /// The files of this runtime's system, which has not failed yet.
     ///
     /// # Not specified
     /// What the files hold: no clause of std says it.
     pub fn new(rt: &'a HostRuntime) -> HostStates<'a>
-        ensures { result.failures ≡ 0 }
+        ensures { states_failures result ≡ 0 }
     {
         HostStates { rt, failures: 0 }
     }
 }
 
 impl StateFiles for HostStates<'_> {
+    ghost use Rattle.bw_net.specs.SeenFiles.{states_failures};
+
     type Log = StateFile;
 
     ghost state_at = { λ s path. None };
 
-    ghost failures = { λ s. s.failures };
+    ghost failures = { states_failures };
 
     fn read(&mut self, path: &str, most: usize) -> io::Result<Vec<u8>> {
         let found = first_bytes(self.rt, path, most);
@@ -104,9 +108,11 @@ pub struct StateFile {
 }
 
 impl StateLog for StateFile {
+    ghost use Rattle.bw_net.specs.SeenFiles.{state_failures};
+
     ghost written = { λ f. None };
 
-    ghost failures = { λ f. f.failures };
+    ghost failures = { state_failures };
 
     fn append(&mut self, bytes: &[u8]) -> io::Result<()> {
         let written = self.file.write_all(bytes);

@@ -1,5 +1,5 @@
 //! Where operators connect over TCP, beside a reactor.
-ghost use Rattle.std.specs.Prelude.{◌≡◌, IfOk, string_bytes, ⊤};
+ghost use Rattle.std.specs.Prelude.{◌≡◌, IfOk, ⊤};
 
 use crate::folder::has_folder;
 use crate::network::TcpNetwork;
@@ -34,6 +34,8 @@ pub struct TcpStatusPort<'a> {
 }
 
 impl<'a> TcpStatusPort<'a> {
+    ghost use Rattle.bw_net.specs.SeenLinks.{port_address, port_folder};
+
     /// Listens at an address, beside a reactor.
     ///
     /// # Errors
@@ -44,8 +46,8 @@ impl<'a> TcpStatusPort<'a> {
         address: SocketAddr,
         folder: &str,
     ) -> io::Result<TcpStatusPort<'a>>
-        ensures { IfOk result (λ port. (port.address ≡ address)
-            × (string_bytes port.folder ≡ folder.now)) }
+        ensures { IfOk result (λ port. (port_address port ≡ address)
+            × (port_folder port ≡ folder.now)) }
     {
         let registry = reactor.registry()?;
         let mut listener = TcpListener::bind(rt, address)?;
@@ -74,11 +76,13 @@ impl<'a> TcpStatusPort<'a> {
 }
 
 impl StatusPort for TcpStatusPort<'_> {
+    ghost use Rattle.bw_net.specs.SeenLinks.{port_time, port_since};
+
     type Link = Socket;
 
-    ghost time = { λ p. p.now };
+    ghost time = { port_time };
 
-    ghost started = { λ p. p.since };
+    ghost started = { port_since };
 
     ghost usable = { λ _ _. ⊤ };
 
@@ -119,12 +123,14 @@ impl StatusPort for TcpStatusPort<'_> {
 }
 
 impl<'a> StatusSetup<TcpReactor<'a>> for TcpNetwork<'a> {
+    ghost use Rattle.bw_net.specs.SeenLinks.{network_failures, port_address, port_folder};
+
     type Port = TcpStatusPort<'a>;
 
-    ghost failures = { λ n. n.failures };
+    ghost failures = { network_failures };
 
     ghost shows = { λ n reactor address folder result n'. IfOk result (λ port.
-        (port.address ≡ address) × (string_bytes port.folder ≡ folder)) };
+        (port_address port ≡ address) × (port_folder port ≡ folder)) };
 
     fn status_port(
         &mut self,

@@ -15,12 +15,14 @@ pub struct ClockStopwatch<R> {
 }
 
 impl<R: Clock> ClockStopwatch<R> {
+    ghost use Rattle.bw_net.specs.SeenFiles.{stopwatch_time};
+
     /// Starts now.
     ///
     /// # Not specified
     /// How much time passes: no clause of std says it.
     pub fn new(rt: R) -> ClockStopwatch<R>
-        ensures { result.passed ≡ 0 }
+        ensures { stopwatch_time result ≡ 0 }
     {
         let start = Instant::now(&rt).ok();
         ClockStopwatch {
@@ -32,7 +34,9 @@ impl<R: Clock> ClockStopwatch<R> {
 }
 
 impl<R: Clock> Stopwatch for ClockStopwatch<R> {
-    ghost time = { λ s. s.passed };
+    ghost use Rattle.bw_net.specs.SeenFiles.{stopwatch_time};
+
+    ghost time = { stopwatch_time };
 
     fn look(&mut self) -> u64 {
         if let Some(start) = self.start {

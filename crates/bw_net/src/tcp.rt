@@ -1,5 +1,5 @@
 //! Links over TCP: to a server, and of its peers.
-ghost use Rattle.std.specs.Prelude.{◌≡◌, IfOk, None};
+ghost use Rattle.std.specs.Prelude.{◌≡◌, IfOk, None, string_bytes};
 
 use crate::folder::has_folder;
 use crate::link_stream::{LinkStream, connect};
@@ -31,6 +31,8 @@ pub struct TcpDial<'a> {
 }
 
 impl<'a> TcpDial<'a> {
+    ghost use Rattle.bw_net.specs.SeenLinks.{dial_address, dial_timeout, dial_rate, dial_failures};
+
     /// Opens links to this address, over each of which so many bytes a second go at most, if a rate
     /// is given; it has not failed yet.
     ///
@@ -44,10 +46,10 @@ impl<'a> TcpDial<'a> {
         timeout: Option<Duration>,
         rate: Option<u32>,
     ) -> TcpDial<'a>
-        ensures failures { result.failures ≡ 0 }
-        ensures address { result.address ≡ address }
-        ensures timeout { result.timeout ≡ timeout }
-        ensures rate { result.rate ≡ rate }
+        ensures failures { dial_failures result ≡ 0 }
+        ensures address { dial_address result ≡ address }
+        ensures timeout { dial_timeout result ≡ timeout }
+        ensures rate { dial_rate result ≡ rate }
     {
         TcpDial {
             rt,
@@ -68,16 +70,19 @@ type PacedStream<'a> = PacedSink<
 >;
 
 impl<'a> Dial for TcpDial<'a> {
+    ghost use Rattle.bw_net.specs.SeenLinks.{dial_address, dial_timeout, dial_rate, dial_failures};
+
     type Reader = StdIo<LinkStream<'a>>;
 
     type Writer = PacedStream<'a>;
 
     ghost links = { λ d. None };
 
-    ghost failures = { λ d. d.failures };
+    ghost failures = { dial_failures };
 
-    ghost dials = { λ d result d'. (d'.address ≡ d.address) × (d'.timeout ≡ d.timeout)
-        × (d'.rate ≡ d.rate) };
+    ghost dials = { λ d result d'. (dial_address d' ≡ dial_address d)
+        × (dial_timeout d' ≡ dial_timeout d)
+        × (dial_rate d' ≡ dial_rate d) };
 
     fn dial(&mut self) -> Result<Duplex<StdIo<LinkStream<'a>>, PacedStream<'a>>, DialFault> {
         match connect(self.rt, self.spool, self.address, self.timeout) {
@@ -122,6 +127,9 @@ pub struct TcpPeers<'a, R, L: Drop> {
 }
 
 impl<'a, R: Net> TcpPeers<'a, R, R::Listener> {
+    ghost use Rattle.bw_net.specs.SeenLinks.{peers_address, peers_folder, peers_timeout};
+    ghost use Rattle.bw_net.specs.SeenLinks.{peers_failures};
+
     /// Listens at an address for those who connect to a server over this folder.
     ///
     /// # Errors
@@ -137,10 +145,10 @@ impl<'a, R: Net> TcpPeers<'a, R, R::Listener> {
         folder: String,
         timeout: Option<Duration>,
     ) -> io::Result<TcpPeers<'a, R, R::Listener>>
-        ensures failures { IfOk result (λ peers. peers.failures ≡ 0) }
-        ensures address { IfOk result (λ peers. peers.address ≡ address) }
-        ensures folder { IfOk result (λ peers. peers.folder ≡ folder) }
-        ensures timeout { IfOk result (λ peers. peers.timeout ≡ timeout) }
+        ensures failures { IfOk result (λ peers. peers_failures peers ≡ 0) }
+        ensures address { IfOk result (λ peers. peers_address peers ≡ address) }
+        ensures folder { IfOk result (λ peers. peers_folder peers ≡ string_bytes folder) }
+        ensures timeout { IfOk result (λ peers. peers_timeout peers ≡ timeout) }
     {
         Ok(TcpPeers {
             rt,
@@ -154,14 +162,18 @@ impl<'a, R: Net> TcpPeers<'a, R, R::Listener> {
 }
 
 impl<R: Net + Files> Peers for TcpPeers<'_, R, R::Listener> {
+    ghost use Rattle.bw_net.specs.SeenLinks.{peers_address, peers_folder, peers_timeout};
+    ghost use Rattle.bw_net.specs.SeenLinks.{peers_failures};
+
     type Reader = StdIo<R::Stream>;
 
     type Writer = StdIo<R::Stream>;
 
-    ghost failures = { λ p. p.failures };
+    ghost failures = { peers_failures };
 
-    ghost accepts = { λ p result p'. (p'.address ≡ p.address) × (p'.folder ≡ p.folder)
-        × (p'.timeout ≡ p.timeout) };
+    ghost accepts = { λ p result p'. (peers_address p' ≡ peers_address p)
+        × (peers_folder p' ≡ peers_folder p)
+        × (peers_timeout p' ≡ peers_timeout p) };
 
     fn accept(&mut self) -> Result<Peer<StdIo<R::Stream>, StdIo<R::Stream>>, AcceptFault> {
         let peer = self.next_peer();

@@ -66,7 +66,9 @@ impl Terminal {
 }
 
 impl Screen for Terminal {
-    ghost is_seen = { λ s. is_some s.screen };
+    ghost use Rattle.bw_net.specs.SeenFiles.{terminal_is_seen};
+
+    ghost is_seen = { terminal_is_seen };
 
     ghost shows = { λ _ _ _. ⊤ };
 

@@ -2,4 +2,5 @@ pub mod Filters
 pub mod OneName
 pub mod Filtering
 pub mod Wrapping
+pub mod Filtered
 pub mod Connected

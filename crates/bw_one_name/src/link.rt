@@ -1,6 +1,7 @@
 //! A link of which the filter gives what comes.
 ghost use Rattle.std.specs.Prelude.{◌≡◌};
 ghost use Rattle.bw_one_name.specs.Filters.{starting};
+ghost use Rattle.bw_one_name.specs.Filtered.{inner_link, filter_of_link, link_has_one_name};
 
 use crate::filter::NameFilter;
 use bw_ports::{Link, Received, Sent};
@@ -16,9 +17,9 @@ pub struct FilteredLink<L> {
 impl<L> FilteredLink<L> {
     /// A link that has given nothing yet, with one name alone, or with any.
     pub fn new(link: L, one_name: bool) -> FilteredLink<L>
-        ensures link { result.link ≡ link }
-        ensures filter { result.filter ≡ starting one_name }
-        ensures one_name { result.one_name ≡ one_name }
+        ensures link { inner_link result ≡ link }
+        ensures filter { filter_of_link result ≡ starting one_name }
+        ensures one_name { link_has_one_name result ≡ one_name }
     {
         FilteredLink {
             link,
@@ -31,21 +32,22 @@ impl<L> FilteredLink<L> {
 impl<L: Link> Link for FilteredLink<L> {
     ghost use Rattle.bw_one_name.specs.Filtering.{GivesFiltered};
 
-    ghost given = { λ l ys. GivesFiltered (L.given l.link) l.one_name l.filter ys };
+    ghost given = { λ l ys. GivesFiltered (L.given (inner_link l)) (link_has_one_name l)
+        (filter_of_link l) ys };
 
-    ghost taken = { λ l ys. L.taken l.link ys };
+    ghost taken = { λ l ys. L.taken (inner_link l) ys };
 
-    ghost ended = { λ l. L.ended l.link };
+    ghost ended = { λ l. L.ended (inner_link l) };
 
-    ghost broken = { λ l. L.broken l.link };
+    ghost broken = { λ l. L.broken (inner_link l) };
 
-    ghost dry = { λ l. L.dry l.link };
+    ghost dry = { λ l. L.dry (inner_link l) };
 
-    ghost full = { λ l. L.full l.link };
+    ghost full = { λ l. L.full (inner_link l) };
 
-    ghost finished = { λ l. L.finished l.link };
+    ghost finished = { λ l. L.finished (inner_link l) };
 
-    ghost calls_from = { λ l peer. L.calls_from l.link peer };
+    ghost calls_from = { λ l peer. L.calls_from (inner_link l) peer };
 
     fn receive(&mut self, buffer: &mut [u8]) -> Received {
         let received = self.link.receive(buffer);

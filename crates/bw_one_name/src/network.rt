@@ -1,6 +1,7 @@
 //! A network whose links are filtered, if that is chosen.
 ghost use Rattle.std.specs.Prelude.{◌≡◌, Bool, false};
 ghost use Rattle.bw_one_name.specs.Wrapping.{ListensFiltered, OpensFiltered};
+ghost use Rattle.bw_one_name.specs.Filtered.{inner_reactor, inner_network, network_has_one_name};
 
 use crate::peers::FilteredPeers;
 use crate::reactor::FilteredReactor;
@@ -34,8 +35,8 @@ pub struct FilteredNetwork<N> {
 impl<N> FilteredNetwork<N> {
     /// A network whose links may have any name.
     pub fn new(network: N) -> FilteredNetwork<N>
-        ensures network { result.network ≡ network }
-        ensures one_name { result.one_name ≡ false }
+        ensures network { inner_network result ≡ network }
+        ensures one_name { network_has_one_name result ≡ false }
     {
         FilteredNetwork {
             network,
@@ -46,7 +47,7 @@ impl<N> FilteredNetwork<N> {
 
 impl<N> NameRule for FilteredNetwork<N> {
     ghost chooses = { λ n one_name n'.
-        (n'.network ≡ n.network) × (n'.one_name ≡ one_name) };
+        (inner_network n' ≡ inner_network n) × (network_has_one_name n' ≡ one_name) };
 
     fn choose(&mut self, one_name: bool) {
         self.one_name = one_name;
@@ -60,15 +61,16 @@ impl<N: Network> Network for FilteredNetwork<N> {
 
     type Dial = N::Dial;
 
-    ghost failures = { λ n. N.failures n.network };
+    ghost failures = { λ n. N.failures (inner_network n) };
 
     ghost stores = { λ n folder result n'.
-        N.stores n.network folder result n'.network × (n'.one_name ≡ n.one_name) };
+        N.stores (inner_network n) folder result (inner_network n')
+        × (network_has_one_name n' ≡ network_has_one_name n) };
 
     ghost listens = { λ n address folder timeout result n'.
-        ListensFiltered (N.listens n.network address folder timeout) n result n' };
+        ListensFiltered (N.listens (inner_network n) address folder timeout) n result n' };
 
-    ghost calls = { λ n address timeout dial. N.calls n.network address timeout dial };
+    ghost calls = { λ n address timeout dial. N.calls (inner_network n) address timeout dial };
 
     fn store(&mut self, folder: &str) -> Result<N::Store, StartRefusal> {
         self.network.store(folder)
@@ -100,10 +102,10 @@ impl<N: PacedNetwork> PacedNetwork for FilteredNetwork<N> {
 impl<N: ListenerSetup> ListenerSetup for FilteredNetwork<N> {
     type Reactor = FilteredReactor<N::Reactor>;
 
-    ghost failures = { λ n. N.failures n.network };
+    ghost failures = { λ n. N.failures (inner_network n) };
 
     ghost opens = { λ n address folder places result n'.
-        OpensFiltered (N.opens n.network address folder places) n result n' };
+        OpensFiltered (N.opens (inner_network n) address folder places) n result n' };
 
     fn reactor(
         &mut self,
@@ -119,10 +121,11 @@ impl<N: ListenerSetup> ListenerSetup for FilteredNetwork<N> {
 }
 
 impl<T, N: Starts<T>> Starts<T> for FilteredNetwork<N> {
-    ghost failures = { λ n. N.failures n.network };
+    ghost failures = { λ n. N.failures (inner_network n) };
 
     ghost starts = { λ n folder limit sync result n'.
-        N.starts n.network folder limit sync result n'.network × (n'.one_name ≡ n.one_name) };
+        N.starts (inner_network n) folder limit sync result (inner_network n')
+        × (network_has_one_name n' ≡ network_has_one_name n) };
 
     fn start(&mut self, folder: &str, limit: Limit, sync: bool) -> Result<T, StartRefusal> {
         self.network.start(folder, limit, sync)
@@ -132,11 +135,11 @@ impl<T, N: Starts<T>> Starts<T> for FilteredNetwork<N> {
 impl<B, N: StatusSetup<B>> StatusSetup<FilteredReactor<B>> for FilteredNetwork<N> {
     type Port = N::Port;
 
-    ghost failures = { λ n. N.failures n.network };
+    ghost failures = { λ n. N.failures (inner_network n) };
 
     ghost shows = { λ n reactor address folder result n'.
-        N.shows n.network reactor.reactor address folder result n'.network
-        × (n'.one_name ≡ n.one_name) };
+        N.shows (inner_network n) (inner_reactor reactor) address folder result (inner_network n')
+        × (network_has_one_name n' ≡ network_has_one_name n) };
 
     fn status_port(
         &mut self,

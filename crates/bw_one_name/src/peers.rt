@@ -1,6 +1,7 @@
 //! Peers whose readers are filtered.
 ghost use Rattle.std.specs.Prelude.{◌≡◌};
 ghost use Rattle.bw_one_name.specs.Wrapping.{AcceptsFiltered, filtered_peer};
+ghost use Rattle.bw_one_name.specs.Filtered.{inner_peers, peers_have_one_name};
 
 use crate::reader::FilteredReader;
 use bw_ports::{AcceptFault, Duplex, Peer, Peers};
@@ -15,8 +16,8 @@ pub struct FilteredPeers<P> {
 impl<P> FilteredPeers<P> {
     /// Peers with one name each, or with any.
     pub fn new(peers: P, one_name: bool) -> FilteredPeers<P>
-        ensures peers { result.peers ≡ peers }
-        ensures one_name { result.one_name ≡ one_name }
+        ensures peers { inner_peers result ≡ peers }
+        ensures one_name { peers_have_one_name result ≡ one_name }
     {
         FilteredPeers { peers, one_name }
     }
@@ -27,7 +28,7 @@ impl<P: Peers> Peers for FilteredPeers<P> {
 
     type Writer = P::Writer;
 
-    ghost failures = { λ p. P.failures p.peers };
+    ghost failures = { λ p. P.failures (inner_peers p) };
 
     ghost accepts = { λ p result p'. AcceptsFiltered P.accepts p result p' };
 

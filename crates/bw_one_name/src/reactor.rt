@@ -1,6 +1,7 @@
 //! A reactor whose links are filtered.
 ghost use Rattle.std.specs.Prelude.{◌≡◌};
 ghost use Rattle.bw_one_name.specs.Wrapping.{AdmitsFiltered};
+ghost use Rattle.bw_one_name.specs.Filtered.{inner_reactor, reactor_has_one_name};
 
 use crate::link::FilteredLink;
 use bw_ports::{Accepted, Reactor, Ready, TryAcceptFault, WaitFault};
@@ -15,15 +16,15 @@ pub struct FilteredReactor<B> {
 impl<B> FilteredReactor<B> {
     /// A reactor whose links have one name each, or any.
     pub fn new(reactor: B, one_name: bool) -> FilteredReactor<B>
-        ensures reactor { result.reactor ≡ reactor }
-        ensures one_name { result.one_name ≡ one_name }
+        ensures reactor { inner_reactor result ≡ reactor }
+        ensures one_name { reactor_has_one_name result ≡ one_name }
     {
         FilteredReactor { reactor, one_name }
     }
 
     /// The reactor whose links it filters.
     pub(crate) fn inner(&self) -> &B
-        ensures { result.now ≡ self.now.reactor }
+        ensures { result.now ≡ inner_reactor self.now }
     {
         &self.reactor
     }
@@ -32,23 +33,24 @@ impl<B> FilteredReactor<B> {
 impl<B: Reactor> Reactor for FilteredReactor<B> {
     type Link = FilteredLink<B::Link>;
 
-    ghost failures = { λ b. B.failures b.reactor };
+    ghost failures = { λ b. B.failures (inner_reactor b) };
 
-    ghost waits = { λ b. B.waits b.reactor };
+    ghost waits = { λ b. B.waits (inner_reactor b) };
 
-    ghost time = { λ b. B.time b.reactor };
+    ghost time = { λ b. B.time (inner_reactor b) };
 
-    ghost patience = { λ b. B.patience b.reactor };
+    ghost patience = { λ b. B.patience (inner_reactor b) };
 
-    ghost reported = { λ b links. B.reported b.reactor links };
+    ghost reported = { λ b links. B.reported (inner_reactor b) links };
 
-    ghost all_reported = { λ b. B.all_reported b.reactor };
+    ghost all_reported = { λ b. B.all_reported (inner_reactor b) };
 
-    ghost tried = { λ b count. B.tried b.reactor count };
+    ghost tried = { λ b count. B.tried (inner_reactor b) count };
 
-    ghost nobody = { λ b. B.nobody b.reactor };
+    ghost nobody = { λ b. B.nobody (inner_reactor b) };
 
-    ghost admitted = { λ b links. AdmitsFiltered (B.admitted b.reactor) b.one_name links };
+    ghost admitted = { λ b links. AdmitsFiltered (B.admitted (inner_reactor b))
+        (reactor_has_one_name b) links };
 
     fn wait(&mut self, most: u64) -> Result<(), WaitFault> {
         self.reactor.wait(most)

@@ -1,6 +1,7 @@
 //! A reader of which the filter gives what comes.
 ghost use Rattle.std.specs.Prelude.{◌≡◌};
 ghost use Rattle.bw_one_name.specs.Filters.{starting};
+ghost use Rattle.bw_one_name.specs.Filtered.{inner_reader, filter_of_reader};
 
 use crate::filter::NameFilter;
 use bw_stream::{IoFailed, Source};
@@ -15,8 +16,8 @@ pub struct FilteredReader<R> {
 impl<R> FilteredReader<R> {
     /// A reader at the start of an exchange, with one name alone, or with any.
     pub fn new(reader: R, one_name: bool) -> FilteredReader<R>
-        ensures reader { result.reader ≡ reader }
-        ensures filter { result.filter ≡ starting one_name }
+        ensures reader { inner_reader result ≡ reader }
+        ensures filter { filter_of_reader result ≡ starting one_name }
     {
         FilteredReader {
             reader,
@@ -28,13 +29,13 @@ impl<R> FilteredReader<R> {
 impl<R: Source> Source for FilteredReader<R> {
     ghost use Rattle.bw_one_name.specs.Filtering.{left_through};
 
-    ghost left = { λ r. left_through r.filter (R.left r.reader) };
+    ghost left = { λ r. left_through (filter_of_reader r) (R.left (inner_reader r)) };
 
-    ghost moved = { λ r. R.moved r.reader };
+    ghost moved = { λ r. R.moved (inner_reader r) };
 
-    ghost calls = { λ r. R.calls r.reader };
+    ghost calls = { λ r. R.calls (inner_reader r) };
 
-    ghost failures = { λ r. R.failures r.reader };
+    ghost failures = { λ r. R.failures (inner_reader r) };
 
     fn read(&mut self, buf: &mut [u8]) -> Result<usize, IoFailed> {
         let count = self.reader.read(buf)?;

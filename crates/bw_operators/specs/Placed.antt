@@ -14,6 +14,10 @@ use Rattle.bw_operators.specs.Steps.{StepsConnection}
 abbrev pub place_count : {L : Type 0} → Operators L → ℕ
 place_count o = vec_len o.places
 
+-- what is at a place, if there is such a place
+abbrev pub operator_at : {L : Type 0} → Operators L → ℕ → Option (Option (Connection L))
+operator_at o place = slice_get o.places.items place
+
 -- a connection is at a place
 abbrev pub HoldsAt : {L : Type 0} → Operators L → ℕ → Connection L → Type 0
 HoldsAt o place c = slice_get o.places.items place ≡ Some (Some c)

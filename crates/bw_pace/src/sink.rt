@@ -20,11 +20,13 @@ pub struct PacedSink<W, P, T> {
 }
 
 impl<W, P, T> PacedSink<W, P, T> {
+    ghost use Rattle.bw_pace.specs.PacedSinks.{paced_writer, paced_rate, free_from};
+
     /// A writer over another one, to which nothing was written.
     pub fn new(inner: W, rate: Option<u32>, pause: P, stopwatch: T) -> PacedSink<W, P, T>
-        ensures inner { result.inner ≡ inner }
-        ensures rate { result.rate ≡ rate }
-        ensures free { result.free ≡ 0 }
+        ensures inner { paced_writer result ≡ inner }
+        ensures rate { paced_rate result ≡ rate }
+        ensures free { free_from result ≡ 0 }
     {
         PacedSink {
             inner,
@@ -80,11 +82,13 @@ impl<W, P: Pause, T: Stopwatch> PacedSink<W, P, T> {
 }
 
 impl<W: Sink, P: Pause, T: Stopwatch> Sink for PacedSink<W, P, T> {
-    ghost written = { λ s. W.written s.inner };
+    ghost use Rattle.bw_pace.specs.PacedSinks.{paced_writer};
 
-    ghost failures = { λ s. W.failures s.inner };
+    ghost written = { λ s. W.written (paced_writer s) };
 
-    ghost is_flushed = { λ s. W.is_flushed s.inner };
+    ghost failures = { λ s. W.failures (paced_writer s) };
+
+    ghost is_flushed = { λ s. W.is_flushed (paced_writer s) };
 
     fn write(&mut self, bytes: &[u8]) -> Result<usize, IoFailed> {
         let len = self.piece_len(bytes.len());

@@ -10,6 +10,7 @@ use Rattle.bw_model.specs.World.{happens, pending}
 use Rattle.bw_wire.specs.Encoded.{IsFrameOf}
 use Rattle.bw_wire.specs.Replies.{reply_of}
 use Rattle.bw_session.specs.Books.{HoldsBook, failures_of}
+use Rattle.bw_session.specs.SeenServers.{server_limit}
 use Rattle.bw_sender.specs.Senders.{IsSender}
 use Rattle.bw_rehearsal.specs.Rehearsing.{no_contents}
 use Rattle.bw_rehearsal.specs.FaultRuns.{AreFaultsOf}
@@ -29,7 +30,7 @@ pub record IsSimulated (limit : ℕ) (w : World) (s : Simulation) : Type 0 where
   pub offered : s.offered ≡ length w.sender.offered
   pub sent : AreFrames w.sent s.sent.items
   pub replies : map reply_of s.replies.items ≡ w.replies
-  pub limited : s.server.limit ≡ limit
+  pub limited : server_limit s.server ≡ limit
   pub held : HoldsBook _ _ no_contents s.server w.book
 
 -- how many calls of the simulation's store failed

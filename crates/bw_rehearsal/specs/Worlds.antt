@@ -4,8 +4,9 @@ use Rattle.bw_model.specs.Book.{log_of}
 use Rattle.bw_model.specs.CountedTurn.{is_pending}
 use Rattle.bw_model.specs.Exchange.{take_in, content_in}
 use Rattle.bw_model.specs.World as model
-use Rattle.bw_store.specs.Memory.{content_under}
+use Rattle.bw_store.specs.MemoryNames.{memory_content}
 use Rattle.bw_session.specs.Books.{HoldsBook, failures_of}
+use Rattle.bw_session.specs.SeenServers.{server_store, server_limit}
 use Rattle.bw_sender.specs.Senders.{IsSender}
 use Rattle.bw_rehearsal.specs.Rehearsing.{LeadsTo, no_contents}
 use Rattle.bw_rehearsal.specs.declared.event.Event.{Event}
@@ -21,10 +22,10 @@ pub record WasRehearsed (name : List ℕ) (limit : ℕ) (events : List Event) (w
   pub replies : w.replies ≡ length world.replies
   pub sender : IsSender world.sender w.sender
   -- the server holds the world's book, over a store in memory that was empty
-  pub limited : w.server.limit ≡ limit
+  pub limited : server_limit w.server ≡ limit
   pub held : HoldsBook _ _ no_contents w.server world.book
   -- so each name that is closed, or under which nothing waits, has its take's file
   pub files : (name : List ℕ) → (is_pending (log_of world.book name) ≡ false)
       ⊎ ((take_in false world.book name).closed ≡ true) →
-      content_under w.server.stores.store.files name
+      memory_content (server_store w.server) name
       ≡ content_in no_contents limit world.book name

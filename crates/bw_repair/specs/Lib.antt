@@ -1,5 +1,6 @@
 pub mod Faults
 pub mod Overlays
+pub mod OverlaidReaders
 pub mod DataHeads
 pub mod Steps
 pub mod Near

@@ -15,11 +15,14 @@ pub struct Overlay<'a, R> {
 }
 
 impl<'a, R> Overlay<'a, R> {
+    ghost use Rattle.bw_repair.specs.OverlaidReaders.{overlay_reader, overlay_ahead};
+    ghost use Rattle.bw_repair.specs.OverlaidReaders.{overlay_others};
+
     /// A reader at its start with these bytes from a place on, as far as it has any there.
     pub fn new(inner: R, place: u64, others: &'a [u8]) -> Overlay<'a, R>
-        ensures inner { result.inner ≡ inner }
-        ensures ahead { result.ahead ≡ place }
-        ensures others { result.others.now ≡ others.now }
+        ensures inner { overlay_reader result ≡ inner }
+        ensures ahead { overlay_ahead result ≡ place }
+        ensures others { overlay_others result ≡ others.now }
     {
         Overlay {
             inner,
@@ -58,13 +61,17 @@ impl<'a, R> Overlay<'a, R> {
 }
 
 impl<R: Source> Source for Overlay<'_, R> {
-    ghost left = { λ s. option_map (overlaid s.ahead s.others.now) (R.left s.inner) };
+    ghost use Rattle.bw_repair.specs.OverlaidReaders.{overlay_reader, overlay_ahead};
+    ghost use Rattle.bw_repair.specs.OverlaidReaders.{overlay_others};
 
-    ghost moved = { λ s. R.moved s.inner };
+    ghost left = { λ s. option_map
+        (overlaid (overlay_ahead s) (overlay_others s)) (R.left (overlay_reader s)) };
 
-    ghost calls = { λ s. R.calls s.inner };
+    ghost moved = { λ s. R.moved (overlay_reader s) };
 
-    ghost failures = { λ s. R.failures s.inner };
+    ghost calls = { λ s. R.calls (overlay_reader s) };
+
+    ghost failures = { λ s. R.failures (overlay_reader s) };
 
     fn read(&mut self, buf: &mut [u8]) -> Result<usize, IoFailed> {
         let count = self.inner.read(buf)?;

@@ -44,7 +44,7 @@ module _ {X Y : Type 0} (S : StoreGhosts X) (J : JournalGhosts Y) where
 
   -- none of the names of a table may rest, if none of those that are listed may
   pub none_of_all : (old new : Server X Y S J) (names : List (List ℕ)) → ListsNames (is_known_in old.sessions) names →
-      KeepsSessions old.sessions new.sessions →
+      KeepsSessions (session_in old.sessions) (session_in new.sessions) →
       ((name : List ℕ) → Contains names name → is_restable_in old.sessions name ≡ false) → NoneMayRest S J new
   none_of_all old new names lists same none name =
       restable_same old new name (same name) ∙ go (session_in old.sessions name) refl

@@ -1,11 +1,13 @@
 -- The book of a folder in which names rest.
-use Rattle.std.specs.Prelude.{◌≡◌, ℕ, Bool, true, false, Option, None, is_some, IsTrue, MatchBool, List}
+use Rattle.std.specs.Prelude.{◌≡◌, ℕ, Bool, true, false, Option, None, is_some, IsTrue, MatchBool}
+use Rattle.std.specs.Prelude.{List}
 use Rattle.bw_model.specs.Book.{Log, Book, log_of, is_known}
 use Rattle.bw_store.specs.declared.store.TakeStore.{Ghosts as StoreGhosts}
 use Rattle.bw_journal.specs.declared.journal.Journal.{Ghosts as JournalGhosts}
 use Rattle.bw_session.specs.Books.{HoldsBook, NotesBook}
 use Rattle.bw_session.specs.RestingNames.{IsAtRest}
 use Rattle.bw_session.specs.declared.server.Server.{Server}
+use Rattle.bw_session.specs.SeenServers.{server_store, server_journal, server_limit}
 use Rattle.bw_rest.specs.Folding.{ends_with_request}
 
 -- A name of the table is one of the folder, with the same log, and its file is none that existed.
@@ -37,11 +39,11 @@ module _ {X Y : Type 0} (S : StoreGhosts X) (J : JournalGhosts Y) where
     pub now : List ℕ → Option (List ℕ)
     pub held : HoldsBook S J now s table
     pub noted : NotesBook S J now s table
-    pub limits : (name : List ℕ) → (J.header s.stores.journal name).limit ≡ s.limit
+    pub limits : (name : List ℕ) → (J.header (server_journal s) name).limit ≡ server_limit s
     pub ends : (name : List ℕ) → IsTrue (ends_with_request (log_of book name))
     pub inside : (name : List ℕ) → is_known table name ≡ true →
         IsInTable (is_known book name) (log_of book name) (log_of table name) (first name) (now name)
     pub outside : (name : List ℕ) → is_known table name ≡ false → MatchBool (is_known book name)
-        (RestsOutside s.limit name (log_of book name) (first name) (now name)
-        (S.contents s.stores.store name) (J.resting s.stores.journal name))
-        (IsUnknown (first name) (now name) (J.resting s.stores.journal name))
+        (RestsOutside (server_limit s) name (log_of book name) (first name) (now name)
+        (S.contents (server_store s) name) (J.resting (server_journal s) name))
+        (IsUnknown (first name) (now name) (J.resting (server_journal s) name))

@@ -4,3 +4,4 @@ pub mod Making
 pub mod OwnRuns
 pub mod Resting
 pub mod Runs
+pub mod RestingServers

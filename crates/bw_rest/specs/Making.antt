@@ -1,6 +1,6 @@
 -- What comes of making room in a table, and of finding a name.
-use Rattle.std.specs.Prelude.{◌≡◌, ℕ, Bool, true, false, List}
-use Rattle.bw_session.specs.Tables.{Table, session_in}
+use Rattle.std.specs.Prelude.{◌≡◌, ℕ, Bool, true, false, Option, List}
+use Rattle.bw_session.specs.declared.session.Session.{Session}
 use Rattle.bw_rest.specs.declared.finding.Found.{Found}
 use Rattle.bw_rest.specs.declared.finding.Found.TheVariants as found
 use Rattle.bw_rest.specs.declared.room.Rest.{Rest}
@@ -51,5 +51,5 @@ is_found found.PutOff = false
 is_found found.Failed = false
 
 -- each name has the session that it had
-abbrev pub KeepsSessions : {H : Type 0} → Table H → Table H → Type 0
-KeepsSessions old new = (name : List ℕ) → session_in new name ≡ session_in old name
+abbrev pub KeepsSessions : (List ℕ → Option Session) → (List ℕ → Option Session) → Type 0
+KeepsSessions old new = (name : List ℕ) → new name ≡ old name

@@ -9,10 +9,10 @@ use Rattle.bw_model.specs.Turn.{is_full}
 use Rattle.bw_store.specs.declared.store.TakeStore.{Ghosts as StoreGhosts}
 use Rattle.bw_journal.specs.declared.journal.Journal.{Ghosts as JournalGhosts}
 use Rattle.bw_session.specs.Books.{failures_of, HoldsBook}
-use Rattle.bw_session.specs.RestingNames.{is_restable_in}
 use Rattle.bw_session.specs.ServerTurns.{ServerTurn}
-use Rattle.bw_session.specs.Tables.{session_in}
 use Rattle.bw_session.specs.declared.server.Server.{Server}
+use Rattle.bw_session.specs.SeenServers.{server_store, server_journal, server_limit, session_kept}
+use Rattle.bw_session.specs.RestingNames.{restable_kept}
 use Rattle.bw_rest.specs.declared.finding.Found.{Found}
 use Rattle.bw_rest.specs.declared.finding.Found.TheVariants.{Known, New, PutOff, Failed}
 use Rattle.bw_rest.specs.Folders.{HoldsFolder}
@@ -41,29 +41,29 @@ module _ {X Y : Type 0} (S : StoreGhosts X) (J : JournalGhosts Y) where
     pub crowded : IsTrue full → IsCrowded (λ name. is_some (held.now name)) held.table
     pub turned : ServesFrame full (λ name. is_some (first name)) (failures_of S J old)
         (failures_of S J new) book f replies later
-        ⊎ ((session_in old.sessions (name_of_frame f) ≡ None)
+        ⊎ ((session_kept old (name_of_frame f) ≡ None)
         × PutsOff (failures_of S J old) (failures_of S J new) held.table book f replies later)
 
   -- over honest store and journal, from each book of the folder
   abbrev pub FolderTurns : Server X Y S J → Server X Y S J → Frame → List Reply → Type 0
-  FolderTurns old new f replies = IsTrue (S.honest old.stores.store) →
-      IsTrue (J.honest old.stores.journal) → (first : List ℕ → Option (List ℕ)) (book : Book) →
+  FolderTurns old new f replies = IsTrue (S.honest (server_store old)) →
+      IsTrue (J.honest (server_journal old)) → (first : List ℕ → Option (List ℕ)) (book : Book) →
       HoldsFolder S J first old book → FolderTurn first old new book f replies
 
   -- What rest and waking leave: the store, the limit and each book of the folder. The journal's
   -- failure is counted, if it failed.
   pub record KeepsFolders (failed : Bool) (old new : Server X Y S J) : Type 0 where
-    pub store : new.stores.store ≡ old.stores.store
-    pub limit : new.limit ≡ old.limit
-    pub honest : J.honest new.stores.journal ≡ J.honest old.stores.journal
-    pub failures : Counts (J.failures old.stores.journal) (J.failures new.stores.journal) failed
-    pub books : IsTrue (S.honest old.stores.store) → IsTrue (J.honest old.stores.journal) →
+    pub store : server_store new ≡ server_store old
+    pub limit : server_limit new ≡ server_limit old
+    pub honest : J.honest (server_journal new) ≡ J.honest (server_journal old)
+    pub failures : Counts (J.failures (server_journal old)) (J.failures (server_journal new)) failed
+    pub books : IsTrue (S.honest (server_store old)) → IsTrue (J.honest (server_journal old)) →
         (first : List ℕ → Option (List ℕ)) (book : Book) → HoldsFolder S J first old book →
         HoldsFolder S J first new book
 
   -- none of the names in the table may rest
   abbrev pub NoneMayRest : Server X Y S J → Type 0
-  NoneMayRest s = (name : List ℕ) → is_restable_in s.sessions name ≡ false
+  NoneMayRest s = (name : List ℕ) → restable_kept s name ≡ false
 
   -- the table has a place, or has none
   abbrev pub HasPlace : Bool → Server X Y S J → Type 0
@@ -72,26 +72,26 @@ module _ {X Y : Type 0} (S : StoreGhosts X) (J : JournalGhosts Y) where
 
   -- nothing rests under a name that isn't in the table
   abbrev pub IsAwake : List ℕ → Server X Y S J → Type 0
-  IsAwake name s = session_in s.sessions name ≡ None → IsTrue (J.honest s.stores.journal) →
-      J.resting s.stores.journal name ≡ None
+  IsAwake name s = session_kept s name ≡ None → IsTrue (J.honest (server_journal s)) →
+      J.resting (server_journal s) name ≡ None
 
   -- a name that isn't in the table stays outside, with what rests under it
   abbrev pub StaysOutside : Server X Y S J → Server X Y S J → Type 0
-  StaysOutside old new = (name : List ℕ) → session_in old.sessions name ≡ None →
-      (session_in new.sessions name ≡ None)
-      × (IsTrue (J.honest old.stores.journal) →
-      J.resting new.stores.journal name ≡ J.resting old.stores.journal name)
+  StaysOutside old new = (name : List ℕ) → session_kept old name ≡ None →
+      (session_kept new name ≡ None)
+      × (IsTrue (J.honest (server_journal old)) →
+      J.resting (server_journal new) name ≡ J.resting (server_journal old) name)
 
   -- Where a name was found, by what the table and the journal have of it: if it is put off, it rests,
   -- or the table is full.
   abbrev pub IsWhere : List ℕ → Found → Server X Y S J → Type 0
-  IsWhere name Known s = IsSome (session_in s.sessions name)
-  IsWhere name New s = (session_in s.sessions name ≡ None)
-      × (IsTrue (J.honest s.stores.journal) → J.resting s.stores.journal name ≡ None)
-  IsWhere name PutOff s = (session_in s.sessions name ≡ None)
-      × ((IsTrue (J.honest s.stores.journal) → IsSome (J.resting s.stores.journal name))
+  IsWhere name Known s = IsSome (session_kept s name)
+  IsWhere name New s = (session_kept s name ≡ None)
+      × (IsTrue (J.honest (server_journal s)) → J.resting (server_journal s) name ≡ None)
+  IsWhere name PutOff s = (session_kept s name ≡ None)
+      × ((IsTrue (J.honest (server_journal s)) → IsSome (J.resting (server_journal s) name))
       ⊎ HasPlace false s)
-  IsWhere name Failed s = session_in s.sessions name ≡ None
+  IsWhere name Failed s = session_kept s name ≡ None
 
   -- A server whose names rest may answer the frame so. If its name is in the table, it is answered
   -- as by the server alone. Else names may rest and wake first, which makes another server ready,
@@ -101,7 +101,7 @@ module _ {X Y : Type 0} (S : StoreGhosts X) (J : JournalGhosts Y) where
     pub ready : Server X Y S J
     pub failed : Bool
     pub prepared : KeepsFolders failed old ready
-    pub inside : IsSome (session_in old.sessions (name_of_frame f)) → ready ≡ old
+    pub inside : IsSome (session_kept old (name_of_frame f)) → ready ≡ old
     pub answered : (IsFalse failed × ServerTurn S J ready f replies new)
-        ⊎ ((replies ≡ delay_of f) × (new ≡ ready) × (session_in old.sessions (name_of_frame f) ≡ None))
+        ⊎ ((replies ≡ delay_of f) × (new ≡ ready) × (session_kept old (name_of_frame f) ≡ None))
     pub turned : FolderTurns old new f replies

@@ -1,5 +1,6 @@
 -- Runs of a server over a folder in which names rest.
-use Rattle.std.specs.Prelude.{◌≡◌, ℕ, Bool, not, ◌&&◌, Option, is_some, IsTrue, List, [], ◌∷◌, map, filter}
+use Rattle.std.specs.Prelude.{◌≡◌, ℕ, Bool, not, ◌&&◌, Option, is_some, IsTrue, List, [], ◌∷◌, map}
+use Rattle.std.specs.Prelude.{filter}
 use Rattle.bw_model.specs.Wire.{Frame}
 use Rattle.bw_model.specs.Replies.{Reply}
 use Rattle.bw_model.specs.Book.{Book, log_of, is_known}
@@ -10,6 +11,7 @@ use Rattle.bw_store.specs.declared.store.TakeStore.{Ghosts as StoreGhosts}
 use Rattle.bw_journal.specs.declared.journal.Journal.{Ghosts as JournalGhosts}
 use Rattle.bw_session.specs.Books.{failures_of}
 use Rattle.bw_session.specs.declared.server.Server.{Server}
+use Rattle.bw_session.specs.SeenServers.{server_store, server_journal}
 use Rattle.bw_rest.specs.Folders.{HoldsFolder}
 use Rattle.bw_rest.specs.Folding.{IsFolderRun}
 use Rattle.bw_rest.specs.Resting.{RestingTurn}
@@ -27,6 +29,6 @@ module _ {X Y : Type 0} (S : StoreGhosts X) (J : JournalGhosts Y) where
   -- so it is after any frames, over honest store and journal
   abbrev pub RunsRestOn : Type 0
   RunsRestOn = (old new : Server X Y S J) (answered : List Answered) →
-      AnswersAll (RestingTurn S J) old answered new → IsTrue (S.honest old.stores.store) →
-      IsTrue (J.honest old.stores.journal) → (first : List ℕ → Option (List ℕ)) (book : Book) →
+      AnswersAll (RestingTurn S J) old answered new → IsTrue (S.honest (server_store old)) →
+      IsTrue (J.honest (server_journal old)) → (first : List ℕ → Option (List ℕ)) (book : Book) →
       HoldsFolder S J first old book → RestsOn first old new book answered

@@ -1,11 +1,10 @@
 //! Finding a name: in the table, at rest, or not at all.
 ghost use Rattle.std.specs.Prelude.{◌≡◌, ◌<◌, ◌⊎◌, Bool, true, false, List, ℕ, Option, None};
 ghost use Rattle.std.specs.Prelude.{IsTrue, IsSome};
-ghost use Rattle.std.specs.HashMap.{hash_map_len};
 ghost use Rattle.bw_model.specs.Turn.{most_takes};
-ghost use Rattle.bw_session.specs.Tables.{session_in};
 ghost use Rattle.bw_rest.specs.Making.{is_failed, room_failed, find_failed};
 ghost use Rattle.bw_rest.specs.Resting.{KeepsFolders, StaysOutside, NoneMayRest, HasPlace, IsWhere};
+ghost use Rattle.bw_session.specs.SeenServers.{server_journal, session_kept, names_kept};
 
 use crate::resting::RestingServer;
 use crate::room::{Rest, Room, rest_any, rest_first, room_after};
@@ -33,7 +32,7 @@ impl<S: TakeStore, J: RestingJournal> RestingServer<S, J> {
         ensures kept { KeepsFolders S.TakeStore J.Journal (room_failed result)
             self.old.server self.new.server }
         ensures outside { StaysOutside S.TakeStore J.Journal self.old.server self.new.server }
-        ensures free { result ≡ Room.Free → hash_map_len self.new.server.sessions < most_takes }
+        ensures free { result ≡ Room.Free → names_kept self.new.server < most_takes }
         ensures place { result ≡ Room.Free → HasPlace S.TakeStore J.Journal true self.new.server }
         ensures none { result ≡ Room.Full → NoneMayRest S.TakeStore J.Journal self.new.server }
         ensures refused { result ≡ Room.Refused →
@@ -66,7 +65,7 @@ impl<S: TakeStore, J: RestingJournal> RestingServer<S, J> {
     pub(crate) fn find(&mut self, name: &Name) -> Found
         ensures kept { KeepsFolders S.TakeStore J.Journal (find_failed result)
             self.old.server self.new.server }
-        ensures inside { IsSome (session_in self.old.server.sessions name.now) →
+        ensures inside { IsSome (session_kept self.old.server name.now) →
             (result ≡ Found.Known) × (self.new.server ≡ self.old.server) }
         ensures found { IsWhere S.TakeStore J.Journal name.now result self.new.server }
     {
@@ -82,9 +81,9 @@ impl<S: TakeStore, J: RestingJournal> RestingServer<S, J> {
 
     /// Wakes a name that rests.
     fn rouse(&mut self, name: &Name) -> Found
-        requires fresh { session_in self.old.server.sessions name.now ≡ None }
-        requires rests { IsTrue (J.honest self.old.server.stores.journal) →
-            IsSome (J.resting self.old.server.stores.journal name.now) }
+        requires fresh { session_kept self.old.server name.now ≡ None }
+        requires rests { IsTrue (J.honest (server_journal self.old.server)) →
+            IsSome (J.resting (server_journal self.old.server) name.now) }
         ensures kept { KeepsFolders S.TakeStore J.Journal (find_failed result)
             self.old.server self.new.server }
         ensures found { IsWhere S.TakeStore J.Journal name.now result self.new.server }
@@ -101,7 +100,7 @@ impl<S: TakeStore, J: RestingJournal> RestingServer<S, J> {
     pub(crate) fn prepare(&mut self, name: &Name) -> Found
         ensures kept { KeepsFolders S.TakeStore J.Journal (find_failed result)
             self.old.server self.new.server }
-        ensures inside { IsSome (session_in self.old.server.sessions name.now) →
+        ensures inside { IsSome (session_kept self.old.server name.now) →
             (result ≡ Found.Known) × (self.new.server ≡ self.old.server) }
         ensures found { IsWhere S.TakeStore J.Journal name.now result self.new.server }
         ensures place { result ≡ Found.New →
@@ -138,10 +137,10 @@ impl<S: TakeStore, J: RestingJournal> RestingServer<S, J> {
 
 /// Wakes a name that rests, in a table with room.
 fn wake_name<S: TakeStore, J: RestingJournal>(server: &mut Server<S, J>, name: &Name) -> Found
-    requires fresh { session_in server.old.sessions name.now ≡ None }
-    requires place { hash_map_len server.old.sessions < most_takes }
-    requires rests { IsTrue (J.honest server.old.stores.journal) →
-        IsSome (J.resting server.old.stores.journal name.now) }
+    requires fresh { session_kept server.old name.now ≡ None }
+    requires place { names_kept server.old < most_takes }
+    requires rests { IsTrue (J.honest (server_journal server.old)) →
+        IsSome (J.resting (server_journal server.old) name.now) }
     ensures kept { KeepsFolders S.TakeStore J.Journal (find_failed result) server.old server.new }
     ensures found { IsWhere S.TakeStore J.Journal name.now result server.new }
 {

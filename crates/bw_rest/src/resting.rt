@@ -35,6 +35,8 @@ pub struct RestingServer<S: TakeStore, J: RestingJournal> {
 }
 
 impl<S: TakeStore, J: RestingJournal> RestingServer<S, J> {
+    ghost use Rattle.bw_rest.specs.RestingServers.{table_server};
+
     /// A server whose names may rest.
     ///
     /// # Errors
@@ -46,7 +48,7 @@ impl<S: TakeStore, J: RestingJournal> RestingServer<S, J> {
         alloc: Global,
         server: Server<S, J>,
     ) -> Result<RestingServer<S, J>, (AllocError, Server<S, J>)>
-        ensures server { IfOk result (λ r. r.server ≡ server) }
+        ensures server { IfOk result (λ r. table_server r ≡ server) }
         ensures back { IfErr result (λ e. e.1 ≡ server) }
     {
         match Uses::new(alloc) {
@@ -61,14 +63,14 @@ impl<S: TakeStore, J: RestingJournal> RestingServer<S, J> {
 
     /// The server of the names in the table.
     pub fn server(&self) -> &Server<S, J>
-        ensures { result.now ≡ self.now.server }
+        ensures { result.now ≡ table_server self.now }
     {
         &self.server
     }
 
     /// The server of the names in the table, by value.
     pub fn into_server(self) -> Server<S, J>
-        ensures { result ≡ self.server }
+        ensures { result ≡ table_server self }
     {
         let RestingServer {
             server,
@@ -114,9 +116,10 @@ fn is_use(message: &Message<'_>, found: Found) -> bool {
 
 impl<S: TakeStore, J: RestingJournal> Turns for RestingServer<S, J> {
     ghost use Rattle.bw_rest.specs.Resting.{RestingTurn};
+    ghost use Rattle.bw_rest.specs.RestingServers.{table_server};
 
     ghost answers = { λ old frame replies new.
-        RestingTurn S.TakeStore J.Journal old.server frame replies new.server };
+        RestingTurn S.TakeStore J.Journal (table_server old) frame replies (table_server new) };
 
     fn turn(&mut self, message: &Message<'_>, replies: &mut ArrayVec<Reply, 17>) {
         let name = message.name();

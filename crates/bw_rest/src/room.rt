@@ -1,12 +1,12 @@
 //! Making room in a server's table.
 ghost use Rattle.std.specs.Prelude.{◌≡◌, ◌<◌, ◌||◌, Bool, true, false, List, ℕ, IsTrue};
-ghost use Rattle.std.specs.HashMap.{hash_map_len};
 ghost use Rattle.std.specs.List.{All};
 ghost use Rattle.bw_model.specs.Turn.{most_takes};
-ghost use Rattle.bw_session.specs.RestingNames.{is_restable_in};
 ghost use Rattle.bw_rest.specs.Making.{is_failed, has_rested, is_declined, room_failed};
 ghost use Rattle.bw_rest.specs.Making.{KeepsSessions};
 ghost use Rattle.bw_rest.specs.Resting.{KeepsFolders, StaysOutside, NoneMayRest, HasPlace};
+ghost use Rattle.bw_session.specs.SeenServers.{session_kept, names_kept};
+ghost use Rattle.bw_session.specs.RestingNames.{restable_kept};
 
 use bw_journal::RestingJournal;
 use bw_request::Name;
@@ -45,9 +45,8 @@ fn rest_name<S: TakeStore, J: RestingJournal>(server: &mut Server<S, J>, name: &
     ensures kept { KeepsFolders S.TakeStore J.Journal (is_failed result) server.old server.new }
     ensures outside { StaysOutside S.TakeStore J.Journal server.old server.new }
     ensures same { has_rested result ≡ false →
-        KeepsSessions server.old.sessions server.new.sessions }
-    ensures unable { result ≡ Rest.NoneMay →
-        is_restable_in server.old.sessions name.now ≡ false }
+        KeepsSessions (session_kept server.old) (session_kept server.new) }
+    ensures unable { result ≡ Rest.NoneMay → restable_kept server.old name.now ≡ false }
 {
     if !server.may_rest(name) {
         return Rest::NoneMay;
@@ -68,9 +67,9 @@ pub(crate) fn rest_first<S: TakeStore, J: RestingJournal>(
     ensures kept { KeepsFolders S.TakeStore J.Journal (is_failed result) server.old server.new }
     ensures outside { StaysOutside S.TakeStore J.Journal server.old server.new }
     ensures same { has_rested result ≡ false →
-        KeepsSessions server.old.sessions server.new.sessions }
+        KeepsSessions (session_kept server.old) (session_kept server.new) }
     ensures unable { result ≡ Rest.NoneMay →
-        All (λ name. is_restable_in server.old.sessions name ≡ false) names.now }
+        All (λ name. restable_kept server.old name ≡ false) names.now }
 {
     let mut refused = false;
     for name in names {
@@ -119,7 +118,7 @@ pub(crate) fn rest_any<S: TakeStore, J: RestingJournal>(
 /// What room there is after names were to rest.
 pub(crate) fn room_after<S: TakeStore, J: RestingJournal>(server: &Server<S, J>, rest: Rest) -> Room
     ensures failed { room_failed result ≡ is_failed rest }
-    ensures free { result ≡ Room.Free → hash_map_len server.now.sessions < most_takes }
+    ensures free { result ≡ Room.Free → names_kept server.now < most_takes }
     ensures place { result ≡ Room.Free → HasPlace S.TakeStore J.Journal true server.now }
     ensures none { result ≡ Room.Full → rest ≡ Rest.NoneMay }
     ensures refused { result ≡ Room.Refused → HasPlace S.TakeStore J.Journal false server.now }

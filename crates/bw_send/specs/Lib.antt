@@ -4,3 +4,4 @@ pub mod RoundsMade
 pub mod SenderText
 pub mod Sends
 pub mod Watched
+pub mod WatchedSenders

@@ -25,10 +25,12 @@ pub struct Progress<'a> {
 }
 
 impl<'a> Progress<'a> {
+    ghost use Rattle.bw_send.specs.WatchedSenders.{watched_round, watched_sender, watched_requests};
+
     pub(crate) fn new(round: u32, sender: &'a Sender, requests: &'a [Request]) -> Progress<'a>
-        ensures round { result.round ≡ round }
-        ensures sender { result.sender.now ≡ sender.now }
-        ensures requests { result.requests.now ≡ requests.now }
+        ensures round { watched_round result ≡ round }
+        ensures sender { watched_sender result ≡ sender.now }
+        ensures requests { watched_requests result ≡ requests.now }
     {
         Progress {
             round,
@@ -39,21 +41,21 @@ impl<'a> Progress<'a> {
 
     /// The round's number, counted from 1.
     pub fn round(&self) -> u32
-        ensures { result ≡ self.now.round }
+        ensures { result ≡ watched_round self.now }
     {
         self.round
     }
 
     /// How many requests have their verdicts, up to the first that has none.
     pub fn settled(&self) -> u32
-        ensures { (s : Defined) → IsSender s self.now.sender.now → result ≡ settled_of s }
+        ensures { (s : Defined) → IsSender s (watched_sender self.now) → result ≡ settled_of s }
     {
         self.sender.settled()
     }
 
     /// How many of the settled requests are stored.
     pub fn stored(&self) -> u32
-        ensures { (s : Defined) → IsSender s self.now.sender.now → result ≡ stored_of s }
+        ensures { (s : Defined) → IsSender s (watched_sender self.now) → result ≡ stored_of s }
     {
         self.sender.stored()
     }
@@ -61,8 +63,8 @@ impl<'a> Progress<'a> {
     /// The bytes of samples in the settled requests, which are the first of the input; 2^64 - 1 if
     /// there are more. They are summed by this call.
     pub fn bytes(&self) -> u64
-        ensures { (s : Defined) → IsSender s self.now.sender.now →
-            result ≡ settled_bytes s self.now.requests.now }
+        ensures { (s : Defined) → IsSender s (watched_sender self.now) →
+            result ≡ settled_bytes s (watched_requests self.now) }
     {
         let settled = (self.settled() as usize).min(self.requests.len());
         counted_bytes(&self.requests[..settled])
@@ -70,16 +72,16 @@ impl<'a> Progress<'a> {
 
     /// Writes it as a line. It allocates nothing.
     pub fn print_diagnostic<E: Sink>(&self, out: &mut E)
-        ensures { (s : Defined) → IsSender s self.now.sender.now → (print : Print)
-            × IsOf (progress_line self.now.round s self.now.requests.now) print
+        ensures { (s : Defined) → IsSender s (watched_sender self.now) → (print : Print)
+            × IsOf (progress_line (watched_round self.now) s (watched_requests self.now)) print
             × IsPrint E.Sink print out.old out.new }
     {
         print_diagnostic(out, self.line().as_str().as_bytes());
     }
 
     fn line(&self) -> ArrayString<128>
-        ensures { (s : Defined) → IsSender s self.now.sender.now →
-            result.bytes ≡ progress_line self.now.round s self.now.requests.now }
+        ensures { (s : Defined) → IsSender s (watched_sender self.now) →
+            result.bytes ≡ progress_line (watched_round self.now) s (watched_requests self.now) }
     {
         line_of(self.round, self.settled(), self.stored(), self.bytes())
     }

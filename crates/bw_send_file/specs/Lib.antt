@@ -3,3 +3,4 @@ pub mod Endings
 pub mod Sendings
 pub mod FileSendings
 pub mod FileLooks
+pub mod PlanFeeds

@@ -4,7 +4,8 @@ ghost use Rattle.bw_model.specs.Take.{Request as Message};
 ghost use Rattle.bw_model.specs.World.{is_close as is_closing};
 ghost use Rattle.bw_request.specs.Requests.{meaning};
 ghost use Rattle.bw_ports.specs.declared.recording_files.FileStamp.{FileStamp as StampValue};
-ghost use Rattle.bw_send_file.specs.FileFeeds.{AreToCome, FeedState, GivesOfFile, IsLookFault, RefusesCopy, fault_reading_on};
+ghost use Rattle.bw_send_file.specs.FileFeeds.{AreToCome, FeedState, GivesOfFile, IsLookFault};
+ghost use Rattle.bw_send_file.specs.FileFeeds.{RefusesCopy, fault_reading_on};
 
 use crate::fault::FeedFault;
 use bw_inspect::{InspectFault, InspectKind};
@@ -31,6 +32,7 @@ pub struct PlanFeed<R, S> {
 impl<R: Source + Drop, S: Stamped + Drop> PlanFeed<R, S> {
     ghost use Rattle.bw_send_file.specs.FileFeeds.{IsLookedAt};
     ghost use Rattle.bw_send_file.specs.FileLooks.{LooksAt};
+    ghost use Rattle.bw_send_file.specs.PlanFeeds.{feed_stamp};
 
     /// Gives the requests of a plan whose reader stands where the next block does, of a file that
     /// had this stamp before it was opened.
@@ -51,21 +53,21 @@ impl<R: Source + Drop, S: Stamped + Drop> PlanFeed<R, S> {
 
     /// How the file stood before it was opened.
     pub fn stamp(&self) -> FileStamp
-        ensures { result ≡ self.now.stamp }
+        ensures { result ≡ feed_stamp self.now }
     {
         self.stamp
     }
 }
 
 impl<R: Source + Drop, S: Stamped + Drop> Feed for PlanFeed<R, S> {
+    ghost use Rattle.bw_send_file.specs.PlanFeeds.{feed_plan, feed_reader, feed_state};
+
     type Fault = FeedFault;
 
-    ghost left = { λ f requests. AreToCome (R.left f.reader) f.plan requests };
+    ghost left = { λ f requests. AreToCome (R.left (feed_reader f)) (feed_plan f) requests };
 
     ghost gives = { λ f given g. GivesOfFile
-        (record { left = R.left f.reader; plan = f.plan; reported = S.stamp_of f.stamped; first = f.stamp })
-        given
-        (record { left = R.left g.reader; plan = g.plan; reported = S.stamp_of g.stamped; first = g.stamp }) };
+        (feed_state R.left S.stamp_of f) given (feed_state R.left S.stamp_of g) };
 
     fn next(&mut self) -> Result<Given, FeedFault> {
         let Some(next) = self.plan.request() else {

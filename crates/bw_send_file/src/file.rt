@@ -6,6 +6,7 @@ ghost use Rattle.bw_recorder.specs.Openings.{RefusesAs, is_system_well};
 ghost use Rattle.bw_recorder.specs.Packs.{HasPacked, Packing};
 ghost use Rattle.bw_send_file.specs.FileFeeds.{AreToCome, IsLookedAt};
 ghost use Rattle.bw_send_file.specs.FileSendings.{FeedsRecording, IsFileSent};
+ghost use Rattle.bw_send_file.specs.PlanFeeds.{feed_plan, feed_reader, feed_stamped, feed_stamp};
 
 use crate::feed::PlanFeed;
 use crate::job::Recorder;
@@ -46,7 +47,8 @@ pub fn send_file<F: RecordingFiles, P: Pause, D: Dial, V: Observer, W: Sink, E: 
     ensures { (did : Packing) × (did.exit ≡ result)
         × IsFileSent ⟦<PlanFeed<F::File, F::Stamped> as Feed>⟧ P.Pause D.Dial D.Reader.Source
         D.Writer.Sink recorder.now file.now (F.file_at files.old file.now.path.now)
-        (λ f. IsLookedAt (F.stamp_at files.old file.now.path.now) (F.Stamped.stamp_of f.stamped) f.stamp)
+        (λ f. IsLookedAt (F.stamp_at files.old file.now.path.now)
+        (F.Stamped.stamp_of (feed_stamped f)) (feed_stamp f))
         (record { pause = pause.old; dial = dial.old })
         (record { pause = pause.new; dial = dial.new }) did
         × (F.failures files.new ≡ failures_if did.is_system_well (F.failures files.old))
@@ -100,14 +102,15 @@ pub fn open_feed<F: RecordingFiles>(
 ) -> Result<Sendable<F::File, F::Stamped>, OpenFault>
     ensures ok { IfOk result (λ x. Of (F.file_at files.old path.now) (λ b.
         FeedsRecording b options.now
-        (AreToCome (F.File.left x.feed.reader) x.feed.plan) x.warnings.items)) }
+        (AreToCome (F.File.left (feed_reader x.feed)) (feed_plan x.feed)) x.warnings.items)) }
     ensures looked { IfOk result (λ x. IsLookedAt (F.stamp_at files.old path.now)
-        (F.Stamped.stamp_of x.feed.stamped) x.feed.stamp) }
+        (F.Stamped.stamp_of (feed_stamped x.feed)) (feed_stamp x.feed)) }
     ensures err { IfErr result (λ e. Of (F.file_at files.old path.now) (λ b.
         RefusesAs b options.now e)) }
     ensures files { F.file_at files.new ≡ F.file_at files.old }
     ensures stamps { F.stamp_at files.new ≡ F.stamp_at files.old }
-    ensures count { F.failures files.new ≡ failures_if (is_system_well result) (F.failures files.old) }
+    ensures count { F.failures files.new ≡ failures_if (is_system_well result)
+        (F.failures files.old) }
 {
     let Ok(stamped) = files.stamped(path) else {
         return Err(OpenFault::Refused(NO_MEMORY));

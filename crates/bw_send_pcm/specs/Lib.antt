@@ -1,2 +1,3 @@
 pub mod PcmFeeds
 pub mod PcmSendings
+pub mod SampleFeeds

@@ -17,11 +17,14 @@ pub struct PcmFeed<F> {
 }
 
 impl<F: Followed + Drop> Feed for PcmFeed<F> {
+    ghost use Rattle.bw_send_pcm.specs.SampleFeeds.{requests_of_feed};
+
     type Fault = FeedFault;
 
-    ghost left = { λ f requests. RequestsLeft F.Followed f.requests requests };
+    ghost left = { λ f requests. RequestsLeft F.Followed (requests_of_feed f) requests };
 
-    ghost gives = { λ f given g. GivesOfSamples F.Followed f.requests given g.requests };
+    ghost gives = { λ f given g. GivesOfSamples F.Followed (requests_of_feed f) given
+        (requests_of_feed g) };
 
     fn next(&mut self) -> Result<Given, FeedFault> {
         given_of(self.requests.next())

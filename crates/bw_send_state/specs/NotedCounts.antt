@@ -24,6 +24,15 @@ NotesCount s old new = (new ≡ old)
     ⊎ ((n : ℕ) × CountsStored s n
     × (Writes old (as_line (settled_text n)) new ⊎ Begins old (as_line (settled_text n)) new))
 
+module _ {L T : Type 0} where
+  -- the state's file
+  abbrev pub kept_log : StateKeeper L T → L
+  kept_log keeper = keeper.log
+
+  -- the last count in it
+  abbrev pub kept_count : StateKeeper L T → ℕ
+  kept_count keeper = keeper.noted
+
 module _ {L T : Type 0} (log : LogGhosts L) where
   -- Of the calls on the state's file the last one failed, or none. After one has failed there are no
   -- more, and what was wrong with it is kept.

@@ -9,6 +9,7 @@ ghost use Rattle.bw_send_file.specs.FileLooks.{LooksAt};
 ghost use Rattle.bw_send_state.specs.FilesSentOn.{GivesNoHeader, known_file_of};
 ghost use Rattle.bw_send_state.specs.SentOn.{IsHeaderFor, origin_for};
 ghost use Rattle.bw_send_state.specs.TakeOpenings.{StopsOpening};
+ghost use Rattle.bw_send_file.specs.PlanFeeds.{feed_stamp};
 
 use crate::job::Job;
 use crate::opening::opening_of;
@@ -82,9 +83,9 @@ fn header_of<R: Source + Drop, S: Stamped + Drop>(
     feed: &mut PlanFeed<R, S>,
 ) -> Result<Vec<u8>, FeedFault>
     ensures ok { IfOk result (λ header. (requests : List Message) →
-        ⟦<PlanFeed<R, S> as Feed>⟧.left feed.old requests →
-        header.items ≡ state_header
-        (origin_for job.now.recorder.name.now job.now.place.address.now feed.old.stamp requests)) }
+        ⟦<PlanFeed<R, S> as Feed>⟧.left feed.old requests → header.items ≡ state_header
+        (origin_for job.now.recorder.name.now job.now.place.address.now (feed_stamp feed.old)
+        requests)) }
     ensures err { IfErr result (λ fault. StopsOpening ⟦<PlanFeed<R, S> as Feed>⟧ feed.old fault) }
 {
     let stamp = feed.stamp();

@@ -31,10 +31,12 @@ pub struct StateKeeper<'a, L, T> {
 }
 
 impl<'a, L: StateLog + Drop, T: Stopwatch> StateKeeper<'a, L, T> {
+    ghost use Rattle.bw_send_state.specs.NotedCounts.{kept_log, kept_count};
+
     /// Notes counts above `noted` in a file.
     pub fn new(log: L, stopwatch: &'a mut T, noted: u32) -> StateKeeper<'a, L, T>
-        ensures log { result.log ≡ log }
-        ensures noted { result.noted ≡ noted }
+        ensures log { kept_log result ≡ log }
+        ensures noted { kept_count result ≡ noted }
     {
         StateKeeper {
             log,

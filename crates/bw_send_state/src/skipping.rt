@@ -2,6 +2,7 @@
 ghost use Rattle.std.specs.Prelude.{◌≡◌, List, IfOk, IfErr, true};
 ghost use Rattle.bw_model.specs.Take.{Request as Message};
 ghost use Rattle.bw_send_state.specs.SkippedRequests.{FailsFirst, PassesBy, SkipsBy, SkipsFirst};
+ghost use Rattle.bw_send_file.specs.PlanFeeds.{feed_stamp};
 
 use bw_ports::{FileStamp, Stamped};
 use bw_send_file::{FeedFault, PlanFeed, is_close};
@@ -50,7 +51,7 @@ pub(crate) fn pass_over<R: Source + Drop, S: Stamped + Drop>(
         ⟦<PlanFeed<R, S> as Feed>⟧.left feed.old requests →
         SkipsFirst count requests (⟦<PlanFeed<R, S> as Feed>⟧.left feed.new)) }
     ensures ok { IfOk result (λ all. PassesBy ⟦<PlanFeed<R, S> as Feed>⟧ all
-        feed.old.stamp first.now count feed.old feed.new) }
+        (feed_stamp feed.old) first.now count feed.old feed.new) }
     ensures err { IfErr result (λ fault.
         FailsFirst ⟦<PlanFeed<R, S> as Feed>⟧ count feed.old fault) }
 {

@@ -39,6 +39,14 @@ pub record KeepsFrom (k : ℕ) (s : Defined) (x : Sender) : Type 0 where
 abbrev pub IsSender : Defined → Sender → Type 0
 IsSender s x = KeepsFrom (settled s) s x
 
+-- how many requests were offered to it and accepted
+abbrev pub offered_count : Sender → ℕ
+offered_count x = x.offered
+
+-- and how many of them it holds: those from the first without a verdict on
+abbrev pub unsettled_count : Sender → ℕ
+unsettled_count x = length x.window
+
 -- there is room already for a refusal of each request that it holds, and of one more
 abbrev pub HasRoom : Sender → Type 0
 HasRoom x = length x.window < x.refused.room

@@ -42,6 +42,7 @@ pub struct Sender {
 
 impl Sender {
     ghost use Rattle.bw_sender.specs.Senders.{new_sender, HasStored, IsSender, HasRoom};
+    ghost use Rattle.bw_sender.specs.Senders.{offered_count, unsettled_count};
     ghost use Rattle.bw_sender.specs.Refused.{refusal_of};
 
     /// A sender of a name, to which nothing was offered.
@@ -167,7 +168,7 @@ impl Sender {
     /// How many numbers are settled: those before the first without a verdict; at most 16,777,216.
     pub fn settled(&self) -> u32
         ensures value { (s : Defined) → IsSender s self.now → result ≡ settled_of s }
-        ensures rest { result + length self.now.window ≡ self.now.offered }
+        ensures rest { result + unsettled_count self.now ≡ offered_count self.now }
         ensures range { result ≤ last_number Second + 1 }
     {
         self.offered - self.window.len() as u32

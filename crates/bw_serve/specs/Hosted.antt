@@ -8,6 +8,7 @@ use Rattle.bw_session.specs.Books.{HoldsBook}
 use Rattle.bw_session.specs.declared.server.Server.{Server}
 use Rattle.bw_engine.specs.Ingesting.{LeavesRun}
 use Rattle.bw_session.specs.ServerTurns.{ServerTurn}
+use Rattle.bw_session.specs.SeenServers.{server_store, server_limit}
 use Rattle.bw_console.specs.declared.exit.Exit.{Exit}
 use Rattle.bw_ports.specs.declared.network.Network.{Ghosts as NetworkGhosts}
 use Rattle.bw_ports.specs.declared.peers.Peers.{Ghosts as PeerGhosts}
@@ -20,8 +21,8 @@ use Rattle.bw_serve.specs.declared.hosting_in_turn.Serving.{Serving}
 -- a server that is over this store, with this limit, and holds no name yet
 pub record IsNewServer {X Y : Type 0} (S : StoreGhosts X) (J : JournalGhosts Y) (limit : ℕ) (store : X)
     (server : Server X Y S J) : Type 0 where
-  pub store_is : server.stores.store ≡ store
-  pub limit_is : server.limit ≡ limit
+  pub store_is : server_store server ≡ store
+  pub limit_is : server_limit server ≡ limit
   pub empty : HoldsBook S J (S.contents store) server []
 
 module _ {X Y P R W O E : Type 0} (S : StoreGhosts X) (J : JournalGhosts Y)
@@ -38,7 +39,7 @@ module _ {X Y P R W O E : Type 0} (S : StoreGhosts X) (J : JournalGhosts Y)
     pub leaves : IsTrue (S.honest store) → LeavesRun S serving.limit store
         (answered_in_run (ServerTurn S J) peers reader writer out reported serving.log
         serving.exchanges serves.ended server serves.following p p' serves.between o' e serves.logged
-        serves.run) serves.following.stores.store
+        serves.run) (server_store serves.following)
 
   -- the result of a server over this store
   abbrev pub HostsOver : Serving → Exit → X → P → P → O → O → E → E → Type 0

@@ -12,6 +12,7 @@ use Rattle.bw_journal.specs.declared.journal.Journal.{Ghosts as JournalGhosts}
 use Rattle.bw_session.specs.Books.{HoldsBook}
 use Rattle.bw_session.specs.ServerTurns.{ServerTurn}
 use Rattle.bw_session.specs.declared.server.Server.{Server}
+use Rattle.bw_session.specs.SeenServers.{server_store, server_limit}
 use Rattle.bw_exchange.specs.Answering.{Answered}
 use Rattle.bw_engine.specs.ServerRuns.{RunsOn}
 use Rattle.bw_console.specs.Printing.{HasPrinted}
@@ -36,11 +37,11 @@ module _ {X Y : Type 0} (S : StoreGhosts X) (J : JournalGhosts Y) where
     pub run : RunsOn S J first old new book answered
     pub files : (name : List ℕ) → (is_pending (log_of run.later name) ≡ false)
         ⊎ ((take_in false run.later name).closed ≡ true) →
-        S.contents new.stores.store name ≡ content_in first old.limit run.later name
+        S.contents (server_store new) name ≡ content_in first (server_limit old) run.later name
 
   -- so it is from each book that the server held, over an honest store
   abbrev pub LeavesRunsFrom : Server X Y S J → Server X Y S J → List Answered → Type 0
-  LeavesRunsFrom old new answered = IsTrue (S.honest old.stores.store) →
+  LeavesRunsFrom old new answered = IsTrue (S.honest (server_store old)) →
       (first : List ℕ → Option (List ℕ)) (book : Book) → HoldsBook S J first old book →
       LeavesRunFrom first book old new answered
 

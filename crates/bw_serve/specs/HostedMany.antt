@@ -5,6 +5,7 @@ use Rattle.bw_store.specs.declared.store.TakeStore.{Ghosts as StoreGhosts}
 use Rattle.bw_journal.specs.declared.journal.Journal.{Ghosts as JournalGhosts}
 use Rattle.bw_session.specs.declared.server.Server.{Server}
 use Rattle.bw_session.specs.ServerTurns.{ServerTurn}
+use Rattle.bw_session.specs.SeenServers.{server_store}
 use Rattle.bw_console.specs.declared.exit.Exit.{Exit}
 use Rattle.bw_ports.specs.declared.link.Link.{Ghosts as LinkGhosts}
 use Rattle.bw_ports.specs.declared.listener_setup.ListenerSetup.{Ghosts as ListenerSetupGhosts}
@@ -27,7 +28,7 @@ module _ {X Y B L O E : Type 0} (S : StoreGhosts X) (J : JournalGhosts Y) (react
         hosting.bounds hosting.log exit server b b' o o' e e'
     -- an honest store has the files of what was answered, each name's from its own messages alone
     pub leaves : IsTrue (S.honest store) → KeepsNamesApart S J hosting.limit store
-        serves.following.stores.store
+        (server_store serves.following)
         (answered_in_loop reactor link (ServerTurn S J) out reported hosting.log hosting.bounds
         serves.ended server serves.following b b' serves.between o' e serves.logged serves.run)
 

@@ -10,6 +10,7 @@ use Rattle.bw_exchange.specs.Answering.{Answered, AnswersAll}
 use Rattle.bw_engine.specs.Ingesting.{LeavesRun}
 use Rattle.bw_exchange.specs.TurnRuns.{answers_in}
 use Rattle.bw_session.specs.ServerTurns.{ServerTurn}
+use Rattle.bw_session.specs.SeenServers.{server_store, server_limit}
 use Rattle.bw_connections.specs.Keeping.{Tagged, all_answered}
 
 module _ {X Y : Type 0} (S : StoreGhosts X) (J : JournalGhosts Y) where
@@ -28,7 +29,7 @@ module _ {X Y : Type 0} (S : StoreGhosts X) (J : JournalGhosts Y) where
   -- connections came.
   abbrev pub NamesStandApart : Type 0
   NamesStandApart = (limit : ℕ) (before : X) (old new : Server X Y S J) (trace : List Tagged) →
-      IsTrue (S.honest before) → old.stores.store ≡ before → old.limit ≡ limit →
+      IsTrue (S.honest before) → server_store old ≡ before → server_limit old ≡ limit →
       HoldsBook S J (S.contents before) old [] →
       AnswersAll (ServerTurn S J) old (all_answered trace) new →
-      KeepsNamesApart limit before new.stores.store (all_answered trace)
+      KeepsNamesApart limit before (server_store new) (all_answered trace)

@@ -4,6 +4,7 @@ use Rattle.bw_stream.specs.declared.sink.Sink.{Ghosts as Writer}
 use Rattle.bw_connections.specs.declared.connection.ConnectionEnd.{ConnectionEnd}
 use Rattle.bw_connections.specs.Keeping.{SetsPlace}
 use Rattle.bw_exchange.specs.declared.link_stats.Metered.{Metered}
+use Rattle.bw_exchange.specs.Metered.{metered_server, metered_counts}
 use Rattle.bw_serve.specs.LinkLines.{Logs, peer_line}
 use Rattle.bw_serve.specs.Lines.{name_of_connection_end}
 use Rattle.bw_serve.specs.declared.peer_slot.PeerSlot.{PeerSlot}
@@ -15,9 +16,9 @@ pub record SwapsAt {T : Type 0} (place : ℕ) (xs ys : List PeerSlot) (t t' : Me
   pub peer_slot' : PeerSlot
   pub sets : SetsPlace xs place peer_slot' ys
   pub address : peer_slot'.address ≡ peer_slot.address
-  pub link_stats : peer_slot'.link_stats ≡ t.link_stats
-  pub given : t'.link_stats ≡ peer_slot.link_stats
-  pub server : t'.server ≡ t.server
+  pub link_stats : peer_slot'.link_stats ≡ metered_counts t
+  pub given : metered_counts t' ≡ peer_slot.link_stats
+  pub server : metered_server t' ≡ metered_server t
 
 -- the peer at a place, whose exchange ended so, is logged if a log is asked for
 pub record LogsAt {E : Type 0} (reported : Writer E) (log : Bool) (place : ℕ) (end : ConnectionEnd)

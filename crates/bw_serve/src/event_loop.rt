@@ -3,6 +3,7 @@ ghost use Rattle.std.specs.Prelude.{◌≡◌, ◌+◌, ◌≤◌, ◌<◌, ℕ,
 ghost use Rattle.std.specs.Prelude.{OnOk};
 ghost use Rattle.bw_wire.specs.Held.{longest_message_piece};
 ghost use Rattle.bw_stream.specs.Moves.{failures_after};
+ghost use Rattle.bw_exchange.specs.Metered.{metered_server};
 
 use crate::line::print_end;
 use crate::observing::{RoundObserver, RoundReport};
@@ -42,8 +43,10 @@ impl<L: Link + Drop> EventLoop<L> {
     ghost use Rattle.bw_connections.specs.Keeping.{IsFree};
     ghost use Rattle.bw_connections.specs.Places.{begun_of, connection_count};
     ghost use Rattle.bw_serve.specs.Admissions.{Admits};
-    ghost use Rattle.bw_serve.specs.EventLoops.{CountsEnds, Grows, HasPeerSlots, IsNew, InTurn, LetsIn};
-    ghost use Rattle.bw_serve.specs.EventLoops.{ServesPlace, KeepsEventLoop, WorksCounted, can_go_on_in};
+    ghost use Rattle.bw_serve.specs.EventLoops.{CountsEnds, Grows, HasPeerSlots, IsNew, InTurn};
+    ghost use Rattle.bw_serve.specs.EventLoops.{LetsIn};
+    ghost use Rattle.bw_serve.specs.EventLoops.{ServesPlace, KeepsEventLoop, WorksCounted};
+    ghost use Rattle.bw_serve.specs.EventLoops.{can_go_on_in};
     ghost use Rattle.bw_serve.specs.Observing.{LooksAtRound};
     ghost use Rattle.bw_serve.specs.Rounds.{AsksIn, NoticesAll, Welcomes};
     ghost use Rattle.bw_ports.specs.Reactors.{Admission};
@@ -85,7 +88,8 @@ impl<L: Link + Drop> EventLoop<L> {
 
     /// Shows an observer the server, and what the event loop is.
     pub(crate) fn show<T, V: RoundObserver<T>>(&self, server: &Metered<T>, observer: &mut V)
-        ensures { LooksAtRound V.looks self.now server.now.server observer.old observer.new }
+        ensures { LooksAtRound V.looks self.now (metered_server server.now) observer.old
+            observer.new }
     {
         let round = RoundReport {
             places: self.connections.places(),
@@ -191,8 +195,8 @@ impl<L: Link + Drop> EventLoop<L> {
         requires buffer { length buffer.old ≤ longest_message_piece }
         requires peer_slots { HasPeerSlots self.old }
         ensures in_turn { InTurn L.Link T.answers O.Sink E.Sink round.log round.now round.idle
-            (connection_count self.old.connections) self.old self.new server.old.server server.new.server out.old
-            out.new faults.old faults.new }
+            (connection_count self.old.connections) self.old self.new (metered_server server.old)
+            (metered_server server.new) out.old out.new faults.old faults.new }
     {
         for place in 0..self.connections.places() {
             self.serve_place(alloc, place, server, buffer, round, out, faults);
@@ -214,8 +218,8 @@ impl<L: Link + Drop> EventLoop<L> {
         requires peer_slots { HasPeerSlots self.old }
         requires buffer { length buffer.old ≤ longest_message_piece }
         ensures { ServesPlace L.Link T.answers O.Sink E.Sink round.log round.now round.idle place
-            self.old self.new server.old.server server.new.server out.old out.new faults.old
-            faults.new }
+            self.old self.new (metered_server server.old) (metered_server server.new) out.old
+            out.new faults.old faults.new }
     {
         if let Some(closed) = self.work(place, server, buffer, round.now) {
             self.end(alloc, place, closed, round.log, out, faults);
@@ -239,7 +243,7 @@ impl<L: Link + Drop> EventLoop<L> {
         requires peer_slots { HasPeerSlots self.old }
         requires buffer { length buffer.old ≤ longest_message_piece }
         ensures { WorksCounted L.Link T.answers place now result self.old self.new
-            server.old.server server.new.server }
+            (metered_server server.old) (metered_server server.new) }
     {
         swap_at(&mut self.peer_slots, place, server);
         let closed = self.connections.work(place, server, buffer, now);

@@ -5,6 +5,7 @@ ghost use Rattle.bw_exchange.specs.LinkCounts.{none_counted};
 ghost use Rattle.bw_serve.specs.LinkLines.{Logs, peer_line};
 ghost use Rattle.bw_serve.specs.Lines.{name_of_connection_end};
 ghost use Rattle.bw_serve.specs.PeerSlots.{LogsAt, SwapsAt};
+ghost use Rattle.bw_exchange.specs.Metered.{metered_server, metered_counts};
 
 use crate::line::name_of;
 use crate::reporting::report_link;
@@ -39,9 +40,9 @@ impl PeerSlot {
     /// Makes the server continue this peer's counts, and keeps those that it had.
     fn swap<T>(&mut self, server: &mut Metered<T>)
         ensures address { self.new.address ≡ self.old.address }
-        ensures link_stats { self.new.link_stats ≡ server.old.link_stats }
-        ensures given { server.new.link_stats ≡ self.old.link_stats }
-        ensures server { server.new.server ≡ server.old.server }
+        ensures link_stats { self.new.link_stats ≡ metered_counts server.old }
+        ensures given { metered_counts server.new ≡ self.old.link_stats }
+        ensures server { metered_server server.new ≡ metered_server server.old }
     {
         server.swap_link_stats(&mut self.link_stats);
     }

@@ -7,6 +7,7 @@ ghost use Rattle.bw_serve.specs.EventLoops.{HasPeerSlots};
 ghost use Rattle.bw_serve.specs.Observing.{ObservesRun};
 ghost use Rattle.bw_serve.specs.Rounds.{IsShut, ServesRound, patience_of};
 ghost use Rattle.bw_serve.specs.Serving.{RunsEventLoop};
+ghost use Rattle.bw_exchange.specs.Metered.{metered_server};
 
 use crate::event_loop::{EventLoop, Round, Shut};
 use crate::observing::{NoRoundObserver, RoundObserver};
@@ -59,8 +60,8 @@ pub fn run_event_loop<B: Reactor, T: Turns, O: Sink, E: Sink>(
     faults: &mut E,
 ) -> Exit
     ensures { RunsEventLoop B.Reactor B.Link.Link T.answers O.Sink E.Sink log bounds.now result
-        server.old.server server.new.server reactor.old reactor.new out.old out.new faults.old
-        faults.new }
+        (metered_server server.old) (metered_server server.new) reactor.old reactor.new out.old
+        out.new faults.old faults.new }
 {
     let observer = &mut NoRoundObserver;
     run_observed(alloc, server, reactor, bounds, log, observer, out, faults)
@@ -78,11 +79,11 @@ pub fn run_observed<B: Reactor, T: Turns, V: RoundObserver<T>, O: Sink, E: Sink>
     faults: &mut E,
 ) -> Exit
     ensures runs { RunsEventLoop B.Reactor B.Link.Link T.answers O.Sink E.Sink log bounds.now result
-        server.old.server server.new.server reactor.old reactor.new out.old out.new faults.old
-        faults.new }
+        (metered_server server.old) (metered_server server.new) reactor.old reactor.new out.old
+        out.new faults.old faults.new }
     ensures observed { ObservesRun B.Reactor B.Link.Link T.answers O.Sink E.Sink log V.looks
-        bounds.now result server.old.server server.new.server reactor.old reactor.new out.old
-        out.new faults.old faults.new observer.old observer.new }
+        bounds.now result (metered_server server.old) (metered_server server.new) reactor.old
+        reactor.new out.old out.new faults.old faults.new observer.old observer.new }
 {
     let Ok(mut event_loop) = EventLoop::new(alloc, bounds.places) else {
         return Exit::Memory;
@@ -139,10 +140,12 @@ fn serve_round<B: Reactor, T: Turns, O: Sink, E: Sink>(
     requires begun { begun_of event_loop.old.connections ≤ bounds.now.exchanges }
     requires peer_slots { HasPeerSlots event_loop.old }
     ensures round { OnOk result (ServesRound B.Reactor B.Link.Link T.answers O.Sink E.Sink log
-        bounds.now.idle bounds.now.exchanges event_loop.old event_loop.new server.old.server
-        server.new.server reactor.old reactor.new out.old out.new faults.old faults.new) }
-    ensures shut { OnErr result (IsShut B.Reactor B.Link.Link event_loop.old event_loop.new server.old.server
-        server.new.server reactor.old reactor.new out.old out.new faults.old faults.new) }
+        bounds.now.idle bounds.now.exchanges event_loop.old event_loop.new
+        (metered_server server.old)
+        (metered_server server.new) reactor.old reactor.new out.old out.new faults.old faults.new) }
+    ensures shut { OnErr result (IsShut B.Reactor B.Link.Link event_loop.old event_loop.new
+        (metered_server server.old)
+        (metered_server server.new) reactor.old reactor.new out.old out.new faults.old faults.new) }
     ensures begun { begun_of event_loop.new.connections ≤ bounds.now.exchanges }
     ensures count { B.failures reactor.new ≡ failures_after result (B.failures reactor.old) }
     ensures waits { OnOk result (B.waits reactor.new ≡ one_more (B.waits reactor.old)) }

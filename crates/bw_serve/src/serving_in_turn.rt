@@ -1,7 +1,9 @@
 //! The exchanges of the command `serve`, one after another.
 ghost use Rattle.std.specs.Prelude.{◌≡◌};
-ghost use Rattle.bw_serve.specs.ServedAll.{ServedOutcome, Served, ServesNext, ServesPeer, ServesRun};
+ghost use Rattle.bw_serve.specs.ServedAll.{ServedOutcome, Served, ServesNext, ServesPeer};
+ghost use Rattle.bw_serve.specs.ServedAll.{ServesRun};
 ghost use Rattle.bw_serve.specs.ServedAll.{exit_now};
+ghost use Rattle.bw_exchange.specs.Metered.{metered_server};
 
 use crate::reporting::report_link;
 use crate::serving_one::serve_link;
@@ -34,8 +36,8 @@ pub fn serve_run<P: Peers, T: Turns, O: Sink, E: Sink>(
     faults: &mut E,
 ) -> Exit
     ensures { ServesRun T.answers P.Peers P.Reader.Source P.Writer.Sink O.Sink E.Sink log exchanges
-        result server.old.server server.new.server peers.old peers.new out.old out.new faults.old
-        faults.new }
+        result (metered_server server.old) (metered_server server.new) peers.old peers.new out.old
+        out.new faults.old faults.new }
 {
     for index in 0..exchanges {
         if let Some(exit) = serve_next(alloc, server, peers, index, log, out, faults) {
@@ -57,8 +59,8 @@ fn serve_next<P: Peers, T: Turns, O: Sink, E: Sink>(
 ) -> Option<Exit>
     ensures { (outcome : ServedOutcome) × (result ≡ exit_now outcome)
         × ServesNext T.answers P.Peers P.Reader.Source P.Writer.Sink O.Sink E.Sink log index outcome
-        server.old.server server.new.server peers.old peers.new out.old out.new faults.old
-        faults.new }
+        (metered_server server.old) (metered_server server.new) peers.old peers.new out.old out.new
+        faults.old faults.new }
 {
     let peer = match peers.accept() {
         Ok(peer) => peer,
@@ -80,7 +82,8 @@ fn serve_peer<R: Source + Drop, W: Sink + Drop, T: Turns, O: Sink, E: Sink>(
     faults: &mut E,
 ) -> Exit
     ensures { ServesPeer T.answers R.Source W.Sink O.Sink E.Sink log index result peer
-        server.old.server server.new.server out.old out.new faults.old faults.new }
+        (metered_server server.old) (metered_server server.new) out.old out.new faults.old
+        faults.new }
 {
     let Peer { address, mut link } = peer;
     server.start();

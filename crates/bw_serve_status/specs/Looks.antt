@@ -1,6 +1,6 @@
 -- What an observer does after a round: each connection of an operator makes a step, those who come are
 -- accepted, and at most one of them is responded to, from what the server is at that moment.
-use Rattle.std.specs.Prelude.{◌≡◌, ◌⊎◌, ℕ, List, Option, Some, None, is_some, slice_get}
+use Rattle.std.specs.Prelude.{◌≡◌, ◌⊎◌, ℕ, List, Option, Some, None, is_some}
 use Rattle.bw_model.specs.Book.{Book}
 use Rattle.bw_store.specs.declared.store.TakeStore.{Ghosts as StoreGhosts}
 use Rattle.bw_journal.specs.declared.journal.Journal.{Ghosts as JournalGhosts}
@@ -11,7 +11,7 @@ use Rattle.bw_status.specs.Responses.{response_text}
 use Rattle.bw_status.specs.declared.answer.Answer.{Answer}
 use Rattle.bw_status.specs.declared.snapshot.Snapshot.{Snapshot}
 use Rattle.bw_operators.specs.Placed.{AdmitsAt, AreConnections, IsFreeAt, LastsLongest}
-use Rattle.bw_operators.specs.Placed.{LeavesOtherPlaces, RespondsAt, StepsAt, asked_at}
+use Rattle.bw_operators.specs.Placed.{LeavesOtherPlaces, RespondsAt, StepsAt, asked_at, operator_at}
 use Rattle.bw_operators.specs.declared.operators.Operators.{Operators}
 use Rattle.bw_operators.specs.declared.port.StatusPort.{Ghosts as PortGhosts}
 use Rattle.bw_serve.specs.declared.observing.RoundReport.{RoundReport}
@@ -26,7 +26,7 @@ use Rattle.bw_serve_status.specs.declared.tallied.Tallied.{Tallied}
 -- at a place everything is as it was; or it was free, and has a new connection from this time on
 abbrev pub AcceptsAt : {L : Type 0} → ℕ → Operators L → Operators L → ℕ → Type 0
 AcceptsAt {L} now o o' place =
-    (slice_get o'.places.items place ≡ slice_get o.places.items place)
+    (operator_at o' place ≡ operator_at o place)
     ⊎ (IsFreeAt o place × ((link : L) × AdmitsAt place link now o'))
 
 -- what an observer responds by: the time that its port reported last, when it was started, how many

@@ -7,6 +7,7 @@ use Rattle.bw_journal.specs.declared.journal.Journal.{Ghosts as JournalGhosts}
 use Rattle.bw_exchange.specs.Answering.{Answered}
 use Rattle.bw_session.specs.Books.{HoldsBook}
 use Rattle.bw_session.specs.declared.server.Server.{Server}
+use Rattle.bw_session.specs.SeenServers.{server_store}
 use Rattle.bw_engine.specs.ServerRuns.{RunsOn}
 use Rattle.bw_ports.specs.declared.link.Link.{Ghosts as LinkGhosts}
 use Rattle.bw_operators.specs.Placed.{IsFreeAt, place_count}
@@ -27,7 +28,7 @@ module _ {X Y : Type 0} (S : StoreGhosts X) (J : JournalGhosts Y) where
   -- for each book that an honest server began with, it holds after the round the one that its
   -- answers made of it
   abbrev pub HoldsBooksAfter : {L : Type 0} → Server X Y S J → RoundLeft L (Server X Y S J) → Type 0
-  HoldsBooksAfter server left = IsTrue (S.honest server.stores.store) →
+  HoldsBooksAfter server left = IsTrue (S.honest (server_store server)) →
       (first : List ℕ → Option (List ℕ)) (book : Book) → HoldsBook S J first server book →
       RunsOn S J first server left.server book left.answered
 

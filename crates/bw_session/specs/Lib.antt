@@ -16,6 +16,7 @@ pub mod Runs
 pub mod Serving
 pub mod Tables
 pub mod Servers
+pub mod SeenServers
 pub mod Listing
 pub mod Resumed
 pub mod Journaled

@@ -48,6 +48,11 @@ is_restable s = s.progress.state.parts.closed && (count_held s.window == 0)
 abbrev pub is_restable_in : {H : Type 0} → Table H → List ℕ → Bool
 is_restable_in sessions name = option_map_or is_restable (session_in sessions name) false
 
+-- the same of a name that a server knows
+abbrev pub restable_kept : {X Y : Type 0} {S : StoreGhosts X} {J : JournalGhosts Y} →
+    Server X Y S J → List ℕ → Bool
+restable_kept s name = is_restable_in s.sessions name
+
 -- what was in the store at first, with this under a name
 abbrev pub with_first : (List ℕ → Option (List ℕ)) → List ℕ → Option (List ℕ) → List ℕ →
     Option (List ℕ)

@@ -1,6 +1,5 @@
 //! How many names a server knows.
 ghost use Rattle.std.specs.Prelude.{◌≡◌, ◌≤◌, ℕ, List, Option, length, nat_le};
-ghost use Rattle.std.specs.HashMap.{hash_map_len};
 ghost use Rattle.bw_model.specs.Book.{Book};
 ghost use Rattle.bw_model.specs.Turn.{most_takes, is_full};
 
@@ -10,6 +9,7 @@ use bw_store::TakeStore;
 
 impl<S: TakeStore, J: Journal> Server<S, J> {
     ghost use Rattle.bw_session.specs.Books.{HoldsBook};
+    ghost use Rattle.bw_session.specs.SeenServers.{names_kept};
 
     /// How many names it knows, at most 256.
     ///
@@ -18,7 +18,7 @@ impl<S: TakeStore, J: Journal> Server<S, J> {
     pub fn names(&self) -> usize
         ensures value { (first : List ℕ → Option (List ℕ)) (book : Book) →
             HoldsBook S.TakeStore J.Journal first self.now book → result ≡ length book }
-        ensures kept { result ≡ hash_map_len self.now.sessions }
+        ensures kept { result ≡ names_kept self.now }
         ensures range { result ≤ most_takes }
     {
         self.sessions.len()
@@ -31,7 +31,7 @@ impl<S: TakeStore, J: Journal> Server<S, J> {
     pub fn is_full(&self) -> bool
         ensures value { (first : List ℕ → Option (List ℕ)) (book : Book) →
             HoldsBook S.TakeStore J.Journal first self.now book → result ≡ is_full book }
-        ensures kept { result ≡ nat_le most_takes (hash_map_len self.now.sessions) }
+        ensures kept { result ≡ nat_le most_takes (names_kept self.now) }
     {
         NAMES <= self.names()
     }

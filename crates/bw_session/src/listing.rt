@@ -1,11 +1,10 @@
 //! What a server keeps of its names, one by one.
-ghost use Rattle.std.specs.Prelude.{◌≡◌, ◌≤◌, ℕ, List, Option, IsTrue, IfOk, IfSome, is_some, length};
+ghost use Rattle.std.specs.Prelude.{◌≡◌, ◌≤◌, ℕ, List, Option, IsTrue, IfOk, IfSome, is_some};
+ghost use Rattle.std.specs.Prelude.{length};
 ghost use Rattle.bw_model.specs.Book.{Book, log_of, is_known, made};
 ghost use Rattle.bw_model.specs.Take.{is_format};
 ghost use Rattle.bw_model.specs.Turn.{most_takes};
-ghost use Rattle.bw_session.specs.Listing.{KnowsTaken, ListsNames, format_in, is_known_in};
-ghost use Rattle.bw_session.specs.Listing.{is_taken_in};
-ghost use Rattle.bw_session.specs.Tables.{session_in};
+ghost use Rattle.bw_session.specs.Listing.{KnowsTaken, ListsNames};
 
 use crate::server::Server;
 use bw_journal::Journal;
@@ -16,13 +15,15 @@ use std::alloc::{AllocError, Global};
 
 impl<S: TakeStore, J: Journal> Server<S, J> {
     ghost use Rattle.bw_session.specs.Books.{HoldsBook};
+    ghost use Rattle.bw_session.specs.SeenServers.{session_kept, format_kept, taken_kept};
+    ghost use Rattle.bw_session.specs.SeenServers.{known_kept};
 
     /// The format of a name's take; None if it has none, and for an unknown name.
     ///
     /// # Not specified
     /// How it follows from the messages, after a turn over a store that isn't honest.
     pub fn format(&self, name: &Name) -> Option<Fmt>
-        ensures kept { result ≡ format_in self.now.sessions name.now }
+        ensures kept { result ≡ format_kept self.now name.now }
         ensures value { (first : List ℕ → Option (List ℕ)) (book : Book) →
             HoldsBook S.TakeStore J.Journal first self.now book →
             result ≡ (made (is_some (first name.now)) (log_of book name.now).admitted
@@ -40,7 +41,7 @@ impl<S: TakeStore, J: Journal> Server<S, J> {
     /// - After a turn over a store that isn't honest: how it follows from the messages.
     /// - Before the first verdict NameTaken: whether the file is found yet.
     pub fn is_taken(&self, name: &Name) -> bool
-        ensures kept { result ≡ is_taken_in self.now.sessions name.now }
+        ensures kept { result ≡ taken_kept self.now name.now }
         ensures value { (first : List ℕ → Option (List ℕ)) (book : Book) →
             HoldsBook S.TakeStore J.Journal first self.now book →
             KnowsTaken (is_some (first name.now)) (log_of book name.now) result }
@@ -56,10 +57,9 @@ impl<S: TakeStore, J: Journal> Server<S, J> {
     /// # Not specified
     /// How it follows from the messages, after a turn over a store that isn't honest.
     pub fn is_known(&self, name: &Name) -> bool
-        ensures kept { result ≡ is_some (session_in self.now.sessions name.now) }
+        ensures kept { result ≡ is_some (session_kept self.now name.now) }
         ensures value { (first : List ℕ → Option (List ℕ)) (book : Book) →
-            HoldsBook S.TakeStore J.Journal first self.now book →
-            result ≡ is_known book name.now }
+            HoldsBook S.TakeStore J.Journal first self.now book → result ≡ is_known book name.now }
     {
         self.sessions.contains_key(name)
     }
@@ -73,8 +73,7 @@ impl<S: TakeStore, J: Journal> Server<S, J> {
     /// - When memory is refused.
     /// - How they follow from the messages, after a turn over a store that isn't honest.
     pub fn known_names(&self, alloc: Global) -> Result<Vec<Name>, AllocError>
-        ensures kept { IfOk result (λ names.
-            ListsNames (is_known_in self.now.sessions) names.items) }
+        ensures kept { IfOk result (λ names. ListsNames (known_kept self.now) names.items) }
         ensures value { IfOk result (λ names. (first : List ℕ → Option (List ℕ)) (book : Book) →
             HoldsBook S.TakeStore J.Journal first self.now book →
             ListsNames (is_known book) names.items) }

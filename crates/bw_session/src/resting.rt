@@ -1,12 +1,13 @@
 //! Names that rest: nothing is kept of them but their journals.
-ghost use Rattle.std.specs.Prelude.{◌≡◌, ◌<◌, ◌+◌, ◌&&◌, ◌==◌, ℕ, List, Option, IfOk, OnOk, OnErr, Ok};
+ghost use Rattle.std.specs.Prelude.{◌≡◌, ◌<◌, ◌+◌, ◌&&◌, ◌==◌, ℕ, List, Option, IfOk, OnOk, OnErr};
+ghost use Rattle.std.specs.Prelude.{Ok};
 ghost use Rattle.std.specs.Prelude.{false, is_some};
 ghost use Rattle.std.specs.HashMap.{hash_map_len, spare};
 ghost use Rattle.bw_model.specs.Counts.{Counts};
 ghost use Rattle.bw_model.specs.Book.{Book, log_of, is_known, made};
 ghost use Rattle.bw_model.specs.Turn.{most_takes};
 ghost use Rattle.bw_session.specs.RestFaults.{is_rest_failed};
-ghost use Rattle.bw_session.specs.RestingNames.{is_restable, is_restable_in};
+ghost use Rattle.bw_session.specs.RestingNames.{is_restable};
 ghost use Rattle.bw_session.specs.Tables.{session_in};
 
 use crate::server::{NAMES, Server};
@@ -36,13 +37,14 @@ impl Session {
 
 impl<S: TakeStore, J: Journal> Server<S, J> {
     ghost use Rattle.bw_session.specs.Books.{HoldsBook, count_waiting, SameStores};
+    ghost use Rattle.bw_session.specs.RestingNames.{restable_kept};
 
     /// Whether a name may rest: its take is closed, and nothing waits. False for an unknown name.
     ///
     /// # Not specified
     /// How it follows from the messages, after a turn over a store that isn't honest.
     pub fn may_rest(&self, name: &Name) -> bool
-        ensures kept { result ≡ is_restable_in self.now.sessions name.now }
+        ensures kept { result ≡ restable_kept self.now name.now }
         ensures value { (first : List ℕ → Option (List ℕ)) (book : Book) →
             HoldsBook S.TakeStore J.Journal first self.now book →
             result ≡ (is_known book name.now && (made (is_some (first name.now))
@@ -74,6 +76,8 @@ impl<S: TakeStore, J: Journal> Server<S, J> {
 
 impl<S: TakeStore, J: RestingJournal> Server<S, J> {
     ghost use Rattle.bw_session.specs.RestingNames.{KeepsNames, RestsNameIf};
+    ghost use Rattle.bw_session.specs.SeenServers.{server_store, server_journal, server_limit};
+    ghost use Rattle.bw_session.specs.RestingNames.{restable_kept};
 
     /// Puts a name to rest: nothing is kept of it any more but its journal, which rests, and its
     /// file. It returns false, and nothing changes, if the name may not rest, or its journal can't.
@@ -84,12 +88,12 @@ impl<S: TakeStore, J: RestingJournal> Server<S, J> {
     /// # Not specified
     /// When memory is refused.
     pub fn rest(&mut self, name: &Name) -> Result<bool, RestFault>
-        ensures store { self.new.stores.store ≡ self.old.stores.store }
-        ensures limit { self.new.limit ≡ self.old.limit }
-        ensures failures { Counts (J.failures self.old.stores.journal)
-            (J.failures self.new.stores.journal) (is_rest_failed result) }
-        ensures honest { J.honest self.new.stores.journal ≡ J.honest self.old.stores.journal }
-        ensures unready { is_restable_in self.old.sessions name.now ≡ false →
+        ensures store { server_store self.new ≡ server_store self.old }
+        ensures limit { server_limit self.new ≡ server_limit self.old }
+        ensures failures { Counts (J.failures (server_journal self.old))
+            (J.failures (server_journal self.new)) (is_rest_failed result) }
+        ensures honest { J.honest (server_journal self.new) ≡ J.honest (server_journal self.old) }
+        ensures unready { restable_kept self.old name.now ≡ false →
             (result ≡ Ok false) × (self.new ≡ self.old) }
         ensures rested { IfOk result (λ rested.
             RestsNameIf S.TakeStore J.Journal rested name.now self.old self.new) }

@@ -26,6 +26,7 @@ use std::collections::HashMap;
 
 impl<S: TakeStore, J: Journal> Server<S, J> {
     ghost use Rattle.bw_session.specs.Books.{HoldsBook, NotesBook};
+    ghost use Rattle.bw_session.specs.SeenServers.{server_store, server_journal, server_limit};
 
     /// Creates a server that holds what journals and files say of the done numbers of each name.
     ///
@@ -45,9 +46,9 @@ impl<S: TakeStore, J: Journal> Server<S, J> {
         kept: Vec<KeptTake>,
     ) -> Result<Server<S, J>, (AllocError, S, J)>
         requires few { length kept.items ≤ most_takes }
-        ensures store { IfOk result (λ s. s.stores.store ≡ store) }
-        ensures journal { IfOk result (λ s. s.stores.journal ≡ journal) }
-        ensures limit { IfOk result (λ s. s.limit ≡ limit) }
+        ensures store { IfOk result (λ s. server_store s ≡ store) }
+        ensures journal { IfOk result (λ s. server_journal s ≡ journal) }
+        ensures limit { IfOk result (λ s. server_limit s ≡ limit) }
         ensures book { IfOk result (λ s. (first : List ℕ → Option (List ℕ)) (book : Book) →
             RecoversBook limit (J.header journal) first (S.contents store) kept.items book →
             HoldsBook S.TakeStore J.Journal first s (cut_book book)) }

@@ -1,6 +1,7 @@
 //! A server: what it keeps of each name, over a store and its journal.
 ghost use Rattle.std.specs.Prelude.{◌≡◌, ◌<◌, ◌≤◌, ◌+◌, ◌*◌, ◌&&◌, ◌||◌, ℕ, List, [], Option, None};
-ghost use Rattle.std.specs.Prelude.{IsTrue, IfOk, OnOk, IfErr, OnErr, IfSome, IsSome, is_some, nat_le};
+ghost use Rattle.std.specs.Prelude.{IsTrue, IfOk, OnOk, IfErr, OnErr, IfSome, IsSome, is_some};
+ghost use Rattle.std.specs.Prelude.{nat_le};
 ghost use Rattle.bw_journal.specs.JournalHeaders.{header_bytes};
 ghost use Rattle.bw_journal.specs.Notes.{IsPrefixOf};
 ghost use Rattle.std.specs.Prelude.{false, length, map, vec_capacity};
@@ -18,7 +19,7 @@ ghost use Rattle.bw_journal.specs.Entries.{longest_entry};
 ghost use Rattle.bw_wire.specs.Frames.{message_of};
 ghost use Rattle.bw_wire.specs.Replies.{reply_of, HasWireNumbers};
 ghost use Rattle.bw_session.specs.Serving.{UsesBoth};
-ghost use Rattle.bw_session.specs.Servers.{done_in, kept_in};
+ghost use Rattle.bw_session.specs.Servers.{done_in};
 ghost use Rattle.bw_session.specs.Tables.{IsTable, session_in};
 ghost use Rattle.bw_session.specs.Reporting.{IsServing};
 
@@ -48,6 +49,7 @@ pub struct Server<S: TakeStore, J: Journal = NoJournal> {
 
 impl<S: TakeStore> Server<S> {
     ghost use Rattle.bw_session.specs.Books.{HoldsBook};
+    ghost use Rattle.bw_session.specs.SeenServers.{server_store, server_limit};
 
     /// Creates a server that knows no name, over a store alone.
     ///
@@ -57,8 +59,8 @@ impl<S: TakeStore> Server<S> {
     /// # Not specified
     /// When memory is refused.
     pub fn new(alloc: Global, store: S, limit: Limit) -> Result<Server<S>, (AllocError, S)>
-        ensures store { IfOk result (λ s. s.stores.store ≡ store) }
-        ensures limit { IfOk result (λ s. s.limit ≡ limit) }
+        ensures store { IfOk result (λ s. server_store s ≡ store) }
+        ensures limit { IfOk result (λ s. server_limit s ≡ limit) }
         ensures book { IfOk result (λ s.
             HoldsBook S.TakeStore ⟦<NoJournal as Journal>⟧ (S.contents store) s []) }
         ensures back { IfErr result (λ e. e.1 ≡ store) }
@@ -71,9 +73,13 @@ impl<S: TakeStore> Server<S> {
 }
 
 impl<S: TakeStore, J: Journal> Server<S, J> {
-    ghost use Rattle.bw_session.specs.Books.{HoldsBook, NotesBook, TurnsBooks, NotesBooks, KeepsBooks};
-    ghost use Rattle.bw_session.specs.Books.{LeavesServer, UsesInTurn, AsksTurn, SameStores, Turned};
+    ghost use Rattle.bw_session.specs.Books.{HoldsBook, NotesBook, TurnsBooks, NotesBooks};
+    ghost use Rattle.bw_session.specs.Books.{KeepsBooks};
+    ghost use Rattle.bw_session.specs.Books.{LeavesServer, UsesInTurn, AsksTurn, SameStores};
+    ghost use Rattle.bw_session.specs.Books.{Turned};
     ghost use Rattle.bw_session.specs.Books.{OrdersBooks, of_known, count_waiting};
+    ghost use Rattle.bw_session.specs.SeenServers.{server_store, server_journal, server_limit};
+    ghost use Rattle.bw_session.specs.SeenServers.{session_kept, kept_now};
 
     /// Creates a server that knows no name, over a store and a journal.
     ///
@@ -91,11 +97,10 @@ impl<S: TakeStore, J: Journal> Server<S, J> {
         journal: J,
         limit: Limit,
     ) -> Result<Server<S, J>, (AllocError, S, J)>
-        ensures store { IfOk result (λ s. s.stores.store ≡ store) }
-        ensures journal { IfOk result (λ s. s.stores.journal ≡ journal) }
-        ensures limit { IfOk result (λ s. s.limit ≡ limit) }
-        ensures book { IfOk result (λ s.
-            HoldsBook S.TakeStore J.Journal (S.contents store) s []) }
+        ensures store { IfOk result (λ s. server_store s ≡ store) }
+        ensures journal { IfOk result (λ s. server_journal s ≡ journal) }
+        ensures limit { IfOk result (λ s. server_limit s ≡ limit) }
+        ensures book { IfOk result (λ s. HoldsBook S.TakeStore J.Journal (S.contents store) s []) }
         ensures notes { IfOk result (λ s. ((name : List ℕ) →
             IsPrefixOf (header_bytes name (J.header journal name)) (J.notes journal name)) →
             ((name : List ℕ) → (J.header journal name).existed ≡ is_some (S.contents store name)) →
@@ -142,16 +147,16 @@ impl<S: TakeStore, J: Journal> Server<S, J> {
         ensures few { length out.new.items ≤ 17 }
         ensures numbers { All HasWireNumbers out.new.items }
         ensures uncalled { IsTrue (is_turned_away (map reply_of out.new.items)) →
-            (self.new.stores.store ≡ self.old.stores.store)
-            × (self.new.stores.journal ≡ self.old.stores.journal)
-            × ((name : List ℕ) → kept_in self.new.sessions name ≡ kept_in self.old.sessions name) }
-        ensures unmet { session_in self.new.sessions (message_of message.now).name ≡ None →
-            (self.new.sessions ≡ self.old.sessions)
+            (server_store self.new ≡ server_store self.old)
+            × (server_journal self.new ≡ server_journal self.old)
+            × ((name : List ℕ) → kept_now self.new name ≡ kept_now self.old name) }
+        ensures unmet { session_kept self.new (message_of message.now).name ≡ None →
+            ((other : List ℕ) → session_kept self.new other ≡ session_kept self.old other)
             × SameStores S.TakeStore J.Journal self.old self.new }
         ensures both { UsesInTurn S.TakeStore J.Journal self.old self.new (message_of message.now)
             out.new.items }
         ensures asked { AsksTurn S.TakeStore J.Journal self.old self.new (message_of message.now) }
-        ensures limit { self.new.limit ≡ self.old.limit }
+        ensures limit { server_limit self.new ≡ server_limit self.old }
         ensures turned { TurnsBooks S.TakeStore J.Journal self.old self.new (message_of message.now)
             out.new.items }
         ensures noted { NotesBooks S.TakeStore J.Journal self.old self.new (message_of message.now)
@@ -178,7 +183,8 @@ impl<S: TakeStore, J: Journal> Server<S, J> {
             × (self.new.stores.journal ≡ self.old.stores.journal)
             × (self.new.sessions ≡ self.old.sessions) }
         ensures unmet { session_in self.new.sessions (message_of message.now).name ≡ None →
-            (self.new.sessions ≡ self.old.sessions)
+            ((other : List ℕ) → session_in self.new.sessions other
+            ≡ session_in self.old.sessions other)
             × SameStores S.TakeStore J.Journal self.old self.new }
         ensures both { UsesInTurn S.TakeStore J.Journal self.old self.new (message_of message.now)
             out.new.items }
@@ -372,14 +378,14 @@ impl<S: TakeStore, J: Journal> Server<S, J> {
 
     /// The store.
     pub fn store(&self) -> &S
-        ensures { result.now ≡ self.now.stores.store }
+        ensures { result.now ≡ server_store self.now }
     {
         &self.stores.store
     }
 
     /// Consumes the server and returns its store.
     pub fn into_store(self) -> S
-        ensures { result ≡ self.stores.store }
+        ensures { result ≡ server_store self }
     {
         let Server { stores, .. } = self;
         let Stores { store, .. } = stores;

@@ -7,17 +7,19 @@ use bw_journal::Journal;
 use bw_store::TakeStore;
 
 impl<S: TakeStore, J: Journal> Server<S, J> {
+    ghost use Rattle.bw_session.specs.SeenServers.{server_store, server_journal};
+
     /// The journal.
     pub fn journal(&self) -> &J
-        ensures { result.now ≡ self.now.stores.journal }
+        ensures { result.now ≡ server_journal self.now }
     {
         &self.stores.journal
     }
 
     /// Consumes the server and returns its store and its journal: what the next server starts from.
     pub fn into_stores(self) -> (S, J)
-        ensures store { result.0 ≡ self.stores.store }
-        ensures journal { result.1 ≡ self.stores.journal }
+        ensures store { result.0 ≡ server_store self }
+        ensures journal { result.1 ≡ server_journal self }
     {
         let Server { stores, .. } = self;
         let Stores { store, journal, .. } = stores;

@@ -1,7 +1,6 @@
 //! Names that wake: what is kept of them is made anew from their journals.
 ghost use Rattle.std.specs.Prelude.{◌≡◌, ◌<◌, List, Option, Some, None, ℕ, false};
 ghost use Rattle.std.specs.Prelude.{IsTrue, IsSome, IfOk, OnErr, Ok, is_err, is_some, length};
-ghost use Rattle.std.specs.HashMap.{hash_map_len};
 ghost use Rattle.bw_model.specs.Counts.{Counts};
 ghost use Rattle.bw_model.specs.Book.{Log};
 ghost use Rattle.bw_model.specs.Turn.{most_takes};
@@ -9,7 +8,6 @@ ghost use Rattle.bw_journal.specs.Faults.{fault_meaning};
 ghost use Rattle.bw_journal.specs.Replays.{replay as replay_of};
 ghost use Rattle.bw_journal.specs.Stories.{story_of};
 ghost use Rattle.bw_session.specs.RestingNames.{IsAtRest, IsMadeFrom};
-ghost use Rattle.bw_session.specs.Tables.{session_in};
 ghost use Rattle.bw_session.specs.RestFaults.{is_wake_failed, is_unfit, is_fit_to_wake};
 ghost use Rattle.bw_session.specs.RestFaults.{is_replayed_whole, may_wake};
 
@@ -40,6 +38,8 @@ pub enum WakeFault {
 
 impl<S: TakeStore, J: RestingJournal> Server<S, J> {
     ghost use Rattle.bw_session.specs.RestingNames.{KeepsNames, WakesNameIf};
+    ghost use Rattle.bw_session.specs.SeenServers.{server_store, server_journal, server_limit};
+    ghost use Rattle.bw_session.specs.SeenServers.{session_kept, names_kept};
 
     /// Whether a name rests. Nothing changes.
     ///
@@ -49,13 +49,13 @@ impl<S: TakeStore, J: RestingJournal> Server<S, J> {
     /// # Not specified
     /// When memory is refused.
     pub fn rests(&mut self, name: &Name) -> Result<bool, StoreFault>
-        ensures store { self.new.stores.store ≡ self.old.stores.store }
-        ensures limit { self.new.limit ≡ self.old.limit }
-        ensures failures { Counts (J.failures self.old.stores.journal)
-            (J.failures self.new.stores.journal) (is_err result) }
-        ensures honest { J.honest self.new.stores.journal ≡ J.honest self.old.stores.journal }
-        ensures value { IsTrue (J.honest self.old.stores.journal) → IfOk result (λ rests.
-            rests ≡ is_some (J.resting self.old.stores.journal name.now)) }
+        ensures store { server_store self.new ≡ server_store self.old }
+        ensures limit { server_limit self.new ≡ server_limit self.old }
+        ensures failures { Counts (J.failures (server_journal self.old))
+            (J.failures (server_journal self.new)) (is_err result) }
+        ensures honest { J.honest (server_journal self.new) ≡ J.honest (server_journal self.old) }
+        ensures value { IsTrue (J.honest (server_journal self.old)) → IfOk result (λ rests.
+            rests ≡ is_some (J.resting (server_journal self.old) name.now)) }
         ensures kept { KeepsNames S.TakeStore J.Journal self.old self.new }
     {
         let found = self.stores.journal.read_resting(name)?;
@@ -72,18 +72,19 @@ impl<S: TakeStore, J: RestingJournal> Server<S, J> {
     /// # Not specified
     /// When memory is refused.
     pub fn wake(&mut self, name: &Name) -> Result<bool, WakeFault>
-        requires fresh { session_in self.old.sessions name.now ≡ None }
-        requires place { hash_map_len self.old.sessions < most_takes }
-        ensures store { self.new.stores.store ≡ self.old.stores.store }
-        ensures limit { self.new.limit ≡ self.old.limit }
-        ensures failures { Counts (J.failures self.old.stores.journal)
-            (J.failures self.new.stores.journal) (is_wake_failed result) }
-        ensures honest { J.honest self.new.stores.journal ≡ J.honest self.old.stores.journal }
+        requires fresh { session_kept self.old name.now ≡ None }
+        requires place { names_kept self.old < most_takes }
+        ensures store { server_store self.new ≡ server_store self.old }
+        ensures limit { server_limit self.new ≡ server_limit self.old }
+        ensures failures { Counts (J.failures (server_journal self.old))
+            (J.failures (server_journal self.new)) (is_wake_failed result) }
+        ensures honest { J.honest (server_journal self.new) ≡ J.honest (server_journal self.old) }
         ensures woken { IfOk result (λ woken.
             WakesNameIf S.TakeStore J.Journal woken name.now self.old self.new) }
         ensures failed { OnErr result (KeepsNames S.TakeStore J.Journal self.old self.new) }
-        ensures unfit { IsTrue (J.honest self.old.stores.journal) → IsTrue (is_unfit result) →
-            may_wake self.old.limit name.now (J.resting self.old.stores.journal name.now) ≡ false }
+        ensures unfit { IsTrue (J.honest (server_journal self.old)) → IsTrue (is_unfit result) →
+            may_wake (server_limit self.old) name.now (J.resting (server_journal self.old) name.now)
+            ≡ false }
     {
         let alloc = self.stores.alloc;
         // Its clause says that no name is in the table twice.

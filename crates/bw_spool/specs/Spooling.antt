@@ -9,6 +9,10 @@ use Rattle.bw_spool.specs.declared.spool.Spool.{Spool}
 use Rattle.bw_spool.specs.declared.spool.SpoolState.{SpoolState}
 use Rattle.bw_spool.specs.declared.spool.SpoolState.TheVariants as states
 
+-- whether more comes into a spool
+abbrev pub spool_state : {L W : Type 0} → Spool L W → SpoolState
+spool_state s = s.state
+
 -- of the bytes that came, these are kept: all of them, unless something failed
 abbrev pub AreKept : SpoolState → List ℕ → List ℕ → Type 0
 AreKept states.Open kept came = kept ≡ came

@@ -45,6 +45,8 @@ pub struct Spool<L, W> {
 }
 
 impl<L: Link + Drop, W: Sink + Drop> Spool<L, W> {
+    ghost use Rattle.bw_spool.specs.Spooling.{spool_state};
+
     /// A spool that appends to this file what comes over this link from now on.
     ///
     /// # Errors
@@ -52,7 +54,7 @@ impl<L: Link + Drop, W: Sink + Drop> Spool<L, W> {
     pub fn new(alloc: Global, input: L, file: W) -> Result<Spool<L, W>, AllocError>
         ensures spooled { IfOk result (λ spool. (base : List ℕ) → L.given input [] →
             W.written file ≡ Some base → IsSpooled L.Link W.Sink base spool) }
-        ensures open { IfOk result (λ spool. spool.state ≡ SpoolState.Open) }
+        ensures open { IfOk result (λ spool. spool_state spool ≡ SpoolState.Open) }
     {
         let piece = vec![in alloc; 0; PIECE]?;
         Ok(Spool {
@@ -65,7 +67,7 @@ impl<L: Link + Drop, W: Sink + Drop> Spool<L, W> {
 
     /// Whether more comes.
     pub fn state(&self) -> SpoolState
-        ensures { result ≡ self.now.state }
+        ensures { result ≡ spool_state self.now }
     {
         self.state
     }

@@ -1,6 +1,6 @@
 -- What a server is given that starts over a folder, and what an earlier one left there.
 use Rattle.std.specs.Prelude.{◌≡◌, ◌&&◌, ℕ, Bool, not, Option, is_some}
-use Rattle.std.specs.Prelude.{List, [], ◌∷◌, ◌++◌, length, nat_lt, string_bytes, if◌then◌else◌}
+use Rattle.std.specs.Prelude.{List, [], ◌∷◌, ◌++◌, length, nat_lt, if◌then◌else◌}
 use Rattle.bw_model.specs.Take.{Parts}
 use Rattle.bw_model.specs.Book.{Book}
 use Rattle.bw_journal.specs.Replays.{Story}
@@ -11,7 +11,10 @@ use Rattle.bw_disk.specs.declared.disk.Disk.{Ghosts as DiskGhosts}
 use Rattle.bw_store.specs.declared.store.TakeStore.{Ghosts as StoreGhosts}
 use Rattle.bw_journal.specs.declared.journal.Journal.{Ghosts as JournalGhosts}
 use Rattle.bw_session.specs.declared.server.Server.{Server}
+use Rattle.bw_session.specs.SeenServers.{server_store, server_journal, server_limit}
 use Rattle.bw_folder.specs.declared.folder.FolderStore.{FolderStore}
+use Rattle.bw_folder.specs.TakeFolders.{takes_folder}
+use Rattle.bw_folder.specs.JournalFolders.{journals_folder, journals_limit, journals_sync}
 use Rattle.bw_start.specs.Paths.{wave_path, notes_path}
 use Rattle.bw_start.specs.LeftNames.{IsLeft}
 use Rattle.bw_start.specs.declared.finding.Finding.{Finding}
@@ -62,9 +65,9 @@ begun_names (it ∷ rest) = begun_name it.name it.finding ++ begun_names rest
 
 -- the journal is of the same folder and limit, and as careful
 pub record StaysSet {D F : Type 0} {G : DiskGhosts D F} (old new : FolderJournal D F G) : Type 0 where
-  pub folder : new.folder ≡ old.folder
-  pub limit : new.limit ≡ old.limit
-  pub sync : new.sync ≡ old.sync
+  pub folder : journals_folder new ≡ journals_folder old
+  pub limit : journals_limit new ≡ journals_limit old
+  pub sync : journals_sync new ≡ journals_sync old
 
 -- An earlier server left this in a folder, which the two disks show alike: whether something is at
 -- the path of a take.
@@ -86,8 +89,8 @@ OfEachBookLeft limit folder notes takes Holds = (first : List ℕ → Option (Li
 pub record IsSetTo {D E F H : Type 0} {G : DiskGhosts D F} {K : DiskGhosts E H}
     {S : StoreGhosts (FolderStore D F G)} {J : JournalGhosts (FolderJournal E H K)} (limit : ℕ) (folder : List ℕ) (sync : Bool)
     (s : Server (FolderStore D F G) (FolderJournal E H K) S J) : Type 0 where
-  pub limit_is : s.limit ≡ limit
-  pub store : string_bytes s.stores.store.folder ≡ folder
-  pub journal : string_bytes s.stores.journal.folder ≡ folder
-  pub journal_limit : s.stores.journal.limit ≡ limit
-  pub journal_sync : s.stores.journal.sync ≡ sync
+  pub limit_is : server_limit s ≡ limit
+  pub store : takes_folder (server_store s) ≡ folder
+  pub journal : journals_folder (server_journal s) ≡ folder
+  pub journal_limit : journals_limit (server_journal s) ≡ limit
+  pub journal_sync : journals_sync (server_journal s) ≡ sync

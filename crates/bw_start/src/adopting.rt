@@ -1,11 +1,13 @@
 //! Taking over the journals and files of restored names, for a server that resumes.
 ghost use Rattle.std.specs.Prelude.{◌≡◌, IfOk, IfErr, OnOk, ◌++◌, ◌∷◌, [], ◌&&◌, not, map, is_some};
-ghost use Rattle.bw_folder.specs.Journals.{existences};
 ghost use Rattle.bw_disk.specs.DiskSteps.{StaysWhole};
 ghost use Rattle.bw_start.specs.Restored.{IsPlainFault};
-ghost use Rattle.bw_start.specs.Started.{kept_fact, kept_name, kept_facts, begun_name, begun_names, makes_file};
+ghost use Rattle.bw_start.specs.Started.{kept_fact, kept_name, kept_facts, begun_name, begun_names};
+ghost use Rattle.bw_start.specs.Started.{makes_file};
 ghost use Rattle.bw_start.specs.Started.{StaysSet, kept_if};
 ghost use Rattle.bw_journal.specs.Stories.{story_of};
+ghost use Rattle.bw_folder.specs.TakeFolders.{takes_disk, takes_folder};
+ghost use Rattle.bw_folder.specs.JournalFolders.{journals_disk, open_journals};
 
 use crate::finding::Finding;
 use crate::listing::FoundName;
@@ -30,12 +32,12 @@ pub(crate) fn adopt_each<D: Volume, E: Volume>(
     journal: &mut FolderJournal<E>,
     found: Vec<FoundName>,
 ) -> Result<Vec<KeptTake>, StartFault>
-    ensures store { StaysWhole D.Disk store.old.disk store.new.disk }
-    ensures folder { store.new.folder ≡ store.old.folder }
-    ensures journal { StaysWhole E.Disk journal.old.disk journal.new.disk }
+    ensures store { StaysWhole D.Disk (takes_disk store.old) (takes_disk store.new) }
+    ensures folder { takes_folder store.new ≡ takes_folder store.old }
+    ensures journal { StaysWhole E.Disk (journals_disk journal.old) (journals_disk journal.new) }
     ensures settings { StaysSet journal.old journal.new }
-    ensures known { IfOk result (λ _. existences journal.new.journals.items
-        ≡ existences journal.old.journals.items ++ begun_names found.items) }
+    ensures known { IfOk result (λ _. open_journals journal.new
+        ≡ open_journals journal.old ++ begun_names found.items) }
     ensures kept { IfOk result (λ kept. map kept_fact kept.items ≡ kept_facts found.items) }
     ensures err { IfErr result IsPlainFault }
 {
@@ -55,12 +57,12 @@ fn adopt_next<D: Volume, E: Volume>(
     it: FoundName,
     kept: &mut Vec<KeptTake>,
 ) -> Result<(), StartFault>
-    ensures store { StaysWhole D.Disk store.old.disk store.new.disk }
-    ensures folder { store.new.folder ≡ store.old.folder }
-    ensures journal { StaysWhole E.Disk journal.old.disk journal.new.disk }
+    ensures store { StaysWhole D.Disk (takes_disk store.old) (takes_disk store.new) }
+    ensures folder { takes_folder store.new ≡ takes_folder store.old }
+    ensures journal { StaysWhole E.Disk (journals_disk journal.old) (journals_disk journal.new) }
     ensures settings { StaysSet journal.old journal.new }
-    ensures known { OnOk result (existences journal.new.journals.items
-        ≡ existences journal.old.journals.items ++ begun_name it.name it.finding) }
+    ensures known { OnOk result (open_journals journal.new
+        ≡ open_journals journal.old ++ begun_name it.name it.finding) }
     ensures kept { OnOk result (map kept_fact kept.new.items
         ≡ map kept_fact kept.old.items ++ kept_name it.name it.finding) }
     ensures err { IfErr result IsPlainFault }
@@ -81,12 +83,12 @@ fn adopt_begun<D: Volume, E: Volume>(
     replayed: Replayed,
     kept: &mut Vec<KeptTake>,
 ) -> Result<(), StartFault>
-    ensures store { StaysWhole D.Disk store.old.disk store.new.disk }
-    ensures folder { store.new.folder ≡ store.old.folder }
-    ensures journal { StaysWhole E.Disk journal.old.disk journal.new.disk }
+    ensures store { StaysWhole D.Disk (takes_disk store.old) (takes_disk store.new) }
+    ensures folder { takes_folder store.new ≡ takes_folder store.old }
+    ensures journal { StaysWhole E.Disk (journals_disk journal.old) (journals_disk journal.new) }
     ensures settings { StaysSet journal.old journal.new }
-    ensures known { OnOk result (existences journal.new.journals.items
-        ≡ existences journal.old.journals.items ++ (name, replayed.state.parts.taken) ∷ []) }
+    ensures known { OnOk result (open_journals journal.new
+        ≡ open_journals journal.old ++ (name, replayed.state.parts.taken) ∷ []) }
     ensures kept { OnOk result (map kept_fact kept.new.items
         ≡ map kept_fact kept.old.items ++ kept_if name (story_of replayed)) }
     ensures err { IfErr result IsPlainFault }
@@ -105,10 +107,10 @@ fn open_journal<E: Volume>(
     name: &Name,
     existed: bool,
 ) -> Result<(), StartFault>
-    ensures journal { StaysWhole E.Disk journal.old.disk journal.new.disk }
+    ensures journal { StaysWhole E.Disk (journals_disk journal.old) (journals_disk journal.new) }
     ensures settings { StaysSet journal.old journal.new }
-    ensures known { OnOk result (existences journal.new.journals.items
-        ≡ existences journal.old.journals.items ++ (name.now, existed) ∷ []) }
+    ensures known { OnOk result (open_journals journal.new
+        ≡ open_journals journal.old ++ (name.now, existed) ∷ []) }
     ensures err { IfErr result IsPlainFault }
 {
     match journal.adopt(name, existed) {
@@ -120,8 +122,8 @@ fn open_journal<E: Volume>(
 
 /// Opens the file of a take, which is there.
 fn open_take<D: Volume>(store: &mut FolderStore<D>, name: &Name) -> Result<(), StartFault>
-    ensures store { StaysWhole D.Disk store.old.disk store.new.disk }
-    ensures folder { store.new.folder ≡ store.old.folder }
+    ensures store { StaysWhole D.Disk (takes_disk store.old) (takes_disk store.new) }
+    ensures folder { takes_folder store.new ≡ takes_folder store.old }
     ensures err { IfErr result IsPlainFault }
 {
     match store.adopt(name) {

@@ -1,5 +1,6 @@
 //! A server over what an earlier one left in a folder.
-ghost use Rattle.std.specs.Prelude.{◌≡◌, IsTrue, IfOk, IfErr, List, ℕ, Option, ◌≤◌, ◌<◌, ◌^◌, string_bytes};
+ghost use Rattle.std.specs.Prelude.{◌≡◌, IsTrue, IfOk, IfErr, List, ℕ, Option, ◌≤◌, ◌<◌, ◌^◌};
+ghost use Rattle.std.specs.Prelude.{string_bytes};
 ghost use Rattle.bw_model.specs.Book.{Book};
 ghost use Rattle.bw_journal.specs.Stops.{cut_book};
 ghost use Rattle.bw_disk.specs.DiskSteps.{StaysWhole};
@@ -8,6 +9,9 @@ ghost use Rattle.bw_start.specs.Restored.{IsUnchanged, RefusesFolder, KeepsTheRe
 ghost use Rattle.bw_start.specs.Restored.{HasFewDone, IsSoundFolder, ResumesFolder, count_done};
 ghost use Rattle.bw_model.specs.Turn.{most_takes};
 ghost use Rattle.bw_start.specs.Started.{IsLeftIn, IsSetTo, OfEachBookLeft};
+ghost use Rattle.bw_folder.specs.TakeFolders.{takes_disk};
+ghost use Rattle.bw_folder.specs.JournalFolders.{journals_disk};
+ghost use Rattle.bw_session.specs.SeenServers.{server_store, server_journal};
 
 use crate::adopting::adopt_each;
 use crate::listing::FoundName;
@@ -61,9 +65,11 @@ pub fn start<D: Volume, E: Volume, W: StartWatch>(
         (λ e. IsUnchanged (StaysWhole D.Disk takes e.1 × StaysWhole E.Disk notes e.2) e.0) }
     ensures untouched { IsTrue (D.honest takes) → IsTrue (E.honest notes) → IfOk result
         (λ s. KeepsTheRest limit folder.now (E.contents notes) (D.contents takes)
-        (E.contents s.stores.journal.disk) (D.contents s.stores.store.disk)) }
+        (E.contents (journals_disk (server_journal s)))
+        (D.contents (takes_disk (server_store s)))) }
     ensures untouched_back { IsTrue (D.honest takes) → IsTrue (E.honest notes) → IfErr result
-        (λ e. KeepsTheRest limit folder.now (E.contents notes) (D.contents takes) (E.contents e.2) (D.contents e.1)) }
+        (λ e. KeepsTheRest limit folder.now (E.contents notes) (D.contents takes) (E.contents e.2)
+        (D.contents e.1)) }
 {
     let mut takes = takes;
     let mut notes = notes;
@@ -85,15 +91,16 @@ fn resume_over<D: Volume, E: Volume>(
 ) -> Result<Server<FolderStore<D>, FolderJournal<E>>, (StartFault, D, E)>
     requires few { count_done found.items ≤ most_takes }
     requires range { limit < 2 ^ 32 }
-    ensures holds { IsTrue (D.honest takes) → IsTrue (E.honest notes) → IfOk result (λ s. (first : List ℕ → Option (List ℕ)) (book : Book) →
+    ensures holds { IsTrue (D.honest takes) → IsTrue (E.honest notes) →
+        IfOk result (λ s. (first : List ℕ → Option (List ℕ)) (book : Book) →
         (notes_before takes_before : List ℕ → Option (List ℕ)) →
         IsLeftIn limit folder.now first book notes_before takes_before →
         ResumesFolder limit folder.now notes_before takes_before
         (E.contents notes) (D.contents takes) found.items →
         HoldsBook _ _ first s (cut_book book) × NotesBook _ _ first s (cut_book book)) }
     ensures settings { IfOk result (λ s. IsSetTo limit folder.now sync s) }
-    ensures kept { IfOk result (λ s. StaysWhole D.Disk takes s.stores.store.disk
-        × StaysWhole E.Disk notes s.stores.journal.disk) }
+    ensures kept { IfOk result (λ s. StaysWhole D.Disk takes (takes_disk (server_store s))
+        × StaysWhole E.Disk notes (journals_disk (server_journal s))) }
     ensures err { IfErr result (λ e. IsPlainFault e.0) }
     ensures back { IfErr result (λ e. StaysWhole D.Disk takes e.1 × StaysWhole E.Disk notes e.2) }
 {

@@ -9,9 +9,11 @@ use Rattle.bw_model.specs.Book.{Book}
 use Rattle.bw_model.specs.Turn.{Faults}
 use Rattle.bw_model.specs.Exchange.{nothing_stands}
 use Rattle.bw_model.specs.World.{World, comes}
-use Rattle.bw_disk.specs.MemoryDisks.{content_at}
+use Rattle.bw_disk.specs.MemoryVolumes.{disk_content}
 use Rattle.bw_folder.specs.Folders.{take_content}
 use Rattle.bw_folder.specs.Journals.{notes_at}
+use Rattle.bw_folder.specs.TakeFolders.{takes_disk}
+use Rattle.bw_folder.specs.JournalFolders.{journals_disk}
 use Rattle.bw_start.specs.LeftNames.{IsLeft}
 use Rattle.bw_left.specs.StoppedTurns.{RunsHonestly}
 use Rattle.bw_left.specs.StoppedWorlds.{Dies, IsNextStep}
@@ -20,6 +22,7 @@ use Rattle.bw_stops.specs.declared.machine.Life.{Life}
 use Rattle.bw_stops.specs.declared.machine.Folder.{Folder}
 use Rattle.bw_stops.specs.declared.machine.Machine.{Machine}
 use Rattle.bw_stops.specs.declared.machine.Machine.TheVariants as machines
+use Rattle.bw_session.specs.SeenServers.{server_store, server_journal, server_limit}
 
 -- the folder of the takes and their journals
 abbrev pub the_folder : List ℕ
@@ -27,18 +30,18 @@ the_folder = codes "takes"
 
 -- A server runs that holds this book, in an empty folder at first, and neither of its disks has died.
 pub record IsRunning (limit : ℕ) (book : Book) (life : Life) : Type 0 where
-  pub limited : life.server.limit ≡ limit
+  pub limited : server_limit life.server ≡ limit
   pub holds : RunsHonestly _ _ no_contents life.server book
-  pub takes_live : life.server.stores.store.disk.calls
-      ≤ life.server.stores.store.disk.life
-  pub notes_live : life.server.stores.journal.disk.calls
-      ≤ life.server.stores.journal.disk.life
+  pub takes_live : (takes_disk (server_store life.server)).calls
+      ≤ (takes_disk (server_store life.server)).life
+  pub notes_live : (journals_disk (server_journal life.server)).calls
+      ≤ (journals_disk (server_journal life.server)).life
 
 -- what was left is what a start takes over, from this book
 abbrev pub IsLeftAt : ℕ → Book → Folder → Type 0
 IsLeftAt limit book folder =
-    IsLeft limit no_contents book (notes_at (content_at folder.notes.files.items) the_folder)
-    (take_content (content_at folder.takes.files.items) the_folder)
+    IsLeft limit no_contents book (notes_at (disk_content folder.notes) the_folder)
+    (take_content (disk_content folder.takes) the_folder)
 
 -- the server holds this book, or it was left
 abbrev pub IsMachine : ℕ → Book → Machine → Type 0
@@ -52,8 +55,8 @@ runs (machines.Stopped folder) = false
 
 -- what the disk of the takes has at a path
 abbrev pub takes_at : Machine → List ℕ → Option (List ℕ)
-takes_at (machines.Runs life) = content_at life.server.stores.store.disk.inner.files.items
-takes_at (machines.Stopped folder) = content_at folder.takes.files.items
+takes_at (machines.Runs life) = disk_content (takes_disk (server_store life.server)).inner
+takes_at (machines.Stopped folder) = disk_content folder.takes
 
 -- The server went on: this is a turn of the world, whose replies are written.
 pub record KeepsRunning (limit : ℕ) (w : World) (m : Message) (replies : List Reply) (life : Life) : Type 0 where

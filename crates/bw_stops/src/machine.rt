@@ -1,6 +1,6 @@
 //! A machine with a server over a folder in memory: its start, its turns, and what a stop leaves.
-ghost use Rattle.std.specs.Prelude.{◌≡◌, ◌≤◌, ◌<◌, ◌⊎◌, ℕ, [], true, false, IsTrue, IsFalse, IfOk, map, length};
-ghost use Rattle.std.specs.Prelude.{string_bytes};
+ghost use Rattle.std.specs.Prelude.{◌≡◌, ◌≤◌, ◌<◌, ◌⊎◌, ℕ, [], true, false, IsTrue, IsFalse, IfOk};
+ghost use Rattle.std.specs.Prelude.{map, length};
 ghost use Rattle.bw_model.specs.Wire.{Says, Second, is_frame};
 ghost use Rattle.bw_model.specs.Book.{Book};
 ghost use Rattle.bw_model.specs.World.{World};
@@ -8,8 +8,12 @@ ghost use Rattle.bw_journal.specs.Stops.{cut_book};
 ghost use Rattle.bw_wire.specs.Frames.{message_of};
 ghost use Rattle.bw_wire.specs.Replies.{reply_of};
 ghost use Rattle.bw_left.specs.StoppedWorlds.{MayCome};
-ghost use Rattle.bw_stops.specs.Machines.{IsRunning, IsLeftAt, IsMachine, TurnsMachine, the_folder, runs};
+ghost use Rattle.bw_stops.specs.Machines.{IsRunning, IsLeftAt, IsMachine, TurnsMachine, the_folder};
+ghost use Rattle.bw_stops.specs.Machines.{runs};
 ghost use Rattle.bw_stops.specs.Playing.{LeavesBook, StopsIf, StartsIf};
+ghost use Rattle.bw_folder.specs.TakeFolders.{takes_disk, takes_folder};
+ghost use Rattle.bw_folder.specs.JournalFolders.{journals_disk, journals_folder};
+ghost use Rattle.bw_session.specs.SeenServers.{server_store, server_journal};
 
 use crate::event::Lives;
 use crate::rehearsal::StopsFault;
@@ -149,13 +153,14 @@ fn calls_of_start(
 
 /// Whether a disk of a server has died.
 fn has_died(server: &MachineServer) -> bool
-    ensures takes { IsFalse result → server.now.stores.store.disk.calls
-        ≤ server.now.stores.store.disk.life }
-    ensures notes { IsFalse result → server.now.stores.journal.disk.calls
-        ≤ server.now.stores.journal.disk.life }
+    ensures takes { IsFalse result → (takes_disk (server_store server.now)).calls
+        ≤ (takes_disk (server_store server.now)).life }
+    ensures notes { IsFalse result → (journals_disk (server_journal server.now)).calls
+        ≤ (journals_disk (server_journal server.now)).life }
     ensures died { IsTrue result →
-        (server.now.stores.store.disk.life < server.now.stores.store.disk.calls)
-        ⊎ (server.now.stores.journal.disk.life < server.now.stores.journal.disk.calls) }
+        ((takes_disk (server_store server.now)).life < (takes_disk (server_store server.now)).calls)
+        ⊎ ((journals_disk (server_journal server.now)).life
+        < (journals_disk (server_journal server.now)).calls) }
 {
     if server.store().disk().is_dead() {
         return true;
@@ -214,10 +219,12 @@ pub(crate) fn stop(machine: Machine) -> Result<Machine, AllocError>
 /// # Errors
 /// `AllocError` if its folder isn't the one that it started over.
 fn take_apart(server: MachineServer) -> Result<Folder, AllocError>
-    ensures takes { IfOk result (λ folder. folder.takes ≡ server.stores.store.disk.inner) }
-    ensures notes { IfOk result (λ folder. folder.notes ≡ server.stores.journal.disk.inner) }
-    ensures store { IfOk result (λ folder. string_bytes server.stores.store.folder ≡ the_folder) }
-    ensures journal { IfOk result (λ folder. string_bytes server.stores.journal.folder ≡ the_folder) }
+    ensures takes { IfOk result (λ folder. folder.takes
+        ≡ (takes_disk (server_store server)).inner) }
+    ensures notes { IfOk result (λ folder. folder.notes
+        ≡ (journals_disk (server_journal server)).inner) }
+    ensures store { IfOk result (λ folder. takes_folder (server_store server) ≡ the_folder) }
+    ensures journal { IfOk result (λ folder. journals_folder (server_journal server) ≡ the_folder) }
 {
     let (store, journal) = server.into_stores();
     if store.folder() != FOLDER {

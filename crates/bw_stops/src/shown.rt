@@ -1,6 +1,6 @@
 //! What a start is shown of a folder on the disk of the journals.
 ghost use Rattle.std.specs.Prelude.{◌≡◌, ℕ, List, IfOk};
-ghost use Rattle.bw_disk.specs.MemoryDisks.{content_at};
+ghost use Rattle.bw_disk.specs.MemoryVolumes.{disk_content};
 ghost use Rattle.bw_stops.specs.Machines.{shown_at};
 
 use bw_disk::MemoryDisk;
@@ -16,8 +16,8 @@ pub(crate) fn shown_notes(
     notes: &MemoryDisk,
 ) -> Result<MemoryDisk, AllocError>
     ensures { IfOk result (λ shown. (path : List ℕ) →
-        content_at shown.files.items path
-        ≡ shown_at (content_at takes.now.files.items) (content_at notes.now.files.items) path) }
+        disk_content shown path
+        ≡ shown_at (disk_content takes.now) (disk_content notes.now) path) }
 {
     let mut shown = MemoryDisk::new(alloc);
     shown.copy_ending(notes, ".journal")?;
@@ -31,7 +31,7 @@ pub(crate) fn shown_notes(
 /// `AllocError` if memory was refused.
 pub(crate) fn copy_of(alloc: Global, disk: &MemoryDisk) -> Result<MemoryDisk, AllocError>
     ensures { IfOk result (λ copy. (path : List ℕ) →
-        content_at copy.files.items path ≡ content_at disk.now.files.items path) }
+        disk_content copy path ≡ disk_content disk.now path) }
 {
     let mut copy = MemoryDisk::new(alloc);
     copy.copy_ending(disk, "")?;

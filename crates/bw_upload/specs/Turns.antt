@@ -4,7 +4,7 @@ use Rattle.bw_stream.specs.declared.sink.Sink.{Ghosts as Writer}
 use Rattle.bw_stream.specs.declared.source.Source.{Ghosts as Reader}
 use Rattle.bw_sender.specs.Senders.{IsSender}
 use Rattle.bw_sender.specs.declared.sender.Sender.{Sender}
-use Rattle.bw_engine.specs.Talks.{HasHeard}
+use Rattle.bw_engine.specs.Talks.{HasHeard, first_unsaid}
 use Rattle.bw_engine.specs.declared.send_fault.SendFault.{SendFault}
 use Rattle.bw_engine.specs.declared.send_fault.SendFault.TheVariants as faults
 use Rattle.bw_engine.specs.declared.stop.Stop.{Stop}
@@ -21,7 +21,7 @@ use Rattle.bw_upload.specs.declared.observer.LinkEnd.TheVariants as ends
 pub record IsLine {R W : Type 0} (l : Line R W) (talk : Talk) (link : Duplex R W) : Type 0 where
   pub reader : l.reader ≡ link.reader
   pub writer : l.writer ≡ link.writer
-  pub next : talk.next ≡ l.next
+  pub next : first_unsaid talk ≡ l.next
   pub heard : HasHeard l.input l.heard talk
 
 -- and so is its sender

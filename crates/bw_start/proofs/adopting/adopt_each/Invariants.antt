@@ -1,6 +1,7 @@
 use Rattle.std.proofs.Common.{◌≡◌, ◌++◌, map, vec_len}
 use Rattle.bw_disk.specs.DiskSteps.{StaysWhole}
 use Rattle.bw_folder.specs.Journals.{existences}
+use Rattle.bw_folder.specs.TakeFolders.{takes_folder}
 use Rattle.bw_start.specs.Started.{kept_fact, kept_facts, begun_names, StaysSet}
 use Rattle.bw_start.proofs.adopting.adopt_each.Given as goal
 
@@ -8,7 +9,7 @@ use Rattle.bw_start.proofs.adopting.adopt_each.Given as goal
 abbrev pub invariant-loop-rest : goal.invariant-loop-rest
 invariant-loop-rest g l = record {
   store : StaysWhole g.D.Disk l.fn.store.disk l.store.disk;
-  folder : l.store.folder ≡ l.fn.store.folder;
+  folder : takes_folder l.store ≡ takes_folder l.fn.store;
   journal : StaysWhole g.E.Disk l.fn.journal.disk l.journal.disk;
   settings : StaysSet l.fn.journal l.journal;
   known : existences l.journal.journals.items ++ begun_names l.rest.items

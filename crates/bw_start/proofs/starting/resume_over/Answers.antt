@@ -24,9 +24,9 @@ returns-in-Ok-resume-clause-holds g c = λ ht hn first book N T left res.
     (g.E.Disk.contents c.adopt_each.new.journal.disk) (g.D.Disk.contents c.adopt_each.new.store.disk)
     (string_bytes c.adopt_each.new.journal.folder) (string_bytes c.adopt_each.new.store.folder)
     c.requires.range left res a.kept (a.settings.limit ∙ sj.limit)
-    (a.known ∙ ap (λ (xs : List _). existences xs ++ begun_names c.args.found.items) sj.journals)
+    (a.known ∙ ap (λ (xs : List _). xs ++ begun_names c.args.found.items) sj.journals)
     (fun_ext (a.journal.contents hj) ∙ ap (λ (d : _). g.E.Disk.contents d) sj.disk)
     (fun_ext (a.store.contents hs) ∙ ap (λ (d : _). g.D.Disk.contents d) ss.disk)
-    (ap (λ (x : _). string_bytes x) a.settings.folder ∙ sj.folder ∙ c.in-Ok.ensures.two)
-    (ap (λ (x : _). string_bytes x) a.folder ∙ ss.folder ∙ c.in-Ok.ensures.one) in
+    (a.settings.folder ∙ sj.folder ∙ c.in-Ok.ensures.two)
+    (a.folder ∙ ss.folder ∙ c.in-Ok.ensures.one) in
     (c.in-Ok-resume.ensures.book first book t.0, c.in-Ok-resume.ensures.notes first book t.0 t.1)

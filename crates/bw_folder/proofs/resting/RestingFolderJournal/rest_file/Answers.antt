@@ -1,7 +1,8 @@
 use Rattle.std.proofs.Common.{rules, ◌≡◌, IsTrue, IsSome, true, None, refl, string_bytes}
 use Rattle.bw_folder.specs.Journals.{journal_path}
 use Rattle.bw_folder.specs.RestingJournals.{is_loose, closed_path}
-use Rattle.bw_folder.specs.RestingFolders.{all_journals, inner_header}
+use Rattle.bw_folder.specs.JournalFolders.{header_in_folder}
+use Rattle.bw_folder.specs.RestingFolders.{all_journals}
 use Rattle.bw_folder.proofs.LooseForms.{same_twice, same_then_rests, rested}
 use Rattle.bw_folder.proofs.resting.RestingFolderJournal.rest_file.Goals as goal
 
@@ -18,6 +19,6 @@ returns-clause-rested g c = λ honest.
     same_then_rests name (all_journals g.D.Disk old) (all_journals g.D.Disk two) _
     (same_twice (all_journals g.D.Disk old) (all_journals g.D.Disk one) (all_journals g.D.Disk two)
     (c.loosen.ensures.same honest) (c.move_to_rest.ensures.same still))
-    (rested (is_loose two.loose) (is_loose c.remove.new.self) (inner_header g.D.Disk two.inner) (inner_header g.D.Disk two.inner)
+    (rested (is_loose two.loose) (is_loose c.remove.new.self) (header_in_folder two.inner) (header_in_folder two.inner)
     (g.D.Disk.contents two.inner.disk) (g.D.Disk.contents two.inner.disk) (string_bytes two.inner.folder) name (λ p. refl)
     (λ n. c.remove.ensures.updates.0 n) was (λ n. refl) stands gone)

@@ -1,7 +1,8 @@
 use Rattle.std.proofs.Common.{rules, ◌≡◌, IsTrue, IsSome, false, None, refl, string_bytes}
 use Rattle.bw_folder.specs.Journals.{journal_path}
 use Rattle.bw_folder.specs.RestingJournals.{is_loose, closed_path}
-use Rattle.bw_folder.specs.RestingFolders.{all_journals, inner_header}
+use Rattle.bw_folder.specs.JournalFolders.{header_in_folder}
+use Rattle.bw_folder.specs.RestingFolders.{all_journals}
 use Rattle.bw_folder.proofs.LooseForms.{same_twice, same_then_wakes, woken}
 use Rattle.bw_folder.proofs.LooseJournals.{reads_same}
 use Rattle.bw_folder.proofs.resting.RestingFolderJournal.wake_file.Goals as goal
@@ -20,6 +21,6 @@ returns-clause-woken g c = λ honest.
     (same_twice (all_journals g.D.Disk old) (all_journals g.D.Disk one) (all_journals g.D.Disk two)
     (reads_same g.D.Disk old one c.stands_closed.ensures.rest c.stands_closed.ensures.loose honest)
     (reads_same g.D.Disk one two c.stands_noted.ensures.rest c.stands_noted.ensures.loose still))
-    (woken (is_loose two.loose) (is_loose c.insert.new.self) (inner_header g.D.Disk two.inner) (inner_header g.D.Disk two.inner)
+    (woken (is_loose two.loose) (is_loose c.insert.new.self) (header_in_folder two.inner) (header_in_folder two.inner)
     (g.D.Disk.contents two.inner.disk) (g.D.Disk.contents two.inner.disk) (string_bytes two.inner.folder) name (λ p. refl)
     (λ n. search rules) tied (λ n. refl) stands none)

@@ -44,7 +44,8 @@ returns-in-Err-clause-uncalled g c = λ away.
 
 pub returns-in-Err-clause-unmet : goal.returns-in-Err-clause-unmet
 returns-in-Err-clause-unmet g c = λ none.
-    let left = c.in-Err.ensures.left in (left.sessions, (left.store, left.journal))
+    let left = c.in-Err.ensures.left in
+    ((λ other. ap (λ (t : _). session_in t other) left.sessions), (left.store, left.journal))
 
 pub returns-in-Err-clause-turned : goal.returns-in-Err-clause-turned
 returns-in-Err-clause-turned g c =

@@ -1,0 +1,44 @@
+-- What is seen of the journals in a folder.
+use Rattle.std.specs.Prelude.{ℕ, Bool, List, Option, string_bytes}
+use Rattle.bw_disk.specs.declared.disk.Disk.{Ghosts}
+use Rattle.bw_journal.specs.JournalHeaders.{Header}
+use Rattle.bw_folder.specs.Journals.{notes_at, existences, header_at, failure_of}
+use Rattle.bw_folder.specs.declared.journal.FolderJournal.{FolderJournal}
+
+module _ {D F : Type 0} {G : Ghosts D F} where
+  -- their disk
+  abbrev pub journals_disk : FolderJournal D F G → D
+  journals_disk j = j.disk
+
+  -- the path of their folder
+  abbrev pub journals_folder : FolderJournal D F G → List ℕ
+  journals_folder j = string_bytes j.folder
+
+  -- the limit of the server
+  abbrev pub journals_limit : FolderJournal D F G → ℕ
+  journals_limit j = j.limit
+
+  -- whether notes are synced
+  abbrev pub journals_sync : FolderJournal D F G → Bool
+  journals_sync j = j.sync
+
+  -- the names of open journals, each with whether a file of it existed before
+  abbrev pub open_journals : FolderJournal D F G → List (List ℕ × Bool)
+  open_journals j = existences j.journals.items
+
+  -- whether a sync failed for a name's journal, if it is open
+  abbrev pub sync_failed_in : FolderJournal D F G → List ℕ → Option Bool
+  sync_failed_in j name = failure_of j.journals.items name
+
+  -- how many calls have failed
+  abbrev pub journals_failures : FolderJournal D F G → ℕ
+  journals_failures j = j.failures
+
+  -- what is noted under a name
+  abbrev pub noted_in_folder : FolderJournal D F G → List ℕ → Option (List ℕ)
+  noted_in_folder j name = notes_at (G.contents j.disk) (string_bytes j.folder) name
+
+  -- what the journal of a name begins with
+  abbrev pub header_in_folder : FolderJournal D F G → List ℕ → Header
+  header_in_folder j name = header_at j.limit (existences j.journals.items) (G.contents j.disk)
+      (string_bytes j.folder) name

@@ -1,0 +1,2 @@
+pub mod SeenFiles
+pub mod SeenLinks

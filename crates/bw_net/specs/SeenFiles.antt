@@ -1,0 +1,56 @@
+-- What is seen of this machine's files, of its clock and of a terminal.
+use Rattle.std.specs.Prelude.{ℕ, Bool, is_some}
+use Rattle.bw_net.specs.declared.host.Host.{Host}
+use Rattle.bw_net.specs.declared.recordings.HostRecordings.{HostRecordings}
+use Rattle.bw_net.specs.declared.recordings.StampedFile.{StampedFile}
+use Rattle.bw_net.specs.declared.followed.FollowedFile.{FollowedFile}
+use Rattle.bw_net.specs.declared.spool_file.SpoolFile.{SpoolFile}
+use Rattle.bw_net.specs.declared.states.HostStates.{HostStates}
+use Rattle.bw_net.specs.declared.states.StateFile.{StateFile}
+use Rattle.bw_net.specs.declared.pause.ClockPause.{ClockPause}
+use Rattle.bw_net.specs.declared.stopwatch.ClockStopwatch.{ClockStopwatch}
+use Rattle.bw_net.specs.declared.terminal.Terminal.{Terminal}
+
+-- how many calls of the system failed, as the machine's files counted them
+abbrev pub host_failures : Host → ℕ
+host_failures s = s.failures
+
+-- the same, as its recordings did
+abbrev pub recordings_failures : HostRecordings → ℕ
+recordings_failures s = s.failures
+
+-- as a file did that is looked at again
+abbrev pub stamped_failures : StampedFile → ℕ
+stamped_failures s = s.failures
+
+-- as a file did that is followed
+abbrev pub followed_failures : FollowedFile → ℕ
+followed_failures f = f.failures
+
+-- whether nothing more is written to it
+abbrev pub followed_has_ended : FollowedFile → Bool
+followed_has_ended f = f.has_ended
+
+-- as a spool's file did
+abbrev pub spool_failures : SpoolFile → ℕ
+spool_failures f = f.failures
+
+-- as the files of states did
+abbrev pub states_failures : HostStates → ℕ
+states_failures s = s.failures
+
+-- as one of them did
+abbrev pub state_failures : StateFile → ℕ
+state_failures f = f.failures
+
+-- the runtime by whose clock is waited
+abbrev pub pausing_runtime : {R : Type 0} → ClockPause R → R
+pausing_runtime p = p.rt
+
+-- the milliseconds that had passed when it was last looked at
+abbrev pub stopwatch_time : {R : Type 0} → ClockStopwatch R → ℕ
+stopwatch_time s = s.passed
+
+-- whether what is shown is seen
+abbrev pub terminal_is_seen : Terminal → Bool
+terminal_is_seen s = is_some s.screen

@@ -1,0 +1,91 @@
+-- What is seen of this machine's network.
+use Rattle.std.specs.Prelude.{ℕ, List, Option, string_bytes}
+use Rattle.std.specs.declared.net.socket_addr.SocketAddr.{SocketAddr}
+use Rattle.std.specs.declared.time.Duration.{Duration}
+use Rattle.mio.specs.Events.{capacity}
+use Rattle.bw_net.specs.declared.network.TcpNetwork.{TcpNetwork}
+use Rattle.bw_net.specs.declared.reactor.TcpReactor.{TcpReactor}
+use Rattle.bw_net.specs.declared.status.TcpStatusPort.{TcpStatusPort}
+use Rattle.bw_net.specs.declared.tcp.TcpDial.{TcpDial}
+use Rattle.bw_net.specs.declared.tcp.TcpPeers.{TcpPeers}
+
+-- how many calls of the system failed, as the network counted them
+abbrev pub network_failures : TcpNetwork → ℕ
+network_failures n = n.failures
+
+-- the address that a reactor listens at
+abbrev pub reactor_address : TcpReactor → SocketAddr
+reactor_address r = r.address
+
+-- the folder without which nobody is accepted
+abbrev pub reactor_folder : TcpReactor → List ℕ
+reactor_folder r = string_bytes r.folder
+
+-- how many events it has room for
+abbrev pub reactor_room : TcpReactor → ℕ
+reactor_room r = capacity r.events
+
+-- how many calls failed
+abbrev pub reactor_failures : TcpReactor → ℕ
+reactor_failures r = r.failures
+
+-- how often it waited
+abbrev pub reactor_waits : TcpReactor → ℕ
+reactor_waits r = r.waits
+
+-- the time that it reported last, in milliseconds
+abbrev pub reactor_time : TcpReactor → ℕ
+reactor_time r = r.now
+
+-- for how long it was to wait at most, when it last waited
+abbrev pub reactor_patience : TcpReactor → ℕ
+reactor_patience r = r.patience
+
+-- the address that a port for operators listens at
+abbrev pub port_address : TcpStatusPort → SocketAddr
+port_address p = p.address
+
+-- the folder without which nobody is accepted
+abbrev pub port_folder : TcpStatusPort → List ℕ
+port_folder p = string_bytes p.folder
+
+-- the time that it reported last
+abbrev pub port_time : TcpStatusPort → ℕ
+port_time p = p.now
+
+-- when it was started
+abbrev pub port_since : TcpStatusPort → ℕ
+port_since p = p.since
+
+-- the address to which links are opened
+abbrev pub dial_address : TcpDial → SocketAddr
+dial_address d = d.address
+
+-- after how long silence a call over one of them fails, if a time is given
+abbrev pub dial_timeout : TcpDial → Option Duration
+dial_timeout d = d.timeout
+
+-- how many bytes a second go over one at most, if a rate is given
+abbrev pub dial_rate : TcpDial → Option ℕ
+dial_rate d = d.rate
+
+-- how many calls failed
+abbrev pub dial_failures : TcpDial → ℕ
+dial_failures d = d.failures
+
+module _ {R L : Type 0} where
+  -- the address that peers are accepted at
+  abbrev pub peers_address : TcpPeers R L → SocketAddr
+  peers_address p = p.address
+
+  -- the folder without which nobody is accepted
+  abbrev pub peers_folder : TcpPeers R L → List ℕ
+  peers_folder p = string_bytes p.folder
+
+  -- after how long silence a call over a link fails, if a time is given
+  abbrev pub peers_timeout : TcpPeers R L → Option Duration
+  peers_timeout p = p.timeout
+
+  -- how many calls failed
+  abbrev pub peers_failures : TcpPeers R L → ℕ
+  peers_failures p = p.failures
