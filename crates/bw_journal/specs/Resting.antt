@@ -1,5 +1,5 @@
 -- Journals of which some rest.
-use Rattle.std.specs.Prelude.{◌≡◌, ◌≢◌, ℕ, Bool, true, false, Option, None, IsSome, List}
+use Rattle.std.specs.Prelude.{◌≡◌, ◌≢◌, ℕ, Bool, true, false, Option, Some, None, IsSome, List}
 use Rattle.bw_store.specs.Stores.{KeepsOthers}
 use Rattle.bw_journal.specs.JournalHeaders.{Header}
 
@@ -55,3 +55,16 @@ RestsIf false name before after = SameJournals before after
 abbrev pub WakesIf : Bool → List ℕ → Journals → Journals → Type 0
 WakesIf true name before after = WakesJournal name before after
 WakesIf false name before after = (before.resting name ≡ None) × SameJournals before after
+
+-- What a name's journal begins with where names may rest: a name under which something rests has a
+-- file that exists.
+abbrev pub header_beside_rest : Option (List ℕ) → Header → Header
+header_beside_rest None header = header
+header_beside_rest (Some bytes) header = record header { existed = true }
+
+-- The same is noted of each name, and its journal begins with the same, where nothing rests.
+pub record NotesAlike (notes later_notes later_resting : List ℕ → Option (List ℕ))
+    (header later_header : List ℕ → Header) : Type 0 where
+  pub notes_are : (name : List ℕ) → later_notes name ≡ notes name
+  pub headers : (name : List ℕ) →
+      later_header name ≡ header_beside_rest (later_resting name) (header name)

@@ -1,6 +1,7 @@
 //! Journals: what is noted of each done number, so that a server can resume after a stop.
 #![tactic(auto)]
 
+mod becoming;
 mod entry;
 mod fault;
 mod fuse;
@@ -15,6 +16,7 @@ mod seal_digests;
 mod story;
 mod writer;
 
+pub use becoming::BecomesResting;
 pub use entry::{ENTRY_MAX, EntryRef, first_entry};
 pub use fault::ReplayFault;
 pub use fuse::FuseJournal;

@@ -1,0 +1,24 @@
+//! Journals that can become ones of which some rest.
+ghost use Rattle.std.specs.Prelude.{◌≡◌};
+ghost use Rattle.bw_journal.specs.Resting.{NotesAlike};
+
+use crate::journal::Journal;
+use crate::resting::RestingJournal;
+use std::alloc::Global;
+
+/// Journals none of which rests to a server, and that can become ones of which some rest.
+pub trait BecomesResting: Journal {
+    /// The same journals, of which some rest.
+    type Resting: RestingJournal;
+
+    /// What may become of a journal.
+    ghost becomes: { Self → Self.Resting → Type 0 };
+
+    /// The same journals, of which some rest: what is noted stays. Nothing is asked of a disk.
+    fn becomes_resting(self, alloc: Global) -> Self::Resting
+        ensures becomes { becomes self result }
+        ensures failures { Self.Resting.failures result ≡ Self.failures self }
+        ensures honest { Self.Resting.honest result ≡ Self.honest self }
+        ensures notes { NotesAlike (Self.notes self) (Self.Resting.notes result)
+            (Self.Resting.resting result) (Self.header self) (Self.Resting.header result) };
+}
