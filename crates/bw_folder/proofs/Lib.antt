@@ -10,3 +10,4 @@ pub mod ClosedPaths
 pub mod ClosedNames
 pub mod LooseForms
 pub mod LooseJournals
+pub mod BecomingForms

@@ -5,3 +5,4 @@ pub mod TakeFolders
 pub mod JournalFolders
 pub mod RestingJournals
 pub mod RestingFolders
+pub mod Becoming

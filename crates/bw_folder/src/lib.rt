@@ -1,6 +1,7 @@
 //! What a server keeps in a folder: the files of takes, and their journals.
 #![tactic(auto)]
 
+mod becoming;
 mod closing;
 mod folder;
 mod heading;
