@@ -39,3 +39,4 @@ pub mod RestTables
 pub mod FitForms
 pub mod WokenForms
 pub mod SameJournalForms
+pub mod BecomingForms

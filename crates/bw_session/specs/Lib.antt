@@ -30,3 +30,4 @@ pub mod Numbering
 pub mod Promises
 pub mod RestingNames
 pub mod RestFaults
+pub mod Becoming

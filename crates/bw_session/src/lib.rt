@@ -2,6 +2,7 @@
 #![tactic(auto)]
 
 mod admitting;
+mod becoming;
 mod body;
 mod borrowing;
 mod carrying;

@@ -1,0 +1,39 @@
+//! A server whose names may rest from now on.
+ghost use Rattle.bw_session.specs.Becoming.{ChangesJournal, KeepsItsBooks};
+
+use crate::numbering::Stores;
+use crate::server::Server;
+use bw_journal::BecomesResting;
+use bw_store::TakeStore;
+
+impl<S: TakeStore, J: BecomesResting> Server<S, J> {
+    /// The same server, over the same journals, of which some rest from now on.
+    pub fn becomes_resting(self) -> Server<S, J::Resting>
+        ensures same { ChangesJournal S.TakeStore J.Journal J.Resting.Journal self result }
+        ensures journal { J.becomes self.stores.journal result.stores.journal }
+        ensures books { KeepsItsBooks S.TakeStore J.Journal J.Resting.Journal self result }
+    {
+        let Server {
+            sessions,
+            stores,
+            limit,
+        } = self;
+        let Stores {
+            alloc,
+            store,
+            journal,
+            entry,
+        } = stores;
+        let journal = journal.becomes_resting(alloc);
+        Server {
+            sessions,
+            stores: Stores {
+                alloc,
+                store,
+                journal,
+                entry,
+            },
+            limit,
+        }
+    }
+}
