@@ -13,3 +13,4 @@ pub mod LookForms
 pub mod StartForms
 pub mod RecoverForms
 pub mod StartAnswers
+pub mod RestingForms

@@ -1,7 +1,7 @@
 -- Lists of names, each once.
 use Rattle.std.proofs.Common.{◌≡◌, ◌⊎◌, inl, inr, ℕ, zero, suc, ◌+◌, ◌<◌, true, false, List, [], ◌∷◌, ◌++◌, length, take}
 use Rattle.std.proofs.Common.{Option, Some, None, refl, sym, ◌∙◌, ap, subst, arith, IsTrue}
-use Rattle.std.specs.Prelude.{IsSome, is_some, Result, Ok, Err, OnOk, IfOk, IfSome, get_or, codes}
+use Rattle.std.specs.Prelude.{IsSome, is_some, Result, Ok, Err, OnOk, IfOk, IfSome, get_or}
 use Rattle.std.specs.Option.{SomeIff}
 use Rattle.std.specs.List.{All, Contains}
 use Rattle.std.proofs.lemmas.List.Elements.{Contains-append_left, Contains-append_right, Contains-append_cases}
@@ -10,11 +10,13 @@ use Rattle.bw_model.specs.Wire.{is_name}
 use Rattle.std.proofs.Common.{◌≤◌}
 use Rattle.std.proofs.lemmas.List.{take_all}
 use Rattle.bw_disk.specs.Volumes.{AreDistinct, Lists, is_listed, in_folder}
+use Rattle.bw_start.specs.Endings.{ending_text}
+use Rattle.bw_start.specs.declared.ending.Ending.{Ending}
 use Rattle.bw_start.specs.Paths.{wave_path, notes_path}
 use Rattle.bw_start.specs.Findings.{IsFound}
-use Rattle.bw_start.specs.FoundNames.{found_names, IsFoundIn, ListsJournals, AddsName}
+use Rattle.bw_start.specs.FoundNames.{found_names, IsFoundIn, ListsFiles, AddsName}
 use Rattle.bw_start.proofs.PathLemmas.{path_listed}
-use Rattle.bw_start.proofs.NameBytes.{journal_is_listed, journal_is_utf8}
+use Rattle.bw_start.proofs.NameBytes.{ending_is_listed, ending_is_utf8}
 use Rattle.bw_start.specs.declared.finding.Finding.{Finding}
 use Rattle.bw_start.specs.declared.listing.FoundName.{FoundName}
 
@@ -42,10 +44,10 @@ pub true_false : true ≡ false → ⊥
 true_false e = cc
 
 -- the name of a file that has this stem
-pub named : (r : Option (List ℕ)) (P : Type 0) (stem file : List ℕ) → SomeIff r P stem →
-    file ≡ stem ++ codes ".journal" → IfSome r (λ name. file ≡ name ++ codes ".journal")
-named None P stem file h e = tt
-named (Some name) P stem file h e = e ∙ ap (λ (x : List ℕ). x ++ codes ".journal") (sym h.1)
+pub named : (ending : List ℕ) (r : Option (List ℕ)) (P : Type 0) (stem file : List ℕ) → SomeIff r P stem →
+    file ≡ stem ++ ending → IfSome r (λ name. file ≡ name ++ ending)
+named ending None P stem file h e = tt
+named ending (Some name) P stem file h e = e ∙ ap (λ (x : List ℕ). x ++ ending) (sym h.1)
 
 in_one : (x y : List ℕ) → Contains (x ∷ []) y → x ≡ y
 in_one x y (zero, below, here) = here
@@ -67,24 +69,24 @@ some_name : (a b : List ℕ) → Some a ≡ Some b → a ≡ b
 some_name a b e = cc
 
 -- a name was added to those before it
-pub added_name : (file : List ℕ) (before after : List (List ℕ)) (name : List ℕ) → IsTrue (is_name name) →
-    file ≡ name ++ codes ".journal" → ((n : List ℕ) → IsTrue (is_name n) → file ≡ n ++ codes ".journal" → Some name ≡ Some n) →
-    after ≡ before ++ name ∷ [] → AddsName file before after
-added_name file before after name fits e each pushed = record {
+pub added_name : (ending file : List ℕ) (before after : List (List ℕ)) (name : List ℕ) → IsTrue (is_name name) →
+    file ≡ name ++ ending → ((n : List ℕ) → IsTrue (is_name n) → file ≡ n ++ ending → Some name ≡ Some n) →
+    after ≡ before ++ name ∷ [] → AddsName ending file before after
+added_name ending file before after name fits e each pushed = record {
   kept = λ n c. subst (λ (xs : List (List ℕ)). Contains xs n) (sym pushed) (Contains-append_left before (name ∷ []) n c);
   next = λ n f en. subst (λ (xs : List (List ℕ)). Contains xs n) (sym pushed)
       (Contains-append_right before (name ∷ []) n (0, omega arith, some_name name n (each n f en)));
   only = λ n c. elim (Contains-append_cases before (name ∷ []) n
       (subst (λ (xs : List (List ℕ)). Contains xs n) pushed c)) [
         | inl among ↦ inl among
-        | inr last ↦ inr (subst (λ (x : List ℕ). IsTrue (is_name x) × (file ≡ x ++ codes ".journal")) (in_one name n last) (fits, e))
+        | inr last ↦ inr (subst (λ (x : List ℕ). IsTrue (is_name x) × (file ≡ x ++ ending)) (in_one name n last) (fits, e))
       ];
 }
 
 -- no other name was added
-pub same_names : (file : List ℕ) (before : List (List ℕ)) →
-    ((n : List ℕ) → IsTrue (is_name n) → file ≡ n ++ codes ".journal" → Contains before n) → AddsName file before before
-same_names file before each = record {
+pub same_names : (ending file : List ℕ) (before : List (List ℕ)) →
+    ((n : List ℕ) → IsTrue (is_name n) → file ≡ n ++ ending → Contains before n) → AddsName ending file before before
+same_names ending file before each = record {
   kept = λ n c. c;
   next = each;
   only = λ n c. inl c;
@@ -118,44 +120,44 @@ names_push [] next = refl
 names_push (it ∷ found) next = ap (λ (z : List (List ℕ)). it.name ∷ z) (names_push found next)
 
 -- each name is one of a file's journal, after one more file
-pub only_step : (files : List (List ℕ)) (i : ℕ) (file : List ℕ) (before after : List (List ℕ)) → i < length files →
-    get_or files i file ≡ file → AddsName file before after →
-    ((name : List ℕ) → Contains before name → IsTrue (is_name name) × Contains files (name ++ codes ".journal")) →
-    (name : List ℕ) → Contains after name → IsTrue (is_name name) × Contains files (name ++ codes ".journal")
-only_step files i file before after below at added only name c =
+pub only_step : (ending : List ℕ) (files : List (List ℕ)) (i : ℕ) (file : List ℕ) (before after : List (List ℕ)) → i < length files →
+    get_or files i file ≡ file → AddsName ending file before after →
+    ((name : List ℕ) → Contains before name → IsTrue (is_name name) × Contains files (name ++ ending)) →
+    (name : List ℕ) → Contains after name → IsTrue (is_name name) × Contains files (name ++ ending)
+only_step ending files i file before after below at added only name c =
     elim (added.only name c) [
       | inl old ↦ only name old
       | inr new ↦ (new.0, subst (Contains files) new.1 (i, below, at))
     ]
 
 -- and each file's name is there
-pub each_step : (files : List (List ℕ)) (i : ℕ) (file : List ℕ) (before after : List (List ℕ)) → i < length files →
-    get_or files i file ≡ file → AddsName file before after →
-    ((name : List ℕ) → IsTrue (is_name name) → Contains (take i files) (name ++ codes ".journal") → Contains before name) →
-    (name : List ℕ) → IsTrue (is_name name) → Contains (take (i + 1) files) (name ++ codes ".journal") → Contains after name
-each_step files i file before after below at added each name fits c =
-    elim (contains_step files i file (name ++ codes ".journal") below c) [
+pub each_step : (ending : List ℕ) (files : List (List ℕ)) (i : ℕ) (file : List ℕ) (before after : List (List ℕ)) → i < length files →
+    get_or files i file ≡ file → AddsName ending file before after →
+    ((name : List ℕ) → IsTrue (is_name name) → Contains (take i files) (name ++ ending) → Contains before name) →
+    (name : List ℕ) → IsTrue (is_name name) → Contains (take (i + 1) files) (name ++ ending) → Contains after name
+each_step ending files i file before after below at added each name fits c =
+    elim (contains_step files i file (name ++ ending) below c) [
       | inl old ↦ added.kept name (each name fits old)
       | inr same ↦ added.next name fits (sym at ∙ same)
     ]
 
--- once all files were looked at, the names are those that have a journal
-pub listed_end : (folder : List ℕ) (notes : List ℕ → Option (List ℕ)) (files names : List (List ℕ)) (i : ℕ) →
+-- once all files were looked at, the names are those that have such a file
+pub listed_end : (kind : Ending) (folder : List ℕ) (notes : List ℕ → Option (List ℕ)) (files names : List (List ℕ)) (i : ℕ) →
     length files ≤ i → Lists folder notes files →
-    ((name : List ℕ) → Contains names name → IsTrue (is_name name) × Contains files (name ++ codes ".journal")) →
-    ((name : List ℕ) → IsTrue (is_name name) → Contains (take i files) (name ++ codes ".journal") → Contains names name) →
-    ListsJournals folder notes names
-listed_end folder notes files names i all lists only each name = (
+    ((name : List ℕ) → Contains names name → IsTrue (is_name name) × Contains files (name ++ ending_text kind)) →
+    ((name : List ℕ) → IsTrue (is_name name) → Contains (take i files) (name ++ ending_text kind) → Contains names name) →
+    ListsFiles (ending_text kind) folder notes names
+listed_end kind folder notes files names i all lists only each name = (
   λ c.
       let o = only name c in (
         o.0,
-        subst (λ (p : List ℕ). IsSome (notes p)) (path_listed folder (codes ".journal") name)
-            (all_among (λ n. IsTrue (is_listed n) × IsSome (notes (in_folder folder n))) files (name ++ codes ".journal") lists.stand o.1).1,
+        subst (λ (p : List ℕ). IsSome (notes p)) (path_listed folder (ending_text kind) name)
+            (all_among (λ n. IsTrue (is_listed n) × IsSome (notes (in_folder folder n))) files (name ++ ending_text kind) lists.stand o.1).1,
       ),
   λ h. each name h.0
-      (subst (λ (xs : List (List ℕ)). Contains xs (name ++ codes ".journal")) (sym (take_all i files all))
-      (lists.complete (name ++ codes ".journal") (journal_is_listed name h.0) (journal_is_utf8 name h.0)
-      (subst (λ (p : List ℕ). IsSome (notes p)) (sym (path_listed folder (codes ".journal") name)) h.1))),
+      (subst (λ (xs : List (List ℕ)). Contains xs (name ++ ending_text kind)) (sym (take_all i files all))
+      (lists.complete (name ++ ending_text kind) (ending_is_listed kind name h.0) (ending_is_utf8 kind name h.0)
+      (subst (λ (p : List ℕ). IsSome (notes p)) (sym (path_listed folder (ending_text kind) name)) h.1))),
 )
   where
     all_among : (P : List ℕ → Type 0) (xs : List (List ℕ)) (x : List ℕ) → All P xs → Contains xs x → P x

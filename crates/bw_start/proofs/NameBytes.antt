@@ -8,6 +8,9 @@ use Rattle.std.proofs.lemmas.Bool.{and_parts, and_from, or_cases, leb-true, ltb-
 use Rattle.std.proofs.lemmas.Str.{IsUtf8-append, IsUtf8-from_ascii}
 use Rattle.std.proofs.lemmas.Str.Ascii.{IsAscii-nil}
 use Rattle.std.proofs.lemmas.List.Folds.{list_all-append}
+use Rattle.bw_start.specs.Endings.{ending_text}
+use Rattle.bw_start.specs.declared.ending.Ending.{Ending}
+use Rattle.bw_start.specs.declared.ending.Ending.TheVariants.{Journal, Closed}
 use Rattle.bw_model.specs.Bytes.{is_within}
 use Rattle.bw_model.specs.Wire.{is_name, is_name_byte}
 use Rattle.bw_disk.specs.Volumes.{is_listed}
@@ -84,20 +87,30 @@ small_ascii (c ∷ xs) h = go (small_ascii xs p.1)
     go more zero = ltb-true c 128 p.0
     go more (suc i) = more i
 
--- the journal of a name has a name in UTF-8
-pub journal_is_utf8 : (name : List ℕ) → IsTrue (is_name name) → IsUtf8 (name ++ codes ".journal")
-journal_is_utf8 name h =
-    IsUtf8-append name (codes ".journal")
+-- a name with an ending is in UTF-8
+utf8_with : (ending name : List ℕ) → list_all (λ b. nat_lt b 128) ending ≡ true → IsTrue (is_name name) →
+    IsUtf8 (name ++ ending)
+utf8_with ending name small h =
+    IsUtf8-append name ending
     (IsUtf8-from_ascii name (ascii name (and_parts (is_within 1 32 (length name)) (list_all is_name_byte name) h).1))
-    (IsUtf8-from_ascii (codes ".journal") (small_ascii (codes ".journal") refl))
+    (IsUtf8-from_ascii ending (small_ascii ending small))
+
+pub ending_is_utf8 : (kind : Ending) (name : List ℕ) → IsTrue (is_name name) → IsUtf8 (name ++ ending_text kind)
+ending_is_utf8 Journal name h = utf8_with (codes ".journal") name refl h
+ending_is_utf8 Closed name h = utf8_with (codes ".closed") name refl h
 
 -- and is listed
-pub journal_is_listed : (name : List ℕ) → IsTrue (is_name name) → is_listed (name ++ codes ".journal") ≡ true
-journal_is_listed [] h = absurd cc
-journal_is_listed (c ∷ xs) h =
+listed_with : (ending name : List ℕ) → list_all (λ b. not (b == 47)) ending ≡ true → IsTrue (is_name name) →
+    is_listed (name ++ ending) ≡ true
+listed_with ending [] none h = absurd cc
+listed_with ending (c ∷ xs) none h =
     let p = and_parts (is_within 1 32 (length (c ∷ xs))) (list_all is_name_byte (c ∷ xs)) h in
     let q = and_parts (is_name_byte c) (list_all is_name_byte xs) p.1 in
-    and_from (not (c == 46)) (list_all (λ b. not (b == 47)) (c ∷ xs ++ codes ".journal"))
-    (differs c 46 (plain c q.0).no_dot)
-    (list_all-append (λ b. not (b == 47)) (c ∷ xs) (codes ".journal")
-    ∙ ap (λ (v : Bool). v && true) (no_slashes (c ∷ xs) p.1))
+    and_from (not (c == 46)) (list_all (λ b. not (b == 47)) (c ∷ xs ++ ending)) (differs c 46 (plain c q.0).no_dot)
+    (list_all-append (λ b. not (b == 47)) (c ∷ xs) ending
+    ∙ ap (λ (v : Bool). v && list_all (λ b. not (b == 47)) ending) (no_slashes (c ∷ xs) p.1) ∙ none)
+
+pub ending_is_listed : (kind : Ending) (name : List ℕ) → IsTrue (is_name name) →
+    is_listed (name ++ ending_text kind) ≡ true
+ending_is_listed Journal name h = listed_with (codes ".journal") name refl h
+ending_is_listed Closed name h = listed_with (codes ".closed") name refl h

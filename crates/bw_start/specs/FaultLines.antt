@@ -10,6 +10,8 @@ use Rattle.bw_start.specs.declared.finding.NameFault.TheVariants.{Journal, Other
 use Rattle.bw_start.specs.declared.restoring.RefusedName.{RefusedName}
 use Rattle.bw_start.specs.declared.restoring.StartFault.{StartFault}
 use Rattle.bw_start.specs.declared.restoring.StartFault.TheVariants.{Disk, Memory, Refused, TooMany}
+use Rattle.bw_start.specs.declared.resting.FolderFault.{FolderFault}
+use Rattle.bw_start.specs.declared.resting.FolderFault.TheVariants.{Start, Rests, Twice}
 
 -- what is wrong with a journal
 abbrev pub journal_text : ReplayFault → List ℕ
@@ -61,3 +63,17 @@ fault_lines folder Disk = []
 fault_lines folder Memory = []
 fault_lines folder (Refused names) = refusal_lines folder names.items
 fault_lines folder (TooMany count) = many_line folder
+
+-- the line of a name that rests
+unfoldable pub closed_line : List ℕ → List ℕ → List ℕ → List ℕ
+closed_line folder cause name = folder ++ codes "/" ++ name ++ codes ".closed: " ++ cause ++ codes "\n"
+
+-- a line for each of these names
+abbrev pub closed_lines : List ℕ → List ℕ → List (List ℕ) → List ℕ
+closed_lines folder cause names = flat_map (closed_line folder cause) names
+
+-- what is reported of a folder in which names may rest
+abbrev pub folder_fault_lines : List ℕ → FolderFault → List ℕ
+folder_fault_lines folder (Start fault) = fault_lines folder fault
+folder_fault_lines folder (Rests names) = closed_lines folder (codes "Rests, needs --rest") names.items
+folder_fault_lines folder (Twice names) = closed_lines folder (codes "TwoJournals") names.items

@@ -2,7 +2,8 @@
 use Rattle.std.specs.Prelude.{◌≡◌, ◌⊎◌, ◌↔◌, ℕ, Option, Some, IsSome, IsTrue, List, ◌++◌, codes, map}
 use Rattle.std.specs.List.{Contains}
 use Rattle.bw_model.specs.Wire.{is_name}
-use Rattle.bw_start.specs.Paths.{wave_path, notes_path}
+use Rattle.bw_start.specs.Paths.{path_with, wave_path}
+use Rattle.bw_start.specs.Paths.{notes_path}
 use Rattle.bw_start.specs.Findings.{IsFound}
 use Rattle.bw_start.specs.declared.listing.FoundName.{FoundName}
 
@@ -10,10 +11,14 @@ use Rattle.bw_start.specs.declared.listing.FoundName.{FoundName}
 abbrev pub found_names : List FoundName → List (List ℕ)
 found_names found = map (λ it. it.name) found
 
+-- these are the names of a folder that have a file with this ending
+abbrev pub ListsFiles : List ℕ → List ℕ → (List ℕ → Option (List ℕ)) → List (List ℕ) → Type 0
+ListsFiles ending folder notes names = (name : List ℕ) →
+    Contains names name ↔ (IsTrue (is_name name) × IsSome (notes (path_with folder ending name)))
+
 -- these are the names of a folder that have a journal
 abbrev pub ListsJournals : List ℕ → (List ℕ → Option (List ℕ)) → List (List ℕ) → Type 0
-ListsJournals folder notes names =
-    (name : List ℕ) → Contains names name ↔ (IsTrue (is_name name) × IsSome (notes (notes_path folder name)))
+ListsJournals folder notes names = ListsFiles (codes ".journal") folder notes names
 
 -- This is what journal and file of the name are.
 pub record IsFoundIn (limit : ℕ) (folder : List ℕ) (notes takes : List ℕ → Option (List ℕ))
@@ -22,9 +27,9 @@ pub record IsFoundIn (limit : ℕ) (folder : List ℕ) (notes takes : List ℕ �
   pub stands : notes (notes_path folder it.name) ≡ Some journal
   pub found : IsFound limit it.name journal (takes (wave_path folder it.name)) it.finding
 
--- The name whose journal a file is was added, if it is one.
-pub record AddsName (file : List ℕ) (before after : List (List ℕ)) : Type 0 where
+-- The name of a file with this ending was added, if it has one.
+pub record AddsName (ending file : List ℕ) (before after : List (List ℕ)) : Type 0 where
   pub kept : (name : List ℕ) → Contains before name → Contains after name
-  pub next : (name : List ℕ) → IsTrue (is_name name) → file ≡ name ++ codes ".journal" → Contains after name
+  pub next : (name : List ℕ) → IsTrue (is_name name) → file ≡ name ++ ending → Contains after name
   pub only : (name : List ℕ) → Contains after name →
-      Contains before name ⊎ (IsTrue (is_name name) × (file ≡ name ++ codes ".journal"))
+      Contains before name ⊎ (IsTrue (is_name name) × (file ≡ name ++ ending))

@@ -7,7 +7,9 @@ pub mod LeftNames
 pub mod FilesRead
 pub mod Paths
 pub mod Findings
+pub mod Endings
 pub mod FoundNames
 pub mod Restored
 pub mod Started
 pub mod FaultLines
+pub mod RestingStarts

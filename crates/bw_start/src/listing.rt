@@ -1,12 +1,13 @@
 //! The names of a folder that have a journal, and what is found of each.
 ghost use Rattle.std.specs.Prelude.{◌≡◌, IsTrue, IfSome, IfOk, OnOk, ◌++◌, ◌∷◌, []};
-ghost use Rattle.std.specs.Prelude.{List, ℕ, codes, map, Some, ◌↔◌, IsSome};
-ghost use Rattle.std.specs.List.{All, Contains};
+ghost use Rattle.std.specs.Prelude.{List, ℕ, codes, Some};
+ghost use Rattle.std.specs.List.{All};
 ghost use Rattle.bw_model.specs.Wire.{is_name as is_take_name};
 ghost use Rattle.bw_disk.specs.DiskSteps.{StaysWhole};
 ghost use Rattle.bw_disk.specs.Volumes.{AreDistinct};
-ghost use Rattle.bw_start.specs.FoundNames.{found_names, IsFoundIn, ListsJournals, AddsName};
+ghost use Rattle.bw_start.specs.FoundNames.{found_names, IsFoundIn, ListsJournals};
 
+use crate::ending::{Ending, list_files, name_with};
 use crate::finding::{Finding, look};
 use crate::watch::StartWatch;
 use bw_disk::{ReadFault, Volume};
@@ -38,45 +39,7 @@ pub fn list_names<E: Volume>(
     ensures each { IsTrue (E.honest notes.old) →
         IfOk result (λ names. ListsJournals folder.now (E.contents notes.old) names.items) }
 {
-    let Ok(listed) = notes.list(folder) else {
-        return Err(ReadFault::Disk);
-    };
-    let mut names = Vec::new(alloc);
-    for file in &listed {
-        add_name(file.as_str(), &mut names)?;
-    }
-    Ok(names)
-}
-
-/// Adds the name whose journal this file is, if it is one, and isn't there yet.
-fn add_name(file: &str, names: &mut Vec<Name>) -> Result<(), ReadFault>
-    ensures distinct { AreDistinct names.old.items → OnOk result (AreDistinct names.new.items) }
-    ensures added { OnOk result (AddsName file.now names.old.items names.new.items) }
-{
-    let Some(name) = journal_name(file) else {
-        return Ok(());
-    };
-    if is_there(names, &name) {
-        return Ok(());
-    }
-    push_name(names, name)
-}
-
-/// Adds a name that isn't there.
-fn push_name(names: &mut Vec<Name>, name: Name) -> Result<(), ReadFault>
-    ensures pushed { OnOk result (names.new.items ≡ names.old.items ++ name ∷ []) }
-{
-    match names.push(name) {
-        Ok(()) => Ok(()),
-        Err(_) => Err(ReadFault::Memory),
-    }
-}
-
-/// Whether a name is among these.
-fn is_there(names: &[Name], name: &Name) -> bool
-    ensures { IsTrue result ↔ Contains names.now name.now }
-{
-    names.contains(name)
+    list_files(alloc, notes, folder, Ending::Journal)
 }
 
 /// The name whose journal a file of this name is, if it is one: `NAME.journal`.
@@ -86,10 +49,7 @@ pub fn journal_name(file: &str) -> Option<Name>
     ensures each { (name : List ℕ) → IsTrue (is_take_name name) →
         file.now ≡ name ++ codes ".journal" → result ≡ Some name }
 {
-    let Some(stem) = file.as_bytes().strip_suffix(b".journal") else {
-        return None;
-    };
-    Name::new(stem)
+    name_with(file, Ending::Journal)
 }
 
 /// What is found of each of these names, in their order. Nothing is changed.

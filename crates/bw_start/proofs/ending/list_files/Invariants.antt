@@ -1,17 +1,18 @@
 use Rattle.std.proofs.Common.{ℕ, IsTrue, List, map, take, ◌++◌}
-use Rattle.std.specs.Prelude.{codes, string_bytes}
+use Rattle.std.specs.Prelude.{string_bytes}
 use Rattle.std.specs.List.{Contains}
 use Rattle.bw_model.specs.Wire.{is_name}
+use Rattle.bw_start.specs.Endings.{ending_text}
 use Rattle.bw_disk.specs.Volumes.{AreDistinct}
-use Rattle.bw_start.proofs.listing.list_names.Given as goal
+use Rattle.bw_start.proofs.ending.list_files.Given as goal
 
--- the names are those of the journals among the files so far
+-- the names are those of such files among those so far
 abbrev pub invariant-loop-file : goal.invariant-loop-file
 invariant-loop-file g l = record {
   distinct : AreDistinct l.names.items;
   only : (name : List ℕ) → Contains l.names.items name →
-      IsTrue (is_name name) × Contains (map string_bytes l.file-items) (name ++ codes ".journal");
+      IsTrue (is_name name) × Contains (map string_bytes l.file-items) (name ++ ending_text l.fn.ending);
   each : (name : List ℕ) → IsTrue (is_name name) →
-      Contains (take l.file-index (map string_bytes l.file-items)) (name ++ codes ".journal") →
+      Contains (take l.file-index (map string_bytes l.file-items)) (name ++ ending_text l.fn.ending) →
       Contains l.names.items name;
 }

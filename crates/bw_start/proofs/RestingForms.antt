@@ -1,0 +1,131 @@
+-- Names that rest in a folder, and those that stand in a server's way.
+use Rattle.std.proofs.Common.{◌≡◌, ◌⊎◌, inl, inr, ℕ, zero, suc, ◌<◌, Bool, true, false, List, [], ◌∷◌, ◌++◌, length, take}
+use Rattle.std.proofs.Common.{Option, Some, None, refl, sym, ◌∙◌, ap, subst, arith, IsTrue}
+use Rattle.std.specs.Prelude.{IsSome, codes, get_or}
+use Rattle.std.specs.List.{Contains}
+use Rattle.std.proofs.lemmas.List.Elements.{Contains-append_left, Contains-append_right, Contains-append_cases}
+use Rattle.std.proofs.lemmas.List.{append-nil, append_assoc}
+use Rattle.bw_model.specs.Wire.{is_name}
+use Rattle.bw_disk.specs.Volumes.{AreDistinct}
+use Rattle.bw_start.specs.FaultLines.{closed_line, closed_lines}
+use Rattle.bw_start.specs.FoundNames.{ListsFiles}
+use Rattle.bw_start.specs.Paths.{notes_path, rest_path}
+use Rattle.bw_start.specs.RestingStarts.{HasBoth, AddsIf, ListsThoseInTheWay, SomeStandInTheWay, NoneStandsInTheWay}
+use Rattle.bw_start.specs.RestingStarts.{IsListOf, RefusesStart, IsPlainFolderFault}
+use Rattle.bw_start.specs.declared.resting.FolderFault.{FolderFault}
+use Rattle.bw_start.specs.declared.resting.FolderFault.TheVariants.{Start, Rests, Twice}
+use Rattle.bw_start.specs.declared.resting.Settings.{Settings}
+use Rattle.bw_start.proofs.ListForms.{in_one}
+use Rattle.bw_start.proofs.RestoreForms.{take_more}
+
+-- no name
+no_name : (x : List ℕ) → Contains [] x → ⊥
+no_name x (i, below, at) = absurd (omega (arith, below))
+
+pub none_of_both : (others : List (List ℕ)) → HasBoth [] others []
+none_of_both others name = (λ c. absurd (no_name name c), λ h. h.0)
+
+-- after one more name
+pub more_of_both : (some others : List (List ℕ)) (x : List ℕ) (before after : List (List ℕ)) →
+    HasBoth some others before → AddsIf others x before after → HasBoth (some ++ x ∷ []) others after
+more_of_both some others x before after h added name = (
+  λ c. elim (added.only name c) [
+    | inl old ↦ (Contains-append_left some (x ∷ []) name ((h name).0 old).0, ((h name).0 old).1)
+    | inr new ↦ (
+      subst (Contains (some ++ x ∷ [])) (sym new.0) (Contains-append_right some (x ∷ []) x (0, omega arith, refl)),
+      subst (Contains others) (sym new.0) new.1,
+    )
+  ],
+  λ both. elim (Contains-append_cases some (x ∷ []) name both.0) [
+    | inl old ↦ added.kept name ((h name).1 (old, both.1))
+    | inr last ↦
+        let same = in_one x name last in
+        subst (Contains after) same (added.next (subst (Contains others) (sym same) both.1))
+  ],
+)
+
+-- a name of both was added
+pub added_if : (others : List (List ℕ)) (name : List ℕ) (before after : List (List ℕ)) → Contains others name →
+    after ≡ before ++ name ∷ [] → AddsIf others name before after
+added_if others name before after among pushed = record {
+  kept = λ n c. subst (λ (xs : List (List ℕ)). Contains xs n) (sym pushed) (Contains-append_left before (name ∷ []) n c);
+  next = λ _. subst (λ (xs : List (List ℕ)). Contains xs name) (sym pushed)
+      (Contains-append_right before (name ∷ []) name (0, omega arith, refl));
+  only = λ n c. elim (Contains-append_cases before (name ∷ []) n
+      (subst (λ (xs : List (List ℕ)). Contains xs n) pushed c)) [
+        | inl old ↦ inl old
+        | inr last ↦ inr (sym (in_one name n last), among)
+      ];
+}
+
+-- without rest, each that rests
+pub those_closed : (folder : List ℕ) (notes : List ℕ → Option (List ℕ)) (names : List (List ℕ)) → AreDistinct names →
+    ListsFiles (codes ".closed") folder notes names → ListsThoseInTheWay false folder notes names
+those_closed folder notes names d lists = record { distinct = d; each = lists }
+
+-- with rest, each that has both
+pub those_twice : (folder : List ℕ) (notes : List ℕ → Option (List ℕ)) (closed noted names : List (List ℕ)) →
+    AreDistinct names → ListsFiles (codes ".closed") folder notes closed →
+    ListsFiles (codes ".journal") folder notes noted → HasBoth closed noted names →
+    ListsThoseInTheWay true folder notes names
+those_twice folder notes closed noted names d c n both = record {
+  distinct = d;
+  each = λ name. (
+    λ h.
+        let b = (both name).0 h in
+        let x = (c name).0 b.0 in (x.0, x.1, ((n name).0 b.1).1),
+    λ h. (both name).1 ((c name).1 (h.0, h.1), (n name).1 (h.0, h.2)),
+  );
+}
+
+-- an empty list: none stands in the way
+pub none_in_the_way : (rest : Bool) (folder : List ℕ) (notes : List ℕ → Option (List ℕ)) (names : List (List ℕ)) →
+    ListsThoseInTheWay rest folder notes names → length names ≡ 0 → NoneStandsInTheWay rest folder notes
+none_in_the_way rest folder notes names lists empty name fits stands =
+    let c = (lists.each name).1 (fits, stands) in
+    omega (arith, c.1, empty)
+
+-- else it is why no server starts
+pub refuses_start : (settings : Settings) (folder : List ℕ) (notes takes : List ℕ → Option (List ℕ)) (rest : Bool)
+    (names : List (List ℕ)) (fault : FolderFault) → settings.rest ≡ rest → ListsThoseInTheWay rest folder notes names →
+    IsListOf rest names fault → RefusesStart settings folder notes takes fault
+refuses_start settings folder notes takes rest names (Start fault) same lists is = absurd is
+refuses_start settings folder notes takes rest names (Rests found) same lists is = (
+  same ∙ is.0,
+  subst (SomeStandInTheWay false folder notes) (sym is.1)
+      (is.2, subst (λ (r : Bool). ListsThoseInTheWay r folder notes names) is.0 lists),
+)
+refuses_start settings folder notes takes rest names (Twice found) same lists is = (
+  same ∙ is.0,
+  subst (SomeStandInTheWay true folder notes) (sym is.1)
+      (is.2, subst (λ (r : Bool). ListsThoseInTheWay r folder notes names) is.0 lists),
+)
+
+-- one of them at least does
+some_in : (rest : Bool) (folder : List ℕ) (notes : List ℕ → Option (List ℕ)) (names : List (List ℕ)) →
+    ListsThoseInTheWay rest folder notes names → NoneStandsInTheWay rest folder notes → 0 < length names → ⊥
+some_in rest folder notes [] lists none some = absurd (omega (arith, some))
+some_in rest folder notes (name ∷ names) lists none some =
+    let h = (lists.each name).0 (0, omega arith, refl) in none name h.0 h.1
+
+-- where none stands in the way, it isn't that
+pub plain_where_free : (rest : Bool) (folder : List ℕ) (notes : List ℕ → Option (List ℕ)) (names : List (List ℕ))
+    (fault : FolderFault) → ListsThoseInTheWay rest folder notes names → IsListOf rest names fault →
+    NoneStandsInTheWay rest folder notes → IsPlainFolderFault fault
+plain_where_free rest folder notes names (Start fault) lists is none = absurd is
+plain_where_free rest folder notes names (Rests found) lists is none = absurd (some_in rest folder notes names lists none is.2)
+plain_where_free rest folder notes names (Twice found) lists is none = absurd (some_in rest folder notes names lists none is.2)
+
+-- one line more
+closed_push : (folder cause : List ℕ) (names : List (List ℕ)) (name : List ℕ) →
+    closed_lines folder cause (names ++ name ∷ []) ≡ closed_lines folder cause names ++ closed_line folder cause name
+closed_push folder cause [] name = append-nil (closed_line folder cause name)
+closed_push folder cause (x ∷ names) name =
+    ap (λ (t : List ℕ). closed_line folder cause x ++ t) (closed_push folder cause names name)
+    ∙ sym (append_assoc (closed_line folder cause x) (closed_lines folder cause names) (closed_line folder cause name))
+
+pub closed_next : (folder cause : List ℕ) (names : List (List ℕ)) (i : ℕ) (name : List ℕ) → i < length names →
+    name ≡ get_or names i name → closed_lines folder cause (take (i + 1) names)
+    ≡ closed_lines folder cause (take i names) ++ closed_line folder cause name
+closed_next folder cause names i name below is =
+    ap (closed_lines folder cause) (take_more names i name below is) ∙ closed_push folder cause (take i names) name

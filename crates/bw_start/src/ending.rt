@@ -1,0 +1,106 @@
+//! The names of a folder that have a file with an ending.
+ghost use Rattle.std.specs.Prelude.{◌≡◌, IsTrue, IfSome, IfOk, OnOk, ◌++◌, ◌∷◌, [], List, ℕ, Some};
+ghost use Rattle.std.specs.Prelude.{◌↔◌};
+ghost use Rattle.std.specs.List.{Contains};
+ghost use Rattle.bw_model.specs.Wire.{is_name as is_take_name};
+ghost use Rattle.bw_disk.specs.DiskSteps.{StaysWhole};
+ghost use Rattle.bw_disk.specs.Volumes.{AreDistinct};
+ghost use Rattle.bw_start.specs.Endings.{ending_text};
+ghost use Rattle.bw_start.specs.FoundNames.{ListsFiles, AddsName};
+
+use bw_disk::{ReadFault, Volume};
+use bw_request::Name;
+use std::alloc::Global;
+
+/// How the file of a name ends that is its journal.
+#[derive(Clone, Copy, Debug, PartialEq, Eq)]
+pub enum Ending {
+    /// `NAME.journal`: it doesn't rest.
+    Journal,
+    /// `NAME.closed`: it rests.
+    Closed,
+}
+
+impl Ending {
+    /// What follows the name.
+    fn bytes(self) -> &'static [u8]
+        ensures { result.now ≡ ending_text self }
+    {
+        match self {
+            Ending::Journal => b".journal",
+            Ending::Closed => b".closed",
+        }
+    }
+}
+
+/// The names of a folder that have a file with this ending, each once. Nothing is changed.
+///
+/// # Errors
+/// `Disk` if a call of the disk failed; `Memory` if memory was refused.
+///
+/// # Not specified
+/// The order of the names, and when memory is refused.
+pub fn list_files<E: Volume>(
+    alloc: Global,
+    notes: &mut E,
+    folder: &str,
+    ending: Ending,
+) -> Result<Vec<Name>, ReadFault>
+    ensures notes { StaysWhole E.Disk notes.old notes.new }
+    ensures distinct { IfOk result (λ names. AreDistinct names.items) }
+    ensures each { IsTrue (E.honest notes.old) → IfOk result (λ names.
+        ListsFiles (ending_text ending) folder.now (E.contents notes.old) names.items) }
+{
+    let Ok(listed) = notes.list(folder) else {
+        return Err(ReadFault::Disk);
+    };
+    let mut names = Vec::new(alloc);
+    for file in &listed {
+        add_name(file.as_str(), ending, &mut names)?;
+    }
+    Ok(names)
+}
+
+/// Adds the name of this file, if it has this ending and its name isn't there yet.
+fn add_name(file: &str, ending: Ending, names: &mut Vec<Name>) -> Result<(), ReadFault>
+    ensures distinct { AreDistinct names.old.items → OnOk result (AreDistinct names.new.items) }
+    ensures added { OnOk result (AddsName (ending_text ending) file.now names.old.items names.new.items) }
+{
+    let Some(name) = name_with(file, ending) else {
+        return Ok(());
+    };
+    if is_there(names, &name) {
+        return Ok(());
+    }
+    push_name(names, name)
+}
+
+/// Adds a name that isn't there.
+pub(crate) fn push_name(names: &mut Vec<Name>, name: Name) -> Result<(), ReadFault>
+    ensures pushed { OnOk result (names.new.items ≡ names.old.items ++ name ∷ []) }
+{
+    match names.push(name) {
+        Ok(()) => Ok(()),
+        Err(_) => Err(ReadFault::Memory),
+    }
+}
+
+/// Whether a name is among these.
+pub(crate) fn is_there(names: &[Name], name: &Name) -> bool
+    ensures { IsTrue result ↔ Contains names.now name.now }
+{
+    names.contains(name)
+}
+
+/// The name that this file's is with this ending, if it is one.
+pub(crate) fn name_with(file: &str, ending: Ending) -> Option<Name>
+    ensures name { IfSome result (λ name. IsTrue (is_take_name name)) }
+    ensures some { IfSome result (λ name. file.now ≡ name ++ ending_text ending) }
+    ensures each { (name : List ℕ) → IsTrue (is_take_name name) →
+        file.now ≡ name ++ ending_text ending → result ≡ Some name }
+{
+    let Some(stem) = file.as_bytes().strip_suffix(ending.bytes()) else {
+        return None;
+    };
+    Name::new(stem)
+}
