@@ -6,3 +6,4 @@ pub mod ExamplesOfLeft
 pub mod StoppedWorlds
 pub mod ServedWorlds
 pub mod ExamplesOfStops
+pub mod RestingFolders

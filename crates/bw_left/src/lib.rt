@@ -9,6 +9,7 @@ ghost use Rattle.bw_left.specs.LeftFolders.{CutAnswersAreNotLeft, CutBooksAreQui
 ghost use Rattle.bw_left.specs.LeftFolders.{LaterBooksForgetNothing};
 ghost use Rattle.bw_left.specs.LeftFolders.{LeftNamesAreInFolders, OrderedServersAreLeft};
 ghost use Rattle.bw_left.specs.LeftFolders.{QuietServersAreLeft};
+ghost use Rattle.bw_left.specs.RestingFolders.{RestingStartsHoldFolders};
 ghost use Rattle.bw_left.specs.ServedWorlds.{TurnsAreOfWorlds, DeathsAreSteps, StopsAreSteps};
 ghost use Rattle.bw_left.specs.ServedWorlds.{StartsAreSteps};
 ghost use Rattle.bw_left.specs.StoppedLives.{VerdictsOutliveStops};
@@ -16,7 +17,7 @@ ghost use Rattle.bw_left.specs.StoppedTurns.{KilledServersAreLeft, StoppedTurnsA
 ghost use Rattle.bw_left.specs.StoppedWorlds.{StoppedWorldsAreFaithful};
 
 use bw_disk::Volume;
-use bw_folder::{FolderJournal, FolderStore};
+use bw_folder::{FolderJournal, FolderStore, RestingFolderJournal};
 use bw_journal::Journal;
 use bw_store::TakeStore;
 
@@ -76,6 +77,13 @@ pub fn law_served_worlds<D: Volume, E: Volume>()
     ensures stops { StopsAreSteps ⟦<FolderStore<D> as TakeStore>⟧ ⟦<FolderJournal<E> as Journal>⟧ }
     ensures starts { StartsAreSteps D.Disk E.Disk ⟦<FolderStore<D> as TakeStore>⟧
         ⟦<FolderJournal<E> as Journal>⟧ }
+{}
+
+/// A server that is started over a folder in which names rest, and lets them rest, holds with what
+/// rests the book of the folder: from every book that an earlier one may have left there.
+pub fn law_resting_starts<D: Volume, E: Volume>()
+    ensures { RestingStartsHoldFolders D.Disk E.Disk ⟦<FolderStore<D> as TakeStore>⟧
+        ⟦<FolderJournal<E> as Journal>⟧ ⟦<RestingFolderJournal<E> as Journal>⟧ }
 {}
 
 /// Worked rows: a server that is killed while it notes a BLOCK, in the middle of the entry and at its
