@@ -8,3 +8,4 @@ pub mod PrepareForms
 pub mod MakingForms
 pub mod FoundForms
 pub mod OwnRuns
+pub mod LeaveFolders

@@ -12,7 +12,7 @@ use Rattle.bw_rest.specs.Runs.{RestsOn, RunsRestOn}
 
 module _ {X Y : Type 0} (S : StoreGhosts X) (J : JournalGhosts Y) where
   -- a turn leaves store and journal as honest as they were
-  honest_then : (old new : Server X Y S J) (f : Frame) (replies : List Reply) → RestingTurn S J old f replies new →
+  pub honest_then : (old new : Server X Y S J) (f : Frame) (replies : List Reply) → RestingTurn S J old f replies new →
       (S.honest new.stores.store ≡ S.honest old.stores.store)
       × (J.honest new.stores.journal ≡ J.honest old.stores.journal)
   honest_then old new f replies t = elim (t.answered) [

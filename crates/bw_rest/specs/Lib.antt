@@ -5,3 +5,4 @@ pub mod OwnRuns
 pub mod Resting
 pub mod Runs
 pub mod RestingServers
+pub mod Leaving

@@ -1,5 +1,6 @@
 //! Laws of servers whose names rest. Each function's contract is one; nothing runs.
 ghost use Rattle.bw_rest.specs.OwnRuns.{NamesRunAlone};
+ghost use Rattle.bw_rest.specs.Leaving.{RunsLeaveFolders};
 ghost use Rattle.bw_rest.specs.Runs.{RunsRestOn};
 
 use bw_journal::Journal;
@@ -9,6 +10,12 @@ use bw_store::TakeStore;
 /// from the definitions' turns on it as if no name had ever rested.
 pub fn law_rests_on<S: TakeStore, J: Journal>()
     ensures { RunsRestOn S.TakeStore J.Journal }
+{}
+
+/// And each file of the folder is that of its name's log, or what was there first: of a name in the
+/// table, of one that rests, and of one that isn't known.
+pub fn law_leaves_folders<S: TakeStore, J: Journal>()
+    ensures { RunsLeaveFolders S.TakeStore J.Journal }
 {}
 
 /// One name's frames, but for those put off or turned away for lack of room, are a run of the
