@@ -18,7 +18,12 @@ use Rattle.bw_exchange.proofs.Going.{answers_append}
 use Rattle.bw_engine.proofs.StoreRuns.{leaves_run}
 use Rattle.bw_serve.specs.ServedAll.{ServedOutcome, Served, Gone, Closed, ServesNext, ServesEach, EndsEarly, ServesRun}
 use Rattle.bw_serve.specs.ServedAll.{answered_next, answered_each, answered_early, answered_in_run}
+use Rattle.bw_ports.specs.declared.link.Link.{Ghosts as LinkGhosts}
 use Rattle.bw_ports.specs.declared.peers.Peers.{Ghosts as PeerGhosts}
+use Rattle.bw_ports.specs.declared.reactor.Reactor.{Ghosts as ReactorGhosts}
+use Rattle.bw_serve.specs.HostedFrom.{answered_in_loop}
+use Rattle.bw_serve.specs.Serving.{RunsEventLoop}
+use Rattle.bw_serve.specs.declared.serving.Bounds.{Bounds}
 
 module _ {T P R W O E : Type 0} (answers : T → Frame → List Reply → T → Type 0) (peers : PeerGhosts P R W)
     (reader : Reader R) (writer : Writer W) (out : Writer O) (reported : Writer E) (log : Bool) where
@@ -80,3 +85,16 @@ module _ {X Y P R W O E : Type 0} (S : StoreGhosts X) (J : JournalGhosts Y) (qui
       leaves_run S J quiet limit store old new begun limited empty honest
       (answered_in_run (ServerTurn S J) peers reader writer out reported log exchanges exit old new p p' o o' e e' run)
       (by_run (ServerTurn S J) peers reader writer out reported log exchanges exit old new p p' o o' e e' run)
+
+module _ {T B L O E : Type 0} (answers : T → Frame → List Reply → T → Type 0) (reactor : ReactorGhosts B L)
+    (link : LinkGhosts L) (out : Writer O) (reported : Writer E) (log : Bool) where
+  -- the server has answered them so
+  pub by_loop : (bounds : Bounds) (exit : Exit) (t t' : T) (b b' : B) (o o' : O) (e e' : E)
+      (run : RunsEventLoop reactor link answers out reported log bounds exit t t' b b' o o' e e') →
+      AnswersAll answers t
+      (answered_in_loop reactor link answers out reported log bounds exit t t' b b' o o' e e' run) t'
+  by_loop bounds Done t t' b b' o o' e e' run = run.by_server
+  by_loop bounds Refused t t' b b' o o' e e' run = run.by_server
+  by_loop bounds Usage t t' b b' o o' e e' run = run.by_server
+  by_loop bounds Device t t' b b' o o' e e' run = run.by_server
+  by_loop bounds Memory t t' b b' o o' e e' run = run.0

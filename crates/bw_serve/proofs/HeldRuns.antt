@@ -3,7 +3,6 @@ use Rattle.std.proofs.Common.{ℕ, Bool, List, subst, ◌∙◌}
 use Rattle.bw_model.specs.Holds.{Holds}
 use Rattle.bw_model.proofs.HeldFiles.{held_files}
 use Rattle.bw_stream.specs.declared.sink.Sink.{Ghosts as Writer}
-use Rattle.bw_stream.specs.declared.source.Source.{Ghosts as Reader}
 use Rattle.bw_store.specs.declared.store.TakeStore.{Ghosts as StoreGhosts}
 use Rattle.bw_journal.specs.declared.journal.Journal.{Ghosts as JournalGhosts}
 use Rattle.bw_session.specs.Servers.{kept_in, store_since}
@@ -12,18 +11,15 @@ use Rattle.bw_session.specs.declared.server.Server.{Server}
 use Rattle.bw_exchange.specs.Answering.{Answered, AnswersAll}
 use Rattle.bw_engine.specs.ServerRuns.{ServersAnswerInRuns}
 use Rattle.bw_console.specs.declared.exit.Exit.{Exit}
-use Rattle.bw_console.specs.declared.exit.Exit.TheVariants.{Done, Refused, Usage, Device, Memory}
 use Rattle.bw_ports.specs.declared.link.Link.{Ghosts as LinkGhosts}
-use Rattle.bw_ports.specs.declared.peers.Peers.{Ghosts as PeerGhosts}
 use Rattle.bw_ports.specs.declared.reactor.Reactor.{Ghosts as ReactorGhosts}
 use Rattle.bw_serve.specs.HostedFrom.{LeavesRunsFrom, answered_in_loop}
-use Rattle.bw_serve.specs.ServedAll.{ServesRun, answered_in_run}
 use Rattle.bw_serve.specs.Serving.{RunsEventLoop}
 use Rattle.bw_serve.specs.declared.serving.Bounds.{Bounds}
-use Rattle.bw_serve.proofs.AnsweredRuns.{by_run}
+use Rattle.bw_serve.proofs.AnsweredRuns.{by_loop}
 
 module _ {X Y : Type 0} (S : StoreGhosts X) (J : JournalGhosts Y) where
-  leaves_from : ServersAnswerInRuns S J → (old new : Server X Y S J) (answered : List Answered) →
+  pub leaves_from : ServersAnswerInRuns S J → (old new : Server X Y S J) (answered : List Answered) →
       AnswersAll (ServerTurn S J) old answered new → LeavesRunsFrom S J old new answered
   leaves_from law old new answered h honest first book held =
       let r = law old new answered h in
@@ -37,17 +33,6 @@ module _ {X Y : Type 0} (S : StoreGhosts X) (J : JournalGhosts Y) where
 
   module _ {B L O E : Type 0} (reactor : ReactorGhosts B L) (link : LinkGhosts L) (out : Writer O) (reported : Writer E)
       (log : Bool) where
-    -- the server has answered them so
-    by_loop : (bounds : Bounds) (exit : Exit) (s s' : Server X Y S J) (b b' : B) (o o' : O) (e e' : E)
-        (run : RunsEventLoop reactor link (ServerTurn S J) out reported log bounds exit s s' b b' o o' e e') →
-        AnswersAll (ServerTurn S J) s
-        (answered_in_loop reactor link (ServerTurn S J) out reported log bounds exit s s' b b' o o' e e' run) s'
-    by_loop bounds Done s s' b b' o o' e e' run = run.by_server
-    by_loop bounds Refused s s' b b' o o' e e' run = run.by_server
-    by_loop bounds Usage s s' b b' o o' e e' run = run.by_server
-    by_loop bounds Device s s' b b' o o' e e' run = run.by_server
-    by_loop bounds Memory s s' b b' o o' e e' run = run.0
-
     pub loop_leaves_from : ServersAnswerInRuns S J → (bounds : Bounds) (exit : Exit) (s s' : Server X Y S J) (b b' : B)
         (o o' : O) (e e' : E)
         (run : RunsEventLoop reactor link (ServerTurn S J) out reported log bounds exit s s' b b' o o' e e') →
@@ -56,16 +41,4 @@ module _ {X Y : Type 0} (S : StoreGhosts X) (J : JournalGhosts Y) where
     loop_leaves_from law bounds exit s s' b b' o o' e e' run =
         leaves_from law s s'
         (answered_in_loop reactor link (ServerTurn S J) out reported log bounds exit s s' b b' o o' e e' run)
-        (by_loop bounds exit s s' b b' o o' e e' run)
-
-  module _ {P R W O E : Type 0} (peers : PeerGhosts P R W) (reader : Reader R) (writer : Writer W) (out : Writer O)
-      (reported : Writer E) (log : Bool) where
-    pub run_leaves_from : ServersAnswerInRuns S J → (exchanges : ℕ) (exit : Exit) (s s' : Server X Y S J) (p p' : P)
-        (o o' : O) (e e' : E)
-        (run : ServesRun (ServerTurn S J) peers reader writer out reported log exchanges exit s s' p p' o o' e e') →
-        LeavesRunsFrom S J s s'
-        (answered_in_run (ServerTurn S J) peers reader writer out reported log exchanges exit s s' p p' o o' e e' run)
-    run_leaves_from law exchanges exit s s' p p' o o' e e' run =
-        leaves_from law s s'
-        (answered_in_run (ServerTurn S J) peers reader writer out reported log exchanges exit s s' p p' o o' e e' run)
-        (by_run (ServerTurn S J) peers reader writer out reported log exchanges exit s s' p p' o o' e e' run)
+        (by_loop (ServerTurn S J) reactor link out reported log bounds exit s s' b b' o o' e e' run)

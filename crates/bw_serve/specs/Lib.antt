@@ -16,3 +16,4 @@ pub mod ServedAll
 pub mod Hosted
 pub mod HostedFrom
 pub mod HostedResumed
+pub mod HostedTurns

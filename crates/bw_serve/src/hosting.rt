@@ -3,6 +3,7 @@
 ghost use Rattle.std.specs.Prelude.{◌≡◌};
 ghost use Rattle.bw_serve.specs.HostedFrom.{HostsManyFrom};
 ghost use Rattle.bw_serve.specs.HostedMany.{HostsMany, HostsManyOver};
+ghost use Rattle.bw_serve.specs.HostedTurns.{HostsManyTurns};
 
 use crate::hosting_in_turn::{format_listening, report_end, report_unbound};
 use crate::laws::law_names;
@@ -11,7 +12,7 @@ use crate::serving::{Bounds, run_event_loop};
 use bw_console::print::{give_up, print};
 use bw_console::{Exit, Fault};
 use bw_engine::laws::law_server_runs;
-use bw_exchange::Metered;
+use bw_exchange::{Metered, Turns};
 use bw_journal::{Journal, NoJournal};
 use bw_layout::Limit;
 use bw_ports::{ListenerSetup, Network, Reactor};
@@ -124,10 +125,36 @@ pub fn serve_many_from<S: TakeStore, J: Journal, B: Reactor, O: Sink, E: Sink>(
         hosting.now.bounds hosting.now.log result server reactor.old reactor.new out.old out.new
         faults.old faults.new }
 {
+    law_server_runs::<S, J>();
+    serve_many_turns(alloc, server, opening, reactor, hosting, out, faults)
+}
+
+/// Prints the opening lines, and serves a number of exchanges, many at once, by this server.
+///
+/// A line for each exchange is printed, and with a log each connection is a line on `faults`, as
+/// `run_event_loop` says; if the opening can't be printed, nothing is served.
+///
+/// `Done` after the last exchange; `Device` if the opening can't be written or the event loop can't
+/// continue; `Memory` if memory was refused before the first connection.
+///
+/// # Not specified
+/// What `run_event_loop` leaves open.
+pub fn serve_many_turns<T: Turns + Drop, B: Reactor, O: Sink, E: Sink>(
+    alloc: Global,
+    server: T,
+    opening: &str,
+    reactor: &mut B,
+    hosting: &Hosting<'_>,
+    out: &mut O,
+    faults: &mut E,
+) -> Exit
+    ensures { HostsManyTurns T.answers B.Reactor B.Link.Link O.Sink E.Sink opening.now
+        hosting.now.bounds hosting.now.log result server reactor.old reactor.new out.old out.new
+        faults.old faults.new }
+{
     let Ok(()) = print(out, opening.as_bytes()) else {
         return give_up(faults, &Fault::Unwritable);
     };
-    law_server_runs::<S, J>();
     let mut server = Metered::new(server);
     let (bounds, log) = (&hosting.bounds, hosting.log);
     let exit = run_event_loop(alloc, &mut server, reactor, bounds, log, out, faults);

@@ -5,13 +5,14 @@ ghost use Rattle.std.specs.Net.Text.{socket_text};
 ghost use Rattle.bw_serve.specs.Hosted.{Hosts, HostsOver, ReportsExit, ReportsUnopened};
 ghost use Rattle.bw_serve.specs.Hosted.{listening_line};
 ghost use Rattle.bw_serve.specs.HostedFrom.{HostsFrom};
+ghost use Rattle.bw_serve.specs.HostedTurns.{HostsTurns};
 
 use crate::refusing::report_refusal;
 use crate::serving_in_turn::serve_run;
 use bw_console::print::{give_up, print, print_diagnostic};
 use bw_console::{Exit, Fault, report_unopened};
 use bw_engine::laws::law_server_runs;
-use bw_exchange::Metered;
+use bw_exchange::{Metered, Turns};
 use bw_journal::{Journal, NoJournal};
 use bw_layout::Limit;
 use bw_ports::{Network, Peers};
@@ -143,10 +144,36 @@ pub fn serve_from<S: TakeStore, J: Journal, P: Peers, O: Sink, E: Sink>(
         opening.now serving.now.exchanges serving.now.log result server peers.old peers.new out.old
         out.new faults.old faults.new }
 {
+    law_server_runs::<S, J>();
+    serve_turns(alloc, server, opening, peers, serving, out, faults)
+}
+
+/// Prints the opening lines, and serves a number of exchanges, one after another, by this server.
+///
+/// A line for each exchange is printed, and with a log each link is a line on `faults`, as
+/// `serve_run` says; if the opening can't be printed, nothing is served.
+///
+/// `Done` after the last exchange; `Device` if the opening can't be written or no more peers are
+/// accepted; `Memory` if memory was refused to an exchange.
+///
+/// # Not specified
+/// What `serve_run` leaves open.
+pub fn serve_turns<T: Turns + Drop, P: Peers, O: Sink, E: Sink>(
+    alloc: Global,
+    server: T,
+    opening: &str,
+    peers: &mut P,
+    serving: &Serving<'_>,
+    out: &mut O,
+    faults: &mut E,
+) -> Exit
+    ensures { HostsTurns T.answers P.Peers P.Reader.Source P.Writer.Sink O.Sink E.Sink opening.now
+        serving.now.exchanges serving.now.log result server peers.old peers.new out.old out.new
+        faults.old faults.new }
+{
     let Ok(()) = print(out, opening.as_bytes()) else {
         return give_up(faults, &Fault::Unwritable);
     };
-    law_server_runs::<S, J>();
     let mut server = Metered::new(server);
     let (exchanges, log) = (serving.exchanges, serving.log);
     let exit = serve_run(alloc, &mut server, peers, exchanges, log, out, faults);

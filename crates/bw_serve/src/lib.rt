@@ -17,9 +17,9 @@ mod serving;
 mod serving_in_turn;
 mod serving_one;
 
-pub use hosting::{Hosting, serve_many, serve_many_from};
+pub use hosting::{Hosting, serve_many, serve_many_from, serve_many_turns};
 pub use hosting_in_turn::{
-    Serving, format_listening, report_end, report_unbound, serve, serve_from,
+    Serving, format_listening, report_end, report_unbound, serve, serve_from, serve_turns,
 };
 pub use observing::{NoRoundObserver, RoundObserver, RoundReport};
 pub use peer_slot::PeerSlot;

@@ -1,20 +1,19 @@
-use Rattle.std.proofs.Common.{inl}
-use Rattle.bw_serve.proofs.HeldRuns.{loop_leaves_from}
+use Rattle.std.proofs.Common.{inl, inr}
+use Rattle.bw_serve.proofs.HeldRuns.{leaves_from}
 use Rattle.bw_serve.proofs.hosting.serve_many_from.Goals as goal
 
 pub returns : goal.returns
-returns g c =
-    let ran = c.run_event_loop-exit in
-    let run = rw c.new-server.ensures.server at ran.ensures in
-    inl (record {
-      following = ran.new.server.server;
-      between = c.print.new.out;
-      opens = rw c.as_bytes.ensures.value at c.in-Ok.ensures.ok;
-      ended = ran.result;
-      logged = ran.new.faults;
-      run = run;
-      leaves = loop_leaves_from g.S.TakeStore g.J.Journal g.B.Reactor g.B.Link.Link g.O.Sink g.E.Sink c.args.hosting.now.log
-          c.law_server_runs.ensures c.args.hosting.now.bounds ran.result c.args.server ran.new.server.server c.args.reactor.now
-          ran.new.reactor c.print.new.out ran.new.out c.args.faults.now ran.new.faults run;
-      reports = c.report_end.ensures;
-    })
+returns g c = elim c.serve_many_turns.ensures [
+  | inl served ↦ inl (record {
+    following = served.following;
+    between = served.between;
+    opens = served.opens;
+    ended = served.ended;
+    logged = served.logged;
+    run = served.run;
+    leaves = leaves_from g.S.TakeStore g.J.Journal c.law_server_runs.ensures c.args.server served.following _
+        served.frames;
+    reports = served.reports;
+  })
+  | inr refused ↦ inr refused
+]

@@ -1,20 +1,19 @@
-use Rattle.std.proofs.Common.{inl}
-use Rattle.bw_serve.proofs.HeldRuns.{run_leaves_from}
+use Rattle.std.proofs.Common.{inl, inr}
+use Rattle.bw_serve.proofs.HeldRuns.{leaves_from}
 use Rattle.bw_serve.proofs.hosting_in_turn.serve_from.Goals as goal
 
 pub returns : goal.returns
-returns g c =
-    let ran = c.serve_run-exit in
-    let run = rw c.new-server.ensures.server at ran.ensures in
-    inl (record {
-      following = ran.new.server.server;
-      between = c.print.new.out;
-      opens = rw c.as_bytes.ensures.value at c.in-Ok.ensures.ok;
-      ended = ran.result;
-      logged = ran.new.faults;
-      run = run;
-      leaves = run_leaves_from g.S.TakeStore g.J.Journal g.P.Peers g.P.Reader.Source g.P.Writer.Sink g.O.Sink g.E.Sink
-          c.args.serving.now.log c.law_server_runs.ensures c.args.serving.now.exchanges ran.result c.args.server ran.new.server.server
-          c.args.peers.now ran.new.peers c.print.new.out ran.new.out c.args.faults.now ran.new.faults run;
-      reports = c.report_end.ensures;
-    })
+returns g c = elim c.serve_turns.ensures [
+  | inl served ↦ inl (record {
+    following = served.following;
+    between = served.between;
+    opens = served.opens;
+    ended = served.ended;
+    logged = served.logged;
+    run = served.run;
+    leaves = leaves_from g.S.TakeStore g.J.Journal c.law_server_runs.ensures c.args.server served.following _
+        served.frames;
+    reports = served.reports;
+  })
+  | inr refused ↦ inr refused
+]
