@@ -8,7 +8,7 @@ use crate::reactor::FilteredReactor;
 use bw_layout::Limit;
 use bw_operators::StatusSetup;
 use bw_pace::PacedNetwork;
-use bw_ports::{ListenerSetup, Network, StartRefusal, Starts};
+use bw_ports::{ListenerSetup, Network, StartRefusal, Starts, StartsResting};
 use std::io;
 use std::net::SocketAddr;
 
@@ -129,6 +129,18 @@ impl<T, N: Starts<T>> Starts<T> for FilteredNetwork<N> {
 
     fn start(&mut self, folder: &str, limit: Limit, sync: bool) -> Result<T, StartRefusal> {
         self.network.start(folder, limit, sync)
+    }
+}
+
+impl<T, N: StartsResting<T>> StartsResting<T> for FilteredNetwork<N> {
+    ghost rest_failures = { λ n. N.rest_failures n.network };
+
+    ghost starts_resting = { λ n folder limit sync result n'.
+        N.starts_resting n.network folder limit sync result n'.network
+        × (n'.one_name ≡ n.one_name) };
+
+    fn start_resting(&mut self, folder: &str, limit: Limit, sync: bool) -> Result<T, StartRefusal> {
+        self.network.start_resting(folder, limit, sync)
     }
 }
 

@@ -13,6 +13,7 @@ use Rattle.bw_ports.specs.declared.listener_setup.ListenerSetup.{Ghosts as Liste
 use Rattle.bw_ports.specs.declared.network.Network.{Ghosts as NetworkGhosts}
 use Rattle.bw_ports.specs.declared.starts.StartRefusal.{StartRefusal}
 use Rattle.bw_ports.specs.declared.starts.Starts.{Ghosts as StartGhosts}
+use Rattle.bw_ports.specs.declared.starts_resting.StartsResting.{Ghosts as RestGhosts}
 use Rattle.bw_serve.specs.declared.hosting.Hosting.{Hosting}
 use Rattle.bw_serve.specs.declared.hosting_in_turn.Serving.{Serving}
 use Rattle.bw_serve.specs.Refusals.{ReportsRefusal}
@@ -53,6 +54,13 @@ store_calls network folder =
 abbrev pub start_calls : {N T : Type 0} → StartGhosts N T → List ℕ → ℕ → Bool → Calls N T StartRefusal
 start_calls starter folder limit sync =
     record { returns = λ n. starter.starts n folder limit sync; failures = starter.failures }
+
+-- the calls for a server over what stands in the folder, in which names may rest
+abbrev pub rest_calls : {N T : Type 0} → RestGhosts N T → List ℕ → ℕ → Bool → Calls N T StartRefusal
+rest_calls starter folder limit sync = record {
+  returns = λ n. starter.starts_resting n folder limit sync;
+  failures = starter.rest_failures;
+}
 
 -- the calls for peers who come one after another
 abbrev pub peer_calls : {N X P D R W A B : Type 0} → NetworkGhosts N X P D R W A B → Serving →

@@ -17,3 +17,4 @@ pub mod Hosted
 pub mod HostedFrom
 pub mod HostedResumed
 pub mod HostedTurns
+pub mod HostedResting
