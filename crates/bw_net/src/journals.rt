@@ -1,13 +1,13 @@
 //! Whether an earlier server kept journals in a folder.
-use bw_disk::{ReadFault, SystemDisk};
+use bw_disk::{ReadFault, SystemDisk, Volume};
 use bw_ports::StartRefusal;
 use bw_request::Name;
-use bw_start::list_names;
+use bw_start::{Ending, list_files};
 use std::alloc::{AllocError, Global};
 use std::fs;
 use std::io::ErrorKind;
 
-/// Refuses a folder in which takes have journals: a server without them would answer for none of
+/// Refuses a folder in which takes have journals, or names rest: a server without them would answer for none of
 /// these takes. Who may not list the folder could keep no journals there, so such a folder passes.
 ///
 /// # Errors
@@ -22,12 +22,29 @@ pub(crate) fn refuse_journals(
     folder: &str,
 ) -> Result<(), StartRefusal> {
     let mut disk = SystemDisk::new(rt);
-    match list_names(alloc, &mut disk, folder) {
-        Ok(names) => refuse_names(alloc, folder, &names),
+    match lines_of_folder(alloc, &mut disk, folder) {
+        Ok(lines) if lines.is_empty() => Ok(()),
+        Ok(lines) => Err(StartRefusal::Unfit(lines)),
         Err(ReadFault::Memory) => Err(StartRefusal::Memory),
         Err(ReadFault::Disk) if may_list(rt, folder) => Err(StartRefusal::Device),
         Err(ReadFault::Disk) => Ok(()),
     }
+}
+
+/// A line for each journal of a folder, whether it rests or not.
+fn lines_of_folder<E: Volume>(
+    alloc: Global,
+    disk: &mut E,
+    folder: &str,
+) -> Result<Vec<u8>, ReadFault> {
+    let noted = list_files(alloc, disk, folder, Ending::Journal)?;
+    let closed = list_files(alloc, disk, folder, Ending::Closed)?;
+    let mut lines = Vec::new(alloc);
+    let needed = ".journal: this take needs serve --journal\n";
+    put_lines(folder, &noted, needed, &mut lines).map_err(|_| ReadFault::Memory)?;
+    let needed = ".closed: this take needs serve --journal --rest\n";
+    put_lines(folder, &closed, needed, &mut lines).map_err(|_| ReadFault::Memory)?;
+    Ok(lines)
 }
 
 /// Whether this process may list a folder.
@@ -38,25 +55,18 @@ fn may_list(rt: &HostRuntime, folder: &str) -> bool {
     }
 }
 
-/// Refuses a folder in which these takes have journals, if there are any.
-fn refuse_names(alloc: Global, folder: &str, names: &[Name]) -> Result<(), StartRefusal> {
-    if names.is_empty() {
-        return Ok(());
-    }
-    match lines_of(alloc, folder, names) {
-        Ok(lines) => Err(StartRefusal::Unfit(lines)),
-        Err(_) => Err(StartRefusal::Memory),
-    }
-}
-
-/// A line for the journal of each of these takes.
-fn lines_of(alloc: Global, folder: &str, names: &[Name]) -> Result<Vec<u8>, AllocError> {
-    let mut lines = Vec::new(alloc);
+/// Appends a line for each of these takes.
+fn put_lines(
+    folder: &str,
+    names: &[Name],
+    needed: &str,
+    lines: &mut Vec<u8>,
+) -> Result<(), AllocError> {
     for name in names {
         lines.extend_from_slice(folder.as_bytes())?;
         lines.extend_from_slice(b"/")?;
         lines.extend_from_slice(name.as_bytes())?;
-        lines.extend_from_slice(b".journal: this take needs serve --journal\n")?;
+        lines.extend_from_slice(needed.as_bytes())?;
     }
-    Ok(lines)
+    Ok(())
 }

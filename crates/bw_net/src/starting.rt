@@ -1,5 +1,6 @@
 //! The start of a server with journals over a folder of this machine.
-ghost use Rattle.std.specs.Prelude.{IfOk};
+ghost use Rattle.std.specs.Prelude.{◌≡◌, IfOk};
+ghost use Rattle.bw_stream.specs.Moves.{failures_after};
 ghost use Rattle.bw_start.specs.Started.{IsSetTo};
 
 use crate::folder::check_folder;
@@ -10,9 +11,9 @@ use bw_disk::SystemDisk;
 use bw_folder::{FolderJournal, FolderStore};
 use bw_layout::Limit;
 use bw_lock::LockRefusal;
-use bw_ports::{StartRefusal, Starts};
+use bw_ports::{StartRefusal, Starts, StartsResting};
 use bw_session::Server;
-use bw_start::{StartFault, start};
+use bw_start::{FolderFault, Settings, StartFault, start_over};
 use std::alloc::Global;
 
 /// A server over a folder of this machine, with journals beside the takes.
@@ -28,31 +29,64 @@ impl<'a> Starts<FolderServer<'a>> for TcpNetwork<'a> {
 
     ghost starts = { λ n folder limit sync result n'. IfOk result (IsSetTo limit folder sync) };
 
+    /// Refuses a folder in which names rest.
     fn start(
         &mut self,
         folder: &str,
         limit: Limit,
         sync: bool,
     ) -> Result<FolderServer<'a>, StartRefusal> {
-        let alloc = self.rt.alloc();
-        let lock = match lock_usable(self.rt, alloc, folder) {
-            Ok(lock) => lock,
-            Err(refusal) => {
-                self.failures = self.failures.saturating_add(1);
-                return Err(refusal);
-            }
-        };
-        let (takes, notes) = (SystemDisk::new(self.rt), SystemDisk::new(self.rt));
-        let mut watch = Terminal::new(self.rt);
-        match start(alloc, takes, notes, folder, limit, sync, &mut watch) {
-            Ok(server) => {
-                self.lock = Some(lock);
-                Ok(server)
-            }
-            Err((fault, _takes, _notes)) => {
-                self.failures = self.failures.saturating_add(1);
-                Err(refusal_of(alloc, folder, &fault))
-            }
+        let rest = false;
+        let settings = Settings { limit, sync, rest };
+        start_in(self, folder, settings)
+    }
+}
+
+impl<'a> StartsResting<FolderServer<'a>> for TcpNetwork<'a> {
+    ghost rest_failures = { λ n. n.failures };
+
+    ghost starts_resting = { λ n folder limit sync result n'.
+        IfOk result (IsSetTo limit folder sync) };
+
+    fn start_resting(
+        &mut self,
+        folder: &str,
+        limit: Limit,
+        sync: bool,
+    ) -> Result<FolderServer<'a>, StartRefusal> {
+        let rest = true;
+        let settings = Settings { limit, sync, rest };
+        start_in(self, folder, settings)
+    }
+}
+
+/// A server over a folder of this machine, which is locked then.
+fn start_in<'a>(
+    network: &mut TcpNetwork<'a>,
+    folder: &str,
+    settings: Settings,
+) -> Result<FolderServer<'a>, StartRefusal>
+    ensures set { IfOk result (IsSetTo settings.limit folder.now settings.sync) }
+    ensures count { network.new.failures ≡ failures_after result network.old.failures }
+{
+    let alloc = network.rt.alloc();
+    let lock = match lock_usable(network.rt, alloc, folder) {
+        Ok(lock) => lock,
+        Err(refusal) => {
+            network.failures = network.failures.saturating_add(1);
+            return Err(refusal);
+        }
+    };
+    let (takes, notes) = (SystemDisk::new(network.rt), SystemDisk::new(network.rt));
+    let mut watch = Terminal::new(network.rt);
+    match start_over(alloc, takes, notes, folder, settings, &mut watch) {
+        Ok(server) => {
+            network.lock = Some(lock);
+            Ok(server)
+        }
+        Err((fault, _takes, _notes)) => {
+            network.failures = network.failures.saturating_add(1);
+            Err(refusal_of(alloc, folder, &fault))
         }
     }
 }
@@ -72,14 +106,16 @@ fn refusal_by_lock(refusal: LockRefusal) -> StartRefusal {
     }
 }
 
-/// Why a server isn't started, with a line for each name that can't be resumed.
-fn refusal_of(alloc: Global, folder: &str, fault: &StartFault) -> StartRefusal {
+/// Why a server isn't started, with a line for each name that can't be resumed or rests.
+fn refusal_of(alloc: Global, folder: &str, fault: &FolderFault) -> StartRefusal {
     match fault {
-        StartFault::Disk => StartRefusal::Device,
-        StartFault::Memory => StartRefusal::Memory,
-        StartFault::Refused(_) | StartFault::TooMany(_) => match fault.lines(alloc, folder) {
-            Ok(lines) => StartRefusal::Unfit(lines),
-            Err(_) => StartRefusal::Memory,
-        },
+        FolderFault::Start(StartFault::Disk) => StartRefusal::Device,
+        FolderFault::Start(StartFault::Memory) => StartRefusal::Memory,
+        FolderFault::Start(_) | FolderFault::Rests(_) | FolderFault::Twice(_) => {
+            match fault.lines(alloc, folder) {
+                Ok(lines) => StartRefusal::Unfit(lines),
+                Err(_) => StartRefusal::Memory,
+            }
+        }
     }
 }
