@@ -16,6 +16,8 @@ use Rattle.bw_args.specs.Given.{IsJournaling, IsJournalingGiven, IsRecorders, Is
 use Rattle.bw_args.specs.Given.{GivesStatus, GivesWork, IsWork, IsWorkGiven, is_watch_mixed}
 use Rattle.bw_args.specs.Sources.{GivesSource, PlainSource, is_mixed, path_given, settings_on_line}
 use Rattle.bw_args.specs.Inspecting.{GivesInspection, PlainInspection, is_possible, one_file}
+use Rattle.bw_args.specs.Lines.{GivesRest, IsRestGiven}
+use Rattle.bw_args.specs.declared.bad_value.BadValue.TheVariants.{Rest}
 use Rattle.bw_args.specs.Lines.{AsksForPath, AsksNothing, GivesSender, GivesServer, GivesTries, HasNumbersInRange}
 use Rattle.bw_args.specs.Lines.{IsEndWithin, HasPort, IsFirstBad, IsGood, IsLineFor, IsWayWithin, IsWishOf, IsWithin, Service}
 use Rattle.bw_args.specs.Lines.{FileUpload, Wish, looked_at, looked_at_trying, looked_at_waiting}
@@ -580,6 +582,27 @@ pub no_journaling : (found : Found) (is_kept is_synced : Bool)
 no_journaling found is_kept is_synced kept synced none good =
     none good.0 (subst (λ s. IsJournaling is_kept s good.0) (sym synced)
     (subst (λ k. IsJournaling k (is_set (first_value found (codes "sync"))) good.0) (sym kept) good.1))
+
+-- whether names may rest, where the flags were read before
+pub a_rest : (found : Found) (is_kept is_asked is_shown rest : Bool)
+    → is_kept ≡ is_set (first_value found (codes "journal")) → is_asked ≡ is_set (first_value found (codes "rest"))
+    → is_shown ≡ is_some (first_value found (codes "status")) → GivesRest is_kept is_asked is_shown rest
+    → GivesRest (is_set (first_value found (codes "journal"))) (is_set (first_value found (codes "rest")))
+    (is_some (first_value found (codes "status"))) rest
+a_rest found is_kept is_asked is_shown rest kept asked shown is =
+    subst (λ s. GivesRest (is_set (first_value found (codes "journal"))) (is_set (first_value found (codes "rest"))) s rest)
+    shown (subst (λ a. GivesRest (is_set (first_value found (codes "journal"))) a is_shown rest) asked
+    (subst (λ k. GivesRest k is_asked is_shown rest) kept is))
+
+pub no_rest : (found : Found) (is_kept is_asked is_shown : Bool)
+    → is_kept ≡ is_set (first_value found (codes "journal")) → is_asked ≡ is_set (first_value found (codes "rest"))
+    → is_shown ≡ is_some (first_value found (codes "status")) → IsRestGiven is_kept is_asked is_shown None
+    → ¬ IsGood Rest (first_value found)
+no_rest found is_kept is_asked is_shown kept asked shown none good =
+    none good.0 (subst (λ s. GivesRest is_kept is_asked s good.0) (sym shown)
+    (subst (λ a. GivesRest is_kept a (is_some (first_value found (codes "status"))) good.0) (sym asked)
+    (subst (λ k. GivesRest k (is_set (first_value found (codes "rest"))) (is_some (first_value found (codes "status"))) good.0)
+    (sym kept) good.1)))
 
 -- where the status is shown, where a flag was read before
 pub a_status : (found : Found) (network : Bool) (status : Option SocketAddr)

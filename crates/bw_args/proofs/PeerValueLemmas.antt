@@ -20,11 +20,11 @@ use Rattle.bw_args.proofs.Asked.{bad, ◌and_then◌}
 use Rattle.bw_args.proofs.ValueLemmas.{IsBadAt, LacksSender, LacksServer, nothing, reported}
 use Rattle.bw_args.specs.declared.bad_value.BadValue.TheVariants.{Name, Limit, Listen, Folder, Exchanges, Timeout}
 use Rattle.bw_args.specs.declared.bad_value.BadValue.TheVariants.{Recorders, Idle, Wait}
-use Rattle.bw_args.specs.declared.bad_value.BadValue.TheVariants.{UntilStopped, Sync, Status, Connect, Rounds}
+use Rattle.bw_args.specs.declared.bad_value.BadValue.TheVariants.{UntilStopped, Sync, Rest, Status, Connect, Rounds}
 use Rattle.bw_args.specs.declared.peers.End.TheVariants as when
 use Rattle.bw_args.specs.declared.peers.Recorders.{Recorders as Way}
 use Rattle.bw_args.specs.declared.peers.Recorders.TheVariants.{InTurn, AtOnce}
-use Rattle.bw_args.specs.declared.peers.Journaling.TheVariants.{Without}
+use Rattle.bw_args.specs.declared.peers.Journaling.TheVariants.{Without, Kept}
 use Rattle.bw_args.proofs.ServerLemmas.{serves_by}
 use Rattle.bw_args.proofs.WishLemmas.{same_way}
 
@@ -132,13 +132,32 @@ sync program listen folder address at full = (
       and_then (when.Exchanges 1, (None, refl, refl)) and_then bad (λ good. good.1),
 )
 
+rest : LacksServer (codes "--rest" ∷ []) Rest
+unfolding clap_on_literals
+rest program listen folder address at full = (
+  refl,
+  (address, at) and_then (folder, (full, refl)) and_then nothing and_then (default_limit, refl) and_then nothing
+      and_then nothing and_then nothing and_then (InTurn None, serves_by None None None _ refl refl refl refl)
+      and_then (when.Exchanges 1, (None, refl, refl)) and_then (Without, refl) and_then bad (λ good. good.1),
+)
+
+rest_shown : (status : Text)
+    → LacksServer (codes "--journal" ∷ codes "--rest" ∷ (codes "--status=" ++ status) ∷ []) Rest
+unfolding clap_on_literals
+rest_shown status program listen folder address at full = (
+  refl,
+  (address, at) and_then (folder, (full, refl)) and_then nothing and_then (default_limit, refl) and_then nothing
+      and_then nothing and_then nothing and_then (InTurn None, serves_by None None None _ refl refl refl refl)
+      and_then (when.Exchanges 1, (None, refl, refl)) and_then (Kept, refl) and_then bad (λ good. good.1),
+)
+
 status_alone : (status : Text) → LacksServer ((codes "--status=" ++ status) ∷ []) Status
 unfolding clap_on_literals
 status_alone status program listen folder address at full = (
   refl,
   (address, at) and_then (folder, (full, refl)) and_then nothing and_then (default_limit, refl) and_then nothing
       and_then nothing and_then nothing and_then (InTurn None, serves_by None None None _ refl refl refl refl)
-      and_then (when.Exchanges 1, (None, refl, refl)) and_then (Without, refl) and_then bad (λ good. good.1),
+      and_then (when.Exchanges 1, (None, refl, refl)) and_then (Without, refl) and_then (false, refl) and_then bad (λ good. good.1),
 )
 
 -- no status is shown at what is no address
@@ -158,7 +177,7 @@ status count text given none program listen folder address at full = (
         AtOnce (number_written count) default_idle,
         serves_by None (Some (number_written count)) None _ refl (given, refl) refl refl,
       )
-      and_then (when.Exchanges 1, (None, refl, refl)) and_then (Without, refl)
+      and_then (when.Exchanges 1, (None, refl, refl)) and_then (Without, refl) and_then (false, refl)
       and_then bad (λ good. no_status text good.0 none good.1),
 )
 
@@ -203,6 +222,8 @@ refuses_peers words line is = record {
       (timeout_beside n s given waits p l f a at full);
   both = λ n given p l f a at full e. reported words _ line UntilStopped is e (both n given p l f a at full);
   sync = λ p l f a at full e. reported words _ line Sync is e (sync p l f a at full);
+  rest = λ p l f a at full e. reported words _ line Rest is e (rest p l f a at full);
+  rest_shown = λ t p l f a at full e. reported words _ line Rest is e (rest_shown t p l f a at full);
   status_alone = λ t p l f a at full e. reported words _ line Status is e (status_alone t p l f a at full);
   status = λ k t given none p l f a at full e. reported words _ line Status is e
       (status k t given none p l f a at full);

@@ -17,7 +17,7 @@ use Rattle.bw_args.specs.Numbers.{most_recorders, most_seconds}
 use Rattle.bw_args.specs.Numbers.{number_written}
 use Rattle.bw_args.specs.ReadWords.{as_read}
 use Rattle.bw_args.specs.Lines.{AsksFor, GivesAddress, GivesCount, GivesEnd, GivesFolder, GivesLimit, GivesRecorders, GivesStatus}
-use Rattle.bw_args.specs.Lines.{GivesServer, IsJournaling, IsLineOf, IsRecorders, IsWishOf, Service, Serving, Wish, is_set}
+use Rattle.bw_args.specs.Lines.{GivesServer, IsJournaling, GivesRest, IsLineOf, IsRecorders, IsWishOf, Service, Serving, Wish, is_set}
 use Rattle.bw_args.specs.PeerForms.{RunsServer, plain_server}
 use Rattle.bw_args.specs.PeerForms.{serving}
 use Rattle.bw_args.specs.declared.CommandLine.{CommandLine}
@@ -50,11 +50,13 @@ server_by : {given : Text → Option Text} {server : Service} → GivesEnd (give
     → GivesAddress (is_set (given (codes "network"))) (given (codes "listen")) server.listen
     → GivesFolder (given (codes "folder")) server.folder → server.log ≡ is_set (given (codes "log"))
     → IsJournaling (is_set (given (codes "journal"))) (is_set (given (codes "sync"))) server.journal
+    → GivesRest (is_set (given (codes "journal"))) (is_set (given (codes "rest"))) (is_some (given (codes "status")))
+    server.rest
     → server.one_name ≡ is_set (given (codes "one-name"))
     → GivesStatus (is_set (given (codes "network"))) (given (codes "status")) (is_some (given (codes "recorders")))
     server.status
     → GivesServer given server
-server_by ends limited serves listens keeps reports journals names shows = record {
+server_by ends limited serves listens keeps reports journals rests names shows = record {
   listens = listens;
   keeps = keeps;
   ends = ends;
@@ -62,6 +64,7 @@ server_by ends limited serves listens keeps reports journals names shows = recor
   serves = serves;
   reports = reports;
   journals = journals;
+  rests = rests;
   names = names;
   shows = shows;
 }
@@ -78,7 +81,7 @@ alone program listen folder address at full =
     asks refl (
       refl,
       server_by (None, refl, refl) refl (serves_by None None None _ refl refl refl refl) at
-          (full, refl) refl refl refl refl,
+          (full, refl) refl refl refl refl refl,
     )
 
 network : AsksServer true (codes "--network" ∷ []) plain_server
@@ -87,7 +90,7 @@ network program listen folder address at full =
     asks refl (
       refl,
       server_by (None, refl, refl) refl (serves_by None None None _ refl refl refl refl) at
-          (full, refl) refl refl refl refl,
+          (full, refl) refl refl refl refl refl,
     )
 
 exchanges : (count : Text) → IsCountText most_exchanges count
@@ -98,7 +101,7 @@ exchanges count is program listen folder address at full =
     asks refl (
       refl,
       server_by (Some (number_written count), (is, refl), refl) refl
-          (serves_by None None None _ refl refl refl refl) at (full, refl) refl refl refl refl,
+          (serves_by None None None _ refl refl refl refl) at (full, refl) refl refl refl refl refl,
     )
 
 limit : (text : Text) → IsLimitText text
@@ -109,7 +112,7 @@ limit text is program listen folder address at full =
     asks refl (
       refl,
       server_by (None, refl, refl) (is, refl) (serves_by None None None _ refl refl refl refl) at
-          (full, refl) refl refl refl refl,
+          (full, refl) refl refl refl refl refl,
     )
 
 timeout : (seconds : Text) → IsCountText most_seconds seconds
@@ -120,7 +123,7 @@ timeout seconds is program listen folder address at full =
     asks refl (
       refl,
       server_by (None, refl, refl) refl
-          (serves_by (Some (number_written seconds)) None None _ (is, refl) refl refl refl) at (full, refl) refl refl refl refl,
+          (serves_by (Some (number_written seconds)) None None _ (is, refl) refl refl refl) at (full, refl) refl refl refl refl refl,
     )
 
 recorders : (count : Text) → IsCountText most_recorders count
@@ -131,7 +134,7 @@ recorders count is program listen folder address at full =
     asks refl (
       refl,
       server_by (None, refl, refl) refl
-          (serves_by None (Some (number_written count)) None _ refl (is, refl) refl refl) at (full, refl) refl refl refl refl,
+          (serves_by None (Some (number_written count)) None _ refl (is, refl) refl refl) at (full, refl) refl refl refl refl refl,
     )
 
 idle : (count seconds : Text) → IsCountText most_recorders count → IsCountText most_seconds seconds
@@ -143,7 +146,7 @@ idle count seconds is idles program listen folder address at full =
       refl,
       server_by (None, refl, refl) refl
           (serves_by None (Some (number_written count)) (Some (number_written seconds)) _ refl (is, refl) (idles, refl)
-          refl) at (full, refl) refl refl refl refl,
+          refl) at (full, refl) refl refl refl refl refl,
     )
 
 until_stopped : AsksServer false (codes "--until-stopped" ∷ [])
@@ -153,7 +156,7 @@ until_stopped program listen folder address at full =
     asks refl (
       refl,
       server_by (None, refl, refl) refl (serves_by None None None _ refl refl refl refl) at
-          (full, refl) refl refl refl refl,
+          (full, refl) refl refl refl refl refl,
     )
 
 log : AsksServer false (codes "--log" ∷ []) (λ a f. record (plain_server a f) { log = true })
@@ -162,7 +165,7 @@ log program listen folder address at full =
     asks refl (
       refl,
       server_by (None, refl, refl) refl (serves_by None None None _ refl refl refl refl) at
-          (full, refl) refl refl refl refl,
+          (full, refl) refl refl refl refl refl,
     )
 
 one_name : AsksServer false (codes "--one-name" ∷ []) (λ a f. record (plain_server a f) { one_name = true })
@@ -171,7 +174,7 @@ one_name program listen folder address at full =
     asks refl (
       refl,
       server_by (None, refl, refl) refl (serves_by None None None _ refl refl refl refl) at
-          (full, refl) refl refl refl refl,
+          (full, refl) refl refl refl refl refl,
     )
 
 journal : AsksServer false (codes "--journal" ∷ []) (λ a f. record (plain_server a f) { journal = Kept })
@@ -180,7 +183,7 @@ journal program listen folder address at full =
     asks refl (
       refl,
       server_by (None, refl, refl) refl (serves_by None None None _ refl refl refl refl) at
-          (full, refl) refl refl refl refl,
+          (full, refl) refl refl refl refl refl,
     )
 
 sync : AsksServer false (codes "--journal" ∷ codes "--sync" ∷ [])
@@ -190,7 +193,17 @@ sync program listen folder address at full =
     asks refl (
       refl,
       server_by (None, refl, refl) refl (serves_by None None None _ refl refl refl refl) at
-          (full, refl) refl refl refl refl,
+          (full, refl) refl refl refl refl refl,
+    )
+
+rest : AsksServer false (codes "--journal" ∷ codes "--rest" ∷ [])
+    (λ a f. record (plain_server a f) { journal = Kept; rest = true })
+unfolding clap_on_literals
+rest program listen folder address at full =
+    asks refl (
+      refl,
+      server_by (None, refl, refl) refl (serves_by None None None _ refl refl refl refl) at
+          (full, refl) refl refl refl refl refl,
     )
 
 -- a local address is no option
@@ -204,7 +217,7 @@ apart_near program folder address at full =
     asks refl (
       refl,
       server_by (None, refl, refl) refl (serves_by None None None _ refl refl refl refl) at
-          (full, refl) refl refl refl refl,
+          (full, refl) refl refl refl refl refl,
     )
 
 apart_asks : (program listen folder : Text) (address : SocketAddr) → IsAddress false listen address → folder ≢ []
@@ -294,7 +307,7 @@ status count text at is shows program listen folder address there full =
       refl,
       server_by (None, refl, refl) refl
           (serves_by None (Some (number_written count)) None _ refl (is, refl) refl refl) there (full, refl) refl refl
-          refl shows,
+          refl refl shows,
     )
 
 pub runs_server : (words : List Text) (line : CommandLine) → IsLineOf words line → RunsServer words line
@@ -327,6 +340,7 @@ runs_server words line is = record {
   log = λ p l f a at full e. asked_runs words _ line _ is e (log p l f a at full);
   journal = λ p l f a at full e. asked_runs words _ line _ is e (journal p l f a at full);
   sync = λ p l f a at full e. asked_runs words _ line _ is e (sync p l f a at full);
+  rest = λ p l f a at full e. asked_runs words _ line _ is e (rest p l f a at full);
   status = λ k t s given shows p l f a at full e.
       asked_runs words _ line _ is e (status k t s given shows p l f a at full);
   one_name = λ p l f a at full e. asked_runs words _ line _ is e (one_name p l f a at full);

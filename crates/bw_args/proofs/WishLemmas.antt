@@ -9,7 +9,7 @@ use Rattle.std.specs.declared.net.socket_addr.SocketAddr.{SocketAddr}
 use Rattle.std.proofs.NetLemmas.Theorems.{IsSocketText_unique}
 use Rattle.clap.specs.Words.{Row, Text, first_of}
 use Rattle.bw_args.specs.Given.{GivesAddress, GivesCount, GivesCountOr, GivesEnd, GivesFolder, GivesFuse, GivesLimit}
-use Rattle.bw_args.specs.Given.{GivesName, GivesRecorders, GivesStatus, IsEnd, IsJournaling, IsRecorders, IsWork, given_on_line}
+use Rattle.bw_args.specs.Given.{GivesName, GivesRecorders, GivesRest, GivesStatus, IsEnd, IsJournaling, IsRecorders, IsWork, given_on_line}
 use Rattle.bw_args.specs.Sources.{GivesSource, PlainSource}
 use Rattle.bw_args.specs.PcmSources.{GivesFormat, GivesNumber, GivesSamples, IsFormatText, PlainPcm, at_comma}
 use Rattle.bw_args.specs.PcmSources.{fruitless_of, is_live, samples_with}
@@ -123,6 +123,13 @@ one_status network (Some text) true None b x y = absurd x
 one_status network (Some text) true (Some a) None x y = absurd y
 one_status network (Some text) false a b x y = absurd x
 
+one_rest : (is_kept asked shown : Bool) (a b : Bool) → GivesRest is_kept asked shown a
+    → GivesRest is_kept asked shown b → a ≡ b
+one_rest is_kept false shown a b x y = x ∙ sym y
+one_rest true true false a b x y = x ∙ sym y
+one_rest true true true a b x y = absurd x
+one_rest false true shown a b x y = absurd x
+
 one_server : (given : Text → Option Text) (a b : Service) → GivesServer given a → GivesServer given b → a ≡ b
 one_server given a b x y = λ i. record {
   listen = one_address _ _ a.listen b.listen x.listens y.listens i;
@@ -132,6 +139,7 @@ one_server given a b x y = λ i. record {
   recorders = one_way given a.recorders b.recorders x.serves y.serves i;
   log = (x.reports ∙ sym y.reports) i;
   journal = one_journaling _ _ a.journal b.journal x.journals y.journals i;
+  rest = one_rest _ _ _ a.rest b.rest x.rests y.rests i;
   one_name = (x.names ∙ sym y.names) i;
   status = one_status _ _ _ a.status b.status x.shows y.shows i;
 }

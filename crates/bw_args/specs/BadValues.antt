@@ -5,7 +5,7 @@ use Rattle.bw_args.specs.declared.bad_value.BadValue.{BadValue}
 use Rattle.bw_args.specs.declared.bad_value.BadValue.TheVariants.{Name, Limit, Fuse, Listen}
 use Rattle.bw_args.specs.declared.bad_value.BadValue.TheVariants.{Folder, Exchanges, Timeout}
 use Rattle.bw_args.specs.declared.bad_value.BadValue.TheVariants.{Recorders, Idle, Wait}
-use Rattle.bw_args.specs.declared.bad_value.BadValue.TheVariants.{UntilStopped, Sync, GiveUp, Connect}
+use Rattle.bw_args.specs.declared.bad_value.BadValue.TheVariants.{UntilStopped, Sync, Rest, GiveUp, Connect}
 use Rattle.bw_args.specs.declared.bad_value.BadValue.TheVariants.{Watch, Status}
 use Rattle.bw_args.specs.declared.bad_value.BadValue.TheVariants.{Rounds, Fruitless, Mixed, Pcm, Skip, Block}
 use Rattle.bw_args.specs.declared.bad_value.BadValue.TheVariants.{Rate, MixedSamples, Inspection}
@@ -35,6 +35,7 @@ fault_said Wait = codes "'--idle <SECONDS>' is for '--recorders <N>', and "
     ++ codes "'--timeout <SECONDS>' for a server without it"
 fault_said UntilStopped = codes "'--until-stopped' can't be given beside '--exchanges <N>'"
 fault_said Sync = codes "'--sync' is for '--journal'"
+fault_said Rest = codes "'--rest' is for '--journal', without '--status <ADDR>'"
 fault_said Status = codes "'--status <ADDR>' is for '--recorders <N>', and takes " ++ address_wanted
 fault_said Watch =
     codes "'--watch' can't be given beside '--check', '--json' and '--give-up <NAME>'"

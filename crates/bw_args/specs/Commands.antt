@@ -124,6 +124,10 @@ journal_flag = flag (codes "journal")
 abbrev pub sync_flag : Rule
 sync_flag = flag (codes "sync")
 
+-- `--rest`
+abbrev pub rest_flag : Rule
+rest_flag = flag (codes "rest")
+
 -- `--one-name`
 abbrev pub one_name_flag : Rule
 one_name_flag = flag (codes "one-name")
@@ -152,9 +156,9 @@ serve_ends = with_rule (with_rule serve_many until_stopped_flag) log_flag
 
 -- and what it keeps beside the takes
 abbrev pub serve_keeps : App
-serve_keeps = with_rule (with_rule serve_ends journal_flag) sync_flag
+serve_keeps = with_rule (with_rule (with_rule serve_ends journal_flag) sync_flag) rest_flag
 
--- `serve`, with its fourteen options
+-- `serve`, with its fifteen options
 abbrev pub serve_command : App
 serve_command = with_rule (with_rule serve_keeps one_name_flag) status_option
 

@@ -4,6 +4,7 @@ pub use Rattle.bw_args.specs.Given.{GivesFuse, GivesNoFuse, IsFuseGiven, given_o
 pub use Rattle.bw_args.specs.Given.{GivesAddress, IsAddressGiven, GivesFolder, IsFolderGiven}
 pub use Rattle.bw_args.specs.Given.{GivesCount, IsCountGiven, IsEnd, IsEndGiven, GivesEnd}
 pub use Rattle.bw_args.specs.Given.{IsRecorders, IsRecordersGiven, GivesRecorders, IsJournaling}
+pub use Rattle.bw_args.specs.Given.{GivesRest, IsRestGiven}
 pub use Rattle.bw_args.specs.Given.{IsJournalingGiven, GivesCountOr, GivesRounds}
 pub use Rattle.bw_args.specs.Given.{GivesStatus, IsStatusGiven}
 pub use Rattle.bw_args.specs.Given.{IsWork, IsWorkGiven, GivesWork, is_watch_mixed}
@@ -37,7 +38,7 @@ use Rattle.bw_args.specs.declared.bad_value.BadValue.{BadValue}
 use Rattle.bw_args.specs.declared.bad_value.BadValue.TheVariants.{Name, Limit, Fuse, Listen}
 use Rattle.bw_args.specs.declared.bad_value.BadValue.TheVariants.{Folder, Exchanges, Timeout}
 use Rattle.bw_args.specs.declared.bad_value.BadValue.TheVariants.{Recorders, Idle, Wait}
-use Rattle.bw_args.specs.declared.bad_value.BadValue.TheVariants.{UntilStopped, Sync, GiveUp, Connect}
+use Rattle.bw_args.specs.declared.bad_value.BadValue.TheVariants.{UntilStopped, Sync, Rest, GiveUp, Connect}
 use Rattle.bw_args.specs.declared.bad_value.BadValue.TheVariants.{Watch, Status}
 use Rattle.bw_args.specs.declared.bad_value.BadValue.TheVariants.{Rounds, Fruitless, Rate, Mixed, Pcm, Skip}
 use Rattle.bw_args.specs.declared.bad_value.BadValue.TheVariants.{Block, MixedSamples, Inspection}
@@ -61,6 +62,7 @@ pub record Service : Type 0 where
   pub recorders : Way
   pub log : Bool
   pub journal : Journaling
+  pub rest : Bool
   pub one_name : Bool
   pub status : Option SocketAddr
 
@@ -126,6 +128,7 @@ wish_of (Serve server) = Serving (record {
   recorders = server.recorders;
   log = server.log;
   journal = server.journal;
+  rest = server.rest;
   one_name = server.one_name;
   status = server.status;
 })
@@ -167,6 +170,8 @@ pub record GivesServer (given : Text → Option Text) (server : Service) : Type 
   pub reports : server.log ≡ is_set (given (codes "log"))
   pub journals :
       IsJournaling (is_set (given (codes "journal"))) (is_set (given (codes "sync"))) server.journal
+  pub rests : GivesRest (is_set (given (codes "journal"))) (is_set (given (codes "rest")))
+      (is_some (given (codes "status"))) server.rest
   pub names : server.one_name ≡ is_set (given (codes "one-name"))
   pub shows : GivesStatus (is_set (given (codes "network"))) (given (codes "status"))
       (is_some (given (codes "recorders"))) server.status
@@ -291,6 +296,8 @@ IsGood UntilStopped given = (end : End)
     × GivesEnd (given (codes "exchanges")) (is_set (given (codes "until-stopped"))) end
 IsGood Sync given = (journal : Journaling)
     × IsJournaling (is_set (given (codes "journal"))) (is_set (given (codes "sync"))) journal
+IsGood Rest given = (rest : Bool) × GivesRest (is_set (given (codes "journal")))
+    (is_set (given (codes "rest"))) (is_some (given (codes "status"))) rest
 IsGood Status given = (status : Option SocketAddr) × GivesStatus (is_set (given (codes "network")))
     (given (codes "status")) (is_some (given (codes "recorders"))) status
 IsGood Watch given = is_watch_mixed (is_set (given (codes "watch")))
@@ -316,7 +323,7 @@ looked_at_waiting = Timeout ∷ Recorders ∷ Idle ∷ Wait ∷ []
 -- the values that say how a server ends, and what it does beside, in the order in which they are
 -- looked at
 abbrev pub looked_at_serving : List BadValue
-looked_at_serving = UntilStopped ∷ Sync ∷ Status ∷ []
+looked_at_serving = UntilStopped ∷ Sync ∷ Rest ∷ Status ∷ []
 
 -- the values that say how a sender tries, in the order in which they are looked at
 abbrev pub looked_at_trying : List BadValue

@@ -16,7 +16,7 @@ use Rattle.bw_args.specs.declared.bad_value.BadValue.{BadValue}
 use Rattle.bw_args.specs.declared.bad_value.BadValue.TheVariants.{Name, Limit, Listen, Folder}
 use Rattle.bw_args.specs.declared.bad_value.BadValue.TheVariants.{Exchanges, Timeout, UntilStopped}
 use Rattle.bw_args.specs.declared.bad_value.BadValue.TheVariants.{Recorders, Idle, Wait}
-use Rattle.bw_args.specs.declared.bad_value.BadValue.TheVariants.{Sync, Status, Connect, Rounds}
+use Rattle.bw_args.specs.declared.bad_value.BadValue.TheVariants.{Sync, Rest, Status, Connect, Rounds}
 use Rattle.bw_args.specs.declared.peers.End.TheVariants as when
 use Rattle.bw_args.specs.declared.peers.Journaling.TheVariants.{Without, Kept, Synced}
 use Rattle.bw_args.specs.declared.peers.Recorders.TheVariants.{InTurn, AtOnce}
@@ -32,6 +32,7 @@ plain_server address folder = record {
   recorders = InTurn None;
   log = false;
   journal = Without;
+  rest = false;
   one_name = false;
   status = None;
 }
@@ -113,6 +114,9 @@ pub record RunsServer (words : List Text) (line : CommandLine) : Type 0 where
   -- with `--journal --sync`
   pub sync : ForServer false words (codes "--journal" ∷ codes "--sync" ∷ [])
       (AsksToServe line (λ s. record s { journal = Synced }))
+  -- with `--journal --rest`
+  pub rest : ForServer false words (codes "--journal" ∷ codes "--rest" ∷ [])
+      (AsksToServe line (λ s. record s { journal = Kept; rest = true }))
   -- with `--recorders=N --status=ADDR`, where the second ADDR is a local address too
   pub status : (count status : Text) (at : SocketAddr) → IsCountText most_recorders count
       → IsAddress false status at → ForServer false words
@@ -218,6 +222,11 @@ pub record RefusesPeers (words : List Text) (line : CommandLine) : Type 0 where
       (ReportsBad line UntilStopped)
   -- with `--sync` alone
   pub sync : ForServer false words (codes "--sync" ∷ []) (ReportsBad line Sync)
+  -- with `--rest` alone
+  pub rest : ForServer false words (codes "--rest" ∷ []) (ReportsBad line Rest)
+  -- with `--journal --rest --status=ADDR`
+  pub rest_shown : (status : Text) → ForServer false words
+      (codes "--journal" ∷ codes "--rest" ∷ (codes "--status=" ++ status) ∷ []) (ReportsBad line Rest)
   -- with `--status=ADDR` alone
   pub status_alone : (status : Text)
       → ForServer false words ((codes "--status=" ++ status) ∷ []) (ReportsBad line Status)

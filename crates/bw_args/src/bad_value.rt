@@ -29,6 +29,8 @@ pub enum BadValue {
     UntilStopped,
     /// `--sync` without `--journal`.
     Sync,
+    /// `--rest` without `--journal`, or with `--status`.
+    Rest,
     /// The address at which a server of many recorders shows its status, or one for another server.
     Status,
     /// Other options of `takes` beside `--watch`.
@@ -76,6 +78,7 @@ impl BadValue {
             BadValue::Wait => BAD_WAIT,
             BadValue::UntilStopped => BAD_UNTIL_STOPPED,
             BadValue::Sync => BAD_SYNC,
+            BadValue::Rest => BAD_REST,
             BadValue::Status => BAD_STATUS,
             BadValue::Watch => BAD_WATCH,
             BadValue::GiveUp => BAD_GIVE_UP,
@@ -183,6 +186,14 @@ For more information, try '--help'.
 
 const BAD_SYNC: &str = "\
 error: '--sync' is for '--journal'
+
+Usage: bwingest <COMMAND>
+
+For more information, try '--help'.
+";
+
+const BAD_REST: &str = "\
+error: '--rest' is for '--journal', without '--status <ADDR>'
 
 Usage: bwingest <COMMAND>
 

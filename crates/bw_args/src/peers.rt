@@ -50,6 +50,8 @@ pub struct Serve {
     pub log: bool,
     /// Whether it keeps journals.
     pub journal: Journaling,
+    /// Whether names may rest; only with journals, and without a status.
+    pub rest: bool,
     /// Whether a second name ends a connection.
     pub one_name: bool,
     /// Where it shows its status, if it does; only a server of many recorders does. Its port isn't 0.

@@ -332,6 +332,8 @@ static SERVERS: [Line; 27] = [
     (&["--journal"], Outcome::Keeps(Journaling::Kept)),
     (&["--sync", "--journal"], Outcome::Keeps(Journaling::Synced)),
     (&["--sync"], Outcome::Refuses),
+    (&["--journal", "--rest"], Outcome::Keeps(Journaling::Kept)),
+    (&["--rest"], Outcome::Refuses),
     (&["--journal", "--journal"], Outcome::Refuses),
     (&["--journal", "--sync", "--sync"], Outcome::Refuses),
     (&["--journal=true"], Outcome::Refuses),

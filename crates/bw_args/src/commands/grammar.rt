@@ -16,7 +16,7 @@ use super::options::{
     file_option, files_argument, folder_option, follow_flag, fruitless_option, fuse_option,
     give_up_option, human_flag, idle_option, journal_flag, json_flag, limit_option, link_log_flag,
     listen_option, log_flag, name_option, network_flag, one_name_flag, patience_option, pcm_option,
-    rate_option, recorders_option, rounds_option, set_option, skip_option, spool_option,
+    rate_option, recorders_option, rest_flag, rounds_option, set_option, skip_option, spool_option,
     state_option, status_option, strict_flag, sync_flag, take_json_flag, timeout_option,
     until_option, until_stopped_flag, watch_flag, write_flag,
 };
@@ -208,7 +208,8 @@ fn serve_keeps<'a>(alloc: Global) -> Result<Command<'a>, AllocError>
 {
     serve_ends(alloc)?
         .arg(journal_flag(alloc))?
-        .arg(sync_flag(alloc))
+        .arg(sync_flag(alloc))?
+        .arg(rest_flag(alloc))
 }
 
 /// The command with these and the options that say when it ends, and what it reports.

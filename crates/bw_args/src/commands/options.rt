@@ -4,7 +4,7 @@ ghost use Rattle.bw_args.specs.Commands.{flag, folder_option, fuse_option, idle_
 ghost use Rattle.bw_args.specs.Commands.{limit_option, listen_option, log_flag, name_option};
 ghost use Rattle.bw_args.specs.Commands.{network_flag, one_name_flag, option, recorders_option, required};
 ghost use Rattle.bw_args.specs.Commands.{file_option, fruitless_option, journal_flag, repeated};
-ghost use Rattle.bw_args.specs.Commands.{rounds_option, set_option, strict_flag, sync_flag};
+ghost use Rattle.bw_args.specs.Commands.{rest_flag, rounds_option, set_option, strict_flag, sync_flag};
 ghost use Rattle.bw_args.specs.Commands.{timeout_option, until_stopped_flag, block_option, follow_flag};
 ghost use Rattle.bw_args.specs.Commands.{pcm_option, skip_option, until_option, files_argument, json_flag};
 ghost use Rattle.bw_args.specs.Commands.{check_flag, digest_flag, give_up_option, human_flag, rate_option};
@@ -241,6 +241,13 @@ pub(crate) fn sync_flag<'a>(alloc: Global) -> Arg<'a>
 {
     let help = "With --journal: syncs file and journal before each reply";
     flag_option(alloc, "sync", help)
+}
+
+pub(crate) fn rest_flag<'a>(alloc: Global) -> Arg<'a>
+    ensures { IsOption rest_flag result }
+{
+    let help = "With --journal: lets closed takes rest, so that further ones find room";
+    flag_option(alloc, "rest", help)
 }
 
 pub(crate) fn status_option<'a>(alloc: Global) -> Arg<'a>

@@ -2,7 +2,7 @@
 ghost use Rattle.std.specs.Prelude.{codes, Some, IfOk, IfErr, OnErr, is_some, option_map};
 ghost use Rattle.clap.specs.Words.{first_value, found_of, rows_of};
 ghost use Rattle.bw_args.specs.Lines.{AsksForPath, GivesRecorders, IsEndGiven, IsFirstBad};
-ghost use Rattle.bw_args.specs.Lines.{IsFolderGiven, IsJournalingGiven, IsLineFor, IsRecordersGiven};
+ghost use Rattle.bw_args.specs.Lines.{IsFolderGiven, IsJournalingGiven, IsLineFor, IsRecordersGiven, IsRestGiven};
 ghost use Rattle.bw_args.specs.Lines.{IsStatusGiven, looked_at_waiting};
 
 use super::limit_given;
@@ -18,7 +18,8 @@ struct NoAddress;
 
 /// Bad values are reported in this order: the address, the folder, the exchanges, the limit, those
 /// of `recorders_given`, `--until-stopped` with a number of exchanges, `--sync` without `--journal`,
-/// and the address of `--status`, or that without `--recorders`.
+/// `--rest` without it or with `--status`, and the address of `--status`, or that without
+/// `--recorders`.
 pub(crate) fn serve_line(alloc: Global, options: &ArgMatches<'_>) -> Result<CommandLine, AllocError>
     ensures ok { IfOk result (IsLineFor (Some (codes "serve", rows_of (found_of options.now)))) }
     ensures err { OnErr result
@@ -49,6 +50,10 @@ pub(crate) fn serve_line(alloc: Global, options: &ArgMatches<'_>) -> Result<Comm
     let Some(journal) = journaling(is_kept, is_synced) else {
         return Ok(CommandLine::BadValue(BadValue::Sync));
     };
+    let is_asked = flag_given(options, "rest");
+    let Some(rest) = rest_given(is_kept, is_asked, options.get_str("status").is_some()) else {
+        return Ok(CommandLine::BadValue(BadValue::Rest));
+    };
     let Ok(status) = status_given(options, network) else {
         return Ok(CommandLine::BadValue(BadValue::Status));
     };
@@ -63,6 +68,7 @@ pub(crate) fn serve_line(alloc: Global, options: &ArgMatches<'_>) -> Result<Comm
         recorders,
         log,
         journal,
+        rest,
         one_name,
         status,
     })))
@@ -158,5 +164,17 @@ fn journaling(is_kept: bool, is_synced: bool) -> Option<Journaling>
         (true, false) => Some(Journaling::Kept),
         (true, true) => Some(Journaling::Synced),
         (false, true) => None,
+    }
+}
+
+/// Whether names may rest; none if they are to where no journals are kept, or a status is shown.
+fn rest_given(is_kept: bool, is_asked: bool, is_shown: bool) -> Option<bool>
+    ensures { IsRestGiven is_kept is_asked is_shown result }
+{
+    match (is_kept, is_asked, is_shown) {
+        (_, false, _) => Some(false),
+        (true, true, false) => Some(true),
+        (true, true, true) => None,
+        (false, true, _) => None,
     }
 }

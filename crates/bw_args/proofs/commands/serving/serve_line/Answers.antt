@@ -2,9 +2,9 @@ use Rattle.std.proofs.Common.{[], ◌∷◌, codes, subst, sym}
 use Rattle.clap.specs.Words.{first_value, found_of}
 use Rattle.bw_args.specs.Lines.{GivesFolder, Serving, looked_at_serving, looked_at_waiting}
 use Rattle.bw_args.specs.declared.bad_value.BadValue.TheVariants.{Listen, Folder, Exchanges, Limit}
-use Rattle.bw_args.specs.declared.bad_value.BadValue.TheVariants.{UntilStopped, Sync, Status}
-use Rattle.bw_args.proofs.Asked.{a_journaling, a_status, an_address, an_end, bad, bad_line, first_then, found_address, no_address}
-use Rattle.bw_args.proofs.Asked.{no_end, no_journaling, no_status, on_err, server_asked, way_then, ◌and_then◌}
+use Rattle.bw_args.specs.declared.bad_value.BadValue.TheVariants.{UntilStopped, Sync, Rest, Status}
+use Rattle.bw_args.proofs.Asked.{a_journaling, a_rest, a_status, an_address, an_end, bad, bad_line, first_then, found_address, no_address}
+use Rattle.bw_args.proofs.Asked.{no_end, no_journaling, no_rest, no_status, on_err, server_asked, way_then, ◌and_then◌}
 use Rattle.bw_args.proofs.commands.serving.serve_line.Goals as goal
 
 pub returns-in_default-clause-ok : goal.returns-in_default-clause-ok
@@ -69,6 +69,27 @@ returns-in_default-journaling-clause-ok c = bad_line (found_of c.args.options.no
     c.in_default-journaling.ensures))
     )
 
+pub returns-in_default-rest_given-clause-ok : goal.returns-in_default-rest_given-clause-ok
+returns-in_default-rest_given-clause-ok c = bad_line (found_of c.args.options.now) (codes "serve") Rest (
+    found_address (found_of c.args.options.now) (codes "listen") _ _ c.flag_given-network.ensures c.in-Some.ensures
+    and_then (_, c.in-Some-folder_given.ensures) and_then (c.in-Ok.count, c.in-Ok.ensures)
+    and_then (c.in-Some-limit_given.limit, c.in-Some-limit_given.ensures)
+    and_then way_then looked_at_serving (first_value (found_of c.args.options.now)) Rest
+    c.in-Ok-recorders_given.recorders c.in-Ok-recorders_given.ensures.ok
+    ((
+      c.in-Some-end_given.end,
+      an_end (found_of c.args.options.now) _ _ _ c.flag_given.ensures c.in-Ok.ensures
+          c.in-Some-end_given.ensures,
+    )
+    and_then (
+      c.in-Some-journaling.journal,
+      a_journaling (found_of c.args.options.now) _ _ _ c.flag_given-is_kept.ensures
+          c.flag_given-is_synced.ensures c.in-Some-journaling.ensures,
+    )
+    and_then bad (no_rest (found_of c.args.options.now) _ _ _ c.flag_given-is_kept.ensures
+    c.flag_given-is_asked.ensures c.is_some.ensures c.in_default-rest_given.ensures))
+    )
+
 pub returns-in_default-status_given-clause-ok : goal.returns-in_default-status_given-clause-ok
 returns-in_default-status_given-clause-ok c = bad_line (found_of c.args.options.now) (codes "serve") Status (
     found_address (found_of c.args.options.now) (codes "listen") _ _ c.flag_given-network.ensures c.in-Some.ensures
@@ -86,6 +107,11 @@ returns-in_default-status_given-clause-ok c = bad_line (found_of c.args.options.
       a_journaling (found_of c.args.options.now) _ _ _ c.flag_given-is_kept.ensures
           c.flag_given-is_synced.ensures c.in-Some-journaling.ensures,
     )
+    and_then (
+      c.in-Some-rest_given.rest,
+      a_rest (found_of c.args.options.now) _ _ _ _ c.flag_given-is_kept.ensures c.flag_given-is_asked.ensures
+          c.is_some.ensures c.in-Some-rest_given.ensures,
+    )
     and_then bad (no_status (found_of c.args.options.now) _ c.flag_given-network.ensures
     c.in_default-status_given.ensures))
     )
@@ -100,6 +126,7 @@ returns-in_err-folder-clause-err c = on_err c.from_residual.result (
     recorders = c.in-Ok-recorders_given.recorders;
     log = c.flag_given-log.result;
     journal = c.in-Some-journaling.journal;
+    rest = c.in-Some-rest_given.rest;
     one_name = c.flag_given-one_name.result;
     status = c.in-Ok-status_given.status;
   }),
@@ -115,6 +142,8 @@ returns-in_err-folder-clause-err c = on_err c.from_residual.result (
     reports = c.flag_given-log.ensures;
     journals = a_journaling (found_of c.args.options.now) _ _ _ c.flag_given-is_kept.ensures
         c.flag_given-is_synced.ensures c.in-Some-journaling.ensures;
+    rests = a_rest (found_of c.args.options.now) _ _ _ _ c.flag_given-is_kept.ensures c.flag_given-is_asked.ensures
+        c.is_some.ensures c.in-Some-rest_given.ensures;
     names = c.flag_given-one_name.ensures;
     shows = a_status (found_of c.args.options.now) _ _ c.flag_given-network.ensures c.in-Ok-status_given.ensures;
   }),
@@ -131,6 +160,8 @@ returns-clause-ok c = server_asked (found_of c.args.options.now) _ (record {
   reports = c.flag_given-log.ensures;
   journals = a_journaling (found_of c.args.options.now) _ _ _ c.flag_given-is_kept.ensures
       c.flag_given-is_synced.ensures c.in-Some-journaling.ensures;
+  rests = a_rest (found_of c.args.options.now) _ _ _ _ c.flag_given-is_kept.ensures c.flag_given-is_asked.ensures
+      c.is_some.ensures c.in-Some-rest_given.ensures;
   names = c.flag_given-one_name.ensures;
   shows = a_status (found_of c.args.options.now) _ _ c.flag_given-network.ensures c.in-Ok-status_given.ensures;
 })
