@@ -10,9 +10,7 @@ use Rattle.bw_commands.specs.Inspections.{IsPrintOfText}
 use Rattle.bw_console.specs.Printing.{IsOf, Nothing, Print}
 use Rattle.bw_ports.specs.declared.network.Network.{Ghosts as NetworkGhosts}
 use Rattle.bw_ports.specs.declared.listener_setup.ListenerSetup.{Ghosts as ListenerSetupGhosts}
-use Rattle.bw_ports.specs.declared.starts.Starts.{Ghosts as StartGhosts}
-use Rattle.bw_session.specs.declared.server.Server.{Server}
-use Rattle.bw_program.specs.Sides.{HostSide, SenderSide, ServerSide, UploadSide}
+use Rattle.bw_program.specs.Sides.{HostSide, SenderSide, ServerSide, UploadSide, StartSide}
 use Rattle.bw_program.specs.declared.outside.Outside.{Outside}
 use Rattle.bw_args.specs.declared.CommandLine.{CommandLine}
 use Rattle.bw_args.specs.declared.CommandLine.TheVariants.{Run, BadValue as Bad, Report}
@@ -52,32 +50,32 @@ reported-help texts.DisplayVersion outcome text out reported n p t =
     record { outcome = outcome; exit_is = refl; reads = refl; text = text; prints = p; reports = t }
 reported-help _ outcome text out reported n p t = absurd (n ((λ e. cc), (λ e. cc)))
 
-module _ {S T F H G M SB SL Ed LK DK DF N X Y Z P R W L K SP SK D A B U J Q I O E V C : Type 0} (host : HostSide S T F H G M SB SL Ed LK DK DF I O E)
+module _ {S T F H G M SB SL Ed LK DK DF N X Y Z P R W L K SP SK D A B U J Q I O E V C VR : Type 0} (host : HostSide S T F H G M SB SL Ed LK DK DF I O E)
     (server_side : ServerSide X Y Z P R W L K N SP SK) (sender_side : SenderSide D A B)
     (upload_side : UploadSide U J Q) (network : NetworkGhosts N X P D R W A B) (listener_setup : ListenerSetupGhosts N L K)
-    (starter : StartGhosts N (Server X Y server_side.store server_side.journal)) where
+    (starts : StartSide server_side.store server_side.journal N VR) where
   -- what is done for the words that were found is done for those that the system reported before
   pub reported-words : (words : Option (List Text)) (found : List Text) (exit : Exit) (system : S)
       (x x' : Outside S F DK N Q I O E V C) →
       ((reported : List Text) → words ≡ Some reported → found ≡ reported)
       → host.system.file_at system ≡ host.system.file_at x.system
       → host.system.failures system ≡ host.system.failures x.system
-      → IsProgram host server_side sender_side upload_side network listener_setup starter (Some found) exit
+      → IsProgram host server_side sender_side upload_side network listener_setup starts (Some found) exit
       (record x { system = system }) x'
-      → IsProgram host server_side sender_side upload_side network listener_setup starter words exit x x'
+      → IsProgram host server_side sender_side upload_side network listener_setup starts words exit x x'
   reported-words words found exit system x x' same files counts (inl a) =
       inl (record {
         line = a.line;
         comes = λ reported e. subst (λ (w : List Text). IsLineOf w a.line) (same reported e) (a.comes found refl);
         done = done_for a.line (subst (λ (g : Text → Option (List ℕ)). IsDoneFor host server_side sender_side upload_side network
-            listener_setup starter g (host.system.failures x.system) a.line exit (record x { system = system }) x') files
-            (subst (λ (k : ℕ). IsDoneFor host server_side sender_side upload_side network listener_setup starter
+            listener_setup starts g (host.system.failures x.system) a.line exit (record x { system = system }) x') files
+            (subst (λ (k : ℕ). IsDoneFor host server_side sender_side upload_side network listener_setup starts
             (host.system.file_at system) k a.line exit (record x { system = system }) x') counts a.done));
       })
     where
-      done_for : (line : CommandLine) → IsDoneFor host server_side sender_side upload_side network listener_setup starter
+      done_for : (line : CommandLine) → IsDoneFor host server_side sender_side upload_side network listener_setup starts
           (host.system.file_at x.system) (host.system.failures x.system) line exit (record x { system = system }) x'
-          → IsDoneFor host server_side sender_side upload_side network listener_setup starter (host.system.file_at x.system)
+          → IsDoneFor host server_side sender_side upload_side network listener_setup starts (host.system.file_at x.system)
           (host.system.failures x.system) line exit x x'
       done_for (Run (Replay limit fuse)) done = record { does = done.does; unused = done.unused; unread = done.unread; unpaused = done.unpaused; kept = done.kept }
       done_for (Run (Rehearse name limit)) done = record { does = done.does; unused = done.unused; unread = done.unread; unpaused = done.unpaused; kept = done.kept }
@@ -94,5 +92,5 @@ module _ {S T F H G M SB SL Ed LK DK DF N X Y Z P R W L K SP SK D A B U J Q I O 
       done_for (Bad value) done = record { does = done.does; unused = done.unused; unread = done.unread; unpaused = done.unpaused; kept = done.kept }
       done_for (Report error) done = record { does = done.does; unused = done.unused; unread = done.unread; unpaused = done.unpaused; kept = done.kept }
   reported-words words found exit system x x' same files counts (inr w) =
-      inr (subst (λ (k : ℕ). DoesAlone host server_side sender_side upload_side network listener_setup starter IsUnread exit k x x') counts
+      inr (subst (λ (k : ℕ). DoesAlone host server_side sender_side upload_side network listener_setup starts IsUnread exit k x x') counts
       (record { does = w.does; unused = w.unused; unread = w.unread; unpaused = w.unpaused; kept = w.kept }))

@@ -21,11 +21,10 @@ use Rattle.bw_serve.specs.declared.hosting_in_turn.Serving.{Serving}
 use Rattle.bw_serve.specs.HostedMany.{HostsMany}
 use Rattle.bw_serve.specs.HostedResumed.{HostsManyResumed, HostsResumed}
 use Rattle.bw_serve_status.specs.Shown.{HostsManyResumedShown, HostsManyShown}
-use Rattle.bw_session.specs.declared.server.Server.{Server}
-use Rattle.bw_ports.specs.declared.starts.Starts.{Ghosts as StartGhosts}
+use Rattle.bw_serve.specs.HostedResting.{HostsManyRested, HostsRested}
 use Rattle.bw_ports.specs.declared.listener_setup.ListenerSetup.{Ghosts as ListenerSetupGhosts}
 use Rattle.bw_serve.specs.declared.hosting.Hosting.{Hosting}
-use Rattle.bw_program.specs.Sides.{SenderSide, ServerSide}
+use Rattle.bw_program.specs.Sides.{SenderSide, ServerSide, StartSide}
 
 -- how many exchanges a server makes: without an end the most that can be counted, 2^64 - 1
 abbrev pub exchanges_of : End → ℕ
@@ -52,10 +51,10 @@ pub record IsHosting (server : Serve) (most idle : ℕ) (hosting : Hosting) : Ty
   pub limited : hosting.limit ≡ server.limit
   pub logs : hosting.log ≡ server.log
 
-module _ {X Y Z P R W L K O E N SP SK D A B : Type 0} (side : ServerSide X Y Z P R W L K N SP SK)
+module _ {X Y Z P R W L K O E N SP SK D A B V : Type 0} (side : ServerSide X Y Z P R W L K N SP SK)
     (out : Writer O) (reported : Writer E) (network : NetworkGhosts N X P D R W A B)
     (listener_setup : ListenerSetupGhosts N L K)
-    (starter : StartGhosts N (Server X Y side.store side.journal)) where
+    (starts : StartSide side.store side.journal N V) where
   -- it served one recorder after the other
   pub record ServesInTurn (server : Serve) (timeout : Option ℕ) (exit : Exit) (n n' : N) (o o' : O)
       (e e' : E) : Type 0 where
@@ -70,7 +69,7 @@ module _ {X Y Z P R W L K O E N SP SK D A B : Type 0} (side : ServerSide X Y Z P
     pub serving : Serving
     pub asked : IsServingAs server timeout serving
     pub hosts : HostsResumed side.store side.journal side.peers side.reader side.writer out reported
-        network starter serving sync exit n n' o o' e e'
+        network starts.starter serving sync exit n n' o o' e e'
 
   -- many at once are served, while the status is shown at an address, if one is given
   abbrev pub HostsAs : Option SocketAddr → Hosting → Exit → N → N → O → O → E → E → Type 0
@@ -85,10 +84,10 @@ module _ {X Y Z P R W L K O E N SP SK D A B : Type 0} (side : ServerSide X Y Z P
   abbrev pub ResumesShown : Option SocketAddr → Hosting → Bool → Exit → N → N → O → O → E → E → Type 0
   ResumesShown None hosting sync exit n n' o o' e e' =
       HostsManyResumed side.store side.journal side.reactor side.link out reported listener_setup
-      starter hosting sync exit n n' o o' e e'
+      starts.starter hosting sync exit n n' o o' e e'
   ResumesShown (Some status) hosting sync exit n n' o o' e e' =
       HostsManyResumedShown side.store side.journal side.reactor side.link out reported listener_setup
-      starter side.status hosting sync status exit n n' o o' e e'
+      starts.starter side.status hosting sync status exit n n' o o' e e'
 
   -- it served many at once
   pub record ServesAtOnce (server : Serve) (most idle : ℕ) (exit : Exit) (n n' : N) (o o' : O)
@@ -118,14 +117,44 @@ module _ {X Y Z P R W L K O E N SP SK D A B : Type 0} (side : ServerSide X Y Z P
   ResumesAs (recorders.AtOnce most idle) sync server exit n n' o o' e e' =
       ResumesAtOnce server most idle sync exit n n' o o' e e'
 
+  -- it served one recorder after the other, and names rested
+  pub record RestsInTurn (server : Serve) (timeout : Option ℕ) (sync : Bool) (exit : Exit)
+      (n n' : N) (o o' : O) (e e' : E) : Type 0 where
+    pub serving : Serving
+    pub asked : IsServingAs server timeout serving
+    pub hosts : HostsRested side.store side.journal starts.resting starts.becomes side.peers side.reader
+        side.writer out reported network starts.rest_starter serving sync exit n n' o o' e e'
+
+  -- it served many at once, and names rested
+  pub record RestsAtOnce (server : Serve) (most idle : ℕ) (sync : Bool) (exit : Exit) (n n' : N)
+      (o o' : O) (e e' : E) : Type 0 where
+    pub hosting : Hosting
+    pub asked : IsHosting server most idle hosting
+    pub hosts : HostsManyRested side.store side.journal starts.resting starts.becomes side.reactor
+        side.link out reported listener_setup starts.rest_starter hosting sync exit n n' o o' e e'
+
+  -- a server with journals whose names rest
+  abbrev pub RestsAs : Recorders → Bool → Serve → Exit → N → N → O → O → E → E → Type 0
+  RestsAs (recorders.InTurn timeout) sync server exit n n' o o' e e' =
+      RestsInTurn server timeout sync exit n n' o o' e e'
+  RestsAs (recorders.AtOnce most idle) sync server exit n n' o o' e e' =
+      RestsAtOnce server most idle sync exit n n' o o' e e'
+
+  -- a server with journals, whose names rest or don't
+  abbrev pub KeepsAs : Bool → Bool → Serve → Exit → N → N → O → O → E → E → Type 0
+  KeepsAs false sync server exit n n' o o' e e' =
+      ResumesAs server.recorders sync server exit n n' o o' e e'
+  KeepsAs true sync server exit n n' o o' e e' =
+      RestsAs server.recorders sync server exit n n' o o' e e'
+
   -- a server with journals or without
   abbrev pub ServesWith : Journaling → Serve → Exit → N → N → O → O → E → E → Type 0
   ServesWith journals.Without server exit n n' o o' e e' =
       ServesAs server.recorders server exit n n' o o' e e'
   ServesWith journals.Kept server exit n n' o o' e e' =
-      ResumesAs server.recorders false server exit n n' o o' e e'
+      KeepsAs server.rest false server exit n n' o o' e e'
   ServesWith journals.Synced server exit n n' o o' e e' =
-      ResumesAs server.recorders true server exit n n' o o' e e'
+      KeepsAs server.rest true server exit n n' o o' e e'
 
   -- after it was chosen whether each link may have one name alone
   pub record ServesByRule (server : Serve) (exit : Exit) (n n' : N) (o o' : O) (e e' : E)

@@ -13,6 +13,9 @@ use Rattle.bw_ports.specs.declared.reactor.Reactor.{Ghosts as ReactorGhosts}
 use Rattle.bw_ports.specs.declared.recording_files.RecordingFiles.{Ghosts as FileGhosts}
 use Rattle.bw_edit.specs.declared.edited_files.EditedFiles.{Ghosts as EditGhosts}
 use Rattle.bw_lock.specs.declared.folder_locks.FolderLocks.{Ghosts as LockGhosts}
+use Rattle.bw_ports.specs.declared.starts.Starts.{Ghosts as StartGhosts}
+use Rattle.bw_ports.specs.declared.starts_resting.StartsResting.{Ghosts as RestGhosts}
+use Rattle.bw_session.specs.declared.server.Server.{Server}
 use Rattle.bw_ports.specs.declared.system.System.{Ghosts as SystemGhosts}
 use Rattle.bw_ports.specs.declared.pause.Pause.{Ghosts as PauseGhosts}
 use Rattle.bw_ports.specs.declared.recording_files.FileStamp.{FileStamp}
@@ -90,6 +93,24 @@ server_side store journal none peers reader writer reactor link rule status = re
   link = link;
   rule = rule;
   status = status;
+}
+
+-- how servers with journals are started, of which those whose names rest have other journals then
+pub record StartSide {X Y : Type 0} (S : StoreGhosts X) (J : JournalGhosts Y) (N V : Type 0) :
+    Type 1 where
+  pub starter : StartGhosts N (Server X Y S J)
+  pub rest_starter : RestGhosts N (Server X Y S J)
+  pub resting : JournalGhosts V
+  pub becomes : Y → V → Type 0
+
+abbrev pub start_side : {X Y N V : Type 0} {S : StoreGhosts X} {J : JournalGhosts Y} →
+    StartGhosts N (Server X Y S J) → RestGhosts N (Server X Y S J) → JournalGhosts V →
+    (Y → V → Type 0) → StartSide S J N V
+start_side starter rest_starter resting becomes = record {
+  starter = starter;
+  rest_starter = rest_starter;
+  resting = resting;
+  becomes = becomes;
 }
 
 -- what a sender reaches a server by

@@ -8,7 +8,7 @@ ghost use Rattle.bw_console.specs.declared.exit.Exit.{Exit};
 ghost use Rattle.bw_console.specs.Exits.{status_of};
 ghost use Rattle.bw_send_file.specs.FileLooks.{LooksAt};
 ghost use Rattle.bw_program.specs.Programs.{IsDoneFor, IsProgram, IsReporting};
-ghost use Rattle.bw_program.specs.Sides.{host_side, sender_side, server_side, state_side, upload_side};
+ghost use Rattle.bw_program.specs.Sides.{host_side, sender_side, server_side, start_side, state_side, upload_side};
 ghost use Rattle.bw_serve_status.specs.Shown.{status_side};
 
 use crate::folders::work_on_takes;
@@ -26,13 +26,15 @@ use bw_console::{Exit, Fault, report_bad_argv};
 use bw_disk::Volume;
 use bw_draw::draw_file;
 use bw_edit::EditedFiles;
-use bw_journal::{Journal, NoJournal};
+use bw_journal::{BecomesResting, Journal, NoJournal};
 use bw_layout::Limit;
 use bw_lock::FolderLocks;
 use bw_one_name::NameRule;
 use bw_operators::StatusSetup;
 use bw_pace::PacedNetwork;
-use bw_ports::{ListenerSetup, Network, Pause, RecordingFiles, Starts, System, Watch};
+use bw_ports::{
+    ListenerSetup, Network, Pause, RecordingFiles, Starts, StartsResting, System, Watch,
+};
 use bw_progress::UploadWatch;
 use bw_repair_file::repair_file;
 use bw_resume::StateKeeping;
@@ -56,10 +58,11 @@ pub fn start<
     S: System,
     F: RecordingFiles + StateKeeping + EditedFiles + FolderLocks,
     D: Volume,
-    J: Journal,
+    J: BecomesResting,
     N: PacedNetwork
         + ListenerSetup
         + Starts<Server<N::Store, J>>
+        + StartsResting<Server<N::Store, J>>
         + NameRule
         + StatusSetup<N::Reactor>,
     P: Pause,
@@ -78,7 +81,9 @@ pub fn start<
         (sender_side N.Dial.Dial N.Dial.Reader.Source N.Dial.Writer.Sink)
         (upload_side ⟦<PlanFeed<F::File, F::Stamped> as Feed>⟧ (LooksAt F.Stamped.Stamped)
         ⟦<PcmFeed<F::Growing> as Feed>⟧ P.Pause)
-        N.Network N.ListenerSetup N.Starts (S.words outside.old.system) exit outside.old outside.new }
+        N.Network N.ListenerSetup
+        (start_side N.Starts N.StartsResting J.Resting.Journal J.becomes)
+        (S.words outside.old.system) exit outside.old outside.new }
 {
     ExitCode::from(obey(alloc, outside).status())
 }
@@ -88,10 +93,11 @@ fn obey<
     S: System,
     F: RecordingFiles + StateKeeping + EditedFiles + FolderLocks,
     D: Volume,
-    J: Journal,
+    J: BecomesResting,
     N: PacedNetwork
         + ListenerSetup
         + Starts<Server<N::Store, J>>
+        + StartsResting<Server<N::Store, J>>
         + NameRule
         + StatusSetup<N::Reactor>,
     P: Pause,
@@ -109,7 +115,9 @@ fn obey<
         (sender_side N.Dial.Dial N.Dial.Reader.Source N.Dial.Writer.Sink)
         (upload_side ⟦<PlanFeed<F::File, F::Stamped> as Feed>⟧ (LooksAt F.Stamped.Stamped)
         ⟦<PcmFeed<F::Growing> as Feed>⟧ P.Pause)
-        N.Network N.ListenerSetup N.Starts (S.words outside.old.system) result outside.old outside.new }
+        N.Network N.ListenerSetup
+        (start_side N.Starts N.StartsResting J.Resting.Journal J.becomes)
+        (S.words outside.old.system) result outside.old outside.new }
 {
     match outside.system.words() {
         Ok(words) => answer(alloc, words.as_slice(), outside),
@@ -122,10 +130,11 @@ fn answer<
     S: System,
     F: RecordingFiles + StateKeeping + EditedFiles + FolderLocks,
     D: Volume,
-    J: Journal,
+    J: BecomesResting,
     N: PacedNetwork
         + ListenerSetup
         + Starts<Server<N::Store, J>>
+        + StartsResting<Server<N::Store, J>>
         + NameRule
         + StatusSetup<N::Reactor>,
     P: Pause,
@@ -143,7 +152,9 @@ fn answer<
         (sender_side N.Dial.Dial N.Dial.Reader.Source N.Dial.Writer.Sink)
         (upload_side ⟦<PlanFeed<F::File, F::Stamped> as Feed>⟧ (LooksAt F.Stamped.Stamped)
         ⟦<PcmFeed<F::Growing> as Feed>⟧ P.Pause)
-        N.Network N.ListenerSetup N.Starts (Some (map string_bytes words.now)) result outside.old outside.new }
+        N.Network N.ListenerSetup
+        (start_side N.Starts N.StartsResting J.Resting.Journal J.becomes)
+        (Some (map string_bytes words.now)) result outside.old outside.new }
 {
     match parse(alloc, words) {
         Ok(line) => perform(alloc, &line, outside),
@@ -156,10 +167,11 @@ fn perform<
     S: System,
     F: RecordingFiles + StateKeeping + EditedFiles + FolderLocks,
     D: Volume,
-    J: Journal,
+    J: BecomesResting,
     N: PacedNetwork
         + ListenerSetup
         + Starts<Server<N::Store, J>>
+        + StartsResting<Server<N::Store, J>>
         + NameRule
         + StatusSetup<N::Reactor>,
     P: Pause,
@@ -178,7 +190,9 @@ fn perform<
         (sender_side N.Dial.Dial N.Dial.Reader.Source N.Dial.Writer.Sink)
         (upload_side ⟦<PlanFeed<F::File, F::Stamped> as Feed>⟧ (LooksAt F.Stamped.Stamped)
         ⟦<PcmFeed<F::Growing> as Feed>⟧ P.Pause)
-        N.Network N.ListenerSetup N.Starts (S.file_at outside.old.system) (S.failures outside.old.system) line.now result
+        N.Network N.ListenerSetup
+        (start_side N.Starts N.StartsResting J.Resting.Journal J.becomes)
+        (S.file_at outside.old.system) (S.failures outside.old.system) line.now result
         outside.old outside.new }
 {
     match line {
@@ -196,10 +210,11 @@ fn run<
     S: System,
     F: RecordingFiles + StateKeeping + EditedFiles + FolderLocks,
     D: Volume,
-    J: Journal,
+    J: BecomesResting,
     N: PacedNetwork
         + ListenerSetup
         + Starts<Server<N::Store, J>>
+        + StartsResting<Server<N::Store, J>>
         + NameRule
         + StatusSetup<N::Reactor>,
     P: Pause,
@@ -218,7 +233,9 @@ fn run<
         (sender_side N.Dial.Dial N.Dial.Reader.Source N.Dial.Writer.Sink)
         (upload_side ⟦<PlanFeed<F::File, F::Stamped> as Feed>⟧ (LooksAt F.Stamped.Stamped)
         ⟦<PcmFeed<F::Growing> as Feed>⟧ P.Pause)
-        N.Network N.ListenerSetup N.Starts (S.file_at outside.old.system) (S.failures outside.old.system)
+        N.Network N.ListenerSetup
+        (start_side N.Starts N.StartsResting J.Resting.Journal J.becomes)
+        (S.file_at outside.old.system) (S.failures outside.old.system)
         (CommandLine.Run task.now) result outside.old outside.new }
 {
     let Outside {

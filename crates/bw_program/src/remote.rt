@@ -1,21 +1,23 @@
 //! The commands that use the network, as a command line asks for them.
 ghost use Rattle.std.specs.Prelude.{◌≡◌};
 ghost use Rattle.bw_layout.specs.Limits.{IsLimit};
-ghost use Rattle.bw_program.specs.Remote.{HostsAs, IsHosting, IsServingAs, ResumesAs, ResumesShown, Sends};
+ghost use Rattle.bw_program.specs.Remote.{HostsAs, IsHosting, IsServingAs, KeepsAs, ResumesAs, ResumesShown};
+ghost use Rattle.bw_program.specs.Remote.{RestsAs, Sends};
 ghost use Rattle.bw_program.specs.Remote.{ServesAs, ServesByRule, exchanges_of};
-ghost use Rattle.bw_program.specs.Sides.{sender_side, server_side};
+ghost use Rattle.bw_program.specs.Sides.{sender_side, server_side, start_side};
 ghost use Rattle.bw_serve_status.specs.Shown.{status_side};
 
 use bw_args::{End, Journaling, Recorders, Send, Serve};
 use bw_console::Exit;
-use bw_journal::{Journal, NoJournal};
+use bw_journal::{BecomesResting, Journal, NoJournal};
 use bw_layout::Limit;
 use bw_one_name::NameRule;
 use bw_operators::StatusSetup;
-use bw_ports::{ListenerSetup, Network, Starts, Watch};
+use bw_ports::{ListenerSetup, Network, Starts, StartsResting, Watch};
 use bw_send::send_watched;
 use bw_serve::{
     Bounds, Hosting, Serving, serve, serve_journaled, serve_many, serve_many_journaled,
+    serve_many_resting, serve_resting,
 };
 use bw_serve_status::{serve_many_journaled_shown, serve_many_shown};
 use bw_session::Server;
@@ -25,8 +27,13 @@ use std::net::SocketAddr;
 
 /// Serves as the command line asks for.
 pub(crate) fn serve_as<
-    J: Journal,
-    N: Network + ListenerSetup + Starts<Server<N::Store, J>> + NameRule + StatusSetup<N::Reactor>,
+    J: BecomesResting,
+    N: Network
+        + ListenerSetup
+        + Starts<Server<N::Store, J>>
+        + StartsResting<Server<N::Store, J>>
+        + NameRule
+        + StatusSetup<N::Reactor>,
     W: Sink,
     E: Sink,
 >(alloc: Global, server: &Serve, network: &mut N, out: &mut W, faults: &mut E) -> Exit
@@ -34,7 +41,8 @@ pub(crate) fn serve_as<
     ensures { ServesByRule (server_side N.Store.TakeStore J.Journal ⟦<NoJournal as Journal>⟧
         N.Peers.Peers N.Peers.Reader.Source N.Peers.Writer.Sink N.Reactor.Reactor
         N.Reactor.Link.Link N.NameRule (status_side N.StatusSetup N.Port.StatusPort N.Port.Link.Link))
-        W.Sink E.Sink N.Network N.ListenerSetup N.Starts server.now result network.old
+        W.Sink E.Sink N.Network N.ListenerSetup
+        (start_side N.Starts N.StartsResting J.Resting.Journal J.becomes) server.now result network.old
         network.new out.old out.new faults.old faults.new }
 {
     let Some(limit) = Limit::new(server.limit) else {
@@ -43,15 +51,20 @@ pub(crate) fn serve_as<
     network.choose(server.one_name);
     match server.journal {
         Journaling::Without => serve_new::<J, _, _, _>(alloc, server, limit, network, out, faults),
-        Journaling::Kept => serve_resumed(alloc, server, limit, false, network, out, faults),
-        Journaling::Synced => serve_resumed(alloc, server, limit, true, network, out, faults),
+        Journaling::Kept => serve_kept(alloc, server, limit, false, network, out, faults),
+        Journaling::Synced => serve_kept(alloc, server, limit, true, network, out, faults),
     }
 }
 
 /// Serves without journals.
 fn serve_new<
-    J: Journal,
-    N: Network + ListenerSetup + Starts<Server<N::Store, J>> + NameRule + StatusSetup<N::Reactor>,
+    J: BecomesResting,
+    N: Network
+        + ListenerSetup
+        + Starts<Server<N::Store, J>>
+        + StartsResting<Server<N::Store, J>>
+        + NameRule
+        + StatusSetup<N::Reactor>,
     W: Sink,
     E: Sink,
 >(alloc: Global, server: &Serve, limit: Limit, network: &mut N, out: &mut W, faults: &mut E) -> Exit
@@ -59,7 +72,8 @@ fn serve_new<
     ensures { ServesAs (server_side N.Store.TakeStore J.Journal ⟦<NoJournal as Journal>⟧
         N.Peers.Peers N.Peers.Reader.Source N.Peers.Writer.Sink N.Reactor.Reactor
         N.Reactor.Link.Link N.NameRule (status_side N.StatusSetup N.Port.StatusPort N.Port.Link.Link))
-        W.Sink E.Sink N.Network N.ListenerSetup N.Starts server.now.recorders server.now result
+        W.Sink E.Sink N.Network N.ListenerSetup
+        (start_side N.Starts N.StartsResting J.Resting.Journal J.becomes) server.now.recorders server.now result
         network.old network.new out.old out.new faults.old faults.new }
 {
     match server.recorders {
@@ -77,8 +91,13 @@ fn serve_new<
 /// Serves many recorders at once without journals, and shows the status at an address, if one is
 /// given.
 fn serve_at_once<
-    J: Journal,
-    N: Network + ListenerSetup + Starts<Server<N::Store, J>> + NameRule + StatusSetup<N::Reactor>,
+    J: BecomesResting,
+    N: Network
+        + ListenerSetup
+        + Starts<Server<N::Store, J>>
+        + StartsResting<Server<N::Store, J>>
+        + NameRule
+        + StatusSetup<N::Reactor>,
     W: Sink,
     E: Sink,
 >(
@@ -92,7 +111,8 @@ fn serve_at_once<
     ensures { HostsAs (server_side N.Store.TakeStore J.Journal ⟦<NoJournal as Journal>⟧
         N.Peers.Peers N.Peers.Reader.Source N.Peers.Writer.Sink N.Reactor.Reactor
         N.Reactor.Link.Link N.NameRule (status_side N.StatusSetup N.Port.StatusPort N.Port.Link.Link))
-        W.Sink E.Sink N.Network N.ListenerSetup N.Starts status hosting.now result network.old
+        W.Sink E.Sink N.Network N.ListenerSetup
+        (start_side N.Starts N.StartsResting J.Resting.Journal J.becomes) status hosting.now result network.old
         network.new out.old out.new faults.old faults.new }
 {
     match status {
@@ -101,10 +121,91 @@ fn serve_at_once<
     }
 }
 
+/// Serves with journals, from what an earlier server left in the folder, and lets names rest if that
+/// is asked for.
+fn serve_kept<
+    J: BecomesResting,
+    N: Network
+        + ListenerSetup
+        + Starts<Server<N::Store, J>>
+        + StartsResting<Server<N::Store, J>>
+        + NameRule
+        + StatusSetup<N::Reactor>,
+    W: Sink,
+    E: Sink,
+>(
+    alloc: Global,
+    server: &Serve,
+    limit: Limit,
+    sync: bool,
+    network: &mut N,
+    out: &mut W,
+    faults: &mut E,
+) -> Exit
+    requires { limit ≡ server.now.limit }
+    ensures { KeepsAs (server_side N.Store.TakeStore J.Journal ⟦<NoJournal as Journal>⟧
+        N.Peers.Peers N.Peers.Reader.Source N.Peers.Writer.Sink N.Reactor.Reactor
+        N.Reactor.Link.Link N.NameRule (status_side N.StatusSetup N.Port.StatusPort N.Port.Link.Link))
+        W.Sink E.Sink N.Network N.ListenerSetup
+        (start_side N.Starts N.StartsResting J.Resting.Journal J.becomes) server.now.rest sync server.now
+        result network.old network.new out.old out.new faults.old faults.new }
+{
+    if server.rest {
+        serve_rested(alloc, server, limit, sync, network, out, faults)
+    } else {
+        serve_resumed(alloc, server, limit, sync, network, out, faults)
+    }
+}
+
+/// Serves with journals, from what an earlier server left in the folder, and lets names rest.
+fn serve_rested<
+    J: BecomesResting,
+    N: Network
+        + ListenerSetup
+        + Starts<Server<N::Store, J>>
+        + StartsResting<Server<N::Store, J>>
+        + NameRule
+        + StatusSetup<N::Reactor>,
+    W: Sink,
+    E: Sink,
+>(
+    alloc: Global,
+    server: &Serve,
+    limit: Limit,
+    sync: bool,
+    network: &mut N,
+    out: &mut W,
+    faults: &mut E,
+) -> Exit
+    requires { limit ≡ server.now.limit }
+    ensures { RestsAs (server_side N.Store.TakeStore J.Journal ⟦<NoJournal as Journal>⟧
+        N.Peers.Peers N.Peers.Reader.Source N.Peers.Writer.Sink N.Reactor.Reactor
+        N.Reactor.Link.Link N.NameRule (status_side N.StatusSetup N.Port.StatusPort N.Port.Link.Link))
+        W.Sink E.Sink N.Network N.ListenerSetup
+        (start_side N.Starts N.StartsResting J.Resting.Journal J.becomes) server.now.recorders sync server.now
+        result network.old network.new out.old out.new faults.old faults.new }
+{
+    match server.recorders {
+        Recorders::InTurn { timeout } => {
+            let serving = serving_of(server, limit, timeout);
+            serve_resting(alloc, network, &serving, sync, out, faults)
+        }
+        Recorders::AtOnce { most, idle } => {
+            let hosting = hosting_of(server, limit, most, idle);
+            serve_many_resting(alloc, network, &hosting, sync, out, faults)
+        }
+    }
+}
+
 /// Serves with journals, from what an earlier server left in the folder.
 fn serve_resumed<
-    J: Journal,
-    N: Network + ListenerSetup + Starts<Server<N::Store, J>> + NameRule + StatusSetup<N::Reactor>,
+    J: BecomesResting,
+    N: Network
+        + ListenerSetup
+        + Starts<Server<N::Store, J>>
+        + StartsResting<Server<N::Store, J>>
+        + NameRule
+        + StatusSetup<N::Reactor>,
     W: Sink,
     E: Sink,
 >(
@@ -120,7 +221,8 @@ fn serve_resumed<
     ensures { ResumesAs (server_side N.Store.TakeStore J.Journal ⟦<NoJournal as Journal>⟧
         N.Peers.Peers N.Peers.Reader.Source N.Peers.Writer.Sink N.Reactor.Reactor
         N.Reactor.Link.Link N.NameRule (status_side N.StatusSetup N.Port.StatusPort N.Port.Link.Link))
-        W.Sink E.Sink N.Network N.ListenerSetup N.Starts server.now.recorders sync server.now result
+        W.Sink E.Sink N.Network N.ListenerSetup
+        (start_side N.Starts N.StartsResting J.Resting.Journal J.becomes) server.now.recorders sync server.now result
         network.old network.new out.old out.new faults.old faults.new }
 {
     match server.recorders {
@@ -137,8 +239,13 @@ fn serve_resumed<
 
 /// The same with journals, from what an earlier server left in the folder.
 fn resume_at_once<
-    J: Journal,
-    N: Network + ListenerSetup + Starts<Server<N::Store, J>> + NameRule + StatusSetup<N::Reactor>,
+    J: BecomesResting,
+    N: Network
+        + ListenerSetup
+        + Starts<Server<N::Store, J>>
+        + StartsResting<Server<N::Store, J>>
+        + NameRule
+        + StatusSetup<N::Reactor>,
     W: Sink,
     E: Sink,
 >(
@@ -153,7 +260,8 @@ fn resume_at_once<
     ensures { ResumesShown (server_side N.Store.TakeStore J.Journal ⟦<NoJournal as Journal>⟧
         N.Peers.Peers N.Peers.Reader.Source N.Peers.Writer.Sink N.Reactor.Reactor
         N.Reactor.Link.Link N.NameRule (status_side N.StatusSetup N.Port.StatusPort N.Port.Link.Link))
-        W.Sink E.Sink N.Network N.ListenerSetup N.Starts status hosting.now sync result network.old
+        W.Sink E.Sink N.Network N.ListenerSetup
+        (start_side N.Starts N.StartsResting J.Resting.Journal J.becomes) status hosting.now sync result network.old
         network.new out.old out.new faults.old faults.new }
 {
     match status {
