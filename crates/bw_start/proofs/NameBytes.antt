@@ -114,3 +114,10 @@ pub ending_is_listed : (kind : Ending) (name : List ℕ) → IsTrue (is_name nam
     is_listed (name ++ ending_text kind) ≡ true
 ending_is_listed Journal name h = listed_with (codes ".journal") name refl h
 ending_is_listed Closed name h = listed_with (codes ".closed") name refl h
+
+-- the journal of a name has a name in UTF-8, and is listed
+pub journal_is_utf8 : (name : List ℕ) → IsTrue (is_name name) → IsUtf8 (name ++ codes ".journal")
+journal_is_utf8 name h = ending_is_utf8 Journal name h
+
+pub journal_is_listed : (name : List ℕ) → IsTrue (is_name name) → is_listed (name ++ codes ".journal") ≡ true
+journal_is_listed name h = ending_is_listed Journal name h

@@ -25,7 +25,7 @@ pub use ending::{Ending, list_files};
 pub use fault::FileFault;
 pub use finding::{Begun, Finding, NameFault, header_if, is_take, look};
 pub use lines::{file_cause, journal_cause};
-pub use listing::{FoundName, journal_name, list_names, look_at_each};
+pub use listing::{FoundName, closed_name, journal_name, list_names, look_at_each};
 pub use mending::mend;
 pub use paths::path_in;
 pub use reading::{FileRead, read_take};

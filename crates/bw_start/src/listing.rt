@@ -52,6 +52,16 @@ pub fn journal_name(file: &str) -> Option<Name>
     name_with(file, Ending::Journal)
 }
 
+/// The name whose journal rests in a file of this name, if one does: `NAME.closed`.
+pub fn closed_name(file: &str) -> Option<Name>
+    ensures name { IfSome result (λ name. IsTrue (is_take_name name)) }
+    ensures some { IfSome result (λ name. file.now ≡ name ++ codes ".closed") }
+    ensures each { (name : List ℕ) → IsTrue (is_take_name name) →
+        file.now ≡ name ++ codes ".closed" → result ≡ Some name }
+{
+    name_with(file, Ending::Closed)
+}
+
 /// What is found of each of these names, in their order. Nothing is changed.
 ///
 /// # Errors

@@ -35,6 +35,7 @@ pub fn put_take_line(
         TakeFinding::Stood => put_next(alloc, name, "stood", 0, lines),
         TakeFinding::Unbegun => put_next(alloc, name, "unopened", 0, lines),
         TakeFinding::Refused(fault) => put_word(alloc, name, cause_word(fault), lines),
+        TakeFinding::Twice => put_word(alloc, name, "TwoJournals", lines),
         TakeFinding::Begun(replayed) => put_begun(alloc, name, replayed, lines),
         TakeFinding::Changed(number) => {
             put_numbered(alloc, name, "ChangedBlock", u64::from(*number), lines)

@@ -128,5 +128,6 @@ fn is_sound(finding: &TakeFinding) -> bool
         TakeFinding::Refused(_) => false,
         TakeFinding::Begun(_) => true,
         TakeFinding::Changed(_) => false,
+        TakeFinding::Twice => false,
     }
 }

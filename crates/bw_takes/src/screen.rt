@@ -268,6 +268,7 @@ fn is_open(state: ProgressState) -> bool
         ProgressState::Stood => false,
         ProgressState::Faulty(_) => false,
         ProgressState::Changed => false,
+        ProgressState::Twice => false,
     }
 }
 
