@@ -8,6 +8,7 @@ pub mod KilledServers
 pub mod KilledFolders
 pub mod CutAnswers
 pub mod LeftPaths
+pub mod RestingStarts
 pub mod ExamplesOfLeft
 pub mod StoppedWorlds
 pub mod ServedWorlds

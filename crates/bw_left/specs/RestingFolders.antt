@@ -1,10 +1,10 @@
 -- What a server whose names rest leaves in its folder, and what the next one has of it.
-use Rattle.std.specs.Prelude.{◌≡◌, ℕ, Bool, true, false, Option, None, is_some, IsSome, List, ◌<◌, ◌^◌}
+use Rattle.std.specs.Prelude.{◌≡◌, ℕ, Bool, true, false, Option, None, is_some, IsSome, IsTrue, List, ◌<◌, ◌^◌, string_bytes}
 use Rattle.std.specs.Prelude.{if◌then◌else◌}
 use Rattle.bw_model.specs.Book.{Log, Book, log_of, is_known}
 use Rattle.bw_store.specs.declared.store.TakeStore.{Ghosts as StoreGhosts}
 use Rattle.bw_disk.specs.declared.disk.Disk.{Ghosts as DiskGhosts}
-use Rattle.bw_journal.specs.Stops.{cut_book}
+use Rattle.bw_journal.specs.Stops.{cut_book, cut_log}
 use Rattle.bw_journal.specs.declared.journal.Journal.{Ghosts as JournalGhosts}
 use Rattle.bw_folder.specs.Becoming.{LetsRest}
 use Rattle.bw_folder.specs.declared.folder.FolderStore.{FolderStore}
@@ -18,14 +18,15 @@ use Rattle.bw_start.specs.Paths.{wave_path, notes_path, rest_path}
 use Rattle.bw_start.specs.RestingStarts.{StartsOver}
 use Rattle.bw_start.specs.Started.{IsLeftIn, IsSetTo}
 use Rattle.bw_start.specs.declared.resting.Settings.{Settings}
+use Rattle.bw_left.specs.LeftFolders.{EachIsInOrder, GoesAhead, IsOwnFolder}
 
--- A name rests in a folder: NAME.closed is the journal of its closed take, whose file is there, and
--- it has no other journal.
+-- A name rests in a folder: NAME.closed is the journal of its closed take, with each done number, whose
+-- file is there, and it has no other journal. So it is too of one that woke, while nothing is noted.
 pub record IsLeftAtRest (limit : ℕ) (name : List ℕ) (known : Bool) (log : Log)
     (first closed journal file : Option (List ℕ)) : Type 0 where
   pub is_known : known ≡ true
   pub new_name : first ≡ None
-  pub at_rest : IsAtRest limit name log closed file
+  pub at_rest : IsAtRest limit name (cut_log log) closed file
   pub alone : journal ≡ None
 
 -- Of a name that doesn't rest the table has what the folder has.
@@ -75,3 +76,38 @@ module _ {D E F H : Type 0} (G : DiskGhosts D F) (K : DiskGhosts E H)
       WasStartedResting settings folder notes takes s →
       IsLeftResting settings.limit folder first book notes takes →
       HoldsFolder S R first s (cut_book book)
+
+  -- The server's store and journals are of one folder, and their disks show alike whether something is
+  -- at the path of a take; all that rests, or has a journal, is a name.
+  pub record IsOverRestingFolder (s : Server (FolderStore D F G) (RestingFolderJournal E H K) S R)
+      (folder : List ℕ) : Type 0 where
+    pub store : string_bytes s.stores.store.folder ≡ folder
+    pub journal : string_bytes s.stores.journal.inner.folder ≡ folder
+    pub alike : (name : List ℕ) →
+        is_some (K.contents s.stores.journal.inner.disk (wave_path folder name))
+        ≡ is_some (G.contents s.stores.store.disk (wave_path folder name))
+
+  -- A server stopped over a folder in which names rest: it holds a book of it, in order, and what a
+  -- start asks of a folder that isn't up to its server is so.
+  pub record StopsResting (first : List ℕ → Option (List ℕ)) (book : Book) (folder : List ℕ)
+      (s : Server (FolderStore D F G) (RestingFolderJournal E H K) S R) : Type 0 where
+    pub honest : IsTrue (S.honest s.stores.store)
+    pub honest_notes : IsTrue (R.honest s.stores.journal)
+    pub held : HoldsFolder S R first s book
+    pub order : EachIsInOrder S R held.now s held.table
+    pub own : IsOwnFolder s.limit held.now (R.header s.stores.journal) (R.notes s.stores.journal)
+    pub over : IsOverRestingFolder s folder
+
+  -- What it left: from its book, or one in which numbers that waited are done.
+  pub record LeavesRestingLater (limit : ℕ) (folder : List ℕ) (first : List ℕ → Option (List ℕ))
+      (book : Book) (notes takes : List ℕ → Option (List ℕ)) : Type 0 where
+    pub later : Book
+    pub ahead : GoesAhead book later
+    pub left : IsLeftResting limit folder first later notes takes
+
+  -- So does each that stops: also while names that woke still stand where they rested.
+  abbrev pub RestingServersAreLeft : Type 0
+  RestingServersAreLeft = (folder : List ℕ) (first : List ℕ → Option (List ℕ)) (book : Book)
+      (s : Server (FolderStore D F G) (RestingFolderJournal E H K) S R) →
+      StopsResting first book folder s → LeavesRestingLater s.limit folder first book
+      (K.contents s.stores.journal.inner.disk) (G.contents s.stores.store.disk)
