@@ -75,15 +75,15 @@ file_stays limit folder notes before after kept name none = elim (kept (wave_pat
 ]
   where
     other : (n : List ℕ) → IsOpenTake limit folder notes n → name ≡ n → ⊥
-    other n open same =
-        some_none open.1.stands (subst (λ (m : List ℕ). notes (notes_path folder m) ≡ None) same none)
+    other n opened same =
+        some_none opened.1.stands (subst (λ (m : List ℕ). notes (notes_path folder m) ≡ None) same none)
       where
         some_none : {journal : List ℕ} {o : Option (List ℕ)} → o ≡ Some journal → o ≡ None → ⊥
         some_none s n = cc
 
     go : (n : List ℕ) → IsOpenTake limit folder notes n → IsOwnPath folder n before (wave_path folder name) → ⊥
-    go n open own = elim own [
-      | inl same ↦ other n open (path_name folder (codes ".wav") name n same)
+    go n opened own = elim own [
+      | inl same ↦ other n opened (path_name folder (codes ".wav") name n same)
       | inr torn ↦ torn.4 name refl
     ]
 
