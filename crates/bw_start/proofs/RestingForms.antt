@@ -11,7 +11,10 @@ use Rattle.bw_start.specs.FaultLines.{closed_line, closed_lines}
 use Rattle.bw_start.specs.FoundNames.{ListsFiles}
 use Rattle.bw_start.specs.Paths.{notes_path, rest_path}
 use Rattle.bw_start.specs.RestingStarts.{HasBoth, AddsIf, ListsThoseInTheWay, SomeStandInTheWay, NoneStandsInTheWay}
-use Rattle.bw_start.specs.RestingStarts.{IsListOf, RefusesStart, IsPlainFolderFault}
+use Rattle.bw_start.specs.RestingStarts.{IsListOf, RefusesStart, IsPlainFolderFault, IsFolderUnchanged}
+use Rattle.bw_start.specs.Restored.{IsPlainFault, IsUnchanged, RefusesFolder}
+use Rattle.bw_start.specs.declared.restoring.StartFault.{StartFault}
+use Rattle.bw_start.specs.declared.restoring.StartFault.TheVariants.{Disk, Memory, Refused, TooMany}
 use Rattle.bw_start.specs.declared.resting.FolderFault.{FolderFault}
 use Rattle.bw_start.specs.declared.resting.FolderFault.TheVariants.{Start, Rests, Twice}
 use Rattle.bw_start.specs.declared.resting.Settings.{Settings}
@@ -129,3 +132,34 @@ pub closed_next : (folder cause : List ℕ) (names : List (List ℕ)) (i : ℕ) 
     ≡ closed_lines folder cause (take i names) ++ closed_line folder cause name
 closed_next folder cause names i name below is =
     ap (closed_lines folder cause) (take_more names i name below is) ∙ closed_push folder cause (take i names) name
+
+-- what a list of names leaves
+pub list_unchanged : (Same : Type 0) → Same → (rest : Bool) (names : List (List ℕ)) (fault : FolderFault) →
+    IsListOf rest names fault → IsFolderUnchanged Same fault
+list_unchanged Same same rest names (Start fault) is = absurd is
+list_unchanged Same same rest names (Rests found) is = same
+list_unchanged Same same rest names (Twice found) is = same
+
+-- the fault of a read says nothing of a folder, and may have changed it
+pub plain_unchanged : (Same : Type 0) (fault : StartFault) → IsPlainFault fault → IsUnchanged Same fault
+plain_unchanged Same Disk plain = plain
+plain_unchanged Same Memory plain = plain
+plain_unchanged Same (Refused names) plain = absurd plain
+plain_unchanged Same (TooMany count) plain = absurd plain
+
+pub plain_refuses : (limit : ℕ) (folder : List ℕ) (notes takes : List ℕ → Option (List ℕ)) (fault : StartFault) →
+    IsPlainFault fault → RefusesFolder limit folder notes takes fault
+plain_refuses limit folder notes takes Disk plain = plain
+plain_refuses limit folder notes takes Memory plain = plain
+plain_refuses limit folder notes takes (Refused names) plain = absurd plain
+plain_refuses limit folder notes takes (TooMany count) plain = absurd plain
+
+-- a fault leaves both disks, if it leaves the second and the first is as it was
+pub both_unchanged : (A B : Type 0) → A → (fault : FolderFault) → IsFolderUnchanged B fault →
+    IsFolderUnchanged (A × B) fault
+both_unchanged A B a (Start Disk) b = b
+both_unchanged A B a (Start Memory) b = b
+both_unchanged A B a (Start (Refused names)) b = (a, b)
+both_unchanged A B a (Start (TooMany count)) b = (a, b)
+both_unchanged A B a (Rests names) b = (a, b)
+both_unchanged A B a (Twice names) b = (a, b)

@@ -22,7 +22,7 @@ use bw_request::Name;
 use bw_session::Server;
 use std::alloc::{AllocError, Global};
 
-/// What a server is started settings.
+/// What a server is started with.
 #[derive(Clone, Copy, Debug)]
 pub struct Settings {
     /// The greatest form size of a RIFF file, in bytes.
