@@ -22,12 +22,13 @@ use Rattle.bw_rest.specs.Resting.{RestingTurn}
 use Rattle.bw_rest.proofs.RestRuns.{runs_rest_on, honest_then}
 
 -- the file that is to stand, by what stood first and by the log
-file_by : Option (List ℕ) → ℕ → Log → Option (List ℕ)
+abbrev file_by : Option (List ℕ) → ℕ → Log → Option (List ℕ)
 file_by (Some bytes) limit log = Some bytes
 file_by None limit log = file_of (made false log.admitted log.done) limit
 
 file_by_is : (first : List ℕ → Option (List ℕ)) (limit : ℕ) (book : Book) (name : List ℕ) →
     file_by (first name) limit (log_of book name) ≡ content_in first limit book name
+unfolding made
 file_by_is first limit book name = go (first name)
   where
     go : (o : Option (List ℕ)) → file_by o limit (log_of book name)

@@ -1,5 +1,5 @@
 //! The command `serve`.
-ghost use Rattle.std.specs.Prelude.{codes, Some, IfOk, IfErr, OnErr, is_some, option_map};
+ghost use Rattle.std.specs.Prelude.{◌≡◌, codes, Some, IfOk, IfErr, OnErr, is_some, option_map};
 ghost use Rattle.clap.specs.Words.{first_value, found_of, rows_of};
 ghost use Rattle.bw_args.specs.Lines.{AsksForPath, GivesRecorders, IsEndGiven, IsFirstBad};
 ghost use Rattle.bw_args.specs.Lines.{IsFolderGiven, IsJournalingGiven, IsLineFor, IsRecordersGiven, IsRestGiven};
@@ -51,7 +51,8 @@ pub(crate) fn serve_line(alloc: Global, options: &ArgMatches<'_>) -> Result<Comm
         return Ok(CommandLine::BadValue(BadValue::Sync));
     };
     let is_asked = flag_given(options, "rest");
-    let Some(rest) = rest_given(is_kept, is_asked, options.get_str("status").is_some()) else {
+    let is_shown = is_given(options, "status");
+    let Some(rest) = rest_given(is_kept, is_asked, is_shown) else {
         return Ok(CommandLine::BadValue(BadValue::Rest));
     };
     let Ok(status) = status_given(options, network) else {
@@ -81,6 +82,13 @@ pub(crate) fn folder_given<'a>(options: &ArgMatches<'a>) -> Option<&'a str>
 {
     let path = options.get_str("folder")?;
     if path.is_empty() { None } else { Some(path) }
+}
+
+/// Whether the options give a value of this name.
+fn is_given(options: &ArgMatches<'_>, name: &str) -> bool
+    ensures { result ≡ is_some (first_value (found_of options.now) name.now) }
+{
+    options.get_str(name).is_some()
 }
 
 /// How the options say that recorders are served.

@@ -87,7 +87,7 @@ returns-in_default-rest_given-clause-ok c = bad_line (found_of c.args.options.no
           c.flag_given-is_synced.ensures c.in-Some-journaling.ensures,
     )
     and_then bad (no_rest (found_of c.args.options.now) _ _ _ c.flag_given-is_kept.ensures
-    c.flag_given-is_asked.ensures c.is_some.ensures c.in_default-rest_given.ensures))
+    c.flag_given-is_asked.ensures c.is_given-is_shown.ensures c.in_default-rest_given.ensures))
     )
 
 pub returns-in_default-status_given-clause-ok : goal.returns-in_default-status_given-clause-ok
@@ -110,7 +110,7 @@ returns-in_default-status_given-clause-ok c = bad_line (found_of c.args.options.
     and_then (
       c.in-Some-rest_given.rest,
       a_rest (found_of c.args.options.now) _ _ _ _ c.flag_given-is_kept.ensures c.flag_given-is_asked.ensures
-          c.is_some.ensures c.in-Some-rest_given.ensures,
+          c.is_given-is_shown.ensures c.in-Some-rest_given.ensures,
     )
     and_then bad (no_status (found_of c.args.options.now) _ c.flag_given-network.ensures
     c.in_default-status_given.ensures))
@@ -143,7 +143,7 @@ returns-in_err-folder-clause-err c = on_err c.from_residual.result (
     journals = a_journaling (found_of c.args.options.now) _ _ _ c.flag_given-is_kept.ensures
         c.flag_given-is_synced.ensures c.in-Some-journaling.ensures;
     rests = a_rest (found_of c.args.options.now) _ _ _ _ c.flag_given-is_kept.ensures c.flag_given-is_asked.ensures
-        c.is_some.ensures c.in-Some-rest_given.ensures;
+        c.is_given-is_shown.ensures c.in-Some-rest_given.ensures;
     names = c.flag_given-one_name.ensures;
     shows = a_status (found_of c.args.options.now) _ _ c.flag_given-network.ensures c.in-Ok-status_given.ensures;
   }),
@@ -161,7 +161,7 @@ returns-clause-ok c = server_asked (found_of c.args.options.now) _ (record {
   journals = a_journaling (found_of c.args.options.now) _ _ _ c.flag_given-is_kept.ensures
       c.flag_given-is_synced.ensures c.in-Some-journaling.ensures;
   rests = a_rest (found_of c.args.options.now) _ _ _ _ c.flag_given-is_kept.ensures c.flag_given-is_asked.ensures
-      c.is_some.ensures c.in-Some-rest_given.ensures;
+      c.is_given-is_shown.ensures c.in-Some-rest_given.ensures;
   names = c.flag_given-one_name.ensures;
   shows = a_status (found_of c.args.options.now) _ _ c.flag_given-network.ensures c.in-Ok-status_given.ensures;
 })
