@@ -1,0 +1,3 @@
+pub mod ServerLines
+pub mod StopTexts
+pub mod Chosen

@@ -1,0 +1,9 @@
+//! The command `rehearse`: by hand, a sender and a server, or servers that stop and start.
+#![tactic(auto)]
+
+mod command;
+mod events;
+mod lines;
+mod text;
+
+pub use command::rehearse_with_stops_run;
