@@ -1,17 +1,12 @@
--- What is seen of this machine's network.
+-- What is seen of links over TCP.
 use Rattle.std.specs.Prelude.{ℕ, List, Option, string_bytes}
 use Rattle.std.specs.declared.net.socket_addr.SocketAddr.{SocketAddr}
 use Rattle.std.specs.declared.time.Duration.{Duration}
 use Rattle.mio.specs.Events.{capacity}
-use Rattle.bw_net.specs.declared.network.TcpNetwork.{TcpNetwork}
 use Rattle.bw_net.specs.declared.reactor.TcpReactor.{TcpReactor}
 use Rattle.bw_net.specs.declared.status.TcpStatusPort.{TcpStatusPort}
 use Rattle.bw_net.specs.declared.tcp.TcpDial.{TcpDial}
 use Rattle.bw_net.specs.declared.tcp.TcpPeers.{TcpPeers}
-
--- how many calls of the system failed, as the network counted them
-abbrev pub network_failures : TcpNetwork → ℕ
-network_failures n = n.failures
 
 -- the address that a reactor listens at
 abbrev pub reactor_address : TcpReactor → SocketAddr

@@ -3,14 +3,10 @@ ghost use Rattle.std.specs.Prelude.{◌≡◌, ◌*◌, ◌+◌, IfOk, option_ma
 ghost use Rattle.std.specs.Duration.{as_nanos};
 ghost use Rattle.bw_folder.specs.TakeFolders.{takes_folder};
 
-use crate::folder::check_folder;
 use crate::journals::refuse_journals;
-use crate::lock::FolderLock;
-use crate::reactor::TcpReactor;
-use crate::spool::SpoolCell;
-use crate::tcp::{TcpDial, TcpPeers};
 use bw_disk::SystemDisk;
 use bw_folder::FolderStore;
+use bw_net::{FolderLock, SpoolCell, TcpDial, TcpPeers, TcpReactor, check_folder};
 use bw_pace::PacedNetwork;
 use bw_ports::{ListenerSetup, Network, StartRefusal};
 use std::alloc::Global;
@@ -31,7 +27,8 @@ pub struct TcpNetwork<'a> {
 }
 
 impl<'a> TcpNetwork<'a> {
-    ghost use Rattle.bw_net.specs.SeenLinks.{network_failures, reactor_address, reactor_folder};
+    ghost use Rattle.bw_machine.specs.SeenMachine.{network_failures};
+    ghost use Rattle.bw_net.specs.SeenLinks.{reactor_address, reactor_folder};
     ghost use Rattle.bw_net.specs.SeenLinks.{reactor_room, reactor_failures, reactor_waits};
     ghost use Rattle.bw_net.specs.SeenLinks.{peers_address, peers_folder, peers_timeout};
 
@@ -101,7 +98,8 @@ fn span(seconds: Option<u32>) -> Option<Duration>
 }
 
 impl<'a> Network for TcpNetwork<'a> {
-    ghost use Rattle.bw_net.specs.SeenLinks.{network_failures, dial_address, dial_timeout};
+    ghost use Rattle.bw_machine.specs.SeenMachine.{network_failures};
+    ghost use Rattle.bw_net.specs.SeenLinks.{dial_address, dial_timeout};
     ghost use Rattle.bw_net.specs.SeenLinks.{peers_address, peers_folder, peers_timeout};
 
     type Store = FolderStore<SystemDisk<&'a HostRuntime>>;
@@ -170,7 +168,8 @@ impl<'a> PacedNetwork for TcpNetwork<'a> {
 }
 
 impl<'a> ListenerSetup for TcpNetwork<'a> {
-    ghost use Rattle.bw_net.specs.SeenLinks.{network_failures, reactor_address, reactor_folder};
+    ghost use Rattle.bw_machine.specs.SeenMachine.{network_failures};
+    ghost use Rattle.bw_net.specs.SeenLinks.{reactor_address, reactor_folder};
     ghost use Rattle.bw_net.specs.SeenLinks.{reactor_room, reactor_failures, reactor_waits};
 
     type Reactor = TcpReactor<'a>;
