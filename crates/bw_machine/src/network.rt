@@ -1,5 +1,5 @@
 //! The network and the folders of this machine, for `serve` and `send`.
-ghost use Rattle.std.specs.Prelude.{◌≡◌, ◌*◌, ◌+◌, IfOk, option_map};
+ghost use Rattle.std.specs.Prelude.{◌≡◌, ◌*◌, ◌+◌, IfOk, option_map, string_bytes};
 ghost use Rattle.std.specs.Duration.{as_nanos};
 ghost use Rattle.bw_folder.specs.TakeFolders.{takes_folder};
 
@@ -57,7 +57,7 @@ impl<'a> TcpNetwork<'a> {
         timeout: Option<u32>,
     ) -> io::Result<TcpPeers<'a, HostRuntime, TcpListener>>
         ensures { IfOk result (λ peers. (peers_address peers ≡ address)
-            × (peers_folder peers ≡ folder.now)
+            × (string_bytes (peers_folder peers) ≡ folder.now)
             × (option_map as_nanos (peers_timeout peers)
             ≡ option_map (λ s. s * 1_000_000_000) timeout)) }
     {
@@ -72,7 +72,7 @@ impl<'a> TcpNetwork<'a> {
         places: usize,
     ) -> io::Result<TcpReactor<'a>>
         ensures { IfOk result (λ reactor. (reactor_address reactor ≡ address)
-            × (reactor_folder reactor ≡ folder.now)
+            × (string_bytes (reactor_folder reactor) ≡ folder.now)
             × (reactor_room reactor ≡ places + 1) × (reactor_failures reactor ≡ 0)
             × (reactor_waits reactor ≡ 0)) }
     {
@@ -113,7 +113,7 @@ impl<'a> Network for TcpNetwork<'a> {
     ghost stores = { λ n folder result n'. IfOk result (λ store. takes_folder store ≡ folder) };
 
     ghost listens = { λ n address folder timeout result n'. IfOk result (λ peers.
-        (peers_address peers ≡ address) × (peers_folder peers ≡ folder)
+        (peers_address peers ≡ address) × (string_bytes (peers_folder peers) ≡ folder)
         × (option_map as_nanos (peers_timeout peers)
         ≡ option_map (λ s. s * 1_000_000_000) timeout)) };
 
@@ -177,7 +177,7 @@ impl<'a> ListenerSetup for TcpNetwork<'a> {
     ghost failures = { network_failures };
 
     ghost opens = { λ n address folder places result n'. IfOk result (λ reactor.
-        (reactor_address reactor ≡ address) × (reactor_folder reactor ≡ folder)
+        (reactor_address reactor ≡ address) × (string_bytes (reactor_folder reactor) ≡ folder)
         × (reactor_room reactor ≡ places + 1) × (reactor_failures reactor ≡ 0)
         × (reactor_waits reactor ≡ 0)) };
 
