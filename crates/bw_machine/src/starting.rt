@@ -42,7 +42,9 @@ impl<'a> Starts<FolderServer<'a>> for TcpNetwork<'a> {
 }
 
 impl<'a> StartsResting<FolderServer<'a>> for TcpNetwork<'a> {
-    ghost rest_failures = { λ n. n.failures };
+    ghost use Rattle.bw_machine.specs.SeenMachine.{network_failures};
+
+    ghost rest_failures = { network_failures };
 
     ghost starts_resting = { λ n folder limit sync result n'.
         IfOk result (IsSetTo limit folder sync) };
