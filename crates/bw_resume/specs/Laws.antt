@@ -1,5 +1,6 @@
 -- What was noted is read back.
-use Rattle.std.specs.Prelude.{◌≡◌, ◌≢◌, ◌≤◌, ℕ, ◌+◌, ◌-◌, Option, Some, None, List, [], ◌∷◌, length, max, take}
+use Rattle.std.specs.Prelude.{◌≡◌, ◌≢◌, ◌≤◌, ℕ, ◌+◌, ◌-◌, Option, Some, None, List, [], ◌∷◌}
+use Rattle.std.specs.Prelude.{length, max, take}
 use Rattle.std.specs.Prelude.{nat_le, if◌then◌else◌}
 use Rattle.bw_console.specs.Text.{as_line}
 use Rattle.bw_resume.specs.Counts.{most_settled, settled_text}
@@ -24,7 +25,8 @@ whole_counts k (n ∷ ns) =
 -- whose lines are whole
 abbrev pub said_of_cut : ℕ → List ℕ → List ℕ → Option ℕ
 said_of_cut k header counts =
-    if nat_le (length header + 1) k then Some (greatest (whole_counts (k - (length header + 1)) counts)) else None
+    if nat_le (length header + 1) k
+    then Some (greatest (whole_counts (k - (length header + 1)) counts)) else None
 
 -- no byte of a header ends its line
 abbrev pub IsHeaderText : List ℕ → Type 0
