@@ -206,6 +206,16 @@ rest program listen folder address at full =
           (full, refl) refl refl refl refl refl,
     )
 
+rest_synced : AsksServer false (codes "--journal" ∷ codes "--sync" ∷ codes "--rest" ∷ [])
+    (λ a f. record (plain_server a f) { journal = Synced; rest = true })
+unfolding clap_on_literals
+rest_synced program listen folder address at full =
+    asks refl (
+      refl,
+      server_by (None, refl, refl) refl (serves_by None None None _ refl refl refl refl) at
+          (full, refl) refl refl refl refl refl,
+    )
+
 -- a local address is no option
 apart_near : (program folder : Text) (address : SocketAddr) → IsAddress false (local (socket_port address)) address
     → folder ≢ [] → AsksFor
@@ -341,6 +351,7 @@ runs_server words line is = record {
   journal = λ p l f a at full e. asked_runs words _ line _ is e (journal p l f a at full);
   sync = λ p l f a at full e. asked_runs words _ line _ is e (sync p l f a at full);
   rest = λ p l f a at full e. asked_runs words _ line _ is e (rest p l f a at full);
+  rest_synced = λ p l f a at full e. asked_runs words _ line _ is e (rest_synced p l f a at full);
   status = λ k t s given shows p l f a at full e.
       asked_runs words _ line _ is e (status k t s given shows p l f a at full);
   one_name = λ p l f a at full e. asked_runs words _ line _ is e (one_name p l f a at full);

@@ -6,7 +6,8 @@ use Rattle.bw_args.specs.Lines.{IsName, Listing}
 use Rattle.bw_args.specs.Forms.{IsReportedAs, RunsFor}
 use Rattle.bw_args.specs.declared.CommandLine.{CommandLine}
 use Rattle.bw_args.specs.declared.CommandLine.TheVariants.{BadValue as Bad}
-use Rattle.bw_args.specs.declared.bad_value.BadValue.TheVariants.{Folder, GiveUp as BadGiveUp, Watch as BadWatch}
+use Rattle.bw_args.specs.declared.bad_value.BadValue.TheVariants.{Folder}
+use Rattle.bw_args.specs.declared.bad_value.BadValue.TheVariants.{GiveUp as BadGiveUp, Watch as BadWatch}
 use Rattle.bw_args.specs.declared.folders.FolderWork.TheVariants.{Report, Watch, GiveUp}
 
 -- `takes --folder DIR` runs, with its options, whatever the program's name; a DIR may begin with a

@@ -117,6 +117,9 @@ pub record RunsServer (words : List Text) (line : CommandLine) : Type 0 where
   -- with `--journal --rest`
   pub rest : ForServer false words (codes "--journal" ∷ codes "--rest" ∷ [])
       (AsksToServe line (λ s. record s { journal = Kept; rest = true }))
+  -- with `--journal --sync --rest`
+  pub rest_synced : ForServer false words (codes "--journal" ∷ codes "--sync" ∷ codes "--rest" ∷ [])
+      (AsksToServe line (λ s. record s { journal = Synced; rest = true }))
   -- with `--recorders=N --status=ADDR`, where the second ADDR is a local address too
   pub status : (count status : Text) (at : SocketAddr) → IsCountText most_recorders count
       → IsAddress false status at → ForServer false words

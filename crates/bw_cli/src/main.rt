@@ -2,7 +2,8 @@
 #![tactic(auto)]
 
 use bw_disk::SystemDisk;
-use bw_net::{ClockStopwatch, Host, HostRecordings, SpoolCell, SpoolPause, TcpNetwork, Terminal};
+use bw_machine::{TcpNetwork, Terminal};
+use bw_net::{ClockStopwatch, Host, HostRecordings, SpoolCell, SpoolPause};
 use bw_one_name::FilteredNetwork;
 use bw_program::{Outside, start};
 use bw_progress::{ClearingSink, LineHandle, RenewingPause, SendWatch, SharedProgress};

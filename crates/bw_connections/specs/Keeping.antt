@@ -63,7 +63,8 @@ module _ {L : Type 0} (G : LinkGhosts L) where
 
   -- So far these frames were answered, over connections that are at places and over these, which
   -- are over.
-  pub record KeepsConnections (m : Connections L) (over : List (Closed L)) (trace : List Tagged) : Type 0 where
+  pub record KeepsConnections (m : Connections L) (over : List (Closed L)) (trace : List Tagged)
+      : Type 0 where
     -- one at a place has answered its own part of them
     pub lives : (i : ℕ) (c : Connection L) → HoldsConnectionAt m i c →
         (c.number < m.next) × Lives G c (own c.number trace)

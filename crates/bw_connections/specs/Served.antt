@@ -85,9 +85,11 @@ module _ {L : Type 0} (G : LinkGhosts L) where
 
   -- Whatever came between them, the frames of each connection are those of its own link, and what
   -- that took is exactly their replies.
-  pub record ServesEachConnection (m : Connections L) (over : List (Closed L)) (trace : List Tagged) : Type 0 where
+  pub record ServesEachConnection (m : Connections L) (over : List (Closed L)) (trace : List Tagged)
+      : Type 0 where
     pub each : (n : ℕ) → n < m.next → HoldsConnection m n ⊎ IsAmong n over
-    pub stands : (i : ℕ) (c : Connection L) → HoldsConnectionAt m i c → ServesConnection c.link (own c.number trace)
+    pub stands : (i : ℕ) (c : Connection L) → HoldsConnectionAt m i c →
+        ServesConnection c.link (own c.number trace)
     pub ended : AllByRecursion (λ x. EndsLink x.end x.link (own x.number trace)) over
     -- each that is over was begun, is reported once, and is no longer there
     pub begun : AllByRecursion (λ x. x.number < m.next) over
@@ -97,5 +99,5 @@ module _ {L : Type 0} (G : LinkGhosts L) where
     pub none : (n : ℕ) → m.next ≤ n → own n trace ≡ []
 
   abbrev pub EachIsServed : Type 0
-  EachIsServed = (m : Connections L) (over : List (Closed L)) (trace : List Tagged) → KeepsConnections G m over trace →
-      ServesEachConnection m over trace
+  EachIsServed = (m : Connections L) (over : List (Closed L)) (trace : List Tagged) →
+      KeepsConnections G m over trace → ServesEachConnection m over trace

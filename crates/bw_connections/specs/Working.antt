@@ -12,8 +12,9 @@ use Rattle.bw_ports.specs.declared.link.Link.{Ghosts as LinkGhosts}
 use Rattle.bw_connections.specs.declared.connections.Closed.{Closed}
 use Rattle.bw_connections.specs.declared.connections.Connections.{Connections}
 use Rattle.bw_connections.specs.Keeping.{Adds, HoldsConnectionAt, tagged, those}
-use Rattle.bw_connections.specs.Lives.{BeginsConnection, EndsDrained, EndsServed, IsNoSilence, IsOpen, KeepsPeer}
-use Rattle.bw_connections.specs.Lives.{IsFinished, Learns, DropsSent, Moved, KeepsConnection, quantum, quiet_since}
+use Rattle.bw_connections.specs.Lives.{BeginsConnection, EndsDrained, EndsServed, IsNoSilence, IsOpen}
+use Rattle.bw_connections.specs.Lives.{KeepsPeer, IsFinished, Learns, DropsSent, Moved, KeepsConnection}
+use Rattle.bw_connections.specs.Lives.{quantum, quiet_since}
 use Rattle.bw_connections.specs.Places.{begun_of, connection_count, refused_of}
 
 -- the other places are as they were
@@ -97,7 +98,8 @@ pub record WorksAt {L S : Type 0} (G : LinkGhosts L) (answers : S → Frame → 
   pub lets_go : (c c' : Connection L) (fault : WireFault) → HoldsConnectionAt m place c →
       HoldsConnectionAt m' place c' → c.phase ≡ phases.Draining fault → DropsSent G c c'
   -- that there are no bytes, or no room, is known from its link alone
-  pub learns : (c c' : Connection L) → HoldsConnectionAt m place c → HoldsConnectionAt m' place c' → Learns G c c'
+  pub learns : (c c' : Connection L) → HoldsConnectionAt m place c → HoldsConnectionAt m' place c' →
+      Learns G c c'
   -- and where it is drained after it, the peer was informed that no more will be sent
   pub finished : (c c' : Connection L) → HoldsConnectionAt m place c → HoldsConnectionAt m' place c' →
       IsFinished G c → IsFinished G c'

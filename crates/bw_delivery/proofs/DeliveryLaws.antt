@@ -20,7 +20,7 @@ use Rattle.bw_exchange.specs.Answering.{Answered, answered_frames, replies_of}
 use Rattle.bw_exchange.specs.TurnRuns.{answers_in}
 use Rattle.bw_connections.specs.Keeping.{Tagged, all_answered, own}
 use Rattle.bw_delivery.specs.Deliveries.{LinkBytes, IsOneOf, IsOfAnother, IsJoined, HasOnly, IsDelivery}
-use Rattle.bw_delivery.specs.Deliveries.{DeliveriesAreTrue}
+use Rattle.bw_delivery.specs.Deliveries.{IsDelivered, HeardOverLinks, DeliveriesAreTrue}
 use Rattle.bw_delivery.specs.Deliveries.{StoredDeliveriesAreWhole}
 use Rattle.bw_delivery.proofs.Elements.{each-contains}
 use Rattle.bw_delivery.proofs.DoneRequests.{within_requests, prefix_of_requests, made_of_requests}
@@ -29,10 +29,10 @@ use Rattle.bw_delivery.proofs.LinkLaws.{answered_are, heard_was_answered}
 use Rattle.bw_delivery.proofs.WholeTakes.{all_made}
 
 -- what a frame of the run is to the name
-abbrev IsOfEither : List ℕ → List Request → Answered → Type 0
+abbrev pub IsOfEither : List ℕ → List Request → Answered → Type 0
 IsOfEither name requests a = IsOneOf name requests a.frame ⊎ IsOfAnother name a.frame
 
-reports_on : (taken : Bool) (name : List ℕ) (old new : Log) → Grows taken old new → (r : Reply) →
+pub reports_on : (taken : Bool) (name : List ℕ) (old new : Log) → Grows taken old new → (r : Reply) →
     ReportsDone taken name old r → ReportsDone taken name new r
 reports_on taken name old new g r h n v e =
     let x = h n v e in
@@ -125,7 +125,7 @@ other : (name : List ℕ) (requests : List Request) (answered : List Answered) �
 other name requests [] h = tt
 other name requests (a ∷ rest) h = (inr h.0, other name requests rest h.1)
 
-joined_frames : (name : List ℕ) (requests : List Request) (links : List (ℕ × LinkBytes)) (trace : List Tagged) →
+pub joined_frames : (name : List ℕ) (requests : List Request) (links : List (ℕ × LinkBytes)) (trace : List Tagged) →
     IsJoined name requests links trace → AllByRecursion (IsOfEither name requests) (all_answered trace)
 joined_frames name requests links trace j = all_of_own (IsOfEither name requests) trace (λ n. go n (j.others n))
   where
@@ -159,19 +159,27 @@ delivery_step existed name requests links book later d =
     (subst (λ (z : List Answered). IsSoundStep (existed name) requests name (log_of book name)
     (log_of (book_after existed book went.received) name) (replies_of z)) went.answers step)
 
-pub deliveries_true : DeliveriesAreTrue
-deliveries_true existed name requests links book later d =
-    let step = delivery_step existed name requests links book later d in
+-- where all that was answered is sound
+pub delivered_by : (existed : List ℕ → Bool) (name : List ℕ) (requests : List Request) (links : List (ℕ × LinkBytes))
+    (later : Book) (trace : List Tagged) → IsJoined name requests links trace → {old : Log} →
+    IsSoundStep (existed name) requests name old (log_of later name) (replies_of (all_answered trace)) →
+    IsDelivered existed name requests (HeardOverLinks links name) (log_of later name) later
+delivered_by existed name requests links later trace joined step =
     let log : Log = log_of later name in
     record {
       within = within_requests requests log step.sound;
       prefix = prefix_of_requests requests log step.sound;
       made = made_of_requests (existed name) requests log step.sound;
       verdicts = λ n v (k, l, is, hears).
-          each-contains (ReportsDone (existed name) name log) (replies_of (all_answered d.trace)) (Judged name n v)
-          step.reported (own_reply_is_among k d.trace (Judged name n v)
-          (heard_was_answered name requests (own k d.trace) l (d.joined.own_links k l is) n v hears)) n v refl;
+          each-contains (ReportsDone (existed name) name log) (replies_of (all_answered trace)) (Judged name n v)
+          step.reported (own_reply_is_among k trace (Judged name n v)
+          (heard_was_answered name requests (own k trace) l (joined.own_links k l is) n v hears)) n v refl;
     }
+
+pub deliveries_true : DeliveriesAreTrue
+deliveries_true existed name requests links book later d =
+    delivered_by existed name requests links later d.trace d.joined
+    (delivery_step existed name requests links book later d)
 
 pub stored_whole : StoredDeliveriesAreWhole
 stored_whole existed name requests links book later d stored =

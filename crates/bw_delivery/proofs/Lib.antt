@@ -12,3 +12,4 @@ pub mod DeliveryLaws
 pub mod ClosedLaws
 pub mod DeliveredFiles
 pub mod ExamplesOfDeliveries
+pub mod RestingDeliveries

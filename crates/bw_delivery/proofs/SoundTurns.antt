@@ -32,7 +32,7 @@ pub record IsSoundStep (taken : Bool) (requests : List Request) (name : List ℕ
   pub grows : Grows taken old new
   pub reported : Each (ReportsDone taken name new) replies
 
-from_faithful : (taken : Bool) (requests : List Request) (name : List ℕ) (old new : Log) (replies : List Reply) →
+pub from_faithful : (taken : Bool) (requests : List Request) (name : List ℕ) (old new : Log) (replies : List Reply) →
     IsFaithfulStep taken requests name old new replies → IsSoundStep taken requests name old new replies
 from_faithful taken requests name old new replies h = record {
   sound = h.sound;
@@ -40,14 +40,14 @@ from_faithful taken requests name old new replies h = record {
   reported = each-map (IsTrueReply taken name new) (ReportsDone taken name new) replies (λ r t. t.judged) h.reported;
 }
 
-notice_reports : (taken : Bool) (name x : List ℕ) (log : Log) (k next : ℕ) (code : Notice) →
+pub notice_reports : (taken : Bool) (name x : List ℕ) (log : Log) (k next : ℕ) (code : Notice) →
     ReportsDone taken name log (Noticed x k code next)
 notice_reports taken name x log k next code n v e = absurd (not_judged e)
   where
     not_judged : Noticed x k code next ≡ Judged name n v → ⊥
     not_judged e = cc
 
-same_log : (taken : Bool) (requests : List Request) (name : List ℕ) (log : Log) (replies : List Reply) →
+pub same_log : (taken : Bool) (requests : List Request) (name : List ℕ) (log : Log) (replies : List Reply) →
     IsSound requests log → Each (ReportsDone taken name log) replies →
     IsSoundStep taken requests name log log replies
 same_log taken requests name log replies sound reported =
@@ -78,7 +78,7 @@ far_own taken s done later end m far = go (nat_le (done + window) m.number) (le-
     go true e rest = refl
     go false e rest = absurd cc
 
-far_served : (taken : Bool) (requests : List Request) (log : Log) (m : Message) (stop : Option ℕ) →
+pub far_served : (taken : Bool) (requests : List Request) (log : Log) (m : Message) (stop : Option ℕ) →
     IsSound requests log → log.done + window ≤ m.number →
     IsSoundStep taken requests m.name log (served taken log m stop).1 (served taken log m stop).0
 unfolding served

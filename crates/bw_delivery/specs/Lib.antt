@@ -2,3 +2,4 @@ pub mod Reruns
 pub mod ExamplesOfReruns
 pub mod Deliveries
 pub mod ExamplesOfDeliveries
+pub mod RestingDeliveries

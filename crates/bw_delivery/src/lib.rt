@@ -4,6 +4,7 @@
 ghost use Rattle.bw_delivery.specs.Reruns.{EachRunIsFaithful, RunsHearOneVerdict, SettledRunsAreWhole};
 ghost use Rattle.bw_delivery.specs.Deliveries.{ClosedDeliveriesStay, DeliveriesAreTrue};
 ghost use Rattle.bw_delivery.specs.Deliveries.{StoredDeliveriesAreWhole};
+ghost use Rattle.bw_delivery.specs.RestingDeliveries.{RestingDeliveriesAreTrue, StoredRestingDeliveriesAreWhole};
 ghost use Rattle.bw_delivery.specs.ExamplesOfDeliveries.{WorkedDeliveryExample};
 ghost use Rattle.bw_delivery.specs.ExamplesOfReruns.{KilledRunExample, SecondRunExample, LateReplyExample};
 
@@ -25,6 +26,13 @@ pub fn law_delivered()
     ensures heard { DeliveriesAreTrue }
     ensures whole { StoredDeliveriesAreWhole }
     ensures closed { ClosedDeliveriesStay }
+{}
+
+/// The same of a server with more takes than its table has places for: to a sender it is as if no
+/// name had ever rested, though some of its frames are put off.
+pub fn law_delivered_at_rest()
+    ensures heard { RestingDeliveriesAreTrue }
+    ensures whole { StoredRestingDeliveriesAreWhole }
 {}
 
 /// Worked rows: a run that is killed, the next one, and replies to the first that come late.

@@ -16,8 +16,10 @@ module _ {F : Type 0} (name : List ℕ) where
   names_left [] = refl
   names_left (t ∷ takes) = go (is_other name t.name) (names_left takes)
     where
-      go : (b : Bool) → open_names (filter (λ (x : OpenTake F). is_other name x.name) takes) ≡ filter (λ n. is_other name n) (open_names takes) →
-          open_names (cond b (t ∷ filter (λ (x : OpenTake F). is_other name x.name) takes) (filter (λ (x : OpenTake F). is_other name x.name) takes))
+      go : (b : Bool) →
+          open_names (filter (λ (x : OpenTake F). is_other name x.name) takes) ≡ filter (λ n. is_other name n) (open_names takes) →
+          open_names (cond b (t ∷ filter (λ (x : OpenTake F). is_other name x.name) takes)
+          (filter (λ (x : OpenTake F). is_other name x.name) takes))
           ≡ cond b (t.name ∷ filter (λ n. is_other name n) (open_names takes)) (filter (λ n. is_other name n) (open_names takes))
       go true e = ap (λ (ns : List (List ℕ)). t.name ∷ ns) e
       go false e = e

@@ -1,5 +1,6 @@
 -- What makes a journal loose, puts it to rest and wakes it, by the contents of paths.
-use Rattle.std.proofs.Common.{◌≡◌, ◌∙◌, List, ℕ, Bool, true, false, cond, Option, Some, None, is_some, refl, sym, ap, subst, IsSome, not, ◌||◌, ◌&&◌}
+use Rattle.std.proofs.Common.{◌≡◌, ◌∙◌, List, ℕ, Bool, true, false, cond, Option, Some, None, is_some, refl, sym, ap}
+use Rattle.std.proofs.Common.{subst, IsSome, not, ◌||◌, ◌&&◌}
 use Rattle.std.specs.Prelude.{if◌then◌else◌}
 use Rattle.std.specs.Option.{option_or}
 use Rattle.std.specs.Str.{bytes_eq}

@@ -1,5 +1,6 @@
 -- What calls of the disk leave of the journals of a folder of which some rest.
-use Rattle.std.proofs.Common.{◌≡◌, ◌∙◌, List, ℕ, Bool, true, false, Option, Some, None, refl, sym, ap, subst, IsTrue, ◌⊎◌, inl, inr, Result, Ok, Err, string_bytes, cond, IfOk, OnErr, not}
+use Rattle.std.proofs.Common.{◌≡◌, ◌∙◌, List, ℕ, Bool, true, false, Option, Some, None, refl, sym, ap, subst, IsTrue}
+use Rattle.std.proofs.Common.{◌⊎◌, inl, inr, Result, Ok, Err, string_bytes, cond, IfOk, OnErr, not}
 use Rattle.std.specs.Prelude.{filter, unwrap_or, is_some}
 use Rattle.std.specs.Option.{option_or}
 use Rattle.std.specs.HashSet.{HashSet}
@@ -102,7 +103,8 @@ module _ (c c' : List ℕ → Option (List ℕ)) (folder name : List ℕ) where
 module _ {D F : Type 0} (G : Ghosts D F) where
   -- what a journal begins with, by its parts
   header_same : (old new : FolderJournal D F G) → StaysOpen G old new →
-      ((n : List ℕ) → G.contents new.disk (take_path (string_bytes old.folder) n) ≡ G.contents old.disk (take_path (string_bytes old.folder) n)) →
+      ((n : List ℕ) → G.contents new.disk (take_path (string_bytes old.folder) n) ≡
+      G.contents old.disk (take_path (string_bytes old.folder) n)) →
       (n : List ℕ) → header_in_folder new n ≡ header_in_folder old n
   header_same old new s takes n =
       ap (λ (x : ℕ). header_at x (existences new.journals.items) (G.contents new.disk) (string_bytes new.folder) n) s.limit
@@ -113,7 +115,8 @@ module _ {D F : Type 0} (G : Ghosts D F) where
 
   -- two states with the same folder
   in_folder : (old new : RestingFolderJournal D F G) → new.inner.folder ≡ old.inner.folder →
-      SameJournals (all_journals G old) (folder_journals (is_loose new.loose) (header_in_folder new.inner) (G.contents new.inner.disk) (string_bytes old.inner.folder)) →
+      SameJournals (all_journals G old) (folder_journals (is_loose new.loose) (header_in_folder new.inner)
+      (G.contents new.inner.disk) (string_bytes old.inner.folder)) →
       SameJournals (all_journals G old) (all_journals G new)
   in_folder old new e s =
       subst (λ v. SameJournals (all_journals G old) (folder_journals (is_loose new.loose) (header_in_folder new.inner)
@@ -197,8 +200,10 @@ module _ {D F : Type 0} (G : Ghosts D F) where
     -- what the journals of other names begin with
     others_kept : (n : List ℕ) → bytes_eq name n ≡ false → header_in_folder new.inner n ≡ header_in_folder old.inner n
     others_kept n e =
-        ap (λ (x : ℕ). header_at x (existences new.inner.journals.items) (G.contents new.inner.disk) (string_bytes new.inner.folder) n) limit
-        ∙ ap (λ (d : D). header_at old.inner.limit (existences new.inner.journals.items) (G.contents d) (string_bytes new.inner.folder) n) disk
+        ap (λ (x : ℕ). header_at x (existences new.inner.journals.items) (G.contents new.inner.disk)
+        (string_bytes new.inner.folder) n) limit
+        ∙ ap (λ (d : D). header_at old.inner.limit (existences new.inner.journals.items) (G.contents d)
+        (string_bytes new.inner.folder) n) disk
         ∙ ap (λ v. header_at old.inner.limit (existences new.inner.journals.items) (G.contents old.inner.disk) (string_bytes v) n) folder
         ∙ ap (λ (k : Option Bool). known_header k) (ap (λ (js : List (OpenJournal F)). existence_of (existences js) n) journals
         ∙ closed_others old.inner.journals.items name n e)

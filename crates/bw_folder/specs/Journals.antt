@@ -53,4 +53,5 @@ adopted_header (Err fault) name existed before other = before other
 
 -- whether a sync failed for a name's journal, if it is open
 abbrev pub failure_of : {F : Type 0} → List (OpenJournal F) → List ℕ → Option Bool
-failure_of journals name = option_map (λ journal. journal.failed) (find (λ journal. bytes_eq journal.name name) journals)
+failure_of journals name =
+    option_map (λ journal. journal.failed) (find (λ journal. bytes_eq journal.name name) journals)

@@ -331,19 +331,18 @@ impl<D: Volume> Journal for FolderJournal<D> {
             (noted_in_folder self.old name.now) (noted_in_folder self.new name.now)) }
         ensures others { IsTrue (D.honest (journals_disk self.old)) → KeepsOthers
             (noted_in_folder self.old) (noted_in_folder self.new) name.now }
-        ensures files { IsTrue (D.honest (journals_disk self.old)) →
-            KeepsOthers (D.contents (journals_disk self.old))
-            (D.contents (journals_disk self.new)) (path_of_journal (journals_folder self.old)
-            name.now) }
+        ensures files { IsTrue (D.honest (journals_disk self.old)) → KeepsOthers
+            (D.contents (journals_disk self.old)) (D.contents (journals_disk self.new))
+            (path_of_journal (journals_folder self.old) name.now) }
         ensures stopped { sync_failed_in self.old name.now ≡ Some true →
             IsErr result × (journals_disk self.new ≡ journals_disk self.old) }
         ensures plain { journals_sync self.old ≡ false →
             NotesPlainly D.Disk result (journals_disk self.old) (journals_disk self.new) }
         ensures order { IsTrue (D.honest (journals_disk self.old)) →
-            IsTrue (journals_sync self.old) → SyncsInOrder D.Disk
-            result (path_of_take (journals_folder self.old) name.now)
-            (path_of_journal (journals_folder self.old) name.now) (journals_disk self.old)
-            (journals_disk self.new) }
+            IsTrue (journals_sync self.old) → SyncsInOrder D.Disk result
+            (path_of_take (journals_folder self.old) name.now)
+            (path_of_journal (journals_folder self.old) name.now)
+            (journals_disk self.old) (journals_disk self.new) }
     {
         let answer = self.note_in_file(name, offset, bytes);
         if answer.is_err() {

@@ -1,5 +1,5 @@
 -- What a server whose names rest leaves in its folder, and what the next one has of it.
-use Rattle.std.specs.Prelude.{◌≡◌, ℕ, Bool, true, false, Option, None, is_some, IsSome, IsTrue, List, ◌<◌, ◌^◌, string_bytes}
+use Rattle.std.specs.Prelude.{◌≡◌, ℕ, Bool, true, false, Option, None, is_some, IsSome, IsTrue, List, ◌<◌, ◌^◌}
 use Rattle.std.specs.Prelude.{if◌then◌else◌}
 use Rattle.bw_model.specs.Book.{Log, Book, log_of, is_known}
 use Rattle.bw_store.specs.declared.store.TakeStore.{Ghosts as StoreGhosts}
@@ -7,12 +7,15 @@ use Rattle.bw_disk.specs.declared.disk.Disk.{Ghosts as DiskGhosts}
 use Rattle.bw_journal.specs.Stops.{cut_book, cut_log}
 use Rattle.bw_journal.specs.declared.journal.Journal.{Ghosts as JournalGhosts}
 use Rattle.bw_folder.specs.Becoming.{LetsRest}
+use Rattle.bw_folder.specs.RestingFolders.{disk_of_all, folder_of_all}
+use Rattle.bw_folder.specs.TakeFolders.{takes_disk, takes_folder}
 use Rattle.bw_folder.specs.declared.folder.FolderStore.{FolderStore}
 use Rattle.bw_folder.specs.declared.journal.FolderJournal.{FolderJournal}
 use Rattle.bw_folder.specs.declared.resting.RestingFolderJournal.{RestingFolderJournal}
 use Rattle.bw_session.specs.Becoming.{ChangesJournal, KeepsItsBooks}
 use Rattle.bw_session.specs.RestingNames.{IsAtRest}
 use Rattle.bw_session.specs.declared.server.Server.{Server}
+use Rattle.bw_session.specs.SeenServers.{server_store, server_journal, server_limit}
 use Rattle.bw_rest.specs.Folders.{HoldsFolder}
 use Rattle.bw_start.specs.Paths.{wave_path, notes_path, rest_path}
 use Rattle.bw_start.specs.RestingStarts.{StartsOver}
@@ -65,7 +68,7 @@ module _ {D E F H : Type 0} (G : DiskGhosts D F) (K : DiskGhosts E H)
     pub started : StartsOver {S = S} {J = J} settings folder notes takes began
     pub set : IsSetTo {S = S} {J = J} settings.limit folder settings.sync began
     pub same : ChangesJournal S J R began s
-    pub journal : LetsRest began.stores.journal s.stores.journal
+    pub journal : LetsRest (server_journal began) (server_journal s)
     pub books : KeepsItsBooks S J R began s
 
   -- So the server holds, with what rests, the book of the folder with each done number.
@@ -81,21 +84,21 @@ module _ {D E F H : Type 0} (G : DiskGhosts D F) (K : DiskGhosts E H)
   -- at the path of a take; all that rests, or has a journal, is a name.
   pub record IsOverRestingFolder (s : Server (FolderStore D F G) (RestingFolderJournal E H K) S R)
       (folder : List ℕ) : Type 0 where
-    pub store : string_bytes s.stores.store.folder ≡ folder
-    pub journal : string_bytes s.stores.journal.inner.folder ≡ folder
+    pub store : takes_folder (server_store s) ≡ folder
+    pub journal : folder_of_all (server_journal s) ≡ folder
     pub alike : (name : List ℕ) →
-        is_some (K.contents s.stores.journal.inner.disk (wave_path folder name))
-        ≡ is_some (G.contents s.stores.store.disk (wave_path folder name))
+        is_some (K.contents (disk_of_all (server_journal s)) (wave_path folder name))
+        ≡ is_some (G.contents (takes_disk (server_store s)) (wave_path folder name))
 
   -- A server stopped over a folder in which names rest: it holds a book of it, in order, and what a
   -- start asks of a folder that isn't up to its server is so.
   pub record StopsResting (first : List ℕ → Option (List ℕ)) (book : Book) (folder : List ℕ)
       (s : Server (FolderStore D F G) (RestingFolderJournal E H K) S R) : Type 0 where
-    pub honest : IsTrue (S.honest s.stores.store)
-    pub honest_notes : IsTrue (R.honest s.stores.journal)
+    pub honest : IsTrue (S.honest (server_store s))
+    pub honest_notes : IsTrue (R.honest (server_journal s))
     pub held : HoldsFolder S R first s book
     pub order : EachIsInOrder S R held.now s held.table
-    pub own : IsOwnFolder s.limit held.now (R.header s.stores.journal) (R.notes s.stores.journal)
+    pub own : IsOwnFolder (server_limit s) held.now (R.header (server_journal s)) (R.notes (server_journal s))
     pub over : IsOverRestingFolder s folder
 
   -- What it left: from its book, or one in which numbers that waited are done.
@@ -109,5 +112,5 @@ module _ {D E F H : Type 0} (G : DiskGhosts D F) (K : DiskGhosts E H)
   abbrev pub RestingServersAreLeft : Type 0
   RestingServersAreLeft = (folder : List ℕ) (first : List ℕ → Option (List ℕ)) (book : Book)
       (s : Server (FolderStore D F G) (RestingFolderJournal E H K) S R) →
-      StopsResting first book folder s → LeavesRestingLater s.limit folder first book
-      (K.contents s.stores.journal.inner.disk) (G.contents s.stores.store.disk)
+      StopsResting first book folder s → LeavesRestingLater (server_limit s) folder first book
+      (K.contents (disk_of_all (server_journal s))) (G.contents (takes_disk (server_store s)))

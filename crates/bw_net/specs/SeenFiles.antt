@@ -1,5 +1,5 @@
--- What is seen of this machine's files, of its clock and of a terminal.
-use Rattle.std.specs.Prelude.{ℕ, Bool, is_some}
+-- What is seen of this machine's files and of its clock.
+use Rattle.std.specs.Prelude.{ℕ, Bool}
 use Rattle.bw_net.specs.declared.host.Host.{Host}
 use Rattle.bw_net.specs.declared.recordings.HostRecordings.{HostRecordings}
 use Rattle.bw_net.specs.declared.recordings.StampedFile.{StampedFile}
@@ -9,7 +9,6 @@ use Rattle.bw_net.specs.declared.states.HostStates.{HostStates}
 use Rattle.bw_net.specs.declared.states.StateFile.{StateFile}
 use Rattle.bw_net.specs.declared.pause.ClockPause.{ClockPause}
 use Rattle.bw_net.specs.declared.stopwatch.ClockStopwatch.{ClockStopwatch}
-use Rattle.bw_net.specs.declared.terminal.Terminal.{Terminal}
 
 -- how many calls of the system failed, as the machine's files counted them
 abbrev pub host_failures : Host → ℕ
@@ -50,7 +49,3 @@ pausing_runtime p = p.rt
 -- the milliseconds that had passed when it was last looked at
 abbrev pub stopwatch_time : {R : Type 0} → ClockStopwatch R → ℕ
 stopwatch_time s = s.passed
-
--- whether what is shown is seen
-abbrev pub terminal_is_seen : Terminal → Bool
-terminal_is_seen s = is_some s.screen

@@ -1,25 +1,21 @@
--- What is seen of this machine's network.
-use Rattle.std.specs.Prelude.{ℕ, List, Option, string_bytes}
+-- What is seen of links over TCP.
+use Rattle.std.specs.Prelude.{ℕ, List, Option, String, string_bytes}
+use Rattle.std.specs.declared.alloc.Global.{Global}
 use Rattle.std.specs.declared.net.socket_addr.SocketAddr.{SocketAddr}
 use Rattle.std.specs.declared.time.Duration.{Duration}
 use Rattle.mio.specs.Events.{capacity}
-use Rattle.bw_net.specs.declared.network.TcpNetwork.{TcpNetwork}
 use Rattle.bw_net.specs.declared.reactor.TcpReactor.{TcpReactor}
 use Rattle.bw_net.specs.declared.status.TcpStatusPort.{TcpStatusPort}
 use Rattle.bw_net.specs.declared.tcp.TcpDial.{TcpDial}
 use Rattle.bw_net.specs.declared.tcp.TcpPeers.{TcpPeers}
-
--- how many calls of the system failed, as the network counted them
-abbrev pub network_failures : TcpNetwork → ℕ
-network_failures n = n.failures
 
 -- the address that a reactor listens at
 abbrev pub reactor_address : TcpReactor → SocketAddr
 reactor_address r = r.address
 
 -- the folder without which nobody is accepted
-abbrev pub reactor_folder : TcpReactor → List ℕ
-reactor_folder r = string_bytes r.folder
+abbrev pub reactor_folder : TcpReactor → String Global
+reactor_folder r = r.folder
 
 -- how many events it has room for
 abbrev pub reactor_room : TcpReactor → ℕ
@@ -79,8 +75,8 @@ module _ {R L : Type 0} where
   peers_address p = p.address
 
   -- the folder without which nobody is accepted
-  abbrev pub peers_folder : TcpPeers R L → List ℕ
-  peers_folder p = string_bytes p.folder
+  abbrev pub peers_folder : TcpPeers R L → String Global
+  peers_folder p = p.folder
 
   -- after how long silence a call over a link fails, if a time is given
   abbrev pub peers_timeout : TcpPeers R L → Option Duration

@@ -1,4 +1,4 @@
-//! What the program asks of the system: links over TCP, the server's folder, a terminal, files and
+//! What the program asks of the system: links over TCP, a folder and its lock, files, the clock and
 //! words.
 #![tactic(auto)]
 
@@ -7,11 +7,9 @@ mod folder;
 mod followed;
 mod host;
 mod input;
-mod journals;
 mod link_stream;
 mod lock;
 mod locks;
-mod network;
 mod pause;
 mod reactor;
 mod recordings;
@@ -19,12 +17,10 @@ mod socket;
 mod spool;
 mod spool_file;
 mod spool_stream;
-mod starting;
 mod states;
 mod status;
 mod stopwatch;
 mod tcp;
-mod terminal;
 
 pub use folder::{check_folder, has_folder};
 pub use followed::FollowedFile;
@@ -32,7 +28,6 @@ pub use host::Host;
 pub use input::InputLink;
 pub use link_stream::LinkStream;
 pub use lock::FolderLock;
-pub use network::TcpNetwork;
 pub use pause::{ClockPause, SpoolPause};
 pub use reactor::TcpReactor;
 pub use recordings::{HostRecordings, StampedFile};
@@ -40,9 +35,7 @@ pub use socket::Socket;
 pub use spool::SpoolCell;
 pub use spool_file::SpoolFile;
 pub use spool_stream::SpoolStream;
-pub use starting::FolderServer;
 pub use states::{HostStates, StateFile};
 pub use status::TcpStatusPort;
 pub use stopwatch::ClockStopwatch;
 pub use tcp::{TcpDial, TcpPeers};
-pub use terminal::Terminal;

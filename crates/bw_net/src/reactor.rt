@@ -1,5 +1,5 @@
 //! Accepts many recorders over TCP, and says which of their sockets are ready.
-ghost use Rattle.std.specs.Prelude.{◌≡◌, ◌||◌, ◌+◌, IfOk, ⊤, string_bytes};
+ghost use Rattle.std.specs.Prelude.{◌≡◌, ◌||◌, ◌+◌, IfOk, ⊤};
 ghost use Rattle.mio.specs.Event.{event_token, is_error, is_readable, is_read_closed};
 ghost use Rattle.mio.specs.Event.{is_writable, is_write_closed};
 
@@ -65,7 +65,7 @@ impl<'a> TcpReactor<'a> {
         places: usize,
     ) -> io::Result<TcpReactor<'a>>
         ensures address { IfOk result (λ reactor. reactor_address reactor ≡ address) }
-        ensures folder { IfOk result (λ reactor. reactor_folder reactor ≡ string_bytes folder) }
+        ensures folder { IfOk result (λ reactor. reactor_folder reactor ≡ folder) }
         ensures room { IfOk result (λ reactor. reactor_room reactor ≡ places + 1) }
         ensures failures { IfOk result (λ reactor. reactor_failures reactor ≡ 0) }
         ensures waits { IfOk result (λ reactor. reactor_waits reactor ≡ 0) }

@@ -2,10 +2,9 @@
 ghost use Rattle.std.specs.Prelude.{◌≡◌, IfOk, ⊤};
 
 use crate::folder::has_folder;
-use crate::network::TcpNetwork;
 use crate::reactor::{STATUS, TcpReactor};
 use crate::socket::Socket;
-use bw_operators::{StatusPort, StatusSetup};
+use bw_operators::StatusPort;
 use mio::net::{TcpListener, TcpStream};
 use mio::{Interest, Registry, Waker};
 use std::net::SocketAddr;
@@ -34,20 +33,27 @@ pub struct TcpStatusPort<'a> {
 }
 
 impl<'a> TcpStatusPort<'a> {
-    ghost use Rattle.bw_net.specs.SeenLinks.{port_address, port_folder};
+    ghost use Rattle.bw_net.specs.SeenLinks.{port_address, port_folder, port_time};
 
-    /// Listens at an address, beside a reactor.
+    /// Listens at an address for operators of a server over this folder. What happens there ends a
+    /// wait of this reactor.
     ///
     /// # Errors
     /// Why the system refuses; `OutOfMemory` if memory was refused.
-    fn listen(
+    ///
+    /// # Not specified
+    /// - When it fails, and the kind of the error.
+    /// - That its runtime is the one that was given, and that it listens at the address.
+    /// - Who is accepted, what time it is, and when it was started.
+    pub fn listen(
         rt: &'a HostRuntime,
         reactor: &TcpReactor<'_>,
         address: SocketAddr,
         folder: &str,
     ) -> io::Result<TcpStatusPort<'a>>
-        ensures { IfOk result (λ port. (port_address port ≡ address)
-            × (port_folder port ≡ folder.now)) }
+        ensures address { IfOk result (λ port. port_address port ≡ address) }
+        ensures folder { IfOk result (λ port. port_folder port ≡ folder.now) }
+        ensures time { IfOk result (λ port. port_time port ≡ 0) }
     {
         let registry = reactor.registry()?;
         let mut listener = TcpListener::bind(rt, address)?;
@@ -119,30 +125,6 @@ impl StatusPort for TcpStatusPort<'_> {
         let pages = text.as_str().split(' ').nth(1)?;
         let pages = pages.parse::<u64>().ok()?;
         pages.checked_mul(PAGE)
-    }
-}
-
-impl<'a> StatusSetup<TcpReactor<'a>> for TcpNetwork<'a> {
-    ghost use Rattle.bw_net.specs.SeenLinks.{network_failures, port_address, port_folder};
-
-    type Port = TcpStatusPort<'a>;
-
-    ghost failures = { network_failures };
-
-    ghost shows = { λ n reactor address folder result n'. IfOk result (λ port.
-        (port_address port ≡ address) × (port_folder port ≡ folder)) };
-
-    fn status_port(
-        &mut self,
-        reactor: &TcpReactor<'a>,
-        address: SocketAddr,
-        folder: &str,
-    ) -> io::Result<TcpStatusPort<'a>> {
-        let port = TcpStatusPort::listen(self.rt, reactor, address, folder);
-        if port.is_err() {
-            self.failures = self.failures.saturating_add(1);
-        }
-        port
     }
 }
 

@@ -1,5 +1,5 @@
 //! Links over TCP: to a server, and of its peers.
-ghost use Rattle.std.specs.Prelude.{◌≡◌, IfOk, None, string_bytes};
+ghost use Rattle.std.specs.Prelude.{◌≡◌, IfOk, None};
 
 use crate::folder::has_folder;
 use crate::link_stream::{LinkStream, connect};
@@ -147,7 +147,7 @@ impl<'a, R: Net> TcpPeers<'a, R, R::Listener> {
     ) -> io::Result<TcpPeers<'a, R, R::Listener>>
         ensures failures { IfOk result (λ peers. peers_failures peers ≡ 0) }
         ensures address { IfOk result (λ peers. peers_address peers ≡ address) }
-        ensures folder { IfOk result (λ peers. peers_folder peers ≡ string_bytes folder) }
+        ensures folder { IfOk result (λ peers. peers_folder peers ≡ folder) }
         ensures timeout { IfOk result (λ peers. peers_timeout peers ≡ timeout) }
     {
         Ok(TcpPeers {

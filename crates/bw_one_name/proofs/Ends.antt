@@ -227,4 +227,5 @@ ends-alike first place end bytes =
         go (inr bad) (inl long) = subst (Alike place end) (sym (named-refused first a b c d k start last more bad))
             (refused-long place a b c d k start last more end (omega arith) e)
         go (inr bad) (inr short) = subst (Alike place end) (sym (named-refused first a b c d k start last more bad))
-            (same-alike place end (six a b c d k (length start + 1) ((start ++ 0 ∷ []) ++ more)) (refused-short place a b c d k start last more end short e))
+            (same-alike place end (six a b c d k (length start + 1) ((start ++ 0 ∷ []) ++ more))
+            (refused-short place a b c d k start last more end short e))

@@ -133,11 +133,11 @@ impl<T, N: Starts<T>> Starts<T> for FilteredNetwork<N> {
 }
 
 impl<T, N: StartsResting<T>> StartsResting<T> for FilteredNetwork<N> {
-    ghost rest_failures = { λ n. N.rest_failures n.network };
+    ghost rest_failures = { λ n. N.rest_failures (inner_network n) };
 
     ghost starts_resting = { λ n folder limit sync result n'.
-        N.starts_resting n.network folder limit sync result n'.network
-        × (n'.one_name ≡ n.one_name) };
+        N.starts_resting (inner_network n) folder limit sync result (inner_network n')
+        × (network_has_one_name n' ≡ network_has_one_name n) };
 
     fn start_resting(&mut self, folder: &str, limit: Limit, sync: bool) -> Result<T, StartRefusal> {
         self.network.start_resting(folder, limit, sync)

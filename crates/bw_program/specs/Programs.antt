@@ -18,11 +18,11 @@ use Rattle.bw_commands.specs.Replays.{IsReplay}
 use Rattle.bw_console.specs.Faults.{IsReportedBy, exit_of}
 use Rattle.bw_commands.specs.Inspections.{IsPrintOfText}
 use Rattle.bw_console.specs.Printing.{Nothing, IsOf}
-use Rattle.bw_commands.specs.Rehearsals.{IsRehearsal}
 use Rattle.bw_console.specs.BadArgv.{IsBadArgv}
 use Rattle.bw_console.specs.declared.exit.Exit.{Exit}
 use Rattle.bw_console.specs.declared.exit.Exit.TheVariants as exits
 use Rattle.bw_console.specs.declared.fault.Fault.{Fault}
+use Rattle.bw_rehearse.specs.Chosen.{IsChosenRehearsal}
 use Rattle.bw_ports.specs.declared.network.Network.{Ghosts as NetworkGhosts}
 use Rattle.bw_ports.specs.declared.listener_setup.ListenerSetup.{Ghosts as ListenerSetupGhosts}
 use Rattle.bw_program.specs.Inspected.{InspectsFiles, IsInspectedAt}
@@ -75,7 +75,7 @@ IsTaskDone file_at input (Replay limit fuse) gives_all did =
 IsTaskDone file_at input (Inspect file) gives_all did =
     IsInspectedAt file_at input (string_bytes file) gives_all did
 IsTaskDone file_at input (Rehearse name limit) gives_all did =
-    IsRehearsal name limit input did × (gives_all ≡ true)
+    IsChosenRehearsal name limit input did × (gives_all ≡ true)
 IsTaskDone file_at input (InspectFiles inspection) gives_all did = ⊥
 IsTaskDone file_at input (Serve server) gives_all did = ⊥
 IsTaskDone file_at input (Send sender) gives_all did = ⊥

@@ -19,7 +19,6 @@ use crate::remote::{send_as, serve_as};
 use crate::samples::{send_pcm_as, send_pcm_watched};
 use crate::uploads::{send_file_as, send_file_watched};
 use bw_args::{CommandLine, Task, parse};
-use bw_commands::rehearse_run;
 use bw_commands::replay::{replay, replay_fused};
 use bw_console::print::{give_up, print, print_diagnostic};
 use bw_console::{Exit, Fault, report_bad_argv};
@@ -36,6 +35,7 @@ use bw_ports::{
     ListenerSetup, Network, Pause, RecordingFiles, Starts, StartsResting, System, Watch,
 };
 use bw_progress::UploadWatch;
+use bw_rehearse::rehearse_with_stops_run;
 use bw_repair_file::repair_file;
 use bw_resume::StateKeeping;
 use bw_send_file::PlanFeed;
@@ -262,7 +262,7 @@ fn run<
             inspect_as(alloc, inspection, files, input, out, faults)
         }
         Task::Rehearse { name, limit } => match Limit::new(*limit) {
-            Some(limit) => rehearse_run(alloc, name.copy(), limit, input, out, faults),
+            Some(limit) => { rehearse_with_stops_run(alloc, name.copy(), limit, input, out, faults) },
             None => unreachable!(),
         },
         Task::Serve(server) => serve_as(alloc, server, network, out, faults),

@@ -1,6 +1,5 @@
 -- Runs of a server over a folder in which names rest.
-use Rattle.std.specs.Prelude.{◌≡◌, ℕ, Bool, not, ◌&&◌, Option, is_some, IsTrue, List, [], ◌∷◌, map}
-use Rattle.std.specs.Prelude.{filter}
+use Rattle.std.specs.Prelude.{◌≡◌, ℕ, Bool, not, ◌&&◌, Option, is_some, IsTrue, List, [], ◌∷◌, map, filter}
 use Rattle.bw_model.specs.Wire.{Frame}
 use Rattle.bw_model.specs.Replies.{Reply}
 use Rattle.bw_model.specs.Book.{Book, log_of, is_known}

@@ -15,7 +15,8 @@ use Rattle.bw_connections.specs.declared.connections.Connections.{Connections}
 use Rattle.bw_connections.specs.Keeping.{Adds, KeepsConnections, SetsPlace, HoldsConnectionAt, Tagged}
 use Rattle.bw_connections.specs.Keeping.{all_answered, own, tagged, those}
 use Rattle.bw_connections.specs.Lives.{BeginsConnection, expired_at}
-use Rattle.bw_connections.specs.Places.{begun_of, can_go_on_at, connection_count, end_of_connection, expired_there}
+use Rattle.bw_connections.specs.Places.{begun_of, can_go_on_at, connection_count, end_of_connection}
+use Rattle.bw_connections.specs.Places.{expired_there}
 use Rattle.bw_connections.specs.Working.{IsEmpty, StaysAt, ExistedAt, WorksAt, ExistedUnder}
 use Rattle.bw_exchange.specs.LinkCounts.{up_to_last, counting_frame}
 use Rattle.bw_connections.specs.Places.{refused_of}

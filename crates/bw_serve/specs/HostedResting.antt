@@ -5,8 +5,10 @@ use Rattle.bw_stream.specs.declared.source.Source.{Ghosts as Reader}
 use Rattle.bw_store.specs.declared.store.TakeStore.{Ghosts as StoreGhosts}
 use Rattle.bw_journal.specs.declared.journal.Journal.{Ghosts as JournalGhosts}
 use Rattle.bw_session.specs.Becoming.{ChangesJournal, KeepsItsBooks}
+use Rattle.bw_session.specs.SeenServers.{server_journal}
 use Rattle.bw_session.specs.declared.server.Server.{Server}
 use Rattle.bw_rest.specs.Leaving.{LeavesRestsFrom, resting_answers}
+use Rattle.bw_rest.specs.RestingServers.{table_server}
 use Rattle.bw_rest.specs.declared.resting.RestingServer.{RestingServer}
 use Rattle.bw_console.specs.declared.exit.Exit.{Exit}
 use Rattle.bw_ports.specs.declared.link.Link.{Ghosts as LinkGhosts}
@@ -27,9 +29,9 @@ use Rattle.bw_serve.specs.declared.hosting_in_turn.Serving.{Serving}
 -- the server that was started, and the one of which names rest from then on: with the same books
 pub record RestsFromNow {X Y Z : Type 0} (S : StoreGhosts X) (J : JournalGhosts Y) (K : JournalGhosts Z)
     (becomes : Y → Z → Type 0) (server : Server X Y S J) (resting : RestingServer X Z S K) : Type 0 where
-  pub same : ChangesJournal S J K server resting.server
-  pub journal : becomes server.stores.journal resting.server.stores.journal
-  pub books : KeepsItsBooks S J K server resting.server
+  pub same : ChangesJournal S J K server (table_server resting)
+  pub journal : becomes (server_journal server) (server_journal (table_server resting))
+  pub books : KeepsItsBooks S J K server (table_server resting)
 
 module _ {X Y P R W O E : Type 0} (S : StoreGhosts X) (K : JournalGhosts Y) (peers : PeerGhosts P R W)
     (reader : Reader R) (writer : Writer W) (out : Writer O) (reported : Writer E) where
@@ -39,7 +41,7 @@ module _ {X Y P R W O E : Type 0} (S : StoreGhosts X) (K : JournalGhosts Y) (pee
       (server : RestingServer X Y S K) (p p' : P) (o o' : O) (e e' : E) : Type 0 where
     pub serves : ServesTurns (resting_answers S K) peers reader writer out reported opening
         serving.exchanges serving.log exit server p p' o o' e e'
-    pub leaves : LeavesRestsFrom S K server.server serves.following.server (answered_in_run
+    pub leaves : LeavesRestsFrom S K (table_server server) (table_server serves.following) (answered_in_run
         (resting_answers S K) peers reader writer out reported serving.log serving.exchanges
         serves.ended server serves.following p p' serves.between o' e serves.logged serves.run)
 
@@ -77,9 +79,9 @@ module _ {X Y B L O E : Type 0} (S : StoreGhosts X) (K : JournalGhosts Y) (react
       (server : RestingServer X Y S K) (b b' : B) (o o' : O) (e e' : E) : Type 0 where
     pub serves : ServesManyTurns (resting_answers S K) reactor link out reported opening
         hosting.bounds hosting.log exit server b b' o o' e e'
-    pub leaves : LeavesRestsFrom S K server.server serves.following.server (answered_in_loop reactor
-        link (resting_answers S K) out reported hosting.log hosting.bounds serves.ended server
-        serves.following b b' serves.between o' e serves.logged serves.run)
+    pub leaves : LeavesRestsFrom S K (table_server server) (table_server serves.following)
+        (answered_in_loop reactor link (resting_answers S K) out reported hosting.log hosting.bounds
+        serves.ended server serves.following b b' serves.between o' e serves.logged serves.run)
 
 module _ {X Y Z B L O E : Type 0} (S : StoreGhosts X) (J : JournalGhosts Y) (K : JournalGhosts Z)
     (becomes : Y → Z → Type 0) (reactor : ReactorGhosts B L) (link : LinkGhosts L) (out : Writer O)

@@ -14,8 +14,8 @@ use Rattle.bw_connections.specs.Places.{begun_of, connection_count, first_free_p
 use Rattle.bw_connections.specs.Working.{Wakes}
 use Rattle.bw_serve.specs.Admissions.{AdmitsEach}
 use Rattle.bw_ports.specs.Reactors.{Admission}
-use Rattle.bw_serve.specs.EventLoops.{Grows, InTurn, IsNew, LetsIn, KeepsEventLoop, can_go_on_in, ended_in_turn}
-use Rattle.bw_serve.specs.EventLoops.{frames_in_turn}
+use Rattle.bw_serve.specs.EventLoops.{Grows, InTurn, IsNew, LetsIn, KeepsEventLoop, can_go_on_in}
+use Rattle.bw_serve.specs.EventLoops.{ended_in_turn, frames_in_turn}
 use Rattle.bw_serve.specs.declared.event_loop.EventLoop.{EventLoop}
 use Rattle.bw_ports.specs.declared.reactor.Reactor.{Ghosts as ReactorGhosts}
 use Rattle.bw_ports.specs.declared.reactor.Ready.{Ready}

@@ -7,10 +7,12 @@ use bw_journal::BecomesResting;
 use bw_store::TakeStore;
 
 impl<S: TakeStore, J: BecomesResting> Server<S, J> {
+    ghost use Rattle.bw_session.specs.SeenServers.{server_journal};
+
     /// The same server, over the same journals, of which some rest from now on.
     pub fn becomes_resting(self) -> Server<S, J::Resting>
         ensures same { ChangesJournal S.TakeStore J.Journal J.Resting.Journal self result }
-        ensures journal { J.becomes self.stores.journal result.stores.journal }
+        ensures journal { J.becomes (server_journal self) (server_journal result) }
         ensures books { KeepsItsBooks S.TakeStore J.Journal J.Resting.Journal self result }
     {
         let Server {

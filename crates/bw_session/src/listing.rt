@@ -1,6 +1,5 @@
 //! What a server keeps of its names, one by one.
-ghost use Rattle.std.specs.Prelude.{◌≡◌, ◌≤◌, ℕ, List, Option, IsTrue, IfOk, IfSome, is_some};
-ghost use Rattle.std.specs.Prelude.{length};
+ghost use Rattle.std.specs.Prelude.{◌≡◌, ◌≤◌, ℕ, List, Option, IsTrue, IfOk, IfSome, is_some, length};
 ghost use Rattle.bw_model.specs.Book.{Book, log_of, is_known, made};
 ghost use Rattle.bw_model.specs.Take.{is_format};
 ghost use Rattle.bw_model.specs.Turn.{most_takes};
@@ -15,8 +14,7 @@ use std::alloc::{AllocError, Global};
 
 impl<S: TakeStore, J: Journal> Server<S, J> {
     ghost use Rattle.bw_session.specs.Books.{HoldsBook};
-    ghost use Rattle.bw_session.specs.SeenServers.{session_kept, format_kept, taken_kept};
-    ghost use Rattle.bw_session.specs.SeenServers.{known_kept};
+    ghost use Rattle.bw_session.specs.SeenServers.{session_kept, format_kept, taken_kept, known_kept};
 
     /// The format of a name's take; None if it has none, and for an unknown name.
     ///

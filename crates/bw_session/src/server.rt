@@ -1,7 +1,6 @@
 //! A server: what it keeps of each name, over a store and its journal.
 ghost use Rattle.std.specs.Prelude.{◌≡◌, ◌<◌, ◌≤◌, ◌+◌, ◌*◌, ◌&&◌, ◌||◌, ℕ, List, [], Option, None};
-ghost use Rattle.std.specs.Prelude.{IsTrue, IfOk, OnOk, IfErr, OnErr, IfSome, IsSome, is_some};
-ghost use Rattle.std.specs.Prelude.{nat_le};
+ghost use Rattle.std.specs.Prelude.{IsTrue, IfOk, OnOk, IfErr, OnErr, IfSome, IsSome, is_some, nat_le};
 ghost use Rattle.bw_journal.specs.JournalHeaders.{header_bytes};
 ghost use Rattle.bw_journal.specs.Notes.{IsPrefixOf};
 ghost use Rattle.std.specs.Prelude.{false, length, map, vec_capacity};
@@ -73,10 +72,8 @@ impl<S: TakeStore> Server<S> {
 }
 
 impl<S: TakeStore, J: Journal> Server<S, J> {
-    ghost use Rattle.bw_session.specs.Books.{HoldsBook, NotesBook, TurnsBooks, NotesBooks};
-    ghost use Rattle.bw_session.specs.Books.{KeepsBooks};
-    ghost use Rattle.bw_session.specs.Books.{LeavesServer, UsesInTurn, AsksTurn, SameStores};
-    ghost use Rattle.bw_session.specs.Books.{Turned};
+    ghost use Rattle.bw_session.specs.Books.{HoldsBook, NotesBook, TurnsBooks, NotesBooks, KeepsBooks};
+    ghost use Rattle.bw_session.specs.Books.{LeavesServer, UsesInTurn, AsksTurn, Turned};
     ghost use Rattle.bw_session.specs.Books.{OrdersBooks, of_known, count_waiting};
     ghost use Rattle.bw_session.specs.SeenServers.{server_store, server_journal, server_limit};
     ghost use Rattle.bw_session.specs.SeenServers.{session_kept, kept_now};
@@ -151,8 +148,7 @@ impl<S: TakeStore, J: Journal> Server<S, J> {
             × (server_journal self.new ≡ server_journal self.old)
             × ((name : List ℕ) → kept_now self.new name ≡ kept_now self.old name) }
         ensures unmet { session_kept self.new (message_of message.now).name ≡ None →
-            ((other : List ℕ) → session_kept self.new other ≡ session_kept self.old other)
-            × SameStores S.TakeStore J.Journal self.old self.new }
+            LeavesServer S.TakeStore J.Journal self.old self.new }
         ensures both { UsesInTurn S.TakeStore J.Journal self.old self.new (message_of message.now)
             out.new.items }
         ensures asked { AsksTurn S.TakeStore J.Journal self.old self.new (message_of message.now) }
@@ -183,9 +179,7 @@ impl<S: TakeStore, J: Journal> Server<S, J> {
             × (self.new.stores.journal ≡ self.old.stores.journal)
             × (self.new.sessions ≡ self.old.sessions) }
         ensures unmet { session_in self.new.sessions (message_of message.now).name ≡ None →
-            ((other : List ℕ) → session_in self.new.sessions other
-            ≡ session_in self.old.sessions other)
-            × SameStores S.TakeStore J.Journal self.old self.new }
+            LeavesServer S.TakeStore J.Journal self.old self.new }
         ensures both { UsesInTurn S.TakeStore J.Journal self.old self.new (message_of message.now)
             out.new.items }
         ensures limit { self.new.limit ≡ self.old.limit }

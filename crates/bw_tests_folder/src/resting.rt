@@ -2,7 +2,7 @@
 use crate::noting::{FOLDER, NOTES, PATH, a1, limit, with_header};
 use bw_disk::{MemoryDisk, MortalDisk, Volume};
 use bw_folder::{FolderJournal, RestingFolderJournal};
-use bw_journal::{Journal, RestingJournal};
+use bw_journal::{BecomesResting, Journal, RestingJournal};
 use std::alloc::Global;
 use std::test::Fail;
 
@@ -130,7 +130,7 @@ fn goes_on(alloc: Global, disk: MemoryDisk, done: usize) -> Result<bool, Fail> {
     let name = a1()?;
     let mut inner = FolderJournal::over(disk, alloc, FOLDER, limit()?, false)?;
     let _ = inner.adopt(&name, false)?;
-    let mut journal = RestingFolderJournal::new(alloc, inner);
+    let mut journal = inner.becomes_resting(alloc);
     if !journal.wake(&name)? {
         journal.begin(&name)?;
     }

@@ -1,5 +1,5 @@
 use Rattle.std.specs.Prelude.{string_bytes}
-use Rattle.bw_folder.specs.RestingFolders.{inner_header}
+use Rattle.bw_folder.specs.JournalFolders.{header_in_folder}
 use Rattle.bw_folder.specs.RestingJournals.{is_loose, closed_path}
 use Rattle.bw_folder.proofs.BecomingForms.{heads}
 use Rattle.bw_folder.proofs.becoming.FolderJournalBecomesResting.becomes_resting.Goals as goal
@@ -9,6 +9,6 @@ returns-clause-notes g c = record {
   notes_are = c.new.ensures.notes;
   headers = λ name. rw c.new.ensures.inner (heads (is_loose c.new.result.loose name)
       (g.D.Disk.contents c.args.self.disk (closed_path (string_bytes c.args.self.folder) name))
-      (inner_header g.D.Disk c.args.self name) (c.new.ensures.loose name)
+      (header_in_folder c.args.self name) (c.new.ensures.loose name)
       (λ none. rw c.new.ensures.inner at c.new.ensures.headers name none));
 }

@@ -1,4 +1,5 @@
-use Rattle.std.proofs.Common.{rules, ◌≡◌, ◌∙◌, ap, sym, subst, List, [], ◌∷◌, ◌++◌, ℕ, Bool, false, is_some, string_bytes, length, Some, ◌<◌}
+use Rattle.std.proofs.Common.{rules, ◌≡◌, ◌∙◌, ap, sym, subst, List, [], ◌∷◌, ◌++◌, ℕ, Bool, false, is_some}
+use Rattle.std.proofs.Common.{string_bytes, length, Some, ◌<◌}
 use Rattle.std.specs.List.{All, HoldsAt}
 use Rattle.std.proofs.lemmas.List.Elements.{All-push}
 use Rattle.bw_disk.specs.DiskSteps.{ChangesAt}
@@ -13,7 +14,8 @@ returns-in_err-file-clause-headers g c = λ honest n.
     let folder : List ℕ = string_bytes c.args.self.now.folder in
     let items : c.reserve.new.self.items ≡ c.args.self.now.journals.items = search rules in
     let changes : ChangesAt g.D.Disk (journal_path folder c.args.name.now) c.exists.new.disk c.open_or_make.new.disk = search rules in
-    ap (λ (js : List (OpenJournal g.row.D-File.Denot)). header_at c.args.self.now.limit (existences js) (g.D.Disk.contents c.open_or_make.new.disk) folder n)
+    ap (λ (js : List (OpenJournal g.row.D-File.Denot)). header_at c.args.self.now.limit (existences js)
+    (g.D.Disk.contents c.open_or_make.new.disk) folder n)
     items
     ∙ header_kept c.args.self.now.limit (existences c.args.self.now.journals.items) (g.D.Disk.contents c.args.self.now.disk)
     (g.D.Disk.contents c.open_or_make.new.disk) folder

@@ -11,5 +11,6 @@ returns-clause-rest g c = λ honest.
     same_then_beside c.args.name.now (all_journals g.D.Disk c.args.self.now) (all_journals g.D.Disk mid)
     (all_journals g.D.Disk (record { inner = c.begin_file.new.self; loose = mid.loose }))
     (reads_same g.D.Disk c.args.self.now mid c.stands_closed.ensures.rest c.stands_closed.ensures.loose honest)
-    (written_beside g.D.Disk c.args.name.now mid (record { inner = c.begin_file.new.self; loose = mid.loose }) c.begin_file.ensures.settings.2 refl (c.begin_file.ensures.headers still)
+    (written_beside g.D.Disk c.args.name.now mid (record { inner = c.begin_file.new.self; loose = mid.loose })
+    c.begin_file.ensures.settings.2 refl (c.begin_file.ensures.headers still)
     (c.begin_file.ensures.rest.others still))

@@ -10,12 +10,14 @@ use Rattle.bw_folder.proofs.resting.RestingFolderJournal.loosen.Goals as goal
 pub returns-then-contains-clause-same : goal.returns-then-contains-clause-same
 returns-then-contains-clause-same g c = λ honest.
     let was : is_loose c.args.self.now.loose c.args.name.now ≡ true = search rules in
-    closed_loose g.D.Disk c.args.name.now c.args.self.now (record { inner = c.close.new.self; loose = c.args.self.now.loose }) c.close.ensures.disk c.close.ensures.settings.0
+    closed_loose g.D.Disk c.args.name.now c.args.self.now (record { inner = c.close.new.self; loose = c.args.self.now.loose })
+    c.close.ensures.disk c.close.ensures.settings.0
     c.close.ensures.settings.2 c.close.ensures.journals (λ n. refl) was
 
 pub returns-then-contains-clause-closed : goal.returns-then-contains-clause-closed
 returns-then-contains-clause-closed g c = λ loose.
-    closed_now g.D.Disk c.args.name.now c.args.self.now (record { inner = c.close.new.self; loose = c.args.self.now.loose }) c.close.ensures.disk c.close.ensures.settings.0
+    closed_now g.D.Disk c.args.name.now c.args.self.now (record { inner = c.close.new.self; loose = c.args.self.now.loose })
+    c.close.ensures.disk c.close.ensures.settings.0
     c.close.ensures.settings.2 c.close.ensures.journals
 
 pub returns-clause-same : goal.returns-clause-same
@@ -31,10 +33,12 @@ returns-clause-same g c = λ honest.
     same_twice (all_journals g.D.Disk old) (all_journals g.D.Disk mid)
     (all_journals g.D.Disk (record { inner = c.close-2.new.self; loose = c.insert.new.self }))
     (reads_same g.D.Disk old mid c.stands_closed.ensures.rest c.stands_closed.ensures.loose honest)
-    (closed_open g.D.Disk name mid (record { inner = c.close-2.new.self; loose = c.insert.new.self }) c.close-2.ensures.disk c.close-2.ensures.settings.0 c.close-2.ensures.settings.2
+    (closed_open g.D.Disk name mid (record { inner = c.close-2.new.self; loose = c.insert.new.self }) c.close-2.ensures.disk
+    c.close-2.ensures.settings.0 c.close-2.ensures.settings.2
     c.close-2.ensures.journals upd tied own free)
 
 pub returns-clause-closed : goal.returns-clause-closed
 returns-clause-closed g c = λ loose.
-    closed_now g.D.Disk c.args.name.now c.stands_closed.new.self (record { inner = c.close-2.new.self; loose = c.insert.new.self }) c.close-2.ensures.disk c.close-2.ensures.settings.0
+    closed_now g.D.Disk c.args.name.now c.stands_closed.new.self
+    (record { inner = c.close-2.new.self; loose = c.insert.new.self }) c.close-2.ensures.disk c.close-2.ensures.settings.0
     c.close-2.ensures.settings.2 c.close-2.ensures.journals

@@ -43,9 +43,7 @@ returns-in-Err-clause-uncalled g c = λ away.
     let left = c.in-Err.ensures.left in (left.store, left.journal, left.sessions)
 
 pub returns-in-Err-clause-unmet : goal.returns-in-Err-clause-unmet
-returns-in-Err-clause-unmet g c = λ none.
-    let left = c.in-Err.ensures.left in
-    ((λ other. ap (λ (t : _). session_in t other) left.sessions), (left.store, left.journal))
+returns-in-Err-clause-unmet g c = λ none. c.in-Err.ensures.left
 
 pub returns-in-Err-clause-turned : goal.returns-in-Err-clause-turned
 returns-in-Err-clause-turned g c =

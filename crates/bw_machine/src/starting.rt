@@ -3,14 +3,13 @@ ghost use Rattle.std.specs.Prelude.{◌≡◌, IfOk};
 ghost use Rattle.bw_stream.specs.Moves.{failures_after};
 ghost use Rattle.bw_start.specs.Started.{IsSetTo};
 
-use crate::folder::check_folder;
-use crate::lock::FolderLock;
 use crate::network::TcpNetwork;
 use crate::terminal::Terminal;
 use bw_disk::SystemDisk;
 use bw_folder::{FolderJournal, FolderStore};
 use bw_layout::Limit;
 use bw_lock::LockRefusal;
+use bw_net::{FolderLock, check_folder};
 use bw_ports::{StartRefusal, Starts, StartsResting};
 use bw_session::Server;
 use bw_start::{FolderFault, Settings, StartFault, start_over};
@@ -23,7 +22,7 @@ pub type FolderServer<'a> = Server<
 >;
 
 impl<'a> Starts<FolderServer<'a>> for TcpNetwork<'a> {
-    ghost use Rattle.bw_net.specs.SeenLinks.{network_failures};
+    ghost use Rattle.bw_machine.specs.SeenMachine.{network_failures};
 
     ghost failures = { network_failures };
 
@@ -43,7 +42,9 @@ impl<'a> Starts<FolderServer<'a>> for TcpNetwork<'a> {
 }
 
 impl<'a> StartsResting<FolderServer<'a>> for TcpNetwork<'a> {
-    ghost rest_failures = { λ n. n.failures };
+    ghost use Rattle.bw_machine.specs.SeenMachine.{network_failures};
+
+    ghost rest_failures = { network_failures };
 
     ghost starts_resting = { λ n folder limit sync result n'.
         IfOk result (IsSetTo limit folder sync) };

@@ -1,6 +1,6 @@
 use Rattle.bw_session.specs.Tables.{session_in}
 use Rattle.bw_session.proofs.BecomingForms.{notes_names_alike}
-use Rattle.bw_session.proofs.becoming.Server.becomes_resting.Goals as goal
+use Rattle.bw_session.proofs.server.Server.becomes_resting.Goals as goal
 
 pub returns-clause-books : goal.returns-clause-books
 returns-clause-books g c =

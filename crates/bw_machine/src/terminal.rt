@@ -66,7 +66,7 @@ impl Terminal {
 }
 
 impl Screen for Terminal {
-    ghost use Rattle.bw_net.specs.SeenFiles.{terminal_is_seen};
+    ghost use Rattle.bw_machine.specs.SeenMachine.{terminal_is_seen};
 
     ghost is_seen = { terminal_is_seen };
 

@@ -1,16 +1,12 @@
 //! The network and the folders of this machine, for `serve` and `send`.
-ghost use Rattle.std.specs.Prelude.{◌≡◌, ◌*◌, ◌+◌, IfOk, option_map};
+ghost use Rattle.std.specs.Prelude.{◌≡◌, ◌*◌, ◌+◌, IfOk, option_map, string_bytes};
 ghost use Rattle.std.specs.Duration.{as_nanos};
 ghost use Rattle.bw_folder.specs.TakeFolders.{takes_folder};
 
-use crate::folder::check_folder;
 use crate::journals::refuse_journals;
-use crate::lock::FolderLock;
-use crate::reactor::TcpReactor;
-use crate::spool::SpoolCell;
-use crate::tcp::{TcpDial, TcpPeers};
 use bw_disk::SystemDisk;
 use bw_folder::FolderStore;
+use bw_net::{FolderLock, SpoolCell, TcpDial, TcpPeers, TcpReactor, check_folder};
 use bw_pace::PacedNetwork;
 use bw_ports::{ListenerSetup, Network, StartRefusal};
 use std::alloc::Global;
@@ -31,7 +27,8 @@ pub struct TcpNetwork<'a> {
 }
 
 impl<'a> TcpNetwork<'a> {
-    ghost use Rattle.bw_net.specs.SeenLinks.{network_failures, reactor_address, reactor_folder};
+    ghost use Rattle.bw_machine.specs.SeenMachine.{network_failures};
+    ghost use Rattle.bw_net.specs.SeenLinks.{reactor_address, reactor_folder};
     ghost use Rattle.bw_net.specs.SeenLinks.{reactor_room, reactor_failures, reactor_waits};
     ghost use Rattle.bw_net.specs.SeenLinks.{peers_address, peers_folder, peers_timeout};
 
@@ -60,7 +57,7 @@ impl<'a> TcpNetwork<'a> {
         timeout: Option<u32>,
     ) -> io::Result<TcpPeers<'a, HostRuntime, TcpListener>>
         ensures { IfOk result (λ peers. (peers_address peers ≡ address)
-            × (peers_folder peers ≡ folder.now)
+            × (string_bytes (peers_folder peers) ≡ folder.now)
             × (option_map as_nanos (peers_timeout peers)
             ≡ option_map (λ s. s * 1_000_000_000) timeout)) }
     {
@@ -75,7 +72,7 @@ impl<'a> TcpNetwork<'a> {
         places: usize,
     ) -> io::Result<TcpReactor<'a>>
         ensures { IfOk result (λ reactor. (reactor_address reactor ≡ address)
-            × (reactor_folder reactor ≡ folder.now)
+            × (string_bytes (reactor_folder reactor) ≡ folder.now)
             × (reactor_room reactor ≡ places + 1) × (reactor_failures reactor ≡ 0)
             × (reactor_waits reactor ≡ 0)) }
     {
@@ -101,7 +98,8 @@ fn span(seconds: Option<u32>) -> Option<Duration>
 }
 
 impl<'a> Network for TcpNetwork<'a> {
-    ghost use Rattle.bw_net.specs.SeenLinks.{network_failures, dial_address, dial_timeout};
+    ghost use Rattle.bw_machine.specs.SeenMachine.{network_failures};
+    ghost use Rattle.bw_net.specs.SeenLinks.{dial_address, dial_timeout};
     ghost use Rattle.bw_net.specs.SeenLinks.{peers_address, peers_folder, peers_timeout};
 
     type Store = FolderStore<SystemDisk<&'a HostRuntime>>;
@@ -115,7 +113,7 @@ impl<'a> Network for TcpNetwork<'a> {
     ghost stores = { λ n folder result n'. IfOk result (λ store. takes_folder store ≡ folder) };
 
     ghost listens = { λ n address folder timeout result n'. IfOk result (λ peers.
-        (peers_address peers ≡ address) × (peers_folder peers ≡ folder)
+        (peers_address peers ≡ address) × (string_bytes (peers_folder peers) ≡ folder)
         × (option_map as_nanos (peers_timeout peers)
         ≡ option_map (λ s. s * 1_000_000_000) timeout)) };
 
@@ -170,7 +168,8 @@ impl<'a> PacedNetwork for TcpNetwork<'a> {
 }
 
 impl<'a> ListenerSetup for TcpNetwork<'a> {
-    ghost use Rattle.bw_net.specs.SeenLinks.{network_failures, reactor_address, reactor_folder};
+    ghost use Rattle.bw_machine.specs.SeenMachine.{network_failures};
+    ghost use Rattle.bw_net.specs.SeenLinks.{reactor_address, reactor_folder};
     ghost use Rattle.bw_net.specs.SeenLinks.{reactor_room, reactor_failures, reactor_waits};
 
     type Reactor = TcpReactor<'a>;
@@ -178,7 +177,7 @@ impl<'a> ListenerSetup for TcpNetwork<'a> {
     ghost failures = { network_failures };
 
     ghost opens = { λ n address folder places result n'. IfOk result (λ reactor.
-        (reactor_address reactor ≡ address) × (reactor_folder reactor ≡ folder)
+        (reactor_address reactor ≡ address) × (string_bytes (reactor_folder reactor) ≡ folder)
         × (reactor_room reactor ≡ places + 1) × (reactor_failures reactor ≡ 0)
         × (reactor_waits reactor ≡ 0)) };
 

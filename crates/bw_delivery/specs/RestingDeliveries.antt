@@ -1,0 +1,39 @@
+-- What is delivered to a server with more takes than its table has places for, as closed ones rest.
+use Rattle.std.specs.Prelude.{◌≡◌, ◌≤◌, ℕ, Bool, List, length}
+use Rattle.bw_model.specs.Bytes.{first_free}
+use Rattle.bw_model.specs.Take.{Request}
+use Rattle.bw_model.specs.Book.{Book, log_of, made_by}
+use Rattle.bw_model.specs.Exchange.{take_in}
+use Rattle.bw_connections.specs.Keeping.{Tagged, all_answered}
+use Rattle.bw_rest.specs.Folding.{IsFolderRun}
+use Rattle.bw_delivery.specs.Deliveries.{LinkBytes, IsJoined, HasOnly, IsDelivered, HeardOverLinks}
+use Rattle.bw_delivery.specs.Deliveries.{EachHeardStored}
+
+-- A server's run from a book of its folder to a later one, in which each frame was served or put off.
+-- The frames came over links of which these are the sender's.
+pub record IsRestingDelivery (existed : List ℕ → Bool) (name : List ℕ) (requests : List Request)
+    (links : List (ℕ × LinkBytes)) (book later : Book) : Type 0 where
+  pub all_done : (log_of book name).done ≤ first_free (log_of book name).admitted
+  pub had : HasOnly requests (log_of book name)
+  pub trace : List Tagged
+  -- how many calls had failed, before it and after it
+  pub before : ℕ
+  pub after : ℕ
+  pub went : IsFolderRun existed before after book (all_answered trace) later
+  pub joined : IsJoined name requests links trace
+
+-- To a sender it is as if no name had ever rested.
+abbrev pub RestingDeliveriesAreTrue : Type 0
+RestingDeliveriesAreTrue = (existed : List ℕ → Bool) (name : List ℕ) (requests : List Request)
+    (links : List (ℕ × LinkBytes)) (book later : Book) →
+    IsRestingDelivery existed name requests links book later →
+    IsDelivered existed name requests (HeardOverLinks links name) (log_of later name) later
+
+-- Once each request was heard to be stored, all of them are done and no others, and the take is what
+-- they make, each applied once in their order.
+abbrev pub StoredRestingDeliveriesAreWhole : Type 0
+StoredRestingDeliveriesAreWhole = (existed : List ℕ → Bool) (name : List ℕ)
+    (requests : List Request) (links : List (ℕ × LinkBytes)) (book later : Book) →
+    IsRestingDelivery existed name requests links book later → EachHeardStored links name requests →
+    ((log_of later name).done ≡ length requests)
+    × (take_in (existed name) later name ≡ made_by (existed name) requests)
