@@ -1,6 +1,6 @@
 //! A picture: the waveform, with its time axis and the file's markers (SVG 1.1).
 ghost use Rattle.std.specs.Prelude.{◌≡◌, ◌+◌, ◌*◌, ◌^◌, ◌<◌, ◌++◌, flat_map, length, IfErr, IfOk};
-ghost use Rattle.std.specs.Prelude.{OnOk};
+ghost use Rattle.std.specs.Prelude.{OnOk, decimal};
 ghost use Rattle.bw_inspect.specs.Places.{AtPlace};
 ghost use Rattle.bw_picture.specs.Drawings.{LacksFrames};
 ghost use Rattle.bw_picture.specs.Pages.{axis, axis_line, height_of as full_height, line_across};
@@ -231,17 +231,32 @@ fn put_marker_at(text: &mut Vec<u8>, x: u64, height: u64, id: u32) -> Result<(),
 fn put_marker_line(text: &mut Vec<u8>, height: u64) -> Result<(), AllocError>
     ensures { OnOk result (text.new.items ≡ text.old.items ++ marker_stroke height) }
 {
-    text.extend_from_slice(b"<path stroke='#c30' d='M0 0V")?;
-    put_number(text, height)?;
-    text.extend_from_slice(b"'/>")?;
-    Ok(())
+    put_between(text, b"<path stroke='#c30' d='M0 0V", height, b"'/>")
 }
 
 fn put_marker_name(text: &mut Vec<u8>, id: u32) -> Result<(), AllocError>
     ensures { OnOk result (text.new.items ≡ text.old.items ++ marker_name id) }
 {
-    text.extend_from_slice(b"<text y='-6' fill='#c30'>")?;
-    put_number(text, id as u64)?;
-    text.extend_from_slice(b"</text></g>\n")?;
+    put_between(
+        text,
+        b"<text y='-6' fill='#c30'>",
+        id as u64,
+        b"</text></g>\n",
+    )
+}
+
+/// Appends a number between two texts.
+fn put_between(
+    text: &mut Vec<u8>,
+    before: &[u8],
+    number: u64,
+    after: &[u8],
+) -> Result<(), AllocError>
+    ensures { OnOk result (text.new.items
+        ≡ text.old.items ++ (before.now ++ (decimal number ++ after.now))) }
+{
+    text.extend_from_slice(before)?;
+    put_number(text, number)?;
+    text.extend_from_slice(after)?;
     Ok(())
 }

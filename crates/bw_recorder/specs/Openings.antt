@@ -1,5 +1,6 @@
 -- What opening a recording's file results in.
-use Rattle.std.specs.Prelude.{◌≡◌, ℕ, ◌+◌, ◌≤◌, if◌then◌else◌, Bool, true, false, List, ◌++◌, Option, Some, Result, Ok, Err, codes, drop, length}
+use Rattle.std.specs.Prelude.{◌≡◌, ℕ, ◌+◌, ◌≤◌, if◌then◌else◌, Bool, true, false, List, ◌++◌, Option, Some}
+use Rattle.std.specs.Prelude.{Result, Ok, Err, codes, drop, length}
 use Rattle.bw_inspect.specs.Faults.{is_of_bytes}
 use Rattle.bw_inspect.specs.declared.fault.InspectFault.{InspectFault}
 use Rattle.bw_inspect.specs.declared.report.Report.{Report}
@@ -8,7 +9,8 @@ use Rattle.bw_inspect.specs.declared.fault.InspectKind.TheVariants.{Read, Memory
 use Rattle.bw_console.specs.Text.{as_line}
 use Rattle.bw_console.specs.declared.exit.Exit.{Exit}
 use Rattle.bw_console.specs.declared.exit.Exit.TheVariants as exits
-use Rattle.bw_plan.specs.Recordings.{Options, Outline, Recording, FaultAt, recording_of, block_frames, outline_of}
+use Rattle.bw_plan.specs.Recordings.{Options, Outline, Recording, FaultAt}
+use Rattle.bw_plan.specs.Recordings.{recording_of, block_frames, outline_of}
 use Rattle.bw_plan.specs.Notes.{notes_by}
 use Rattle.bw_plan.specs.Plans.{plan}
 use Rattle.bw_plan.specs.Progress.{Progress, remaining}
@@ -73,7 +75,8 @@ is_system_well (Err fault) = is_well_at fault
 
 -- The bytes have a recording. All requests of its plan are to come, the reader stands at the
 -- samples, which the bytes have, and the text says what the recording loses.
-pub record IsOpenedAt (b : List ℕ) (o : Options) (p : Progress) (text : List ℕ) (left : Option (List ℕ)) : Type 0
+pub record IsOpenedAt (b : List ℕ) (o : Options) (p : Progress) (text : List ℕ) (left : Option (List ℕ))
+    : Type 0
   where
     pub recording : Recording
     pub is : recording_of b o ≡ Ok recording

@@ -1,6 +1,6 @@
 -- What the command `pack` prints and reports, and how it ends.
-use Rattle.std.specs.Prelude.{◌≡◌, ◌⊎◌, ◌++◌, ℕ, Bool, true, false, List, [], Option, Some, None, Result, Ok, Err}
-use Rattle.std.specs.Prelude.{codes}
+use Rattle.std.specs.Prelude.{◌≡◌, ◌⊎◌, ◌++◌, ℕ, Bool, true, false, List, [], Option, Some, None}
+use Rattle.std.specs.Prelude.{Result, Ok, Err, codes}
 use Rattle.bw_stream.specs.Readers.{Of}
 use Rattle.bw_stream.specs.declared.sink.Sink.{Ghosts as Writer}
 use Rattle.bw_model.specs.Take.{Request}
@@ -27,7 +27,8 @@ use Rattle.bw_recorder.specs.declared.fault.OpenFault.TheVariants.{Unopened, Ref
 use Rattle.bw_recorder.specs.declared.fault.OptionsFault.{OptionsFault}
 use Rattle.bw_recorder.specs.declared.fault.OptionsFault.TheVariants as lacks
 use Rattle.bw_recorder.specs.declared.packing.PackFault.{PackFault}
-use Rattle.bw_recorder.specs.declared.packing.PackFault.TheVariants.{Unread, Altered, Unsendable, Unwritable, Memory}
+use Rattle.bw_recorder.specs.declared.packing.PackFault.TheVariants.{Unread, Altered, Unsendable}
+use Rattle.bw_recorder.specs.declared.packing.PackFault.TheVariants.{Unwritable, Memory}
 
 -- what is reported of settings that can't be read
 abbrev pub bad_setting_line : List ℕ

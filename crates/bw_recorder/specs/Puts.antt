@@ -1,6 +1,6 @@
 -- What is written while requests are printed.
-use Rattle.std.specs.Prelude.{◌≡◌, ◌≤◌, ◌<◌, ◌⊎◌, ◌+◌, ◌++◌, ◌∷◌, ℕ, List, [], Bool, true, false, Option, Some, Result, Ok, Err}
-use Rattle.std.specs.Prelude.{drop, length, IsTrue}
+use Rattle.std.specs.Prelude.{◌≡◌, ◌≤◌, ◌<◌, ◌⊎◌, ◌+◌, ◌++◌, ◌∷◌, ℕ, List, [], Bool, true, false}
+use Rattle.std.specs.Prelude.{Option, Some, Result, Ok, Err, drop, length, IsTrue}
 use Rattle.bw_stream.specs.Moves.{Begins, Writes, one_more}
 use Rattle.bw_stream.specs.declared.sink.Sink.{Ghosts as Writer}
 use Rattle.bw_model.specs.Take.{Request}
@@ -13,7 +13,8 @@ use Rattle.bw_console.specs.Text.{as_line}
 use Rattle.bw_plan.specs.Progress.{Progress, IsSoundPlan, remaining}
 use Rattle.bw_recorder.specs.RequestLines.{request_hex, request_lines}
 use Rattle.bw_recorder.specs.declared.packing.PackFault.{PackFault}
-use Rattle.bw_recorder.specs.declared.packing.PackFault.TheVariants.{Unread, Altered, Unsendable, Unwritable, Memory}
+use Rattle.bw_recorder.specs.declared.packing.PackFault.TheVariants.{Unread, Altered, Unsendable}
+use Rattle.bw_recorder.specs.declared.packing.PackFault.TheVariants.{Unwritable, Memory}
 
 -- the reader stands where the plan goes on, in bytes that have its samples
 pub record Stands (b : List ℕ) (p : Progress) (left : Option (List ℕ)) : Type 0 where
@@ -79,7 +80,8 @@ count_given (Ok false) given = length given ≡ 1
 count_given (Err fault) given = Unit {0}
 
 -- the call that gives them all is as far as this
-pub record GivesSoFar (b : List ℕ) (requests given : List Request) (p : Progress) (left : Option (List ℕ)) : Type 0
+pub record GivesSoFar (b : List ℕ) (requests given : List Request) (p : Progress)
+    (left : Option (List ℕ)) : Type 0
   where
     pub whole : requests ≡ given ++ remaining p b
     pub stands : Stands b p left

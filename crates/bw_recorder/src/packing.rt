@@ -2,10 +2,12 @@
 ghost use Rattle.std.specs.Prelude.{◌≡◌, ◌≤◌, ℕ, List, Result, length, map, string_bytes, OnOk, IfErr};
 ghost use Rattle.bw_console.specs.Printing.{IsPrint, Print, failures_if, IsOf};
 ghost use Rattle.bw_plan.specs.Progress.{remaining};
-ghost use Rattle.bw_recorder.specs.Packs.{bad_setting_line, FinishesPrint, has_unwritable as is_writer_failed};
+ghost use Rattle.bw_recorder.specs.Packs.{bad_setting_line, FinishesPrint};
+ghost use Rattle.bw_recorder.specs.Packs.{IsOpenReport, has_unwritable as is_writer_failed};
 ghost use Rattle.bw_recorder.specs.Packs.{HasPacked, IsPack, IsPrintOfPack, IsReportedText, Packing};
-ghost use Rattle.bw_recorder.specs.Packs.{IsOptionsReport, ReportsPack, exit_of_pack, pack_exit, pack_line, IsOpenReport};
-ghost use Rattle.bw_recorder.specs.Puts.{fault_going_on, GivesNextOf, GivesRequests, HasPut, HasText, PutsNoLine, Stands, count_given};
+ghost use Rattle.bw_recorder.specs.Packs.{IsOptionsReport, ReportsPack, exit_of_pack, pack_exit, pack_line};
+ghost use Rattle.bw_recorder.specs.Puts.{fault_going_on, GivesNextOf, GivesRequests, HasPut, HasText};
+ghost use Rattle.bw_recorder.specs.Puts.{PutsNoLine, Stands, count_given};
 ghost use Rattle.bw_recorder.specs.RequestLines.{request_hex};
 ghost use Rattle.bw_request.specs.Requests.{meaning};
 ghost use Rattle.bw_model.specs.Take.{Request};

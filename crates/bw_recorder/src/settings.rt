@@ -1,5 +1,6 @@
 //! What is set, from the texts of a command line.
-ghost use Rattle.std.specs.Prelude.{◌≡◌, [], ◌∷◌, ◌++◌, Some, option_map, map, string_bytes, IfErr, IfOk, IfSome, IsTrue};
+ghost use Rattle.std.specs.Prelude.{◌≡◌, [], ◌∷◌, ◌++◌, Some, option_map, map, string_bytes, IfErr, IfOk};
+ghost use Rattle.std.specs.Prelude.{IfSome, IsTrue};
 ghost use Rattle.bw_plan.specs.AllowedSettings.{are_settings};
 ghost use Rattle.bw_recorder.specs.SettingLists.{LacksOptions, options_of as options_by, settings_after};
 

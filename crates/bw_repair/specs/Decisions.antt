@@ -1,6 +1,6 @@
 -- Which sizes a file is to have, by what its head says and by its length.
-use Rattle.std.specs.Prelude.{ℕ, ◌+◌, ◌-◌, ◌%◌, ◌&&◌, ◌||◌, not, Bool, Result, Ok, Err, Some, None, List, [], ◌∷◌}
-use Rattle.std.specs.Prelude.{nat_lt, nat_le, ◌==◌, if◌then◌else◌}
+use Rattle.std.specs.Prelude.{ℕ, ◌+◌, ◌-◌, ◌%◌, ◌&&◌, ◌||◌, not, Bool, Result, Ok, Err, Some, None}
+use Rattle.std.specs.Prelude.{List, [], ◌∷◌, nat_lt, nat_le, ◌==◌, if◌then◌else◌}
 use Rattle.bw_model.specs.Bytes.{first_that_holds, unsaid, even_up}
 use Rattle.bw_inspect.specs.declared.fault.InspectKind.TheVariants.{NoFmt, TooLarge}
 use Rattle.bw_repair.specs.declared.fault.RepairKind.{RepairKind}

@@ -1,6 +1,7 @@
 //! What a file reads as with its new sizes.
-ghost use Rattle.std.specs.Prelude.{◌≡◌, ◌+◌, ◌^◌, ◌<◌, ◌≤◌, length, IfOk, IfErr};
+ghost use Rattle.std.specs.Prelude.{◌≡◌, ◌+◌, ◌^◌, ◌<◌, ◌≤◌, length, Some, IfOk, IfErr};
 ghost use Rattle.bw_stream.specs.Readers.{Of};
+ghost use Rattle.bw_repair.specs.Overlays.{overlaid};
 ghost use Rattle.bw_repair.specs.Repaired.{FaultsAs, IsReadAs, with_sizes};
 
 use crate::decision::Sizes;
@@ -33,7 +34,22 @@ pub fn check<R: Source + Drop>(
 {
     let data = sizes.data.to_le_bytes();
     let form = sizes.form.to_le_bytes();
-    let samples = Overlay::new(reader, place + 4, &data);
-    let mut whole = Overlay::new(samples, 4, &form);
+    let mut whole = with_bytes(reader, place, &form, &data);
     inspect(alloc, &mut whole)
+}
+
+/// A file with these bytes for the size of its form and for that of its samples, whose head is at a
+/// place.
+fn with_bytes<'a, R: Source>(
+    reader: R,
+    place: u64,
+    form_size: &'a [u8],
+    samples_size: &'a [u8],
+) -> Overlay<'a, Overlay<'a, R>>
+    requires { place < 2 ^ 62 }
+    ensures { Of (R.left reader) (λ b. ⟦<Overlay<'a, Overlay<'a, R>> as Source>⟧.left result
+        ≡ Some (overlaid 4 form_size.now (overlaid (place + 4) samples_size.now b))) }
+{
+    let samples = Overlay::new(reader, place + 4, samples_size);
+    Overlay::new(samples, 4, form_size)
 }

@@ -77,7 +77,7 @@ module _ {D R W : Type 0} (dial : DialGhosts D R W) (reader : Reader R) (writer 
       went_prefix (hear_in (offer_more x) h) hs y went.0 e went.3 more.0 (hear_prefix (offer_more x) h more.0 more.1)
 
   -- after rounds what was offered is the prefix of the requests
-  pub made_prefix : (name : List ℕ) (requests : List Request) (rounds : ℕ) (y : Sending) (d e : D) →
+  made_prefix : (name : List ℕ) (requests : List Request) (rounds : ℕ) (y : Sending) (d e : D) →
       MakesRounds dial reader writer rounds (new_sending name requests) y d e →
       y.sender.offered ++ unoffered y ≡ y.requests
   made_prefix name requests rounds y d e made = go made.ends
@@ -97,6 +97,13 @@ module _ {D R W : Type 0} (dial : DialGhosts D R W) (reader : Reader R) (writer 
       go (inr few) =
           let more = more_prefix made.following following.0 following.1 in
           whole (offer_more made.following) more.0 more.1 few.1
+
+  -- and no other one has a verdict
+  pub made_in_order : (name : List ℕ) (requests : List Request) (rounds : ℕ) (y : Sending) (d e : D) →
+      MakesRounds dial reader writer rounds (new_sending name requests) y d e →
+      length y.sender.verdicts ≤ length y.sender.offered → OffersInOrder y
+  made_in_order name requests rounds y d e made within =
+      record { prefix = made_prefix name requests rounds y d e made; within = within }
 
 -- As many stored as there are requests.
 

@@ -20,7 +20,8 @@ returns-in-Ok-open_recording g c =
     let p = c.print_opened.ensures in (
       record { is_system_well = true; warned = w.0; out = p.3; faults = p.4; exit = c.print_opened.result },
       refl,
-      packs _ _ _ _ _ c.in-Ok.options c.in-Ok.ensures.ok c.in-Ok-open_recording.opened.plan c.in-Ok-open_recording.opened.warnings.items _ p.0 p.2 w.0 p.3 p.4
+      packs _ _ _ _ _ c.in-Ok.options c.in-Ok.ensures.ok c.in-Ok-open_recording.opened.plan
+          c.in-Ok-open_recording.opened.warnings.items _ p.0 p.2 w.0 p.3 p.4
           c.print_opened.result c.in-Ok-open_recording.ensures.ok c.in-Ok-open_recording.ensures.sound p.5
           (subst (λ (t : List ℕ). IsReportedText t w.0) c.as_slice.ensures.value w.1) p.6 p.7 p.1,
       c.in-Ok-open_recording.ensures.count,

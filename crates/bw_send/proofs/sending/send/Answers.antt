@@ -2,8 +2,8 @@ use Rattle.std.proofs.Common.{◌∙◌, ap, length, refl, sym, subst}
 use Rattle.std.proofs.lemmas.Result.{err_from_is_err_and}
 use Rattle.bw_console.specs.Printing.{Nothing, Whole, Part}
 use Rattle.bw_send.specs.RequestLines.{AreRequestsOf}
-use Rattle.bw_send.specs.SendState.{OffersInOrder, exit_for_sender}
-use Rattle.bw_send.proofs.InOrder.{done_stored, made_prefix}
+use Rattle.bw_send.specs.SendState.{exit_for_sender}
+use Rattle.bw_send.proofs.InOrder.{done_stored, made_in_order}
 use Rattle.bw_send.proofs.RoundSteps.{refuses_send, rounds_keep}
 use Rattle.bw_send.proofs.sending.send.Goals as goal
 
@@ -13,10 +13,8 @@ returns-in-Ok-clause-prints g c =
     let kept = rounds_keep _ _ _ c.args.rounds _ sent.0 _ _ sent.2 in
     let exit_is = c.exit_after.ensures sent.0 sent.1
     (c.len.ensures ∙ sym c.as_slice.ensures.len ∙ ap length (sym kept)) in
-    let ordered : OffersInOrder sent.0 = record {
-      prefix = made_prefix _ _ _ c.args.name c.as_slice.result.now c.args.rounds sent.0 _ _ sent.2;
-      within = sent.1.sender.within;
-    } in (
+    let ordered = made_in_order _ _ _ c.args.name c.as_slice.result.now c.args.rounds sent.0 _ _ sent.2
+    sent.1.sender.within in (
       Whole c.as_slice-2.result.now,
       record {
         requests = c.as_slice.result.now;
@@ -35,10 +33,8 @@ returns-in-Ok-clause-prints g c =
 pub returns-clause-prints : goal.returns-clause-prints
 returns-clause-prints g c =
     let sent = c.in_ok-dispatch.ensures in
-    let ordered : OffersInOrder sent.0 = record {
-      prefix = made_prefix _ _ _ c.args.name c.as_slice.result.now c.args.rounds sent.0 _ _ sent.2;
-      within = sent.1.sender.within;
-    } in (
+    let ordered = made_in_order _ _ _ c.args.name c.as_slice.result.now c.args.rounds sent.0 _ _ sent.2
+    sent.1.sender.within in (
       Part c.as_slice-2.result.now,
       (
         exit_for_sender sent.0,

@@ -6,6 +6,17 @@ use Rattle.bw_follow.specs.declared.state.PcmStep.TheVariants as steps
 use Rattle.bw_follow.proofs.FeedSteps.{copy_fault, block_left, block_by, given_of_read, next_of_read, none_left}
 use Rattle.bw_follow.proofs.SampleSteps.{held_block, rest_block, close_left, some_size}
 use Rattle.bw_follow.proofs.state.PcmRequests.give_samples.Goals as goal
+use Rattle.bw_follow.proofs.state.PcmRequests.give_samples.Goals.{Then-part-held}
+
+-- the whole frames among the bytes that are held
+held_frames : (g : _) (c : Then-part-held g) →
+    length c.bytes-held.result.now - length c.bytes-held.result.now % c.from.result
+    ≡ length c.read_on.new.self.held
+    - length c.read_on.new.self.held % block_align c.args.self.now.outline.format
+held_frames g c =
+    let align : c.from.result ≡ block_align c.args.self.now.outline.format = search rules in
+    ap (λ (n : ℕ). n - n % c.from.result) (ap length c.bytes-held.ensures.value)
+    ∙ ap (λ (n : ℕ). length c.read_on.new.self.held - length c.read_on.new.self.held % n) align
 
 pub returns-in_default-read_on-clause-left : goal.returns-in_default-read_on-clause-left
 returns-in_default-read_on-clause-left g c rest e =
@@ -51,16 +62,11 @@ returns-then-part-held-clause-left g c rest e =
     let x = c.args.self.now in
     let p = progress_of x in
     let m = c.read_on.ensures.read rest (c.has_ended.ensures.kept ∙ e) in
-    let held : length c.bytes-held.result.now ≡ length c.read_on.new.self.held = ap length c.bytes-held.ensures.value in
     let short : length c.read_on.new.self.held < c.read_on.new.self.size = search rules in
     let none = none_left m.rest _ m.left_is
     (c.in-Ok-read_on.ensures.end (search rules) short rest (c.has_ended.ensures.kept ∙ e)) in
     let sized : c.read_on.new.self.size ≡ size_of p = c.read_on.ensures.size ∙ x.whole in
-    let a : c.from.result ≡ block_align x.outline.format = search rules in
-    let few : length c.bytes-held.result.now - length c.bytes-held.result.now % c.from.result
-    ≡ length c.read_on.new.self.held - length c.read_on.new.self.held % block_align x.outline.format =
-    ap (λ (n : ℕ). n - n % c.from.result) held
-    ∙ ap (λ (n : ℕ). length c.read_on.new.self.held - length c.read_on.new.self.held % n) a in
+    let few = held_frames g (goal.at.returns-then-part-held-clause-left g c).Then-part-held in
     let more = c.if-part-held.true in
     given_of_read p x.samples c.read_on.new.self rest c.give_block-then-part-held.result _ _ m
     (block_left g.F.Followed _ c.give_block-then-part-held.new.self _ c.give_block-then-part-held.result refl
@@ -76,11 +82,7 @@ returns-then-part-held-clause-by g c =
     let held : length c.bytes-held.result.now ≡ length c.read_on.new.self.held = ap length c.bytes-held.ensures.value in
     let short : length c.read_on.new.self.held < c.read_on.new.self.size = search rules in
     let sized : c.read_on.new.self.size ≡ size_of p = c.read_on.ensures.size ∙ x.whole in
-    let a : c.from.result ≡ block_align x.outline.format = search rules in
-    let few : length c.bytes-held.result.now - length c.bytes-held.result.now % c.from.result
-    ≡ length c.read_on.new.self.held - length c.read_on.new.self.held % block_align x.outline.format =
-    ap (λ (n : ℕ). n - n % c.from.result) held
-    ∙ ap (λ (n : ℕ). length c.read_on.new.self.held - length c.read_on.new.self.held % n) a in
+    let few = held_frames g (goal.at.returns-then-part-held-clause-by g c).Then-part-held in
     let more = c.if-part-held.true in
     block_by g.F.Followed x _ c.give_block-then-part-held.new.self
     (length c.bytes-held.result.now - length c.bytes-held.result.now % c.from.result) c.give_block-then-part-held.result

@@ -1,10 +1,10 @@
-use Rattle.std.proofs.Common.{codes, decimal}
+use Rattle.std.proofs.Common.{decimal}
 use Rattle.bw_picture.proofs.TextLemmas.{three_more}
-use Rattle.bw_picture.proofs.page.put_marker_line.Goals as goal
+use Rattle.bw_picture.proofs.page.put_between.Goals as goal
 
 pub returns : goal.returns
 returns c = rw (
   c.in_ok-extend_from_slice-2.ensures.items,
   c.in_ok-put_number.ensures,
   c.in_ok-extend_from_slice.ensures.items,
-) (three_more _ (codes "<path stroke='#c30' d='M0 0V") (decimal c.args.height) (codes "'/>"))
+) (three_more _ c.args.before.now (decimal c.args.number) c.args.after.now)
