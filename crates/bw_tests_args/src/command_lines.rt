@@ -298,7 +298,7 @@ fn a_fuse_is_a_number(rt: HostRuntime) -> Result<(), AllocError> {
     Ok(())
 }
 
-static SERVERS: [Line; 27] = [
+static SERVERS: [Line; 31] = [
     (&[], Outcome::Serves(End::Exchanges(1), MOST, ONE_BY_ONE)),
     (
         &["--timeout=30", "--limit", "8192", "--exchanges=7"],
@@ -332,8 +332,13 @@ static SERVERS: [Line; 27] = [
     (&["--journal"], Outcome::Keeps(Journaling::Kept)),
     (&["--sync", "--journal"], Outcome::Keeps(Journaling::Synced)),
     (&["--sync"], Outcome::Refuses),
-    (&["--journal", "--rest"], Outcome::Keeps(Journaling::Kept)),
+    (&["--journal", "--rest"], Outcome::Rests(Journaling::Kept)),
+    (
+        &["--rest", "--sync", "--journal"],
+        Outcome::Rests(Journaling::Synced),
+    ),
     (&["--rest"], Outcome::Refuses),
+    (&["--journal", "--rest", "--rest"], Outcome::Refuses),
     (&["--journal", "--journal"], Outcome::Refuses),
     (&["--journal", "--sync", "--sync"], Outcome::Refuses),
     (&["--journal=true"], Outcome::Refuses),
@@ -370,7 +375,7 @@ fn a_server_takes_its_options_in_any_order(rt: HostRuntime) -> Result<(), AllocE
     lines_come_to(&rt, rt.alloc(), &SERVE, &SERVERS)
 }
 
-static EVENT_LOOPS: [Line; 20] = [
+static EVENT_LOOPS: [Line; 22] = [
     (
         &["--recorders", "16"],
         Outcome::Serves(
@@ -427,6 +432,19 @@ static EVENT_LOOPS: [Line; 20] = [
     (&["--status=127.0.0.1:4200"], Outcome::Refuses),
     (
         &["--status=127.0.0.1:4200", "--timeout=1"],
+        Outcome::Refuses,
+    ),
+    (
+        &["--recorders=2", "--journal", "--rest"],
+        Outcome::Rests(Journaling::Kept),
+    ),
+    (
+        &[
+            "--recorders=2",
+            "--status=127.0.0.1:4200",
+            "--journal",
+            "--rest",
+        ],
         Outcome::Refuses,
     ),
     (&["--recorders"], Outcome::Refuses),

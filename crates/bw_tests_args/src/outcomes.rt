@@ -28,6 +28,8 @@ pub(crate) enum Outcome {
     Logs(End, u64, Recorders),
     /// Serves there, and keeps these journals.
     Keeps(Journaling),
+    /// The same, and lets names rest.
+    Rests(Journaling),
     /// Serves there, and shows its status at this port.
     ShowsStatus(u16),
     /// Serves at another address or in another folder.
@@ -147,6 +149,8 @@ fn server_outcome(server: &Serve) -> Outcome {
         Outcome::ServesElsewhere
     } else if let Some(status) = server.status {
         Outcome::ShowsStatus(status.port())
+    } else if server.rest {
+        Outcome::Rests(server.journal)
     } else if server.journal != Journaling::Without {
         Outcome::Keeps(server.journal)
     } else if server.log {
