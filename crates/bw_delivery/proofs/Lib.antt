@@ -13,3 +13,4 @@ pub mod ClosedLaws
 pub mod DeliveredFiles
 pub mod ExamplesOfDeliveries
 pub mod RestingDeliveries
+pub mod RestingFiles

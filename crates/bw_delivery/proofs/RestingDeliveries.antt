@@ -11,11 +11,11 @@ use Rattle.bw_model.specs.Replies.{Reply, NoRoom, DelayedStore, Next}
 use Rattle.bw_model.specs.Book.{Log, Book, log_of, is_known, no_log}
 use Rattle.bw_model.specs.Turn.{Faults, turn_by, served, notice, window, is_admissible, is_full, with_change, message_turn}
 use Rattle.bw_model.proofs.BookLemmas.{name_refl, log-with_log_same, log-with_log_other}
-use Rattle.bw_model.proofs.Elements.{Each, each-append, each-map}
+use Rattle.bw_model.proofs.Elements.{each-append, each-map}
 use Rattle.bw_model.proofs.MapLemmas.{at-first_free}
 use Rattle.bw_model.proofs.OtherTurns.{IsOf, other_reply, message_of}
 use Rattle.bw_model.proofs.OwnTurns.{own_message_true}
-use Rattle.bw_model.proofs.TrueReplies.{IsSound, IsTrueReply, IsFaithfulStep}
+use Rattle.bw_model.proofs.TrueReplies.{IsSound, IsFaithfulStep}
 use Rattle.bw_exchange.specs.Answering.{Answered, replies_of}
 use Rattle.bw_connections.specs.Keeping.{all_answered}
 use Rattle.bw_rest.specs.Folding.{IsFolderRun, ServesFrame, turn_where, name_of_frame, delay_of}

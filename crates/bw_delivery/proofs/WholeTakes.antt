@@ -52,7 +52,7 @@ whole_take taken requests log sound same verdicts =
           ∙ ap (verdict_by (fold step (new_take taken) (take n log.admitted))) (sym is) ∙ sym (verdicts n below));
     }
 
-not_taken : (taken : Bool) (requests : List Request) → AreStored (new_take taken) requests →
+pub not_taken : (taken : Bool) (requests : List Request) → AreStored (new_take taken) requests →
     list_any is_close requests ≡ true → taken ≡ false
 not_taken taken [] h any = absurd cc
 not_taken false (r ∷ rs) h any = refl

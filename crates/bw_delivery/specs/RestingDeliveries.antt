@@ -1,11 +1,19 @@
 -- What is delivered to a server with more takes than its table has places for, as closed ones rest.
-use Rattle.std.specs.Prelude.{◌≡◌, ◌≤◌, ℕ, Bool, List, length}
+use Rattle.std.specs.Prelude.{◌≡◌, ◌≤◌, ℕ, Bool, false, Option, List, IsTrue, length}
+use Rattle.std.specs.List.{list_any}
 use Rattle.bw_model.specs.Bytes.{first_free}
 use Rattle.bw_model.specs.Take.{Request}
 use Rattle.bw_model.specs.Book.{Book, log_of, made_by}
 use Rattle.bw_model.specs.Exchange.{take_in}
+use Rattle.bw_model.specs.File.{file_of}
+use Rattle.bw_model.specs.World.{is_close}
+use Rattle.bw_store.specs.declared.store.TakeStore.{Ghosts as StoreGhosts}
+use Rattle.bw_journal.specs.declared.journal.Journal.{Ghosts as JournalGhosts}
+use Rattle.bw_session.specs.SeenServers.{server_store, server_limit}
+use Rattle.bw_session.specs.declared.server.Server.{Server}
 use Rattle.bw_connections.specs.Keeping.{Tagged, all_answered}
 use Rattle.bw_rest.specs.Folding.{IsFolderRun}
+use Rattle.bw_rest.specs.Leaving.{LeavesRestFrom}
 use Rattle.bw_delivery.specs.Deliveries.{LinkBytes, IsJoined, HasOnly, IsDelivered, HeardOverLinks}
 use Rattle.bw_delivery.specs.Deliveries.{EachHeardStored}
 
@@ -37,3 +45,24 @@ StoredRestingDeliveriesAreWhole = (existed : List ℕ → Bool) (name : List ℕ
     IsRestingDelivery existed name requests links book later → EachHeardStored links name requests →
     ((log_of later name).done ≡ length requests)
     × (take_in (existed name) later name ≡ made_by (existed name) requests)
+
+module _ {X Y : Type 0} (S : StoreGhosts X) (J : JournalGhosts Y) where
+  -- A server answered frames from a book of its folder, over honest store and journal, and some of
+  -- them came over the sender's links.
+  pub record IsRestingService (first : List ℕ → Option (List ℕ)) (name : List ℕ)
+      (requests : List Request) (links : List (ℕ × LinkBytes)) (book : Book)
+      (old new : Server X Y S J) : Type 0 where
+    pub all_done : (log_of book name).done ≤ first_free (log_of book name).admitted
+    pub had : HasOnly requests (log_of book name)
+    pub trace : List Tagged
+    pub left : LeavesRestFrom S J first book old new (all_answered trace)
+    pub joined : IsJoined name requests links trace
+
+  -- If each request was heard to be stored, and one of them is a CLOSE, the store has that take's
+  -- file, whether the take rests or not.
+  abbrev pub ClosedTakesAtRestStay : Type 0
+  ClosedTakesAtRestStay = (first : List ℕ → Option (List ℕ)) (name : List ℕ)
+      (requests : List Request) (links : List (ℕ × LinkBytes)) (book : Book)
+      (old new : Server X Y S J) → IsRestingService first name requests links book old new →
+      EachHeardStored links name requests → IsTrue (list_any is_close requests) →
+      S.contents (server_store new) name ≡ file_of (made_by false requests) (server_limit old)

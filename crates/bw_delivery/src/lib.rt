@@ -4,9 +4,13 @@
 ghost use Rattle.bw_delivery.specs.Reruns.{EachRunIsFaithful, RunsHearOneVerdict, SettledRunsAreWhole};
 ghost use Rattle.bw_delivery.specs.Deliveries.{ClosedDeliveriesStay, DeliveriesAreTrue};
 ghost use Rattle.bw_delivery.specs.Deliveries.{StoredDeliveriesAreWhole};
-ghost use Rattle.bw_delivery.specs.RestingDeliveries.{RestingDeliveriesAreTrue, StoredRestingDeliveriesAreWhole};
+ghost use Rattle.bw_delivery.specs.RestingDeliveries.{ClosedTakesAtRestStay, RestingDeliveriesAreTrue};
+ghost use Rattle.bw_delivery.specs.RestingDeliveries.{StoredRestingDeliveriesAreWhole};
 ghost use Rattle.bw_delivery.specs.ExamplesOfDeliveries.{WorkedDeliveryExample};
 ghost use Rattle.bw_delivery.specs.ExamplesOfReruns.{KilledRunExample, SecondRunExample, LateReplyExample};
+
+use bw_journal::Journal;
+use bw_store::TakeStore;
 
 /// A sender may be started again, from number 0 or from where it was, any number of times, with the
 /// same requests: each run counts only what the server's take has, and once one of them has all
@@ -29,10 +33,12 @@ pub fn law_delivered()
 {}
 
 /// The same of a server with more takes than its table has places for: to a sender it is as if no
-/// name had ever rested, though some of its frames are put off.
-pub fn law_delivered_at_rest()
+/// name had ever rested, though some of its frames are put off. If one of its requests is a CLOSE,
+/// an honest store has that take's file, whether the take rests or not.
+pub fn law_delivered_at_rest<S: TakeStore, J: Journal>()
     ensures heard { RestingDeliveriesAreTrue }
     ensures whole { StoredRestingDeliveriesAreWhole }
+    ensures closed { ClosedTakesAtRestStay S.TakeStore J.Journal }
 {}
 
 /// Worked rows: a run that is killed, the next one, and replies to the first that come late.

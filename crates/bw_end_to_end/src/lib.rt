@@ -8,6 +8,7 @@ ghost use Rattle.bw_end_to_end.specs.SentInRounds.{DoneSendsStoreAll, RoundsSend
 ghost use Rattle.bw_end_to_end.specs.ServedInTurn.{RunsAnswerInTurn};
 ghost use Rattle.bw_end_to_end.specs.ServedLinks.{ConnectionsAnswer};
 ghost use Rattle.bw_end_to_end.specs.UploadedLinks.{UploadsSendRequests};
+ghost use Rattle.bw_rest.specs.Leaving.{resting_answers};
 ghost use Rattle.bw_session.specs.ServerTurns.{ServerTurn};
 ghost use Rattle.std.specs.Prelude.{Bool, Option, ℕ};
 
@@ -57,8 +58,10 @@ pub fn law_served<L: Link>()
 {}
 
 /// The same of a server that serves one exchange after another: it answered the frames of all its
-/// exchanges, and each over the link of its own peer.
+/// exchanges, and each over the link of its own peer. So it is where closed takes rest.
 pub fn law_served_in_turn<S: TakeStore, J: Journal, P: Peers, O: Sink, E: Sink>()
-    ensures { (log : Bool) → RunsAnswerInTurn (ServerTurn S.TakeStore J.Journal) P.Peers
+    ensures table { (log : Bool) → RunsAnswerInTurn (ServerTurn S.TakeStore J.Journal) P.Peers
         P.Reader.Source P.Writer.Sink O.Sink E.Sink log }
+    ensures resting { (log : Bool) → RunsAnswerInTurn (resting_answers S.TakeStore J.Journal)
+        P.Peers P.Reader.Source P.Writer.Sink O.Sink E.Sink log }
 {}

@@ -152,7 +152,8 @@ listed_end kind folder notes files names i all lists only each name = (
       let o = only name c in (
         o.0,
         subst (λ (p : List ℕ). IsSome (notes p)) (path_listed folder (ending_text kind) name)
-            (all_among (λ n. IsTrue (is_listed n) × IsSome (notes (in_folder folder n))) files (name ++ ending_text kind) lists.stand o.1).1,
+            (all_among (λ n. IsTrue (is_listed n) × IsSome (notes (in_folder folder n))) files
+            (name ++ ending_text kind) lists.stand o.1).1,
       ),
   λ h. each name h.0
       (subst (λ (xs : List (List ℕ)). Contains xs (name ++ ending_text kind)) (sym (take_all i files all))

@@ -6,13 +6,15 @@ use Rattle.std.specs.List.{Contains}
 use Rattle.std.proofs.lemmas.List.Elements.{Contains-append_left, Contains-append_right, Contains-append_cases}
 use Rattle.std.proofs.lemmas.List.{append-nil}
 use Rattle.bw_model.specs.Wire.{is_name}
-use Rattle.bw_disk.specs.Volumes.{AreDistinct}
+use Rattle.bw_disk.specs.DiskSteps.{StaysWhole}
+use Rattle.bw_disk.specs.Volumes.{AreDistinct, KeepsEach}
+use Rattle.bw_disk.specs.declared.disk.Disk.{Ghosts}
 use Rattle.bw_start.specs.FaultLines.{closed_line, closed_lines}
 use Rattle.bw_start.specs.FoundNames.{ListsFiles}
 use Rattle.bw_start.specs.Paths.{notes_path, rest_path}
 use Rattle.bw_start.specs.RestingStarts.{HasBoth, AddsIf, ListsThoseInTheWay, SomeStandInTheWay, NoneStandsInTheWay}
 use Rattle.bw_start.specs.RestingStarts.{IsListOf, RefusesStart, IsPlainFolderFault, IsFolderUnchanged}
-use Rattle.bw_start.specs.Restored.{IsPlainFault, IsUnchanged, RefusesFolder}
+use Rattle.bw_start.specs.Restored.{IsPlainFault, IsUnchanged, RefusesFolder, KeepsTheRest}
 use Rattle.bw_start.specs.declared.restoring.StartFault.{StartFault}
 use Rattle.bw_start.specs.declared.restoring.StartFault.TheVariants.{Disk, Memory, Refused, TooMany}
 use Rattle.bw_start.specs.declared.resting.FolderFault.{FolderFault}
@@ -163,3 +165,19 @@ both_unchanged A B a (Start (Refused names)) b = (a, b)
 both_unchanged A B a (Start (TooMany count)) b = (a, b)
 both_unchanged A B a (Rests names) b = (a, b)
 both_unchanged A B a (Twice names) b = (a, b)
+
+-- what else is as it was where that is
+pub unchanged_with : (A B : Type 0) → (A → B) → (fault : StartFault) → IsUnchanged A fault → IsUnchanged B fault
+unchanged_with A B f Disk same = tt
+unchanged_with A B f Memory same = tt
+unchanged_with A B f (Refused names) same = f same
+unchanged_with A B f (TooMany count) same = f same
+
+-- a disk on which nothing was called
+pub whole_now : {D F : Type 0} (G : Ghosts D F) (d : D) → StaysWhole G d d
+whole_now G d = record { honest = refl; contents = λ h path. refl; synced = λ h path. refl }
+
+-- a fault before anything was changed leaves the rest
+pub rest_kept : (limit : ℕ) (folder : List ℕ) (notes takes later_notes : List ℕ → Option (List ℕ)) →
+    KeepsEach notes later_notes → KeepsTheRest limit folder notes takes later_notes takes
+rest_kept limit folder notes takes later_notes same = (λ path. inl refl, λ path. inl (same path))

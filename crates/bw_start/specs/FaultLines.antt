@@ -1,8 +1,10 @@
 -- What is reported of a folder that can't be resumed.
 use Rattle.std.specs.Prelude.{ℕ, List, [], ◌++◌, codes, decimal, flat_map}
 use Rattle.bw_journal.specs.declared.fault.ReplayFault.{ReplayFault}
-use Rattle.bw_journal.specs.declared.fault.ReplayFault.TheVariants.{NotBegun, NotAJournal, OtherName, OtherLimit as HasOtherLimit}
-use Rattle.bw_journal.specs.declared.fault.ReplayFault.TheVariants.{OtherVerdict, NotAnEntry, Damaged, Memory as NoMemory}
+use Rattle.bw_journal.specs.declared.fault.ReplayFault.TheVariants.{NotBegun, NotAJournal, OtherName}
+use Rattle.bw_journal.specs.declared.fault.ReplayFault.TheVariants.{OtherLimit as HasOtherLimit}
+use Rattle.bw_journal.specs.declared.fault.ReplayFault.TheVariants.{OtherVerdict, NotAnEntry, Damaged}
+use Rattle.bw_journal.specs.declared.fault.ReplayFault.TheVariants.{Memory as NoMemory}
 use Rattle.bw_start.specs.declared.fault.FileFault.{FileFault}
 use Rattle.bw_start.specs.declared.fault.FileFault.TheVariants.{Lost, Changed, Long}
 use Rattle.bw_start.specs.declared.finding.NameFault.{NameFault as Fault}

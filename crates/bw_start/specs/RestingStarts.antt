@@ -8,9 +8,12 @@ use Rattle.bw_disk.specs.declared.disk.Disk.{Ghosts as DiskGhosts}
 use Rattle.bw_store.specs.declared.store.TakeStore.{Ghosts as StoreGhosts}
 use Rattle.bw_journal.specs.Stops.{cut_book}
 use Rattle.bw_journal.specs.declared.journal.Journal.{Ghosts as JournalGhosts}
+use Rattle.bw_folder.specs.JournalFolders.{journals_disk}
+use Rattle.bw_folder.specs.TakeFolders.{takes_disk}
 use Rattle.bw_folder.specs.declared.folder.FolderStore.{FolderStore}
 use Rattle.bw_folder.specs.declared.journal.FolderJournal.{FolderJournal}
 use Rattle.bw_session.specs.Books.{HoldsBook, NotesBook}
+use Rattle.bw_session.specs.SeenServers.{server_store, server_journal}
 use Rattle.bw_session.specs.declared.server.Server.{Server}
 use Rattle.bw_start.specs.Paths.{notes_path, rest_path}
 use Rattle.bw_start.specs.Restored.{IsPlainFault, IsUnchanged, RefusesFolder, IsSoundFolder, KeepsTheRest}
@@ -93,5 +96,5 @@ pub record StartsOver {D E F H : Type 0} {G : DiskGhosts D F} {K : DiskGhosts E 
       (λ first book. NotesBook S J first s (cut_book book))
   pub sound : IsSoundFolder settings.limit folder notes takes
   pub free : NoneStandsInTheWay settings.rest folder notes
-  pub untouched : KeepsTheRest settings.limit folder notes takes (K.contents s.stores.journal.disk)
-      (G.contents s.stores.store.disk)
+  pub untouched : KeepsTheRest settings.limit folder notes takes
+      (K.contents (journals_disk (server_journal s))) (G.contents (takes_disk (server_store s)))

@@ -87,7 +87,8 @@ OfEachBookLeft limit folder notes takes Holds = (first : List ℕ → Option (Li
 
 -- A server of this limit, whose store and journal are those of this folder.
 pub record IsSetTo {D E F H : Type 0} {G : DiskGhosts D F} {K : DiskGhosts E H}
-    {S : StoreGhosts (FolderStore D F G)} {J : JournalGhosts (FolderJournal E H K)} (limit : ℕ) (folder : List ℕ) (sync : Bool)
+    {S : StoreGhosts (FolderStore D F G)} {J : JournalGhosts (FolderJournal E H K)}
+    (limit : ℕ) (folder : List ℕ) (sync : Bool)
     (s : Server (FolderStore D F G) (FolderJournal E H K) S J) : Type 0 where
   pub limit_is : server_limit s ≡ limit
   pub store : takes_folder (server_store s) ≡ folder

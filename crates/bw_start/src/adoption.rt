@@ -1,5 +1,6 @@
 //! What becomes of a take's file at a start, by what its journal says: no sample is read.
-ghost use Rattle.std.specs.Prelude.{◌≡◌, ◌+◌, ◌≤◌, ◌<◌, ◌^◌, ◌||◌, ◌↔◌, ◌%◌, false, if◌then◌else◌, List, ℕ, Option, Some, None, IsTrue};
+ghost use Rattle.std.specs.Prelude.{◌≡◌, ◌+◌, ◌≤◌, ◌<◌, ◌^◌, ◌||◌, ◌↔◌, ◌%◌, false};
+ghost use Rattle.std.specs.Prelude.{if◌then◌else◌, List, ℕ, Option, Some, None, IsTrue};
 ghost use Rattle.std.specs.Prelude.{IsSome, IsNone, IfOk, IfErr, IfSome, length, take};
 ghost use Rattle.bw_model.specs.Limits.{largest, longest_history, most_markers};
 ghost use Rattle.bw_model.specs.Take.{Format};

@@ -1,6 +1,7 @@
 //! What is reported of a folder that can't be resumed.
 ghost use Rattle.std.specs.Prelude.{◌≡◌, ◌++◌, ◌∷◌, [], ℕ, List, IfOk, OnOk, codes, string_bytes, decimal};
-ghost use Rattle.bw_start.specs.FaultLines.{fault_lines, refusal_lines, refusal_line, cause_text, many_line, folder_line, many_text};
+ghost use Rattle.bw_start.specs.FaultLines.{fault_lines, refusal_lines, refusal_line, cause_text};
+ghost use Rattle.bw_start.specs.FaultLines.{many_line, folder_line, many_text};
 ghost use Rattle.bw_start.specs.FaultLines.{journal_text, file_cause_text};
 
 use crate::fault::FileFault;

@@ -1,11 +1,13 @@
 //! Restoring each name of a folder that has a journal, once nothing is wrong with any.
-ghost use Rattle.std.specs.Prelude.{◌≡◌, ◌≤◌, ◌<◌, ◌^◌, ◌++◌, ◌∷◌, [], ℕ, true, IsTrue, IfOk, IfErr, OnOk, List, map, length};
+ghost use Rattle.std.specs.Prelude.{◌≡◌, ◌≤◌, ◌<◌, ◌^◌, ◌++◌, ◌∷◌, [], ℕ, true, IsTrue, IfOk};
+ghost use Rattle.std.specs.Prelude.{IfErr, OnOk, List, map, length};
 ghost use Rattle.std.specs.List.{All};
 ghost use Rattle.bw_model.specs.Turn.{most_takes};
 ghost use Rattle.bw_disk.specs.DiskSteps.{StaysWhole};
 ghost use Rattle.bw_disk.specs.Volumes.{AreDistinct};
 ghost use Rattle.bw_start.specs.FoundNames.{found_names, IsFoundIn};
-ghost use Rattle.bw_start.specs.Restored.{IsRestoredIn, are_sound, count_done, with_done_name, with_refusal, KeepsTheRest};
+ghost use Rattle.bw_start.specs.Restored.{IsRestoredIn, are_sound, count_done, with_done_name};
+ghost use Rattle.bw_start.specs.Restored.{with_refusal, KeepsTheRest};
 ghost use Rattle.bw_start.specs.Restored.{KeepsTakesBut, KeepsNotesBut, FindsFolder, IsFoundFault, IsPlainFault};
 ghost use Rattle.bw_start.specs.Restored.{ResumesFolder, RefusesFolder, IsUnchanged, refusal_as, refusals_of};
 

@@ -3,8 +3,9 @@ ghost use Rattle.std.specs.Prelude.{◌≡◌, ◌⊎◌, IsTrue, IfOk, IfErr, O
 ghost use Rattle.bw_store.specs.Stores.{Counts};
 ghost use Rattle.bw_disk.specs.DiskSteps.{StaysWhole};
 ghost use Rattle.bw_disk.specs.Volumes.{KeepsEach};
-ghost use Rattle.bw_take_files.specs.GivenUp.{PutsTakeAside, PutsTakeAsideAt, StaysUnlessFailed, StaysUnlessFailedAt, PutsAside, PutsBothAside};
-ghost use Rattle.bw_take_files.specs.GivenUp.{AreTakePathsApart, AreWaysClear, FailsWith, ForbidsAside, IsBarred, IsWayClear, StopsBoth};
+ghost use Rattle.bw_take_files.specs.GivenUp.{PutsTakeAside, PutsTakeAsideAt, PutsAside, PutsBothAside};
+ghost use Rattle.bw_take_files.specs.GivenUp.{StaysUnlessFailed, StaysUnlessFailedAt, StopsBoth, FailsWith};
+ghost use Rattle.bw_take_files.specs.GivenUp.{AreTakePathsApart, AreWaysClear, ForbidsAside, IsBarred, IsWayClear};
 ghost use Rattle.bw_take_files.specs.GivenUp.{is_disk_failure, paths_in, paths_of, rests_alone as is_at_rest};
 ghost use Rattle.bw_take_files.specs.GivenUp.{IsPlainGiveUp, journal_ending, journal_ending_aside};
 

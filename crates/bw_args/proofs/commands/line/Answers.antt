@@ -12,6 +12,13 @@ returns-in-Some-send-default-clause-err c =
     subst (λ (command : Option (Text × List Row)). OnErr c.send_line.result (AsksForPath command)) same
     c.send_line.ensures.err
 
+pub returns-in-Some-serve-default-clause-err : goal.returns-in-Some-serve-default-clause-err
+returns-in-Some-serve-default-clause-err c =
+    let same : Some (codes "serve", rows_of (found_of c.in-Some-serve-default.options.now))
+    ≡ subcommand_rows_of c.args.matches.now = search rules in
+    subst (λ (command : Option (Text × List Row)). OnErr c.serve_line.result (AsksForPath command)) same
+    c.serve_line.ensures.err
+
 pub returns-in_default-clause-ok : goal.returns-in_default-clause-ok
 returns-in_default-clause-ok c = elim c.in_default.branch [
   | in_default-via-in-Some+in_default w ↦

@@ -10,7 +10,8 @@ returns-clause-distinct c = λ d.
     on_ok c.push_name.result
     (λ e. subst AreDistinct (sym e)
     (distinct_push c.args.names.now.items c.in-Some.name d
-    (λ m. true_false (sym (c.is_there.ensures.1 (subst (λ (xs : List (List ℕ)). Contains xs c.in-Some.name) (sym c.deref.ensures.value) m)) ∙ c.if-is_there.false))))
+    (λ m. true_false (sym (c.is_there.ensures.1
+    (subst (λ (xs : List (List ℕ)). Contains xs c.in-Some.name) (sym c.deref.ensures.value) m)) ∙ c.if-is_there.false))))
     c.push_name.ensures.pushed
 
 pub returns-clause-added : goal.returns-clause-added

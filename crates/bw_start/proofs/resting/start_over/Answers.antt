@@ -1,7 +1,10 @@
 use Rattle.std.proofs.Common.{◌≡◌, ◌∙◌, IsTrue, List, ℕ, Option, sym, subst, ap}
 use Rattle.std.proofs.Math.Path.{fun_ext}
+use Rattle.bw_start.specs.Restored.{HasFewDone, KeepsTheRest, RefusesFolder}
+use Rattle.bw_start.specs.Started.{IsLeftIn}
 use Rattle.bw_start.specs.RestingStarts.{StartsOver}
-use Rattle.bw_start.proofs.RestingForms.{both_unchanged}
+use Rattle.bw_start.proofs.LookForms.{whole_next}
+use Rattle.bw_start.proofs.RestingForms.{both_unchanged, unchanged_with, whole_now, rest_kept}
 use Rattle.bw_start.proofs.resting.start_over.Goals as goal
 
 -- `judge_rest` leaves the folder's journals as they are, and `start` says the rest of them
@@ -21,6 +24,50 @@ returns-in-Ok-clause-started g c = λ ht hn.
       untouched = s.untouched ht hn1;
     })
 
+-- names that rest stand in the way, or the folder couldn't be read
+pub returns-in-Err-judge_rest-clause-admits : goal.returns-in-Err-judge_rest-clause-admits
+returns-in-Err-judge_rest-clause-admits g c = λ ht hn first book left few free.
+    c.in-Err-judge_rest.ensures.plain hn free
+
 pub returns-in-Err-judge_rest-clause-refused : goal.returns-in-Err-judge_rest-clause-refused
 returns-in-Err-judge_rest-clause-refused g c = λ ht hn.
     c.in-Err-judge_rest.ensures.refused hn c.args.settings (g.D.Disk.contents c.args.takes) refl
+
+pub returns-in-Err-judge_rest-clause-unchanged : goal.returns-in-Err-judge_rest-clause-unchanged
+returns-in-Err-judge_rest-clause-unchanged g c =
+    both_unchanged _ _ (whole_now g.D.Disk c.args.takes) c.in-Err-judge_rest.fault c.in-Err-judge_rest.ensures.same
+
+pub returns-in-Err-judge_rest-clause-untouched_back : goal.returns-in-Err-judge_rest-clause-untouched_back
+returns-in-Err-judge_rest-clause-untouched_back g c = λ ht hn.
+    rest_kept c.args.settings.limit c.args.folder.now (g.E.Disk.contents c.args.notes) (g.D.Disk.contents c.args.takes)
+    (g.E.Disk.contents c.judge_rest.new.notes) (c.judge_rest.ensures.notes.contents hn)
+
+-- the names that don't rest can't be resumed
+pub returns-in-Err-clause-admits : goal.returns-in-Err-clause-admits
+returns-in-Err-clause-admits g c = λ ht hn first book left few free.
+    let read = c.judge_rest.ensures.notes in
+    let same = sym (fun_ext (read.contents hn)) in
+    c.in-Err.ensures.admits ht (subst IsTrue (sym read.honest) hn) first book
+    (subst (λ (f : List ℕ → Option (List ℕ)). IsLeftIn c.args.settings.limit c.args.folder.now first book f
+    (g.D.Disk.contents c.args.takes)) same left)
+    (subst (λ (f : List ℕ → Option (List ℕ)). HasFewDone c.args.settings.limit c.args.folder.now f) same few)
+
+pub returns-in-Err-clause-refused : goal.returns-in-Err-clause-refused
+returns-in-Err-clause-refused g c = λ ht hn.
+    let read = c.judge_rest.ensures.notes in
+    subst (λ (f : List ℕ → Option (List ℕ)). RefusesFolder c.args.settings.limit c.args.folder.now f
+    (g.D.Disk.contents c.args.takes) c.in-Err.field-0) (fun_ext (read.contents hn))
+    (c.in-Err.ensures.refused ht (subst IsTrue (sym read.honest) hn))
+
+pub returns-in-Err-clause-unchanged : goal.returns-in-Err-clause-unchanged
+returns-in-Err-clause-unchanged g c =
+    unchanged_with _ _
+    (λ both. (both.0, whole_next g.E.Disk _ _ _ c.judge_rest.ensures.notes both.1))
+    c.in-Err.field-0 c.in-Err.ensures.unchanged
+
+pub returns-in-Err-clause-untouched_back : goal.returns-in-Err-clause-untouched_back
+returns-in-Err-clause-untouched_back g c = λ ht hn.
+    let read = c.judge_rest.ensures.notes in
+    subst (λ (f : List ℕ → Option (List ℕ)). KeepsTheRest c.args.settings.limit c.args.folder.now f
+    (g.D.Disk.contents c.args.takes) (g.E.Disk.contents c.in-Err.field-2) (g.D.Disk.contents c.in-Err.field-1))
+    (fun_ext (read.contents hn)) (c.in-Err.ensures.untouched_back ht (subst IsTrue (sym read.honest) hn))

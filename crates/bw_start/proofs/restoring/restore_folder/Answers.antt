@@ -13,7 +13,8 @@ returns-in-Ok-judge_all-clause-restored g c = λ ht hn.
     let ht1 = subst IsTrue (sym e.takes.honest) ht in
     let hn1 = subst IsTrue (sym e.notes.honest) hn in
     let r = c.restore_found.ensures in
-    resumes_result (λ (v : Vec FoundName Global). v.items) c.args.limit c.args.folder.now (g.E.Disk.contents c.args.notes.now) (g.D.Disk.contents c.args.takes.now)
+    resumes_result (λ (v : Vec FoundName Global). v.items) c.args.limit c.args.folder.now
+    (g.E.Disk.contents c.args.notes.now) (g.D.Disk.contents c.args.takes.now)
     (g.E.Disk.contents c.find_all.new.notes) (g.D.Disk.contents c.find_all.new.takes)
     (g.E.Disk.contents c.restore_found.new.notes) (g.D.Disk.contents c.restore_found.new.takes) found c.restore_found.result
     (e.notes.contents hn) (e.takes.contents ht) (e.found ht hn) sound r.same

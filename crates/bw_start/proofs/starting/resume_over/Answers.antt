@@ -1,7 +1,7 @@
 use Rattle.std.proofs.Common.{◌++◌, List, IsTrue, sym, ◌∙◌, ap, subst}
-use Rattle.std.specs.Prelude.{string_bytes}
 use Rattle.std.proofs.Math.Path.{fun_ext}
-use Rattle.bw_folder.specs.Journals.{existences}
+use Rattle.bw_folder.specs.JournalFolders.{journals_disk, journals_folder, journals_limit, open_journals}
+use Rattle.bw_folder.specs.TakeFolders.{takes_disk, takes_folder}
 use Rattle.bw_start.specs.Started.{begun_names}
 use Rattle.bw_start.proofs.StartAnswers.{told, few_kept}
 use Rattle.bw_start.proofs.starting.resume_over.Goals as goal
@@ -20,9 +20,9 @@ returns-in-Ok-resume-clause-holds g c = λ ht hn first book N T left res.
     let hs = subst (λ (d : _). IsTrue (g.D.Disk.honest d)) (sym ss.disk) ht in
     let t = told c.args.limit c.args.folder.now first book N T (g.E.Disk.contents c.args.notes)
     (g.D.Disk.contents c.args.takes) c.args.found.items c.in-Ok-adopt_each.kept.items
-    c.adopt_each.new.journal.limit (existences c.adopt_each.new.journal.journals.items)
-    (g.E.Disk.contents c.adopt_each.new.journal.disk) (g.D.Disk.contents c.adopt_each.new.store.disk)
-    (string_bytes c.adopt_each.new.journal.folder) (string_bytes c.adopt_each.new.store.folder)
+    (journals_limit c.adopt_each.new.journal) (open_journals c.adopt_each.new.journal)
+    (g.E.Disk.contents (journals_disk c.adopt_each.new.journal)) (g.D.Disk.contents (takes_disk c.adopt_each.new.store))
+    (journals_folder c.adopt_each.new.journal) (takes_folder c.adopt_each.new.store)
     c.requires.range left res a.kept (a.settings.limit ∙ sj.limit)
     (a.known ∙ ap (λ (xs : List _). xs ++ begun_names c.args.found.items) sj.journals)
     (fun_ext (a.journal.contents hj) ∙ ap (λ (d : _). g.E.Disk.contents d) sj.disk)

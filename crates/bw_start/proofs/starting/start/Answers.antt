@@ -1,4 +1,7 @@
 use Rattle.std.proofs.Common.{IsTrue, sym, subst}
+use Rattle.bw_folder.specs.JournalFolders.{journals_disk}
+use Rattle.bw_folder.specs.TakeFolders.{takes_disk}
+use Rattle.bw_session.specs.SeenServers.{server_store, server_journal}
 use Rattle.bw_start.proofs.ListForms.{if_ok}
 use Rattle.bw_start.proofs.StartAnswers.{always, if_err, sound_folder, takes_on, notes_on, admitted}
 use Rattle.bw_start.proofs.starting.start.Goals as goal
@@ -34,9 +37,9 @@ returns-in-Ok-clause-untouched g c = λ ht hn.
     if_ok c.resume_over.result _ _
     (λ s h. (
       takes_on c.args.limit c.args.folder.now (g.E.Disk.contents c.args.notes) (g.D.Disk.contents c.args.takes)
-          (g.D.Disk.contents c.restore_folder.new.takes) (g.D.Disk.contents s.stores.store.disk) k.0 (h.0.contents ht1),
+          (g.D.Disk.contents c.restore_folder.new.takes) (g.D.Disk.contents (takes_disk (server_store s))) k.0 (h.0.contents ht1),
       notes_on c.args.folder.now (g.E.Disk.contents c.args.notes) (g.E.Disk.contents c.restore_folder.new.notes)
-          (g.E.Disk.contents s.stores.journal.disk) k.1 (h.1.contents hn1),
+          (g.E.Disk.contents (journals_disk (server_journal s))) k.1 (h.1.contents hn1),
     )) c.resume_over.ensures.kept
 
 pub returns-in-Ok-clause-untouched_back : goal.returns-in-Ok-clause-untouched_back
