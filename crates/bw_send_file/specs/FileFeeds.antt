@@ -13,7 +13,8 @@ use Rattle.bw_recorder.specs.Puts.{Stands}
 use Rattle.bw_upload.specs.declared.feed.Given.{Given}
 use Rattle.bw_upload.specs.declared.feed.Given.TheVariants as gives
 use Rattle.bw_send_file.specs.declared.fault.FeedFault.{FeedFault}
-use Rattle.bw_send_file.specs.declared.fault.FeedFault.TheVariants.{Unread, Unstamped, Refused, Changed, Unsendable, Memory}
+use Rattle.bw_send_file.specs.declared.fault.FeedFault.TheVariants.{Unread, Unstamped, Refused, Changed}
+use Rattle.bw_send_file.specs.declared.fault.FeedFault.TheVariants.{Unsendable, Memory}
 
 -- these are the requests to come of a plan whose reader has these bytes left
 pub record AreToCome (left : Option (List ℕ)) (p : Progress) (requests : List Request) : Type 0 where

@@ -1,5 +1,6 @@
 -- What the command `send --file --pcm` does.
-use Rattle.std.specs.Prelude.{◌≡◌, ◌⊎◌, ◌≤◌, ℕ, Bool, true, false, List, Option, Some, Result, Ok, Err, codes, length, map, string_bytes}
+use Rattle.std.specs.Prelude.{◌≡◌, ◌⊎◌, ◌≤◌, ℕ, Bool, true, false, List, Option, Some, Result, Ok, Err, codes}
+use Rattle.std.specs.Prelude.{length, map, string_bytes}
 use Rattle.bw_model.specs.Take.{Request}
 use Rattle.bw_stream.specs.Readers.{Of}
 use Rattle.bw_stream.specs.declared.sink.Sink.{Ghosts as Writer}

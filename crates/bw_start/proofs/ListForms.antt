@@ -40,6 +40,11 @@ pub if_ok : {T E : Type 0} (r : Result T E) (P Q : T → Type 0) → ((x : T) �
 if_ok (Ok x) P Q f h = f x h
 if_ok (Err e) P Q f h = tt
 
+pub if_ok_both : {T E : Type 0} (r : Result T E) (P Q R : T → Type 0) → ((x : T) → P x → Q x → R x) → IfOk r P →
+    IfOk r Q → IfOk r R
+if_ok_both (Ok x) P Q R f p q = f x p q
+if_ok_both (Err e) P Q R f p q = tt
+
 pub true_false : true ≡ false → ⊥
 true_false e = cc
 
@@ -49,7 +54,7 @@ pub named : (ending : List ℕ) (r : Option (List ℕ)) (P : Type 0) (stem file 
 named ending None P stem file h e = tt
 named ending (Some name) P stem file h e = e ∙ ap (λ (x : List ℕ). x ++ ending) (sym h.1)
 
-in_one : (x y : List ℕ) → Contains (x ∷ []) y → x ≡ y
+pub in_one : (x y : List ℕ) → Contains (x ∷ []) y → x ≡ y
 in_one x y (zero, below, here) = here
 in_one x y (suc k, below, there) = absurd (omega (arith, below))
 

@@ -1,5 +1,5 @@
 -- Names that rest in a folder, and those that stand in a server's way.
-use Rattle.std.proofs.Common.{◌≡◌, ◌⊎◌, inl, inr, ℕ, zero, suc, ◌<◌, Bool, true, false, List, [], ◌∷◌, ◌++◌, length, take}
+use Rattle.std.proofs.Common.{◌≡◌, ◌⊎◌, inl, inr, ℕ, zero, suc, ◌+◌, ◌<◌, Bool, true, false, List, [], ◌∷◌, ◌++◌, length, take}
 use Rattle.std.proofs.Common.{Option, Some, None, refl, sym, ◌∙◌, ap, subst, arith, IsTrue, append_assoc}
 use Rattle.std.specs.Prelude.{IsSome, codes, get_or}
 use Rattle.std.specs.List.{Contains}
@@ -78,8 +78,8 @@ those_twice folder notes closed noted names d c n both = record {
   each = λ name. (
     λ h.
         let b = (both name).0 h in
-        let x = (c name).0 b.0 in (x.0, x.1, ((n name).0 b.1).1),
-    λ h. (both name).1 ((c name).1 (h.0, h.1), (n name).1 (h.0, h.2)),
+        let x = (c name).0 b.0 in (x.0, (x.1, ((n name).0 b.1).1)),
+    λ h. (both name).1 ((c name).1 (h.0, h.1.0), (n name).1 (h.0, h.1.1)),
   );
 }
 

@@ -65,11 +65,9 @@ pub fn start<D: Volume, E: Volume, W: StartWatch>(
         (λ e. IsUnchanged (StaysWhole D.Disk takes e.1 × StaysWhole E.Disk notes e.2) e.0) }
     ensures untouched { IsTrue (D.honest takes) → IsTrue (E.honest notes) → IfOk result
         (λ s. KeepsTheRest limit folder.now (E.contents notes) (D.contents takes)
-        (E.contents (journals_disk (server_journal s)))
-        (D.contents (takes_disk (server_store s)))) }
+        (E.contents (journals_disk (server_journal s))) (D.contents (takes_disk (server_store s)))) }
     ensures untouched_back { IsTrue (D.honest takes) → IsTrue (E.honest notes) → IfErr result
-        (λ e. KeepsTheRest limit folder.now (E.contents notes) (D.contents takes) (E.contents e.2)
-        (D.contents e.1)) }
+        (λ e. KeepsTheRest limit folder.now (E.contents notes) (D.contents takes) (E.contents e.2) (D.contents e.1)) }
 {
     let mut takes = takes;
     let mut notes = notes;

@@ -1,12 +1,15 @@
-use Rattle.std.proofs.Common.{List, ℕ, sym, subst, take}
+use Rattle.std.proofs.Common.{List, [], ℕ, sym, subst, take, rules}
 use Rattle.std.proofs.lemmas.List.{take_all}
 use Rattle.bw_start.specs.RestingStarts.{HasBoth}
 use Rattle.bw_start.proofs.RestingForms.{none_of_both, more_of_both}
 use Rattle.bw_start.proofs.RestoreForms.{take_more}
 use Rattle.bw_start.proofs.resting.names_in_both.Goals as goal
 
-pub loop-name-begins : goal.loop-name-begins
-loop-name-begins c = record { distinct = tt; each = none_of_both c.args.others.now }
+pub loop-name-init : goal.loop-name-init
+loop-name-init c = record {
+  distinct = search rules;
+  each = subst (HasBoth [] c.args.others.now) (sym c.new-both.ensures.items) (none_of_both c.args.others.now);
+}
 
 pub loop-name-preserved : goal.loop-name-preserved
 loop-name-preserved c = record {
