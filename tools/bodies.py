@@ -200,6 +200,18 @@ class Sources:
         first, last = next(at[1:] for at in self.functions(file) if at[0] == path)
         return "\n".join(self.texts[file].splitlines()[first : last + 1])
 
+    def owner(self, path):
+        """The head of the `impl` or the trait that a function stands in; nothing elsewhere."""
+        if not self.text_of(path).startswith(" "):
+            return ""
+        above = self.texts[self.files[path]].partition(self.text_of(path))[0].splitlines()
+        return next(filter(None, (owner_line(above, it) for it in reversed(range(len(above))))), "")
+
+    def is_generic(self, path):
+        """Whether a function, or the block that it stands in, has a type parameter."""
+        heads = rf"\bfn {name_of(path)}<[^(]*\b[A-Z]|^ *(?:unsafe )?impl<[^>]*\b[A-Z]"
+        return bool(re.search(heads, self.text_of(path))) or bool(re.match(heads, self.owner(path)))
+
     def clauses(self, path):
         """The names of what a function ensures."""
         return re.findall(r"(?m)^ *ensures (\w+) \{", self.text_of(path))
@@ -224,9 +236,7 @@ class Sources:
         if body.items or body.refused != body.changed or len(body.changed) != 1:
             return False
         (path,) = body.changed
-        text, name = self.text_of(path), name_of(path)
-        above = self.texts[self.files[path]].partition(text)[0].splitlines()
-        owner = next(filter(None, (owner_line(above, it) for it in reversed(range(len(above))))), "")
+        text, name, owner = self.text_of(path), name_of(path), self.owner(path)
         calls_itself = re.search(rf"(?:\bself\.|\bSelf::|(?<!fn )(?<![\w.:])){name}\(", text)
         if calls_itself or text.endswith(" }") and re.search(r"\btrait\b| for ", owner):
             return False

@@ -41,7 +41,7 @@ class Trial:
 
     def __init__(self, rt, crate):
         self.rt, self.crate, self.sources = rt, crate, Sources(crate.folder)
-        self.costs, self.dear, self.labels, self.seconds = {}, [], {}, 0
+        self.costs, self.dear, self.labels, self.goals, self.seconds = {}, [], {}, {}, 0
 
     def check(self, bodies, only=(), offers=True):
         """What a check of these functions, or else of all, says of a copy with these bodies, and the texts it read. It
@@ -185,6 +185,7 @@ class Trial:
             why = f"NOT TRIED, as {', '.join(sorted(strays))} isn't proved, and no `refused:` names it"
             return dict.fromkeys(bodies, why)
         self.labels |= {body: self.clauses_of(body, refusals) for body in bodies}
+        self.note_goals(bodies, refusals)
         return {body: None if body.refused & refusals.keys() else "NOT REFUSED" for body in bodies}
 
     def clauses_of(self, body, refusals):
@@ -192,6 +193,14 @@ class Trial:
         lines = [line for path in sorted(body.refused & refusals.keys()) for line in refusals[path]]
         lines.sort(key=lambda line: bool(LEFT_OPEN.match(line)))
         return list(dict.fromkeys(label for line in lines for label in CLAUSE.findall(line)))
+
+    def note_goals(self, bodies, refusals):
+        """Notes of each function the goals that a body leaves open, if no written answer refuses the body there."""
+        for body in bodies:
+            for path in body.refused & refusals.keys():
+                names = [at[3] for at in map(LEFT_OPEN.match, refusals[path]) if at]
+                if len(names) == len(refusals[path]):
+                    self.goals.setdefault(body.copy_of or path, set()).update(filter(None, names))
 
     def where(self, body):
         """Where a check of all functions refuses a body."""

@@ -1,11 +1,11 @@
 -- A server that is started over a folder in which names rest holds the folder's book.
-use Rattle.std.proofs.Common.{◌≡◌, ◌⊎◌, inl, inr, ℕ, zero, suc, ◌<◌, ◌≤◌, ◌^◌, Bool, true, false, List, [], ◌∷◌, length, take, arith}
+use Rattle.std.proofs.Common.{◌≡◌, inl, inr, ℕ, zero, suc, ◌≤◌, Bool, true, false, List, [], ◌∷◌, length, take, arith}
 use Rattle.std.proofs.Common.{Option, Some, None, is_some, IsSome, refl, sym, ◌∙◌, ap, subst}
 use Rattle.std.specs.Prelude.{IsTrue, MatchBool, fold, nat_lt, string_bytes, if◌then◌else◌, codes}
 use Rattle.std.proofs.lemmas.List.{take_all}
-use Rattle.std.proofs.lemmas.Bool.{false≢true}
+use Rattle.std.proofs.lemmas.Bool.{false≢true, lt-ltb}
 use Rattle.bw_model.specs.Bytes.{first_free}
-use Rattle.bw_model.specs.Book.{Log, Book, log_of, is_known, made, no_log}
+use Rattle.bw_model.specs.Book.{Log, Book, log_of, is_known, made}
 use Rattle.bw_model.specs.Take.{Request}
 use Rattle.bw_model.proofs.BookLemmas.{unknown_log}
 use Rattle.bw_store.specs.declared.store.TakeStore.{Ghosts as StoreGhosts}
@@ -21,15 +21,12 @@ use Rattle.bw_folder.specs.declared.resting.RestingFolderJournal.{RestingFolderJ
 use Rattle.bw_session.specs.RestingNames.{IsAtRest}
 use Rattle.bw_session.proofs.ClosedForms.{made_format}
 use Rattle.bw_session.proofs.RestLaws.{has_file}
-use Rattle.bw_session.specs.declared.server.Server.{Server}
-use Rattle.bw_rest.specs.Folders.{HoldsFolder, IsInTable, RestsOutside, IsUnknown}
+use Rattle.bw_rest.specs.Folders.{IsInTable, RestsOutside, IsUnknown}
 use Rattle.bw_rest.specs.Folding.{ends_with_request}
-use Rattle.bw_start.specs.Changes.{IsNoWave}
 use Rattle.bw_start.specs.Paths.{path_with, wave_path, notes_path, rest_path}
 use Rattle.bw_start.specs.Restored.{KeepsTakes, KeepsJournals, IsOpenTake, IsOwnPath}
-use Rattle.bw_start.specs.declared.resting.Settings.{Settings}
 use Rattle.bw_start.proofs.PathLemmas.{path_name, rest_no_notes}
-use Rattle.bw_left.specs.RestingFolders.{RestingStartsHoldFolders, WasStartedResting, IsLeftResting, IsLeftAtRest}
+use Rattle.bw_left.specs.RestingFolders.{RestingStartsHoldFolders}
 use Rattle.bw_left.specs.RestingFolders.{first_beside_rest}
 
 -- a closed take has a done number
@@ -40,7 +37,7 @@ some_done log closed = go log.done refl
     go : (d : ℕ) → log.done ≡ d → nat_lt 0 d ≡ true
     go zero e =
         absurd (false≢true (subst (λ (d : ℕ). (made false log.admitted d).closed ≡ true) e closed))
-    go (suc d) e = refl
+    go (suc d) e = lt-ltb 0 (suc d) (omega arith)
 
 -- all that is done is there
 take_ends : (d : ℕ) (xs : List (Option Request)) → d ≤ first_free xs →

@@ -1,5 +1,5 @@
 -- Turns, stops and starts of servers are steps of a world.
-use Rattle.std.proofs.Common.{◌≡◌, ◌⊎◌, inl, inr, ℕ, List, ◌++◌, Option, refl, sym, ◌∙◌, ap, subst}
+use Rattle.std.proofs.Common.{◌≡◌, ◌⊎◌, inl, inr, ℕ, List, ◌++◌, Option, sym, ◌∙◌, ap, subst}
 use Rattle.std.specs.Prelude.{IsTrue, IsSome, string_bytes}
 use Rattle.bw_model.specs.Replies.{Reply as ModelReply}
 use Rattle.bw_model.specs.Wire.{is_name}

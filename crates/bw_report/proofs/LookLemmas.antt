@@ -1,5 +1,5 @@
 -- One more file after those that were looked at.
-use Rattle.std.proofs.Common.{◌≡◌, ◌∙◌, ◌⊎◌, inl, inr, Bool, true, ℕ, ◌+◌, ◌<◌, List, [], ◌∷◌, ◌++◌, length, map, fold}
+use Rattle.std.proofs.Common.{◌≡◌, ◌∙◌, ◌⊎◌, inl, inr, Bool, true, false, ℕ, ◌+◌, ◌<◌, List, [], ◌∷◌, ◌++◌, length, map, fold}
 use Rattle.std.proofs.Common.{get_or, take, drop, Option, Some, None, Ok, Err}
 use Rattle.std.proofs.Common.{refl, sym, ap, subst, arith, string_bytes, String, append_assoc}
 use Rattle.std.specs.Prelude.{All, option_map}
@@ -8,6 +8,7 @@ use Rattle.std.proofs.lemmas.List.{map-append, take-append-drop, take_more, appe
 use Rattle.std.proofs.lemmas.List.Elements.{All-append, All-cons}
 use Rattle.std.proofs.lemmas.List.Sums.{fold-append}
 use Rattle.std.proofs.Math.Seq.{drop-cons}
+use Rattle.bw_stream.specs.Readers.{Of}
 use Rattle.bw_stream.specs.declared.sink.Sink.{Ghosts as Writer}
 use Rattle.bw_model.specs.Reading.{Fault as BytesFault, FaultKind}
 use Rattle.bw_inspect.specs.Faults.{bytes_fault, kind_of}
@@ -19,18 +20,23 @@ use Rattle.std.specs.declared.io.ErrorKind.{ErrorKind}
 use Rattle.bw_console.specs.Faults.{exit_on, input_fault_text}
 use Rattle.bw_console.specs.Openings.{IsUnopened}
 use Rattle.bw_console.specs.Outcomes.{IsOutOfMemory, Outcome}
-use Rattle.bw_console.specs.Printing.{IsOf, IsPrint, Print, Whole, failures_if}
+use Rattle.bw_console.specs.Printing.{IsOf, IsPrint, Nothing, Print, Whole, failures_if}
 use Rattle.bw_console.specs.Text.{as_line}
 use Rattle.bw_console.specs.declared.exit.Exit.{Exit}
 use Rattle.bw_console.specs.declared.exit.Exit.TheVariants.{Done, Refused, Usage, Device, Memory as OutOfMemory}
 use Rattle.bw_console.specs.declared.fault.Fault.{Fault}
 use Rattle.bw_report.specs.Entries.{entry_text}
-use Rattle.bw_report.specs.Findings.{exit_of_found, worse}
-use Rattle.bw_report.specs.FileLooks.{IsReportedUnopened}
+use Rattle.bw_report.specs.Findings.{IsFoundInBytes, exit_of_found, worse}
+use Rattle.bw_report.specs.FileLooks.{IsOpening, IsReportedUnopened}
 use Rattle.bw_report.specs.FileLooks.{ArePrints, IsStoppedEarly, IsFoundAt, IsLookAt, IsShown, Look, look_entry}
 use Rattle.bw_report.specs.FileLooks.{failures_after_looks, worst}
 use Rattle.bw_report.specs.declared.entry.Wanted.{Wanted}
 use Rattle.bw_report.specs.declared.found.Found.{Found}
+use Rattle.bw_report.specs.declared.found.Found.TheVariants.{Unopened}
+
+-- the look at a file that was opened: nothing is reported of that
+abbrev pub opened_look : List ℕ → Found → Look
+opened_look path found = record { path = path; found = found; is_opened = true; reported = Nothing }
 
 -- what is reported of a file that can't be opened, without the kind of the error
 pub unopened : (path : List ℕ) (kind : ErrorKind) (did : Outcome) → IsUnopened path kind did ⊎ IsOutOfMemory did
@@ -52,6 +58,33 @@ none_worse Refused = refl
 none_worse Usage = refl
 none_worse Device = refl
 none_worse OutOfMemory = refl
+
+-- what is found in a file that was opened: nothing was reported
+pub found_opened : {E : Type 0} (reported : Writer E) (file_at : List ℕ → Option (List ℕ)) (digest : Bool)
+    (path : List ℕ) (found : Found) (n n' : ℕ) (e : E) → Of (file_at path) (λ b. IsFoundInBytes b digest found)
+    → IsOpening found (opened_look path found) → n' ≡ n → IsFoundAt reported file_at digest path found n n' e e
+found_opened reported file_at digest path found n n' e right opening same = record {
+  look = opened_look path found;
+  at = refl;
+  has = refl;
+  is = record { right = right; opening = opening };
+  failures = same;
+  reports = refl;
+}
+
+-- what is found of one that can't be opened
+pub found_unopened : {E : Type 0} (reported : Writer E) (file_at : List ℕ → Option (List ℕ)) (digest : Bool)
+    (path : List ℕ) (kind : ErrorKind) (did : Outcome) (exit : Exit) (n n' : ℕ) (e e' : E) → did.exit ≡ exit
+    → IsUnopened path kind did ⊎ IsOutOfMemory did → n' ≡ failures_if false n → IsPrint reported did.faults e e'
+    → IsFoundAt reported file_at digest path (Unopened exit) n n' e e'
+found_unopened reported file_at digest path kind did exit n n' e e' ends why failed prints = record {
+  look = record { path = path; found = Unopened exit; is_opened = false; reported = did.faults };
+  at = refl;
+  has = refl;
+  is = record { right = λ b is. tt; opening = (refl, (did, (ends, (refl, unopened path kind did why)))) };
+  failures = failed;
+  reports = prints;
+}
 
 -- what is found at a second look, after an opening that changed nothing
 pub found_again : {E : Type 0} (reported : Writer E) (file_at there : List ℕ → Option (List ℕ)) (digest : Bool)

@@ -5,9 +5,39 @@ ghost use Rattle.bw_inspect.specs.Places.{AtPlace};
 ghost use Rattle.bw_stream.specs.Readers.{Of};
 ghost use Rattle.bw_report.specs.Digests.{EndsBefore, digest_at};
 
-use bw_inspect::{InspectFault, InspectKind, read_at, skip_at};
+use bw_inspect::{InspectFault, InspectKind, Report, read_at, skip_at};
 use bw_stream::Source;
 use sha2::{Digest, Sha256};
+
+/// The SHA-256 of the samples of a reader at its start, where this report says that they are.
+///
+/// # Errors
+/// Read, also if the samples aren't there: the reader's bytes aren't those that were reported.
+pub(crate) fn report_digest<R: Source>(
+    reader: &mut R,
+    report: &Report,
+) -> Result<[u8; 32], InspectFault>
+    ensures ok { IfOk result (λ d. Of (R.left reader.old) (λ b.
+        d ≡ digest_at b report.now.data_at report.now.data_size)) }
+    ensures err { IfErr result (λ f. f.kind ≡ InspectKind.Read) }
+{
+    if report.data_size > u64::MAX - report.data_at {
+        return Err(unreadable(report.data_at));
+    }
+    match samples_digest(reader, report.data_at, report.data_size) {
+        Ok(digest) => Ok(digest),
+        Err(fault) => Err(unreadable(fault.offset)),
+    }
+}
+
+fn unreadable(offset: u64) -> InspectFault
+    ensures { result.kind ≡ InspectKind.Read }
+{
+    InspectFault {
+        kind: InspectKind::Read,
+        offset,
+    }
+}
 
 /// The SHA-256 of this many bytes from a place on, of a reader at its start.
 ///

@@ -1,6 +1,8 @@
 //! What is printed for a file.
 ghost use Rattle.std.specs.Prelude.{◌≡◌, ◌++◌, Some, IfOk, false};
 ghost use Rattle.bw_model.specs.Report.{report_text};
+ghost use Rattle.bw_commands.specs.Inspections.{IsPrintOfText};
+ghost use Rattle.bw_console.specs.Printing.{IsPrint, Print};
 ghost use Rattle.bw_inspect.specs.Reports.{reported_by};
 ghost use Rattle.bw_report.specs.Entries.{digest_text, entry_text, fault_entry};
 ghost use Rattle.bw_report.specs.Entries.{heading as heading_of};
@@ -10,8 +12,10 @@ use crate::found::Found;
 use crate::human::put_report;
 use crate::json::json_line;
 use crate::shown::put_name;
+use bw_console::Fault;
+use bw_console::print::print;
 use bw_inspect::{InspectFault, Report, write_report};
-use bw_stream::MemorySink;
+use bw_stream::{MemorySink, Sink};
 use std::alloc::{AllocError, Global};
 
 /// How what is found is printed.
@@ -56,6 +60,30 @@ pub fn entry_of(
         Style::Plain => plain_entry(alloc, named, name, found),
         Style::Human => people_entry(alloc, named, name, found),
         Style::Json => json_entry(alloc, name, found),
+    }
+}
+
+/// Prints the entry of what is found under a name.
+///
+/// # Errors
+/// Memory, Unwritable.
+pub(crate) fn print_entry<W: Sink>(
+    alloc: Global,
+    wanted: Wanted,
+    name: &str,
+    found: &Found,
+    out: &mut W,
+) -> Result<(), Fault>
+    ensures { (print : Print)
+        × IsPrintOfText (entry_text wanted.style wanted.named name.now found.now) result print
+        × IsPrint W.Sink print out.old out.new }
+{
+    let Ok(text) = entry_of(alloc, wanted.style, wanted.named, name, found) else {
+        return Err(Fault::Memory);
+    };
+    match print(out, text.as_slice()) {
+        Ok(()) => Ok(()),
+        Err(_) => Err(Fault::Unwritable),
     }
 }
 

@@ -1,22 +1,18 @@
 //! Files one after another, each with its entry.
-ghost use Rattle.std.specs.Prelude.{◌≡◌, true, false, map, string_bytes, Result, IfOk, IfErr};
+ghost use Rattle.std.specs.Prelude.{◌≡◌, true, map, string_bytes};
 ghost use Rattle.bw_stream.specs.Readers.{Of};
-ghost use Rattle.bw_console.specs.Printing.{IsPrint, Print};
-ghost use Rattle.bw_commands.specs.Inspections.{IsPrintOfText};
-ghost use Rattle.bw_report.specs.Digests.{digest_at};
-ghost use Rattle.bw_report.specs.Entries.{entry_text};
 ghost use Rattle.bw_report.specs.Findings.{IsGivenOf};
 ghost use Rattle.bw_report.specs.FileLooks.{IsFoundAt, AreInspected, Look};
 
-use crate::digest::samples_digest;
-use crate::entry::{Wanted, entry_of};
+use crate::digest::report_digest;
+use crate::entry::{Wanted, print_entry};
 use crate::exits::worse;
 use crate::found::Found;
-use bw_console::print::{give_up, print};
-use bw_console::{Exit, Fault, report_unopened};
-use bw_inspect::{InspectFault, InspectKind, Report, inspect};
+use bw_console::print::give_up;
+use bw_console::{Exit, report_unopened};
+use bw_inspect::{Report, inspect};
 use bw_ports::RecordingFiles;
-use bw_stream::{Sink, Source};
+use bw_stream::Sink;
 use std::alloc::Global;
 
 /// Reports what is in the files at these paths, in their order: an entry for each. A file that has
@@ -107,56 +103,5 @@ fn look_again<F: RecordingFiles, E: Sink>(
             Err(fault) => Found::Faulty(fault),
         },
         Err(error) => Found::Unopened(report_unopened(alloc, path, &error, faults)),
-    }
-}
-
-/// The SHA-256 of the samples of a reader at its start, where this report says that they are.
-///
-/// # Errors
-/// Read, also if the samples aren't there: the reader's bytes aren't those that were reported.
-fn report_digest<R: Source>(reader: &mut R, report: &Report) -> Result<[u8; 32], InspectFault>
-    ensures ok { IfOk result (λ d. Of (R.left reader.old) (λ b.
-        d ≡ digest_at b report.now.data_at report.now.data_size)) }
-    ensures err { IfErr result (λ f. f.kind ≡ InspectKind.Read) }
-{
-    if report.data_size > u64::MAX - report.data_at {
-        return Err(unreadable(report.data_at));
-    }
-    match samples_digest(reader, report.data_at, report.data_size) {
-        Ok(digest) => Ok(digest),
-        Err(fault) => Err(unreadable(fault.offset)),
-    }
-}
-
-fn unreadable(offset: u64) -> InspectFault
-    ensures { result.kind ≡ InspectKind.Read }
-{
-    InspectFault {
-        kind: InspectKind::Read,
-        offset,
-    }
-}
-
-/// Prints the entry of what is found under a name.
-///
-/// # Errors
-/// Memory, Unwritable.
-pub(crate) fn print_entry<W: Sink>(
-    alloc: Global,
-    wanted: Wanted,
-    name: &str,
-    found: &Found,
-    out: &mut W,
-) -> Result<(), Fault>
-    ensures { (print : Print)
-        × IsPrintOfText (entry_text wanted.style wanted.named name.now found.now) result print
-        × IsPrint W.Sink print out.old out.new }
-{
-    let Ok(text) = entry_of(alloc, wanted.style, wanted.named, name, found) else {
-        return Err(Fault::Memory);
-    };
-    match print(out, text.as_slice()) {
-        Ok(()) => Ok(()),
-        Err(_) => Err(Fault::Unwritable),
     }
 }

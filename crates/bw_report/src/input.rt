@@ -6,9 +6,8 @@ ghost use Rattle.bw_console.specs.Printing.{failures_if};
 ghost use Rattle.bw_report.specs.Findings.{IsFoundInBytes};
 ghost use Rattle.bw_report.specs.Inputs.{IsEntryOf, WasOpened, is_read_by};
 
-use crate::entry::{Style, Wanted};
+use crate::entry::{Style, Wanted, print_entry};
 use crate::exits::worse;
-use crate::files::print_entry;
 use crate::found::Found;
 use bw_console::Exit;
 use bw_console::print::give_up;

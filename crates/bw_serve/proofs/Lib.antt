@@ -14,3 +14,4 @@ pub mod RunSteps
 pub mod AnsweredRuns
 pub mod WrappedRuns
 pub mod WrappedLooks
+mod RestedRuns

@@ -1,5 +1,6 @@
 pub mod TakeNameLemmas
 pub mod FindingLemmas
+pub mod ComparingLemmas
 pub mod ListingLemmas
 pub mod TakeShapes
 pub mod ProgressLemmas

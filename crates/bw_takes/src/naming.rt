@@ -10,8 +10,8 @@ use bw_start::{closed_name, journal_name};
 use std::alloc::Global;
 use std::collections::BTreeSet;
 
-/// The names of the takes of a folder, which have a journal, at rest or not, or a file there, in the order of their
-/// bytes. Nothing is changed.
+/// The names of the takes of a folder, which have a journal, at rest or not, or a file there, in the
+/// order of their bytes. Nothing is changed.
 ///
 /// # Errors
 /// `Disk` if a call of the disk failed; `Memory` if memory was refused.
