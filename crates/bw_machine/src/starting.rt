@@ -5,7 +5,7 @@ ghost use Rattle.bw_start.specs.Started.{IsSetTo};
 
 use crate::network::TcpNetwork;
 use crate::terminal::Terminal;
-use bw_disk::SystemDisk;
+use bw_disk::{SystemDisk, Volume};
 use bw_folder::{FolderJournal, FolderStore};
 use bw_layout::Limit;
 use bw_lock::LockRefusal;
@@ -37,7 +37,8 @@ impl<'a> Starts<FolderServer<'a>> for TcpNetwork<'a> {
     ) -> Result<FolderServer<'a>, StartRefusal> {
         let rest = false;
         let settings = Settings { limit, sync, rest };
-        start_in(self, folder, settings)
+        let (takes, notes) = (SystemDisk::new(self.rt), SystemDisk::new(self.rt));
+        start_in(self, takes, notes, folder, settings)
     }
 }
 
@@ -57,16 +58,19 @@ impl<'a> StartsResting<FolderServer<'a>> for TcpNetwork<'a> {
     ) -> Result<FolderServer<'a>, StartRefusal> {
         let rest = true;
         let settings = Settings { limit, sync, rest };
-        start_in(self, folder, settings)
+        let (takes, notes) = (SystemDisk::new(self.rt), SystemDisk::new(self.rt));
+        start_in(self, takes, notes, folder, settings)
     }
 }
 
-/// A server over a folder of this machine, which is locked then.
-fn start_in<'a>(
-    network: &mut TcpNetwork<'a>,
+/// A server over a folder of this machine, which is locked then. These disks show the folder.
+fn start_in<D: Volume, E: Volume>(
+    network: &mut TcpNetwork<'_>,
+    takes: D,
+    notes: E,
     folder: &str,
     settings: Settings,
-) -> Result<FolderServer<'a>, StartRefusal>
+) -> Result<Server<FolderStore<D>, FolderJournal<E>>, StartRefusal>
     ensures set { IfOk result (IsSetTo settings.limit folder.now settings.sync) }
     ensures count { network.new.failures ≡ failures_after result network.old.failures }
 {
@@ -78,7 +82,6 @@ fn start_in<'a>(
             return Err(refusal);
         }
     };
-    let (takes, notes) = (SystemDisk::new(network.rt), SystemDisk::new(network.rt));
     let mut watch = Terminal::new(network.rt);
     match start_over(alloc, takes, notes, folder, settings, &mut watch) {
         Ok(server) => {
