@@ -1,2 +1,3 @@
 pub mod LineWords
 pub mod StopTexts
+pub mod ChosenOutcomes

@@ -70,7 +70,14 @@ fn rehearse_bytes<W: Sink, E: Sink>(
         × HasWritten W.Sink E.Sink did out.old out.new faults.old faults.new }
 {
     if !has_server_line(input) {
-        return rehearse_run(alloc, name, limit, &mut MemorySource::new(input), out, faults);
+        return rehearse_run(
+            alloc,
+            name,
+            limit,
+            &mut MemorySource::new(input),
+            out,
+            faults,
+        );
     }
     match play_stops(alloc, name, limit, input, out) {
         Ok(()) => Exit::Done,
