@@ -1,5 +1,5 @@
 -- What is done for the command line that draws a recording.
-use Rattle.std.specs.Prelude.{◌≡◌, ℕ, Bool, List, Option}
+use Rattle.std.specs.Prelude.{◌≡◌, ℕ, Bool, List}
 use Rattle.bw_stream.specs.declared.sink.Sink.{Ghosts as Writer}
 use Rattle.bw_console.specs.Outcomes.{Outcome, HasWritten}
 use Rattle.bw_console.specs.Printing.{failures_if}

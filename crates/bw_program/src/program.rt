@@ -262,7 +262,9 @@ fn run<
             inspect_as(alloc, inspection, files, input, out, faults)
         }
         Task::Rehearse { name, limit } => match Limit::new(*limit) {
-            Some(limit) => { rehearse_with_stops_run(alloc, name.copy(), limit, input, out, faults) },
+            Some(limit) => {
+                rehearse_with_stops_run(alloc, name.copy(), limit, input, out, faults)
+            },
             None => unreachable!(),
         },
         Task::Serve(server) => serve_as(alloc, server, network, out, faults),

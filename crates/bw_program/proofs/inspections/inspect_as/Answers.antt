@@ -1,4 +1,4 @@
-use Rattle.std.proofs.Common.{◌∙◌, ap, sym, refl}
+use Rattle.std.proofs.Common.{◌∙◌, sym, refl}
 use Rattle.bw_program.proofs.InspectionLemmas.{inspects_files, inspects_input}
 use Rattle.bw_program.proofs.inspections.inspect_as.Goals as goal
 

@@ -1,5 +1,4 @@
 use Rattle.std.proofs.Common.{◌∙◌, inr, ap, map, string_bytes, false, refl}
-use Rattle.bw_console.specs.Printing.{Nothing}
 use Rattle.bw_program.proofs.ProgramLemmas.{reported-words}
 use Rattle.bw_program.proofs.program.obey.Goals as goal
 
