@@ -58,7 +58,8 @@ def accepted_at(place):
     ]
 
 
-LISTED = ["open FOLDER/ to-read", "list takes", "list takes"]  # the names in the folder
+# The names in the folder: of journals, and of journals at rest.
+LISTED = 2 * ["open FOLDER/ to-read", "list takes", "list takes"]
 
 
 class Watched:
