@@ -21,7 +21,8 @@ use Rattle.bw_rehearsal.specs.declared.event.Event.{Event as Played}
 
 -- Counts only rise.
 
-counted_up : (before after : ℕ) (b : Bool) → Counts before after b → before ≤ after
+-- a count never falls
+pub counted_up : (before after : ℕ) (b : Bool) → Counts before after b → before ≤ after
 counted_up before after false c = let e = c.quiet refl in omega (arith, e)
 counted_up before after true c = go (cases_lt before last_count)
   where
@@ -35,7 +36,7 @@ delivered_up before after w None faults h = let e = h.count in omega (arith, e)
 delivered_up before after w (Some m) faults h =
     counted_up before after (stops_short nothing_stands w.book (Says m) faults) h.count
 
-event_up : (before after : ℕ) (w : World) (e : Event) (faults : Faults) → AreFaultsOf before after w e faults → before ≤ after
+pub event_up : (before after : ℕ) (w : World) (e : Event) (faults : Faults) → AreFaultsOf before after w e faults → before ≤ after
 event_up before after w (Offer r) faults h = let e = h.count in omega (arith, e)
 event_up before after w (Send i) faults h = let e = h.count in omega (arith, e)
 event_up before after w (Deliver k) faults h = delivered_up before after w (slice_get w.sent k) faults h
@@ -43,7 +44,7 @@ event_up before after w (Bring k) faults h = let e = h.count in omega (arith, e)
 event_up before after w Ask faults h = let e = h.count in omega (arith, e)
 event_up before after w (Foreign f) faults h = absurd h
 
-schedule_up : (before after : ℕ) (w : World) (es : List (Event × Faults)) → AreFaultsOfRuns before after w es → before ≤ after
+pub schedule_up : (before after : ℕ) (w : World) (es : List (Event × Faults)) → AreFaultsOfRuns before after w es → before ≤ after
 schedule_up before after w [] h = omega (arith, h)
 schedule_up before after w (e ∷ es) h =
     let first = event_up before h.0 w e.0 e.1 h.1 in

@@ -1,5 +1,5 @@
 pub mod Staging
 mod Playing
 mod Schedules
-mod FaultLaws
+pub mod FaultLaws
 pub mod EventWords

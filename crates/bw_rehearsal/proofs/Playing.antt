@@ -8,7 +8,7 @@ use Rattle.bw_model.specs.Book.{Book, log_of}
 use Rattle.bw_model.specs.Turn.{good, turn}
 use Rattle.bw_model.specs.CountedTurn.{IsTurn, IsWithoutRoom}
 use Rattle.bw_model.specs.Exchange.{nothing_stands}
-use Rattle.bw_model.specs.World.{World, Sender, Offer, Send, Deliver, Bring, Ask, offer, hear, pending}
+use Rattle.bw_model.specs.World.{World, Sender, Offer, Send, Deliver, Bring, Ask, offer, pending}
 use Rattle.bw_model.specs.World.{happens, send, deliver, bring}
 use Rattle.bw_session.specs.Books.{failures_of}
 use Rattle.bw_rehearsal.specs.FaultRuns.{AreReported, IsUntouched, AreFaultsOfDelivery}
@@ -46,22 +46,13 @@ module _ (limit : ℕ) (w : World) (old later : Simulation) where
     simulated = subst (λ (x : Sender). IsSimulated limit (record w { sender = x }) later) (sym e) k;
   }
 
-  pub sent_one : (i : ℕ) (p : ℕ × Request) → pending w.sender i ≡ Some p → later.server ≡ old.server →
-      IsSimulated limit (send w (Some p)) later → PlaysOn limit w (Send i) old later
+  pub sent : (i : ℕ) (o : Option (ℕ × Request)) → pending w.sender i ≡ o → later.server ≡ old.server →
+      IsSimulated limit (send w o) later → PlaysOn limit w (Send i) old later
   unfolding happens
-  sent_one i p e same k = record {
+  sent i o e same k = record {
     faults_are = untouched old later same;
     faults = good;
-    simulated = subst (λ (o : Option (ℕ × Request)). IsSimulated limit (send w o) later) (sym e) k;
-  }
-
-  pub sent_none : (i : ℕ) → pending w.sender i ≡ None → later.server ≡ old.server → IsSimulated limit w later →
-      PlaysOn limit w (Send i) old later
-  unfolding happens
-  sent_none i e same k = record {
-    faults_are = untouched old later same;
-    faults = good;
-    simulated = subst (λ (o : Option (ℕ × Request)). IsSimulated limit (send w o) later) (sym e) k;
+    simulated = subst (λ (x : Option (ℕ × Request)). IsSimulated limit (send w x) later) (sym e) k;
   }
 
   pub delivered : (i : ℕ) (sent m : Message) (reported : List Reply) (book : Book) →
@@ -90,22 +81,13 @@ module _ (limit : ℕ) (w : World) (old later : Simulation) where
     simulated = subst (λ (o : Option Message). IsSimulated limit (deliver nothing_stands w o good) later) (sym e) k;
   }
 
-  pub brought : (i : ℕ) (r : Reply) → slice_get w.replies i ≡ Some r → later.server ≡ old.server →
-      IsSimulated limit (record w { sender = hear w.sender r }) later → PlaysOn limit w (Bring i) old later
+  pub brought : (i : ℕ) (o : Option Reply) → slice_get w.replies i ≡ o → later.server ≡ old.server →
+      IsSimulated limit (bring w o) later → PlaysOn limit w (Bring i) old later
   unfolding happens
-  brought i r e same k = record {
+  brought i o e same k = record {
     faults_are = untouched old later same;
     faults = good;
-    simulated = subst (λ (o : Option Reply). IsSimulated limit (bring w o) later) (sym e) k;
-  }
-
-  pub brought_none : (i : ℕ) → slice_get w.replies i ≡ None → later.server ≡ old.server → IsSimulated limit w later →
-      PlaysOn limit w (Bring i) old later
-  unfolding happens
-  brought_none i e same k = record {
-    faults_are = untouched old later same;
-    faults = good;
-    simulated = subst (λ (o : Option Reply). IsSimulated limit (bring w o) later) (sym e) k;
+    simulated = subst (λ (x : Option Reply). IsSimulated limit (bring w x) later) (sym e) k;
   }
 
   pub asked : later.server ≡ old.server → IsSimulated limit (with_replies w

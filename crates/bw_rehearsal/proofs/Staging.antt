@@ -9,10 +9,10 @@ use Rattle.bw_model.specs.Bytes.{put}
 use Rattle.bw_model.specs.Take.{Request}
 use Rattle.bw_model.specs.Wire.{Message, Frame, Says, Asks, Bye, Second, Reason, body, framed, decoded}
 use Rattle.bw_model.specs.Replies.{Reply, Judged, Noticed, Refused}
-use Rattle.bw_model.specs.World.{Sender, OfferFault, offer, offer_fault, hear, is_counted}
+use Rattle.bw_model.specs.World.{World, Sender, OfferFault, offer, offer_fault, hear, is_counted, send, bring}
 use Rattle.bw_model.proofs.Elements.{some_inj}
 use Rattle.bw_model.proofs.SpellingLaws.{spelled_is_read}
-use Rattle.bw_wire.specs.Encoded.{IsFrameOf}
+use Rattle.bw_wire.specs.Encoded.{IsFrameOf, said}
 use Rattle.bw_wire.specs.Frames.{frame_of, message_of, asked_name, asked_number}
 use Rattle.bw_wire.specs.Replies.{reply_of}
 use Rattle.bw_wire.specs.declared.message.Message.{Message as Answered}
@@ -20,6 +20,8 @@ use Rattle.bw_wire.specs.declared.message.Ask.{Ask as Asked}
 use Rattle.bw_wire.specs.declared.message.Frame.{Frame as Read}
 use Rattle.bw_wire.specs.declared.message.Frame.TheVariants as frames
 use Rattle.bw_wire.specs.declared.reply.Reply.{Reply as Answer}
+use Rattle.bw_sender.specs.Senders.{IsSender}
+use Rattle.bw_sender.specs.declared.sender.Sender.{Sender as Offering}
 use Rattle.bw_rehearsal.specs.Simulated.{AreFrames}
 
 -- Frames by place.
@@ -39,6 +41,16 @@ frames_more [] [] m v h k = (k, tt)
 frames_more [] (x ∷ vs) m v h k = absurd h
 frames_more (x ∷ ms) [] m v h k = absurd h
 frames_more (x ∷ ms) (y ∷ vs) m v h k = (h.0, frames_more ms vs m v h.1 k)
+
+-- the frame of a request that is sent, by other words for its name and for the request
+pub sent_more : (ms : List Message) (vs ws : List (Vec ℕ Global)) (v : Vec ℕ Global) (name other : List ℕ) (n : ℕ)
+    (r x : Request) → AreFrames ms vs → IsFrameOf (said other n x) v.items → other ≡ name → x ≡ r → ws ≡ vs ++ v ∷ [] →
+    AreFrames (ms ++ record { name = name; number = n; request = r } ∷ []) ws
+sent_more ms vs ws v name other n r x h framed names requests pushed =
+    let m : Message = record { name = name; number = n; request = r } in
+    subst (AreFrames (ms ++ m ∷ [])) (sym pushed) (frames_more ms vs m v h
+    (subst (λ (y : List ℕ). IsFrameOf (said y n r) v.items) names
+    (subst (λ (y : Request). IsFrameOf (said other n y) v.items) requests framed)))
 
 -- the frame at a place is one of the message there
 pub record IsSentAt (ms : List Message) (i : ℕ) (v : Vec ℕ Global) : Type 0 where
@@ -113,6 +125,22 @@ offer_refused s r o e some = sym (ap (λ (x : Option OfferFault).
         none e = cc
     go (Some f) some = refl
 
+-- an offer of a copy is one of the request
+pub copy_offered : (s : Sender) (copy r : Request) (later : Offering) (count : ℕ) → copy ≡ r →
+    IsSender (offer s copy) later → count ≡ length (offer s copy).offered →
+    IsSender (offer s r) later × (count ≡ length (offer s r).offered)
+copy_offered s copy r later count same is counted =
+    subst (λ (x : Request). IsSender (offer s x) later × (count ≡ length (offer s x).offered)) same (is, counted)
+
+-- and a refused one leaves all as it was
+pub copy_refused : (s : Sender) (copy r : Request) (o : Option OfferFault) (later : Offering) (count : ℕ) → copy ≡ r →
+    o ≡ offer_fault s copy → IsSome o → IsSender s later → count ≡ length s.offered →
+    IsSender (offer s r) later × (count ≡ length (offer s r).offered)
+copy_refused s copy r o later count same fault some is counted =
+    let stays = offer_refused s copy o fault some in
+    copy_offered s copy r later count same (subst (λ (x : Sender). IsSender x later) (sym stays) is)
+    (counted ∙ ap (λ (x : Sender). length x.offered) (sym stays))
+
 -- hearing changes no offer
 pub hearing_offers : (s : Sender) (r : Reply) → length (hear s r).offered ≡ length s.offered
 hearing_offers s (Judged name n v) = go (is_counted s name n)
@@ -122,6 +150,16 @@ hearing_offers s (Judged name n v) = go (is_counted s name n)
     go false = refl
 hearing_offers s (Noticed name n code next) = refl
 hearing_offers s (Refused reason place) = refl
+
+-- Sending and bringing leave the book.
+
+pub sent_book : (w : World) (o : Option (ℕ × Request)) → (send w o).book ≡ w.book
+sent_book w None = refl
+sent_book w (Some p) = refl
+
+pub brought_book : (w : World) (o : Option Reply) → (bring w o).book ≡ w.book
+brought_book w None = refl
+brought_book w (Some r) = refl
 
 -- What was found in a borrowed list.
 

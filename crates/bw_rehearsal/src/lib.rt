@@ -10,4 +10,4 @@ mod simulation;
 pub use event::Event;
 pub use line::{event_in, following, index};
 pub use rehearsal::{World, rehearse};
-pub use simulation::{append, message_in, unless_memory};
+pub use simulation::{append, message_in, offer_copy};

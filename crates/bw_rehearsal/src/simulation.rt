@@ -3,10 +3,11 @@ ghost use Rattle.std.specs.Prelude.{◌≡◌, ◌≤◌, ◌+◌, ◌++◌, ℕ
 ghost use Rattle.std.specs.Prelude.{length, vec_capacity, slice_get, option_map};
 ghost use Rattle.bw_model.specs.Wire.{Message as Said, Says};
 ghost use Rattle.bw_model.specs.World.{World, Offer, Send, Deliver, Bring, Ask, new_world};
-ghost use Rattle.bw_model.specs.World.{pending};
+ghost use Rattle.bw_model.specs.World.{Sender as Offering, offer, pending};
 ghost use Rattle.bw_wire.specs.Encoded.{IsFrameOf};
 ghost use Rattle.bw_wire.specs.Frames.{message_of};
 ghost use Rattle.bw_sender.specs.Offers.{fault_of};
+ghost use Rattle.bw_sender.specs.Senders.{IsSender};
 ghost use Rattle.bw_rehearsal.specs.Rehearsing.{event_meaning};
 ghost use Rattle.bw_rehearsal.specs.Simulated.{IsSimulated, PlaysOn, TakesMemory, LacksRoom};
 ghost use Rattle.bw_rehearsal.specs.Simulated.{failures_on};
@@ -92,14 +93,7 @@ impl Simulation {
             OnOk result (PlaysOn limit w (Offer request.now) self.old self.new) }
         ensures server { self.new.server ≡ self.old.server }
     {
-        let copy = request.as_ref().to_request(self.alloc)?;
-        match self.sender.offer(copy) {
-            Ok(number) => {
-                self.offered = u64::from(number) + 1;
-                Ok(())
-            }
-            Err((error, _request)) => unless_memory(error),
-        }
+        offer_copy(self.alloc, &mut self.sender, &mut self.offered, request)
     }
 
     /// Sends the pending request at a place.
@@ -173,11 +167,35 @@ impl Simulation {
     }
 }
 
+/// Offers a copy of the request to a sender, and counts the requests that it took over.
+///
+/// # Errors
+/// `AllocError` if memory was refused.
+pub fn offer_copy(
+    alloc: Global,
+    sender: &mut Sender,
+    offered: &mut u64,
+    request: &Request,
+) -> Result<(), AllocError>
+    ensures { (s : Offering) → IsSender s sender.old → offered.old ≡ length s.offered →
+        OnOk result (IsSender (offer s request.now) sender.new
+        × (offered.new ≡ length (offer s request.now).offered)) }
+{
+    let copy = request.as_ref().to_request(alloc)?;
+    match sender.offer(copy) {
+        Ok(number) => {
+            *offered = u64::from(number) + 1;
+            Ok(())
+        }
+        Err((error, _request)) => unless_memory(error),
+    }
+}
+
 /// Continues after an offer that the sender refused by its rules.
 ///
 /// # Errors
 /// `AllocError` if the cause was lack of memory.
-pub fn unless_memory(error: OfferError) -> Result<(), AllocError>
+fn unless_memory(error: OfferError) -> Result<(), AllocError>
     ensures ok { OnOk result (IsSome (fault_of error)) }
     ensures err { OnErr result (fault_of error ≡ None) }
 {

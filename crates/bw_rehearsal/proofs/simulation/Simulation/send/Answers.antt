@@ -1,31 +1,21 @@
-use Rattle.std.proofs.Common.{refl, List, [], ◌∷◌, ◌++◌, sym, subst, ℕ}
-use Rattle.bw_model.specs.Take.{Request}
-use Rattle.bw_model.specs.Wire.{Message}
-use Rattle.bw_wire.specs.Encoded.{IsFrameOf, said}
-use Rattle.bw_rehearsal.specs.Simulated.{AreFrames}
-use Rattle.bw_rehearsal.proofs.Staging.{frames_more}
-use Rattle.bw_rehearsal.proofs.Playing.{sent_one, sent_none}
+use Rattle.std.proofs.Common.{refl, sym, Some, None}
+use Rattle.bw_rehearsal.proofs.Staging.{sent_more}
+use Rattle.bw_rehearsal.proofs.Playing.{sent}
 use Rattle.bw_rehearsal.proofs.simulation.Simulation.send.Goals as goal
 
 pub returns-in_default-clause-ok : goal.returns-in_default-clause-ok
 returns-in_default-clause-ok c = λ limit w k.
-    sent_none limit w c.args.self.now _ c.args.place (sym (c.in_default.ensures.value w.sender k.sender)) refl k
+    sent limit w c.args.self.now _ c.args.place None (sym (c.in_default.ensures.value w.sender k.sender)) refl k
 
 pub returns-clause-ok : goal.returns-clause-ok
 returns-clause-ok c = λ limit w k.
-    let n = c.in-Some.number in
-    let r = c.in-Some.request.now in
-    let m : Message = record { name = w.sender.name; number = n; request = r } in
-    let framed = subst (λ (name : List ℕ). IsFrameOf (said name n r) c.in_ok-frame.frame.items)
-    (c.name.ensures w.sender k.sender)
-    (subst (λ (x : Request). IsFrameOf (said c.name.result.now n x) c.in_ok-frame.frame.items) c.as_ref.ensures.same
-    c.in_ok-frame.ensures) in
-    sent_one limit w c.args.self.now _ c.args.place (n, r) (sym (c.in-Some.ensures.value w.sender k.sender)) refl
+    sent limit w c.args.self.now _ c.args.place (Some (c.in-Some.number, c.in-Some.request.now))
+    (sym (c.in-Some.ensures.value w.sender k.sender)) refl
     (record {
       sender = k.sender;
       offered = k.offered;
-      sent = subst (AreFrames (w.sent ++ m ∷ [])) (sym c.in_ok-push.ensures.items)
-          (frames_more w.sent _ m c.in_ok-frame.frame k.sent framed);
+      sent = sent_more w.sent _ _ c.in_ok-frame.frame _ _ _ _ _ k.sent c.in_ok-frame.ensures
+          (c.name.ensures w.sender k.sender) c.as_ref.ensures.same c.in_ok-push.ensures.items;
       replies = k.replies;
       limited = k.limited;
       held = k.held;
