@@ -3,9 +3,8 @@ use Rattle.std.proofs.Common.{◌≡◌, ℕ, Bool, true, false, cond, List, Opt
 use Rattle.std.specs.Prelude.{IsTrue, is_some}
 use Rattle.std.specs.List.{list_any}
 use Rattle.std.specs.Bool.{MatchBool}
-use Rattle.std.specs.Str.{bytes_eq}
 use Rattle.bw_model.specs.Book.{Log, Book, log_of, is_known, no_log}
-use Rattle.bw_model.proofs.BookLemmas.{same_name, name_refl, unknown_log}
+use Rattle.bw_model.proofs.BookLemmas.{name_refl, unknown_log}
 use Rattle.bw_store.specs.declared.store.TakeStore.{Ghosts as StoreGhosts}
 use Rattle.bw_journal.specs.JournalHeaders.{Header}
 use Rattle.bw_journal.specs.Resting.{PutsToRest}
@@ -15,9 +14,9 @@ use Rattle.bw_journal.specs.declared.journal.Journal.{Ghosts as JournalGhosts}
 use Rattle.bw_session.specs.Books.{count_waiting}
 use Rattle.bw_session.specs.RestingNames.{IsAtRest, RestsBook, KeepsOtherNames, journals_of, with_first}
 use Rattle.bw_session.specs.declared.server.Server.{Server}
-use Rattle.bw_session.proofs.ServerForms.{apart_names}
 use Rattle.bw_rest.specs.Folders.{HoldsFolder, RestsOutside, IsUnknown, IsInTable}
-use Rattle.bw_rest.proofs.FolderForms.{never, outside_same}
+use Rattle.bw_rest.proofs.FolderChanges.{folder_changes}
+use Rattle.bw_rest.proofs.FolderForms.{never}
 use Rattle.bw_rest.proofs.LogEnds.{cut_whole}
 
 -- a name that is put to rest is known
@@ -53,11 +52,8 @@ module _ {X Y : Type 0} (S : StoreGhosts X) (J : JournalGhosts Y) (old new : Ser
   abbrev now' : List ℕ → Option (List ℕ)
   now' = with_first h.now name (S.contents old.stores.store name)
 
-  now_other : (n : List ℕ) → bytes_eq name n ≡ false → now' n ≡ h.now n
-  now_other n b = ap (λ (v : Bool). cond v (S.contents old.stores.store name) (h.now n)) b
-
-  contents : (n : List ℕ) → S.contents new.stores.store n ≡ S.contents old.stores.store n
-  contents n = ap (λ (x : X). S.contents x n) keeps.store
+  contents : S.contents new.stores.store name ≡ S.contents old.stores.store name
+  contents = ap (λ (x : X). S.contents x name) keeps.store
 
   rests_here : RestsOutside new.limit name (log_of book name) (first name) (now' name)
       (S.contents new.stores.store name) (J.resting new.stores.journal name)
@@ -66,57 +62,24 @@ module _ {X Y : Type 0} (S : StoreGhosts X) (J : JournalGhosts Y) (old new : Ser
     at_rest = subst (λ (l : ℕ). IsAtRest l name (log_of book name) (J.resting new.stores.journal name)
         (S.contents new.stores.store name)) (sym keeps.limit)
         (subst (λ (o : Option (List ℕ)). IsAtRest old.limit name (log_of book name) (J.resting new.stores.journal name) o)
-        (sym (contents name))
+        (sym contents)
         (subst (λ (l : Log). IsAtRest old.limit name l (J.resting new.stores.journal name)
         (S.contents old.stores.store name)) whole r.at_rest));
     exists = ap (λ (v : Bool). cond v (S.contents old.stores.store name) (h.now name)) (name_refl name)
-        ∙ sym (contents name);
+        ∙ sym contents;
   }
 
   pub folder_rests : HoldsFolder S J first new book
-  folder_rests = record {
-    table = without name h.table;
-    now = now';
+  folder_rests = folder_changes S J old new name first now' book (without name h.table) keeps put.others h (record {
     held = r.held;
     noted = r.noted;
-    limits = λ n. limits n (bytes_eq name n) refl;
-    ends = h.ends;
-    inside = λ n e. inside n e (bytes_eq name n) refl;
-    outside = λ n e. outside n e (bytes_eq name n) refl;
-  }
-    where
-      limits : (n : List ℕ) (b : Bool) → bytes_eq name n ≡ b → (J.header new.stores.journal n).limit ≡ new.limit
-      limits n true b =
-          subst (λ (x : List ℕ). (J.header new.stores.journal x).limit ≡ new.limit) (same_name name n b)
-          (ap (λ (x : Header). x.limit) put.header ∙ h.limits name ∙ sym keeps.limit)
-      limits n false b =
-          ap (λ (x : Header). x.limit) (put.others.header n (apart_names name n b)) ∙ h.limits n ∙ sym keeps.limit
-
-      inside : (n : List ℕ) → is_known (without name h.table) n ≡ true → (b : Bool) → bytes_eq name n ≡ b →
-          IsInTable (is_known book n) (log_of book n) (log_of (without name h.table) n) (first n) (now' n)
-      inside n e true b = never (sym (known-without_same h.table name n b) ∙ e)
-      inside n e false b =
-          let there = h.inside n (sym (known-without_other h.table name n b) ∙ e) in
-          record {
-            known_there = there.known_there;
-            same_log = there.same_log ∙ sym (log-without_other h.table name n b);
-            same_first = now_other n b ∙ there.same_first;
-          }
-
-      outside : (n : List ℕ) → is_known (without name h.table) n ≡ false → (b : Bool) → bytes_eq name n ≡ b →
-          MatchBool (is_known book n) (RestsOutside new.limit n (log_of book n) (first n) (now' n)
-          (S.contents new.stores.store n) (J.resting new.stores.journal n))
-          (IsUnknown (first n) (now' n) (J.resting new.stores.journal n))
-      outside n e true b =
-          subst (λ (x : List ℕ). MatchBool (is_known book x) (RestsOutside new.limit x (log_of book x) (first x) (now' x)
-          (S.contents new.stores.store x) (J.resting new.stores.journal x))
-          (IsUnknown (first x) (now' x) (J.resting new.stores.journal x))) (same_name name n b)
-          (subst (λ (v : Bool). MatchBool v (RestsOutside new.limit name (log_of book name) (first name) (now' name)
-          (S.contents new.stores.store name) (J.resting new.stores.journal name))
-          (IsUnknown (first name) (now' name) (J.resting new.stores.journal name))) (sym here.known_there) rests_here)
-      outside n e false b =
-          outside_same (is_known book n) old.limit new.limit n (log_of book n) (first n) (h.now n) (now' n)
-          (S.contents old.stores.store n) (S.contents new.stores.store n) (J.resting old.stores.journal n)
-          (J.resting new.stores.journal n) keeps.limit (now_other n b) (contents n)
-          (put.others.resting n (apart_names name n b))
-          (h.outside n (sym (known-without_other h.table name n b) ∙ e))
+    limit = ap (λ (x : Header). x.limit) put.header;
+    known_others = λ n b. known-without_other h.table name n b;
+    log_others = λ n b. log-without_other h.table name n b;
+    now_others = λ n b. ap (λ (v : Bool). cond v (S.contents old.stores.store name) (h.now n)) b;
+    inside = λ e. never (sym (known-without_same h.table name name (name_refl name)) ∙ e);
+    outside = λ e.
+        subst (λ (v : Bool). MatchBool v (RestsOutside new.limit name (log_of book name) (first name) (now' name)
+        (S.contents new.stores.store name) (J.resting new.stores.journal name))
+        (IsUnknown (first name) (now' name) (J.resting new.stores.journal name))) (sym here.known_there) rests_here;
+  })

@@ -1,5 +1,6 @@
 pub mod LogEnds
 pub mod FolderForms
+pub mod FolderChanges
 pub mod FolderRests
 pub mod FolderWakes
 pub mod FolderTurns
