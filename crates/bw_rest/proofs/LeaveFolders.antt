@@ -7,7 +7,6 @@ use Rattle.bw_model.specs.CountedTurn.{is_pending}
 use Rattle.bw_model.specs.Exchange.{take_in, content_in}
 use Rattle.bw_model.specs.File.{file_of}
 use Rattle.bw_model.specs.Replies.{Reply}
-use Rattle.bw_model.specs.Take.{Take}
 use Rattle.bw_model.specs.Wire.{Frame}
 use Rattle.bw_model.proofs.BookLemmas.{unknown_log}
 use Rattle.bw_model.proofs.HeldFiles.{held_files}

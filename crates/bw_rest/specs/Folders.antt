@@ -1,5 +1,5 @@
 -- The book of a folder in which names rest.
-use Rattle.std.specs.Prelude.{◌≡◌, ℕ, Bool, true, false, Option, None, is_some, IsTrue, MatchBool, List}
+use Rattle.std.specs.Prelude.{◌≡◌, ℕ, Bool, true, false, Option, None, IsTrue, MatchBool, List}
 use Rattle.bw_model.specs.Book.{Log, Book, log_of, is_known}
 use Rattle.bw_store.specs.declared.store.TakeStore.{Ghosts as StoreGhosts}
 use Rattle.bw_journal.specs.declared.journal.Journal.{Ghosts as JournalGhosts}

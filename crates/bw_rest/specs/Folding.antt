@@ -1,5 +1,5 @@
 -- The definitions' turns on the book of a folder, of whose names only some are in a table.
-use Rattle.std.specs.Prelude.{◌≡◌, ◌⊎◌, ℕ, Bool, true, false, ◌&&◌, ◌==◌, Option, Some, None, is_some}
+use Rattle.std.specs.Prelude.{◌≡◌, ◌⊎◌, ℕ, Bool, true, false, ◌&&◌, ◌==◌, Option, None, is_some}
 use Rattle.std.specs.Prelude.{IsTrue, IsFalse, List, [], ◌∷◌, fold}
 use Rattle.std.specs.Option.{option_map_or}
 use Rattle.bw_model.specs.Counts.{Counts}

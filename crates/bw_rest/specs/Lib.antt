@@ -6,3 +6,4 @@ pub mod Resting
 pub mod Runs
 pub mod RestingServers
 pub mod Leaving
+pub mod UseOrder

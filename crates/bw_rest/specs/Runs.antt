@@ -1,11 +1,7 @@
 -- Runs of a server over a folder in which names rest.
-use Rattle.std.specs.Prelude.{◌≡◌, ℕ, Bool, not, ◌&&◌, Option, is_some, IsTrue, List, [], ◌∷◌, map, filter}
-use Rattle.bw_model.specs.Wire.{Frame}
-use Rattle.bw_model.specs.Replies.{Reply}
-use Rattle.bw_model.specs.Book.{Book, log_of, is_known}
-use Rattle.bw_model.specs.Turn.{Faults, run, book_after, is_of, is_turned_away}
+use Rattle.std.specs.Prelude.{ℕ, Option, is_some, IsTrue, List}
+use Rattle.bw_model.specs.Book.{Book}
 use Rattle.bw_exchange.specs.Answering.{Answered, AnswersAll}
-use Rattle.bw_exchange.specs.TurnRuns.{answers_in}
 use Rattle.bw_store.specs.declared.store.TakeStore.{Ghosts as StoreGhosts}
 use Rattle.bw_journal.specs.declared.journal.Journal.{Ghosts as JournalGhosts}
 use Rattle.bw_session.specs.Books.{failures_of}

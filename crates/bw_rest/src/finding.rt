@@ -7,7 +7,7 @@ ghost use Rattle.bw_rest.specs.Resting.{KeepsFolders, StaysOutside, NoneMayRest,
 ghost use Rattle.bw_session.specs.SeenServers.{server_journal, session_kept, names_kept};
 
 use crate::resting::RestingServer;
-use crate::room::{Rest, Room, rest_any, rest_first, room_after};
+use crate::room::{Rest, Room, rest_any, rest_first, rest_oldest, room_after};
 use bw_journal::RestingJournal;
 use bw_request::Name;
 use bw_session::{Server, WakeFault};
@@ -27,7 +27,8 @@ pub(crate) enum Found {
 }
 
 impl<S: TakeStore, J: RestingJournal> RestingServer<S, J> {
-    /// Makes a place free in a full table, if a name can rest: the one used the longest time ago.
+    /// Makes a place free in a full table, if a name can rest: the one used the longest time ago, or
+    /// another if that one can't.
     pub(crate) fn make_room(&mut self) -> Room
         ensures kept { KeepsFolders S.TakeStore J.Journal (room_failed result)
             self.old.server self.new.server }
@@ -53,6 +54,22 @@ impl<S: TakeStore, J: RestingJournal> RestingServer<S, J> {
         if !self.server.is_full() {
             return Rest::Done;
         }
+        match rest_oldest(&mut self.server, self.uses.names()) {
+            Rest::Done => Rest::Done,
+            Rest::Failed => Rest::Failed,
+            Rest::NoneMay => rest_any(self.alloc, &mut self.server),
+            Rest::Refused => self.rest_another(),
+        }
+    }
+
+    /// Puts a name to rest where the one used the longest time ago can't: the next one that can.
+    fn rest_another(&mut self) -> Rest
+        ensures kept { KeepsFolders S.TakeStore J.Journal (is_failed result)
+            self.old.server self.new.server }
+        ensures outside { StaysOutside S.TakeStore J.Journal self.old.server self.new.server }
+        ensures none { result ≡ Rest.NoneMay →
+            NoneMayRest S.TakeStore J.Journal self.new.server }
+    {
         match rest_first(&mut self.server, self.uses.names()) {
             Rest::Done => Rest::Done,
             Rest::Failed => Rest::Failed,

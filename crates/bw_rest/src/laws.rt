@@ -6,8 +6,8 @@ ghost use Rattle.bw_rest.specs.Runs.{RunsRestOn};
 use bw_journal::Journal;
 use bw_store::TakeStore;
 
-/// Whatever frames come: the server, with what rests, holds a book of the folder, and this follows
-/// from the definitions' turns on it as if no name had ever rested.
+/// Whatever frames come, over an honest store and journal: each is served by the definitions' turn on
+/// the folder's book, or put off, which leaves it; and the server, with what rests, holds the last.
 pub fn law_rests_on<S: TakeStore, J: Journal>()
     ensures { RunsRestOn S.TakeStore J.Journal }
 {}

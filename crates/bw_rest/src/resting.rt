@@ -2,28 +2,34 @@
 ghost use Rattle.std.specs.Prelude.{◌≡◌, ◌≤◌, [], ◌∷◌, map, IfOk, IfErr};
 ghost use Rattle.std.specs.List.{All};
 ghost use Rattle.bw_model.specs.Replies.{Noticed, DelayedStore};
-ghost use Rattle.bw_model.specs.Wire.{Says, Second, last_number};
-ghost use Rattle.bw_wire.specs.Frames.{message_of};
+ghost use Rattle.bw_model.specs.Wire.{Says, Asks, Second, last_number};
+ghost use Rattle.bw_wire.specs.Frames.{message_of, asked_name, asked_number};
 ghost use Rattle.bw_wire.specs.Replies.{reply_of, HasWireNumbers};
+ghost use Rattle.bw_session.specs.Listing.{ListsNames};
+ghost use Rattle.bw_session.specs.SeenServers.{known_kept};
+ghost use Rattle.bw_session.specs.RestingNames.{restable_kept};
 ghost use Rattle.bw_session.specs.ServerTurns.{ServerTurn};
+ghost use Rattle.bw_rest.specs.UseOrder.{with_use_if};
 
 use crate::finding::Found;
 use crate::uses::Uses;
 use arrayvec::ArrayVec;
 use bw_exchange::Turns;
 use bw_journal::RestingJournal;
-use bw_request::{Name, RequestRef};
+use bw_request::Name;
 use bw_session::Server;
 use bw_store::TakeStore;
 use bw_wire::{Ask, Message, Notice, Reply};
 use std::alloc::{AllocError, Global};
 
-/// A server, in whose table a name that rests has no place: it wakes at its next message. If the
-/// table is full then, a name rests whose take is closed: the one used the longest time ago.
+/// A server, in whose table a name that rests has no place: it wakes at its next message or ask. If
+/// the table is full then, or when a new name comes, a name rests whose take is closed: the one used
+/// the longest time ago, or another if that one can't. Names that were in the table at the start count
+/// as used before all others, in any order.
 ///
-/// A frame of a name that can't be woken, or for which no room can be made, is answered
-/// DelayedStore with next 0, and nothing has changed. A name in the table is answered as by the
-/// server alone.
+/// A frame of a name that can't be woken, or for which no room can be made for lack of memory or by
+/// a fault of the journal, is answered DelayedStore with next 0: nothing of its name has changed, and
+/// of others only whether they rest. A name in the table is answered as by the server alone.
 ///
 /// # Not specified
 /// Which of several names rests.
@@ -35,7 +41,7 @@ pub struct RestingServer<S: TakeStore, J: RestingJournal> {
 }
 
 impl<S: TakeStore, J: RestingJournal> RestingServer<S, J> {
-    ghost use Rattle.bw_rest.specs.RestingServers.{table_server};
+    ghost use Rattle.bw_rest.specs.RestingServers.{table_server, names_used, NotesUse};
 
     /// A server whose names may rest.
     ///
@@ -49,9 +55,10 @@ impl<S: TakeStore, J: RestingJournal> RestingServer<S, J> {
         server: Server<S, J>,
     ) -> Result<RestingServer<S, J>, (AllocError, Server<S, J>)>
         ensures server { IfOk result (λ r. table_server r ≡ server) }
+        ensures used { IfOk result (λ r. ListsNames (known_kept server) (names_used r)) }
         ensures back { IfErr result (λ e. e.1 ≡ server) }
     {
-        match Uses::new(alloc) {
+        match first_uses(alloc, &server) {
             Ok(uses) => Ok(RestingServer {
                 server,
                 uses,
@@ -81,37 +88,50 @@ impl<S: TakeStore, J: RestingJournal> RestingServer<S, J> {
     }
 
     /// Has the server answer a message, and notes the use of its name.
-    fn serve(
-        &mut self,
-        name: &Name,
-        message: &Message<'_>,
-        found: Found,
-        replies: &mut ArrayVec<Reply, 17>,
-    )
+    fn serve(&mut self, name: &Name, message: &Message<'_>, replies: &mut ArrayVec<Reply, 17>)
         ensures turned { ServerTurn S.TakeStore J.Journal self.old.server
             (Says (message_of message.now)) (map reply_of replies.new.items) self.new.server }
         ensures numbers { All HasWireNumbers replies.new.items }
+        ensures noted { NotesUse name.now self.old self.new }
     {
         Turns::turn(&mut self.server, message, replies);
-        self.note_use(name, message, found);
+        self.note_use(name);
     }
 
-    /// Notes that a name was used, if it is in the table and its take may be closed.
-    fn note_use(&mut self, name: &Name, message: &Message<'_>, found: Found)
-        ensures { self.new.server ≡ self.old.server }
+    /// Has the server answer an ask, and notes the use of its name.
+    fn answer(&mut self, asked: &Name, ask: &Ask<'_>) -> Reply
+        ensures turned { ServerTurn S.TakeStore J.Journal self.old.server
+            (Asks (asked_name ask.now) (asked_number ask.now)) (reply_of result ∷ []) self.new.server }
+        ensures numbers { HasWireNumbers result }
+        ensures noted { NotesUse asked.now self.old self.new }
     {
-        if is_use(message, found) && self.server.is_known(name) {
+        let reply = Turns::ask(&mut self.server, ask);
+        self.note_use(asked);
+        reply
+    }
+
+    /// Notes that a name was used, if it may rest. Of one that may not, a later message is noted: the
+    /// one by which it may.
+    fn note_use(&mut self, name: &Name)
+        ensures server { self.new.server ≡ self.old.server }
+        ensures names { self.new.uses.names.items
+            ≡ with_use_if (restable_kept self.old.server name.now) name.now self.old.uses.names.items }
+    {
+        if self.server.may_rest(name) {
             self.uses.touch(name);
         }
     }
 }
 
-/// Whether a message is a use of its name: the first since it was in the table, or a CLOSE.
-fn is_use(message: &Message<'_>, found: Found) -> bool {
-    match found {
-        Found::Known => matches!(message.request(), RequestRef::CloseTake { .. }),
-        _ => true,
-    }
+/// The uses from which a server goes on: each name of its table was used before its next message.
+fn first_uses<S: TakeStore, J: RestingJournal>(
+    alloc: Global,
+    server: &Server<S, J>,
+) -> Result<Uses, AllocError>
+    ensures names { IfOk result (λ u. ListsNames (known_kept server.now) u.names.items) }
+{
+    let names = server.known_names(alloc)?;
+    Uses::of(names)
 }
 
 impl<S: TakeStore, J: RestingJournal> Turns for RestingServer<S, J> {
@@ -124,8 +144,8 @@ impl<S: TakeStore, J: RestingJournal> Turns for RestingServer<S, J> {
     fn turn(&mut self, message: &Message<'_>, replies: &mut ArrayVec<Reply, 17>) {
         let name = message.name();
         match self.prepare(&name) {
-            Found::Known => self.serve(&name, message, Found::Known, replies),
-            Found::New => self.serve(&name, message, Found::New, replies),
+            Found::Known => self.serve(&name, message, replies),
+            Found::New => self.serve(&name, message, replies),
             Found::PutOff => put_off(name, message.number(), replies),
             Found::Failed => put_off(name, message.number(), replies),
         }
@@ -134,8 +154,8 @@ impl<S: TakeStore, J: RestingJournal> Turns for RestingServer<S, J> {
     fn ask(&mut self, ask: &Ask<'_>) -> Reply {
         let name = ask.name();
         match self.find(&name) {
-            Found::Known => Turns::ask(&mut self.server, ask),
-            Found::New => Turns::ask(&mut self.server, ask),
+            Found::Known => self.answer(&name, ask),
+            Found::New => self.answer(&name, ask),
             Found::PutOff => delayed(name, ask.number()),
             Found::Failed => delayed(name, ask.number()),
         }

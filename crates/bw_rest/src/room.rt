@@ -1,5 +1,5 @@
 //! Making room in a server's table.
-ghost use Rattle.std.specs.Prelude.{◌≡◌, ◌<◌, ◌||◌, Bool, true, false, List, ℕ, IsTrue};
+ghost use Rattle.std.specs.Prelude.{◌≡◌, ◌<◌, ◌||◌, true, false, None, IfSome, length, position};
 ghost use Rattle.std.specs.List.{All};
 ghost use Rattle.bw_model.specs.Turn.{most_takes};
 ghost use Rattle.bw_rest.specs.Making.{is_failed, has_rested, is_declined, room_failed};
@@ -7,6 +7,7 @@ ghost use Rattle.bw_rest.specs.Making.{KeepsSessions};
 ghost use Rattle.bw_rest.specs.Resting.{KeepsFolders, StaysOutside, NoneMayRest, HasPlace};
 ghost use Rattle.bw_session.specs.SeenServers.{session_kept, names_kept};
 ghost use Rattle.bw_session.specs.RestingNames.{restable_kept};
+ghost use Rattle.bw_rest.specs.UseOrder.{FirstHasLeft};
 
 use bw_journal::RestingJournal;
 use bw_request::Name;
@@ -47,6 +48,7 @@ fn rest_name<S: TakeStore, J: RestingJournal>(server: &mut Server<S, J>, name: &
     ensures same { has_rested result ≡ false →
         KeepsSessions (session_kept server.old) (session_kept server.new) }
     ensures unable { result ≡ Rest.NoneMay → restable_kept server.old name.now ≡ false }
+    ensures gone { result ≡ Rest.Done → session_kept server.new name.now ≡ None }
 {
     if !server.may_rest(name) {
         return Rest::NoneMay;
@@ -57,6 +59,33 @@ fn rest_name<S: TakeStore, J: RestingJournal>(server: &mut Server<S, J>, name: &
         Err(RestFault::Memory) => Rest::Refused,
         Err(RestFault::Journal) => Rest::Failed,
     }
+}
+
+/// Puts the first of these names to rest that may. No other is tried.
+pub(crate) fn rest_oldest<S: TakeStore, J: RestingJournal>(
+    server: &mut Server<S, J>,
+    names: &[Name],
+) -> Rest
+    ensures kept { KeepsFolders S.TakeStore J.Journal (is_failed result) server.old server.new }
+    ensures outside { StaysOutside S.TakeStore J.Journal server.old server.new }
+    ensures first { result ≡ Rest.Done →
+        FirstHasLeft (restable_kept server.old) names.now (session_kept server.new) }
+{
+    match first_that_may(server, names) {
+        Some(place) => rest_name(server, &names[place]),
+        None => Rest::NoneMay,
+    }
+}
+
+/// The place of the first of these names that may rest.
+fn first_that_may<S: TakeStore, J: RestingJournal>(
+    server: &Server<S, J>,
+    names: &[Name],
+) -> Option<usize>
+    ensures place { result ≡ position (restable_kept server.now) names.now }
+    ensures within { IfSome result (λ place. place < length names.now) }
+{
+    names.iter().position(|name| server.may_rest(name))
 }
 
 /// Puts the first of these names to rest that can.

@@ -1,17 +1,19 @@
 //! In which order names were used.
-ghost use Rattle.std.specs.Prelude.{◌≡◌, ◌<◌, ◌≤◌, ◌++◌, [], ◌∷◌, List, ℕ, IfOk};
-ghost use Rattle.std.specs.Prelude.{vec_capacity, vec_len};
+ghost use Rattle.std.specs.Prelude.{◌≡◌, ◌<◌, ◌≤◌, ◌++◌, [], ◌∷◌, IfOk, not, vec_capacity, vec_len};
+ghost use Rattle.std.specs.List.{filter};
+ghost use Rattle.std.specs.Str.{bytes_eq};
+ghost use Rattle.bw_rest.specs.UseOrder.{with_place, with_use};
 
 use bw_request::Name;
-use std::alloc::{AllocError, Global};
+use std::alloc::AllocError;
 
 /// How many names are kept: twice as many as a server takes, since some of them may rest.
 const MOST_USED: usize = 512;
 
 /// The names that were used last, the one used the longest time ago first.
 ///
-/// A name is used when it enters the table, and at each CLOSE: in between its take is open, and it
-/// can't rest. So most messages change nothing here.
+/// Each message and each ask uses its name. Only the uses of names that may rest are noted: one that
+/// may not is used again before it may. So messages of an open take change nothing here.
 #[derive(Drop)]
 pub(crate) struct Uses {
     names: Vec<Name>,
@@ -20,16 +22,17 @@ pub(crate) struct Uses {
 }
 
 impl Uses {
-    /// No name was used.
+    /// These names were used, in this order.
     ///
     /// # Errors
     /// `AllocError` if memory was refused.
-    pub(crate) fn new(alloc: Global) -> Result<Uses, AllocError>
-        ensures none { IfOk result (λ u. u.names.items ≡ []) }
+    pub(crate) fn of(names: Vec<Name>) -> Result<Uses, AllocError>
+        requires few { vec_len names ≤ 512 }
+        ensures names { IfOk result (λ u. u.names.items ≡ names.items) }
     {
-        Ok(Uses {
-            names: Vec::with_capacity(alloc, MOST_USED)?,
-        })
+        let mut names = names;
+        names.reserve_exact(MOST_USED - names.len())?;
+        Ok(Uses { names })
     }
 
     /// The names, the one used the longest time ago first.
@@ -41,7 +44,7 @@ impl Uses {
 
     /// A name is used now. Of too many the one used the longest time ago is forgotten.
     pub(crate) fn touch(&mut self, name: &Name)
-        ensures last { (before : List (List ℕ)) × (self.new.names.items ≡ before ++ name.now ∷ []) }
+        ensures last { self.new.names.items ≡ with_use name.now self.old.names.items }
     {
         self.forget(name);
         self.make_place();
@@ -51,6 +54,7 @@ impl Uses {
     /// Forgets the name used the longest time ago, if there are too many.
     fn make_place(&mut self)
         ensures place { vec_len self.new.names < 512 }
+        ensures names { self.new.names.items ≡ with_place self.old.names.items }
     {
         if self.names.len() == MOST_USED {
             self.names.remove(0);
@@ -65,12 +69,11 @@ impl Uses {
         let _added = self.names.push(name.copy());
     }
 
-    /// Forgets a name.
+    /// Forgets a name. The others stay in their order.
     fn forget(&mut self, name: &Name)
-        ensures fewer { vec_len self.new.names ≤ vec_len self.old.names }
+        ensures others { self.new.names.items
+            ≡ filter (λ other. not (bytes_eq other name.now)) self.old.names.items }
     {
-        if let Some(place) = self.names.iter().position(|known| known == name) {
-            self.names.remove(place);
-        }
+        self.names.retain(|known| *known != *name);
     }
 }

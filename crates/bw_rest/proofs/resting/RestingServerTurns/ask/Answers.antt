@@ -10,21 +10,21 @@ use Rattle.bw_rest.proofs.resting.RestingServerTurns.ask.Goals as goal
 
 pub returns-in-Known-clause-answered : goal.returns-in-Known-clause-answered
 returns-in-Known-clause-answered g c =
-    known_turn g.S.TakeStore g.J.Journal c.args.self.now.server c.find.new.self.server c.ask.new.self
-    (Asks (asked_name c.args.ask.now) (asked_number c.args.ask.now)) (reply_of c.ask.result ∷ []) c.in-Known.ensures.kept
+    known_turn g.S.TakeStore g.J.Journal c.args.self.now.server c.find.new.self.server c.answer.new.self.server
+    (Asks (asked_name c.args.ask.now) (asked_number c.args.ask.now)) (reply_of c.answer.result ∷ []) c.in-Known.ensures.kept
     (subst (λ (n : List ℕ). Inside g.S.TakeStore g.J.Journal found.Known n c.args.self.now.server c.find.new.self.server)
     c.name-name.ensures c.in-Known.ensures.inside)
     (subst (λ (n : List ℕ). IsWhere g.S.TakeStore g.J.Journal n found.Known c.find.new.self.server) c.name-name.ensures
-    c.in-Known.ensures.found) c.ask.ensures.answered
+    c.in-Known.ensures.found) c.answer.ensures.turned
 
 pub returns-in-New-clause-answered : goal.returns-in-New-clause-answered
 returns-in-New-clause-answered g c =
-    new_turn g.S.TakeStore g.J.Journal c.args.self.now.server c.find.new.self.server c.ask-in-New.new.self
-    (Asks (asked_name c.args.ask.now) (asked_number c.args.ask.now)) (reply_of c.ask-in-New.result ∷ []) c.in-New.ensures.kept
+    new_turn g.S.TakeStore g.J.Journal c.args.self.now.server c.find.new.self.server c.answer-in-New.new.self.server
+    (Asks (asked_name c.args.ask.now) (asked_number c.args.ask.now)) (reply_of c.answer-in-New.result ∷ []) c.in-New.ensures.kept
     (subst (λ (n : List ℕ). Inside g.S.TakeStore g.J.Journal found.New n c.args.self.now.server c.find.new.self.server)
     c.name-name.ensures c.in-New.ensures.inside)
     (subst (λ (n : List ℕ). IsWhere g.S.TakeStore g.J.Journal n found.New c.find.new.self.server) c.name-name.ensures
-    c.in-New.ensures.found) c.ask-in-New.ensures.answered
+    c.in-New.ensures.found) c.answer-in-New.ensures.turned
     (λ m e. asks_nothing (asked_name c.args.ask.now) (asked_number c.args.ask.now) m e)
 
 pub returns-in-PutOff-clause-answered : goal.returns-in-PutOff-clause-answered
