@@ -23,40 +23,8 @@ use Rattle.bw_engine.specs.declared.send_fault.SendFault.{SendFault}
 use Rattle.bw_engine.specs.declared.send_fault.SendFault.TheVariants as faults
 use Rattle.bw_engine.specs.Batches.{messages, pending_messages, batch_bytes, WritesMessages, WritesBatch}
 use Rattle.bw_engine.specs.Batches.{LacksMemoryToSend, BreaksBytes, BreaksFrame}
+use Rattle.bw_engine.proofs.Beginnings.{begins-before, begins-after}
 use Rattle.bw_exchange.proofs.Reading.{writes-none, writes-on}
-
--- ---- beginnings
-
--- nothing was written
-pub begins-none : (a : Option (List ℕ)) (p : List ℕ) → Begins a p a
-begins-none a p xs e = record {
-  part = [];
-  rest = p;
-  whole = refl;
-  stands = e ∙ ap Some (sym (append-nil xs));
-}
-
--- a beginning is one of what has more after it
-pub begins-before : (a b : Option (List ℕ)) (p q : List ℕ) → Begins a p b → Begins a (p ++ q) b
-begins-before a b p q f xs e =
-    let x = f xs e in
-    record {
-      part = x.part;
-      rest = x.rest ++ q;
-      whole = sym (append_assoc x.part x.rest q) ∙ ap (λ (y : List ℕ). y ++ q) x.whole;
-      stands = x.stands;
-    }
-
--- some bytes were written, and a prefix of those after them
-pub begins-after : (a b c : Option (List ℕ)) (p q : List ℕ) → Writes a p b → Begins b q c → Begins a (p ++ q) c
-begins-after a b c p q f g xs e =
-    let x = g (xs ++ p) (f xs e) in
-    record {
-      part = p ++ x.part;
-      rest = x.rest;
-      whole = append_assoc p x.part x.rest ∙ ap (λ (y : List ℕ). p ++ y) x.whole;
-      stands = x.stands ∙ ap Some (append_assoc xs p x.part);
-    }
 
 -- ---- the messages that are pending
 
@@ -186,20 +154,24 @@ sent-cut faults.Memory place s name w w' w'' p same e f cut = sent-lacking place
 sent-cut faults.BadReply place s name w w' w'' p same e f cut = cut
 sent-cut faults.TurnLimit place s name w w' w'' p same e f cut = cut
 
--- there is no message more
-pub sent-all : (place : ℕ) (s : Defined) (w w' : Option (List ℕ)) → slice_get (waiting s) place ≡ None →
-    SentTo place s w w' → WritesMessages (pending_messages s) w w'
-sent-all place s w w' e f =
-    let none : drop place (waiting s) ≡ [] = drop_none place (waiting s) (past place (waiting s) e) in
-    subst (λ (fs : List Frame). WritesMessages fs w w')
-    (sym (append-nil f.sent)
-    ∙ ap (λ (ps : List (ℕ × Request)). f.sent ++ messages s.name ps) (sym none) ∙ f.all)
-    f.prefix
+-- where nothing stands, nothing comes after
+pub nothing_after : (k : ℕ) (ps : List (ℕ × Request)) → slice_get ps k ≡ None → drop k ps ≡ []
+nothing_after k ps h = drop_none k ps (past k ps h)
   where
     past : (k : ℕ) (ps : List (ℕ × Request)) → slice_get ps k ≡ None → length ps ≤ k
     past k [] h = omega arith
     past zero (q ∷ ps) h = absurd cc
     past (suc k) (q ∷ ps) h = let more = past k ps h in omega arith
+
+-- there is no message more
+pub sent-all : (place : ℕ) (s : Defined) (w w' : Option (List ℕ)) → slice_get (waiting s) place ≡ None →
+    SentTo place s w w' → WritesMessages (pending_messages s) w w'
+sent-all place s w w' e f =
+    let none = nothing_after place (waiting s) e in
+    subst (λ (fs : List Frame). WritesMessages fs w w')
+    (sym (append-nil f.sent)
+    ∙ ap (λ (ps : List (ℕ × Request)). f.sent ++ messages s.name ps) (sym none) ∙ f.all)
+    f.prefix
 
 -- ---- the whole batch
 

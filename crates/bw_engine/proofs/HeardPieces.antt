@@ -17,75 +17,49 @@ use Rattle.bw_wire.specs.Held.{longest_piece}
 use Rattle.bw_wire.specs.Pending.{Pending, Reported, Nothing, Gives, Fails, fresh, with_piece, next_of, cut_off}
 use Rattle.bw_wire.specs.Pending.{end_fault}
 use Rattle.bw_wire.specs.Replies.{reply_of}
-use Rattle.bw_wire.specs.Runs.{given_by}
 use Rattle.bw_wire.specs.Reporting.{reported_as}
 use Rattle.bw_wire.specs.declared.reply.Reply.{Reply as Answer}
 use Rattle.bw_engine.specs.declared.send_fault.SendFault.{SendFault}
 use Rattle.bw_engine.specs.declared.send_fault.SendFault.TheVariants as faults
 use Rattle.bw_exchange.specs.Served.{most_reads, HasGiven, HasNoneLeft}
-use Rattle.bw_engine.specs.Hears.{hear_all, CountsAll, IsHeardUpTo, IsAllHeard, IsHeardWhole}
+use Rattle.bw_engine.specs.Hears.{CountsAll, IsHeardUpTo, IsAllHeard, IsHeardWhole}
 use Rattle.bw_engine.specs.Hears.{HearsBy, HearsNoFurther, Hears, GaveReplies, HearsMore, ReportsFault}
 use Rattle.bw_engine.specs.Hears.{hears_failed, IsHearingLimited, FeedsReplies, EndsReplies, ReadsReplies}
 use Rattle.bw_engine.specs.Hears.{StopsHearing}
+use Rattle.bw_engine.specs.Listening.{HearsThese}
+use Rattle.bw_engine.proofs.HeardReplies.{counts_on, these_none, these_on, these_quiet, these_one}
 use Rattle.bw_exchange.proofs.Reading.{has_given-none, has_given-on, has_given-piece}
-use Rattle.bw_engine.proofs.ReplyRuns.{IsNoReply, fresh_quiet, no_bytes_cut, gave_none, gave_fed, gave_more}
+use Rattle.bw_engine.proofs.ReplyRuns.{IsNoReply, fresh_quiet, no_bytes_cut, gave_none, gave_fed}
 use Rattle.bw_engine.proofs.ReplyRuns.{gave_counted, gave_follows}
 
--- ---- replies are counted
+-- ---- replies are counted, whichever they are
 
-hear_all-append : (s : Defined) (a b : List Reply) → hear_all s (a ++ b) ≡ hear_all (hear_all s a) b
-hear_all-append s [] b = refl
-hear_all-append s (r ∷ a) b = hear_all-append (hear s r) a b
+these_of : {x y : Sender} {p q : Pending} (f : HearsMore x y p q) → HearsThese f.heard x y p q
+these_of f = record { counted = f.counted; gives = f.gives }
 
-counts_on : (a b : List Reply) (x y z : Sender) → CountsAll a x y → CountsAll b y z → CountsAll (a ++ b) x z
-counts_on a b x y z f g s is =
-    subst (λ (t : Defined). IsSender t z) (sym (hear_all-append s a b)) (g (hear_all s a) (f s is))
+some_these : (heard : List Reply) (x y : Sender) (p q : Pending) → HearsThese heard x y p q → HearsMore x y p q
+some_these heard x y p q f = record { heard = heard; counted = f.counted; gives = f.gives }
 
--- nothing is heard
 pub hears-none : (x : Sender) (p : Pending) → HearsMore x x p p
-hears-none x p = record {
-  heard = [];
-  counted = λ s is. is;
-  gives = λ fed before d. subst (λ (rs : List Reply). GaveReplies fed rs p) (sym (append-nil before)) d;
-}
+hears-none x p = some_these [] x x p p (these_none x p)
 
--- some replies are heard, and then others
 pub hears-on : (x y z : Sender) (p q r : Pending) → HearsMore x y p q → HearsMore y z q r → HearsMore x z p r
-hears-on x y z p q r f g = record {
-  heard = f.heard ++ g.heard;
-  counted = counts_on f.heard g.heard x y z f.counted g.counted;
-  gives = λ fed before d.
-      subst (λ (rs : List Reply). GaveReplies fed rs r) (append_assoc before f.heard g.heard)
-      (g.gives fed (before ++ f.heard) (f.gives fed before d));
-}
+hears-on x y z p q r f g =
+    some_these (f.heard ++ g.heard) x z p r (these_on f.heard g.heard x y z p q r (these_of f) (these_of g))
+
+pub hears-quiet : (x : Sender) (p q : Pending) (t : Reported Reply) → t ≡ (next_of reply_codec p).0 → IsNoReply t →
+    q ≡ (next_of reply_codec p).1 → HearsMore x x p q
+hears-quiet x p q t reported none same = some_these [] x x p q (these_quiet x p q t reported none same)
+
+pub hears-one : (x y : Sender) (p q : Pending) (r : Reply) → Gives r ≡ (next_of reply_codec p).0 →
+    q ≡ (next_of reply_codec p).1 → ((s : Defined) → IsSender s x → IsSender (hear s r) y) → HearsMore x y p q
+hears-one x y p q r reported same counted =
+    some_these (r ∷ []) x y p q (these_one x y p q r reported same counted)
 
 -- what a known answer reports
 pub as_reported : {a b : Option Answer} {t : Reported Reply} → a ≡ b → reported_as reply_of (Ok a) ≡ t →
     reported_as reply_of (Ok b) ≡ t
 as_reported same reported = ap (λ (o : Option Answer). reported_as reply_of (Ok o)) (sym same) ∙ reported
-
--- a framer was asked, and there was no reply
-pub hears-quiet : (x : Sender) (p q : Pending) (t : Reported Reply) → t ≡ (next_of reply_codec p).0 → IsNoReply t →
-    q ≡ (next_of reply_codec p).1 → HearsMore x x p q
-hears-quiet x p q t reported none same = record {
-  heard = [];
-  counted = λ s is. is;
-  gives = λ fed before d. gave_more fed before [] p q same (ap (given_by reply_codec) (sym reported) ∙ no_reply t none) d;
-}
-  where
-    no_reply : (t : Reported Reply) → IsNoReply t → given_by reply_codec t ≡ []
-    no_reply Nothing none = refl
-    no_reply (Gives r) none = absurd none
-    no_reply (Fails reason place) none = refl
-
--- a reply was there, and is counted
-pub hears-one : (x y : Sender) (p q : Pending) (r : Reply) → Gives r ≡ (next_of reply_codec p).0 →
-    q ≡ (next_of reply_codec p).1 → ((s : Defined) → IsSender s x → IsSender (hear s r) y) → HearsMore x y p q
-hears-one x y p q r reported same counted = record {
-  heard = r ∷ [];
-  counted = counted;
-  gives = λ fed before d. gave_more fed before (r ∷ []) p q same (ap (given_by reply_codec) (sym reported)) d;
-}
 
 -- ---- a piece is read
 

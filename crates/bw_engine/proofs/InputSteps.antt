@@ -23,6 +23,15 @@ pub none_first : (left : List (List ℕ)) → AreFirstIn [] left
 none_first [] = refl
 none_first (input ∷ left) = (_, refl)
 
+-- an element of a list, and those before and after it
+around : {X : Type 0} (f : X → List ℕ) (xs : List X) (i : ℕ) (x : X) (y : List ℕ) → i < length xs →
+    x ≡ get_or xs i x → y ≡ f x → map f (take i xs) ++ y ∷ map f (drop (i + 1) xs) ≡ map f xs
+around f xs i x y below is same =
+    ap (λ (z : List ℕ). map f (take i xs) ++ z ∷ map f (drop (i + 1) xs)) (same ∙ ap f is)
+    ∙ sym (map-append f (take i xs) (get_or xs i x ∷ drop (i + 1) xs))
+    ∙ ap (λ (zs : List _). map f (take i xs ++ zs)) (sym (drop_more xs i x below))
+    ∙ ap (map f) (take-append-drop i xs)
+
 module _ {T : Type 0} (answers : T → Frame → List Reply → T → Type 0) where
   pub inputs-none : (old : T) (reported : Reported) → reported.replies.items ≡ [] → reported.ends.items ≡ [] →
       ServesInputs answers old old [] reported
@@ -77,7 +86,7 @@ module _ {T : Type 0} (answers : T → Frame → List Reply → T → Type 0) wh
       record { went = all.0; by_server = all.1; are = all.2 }
 
   -- first frames of the next
-  pub inputs-part : (old mid new : T) (inputs : List (List ℕ)) (reported : Reported) (input : List ℕ)
+  inputs-part : (old mid new : T) (inputs : List (List ℕ)) (reported : Reported) (input : List ℕ)
       (left : List (List ℕ)) → ServesInputs answers old mid inputs reported → ServesFirst answers mid new input →
       ServesInPart answers old new (inputs ++ input ∷ left)
   inputs-part old mid new inputs reported input left h one = record {
@@ -93,7 +102,7 @@ module _ {T : Type 0} (answers : T → Frame → List Reply → T → Type 0) wh
   }
 
   -- the next whole, but its replies are lost
-  pub inputs-whole : (old mid new : T) (inputs : List (List ℕ)) (reported : Reported) (input bytes : List ℕ)
+  inputs-whole : (old mid new : T) (inputs : List (List ℕ)) (reported : Reported) (input bytes : List ℕ)
       (end : ExchangeEnd) (left : List (List ℕ)) → ServesInputs answers old mid inputs reported →
       ServesInput answers mid new input bytes end → ServesInPart answers old new (inputs ++ input ∷ left)
   inputs-whole old mid new inputs reported input bytes end left h one =
@@ -114,6 +123,24 @@ module _ {T : Type 0} (answers : T → Frame → List Reply → T → Type 0) wh
         };
       }
 
+  -- of the inputs the next was begun
+  pub next_begun : {X : Type 0} (f : X → List ℕ) (xs : List X) (i : ℕ) (x : X) (input : List ℕ) (old mid new : T)
+      (reported : Reported) → i < length xs → x ≡ get_or xs i x → input ≡ f x →
+      ServesInputs answers old mid (map f (take i xs)) reported → ServesFirst answers mid new input →
+      ServesInPart answers old new (map f xs)
+  next_begun f xs i x input old mid new reported below is same h one =
+      subst (ServesInPart answers old new) (around f xs i x input below is same)
+      (inputs-part old mid new (map f (take i xs)) reported input (map f (drop (i + 1) xs)) h one)
+
+  -- the next was served, but its replies are lost
+  pub next_lost : {X : Type 0} (f : X → List ℕ) (xs : List X) (i : ℕ) (x : X) (input bytes : List ℕ)
+      (end : ExchangeEnd) (old mid new : T) (reported : Reported) → i < length xs → x ≡ get_or xs i x → input ≡ f x →
+      ServesInputs answers old mid (map f (take i xs)) reported → ServesInput answers mid new input bytes end →
+      ServesInPart answers old new (map f xs)
+  next_lost f xs i x input bytes end old mid new reported below is same h one =
+      subst (ServesInPart answers old new) (around f xs i x input below is same)
+      (inputs-whole old mid new (map f (take i xs)) reported input bytes end (map f (drop (i + 1) xs)) h one)
+
 -- One element of a list more.
 
 pub one_taken : {X : Type 0} (f : X → List ℕ) (xs : List X) (i : ℕ) (x : X) (y : List ℕ) → i < length xs →
@@ -121,14 +148,6 @@ pub one_taken : {X : Type 0} (f : X → List ℕ) (xs : List X) (i : ℕ) (x : X
 one_taken f xs i x y below is same =
     ap (map f) (take_more xs i x below) ∙ map-append f (take i xs) (get_or xs i x ∷ [])
     ∙ ap (λ (z : List ℕ). map f (take i xs) ++ z ∷ []) (sym (same ∙ ap f is))
-
-pub around : {X : Type 0} (f : X → List ℕ) (xs : List X) (i : ℕ) (x : X) (y : List ℕ) → i < length xs →
-    x ≡ get_or xs i x → y ≡ f x → map f (take i xs) ++ y ∷ map f (drop (i + 1) xs) ≡ map f xs
-around f xs i x y below is same =
-    ap (λ (z : List ℕ). map f (take i xs) ++ z ∷ map f (drop (i + 1) xs)) (same ∙ ap f is)
-    ∙ sym (map-append f (take i xs) (get_or xs i x ∷ drop (i + 1) xs))
-    ∙ ap (λ (zs : List _). map f (take i xs ++ zs)) (sym (drop_more xs i x below))
-    ∙ ap (map f) (take-append-drop i xs)
 
 pub one_pushed : {X : Type 0} (f : X → List ℕ) (xs ys : List X) (x : X) → ys ≡ xs ++ x ∷ [] →
     map f ys ≡ map f xs ++ f x ∷ []

@@ -11,6 +11,8 @@ use Rattle.bw_model.specs.Replies.{Reply}
 use Rattle.bw_model.specs.Stream.{first_reply}
 use Rattle.bw_model.proofs.FrameLaws.{reads_reply}
 use Rattle.bw_wire.specs.Codecs.{reply_codec}
+use Rattle.bw_wire.specs.Reasons.{reason_meaning}
+use Rattle.bw_wire.specs.declared.fault.WireFault.{WireFault}
 use Rattle.bw_wire.specs.Pending.{Phase, Reading, Left, Failed, Pending, Reported, Nothing, Gives, Fails, fresh}
 use Rattle.bw_wire.specs.Pending.{with_piece, compacted, emptied, next_of}
 use Rattle.bw_wire.specs.Runs.{Call, Feeds, Takes, fed_in, Run, given_by, with_call, with_calls}
@@ -18,7 +20,7 @@ use Rattle.bw_wire.specs.Runs.{Follows}
 use Rattle.bw_wire.proofs.FramerLaws.{next_of-left, next_of-failed, next_of-partial, next_of-bad, next_of-value}
 use Rattle.bw_wire.proofs.FramerLaws.{cut_or_not}
 use Rattle.bw_wire.proofs.StreamRuns.{reply_runs_follow_replies}
-use Rattle.bw_engine.specs.Hears.{GaveReplies}
+use Rattle.bw_engine.specs.Hears.{GaveReplies, ReportsFault}
 use Rattle.bw_exchange.proofs.Doing.{run_more, fed_in-more}
 use Rattle.bw_exchange.proofs.Lawful.{with_piece-fed}
 
@@ -63,6 +65,18 @@ pub reported_again : (p q : Pending) (t : Reported Reply) → (next_of reply_cod
 reported_again p q t e same last =
     ap (λ (x : Pending). (next_of reply_codec x).0) same
     ∙ again_in p.phase (first_reply p.bytes) p refl refl (subst IsNoReply (sym e) last) ∙ e
+
+-- what a framer reports by a fault
+abbrev pub failed_by : WireFault → Reported Reply
+failed_by fault = Fails (reason_meaning fault.reason) fault.offset
+
+pub fault_again : (p q : Pending) (fault : WireFault) → failed_by fault ≡ (next_of reply_codec p).0 →
+    q ≡ (next_of reply_codec p).1 → ReportsFault q
+fault_again p q fault reported same = (
+  reason_meaning fault.reason,
+  fault.offset,
+  reported_again p q (failed_by fault) (sym reported) same tt,
+)
 
 -- before any piece no reply is whole
 pub fresh_quiet : (next_of reply_codec fresh).0 ≡ Nothing

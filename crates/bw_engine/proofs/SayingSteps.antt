@@ -1,5 +1,5 @@
 -- Messages are said over a link one by one.
-use Rattle.std.proofs.Common.{◌≡◌, ℕ, zero, suc, ◌+◌, ◌<◌, ◌≤◌, Bool, true, false, List, [], ◌∷◌, ◌++◌, length, drop}
+use Rattle.std.proofs.Common.{◌≡◌, ℕ, suc, ◌+◌, ◌<◌, ◌≤◌, Bool, true, false, List, [], ◌∷◌, ◌++◌, length, drop}
 use Rattle.std.proofs.Common.{Option, Some, None, refl, sym, ap, subst, ◌∙◌, append_assoc, arith}
 use Rattle.std.specs.Prelude.{Result, Ok, Err, IsTrue, IfErr, OnOk, slice_get, nat_le, cond}
 use Rattle.std.specs.List.{list_all}
@@ -12,13 +12,14 @@ use Rattle.bw_model.specs.Wire.{Second, Frame, is_frame, body, framed}
 use Rattle.bw_model.specs.Stream.{is_turn, frames_bytes}
 use Rattle.bw_model.specs.World.{Sender as Defined}
 use Rattle.bw_stream.specs.Moves.{Writes, Begins}
-use Rattle.bw_sender.proofs.EntryLaws.{drop_at, drop_none}
+use Rattle.bw_sender.proofs.EntryLaws.{drop_at}
 use Rattle.bw_wire.specs.Encoded.{said}
 use Rattle.bw_engine.specs.declared.send_fault.SendFault.{SendFault}
 use Rattle.bw_engine.specs.declared.send_fault.SendFault.TheVariants as faults
 use Rattle.bw_engine.specs.Batches.{messages, WritesMessages, BreaksFrame}
 use Rattle.bw_engine.specs.Saying.{numbered_from, unsaid_messages, BreaksOffSaying}
-use Rattle.bw_engine.proofs.Batching.{begins-before, begins-after, waiting}
+use Rattle.bw_engine.proofs.Batching.{nothing_after, waiting}
+use Rattle.bw_engine.proofs.Beginnings.{begins-before, begins-after}
 use Rattle.bw_exchange.proofs.Reading.{writes-none, writes-on}
 
 -- the bytes of some messages and of others
@@ -197,13 +198,8 @@ said_part fault place next s name a b c p same e f cut =
 pub said_all : (place next : ℕ) (s : Defined) (w w' : Option (List ℕ)) → slice_get (waiting s) place ≡ None →
     SaidTo place next s w w' → WritesMessages (unsaid_messages s next) w w'
 said_all place next s w w' e f =
-    let none : drop place (waiting s) ≡ [] = drop_none place (waiting s) (past place (waiting s) e) in
+    let none = nothing_after place (waiting s) e in
     subst (λ (fs : List Frame). WritesMessages fs w w')
     (sym (append-nil f.sent)
     ∙ ap (λ (ps : List (ℕ × Request)). f.sent ++ messages s.name (numbered_from next ps)) (sym none) ∙ f.all)
     f.prefix
-  where
-    past : (k : ℕ) (ps : List (ℕ × Request)) → slice_get ps k ≡ None → length ps ≤ k
-    past k [] h = omega arith
-    past zero (q ∷ ps) h = absurd cc
-    past (suc k) (q ∷ ps) h = let more = past k ps h in omega arith

@@ -21,7 +21,7 @@ use Rattle.bw_exchange.specs.Answering.{Answered, AnswersAll}
 use Rattle.bw_session.specs.ServerTurns.{ServerTurn}
 use Rattle.bw_exchange.specs.TurnRuns.{IsRun, run_without_faults}
 use Rattle.bw_engine.specs.ServerRuns.{all_done}
-use Rattle.bw_engine.specs.Ingesting.{answered_in, LeavesRun, Ingests, IngestsInPart, input_bytes}
+use Rattle.bw_engine.specs.Ingesting.{answered_in, LeavesRun, WentThrough, Ingests, IngestsInPart, input_bytes}
 use Rattle.bw_engine.specs.Ingesting.{GoWell, RunsAsDefined, ingested_end, input_frames, IsShort, ReportsNoFailure}
 use Rattle.bw_engine.specs.declared.ingest.Run.{Run}
 use Rattle.std.specs.List.{AllByRecursion}
@@ -114,6 +114,26 @@ module _ {X : Type 0} (S : StoreGhosts X) where
           files = λ n which. held_files limit (store_since S (S.contents store) new.stores.store)
               (kept_in new.sessions) x.later held (r.honest ∙ was_honest) n which;
         }
+
+  -- a server that began with this store answered these frames, and its store is the one that is left
+  pub runs_through : {Y : Type 0} (J : JournalGhosts Y) (quiet : (y : Y) → J.failures y ≡ 0) (limit : ℕ)
+      (store after : X) (old new : Server X Y S J) → old.stores.store ≡ store → old.limit ≡ limit →
+      HoldsBook S J (S.contents store) old [] → (answered : List Answered) →
+      AnswersAll (ServerTurn S J) old answered new → after ≡ new.stores.store →
+      WentThrough S J limit store answered after × (IsTrue (S.honest store) → LeavesRun S limit store answered after)
+  runs_through J quiet limit store after old new begun limited empty answered h left = (
+    record {
+      server = old;
+      store_is = begun;
+      limit_is = limited;
+      new = empty;
+      following = new;
+      by_server = h;
+      left = left;
+    },
+    λ honest. subst (LeavesRun S limit store answered) (sym left)
+        (leaves_run J quiet limit store old new begun limited empty honest answered h),
+  )
 
   pub ingests_nothing : {Y : Type 0} (J : JournalGhosts Y) (limit : ℕ) (store : X) (inputs : List (List ℕ)) →
       IngestsInPart S J limit store inputs store

@@ -1,8 +1,7 @@
 use Rattle.std.proofs.Common.{sym}
-use Rattle.bw_wire.specs.Pending.{Nothing, Fails}
-use Rattle.bw_wire.specs.Reasons.{reason_meaning}
+use Rattle.bw_wire.specs.Pending.{Nothing}
 use Rattle.bw_wire.specs.Replies.{reply_of}
-use Rattle.bw_engine.proofs.ReplyRuns.{reported_again, gives_shorter}
+use Rattle.bw_engine.proofs.ReplyRuns.{reported_again, failed_by, fault_again, gives_shorter}
 use Rattle.bw_engine.proofs.HeardPieces.{as_reported, hears-quiet, hears-one}
 use Rattle.bw_engine.proofs.hearing.hear_next.Goals as goal
 
@@ -32,17 +31,9 @@ returns-in-Ok-Some-clause-some c _ =
 
 pub returns-in-Err-clause-hears : goal.returns-in-Err-clause-hears
 returns-in-Err-clause-hears c =
-    let fault = c.in-Err._fault in
-    let reported = c.in-Err.ensures in
-    hears-quiet c.args.sender.now c.args.framer.now c.next_frame.new.self
-    (Fails (reason_meaning fault.reason) fault.offset) reported.reported tt reported.left
+    hears-quiet c.args.sender.now c.args.framer.now c.next_frame.new.self (failed_by c.in-Err._fault)
+    c.in-Err.ensures.reported tt c.in-Err.ensures.left
 
 pub returns-in-Err-clause-bad : goal.returns-in-Err-clause-bad
 returns-in-Err-clause-bad c =
-    let fault = c.in-Err._fault in
-    let reported = c.in-Err.ensures in (
-      reason_meaning fault.reason,
-      fault.offset,
-      reported_again c.args.framer.now c.next_frame.new.self (Fails (reason_meaning fault.reason) fault.offset)
-          (sym reported.reported) reported.left tt,
-    )
+    fault_again c.args.framer.now c.next_frame.new.self c.in-Err._fault c.in-Err.ensures.reported c.in-Err.ensures.left

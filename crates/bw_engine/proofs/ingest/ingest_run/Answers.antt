@@ -1,6 +1,6 @@
 use Rattle.std.proofs.Common.{refl, sym, ◌∙◌, ap, subst, ◌++◌, inl}
-use Rattle.bw_engine.specs.Ingesting.{IngestsInPart, LeavesRun, answered_in, input_bytes}
-use Rattle.bw_engine.proofs.StoreRuns.{honest_still, leaves_run, ingests_nothing, ingests_well}
+use Rattle.bw_engine.specs.Ingesting.{IngestsInPart, answered_in, input_bytes}
+use Rattle.bw_engine.proofs.StoreRuns.{honest_still, runs_through, ingests_nothing, ingests_well}
 use Rattle.bw_engine.proofs.ingest.ingest_run.Goals as goal
 
 pub returns-in-Err-clause-err : goal.returns-in-Err-clause-err
@@ -18,24 +18,11 @@ returns-in-Ok-serve_inputs-clause-honest g c =
 pub returns-in-Ok-serve_inputs-clause-ok : goal.returns-in-Ok-serve_inputs-clause-ok
 returns-in-Ok-serve_inputs-clause-ok g c =
     let h = c.in-Ok-serve_inputs.ensures.ok in
-    record {
-      went = h.went;
-      are = h.are;
-      store = record {
-        server = c.in-Ok.server;
-        store_is = c.in-Ok.ensures.store;
-        limit_is = c.in-Ok.ensures.limit;
-        new = c.in-Ok.ensures.book;
-        following = c.serve_inputs.new.server;
-        by_server = h.by_server;
-        left = c.into_store-store.ensures;
-      };
-      leaves = λ honest.
-          subst (LeavesRun g.S.TakeStore c.args.limit c.args.store (answered_in h.went))
-          (sym c.into_store-store.ensures)
-          (leaves_run g.S.TakeStore _ (λ y. refl) c.args.limit c.args.store c.in-Ok.server c.serve_inputs.new.server
-          c.in-Ok.ensures.store c.in-Ok.ensures.limit c.in-Ok.ensures.book honest (answered_in h.went) h.by_server);
-    }
+    let begun = c.in-Ok.ensures in
+    let ran = runs_through g.S.TakeStore _ (λ y. refl) c.args.limit c.args.store _ c.in-Ok.server
+    c.serve_inputs.new.server begun.store begun.limit begun.book (answered_in h.went) h.by_server
+    c.into_store-store.ensures in
+    record { went = h.went; are = h.are; store = ran.0; leaves = ran.1 }
 
 pub returns-in-Ok-serve_inputs-clause-in_order : goal.returns-in-Ok-serve_inputs-clause-in_order
 returns-in-Ok-serve_inputs-clause-in_order g c = λ honest well.
@@ -52,23 +39,8 @@ returns-in-Err-serve_inputs-clause-honest g c =
 pub returns-in-Err-serve_inputs-clause-err : goal.returns-in-Err-serve_inputs-clause-err
 returns-in-Err-serve_inputs-clause-err g c =
     let h = c.in-Err-serve_inputs.ensures.err in
-    record {
-      went = h.went;
-      next = h.next;
-      are = h.are;
-      store = inl (record {
-        server = c.in-Ok.server;
-        store_is = c.in-Ok.ensures.store;
-        limit_is = c.in-Ok.ensures.limit;
-        new = c.in-Ok.ensures.book;
-        following = c.serve_inputs.new.server;
-        by_server = h.by_server;
-        left = c.into_store.ensures;
-      });
-      leaves = λ honest.
-          subst (LeavesRun g.S.TakeStore c.args.limit c.args.store (answered_in h.went ++ h.next))
-          (sym c.into_store.ensures)
-          (leaves_run g.S.TakeStore _ (λ y. refl) c.args.limit c.args.store c.in-Ok.server c.serve_inputs.new.server
-          c.in-Ok.ensures.store c.in-Ok.ensures.limit c.in-Ok.ensures.book honest (answered_in h.went ++ h.next)
-          h.by_server);
-    }
+    let begun = c.in-Ok.ensures in
+    let ran = runs_through g.S.TakeStore _ (λ y. refl) c.args.limit c.args.store _ c.in-Ok.server
+    c.serve_inputs.new.server begun.store begun.limit begun.book (answered_in h.went ++ h.next) h.by_server
+    c.into_store.ensures in
+    record { went = h.went; next = h.next; are = h.are; store = inl ran.0; leaves = ran.1 }

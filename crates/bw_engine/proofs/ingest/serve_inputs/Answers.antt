@@ -1,38 +1,28 @@
-use Rattle.std.proofs.Common.{◌+◌, drop, arith, subst}
+use Rattle.std.proofs.Common.{arith}
 use Rattle.bw_layout.proofs.Exits.{on_err}
-use Rattle.bw_engine.specs.Ingesting.{ServesInPart, input_bytes}
-use Rattle.bw_engine.proofs.InputSteps.{inputs-more, inputs-part, inputs-whole, one_taken, around, one_pushed}
+use Rattle.bw_engine.proofs.InputSteps.{inputs-more, next_begun, next_lost, one_taken, one_pushed}
 use Rattle.bw_engine.proofs.ingest.serve_inputs.Goals as goal
 
 pub returns-in_err-replies-clause-err : goal.returns-in_err-replies-clause-err
 returns-in_err-replies-clause-err g c =
     on_err c.from_residual.result _
-    (subst (ServesInPart g.T.Turns.answers c.args.server.now c.serve_input.new.server)
-    (around (λ x. x.items) c.args.inputs.now c.loop-input.input-index c.input-item.result c.as_slice.result.now
-    (omega arith) c.input-item.is c.as_slice.ensures.value)
-    (inputs-part g.T.Turns.answers c.args.server.now c.loop-input.server c.serve_input.new.server _ c.loop-input.reported
-    c.as_slice.result.now (input_bytes (drop (c.loop-input.input-index + 1) c.args.inputs.now))
-    c.loop-input.invariant c.in_err-replies.ensures.err))
+    (next_begun g.T.Turns.answers (λ x. x.items) c.args.inputs.now c.loop-input.input-index c.input-item.result
+    c.as_slice.result.now c.args.server.now c.loop-input.server c.serve_input.new.server c.loop-input.reported
+    (omega arith) c.input-item.is c.as_slice.ensures.value c.loop-input.invariant c.in_err-replies.ensures.err)
 
 pub returns-in_err-push-clause-err : goal.returns-in_err-push-clause-err
 returns-in_err-push-clause-err g c =
     on_err c.from_residual-in_err-push.result _
-    (subst (ServesInPart g.T.Turns.answers c.args.server.now c.serve_input.new.server)
-    (around (λ x. x.items) c.args.inputs.now c.loop-input.input-index c.input-item.result c.as_slice.result.now
-    (omega arith) c.input-item.is c.as_slice.ensures.value)
-    (inputs-whole g.T.Turns.answers c.args.server.now c.loop-input.server c.serve_input.new.server _ c.loop-input.reported
-    c.as_slice.result.now _ _ (input_bytes (drop (c.loop-input.input-index + 1) c.args.inputs.now))
-    c.loop-input.invariant c.in_ok-replies.ensures.ok))
+    (next_lost g.T.Turns.answers (λ x. x.items) c.args.inputs.now c.loop-input.input-index c.input-item.result
+    c.as_slice.result.now _ _ c.args.server.now c.loop-input.server c.serve_input.new.server c.loop-input.reported
+    (omega arith) c.input-item.is c.as_slice.ensures.value c.loop-input.invariant c.in_ok-replies.ensures.ok)
 
 pub returns-in_err-push-2-clause-err : goal.returns-in_err-push-2-clause-err
 returns-in_err-push-2-clause-err g c =
     on_err c.from_residual-in_err-push-2.result _
-    (subst (ServesInPart g.T.Turns.answers c.args.server.now c.serve_input.new.server)
-    (around (λ x. x.items) c.args.inputs.now c.loop-input.input-index c.input-item.result c.as_slice.result.now
-    (omega arith) c.input-item.is c.as_slice.ensures.value)
-    (inputs-whole g.T.Turns.answers c.args.server.now c.loop-input.server c.serve_input.new.server _ c.loop-input.reported
-    c.as_slice.result.now _ _ (input_bytes (drop (c.loop-input.input-index + 1) c.args.inputs.now))
-    c.loop-input.invariant c.in_ok-replies.ensures.ok))
+    (next_lost g.T.Turns.answers (λ x. x.items) c.args.inputs.now c.loop-input.input-index c.input-item.result
+    c.as_slice.result.now _ _ c.args.server.now c.loop-input.server c.serve_input.new.server c.loop-input.reported
+    (omega arith) c.input-item.is c.as_slice.ensures.value c.loop-input.invariant c.in_ok-replies.ensures.ok)
 
 pub loop-input-preserved : goal.loop-input-preserved
 loop-input-preserved g c =

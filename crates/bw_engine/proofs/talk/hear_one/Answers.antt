@@ -1,12 +1,12 @@
 use Rattle.std.proofs.Common.{sym, ap, ◌∙◌}
 use Rattle.bw_model.specs.World.{Heard}
-use Rattle.bw_wire.specs.Pending.{Nothing, Fails}
-use Rattle.bw_wire.specs.Reasons.{reason_meaning}
+use Rattle.bw_wire.specs.Pending.{Nothing}
 use Rattle.bw_wire.specs.Replies.{reply_of}
 use Rattle.bw_engine.specs.Stops.{stop_by}
-use Rattle.bw_engine.proofs.ReplyRuns.{reported_again, gives_shorter}
+use Rattle.bw_engine.proofs.ReplyRuns.{reported_again, failed_by, fault_again, gives_shorter}
 use Rattle.bw_engine.proofs.HeardPieces.{as_reported}
-use Rattle.bw_engine.proofs.ListeningSteps.{these_quiet, these_one, stop_of_one}
+use Rattle.bw_engine.proofs.HeardReplies.{these_quiet, these_one}
+use Rattle.bw_engine.proofs.ListeningSteps.{stop_of_one}
 use Rattle.bw_engine.proofs.talk.hear_one.Goals as goal
 
 pub returns-in-Ok-None-clause-hears : goal.returns-in-Ok-None-clause-hears
@@ -37,17 +37,9 @@ returns-in-Ok-Some-clause-some c =
 
 pub returns-in-Err-clause-hears : goal.returns-in-Err-clause-hears
 returns-in-Err-clause-hears c =
-    let fault = c.in-Err._fault in
-    let reported = c.in-Err.ensures in
-    these_quiet c.args.sender.now c.args.framer.now c.next_frame.new.self
-    (Fails (reason_meaning fault.reason) fault.offset) reported.reported tt reported.left
+    these_quiet c.args.sender.now c.args.framer.now c.next_frame.new.self (failed_by c.in-Err._fault)
+    c.in-Err.ensures.reported tt c.in-Err.ensures.left
 
 pub returns-in-Err-clause-bad : goal.returns-in-Err-clause-bad
 returns-in-Err-clause-bad c =
-    let fault = c.in-Err._fault in
-    let reported = c.in-Err.ensures in (
-      reason_meaning fault.reason,
-      fault.offset,
-      reported_again c.args.framer.now c.next_frame.new.self (Fails (reason_meaning fault.reason) fault.offset)
-          (sym reported.reported) reported.left tt,
-    )
+    fault_again c.args.framer.now c.next_frame.new.self c.in-Err._fault c.in-Err.ensures.reported c.in-Err.ensures.left

@@ -1,5 +1,6 @@
 use Rattle.std.proofs.Common.{[], ◌∷◌, ◌++◌, ◌∙◌}
-use Rattle.bw_engine.proofs.ListeningSteps.{these_none, these_on, notes_none, notes_on, next_heard}
+use Rattle.bw_engine.proofs.HeardReplies.{these_none, these_on}
+use Rattle.bw_engine.proofs.ListeningSteps.{notes_none, notes_on, next_heard}
 use Rattle.bw_engine.proofs.talk.hear_whole.Goals as goal
 
 pub loop-stop-init : goal.loop-stop-init
