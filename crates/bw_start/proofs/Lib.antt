@@ -14,3 +14,4 @@ pub mod StartForms
 pub mod RecoverForms
 pub mod StartAnswers
 pub mod RestingForms
+pub mod SortedNames

@@ -70,33 +70,6 @@ distinct_push (y ∷ xs) x d none = (
   distinct_push xs x d.1 (λ c. none (suc c.0, omega (arith, c.1), c.2)),
 )
 
-some_name : (a b : List ℕ) → Some a ≡ Some b → a ≡ b
-some_name a b e = cc
-
--- a name was added to those before it
-pub added_name : (ending file : List ℕ) (before after : List (List ℕ)) (name : List ℕ) → IsTrue (is_name name) →
-    file ≡ name ++ ending → ((n : List ℕ) → IsTrue (is_name n) → file ≡ n ++ ending → Some name ≡ Some n) →
-    after ≡ before ++ name ∷ [] → AddsName ending file before after
-added_name ending file before after name fits e each pushed = record {
-  kept = λ n c. subst (λ (xs : List (List ℕ)). Contains xs n) (sym pushed) (Contains-append_left before (name ∷ []) n c);
-  next = λ n f en. subst (λ (xs : List (List ℕ)). Contains xs n) (sym pushed)
-      (Contains-append_right before (name ∷ []) n (0, omega arith, some_name name n (each n f en)));
-  only = λ n c. elim (Contains-append_cases before (name ∷ []) n
-      (subst (λ (xs : List (List ℕ)). Contains xs n) pushed c)) [
-        | inl among ↦ inl among
-        | inr last ↦ inr (subst (λ (x : List ℕ). IsTrue (is_name x) × (file ≡ x ++ ending)) (in_one name n last) (fits, e))
-      ];
-}
-
--- no other name was added
-pub same_names : (ending file : List ℕ) (before : List (List ℕ)) →
-    ((n : List ℕ) → IsTrue (is_name n) → file ≡ n ++ ending → Contains before n) → AddsName ending file before before
-same_names ending file before each = record {
-  kept = λ n c. c;
-  next = each;
-  only = λ n c. inl c;
-}
-
 -- one further in a list
 pub contains_step : (xs : List (List ℕ)) (i : ℕ) (d y : List ℕ) → i < length xs → Contains (take (i + 1) xs) y →
     Contains (take i xs) y ⊎ (get_or xs i d ≡ y)

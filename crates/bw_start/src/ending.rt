@@ -10,7 +10,8 @@ ghost use Rattle.bw_start.specs.FoundNames.{ListsFiles, AddsName};
 
 use bw_disk::{ReadFault, Volume};
 use bw_request::Name;
-use std::alloc::Global;
+use std::alloc::{AllocError, Global};
+use std::collections::BTreeSet;
 
 /// How the file of a name ends that is its journal.
 #[derive(Clone, Copy, Debug, PartialEq, Eq)]
@@ -51,28 +52,54 @@ pub fn list_files<E: Volume>(
     ensures each { IsTrue (E.honest notes.old) → IfOk result (λ names.
         ListsFiles (ending_text ending) folder.now (E.contents notes.old) names.items) }
 {
+    let names = names_with(alloc, notes, folder, ending)?;
+    in_order(alloc, names)
+}
+
+/// The same names as a set, so that each is compared with few of the others.
+fn names_with<E: Volume>(
+    alloc: Global,
+    notes: &mut E,
+    folder: &str,
+    ending: Ending,
+) -> Result<BTreeSet<Name>, ReadFault>
+    ensures notes { StaysWhole E.Disk notes.old notes.new }
+    ensures each { IsTrue (E.honest notes.old) → IfOk result (λ names.
+        ListsFiles (ending_text ending) folder.now (E.contents notes.old) names.keys) }
+{
     let Ok(listed) = notes.list(folder) else {
         return Err(ReadFault::Disk);
     };
-    let mut names = Vec::new(alloc);
+    let mut names = BTreeSet::new(alloc);
     for file in &listed {
         add_name(file.as_str(), ending, &mut names)?;
     }
     Ok(names)
 }
 
-/// Adds the name of this file, if it has this ending and its name isn't there yet.
-fn add_name(file: &str, ending: Ending, names: &mut Vec<Name>) -> Result<(), ReadFault>
-    ensures distinct { AreDistinct names.old.items → OnOk result (AreDistinct names.new.items) }
-    ensures added { OnOk result (AddsName (ending_text ending) file.now names.old.items names.new.items) }
+/// The names of a set in their order.
+fn in_order(alloc: Global, names: BTreeSet<Name>) -> Result<Vec<Name>, ReadFault>
+    ensures names { IfOk result (λ list. list.items ≡ names.keys) }
+    ensures distinct { IfOk result (λ list. AreDistinct list.items) }
+{
+    let list: Result<Vec<Name>, AllocError> = names.into_iter().collect(alloc);
+    match list {
+        Ok(list) => Ok(list),
+        Err(_error) => Err(ReadFault::Memory),
+    }
+}
+
+/// Adds the name of this file, if it has this ending.
+fn add_name(file: &str, ending: Ending, names: &mut BTreeSet<Name>) -> Result<(), ReadFault>
+    ensures added { OnOk result (AddsName (ending_text ending) file.now names.old.keys names.new.keys) }
 {
     let Some(name) = name_with(file, ending) else {
         return Ok(());
     };
-    if is_there(names, &name) {
-        return Ok(());
+    match names.insert(name) {
+        Ok(_added) => Ok(()),
+        Err(_refused) => Err(ReadFault::Memory),
     }
-    push_name(names, name)
 }
 
 /// Adds a name that isn't there.

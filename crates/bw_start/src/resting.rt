@@ -92,8 +92,9 @@ fn put_line(
 }
 
 /// Starts a server over what an earlier one left in a folder, as `start` does, if no name that rests
-/// stands in its way. With `rest`, names that rest go on resting: their files are left alone, and
-/// count neither among the 256 nor for the time that a start takes. Without it each is refused.
+/// stands in its way. With `rest`, names that rest go on resting: their files are left alone, unread,
+/// and they don't count among the 256; a start only lists them, and compares each with the names that
+/// don't rest. Without it each is refused.
 ///
 /// # Errors
 /// The fault, with both disks. `Rests` if names rest, and the server lets none rest; `Twice` if it
