@@ -15,7 +15,7 @@ use Rattle.bw_exchange.specs.declared.exchange.Exchange.{Exchange}
 use Rattle.bw_exchange.specs.declared.serving.ExchangeEnd.TheVariants as ends
 use Rattle.bw_exchange.specs.declared.step.StreamEnd.{StreamEnd}
 use Rattle.bw_exchange.specs.declared.step.StreamEnd.TheVariants as streams
-use Rattle.bw_exchange.specs.Answering.{Answered, replies_of}
+use Rattle.bw_exchange.specs.Answering.{Answered, AnswersAll, replies_of}
 use Rattle.bw_exchange.specs.Bounds.{most_before_answer}
 use Rattle.bw_exchange.specs.Done.{AnswersSome, DoesMore, HasDone, MustWait, last_of}
 use Rattle.bw_exchange.proofs.Going.{does_none, does_on}
@@ -30,7 +30,7 @@ use Rattle.bw_connections.specs.declared.connection.Phase.TheVariants as phases
 use Rattle.bw_ports.specs.declared.link.Link.{Ghosts as LinkGhosts}
 use Rattle.bw_connections.specs.Feeding.{Feeds, fault_to_drain, unless_cut}
 use Rattle.bw_connections.specs.Lives.{EndsDrained, EndsServed, IsNoSilence, IsUpToDate, DropsSent}
-use Rattle.bw_connections.specs.Lives.{Moved, ReadsLink, SendsWaiting, EndsWithFault}
+use Rattle.bw_connections.specs.Lives.{Moved, ReadsLink, SendsWaiting, EndsWithFault, Works}
 use Rattle.bw_connections.specs.Lives.{EndsAs, Proceeds, IsInPhase, IsOpen, IsConnectionOver, KeepsPeer, Lives, Settles, Steps}
 use Rattle.bw_connections.specs.Lives.{AnswersHeld, BeginsConnection, expired_at, expired_by, longest_drain, quantum, quiet_since}
 use Rattle.bw_connections.specs.Lives.{HadToWait, IsDry, IsFinished, IsFull, Learns, StillReported, ReportsFinish, WhereDrained}
@@ -507,6 +507,29 @@ pub served_aloud : (end : ConnectionEnd) → EndsServed end → IsNoSilence end
 served_aloud (Over end) h = tt
 served_aloud Idle h = h
 
+-- a quantum in which one that is served breaks off
+pub breaks_off : {L S : Type 0} (G : LinkGhosts L) (answers : S → Frame → List Reply → S → Type 0) (now : ℕ)
+    (end : ConnectionEnd) (c c' : Connection L) (s s' : S) (answered : List Answered) → c.phase ≡ phases.Serving →
+    AnswersAll answers s answered s' → length answered ≤ quantum → Proceeds G (Err end) c answered c' →
+    KeepsPeer G c.link c'.link → c'.number ≡ c.number → EndsServed end → Works G answers now (Err end) c c' s s'
+breaks_off G answers now end c c' s s' answered serving by_server most goes peer number served = record {
+  answered = answered;
+  by_server = by_server;
+  most = most;
+  goes = goes;
+  peer = peer;
+  number = number;
+  since = tt;
+  unended = tt;
+  moved = λ at. tt;
+  lets_go = λ fault at. tt;
+  learns = tt;
+  finished = λ was. tt;
+  no_silence = served_aloud end served;
+  served = λ at. served;
+  heard = λ fault at. absurd (not_served c fault at serving);
+}
+
 pub drained_aloud : {L : Type 0} (G : LinkGhosts L) (fault : WireFault) (link : L) (end : ConnectionEnd) →
     EndsDrained G fault link end → IsNoSilence end
 drained_aloud G fault link end h = subst IsNoSilence (sym h.0) tt
@@ -612,6 +635,17 @@ peer_then G x y z f g p at = g p (f p at)
 
 pub peer_same : {L : Type 0} (G : LinkGhosts L) (x y : L) → y ≡ x → KeepsPeer G x y
 peer_same G x y same p at = subst (λ l. G.calls_from l p) (sym same) at
+
+-- a step before which nothing was answered, and the answers after it
+pub answers_on : {L S : Type 0} (G : LinkGhosts L) (answers : S → Frame → List Reply → S → Type 0) (now : ℕ)
+    (a b c : Connection L) (s s' : S) → Steps G a [] b → KeepsPeer G a.link b.link → b.number ≡ a.number →
+    (h : AnswersHeld G answers now b c s s') →
+    Steps G a h.answered c × KeepsPeer G a.link c.link × (c.number ≡ a.number)
+answers_on G answers now a b c s s' goes peer number h = (
+  steps_on G a b c [] h.answered goes h.steps,
+  peer_then G a.link b.link c.link peer (peer_same G b.link c.link h.link),
+  h.number ∙ number,
+)
 
 -- the time, where no frame was answered, and where one was
 pub quiet_where_none : {L : Type 0} (now : ℕ) (c : Connection L) (answered : List Answered) → c.phase ≡ phases.Serving →

@@ -18,6 +18,7 @@ use Rattle.bw_connections.specs.Keeping.{HoldsConnectionAt, IsFree, HoldsConnect
 use Rattle.bw_connections.specs.Keeping.{AreApart}
 use Rattle.bw_connections.specs.Keeping.{HasLeft, KeepsConnections, Adds}
 use Rattle.bw_connections.specs.Lives.{Lives, IsConnectionOver, Steps}
+use Rattle.bw_connections.specs.Working.{ClosesAt}
 
 -- Frames under a number.
 
@@ -61,6 +62,14 @@ some_is x y e = ap (λ o. unwrap_or o x) e
 
 pub not_some : {X : Type 0} (x : X) → None ≡ Some x → ⊥
 not_some x e = cc
+
+-- what is at a place is one connection
+pub at_is : {X : Type 0} {place : Option (Option X)} (x y : X) → place ≡ Some (Some x) → place ≡ Some (Some y) → x ≡ y
+at_is x y a b = some_is x y (some_is (Some x) (Some y) (sym a ∙ b))
+
+-- or none
+pub not_at : {X : Type 0} {place : Option (Option X)} (x : X) → place ≡ Some None → place ≡ Some (Some x) → ⊥
+not_at x a b = not_some x (some_is None (Some x) (sym a ∙ b))
 
 -- a place that was taken from, and then put to
 pub sets_again : {X : Type 0} (xs ys zs : List X) (i : ℕ) (x y : X) → SetsPlace xs i x ys → SetsPlace ys i y zs → SetsPlace xs i y zs
@@ -340,6 +349,15 @@ pub adds_closed : {L : Type 0} (G : LinkGhosts L) (m m' : Connections L) (i : �
 adds_closed G m m' i c y n xs is next at s same ends over trace k =
     subst (λ (l : ℕ). KeepsConnections G m' (over ++ y ∷ []) (trace ++ tagged l xs)) is
     (keeps_closed G m m' i c y xs over trace next at s same ends k)
+
+-- none is over
+pub closes_none : {L : Type 0} (G : LinkGhosts L) (place : ℕ) (m m' : Connections L) → ClosesAt G place None m m'
+closes_none G place m m' = record {
+  left = tt;
+  no_silence = tt;
+  served = λ d at serving. tt;
+  heard = λ d fault at draining. tt;
+}
 
 -- nothing was answered, and none is over
 pub adds_none : {L : Type 0} (G : LinkGhosts L) (m m' : Connections L) →

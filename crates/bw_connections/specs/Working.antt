@@ -73,6 +73,18 @@ abbrev pub WakesAt : {L : Type 0} → ℕ → Bool → Bool → Connections L �
 WakesAt {L} place bytes room m m' = (c : Connection L) → HoldsConnectionAt m place c →
     (c' : Connection L) × HoldsConnectionAt m' place c' × Wakes bytes room c c'
 
+-- The connection that is over, if one is, is no longer at this place. It didn't end for silence; one
+-- that was served, at a bad frame only if it was cut off, since after every other one it is drained
+-- first; and one that was drained, once nothing more came.
+pub record ClosesAt {L : Type 0} (G : LinkGhosts L) (place : ℕ) (closed : Option (Closed L))
+    (m m' : Connections L) : Type 0 where
+  pub left : IfSome closed (λ x. IsEmpty place m')
+  pub no_silence : IfSome closed (λ x. IsNoSilence x.end)
+  pub served : (c : Connection L) → HoldsConnectionAt m place c → c.phase ≡ phases.Serving →
+      IfSome closed (λ x. EndsServed x.end)
+  pub heard : (c : Connection L) (fault : WireFault) → HoldsConnectionAt m place c →
+      c.phase ≡ phases.Draining fault → IfSome closed (λ x. EndsDrained G fault x.link x.end)
+
 -- At this time the server answered this many frames of the connection at this place, which may be
 -- over after them. It is over, or drained, once its stream has ended and all replies are sent.
 pub record WorksAt {L S : Type 0} (G : LinkGhosts L) (answers : S → Frame → List Reply → S → Type 0)
@@ -103,12 +115,4 @@ pub record WorksAt {L S : Type 0} (G : LinkGhosts L) (answers : S → Frame → 
   -- and where it is drained after it, the peer was informed that no more will be sent
   pub finished : (c c' : Connection L) → HoldsConnectionAt m place c → HoldsConnectionAt m' place c' →
       IsFinished G c → IsFinished G c'
-  -- The one that is over is no longer there. It didn't end for silence; one that was served, at a
-  -- bad frame only if it was cut off, since after every other one it is drained first; and one that
-  -- was drained, once nothing more came.
-  pub left : IfSome closed (λ x. IsEmpty place m')
-  pub no_silence : IfSome closed (λ x. IsNoSilence x.end)
-  pub served : (c : Connection L) → HoldsConnectionAt m place c → c.phase ≡ phases.Serving →
-      IfSome closed (λ x. EndsServed x.end)
-  pub heard : (c : Connection L) (fault : WireFault) → HoldsConnectionAt m place c →
-      c.phase ≡ phases.Draining fault → IfSome closed (λ x. EndsDrained G fault x.link x.end)
+  pub closes : ClosesAt G place closed m m'

@@ -45,10 +45,7 @@ works_by G outer answers place now closed m m' t t' s s' w by_server = record {
   lets_go = w.lets_go;
   learns = w.learns;
   finished = w.finished;
-  left = w.left;
-  no_silence = w.no_silence;
-  served = w.served;
-  heard = w.heard;
+  closes = w.closes;
 }
 
 module _ {T S : Type 0} (inner : T → S) (outer : T → Frame → List Reply → T → Type 0)

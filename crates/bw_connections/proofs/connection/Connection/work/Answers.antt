@@ -1,9 +1,9 @@
 use Rattle.std.proofs.Common.{rules, ◌≡◌, ◌∙◌, refl, [], arith, Err, Ok}
 use Rattle.bw_connections.specs.declared.connection.Phase.TheVariants as phases
 use Rattle.std.proofs.lemmas.Result.{err_from_is_err_and}
-use Rattle.bw_connections.proofs.Going.{goes_at_last, not_served, number_left, quiet_as, quiet_drained, quiet_on, steps_on}
-use Rattle.bw_connections.proofs.Going.{drained_on, finished_still, learns_on, open_left, peer_same, peer_then}
-use Rattle.bw_connections.proofs.Going.{drained_at, drained_no_silence, moved_on, served_aloud, served_no_silence}
+use Rattle.bw_connections.proofs.Going.{answers_on, goes_at_last, not_served, number_left, quiet_as, quiet_drained, quiet_on}
+use Rattle.bw_connections.proofs.Going.{drained_on, finished_still, learns_on, open_left, peer_then}
+use Rattle.bw_connections.proofs.Going.{breaks_off, drained_at, drained_no_silence, moved_on, served_no_silence}
 use Rattle.bw_connections.proofs.Going.{settled_served}
 use Rattle.bw_connections.proofs.connection.Connection.work.Goals as goal
 
@@ -38,54 +38,27 @@ returns-in_err-receive_piece g c =
     let a = err_from_is_err_and c.from_residual.result c.from_residual.ensures.1 in
     let old = c.args.self.now in
     let serving : old.phase ≡ phases.Serving = search rules in
-    rw (a.1, a.2) record {
-      answered = [];
-      by_server = refl;
-      most = omega arith;
-      goes = c.in_err-receive_piece.ensures.goes;
-      peer = c.in_err-receive_piece.ensures.peer;
-      number = c.in_err-receive_piece.ensures.stays.number;
-      since = tt;
-      unended = tt;
-      moved = λ at. tt;
-      lets_go = λ fault at. tt;
-      learns = tt;
-      finished = λ was. tt;
-      no_silence = served_aloud c.in_err-receive_piece.field-0.0 c.in_err-receive_piece.ensures.served;
-      served = λ at. c.in_err-receive_piece.ensures.served;
-      heard = λ fault at. absurd (not_served old fault at serving);
-    }
+    let broken = c.in_err-receive_piece.ensures in
+    rw (a.1, a.2) (breaks_off g.L.Link g.T.Turns.answers c.args.now c.in_err-receive_piece.field-0.0 old
+    c.receive_piece.new.self _ _ [] serving refl (omega arith) broken.goes broken.peer broken.stays.number
+    broken.served)
 
 pub returns-in_err-send_waiting : goal.returns-in_err-send_waiting
 returns-in_err-send_waiting g c =
     let a = err_from_is_err_and c.from_residual-in_err-send_waiting.result c.from_residual-in_err-send_waiting.ensures.1 in
     let h = c.answer_held.ensures in
     let old = c.args.self.now in
-    let fed = c.receive_piece.new.self in
-    let held = c.answer_held.new.self in
-    let first = c.in_ok-receive_piece.ensures in
-    let last = c.in_err-send_waiting.ensures in
     let serving : old.phase ≡ phases.Serving = search rules in
-    rw (a.1, a.2) record {
-      answered = h.answered;
-      by_server = h.by_server;
-      most = h.most;
-      goes = goes_at_last g.L.Link (Err c.in_err-send_waiting.field-0.0) old held c.send_waiting.new.self h.answered
-          (steps_on g.L.Link old fed held [] h.answered first.goes h.steps) last.goes;
-      peer = peer_then g.L.Link old.link held.link c.send_waiting.new.self.link
-          (peer_then g.L.Link old.link fed.link held.link first.peer (peer_same g.L.Link fed.link held.link h.link))
-          last.peer;
-      number = last.stays.number ∙ (h.number ∙ first.stays.number);
-      since = tt;
-      unended = tt;
-      moved = λ at. tt;
-      lets_go = λ fault at. tt;
-      learns = tt;
-      finished = λ was. tt;
-      no_silence = served_aloud c.in_err-send_waiting.field-0.0 last.served;
-      served = λ at. last.served;
-      heard = λ fault at. absurd (not_served old fault at serving);
-    }
+    let first = c.in_ok-receive_piece.ensures in
+    let on = answers_on g.L.Link g.T.Turns.answers c.args.now old c.receive_piece.new.self c.answer_held.new.self _ _
+    first.goes first.peer first.stays.number h in
+    let last = c.in_err-send_waiting.ensures in
+    rw (a.1, a.2) (breaks_off g.L.Link g.T.Turns.answers c.args.now c.in_err-send_waiting.field-0.0 old
+    c.send_waiting.new.self _ _ h.answered serving h.by_server h.most
+    (goes_at_last g.L.Link (Err c.in_err-send_waiting.field-0.0) old c.answer_held.new.self c.send_waiting.new.self
+    h.answered on.0 last.goes)
+    (peer_then g.L.Link old.link c.answer_held.new.self.link c.send_waiting.new.self.link on.1 last.peer)
+    (last.stays.number ∙ on.2) last.served)
 
 pub returns : goal.returns
 returns g c =
@@ -96,6 +69,8 @@ returns g c =
     let held = c.answer_held.new.self in
     let sent = c.send_waiting.new.self in
     let first = c.in_ok-receive_piece.ensures in
+    let on = answers_on g.L.Link g.T.Turns.answers c.args.now old fed held _ _ first.goes first.peer first.stays.number
+    h in
     let last = c.in_ok-send_waiting.ensures in
     let serving : old.phase ≡ phases.Serving = search rules in
     record {
@@ -103,14 +78,11 @@ returns g c =
       by_server = h.by_server;
       most = h.most;
       goes = goes_at_last g.L.Link c.settle.result old sent c.settle.new.self h.answered
-          (goes_at_last g.L.Link (Ok tt) old held sent h.answered
-          (steps_on g.L.Link old fed held [] h.answered first.goes h.steps) last.goes) s.goes;
+          (goes_at_last g.L.Link (Ok tt) old held sent h.answered on.0 last.goes) s.goes;
       peer = peer_then g.L.Link old.link sent.link c.settle.new.self.link
-          (peer_then g.L.Link old.link held.link sent.link
-          (peer_then g.L.Link old.link fed.link held.link first.peer (peer_same g.L.Link fed.link held.link h.link))
-          last.peer) s.peer;
+          (peer_then g.L.Link old.link held.link sent.link on.1 last.peer) s.peer;
       number = number_left c.args.now c.settle.result sent c.settle.new.self s.settles
-          ∙ (last.stays.number ∙ (h.number ∙ first.stays.number));
+          ∙ (last.stays.number ∙ on.2);
       since = quiet_as c.args.now c.settle.new.self.since c.settle.new.self.phase h.answered fed old c.settle.result
           first.stays.phase first.stays.since
           (quiet_on c.args.now fed h.answered (first.stays.phase ∙ serving) sent c.settle.new.self c.settle.result

@@ -3,7 +3,8 @@ use Rattle.bw_exchange.specs.Answering.{Answered}
 use Rattle.bw_connections.specs.declared.connection.Phase.TheVariants as phases
 use Rattle.bw_connections.specs.Lives.{EndsDrained, EndsServed, IsNoSilence, IsOpen, IsConnectionOver, KeepsPeer, Lives}
 use Rattle.bw_connections.proofs.Going.{finished_at, learns_at, let_go_at, moved_at, quiet_at}
-use Rattle.bw_connections.proofs.Standing.{adds_closed, adds_none, adds_on, keeps_free, not_some, sets_again, some_is}
+use Rattle.bw_connections.proofs.Standing.{adds_closed, adds_none, adds_on, at_is, closes_none, keeps_free, not_at}
+use Rattle.bw_connections.proofs.Standing.{sets_again}
 use Rattle.bw_connections.proofs.connections.Connections.work.Goals as goal
 
 pub returns-in_default : goal.returns-in_default
@@ -14,23 +15,20 @@ returns-in_default g c =
       answered = [];
       by_server = refl;
       most = omega arith;
-      is_its = λ d at. absurd (not_some d (some_is None (Some d) (sym t.was ∙ at)));
+      is_its = λ d at. absurd (not_at d t.was at);
       ends_its = λ d at. tt;
-      existed = λ d at. absurd (not_some d (some_is None (Some d) (sym t.sets.there ∙ at)));
+      existed = λ d at. absurd (not_at d t.sets.there at);
       nobody = λ empty. (refl, refl);
       adds = adds_none g.L.Link c.args.self.now _ (λ over trace.
           keeps_free g.L.Link c.args.self.now _ c.args.place over trace refl t.was t.sets);
       others = (record { others = t.sets.elsewhere; count = t.count }, refl, refl);
-      unended = λ d at. absurd (not_some d (some_is None (Some d) (sym t.sets.there ∙ at)));
-      since = λ d e at there. absurd (not_some d (some_is None (Some d) (sym t.was ∙ at)));
-      moved = λ d e at. absurd (not_some d (some_is None (Some d) (sym t.was ∙ at)));
-      lets_go = λ d e fault at. absurd (not_some d (some_is None (Some d) (sym t.was ∙ at)));
-      learns = λ d e at. absurd (not_some d (some_is None (Some d) (sym t.was ∙ at)));
-      finished = λ d e at. absurd (not_some d (some_is None (Some d) (sym t.was ∙ at)));
-      left = tt;
-      no_silence = tt;
-      served = λ d at serving. tt;
-      heard = λ d fault at draining. tt;
+      unended = λ d at. absurd (not_at d t.sets.there at);
+      since = λ d e at there. absurd (not_at d t.was at);
+      moved = λ d e at. absurd (not_at d t.was at);
+      lets_go = λ d e fault at. absurd (not_at d t.was at);
+      learns = λ d e at. absurd (not_at d t.was at);
+      finished = λ d e at. absurd (not_at d t.was at);
+      closes = closes_none g.L.Link c.args.place c.args.self.now _;
     }
 
 pub returns-in-Ok : goal.returns-in-Ok
@@ -46,40 +44,30 @@ returns-in-Ok g c =
       answered = w.answered;
       by_server = w.by_server;
       most = w.most;
-      is_its = λ d at. ap (λ x. x.number) (sym (some_is was d (some_is (Some was) (Some d) (sym t.was ∙ at))));
+      is_its = λ d at. ap (λ x. x.number) (sym (at_is was d t.was at));
       ends_its = λ d at. tt;
       existed = λ d at. (
         was,
         t.was,
-        ap (λ x. x.number) (sym (some_is new d (some_is (Some new) (Some d)
-            (sym sets.there ∙ at)))) ∙ w.number,
-        subst (λ x. KeepsPeer g.L.Link was.link x.link)
-            (some_is new d (some_is (Some new) (Some d) (sym sets.there ∙ at))) w.peer,
+        ap (λ x. x.number) (sym (at_is new d sets.there at)) ∙ w.number,
+        subst (λ x. KeepsPeer g.L.Link was.link x.link) (at_is new d sets.there at) w.peer,
       );
       nobody = λ empty. absurd (empty was t.was);
       adds = adds_on g.L.Link c.args.self.now _ c.args.place was new was.number w.answered refl refl t.was sets w.number
           w.goes;
       others = (record { others = sets.elsewhere; count = c.put_at.ensures.count ∙ t.count }, refl, refl);
-      unended = λ d at. subst IsOpen (some_is new d (some_is (Some new) (Some d) (sym sets.there ∙ at))) w.unended;
-      since = λ d e at there. quiet_at c.args.now was d new e w.answered
-          (some_is was d (some_is (Some was) (Some d) (sym t.was ∙ at)))
-          (some_is new e (some_is (Some new) (Some e) (sym sets.there ∙ there))) w.since;
-      moved = λ d e at there. moved_at g.L.Link was d new e w.answered
-          (some_is was d (some_is (Some was) (Some d) (sym t.was ∙ at)))
-          (some_is new e (some_is (Some new) (Some e) (sym sets.there ∙ there))) w.moved;
-      lets_go = λ d e fault at there. let_go_at g.L.Link fault was d new e
-          (some_is was d (some_is (Some was) (Some d) (sym t.was ∙ at)))
-          (some_is new e (some_is (Some new) (Some e) (sym sets.there ∙ there))) (w.lets_go fault);
-      learns = λ d e at there. learns_at g.L.Link was d new e
-          (some_is was d (some_is (Some was) (Some d) (sym t.was ∙ at)))
-          (some_is new e (some_is (Some new) (Some e) (sym sets.there ∙ there))) w.learns;
-      finished = λ d e at there. finished_at g.L.Link was d new e
-          (some_is was d (some_is (Some was) (Some d) (sym t.was ∙ at)))
-          (some_is new e (some_is (Some new) (Some e) (sym sets.there ∙ there))) w.finished;
-      left = tt;
-      no_silence = tt;
-      served = λ d at serving. tt;
-      heard = λ d fault at draining. tt;
+      unended = λ d at. subst IsOpen (at_is new d sets.there at) w.unended;
+      since = λ d e at there. quiet_at c.args.now was d new e w.answered (at_is was d t.was at)
+          (at_is new e sets.there there) w.since;
+      moved = λ d e at there. moved_at g.L.Link was d new e w.answered (at_is was d t.was at)
+          (at_is new e sets.there there) w.moved;
+      lets_go = λ d e fault at there. let_go_at g.L.Link fault was d new e (at_is was d t.was at)
+          (at_is new e sets.there there) (w.lets_go fault);
+      learns = λ d e at there. learns_at g.L.Link was d new e (at_is was d t.was at)
+          (at_is new e sets.there there) w.learns;
+      finished = λ d e at there. finished_at g.L.Link was d new e (at_is was d t.was at)
+          (at_is new e sets.there there) w.finished;
+      closes = closes_none g.L.Link c.args.place c.args.self.now _;
     }
 
 pub returns-in-Err : goal.returns-in-Err
@@ -93,32 +81,32 @@ returns-in-Err g c =
       answered = w.answered;
       by_server = w.by_server;
       most = w.most;
-      is_its = λ d at. ap (λ x. x.number) (sym (some_is was d (some_is (Some was) (Some d) (sym t.was ∙ at))));
+      is_its = λ d at. ap (λ x. x.number) (sym (at_is was d t.was at));
       ends_its = λ d at.
-          let one : was ≡ d = some_is was d (some_is (Some was) (Some d) (sym t.was ∙ at)) in (
+          let one : was ≡ d = at_is was d t.was at in (
             (ap (λ y. y.number) is ∙ w.number) ∙ ap (λ x. x.number) one,
             subst (λ x. KeepsPeer g.L.Link x.link c.close.result.link) one
                 (subst (λ y. KeepsPeer g.L.Link was.link y.link) (sym is) w.peer),
           );
-      existed = λ d at. absurd (not_some d (some_is None (Some d) (sym t.sets.there ∙ at)));
+      existed = λ d at. absurd (not_at d t.sets.there at);
       nobody = λ empty. absurd (empty was t.was);
       adds = adds_closed g.L.Link c.args.self.now _ c.args.place was c.close.result was.number w.answered refl refl t.was
           t.sets (ap (λ y. y.number) is ∙ w.number)
           (subst (λ y. (before : List Answered) → Lives g.L.Link was before →
           IsConnectionOver g.L.Link y.end y.link (before ++ w.answered)) (sym is) w.goes);
       others = (record { others = t.sets.elsewhere; count = t.count }, refl, refl);
-      unended = λ d at. absurd (not_some d (some_is None (Some d) (sym t.sets.there ∙ at)));
-      since = λ d e at there. absurd (not_some e (some_is None (Some e) (sym t.sets.there ∙ there)));
-      moved = λ d e at there. absurd (not_some e (some_is None (Some e) (sym t.sets.there ∙ there)));
-      lets_go = λ d e fault at there. absurd (not_some e (some_is None (Some e) (sym t.sets.there ∙ there)));
-      learns = λ d e at there. absurd (not_some e (some_is None (Some e) (sym t.sets.there ∙ there)));
-      finished = λ d e at there. absurd (not_some e (some_is None (Some e) (sym t.sets.there ∙ there)));
-      left = λ d at. absurd (not_some d (some_is None (Some d) (sym t.sets.there ∙ at)));
-      no_silence = subst (λ y. IsNoSilence y.end) (sym is) w.no_silence;
-      served = λ d at serving. subst (λ y. EndsServed y.end) (sym is)
-          (w.served (subst (λ x. x.phase ≡ phases.Serving)
-          (sym (some_is was d (some_is (Some was) (Some d) (sym t.was ∙ at)))) serving));
-      heard = λ d fault at draining. subst (λ y. EndsDrained g.L.Link fault y.link y.end) (sym is)
-          (w.heard fault (subst (λ x. x.phase ≡ phases.Draining fault)
-          (sym (some_is was d (some_is (Some was) (Some d) (sym t.was ∙ at)))) draining));
+      unended = λ d at. absurd (not_at d t.sets.there at);
+      since = λ d e at there. absurd (not_at e t.sets.there there);
+      moved = λ d e at there. absurd (not_at e t.sets.there there);
+      lets_go = λ d e fault at there. absurd (not_at e t.sets.there there);
+      learns = λ d e at there. absurd (not_at e t.sets.there there);
+      finished = λ d e at there. absurd (not_at e t.sets.there there);
+      closes = record {
+        left = λ d at. absurd (not_at d t.sets.there at);
+        no_silence = subst (λ y. IsNoSilence y.end) (sym is) w.no_silence;
+        served = λ d at serving. subst (λ y. EndsServed y.end) (sym is)
+            (w.served (subst (λ x. x.phase ≡ phases.Serving) (sym (at_is was d t.was at)) serving));
+        heard = λ d fault at draining. subst (λ y. EndsDrained g.L.Link fault y.link y.end) (sym is)
+            (w.heard fault (subst (λ x. x.phase ≡ phases.Draining fault) (sym (at_is was d t.was at)) draining));
+      };
     }

@@ -16,8 +16,8 @@ returns-in-Some g c =
     c.work.new.server.server
     c.args.out.now c.end.new.out c.args.faults.now c.end.new.faults w (adds_still g.L.Link m)
     (stays_still c.args.place m) (existed_still c.args.place m) end.connections end.peer_slots
-    (λ d at. ((λ idles. absurd (spoken_not_idle c.in-Some.closed.end idles w.works.no_silence)), tt))
-    (λ d at. absurd (w.works.left d at))
+    (λ d at. ((λ idles. absurd (spoken_not_idle c.in-Some.closed.end idles w.works.closes.no_silence)), tt))
+    (λ d at. absurd (w.works.closes.left d at))
     (counts_on g.O.Sink c.args.self.now mid c.end.new.self (c.in-Some.closed ∷ []) c.args.out.now c.end.new.out w.ended
     end.counts)
     (w.works.ends_its, (λ empty. not_some c.in-Some.closed (sym (w.works.nobody empty).1)), end.logs)
