@@ -19,7 +19,7 @@ file_of_open : IsLeftFile None (made false (log_done 1).admitted 1) example_limi
 unfolding computing
 file_of_open = record { long = omega arith; samples = refl; short = omega arith }
 
-file_of_both : IsLeftFile None (made false (log_done 2).admitted 2) example_limit (Some small_file)
+pub file_of_both : IsLeftFile None (made false (log_done 2).admitted 2) example_limit (Some small_file)
 unfolding computing
 file_of_both = record { long = omega arith; samples = refl; short = omega arith }
 

@@ -8,6 +8,15 @@ pub mod KilledServers
 pub mod KilledFolders
 pub mod CutAnswers
 pub mod LeftPaths
+pub mod BooksWithout
+pub mod NamesAtRest
+pub mod RestingPaths
+pub mod RestingStops
+pub mod LeftRests
+pub mod NewFolders
+pub mod FolderVerdicts
+pub mod RestingLives
+pub mod ExamplesOfRest
 pub mod RestingStarts
 pub mod ExamplesOfLeft
 pub mod StoppedWorlds

@@ -43,13 +43,13 @@ turns_true existed book (t ∷ ts) name n v is fits (inr later) =
     later
 
 -- through a stop
-through_stop : (existed : List ℕ → Bool) (book left : Book) (name : List ℕ) (n : ℕ) (v : Verdict) →
+pub through_stop : (existed : List ℕ → Bool) (book left : Book) (name : List ℕ) (n : ℕ) (v : Verdict) →
     GoesAhead book left → HasVerdict existed book name n v → HasVerdict existed left name n v
 through_stop existed book left name n v ahead h =
     let more = ahead_keeps (existed name) book left name n ahead h.0 in (more.0, h.1 ∙ sym more.1)
 
 -- through a start
-through_start : (existed : List ℕ → Bool) (book : Book) (name : List ℕ) (n : ℕ) (v : Verdict) →
+pub through_start : (existed : List ℕ → Bool) (book : Book) (name : List ℕ) (n : ℕ) (v : Verdict) →
     HasVerdict existed book name n v → HasVerdict existed (cut_book book) name n v
 through_start existed book name n v h =
     let cut = logs_cut book name in

@@ -48,7 +48,7 @@ take_ends (suc d) (None ∷ xs) h = absurd (omega (arith, h))
 take_ends (suc d) (Some x ∷ xs) h = take_ends d xs (omega (arith, h))
 
 -- a log of which all is done is cut to itself
-cut_same : (log : Log) → length log.admitted ≤ log.done → cut_log log ≡ log
+pub cut_same : (log : Log) → length log.admitted ≤ log.done → cut_log log ≡ log
 cut_same log all = ap (λ (xs : List (Option Request)). record { admitted = xs; done = log.done })
     (take_all log.done log.admitted all)
 

@@ -2,6 +2,10 @@ pub mod LeftFolders
 pub mod StoppedLives
 pub mod StoppedTurns
 pub mod KilledFolders
+pub mod NewFolders
+pub mod RestingStops
+pub mod RestingLives
+pub mod ExamplesOfRest
 pub mod ExamplesOfLeft
 pub mod StoppedWorlds
 pub mod ServedWorlds

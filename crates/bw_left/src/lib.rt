@@ -3,13 +3,17 @@
 #![tactic(auto)]
 
 ghost use Rattle.bw_left.specs.ExamplesOfLeft.{CutNoteExample, WholeNoteExample};
+ghost use Rattle.bw_left.specs.ExamplesOfRest.{RestingFolderExample};
 ghost use Rattle.bw_left.specs.ExamplesOfStops.{StoppedTurnExample};
 ghost use Rattle.bw_left.specs.KilledFolders.{KilledFoldersAreLeft};
 ghost use Rattle.bw_left.specs.LeftFolders.{CutAnswersAreNotLeft, CutBooksAreQuiet};
 ghost use Rattle.bw_left.specs.LeftFolders.{LaterBooksForgetNothing};
 ghost use Rattle.bw_left.specs.LeftFolders.{LeftNamesAreInFolders, OrderedServersAreLeft};
 ghost use Rattle.bw_left.specs.LeftFolders.{QuietServersAreLeft};
+ghost use Rattle.bw_left.specs.NewFolders.{EmptyFoldersAreNew, NewFoldersAreLeft};
 ghost use Rattle.bw_left.specs.RestingFolders.{RestingStartsHoldFolders};
+ghost use Rattle.bw_left.specs.RestingLives.{RestingVerdictsOutliveStops};
+ghost use Rattle.bw_left.specs.RestingStops.{LeftNamesMayWake, RestingServersAreLeft};
 ghost use Rattle.bw_left.specs.ServedWorlds.{TurnsAreOfWorlds, DeathsAreSteps, StopsAreSteps};
 ghost use Rattle.bw_left.specs.ServedWorlds.{StartsAreSteps};
 ghost use Rattle.bw_left.specs.StoppedLives.{VerdictsOutliveStops};
@@ -68,7 +72,7 @@ pub fn law_stopped_worlds()
 /// Real servers take the steps of such a world, whichever of their calls fail. Each turn of a server
 /// that holds the world's book is one of the world; a stop within a turn, or between turns, is a step
 /// too, and what it leaves is what `start` takes as its premise. The server that `start` makes over
-/// that, by what it states, is the next one's, if its disks are honest.
+/// that, by what it states over honest disks, is the next one's.
 pub fn law_served_worlds<D: Volume, E: Volume>()
     ensures turns { TurnsAreOfWorlds ⟦<FolderStore<D> as TakeStore>⟧
         ⟦<FolderJournal<E> as Journal>⟧ }
@@ -79,10 +83,36 @@ pub fn law_served_worlds<D: Volume, E: Volume>()
         ⟦<FolderJournal<E> as Journal>⟧ }
 {}
 
-/// A server that is started over a folder in which names rest, and lets them rest, holds with what
-/// rests the book of the folder: from every book that an earlier one may have left there.
+/// A server that is started over a folder in which names rest, and lets them rest, over honest disks,
+/// holds with what rests the book of the folder: from every book that an earlier one may have left
+/// there.
 pub fn law_resting_starts<D: Volume, E: Volume>()
     ensures { RestingStartsHoldFolders D.Disk E.Disk ⟦<FolderStore<D> as TakeStore>⟧
+        ⟦<FolderJournal<E> as Journal>⟧ ⟦<RestingFolderJournal<E> as Journal>⟧ }
+{}
+
+/// A server whose names rest leaves, wherever it is stopped, a folder in which the next one with names
+/// that rest is started: from its book, or from one in which numbers that waited are done. What is
+/// asked of the server is in `StopsResting`, with who says it. In such a folder each name that rests
+/// has no other journal, so that none stands in the next server's way, and may wake.
+pub fn law_resting_stops<D: Volume, E: Volume>()
+    ensures left { RestingServersAreLeft D.Disk E.Disk ⟦<FolderStore<D> as TakeStore>⟧
+        ⟦<RestingFolderJournal<E> as Journal>⟧ }
+    ensures wake { LeftNamesMayWake }
+{}
+
+/// A folder in which no server has run is as one left it to which no message came, whether names may
+/// rest or not: so a first start asks for no earlier server.
+pub fn law_new_folders()
+    ensures new { NewFoldersAreLeft }
+    ensures empty { EmptyFoldersAreNew }
+{}
+
+/// Servers whose names rest follow one another over a folder, each stopped wherever it was, over honest
+/// stores and journals: every verdict that any of them gave is that of a number that is done in the
+/// last book.
+pub fn law_resting_lives<D: Volume, E: Volume>()
+    ensures { RestingVerdictsOutliveStops D.Disk E.Disk ⟦<FolderStore<D> as TakeStore>⟧
         ⟦<FolderJournal<E> as Journal>⟧ ⟦<RestingFolderJournal<E> as Journal>⟧ }
 {}
 
@@ -96,4 +126,9 @@ pub fn examples_of_left()
 /// A worked row: a server that stops in the turn of an OPEN, and the next one.
 pub fn examples_of_stops()
     ensures { StoppedTurnExample }
+{}
+
+/// A worked row: what is left of a folder in which one name rests and one take is open.
+pub fn examples_of_rest()
+    ensures { RestingFolderExample }
 {}
