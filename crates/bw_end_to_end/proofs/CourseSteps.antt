@@ -10,7 +10,7 @@ use Rattle.bw_engine.specs.Hears.{hear_all}
 use Rattle.bw_ports.specs.declared.dial.Dial.{Ghosts as DialGhosts}
 use Rattle.bw_ports.specs.declared.pause.Pause.{Ghosts as PauseGhosts}
 use Rattle.bw_send.proofs.OfferSteps.{taken}
-use Rattle.bw_send.proofs.RoundSteps.{all_heard}
+use Rattle.bw_engine.proofs.HeardSenders.{all_heard}
 use Rattle.bw_upload.specs.Chains.{Chain}
 use Rattle.bw_upload.specs.Conversing.{Conversing, TalkEvent, TalkStep, Says, Breaks, Hears}
 use Rattle.bw_upload.specs.Courses.{Course, CourseStep, UploadEvent, Fills, Misses, Makes, Talks, Leaves}

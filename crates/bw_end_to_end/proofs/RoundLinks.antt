@@ -27,7 +27,7 @@ use Rattle.bw_ports.specs.declared.dial.Dial.{Ghosts as DialGhosts}
 use Rattle.bw_ports.specs.declared.dial.Duplex.{Duplex}
 use Rattle.bw_send.specs.RoundsMade.{IsExchange, IsRound, AreRounds, heard_over}
 use Rattle.bw_send.specs.SendState.{Sending, IsSettled, hear_in, new_sending, offer_all, offer_more, offer_next, unoffered}
-use Rattle.bw_send.proofs.RoundSteps.{all_heard}
+use Rattle.bw_engine.proofs.HeardSenders.{all_heard}
 use Rattle.std.proofs.Math.Seq.{drop-append_seam}
 use Rattle.bw_send.proofs.OfferSteps.{taken, refused, all_taken, all_refused}
 use Rattle.bw_delivery.specs.Deliveries.{LinkBytes, IsPartOf, SaysRequests, HearsVerdict, HeardOverLinks}

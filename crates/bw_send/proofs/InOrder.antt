@@ -5,12 +5,11 @@ use Rattle.std.proofs.Common.{take, drop, Option, Some, None, refl, sym, ◌∙�
 use Rattle.std.proofs.Common.{append_assoc, append-nil, length-append}
 use Rattle.std.proofs.Math.Seq.{drop-append_seam}
 use Rattle.std.specs.Prelude.{count_by, ◌==◌, if◌then◌else◌}
-use Rattle.std.proofs.lemmas.Bool.{false≢true, eqb-true}
+use Rattle.std.proofs.lemmas.Bool.{eqb-true}
 use Rattle.std.proofs.lemmas.List.{length-take}
 use Rattle.std.proofs.lemmas.List.Sums.{count_by-le-length, sum_by-cons}
 use Rattle.bw_model.specs.Bytes.{at, first_free}
-use Rattle.bw_model.specs.Take.{Request, Verdict, Stored, is_stored, NameTaken, AlreadyOpen, NotOpen, Closed, BadFormat}
-use Rattle.bw_model.specs.Take.{BadBlock, BadMarker, DuplicateMarker, TooManyMarkers, BadField, WrongTotal}
+use Rattle.bw_model.specs.Take.{Request, Verdict, Stored, is_stored}
 use Rattle.bw_model.specs.Replies.{Reply}
 use Rattle.bw_model.specs.World.{Sender as Defined, OfferFault, offer_fault, is_some_stored, stored}
 use Rattle.bw_stream.specs.declared.sink.Sink.{Ghosts as Writer}
@@ -20,7 +19,7 @@ use Rattle.bw_send.specs.SendState.{Sending, IsSettled, hear_in, new_sending, of
 use Rattle.bw_console.specs.declared.exit.Exit.TheVariants.{Done, Refused, Device}
 use Rattle.bw_send.specs.SendState.{unoffered, OffersInOrder, EachIsStored, exit_for_sender, has_refused}
 use Rattle.bw_send.proofs.OfferSteps.{taken, refused, all_taken, all_refused}
-use Rattle.bw_send.proofs.RoundSteps.{all_heard}
+use Rattle.bw_engine.proofs.HeardSenders.{all_heard, stored_is}
 use Rattle.bw_ports.specs.declared.dial.Dial.{Ghosts as DialGhosts}
 
 -- what was offered, and then these, are the requests of the input
@@ -111,20 +110,6 @@ first_free-le : (vs : List (Option Verdict)) → first_free vs ≤ length vs
 first_free-le [] = omega arith
 first_free-le (None ∷ vs) = omega arith
 first_free-le (Some v ∷ vs) = let h : first_free vs ≤ length vs = first_free-le vs in omega arith
-
-stored_is : (v : Verdict) → is_stored v ≡ true → v ≡ Stored
-stored_is Stored e = refl
-stored_is NameTaken e = absurd (false≢true e)
-stored_is AlreadyOpen e = absurd (false≢true e)
-stored_is NotOpen e = absurd (false≢true e)
-stored_is Closed e = absurd (false≢true e)
-stored_is BadFormat e = absurd (false≢true e)
-stored_is BadBlock e = absurd (false≢true e)
-stored_is BadMarker e = absurd (false≢true e)
-stored_is DuplicateMarker e = absurd (false≢true e)
-stored_is TooManyMarkers e = absurd (false≢true e)
-stored_is BadField e = absurd (false≢true e)
-stored_is WrongTotal e = absurd (false≢true e)
 
 -- how many of the first k are stored
 abbrev count : ℕ → List (Option Verdict) → ℕ

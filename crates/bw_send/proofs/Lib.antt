@@ -4,3 +4,4 @@ pub mod RequestLemmas
 pub mod RoundSteps
 pub mod ReportedLinks
 pub mod InOrder
+pub mod Printed

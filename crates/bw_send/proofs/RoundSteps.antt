@@ -1,12 +1,11 @@
 -- What rounds leave, one by one.
-use Rattle.std.proofs.Common.{◌≡◌, ◌≢◌, ◌⊎◌, ℕ, ◌<◌, Bool, true, false, List, [], ◌∷◌, ◌++◌, length, refl, sym}
-use Rattle.std.proofs.Common.{◌∙◌, ap, subst, Option, Some, None, Result, Ok, Err, OnOk, inl, inr, cond}
+use Rattle.std.proofs.Common.{◌≡◌, ◌≢◌, ◌⊎◌, ℕ, ◌<◌, true, false, List, [], ◌∷◌, ◌++◌, length, refl, sym}
+use Rattle.std.proofs.Common.{◌∙◌, ap, subst, Option, Some, None, Result, Ok, Err, OnOk, inl, inr}
 use Rattle.std.specs.Prelude.{is_none, option_map}
 use Rattle.std.specs.Borrow.{Bor}
 use Rattle.bw_model.specs.Take.{Request}
-use Rattle.bw_model.specs.Bytes.{put}
-use Rattle.bw_model.specs.Replies.{Reply, Judged, Noticed, Refused}
-use Rattle.bw_model.specs.World.{Sender as Defined, hear, is_counted}
+use Rattle.bw_model.specs.Replies.{Reply}
+use Rattle.bw_model.specs.World.{Sender as Defined}
 use Rattle.bw_stream.specs.declared.sink.Sink.{Ghosts as Writer}
 use Rattle.bw_stream.specs.declared.source.Source.{Ghosts as Reader}
 use Rattle.bw_sender.specs.Offers.{lent_pending}
@@ -15,6 +14,7 @@ use Rattle.bw_sender.specs.declared.sender.Sender.{Sender}
 use Rattle.bw_engine.specs.Hears.{hear_all}
 use Rattle.bw_engine.specs.Sent.{Exchanges}
 use Rattle.bw_engine.specs.declared.send_fault.SendFault.{SendFault}
+use Rattle.bw_engine.proofs.HeardSenders.{all_heard}
 use Rattle.bw_console.specs.Printing.{Nothing}
 use Rattle.bw_console.specs.declared.fault.Fault.{Fault}
 use Rattle.bw_console.specs.declared.fault.Fault.TheVariants as faults
@@ -37,20 +37,6 @@ pub counted : {R W : Type 0} {reader : Reader R} {writer : Writer W} {result : R
 counted (inl whole) s is = whole.over.hears.counted s is
 counted (inr (inl broke)) s is = broke.over.hears.counted s is
 counted (inr (inr lacks)) s is = subst (IsSender s) (sym lacks.unheard) is
-
--- hearing changes no offer
-one_heard : (s : Defined) (r : Reply) → (hear s r).offered ≡ s.offered
-one_heard s (Judged name n v) = go (is_counted s name n)
-  where
-    go : (b : Bool) → (cond b (record s { verdicts = put s.verdicts n v }) s).offered ≡ s.offered
-    go true = refl
-    go false = refl
-one_heard s (Noticed name n code next) = refl
-one_heard s (Refused reason place) = refl
-
-pub all_heard : (s : Defined) (rs : List Reply) → (hear_all s rs).offered ≡ s.offered
-all_heard s [] = refl
-all_heard s (r ∷ rs) = all_heard (hear s r) rs ∙ one_heard s r
 
 pub heard_dispatch : (y : Sending) (heard : List Reply) (p : Dispatch) (sender : Sender) → IsSending y p →
     IsSender (hear_all y.sender heard) sender →

@@ -1,54 +1,33 @@
-use Rattle.std.proofs.Common.{◌∙◌, ap, length, refl, sym, subst}
+use Rattle.std.proofs.Common.{◌∙◌, ap, length, refl, sym}
 use Rattle.std.proofs.lemmas.Result.{err_from_is_err_and}
 use Rattle.bw_console.specs.Printing.{Nothing, Whole, Part}
-use Rattle.bw_send.specs.RequestLines.{AreRequestsOf}
 use Rattle.bw_send.specs.SendState.{exit_for_sender}
-use Rattle.bw_send.proofs.InOrder.{done_stored, made_in_order}
+use Rattle.bw_send.proofs.Printed.{prints_sender}
 use Rattle.bw_send.proofs.RoundSteps.{refuses_send, rounds_keep}
 use Rattle.bw_send.proofs.sending.send.Goals as goal
 
 pub returns-in-Ok-clause-prints : goal.returns-in-Ok-clause-prints
 returns-in-Ok-clause-prints g c =
     let sent = c.in_ok-dispatch.ensures in
-    let kept = rounds_keep _ _ _ c.args.rounds _ sent.0 _ _ sent.2 in
-    let exit_is = c.exit_after.ensures sent.0 sent.1
-    (c.len.ensures ∙ sym c.as_slice.ensures.len ∙ ap length (sym kept)) in
-    let ordered = made_in_order _ _ _ c.args.name c.as_slice.result.now c.args.rounds sent.0 _ _ sent.2
-    sent.1.sender.within in (
+    let kept = rounds_keep _ _ _ c.args.rounds _ sent.0 _ _ sent.2 in (
       Whole c.as_slice-2.result.now,
-      record {
-        requests = c.as_slice.result.now;
-        said = λ xs reported. subst (AreRequestsOf xs) (sym c.as_slice.ensures.value)
-            (c.in_ok-requests.ensures.ok xs reported);
-        last = sent.0;
-        went = sent.2;
-        is = ap Whole (c.as_slice-2.ensures.value ∙ c.in_ok-text.ensures sent.0.sender sent.1.sender);
-        exit_is = exit_is;
-        in_order = ordered;
-        done = λ exit. done_stored sent.0 ordered (sym exit_is ∙ exit);
-      },
+      prints_sender _ _ _ c.args.name c.args.rounds _ _ _ Whole _ _ c.as_slice.result.now sent.0 c.as_slice-2.result.now
+          c.as_slice.ensures.value c.in_ok-requests.ensures.ok sent.2 sent.1.sender.within
+          (c.as_slice-2.ensures.value ∙ c.in_ok-text.ensures sent.0.sender sent.1.sender)
+          (c.exit_after.ensures sent.0 sent.1
+          (c.len.ensures ∙ sym c.as_slice.ensures.len ∙ ap length (sym kept))),
       c.in-Ok.ensures.ok,
     )
 
 pub returns-clause-prints : goal.returns-clause-prints
 returns-clause-prints g c =
-    let sent = c.in_ok-dispatch.ensures in
-    let ordered = made_in_order _ _ _ c.args.name c.as_slice.result.now c.args.rounds sent.0 _ _ sent.2
-    sent.1.sender.within in (
+    let sent = c.in_ok-dispatch.ensures in (
       Part c.as_slice-2.result.now,
       (
         exit_for_sender sent.0,
-        record {
-          requests = c.as_slice.result.now;
-          said = λ xs reported. subst (AreRequestsOf xs) (sym c.as_slice.ensures.value)
-              (c.in_ok-requests.ensures.ok xs reported);
-          last = sent.0;
-          went = sent.2;
-          is = ap Part (c.as_slice-2.ensures.value ∙ c.in_ok-text.ensures sent.0.sender sent.1.sender);
-          exit_is = refl;
-          in_order = ordered;
-          done = done_stored sent.0 ordered;
-        },
+        prints_sender _ _ _ c.args.name c.args.rounds _ _ _ Part _ _ c.as_slice.result.now sent.0 c.as_slice-2.result.now
+            c.as_slice.ensures.value c.in_ok-requests.ensures.ok sent.2 sent.1.sender.within
+            (c.as_slice-2.ensures.value ∙ c.in_ok-text.ensures sent.0.sender sent.1.sender) refl,
       ),
       c.in-Err.ensures.err,
     )
