@@ -68,7 +68,7 @@ file_unchanged t f limit fields =
     ∙ name_refl (header_by limit (parts t) f))
 
 -- the file has its samples
-file_long : (t : Take) (f : Format) (limit : ℕ) → AreFields t.fields → data_end (parts t) ≤ length (file_with f t limit)
+pub file_long : (t : Take) (f : Format) (limit : ℕ) → AreFields t.fields → data_end (parts t) ≤ length (file_with f t limit)
 file_long t f limit fields = let e = length-whole t f limit fields in omega (arith, e)
 
 -- the file of an open take
@@ -111,7 +111,7 @@ fault_fresh limit p o found free e =
     ap (λ (v : Bool). cond v (cond (is_some found) None (Some Lost)) (fault_by_format limit p p.format found)) free
     ∙ ap (λ (x : Option Format). fault_by_format limit p x found) e
 
-after_open : (limit : ℕ) (p : Parts) (o : Option Format) (found : Option (List ℕ)) → p.taken ≡ false →
+pub after_open : (limit : ℕ) (p : Parts) (o : Option Format) (found : Option (List ℕ)) → p.taken ≡ false →
     p.closed ≡ false → p.format ≡ o → file_after limit p found ≡ mended_by_format limit p o found
 after_open limit p o found free still e =
     ap (λ (v : Bool). cond v found (mended_by_format limit p p.format found)) (or_false p.taken p.closed free still)

@@ -1,9 +1,10 @@
 -- What is judged of a file that was read.
-use Rattle.std.proofs.Common.{◌≡◌, ℕ, true, false, List, Option, Some, None, is_some, Result, refl, sym, ◌∙◌, ap, subst}
-use Rattle.std.specs.Prelude.{IfOk, IfErr}
+use Rattle.std.proofs.Common.{◌≡◌, ℕ, ◌≤◌, true, false, List, Option, Some, None, is_some, Result, refl, sym, ◌∙◌, ap, subst, arith}
+use Rattle.std.specs.Prelude.{IfOk, IfErr, IfSome}
 use Rattle.bw_model.specs.Take.{Parts, Format}
-use Rattle.bw_start.specs.Files.{opened_fault, file_fault}
-use Rattle.bw_start.specs.Adoptions.{IsSeen, Sees}
+use Rattle.bw_start.specs.Files.{data_end, opened_fault, file_fault}
+use Rattle.bw_start.specs.Adoptions.{IsFileHeader, IsSeen, Sees, SparesSamples}
+use Rattle.bw_start.specs.declared.adoption.Mending.{Mending}
 use Rattle.bw_start.specs.declared.adoption.FileFacts.{FileFacts}
 use Rattle.bw_start.specs.declared.fault.FileFault.{FileFault}
 use Rattle.bw_start.proofs.FileLemmas.{fault_fresh}
@@ -48,3 +49,17 @@ judged_err limit p file found facts r free opened e sees h =
     let f = some_of p.format opened in
     let b = seen_file p file found facts e sees in
     subst (λ (x : Option FileFault). IfErr r (λ e. x ≡ Some e)) (same_fault limit p f.0 file b.0 free f.1 b.1) (h f.0 b.0 f.1 b.2)
+
+-- a cut to a length that has the samples
+pub cut_past : (o : Option ℕ) (kept end : ℕ) → IfSome o (λ n. n ≡ kept) → end ≤ kept → IfSome o (λ n. end ≤ n)
+cut_past None kept end h past = tt
+cut_past (Some n) kept end h past = omega (arith, h, past)
+
+-- a mending with the header of its take
+pub spares_samples : (limit : ℕ) (p : Parts) (m : Mending) (header : List ℕ) → is_some p.format ≡ true →
+    ((f : Format) → p.format ≡ Some f → IsFileHeader limit p f header) → IfSome m.cut (λ len. data_end p ≤ len) →
+    SparesSamples p m header
+spares_samples limit p m header opened of_format cut =
+    let f = some_of p.format opened in
+    let len = (of_format f.0 f.1).len in
+    record { opened = opened; front = omega (arith, len); cut = cut }

@@ -12,6 +12,9 @@ pub mod RefusalForms
 pub mod LookForms
 pub mod StartForms
 pub mod RecoverForms
+pub mod PartForms
+pub mod NameStays
+pub mod LeftForms
 pub mod StartAnswers
 pub mod RestingForms
 pub mod SortedNames

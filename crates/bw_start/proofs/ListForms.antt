@@ -13,7 +13,7 @@ use Rattle.bw_disk.specs.Volumes.{AreDistinct, Lists, is_listed, in_folder}
 use Rattle.bw_start.specs.Endings.{ending_text}
 use Rattle.bw_start.specs.declared.ending.Ending.{Ending}
 use Rattle.bw_start.specs.Paths.{wave_path, notes_path}
-use Rattle.bw_start.specs.Findings.{IsFound}
+use Rattle.bw_start.specs.Findings.{IsFound, SparesFile}
 use Rattle.bw_start.specs.FoundNames.{found_names, IsFoundIn, ListsFiles, AddsName}
 use Rattle.bw_start.proofs.PathLemmas.{path_listed}
 use Rattle.bw_start.proofs.NameBytes.{ending_is_listed, ending_is_utf8}
@@ -84,14 +84,14 @@ contains_step xs i d y below c =
 pub found_in : (limit : ℕ) (folder : List ℕ) (notes takes : List ℕ → Option (List ℕ)) (name : List ℕ) (f : Finding) →
     IsSome (notes (notes_path folder name)) →
     ((journal : List ℕ) → notes (notes_path folder name) ≡ Some journal →
-    IsFound limit name journal (takes (wave_path folder name)) f) →
+    IsFound limit name journal (takes (wave_path folder name)) f) → SparesFile f →
     IsFoundIn limit folder notes takes (record { name = name; finding = f })
-found_in limit folder notes takes name f some found = go (notes (notes_path folder name)) refl
+found_in limit folder notes takes name f some found spares = go (notes (notes_path folder name)) refl
   where
     go : (x : Option (List ℕ)) → notes (notes_path folder name) ≡ x →
         IsFoundIn limit folder notes takes (record { name = name; finding = f })
     go None e = absurd (true_false (sym some ∙ ap (λ (y : Option (List ℕ)). is_some y) e))
-    go (Some j) e = record { journal = j; stands = e; found = found j e }
+    go (Some j) e = record { journal = j; stands = e; found = found j e; spares = spares }
 
 pub names_push : (found : List FoundName) (next : FoundName) → found_names (found ++ next ∷ []) ≡ found_names found ++ next.name ∷ []
 names_push [] next = refl

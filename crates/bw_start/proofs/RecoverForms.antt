@@ -129,7 +129,7 @@ whole_journal : (limit : ℕ) (first : Option (List ℕ)) (name : List ℕ) (log
 whole_journal limit first name log kept done (inl e) = ap (λ (x : List ℕ). Some x) e
 whole_journal limit first name log kept done (inr e) = absurd (not_less log.done e.0 done)
 
-ok_no_err : {A : Type 0} (s : Story) (e : JournalFault) (r : Result Story JournalFault) → r ≡ Ok s → r ≡ Err e → A
+pub ok_no_err : {A : Type 0} (s : Story) (e : JournalFault) (r : Result Story JournalFault) → r ≡ Ok s → r ≡ Err e → A
 ok_no_err s e r a b = absurd (apart (sym a ∙ b))
   where
     apart : Ok s ≡ Err e → ⊥
@@ -138,14 +138,14 @@ ok_no_err s e r a b = absurd (apart (sym a ∙ b))
 abbrev the_ok : Story → Result Story JournalFault
 the_ok s = Ok s
 
-same_story : (s t : Story) (r : Result Story JournalFault) → r ≡ Ok s → r ≡ Ok t → s ≡ t
+pub same_story : (s t : Story) (r : Result Story JournalFault) → r ≡ Ok s → r ≡ Ok t → s ≡ t
 same_story s t r a b = same (sym a ∙ b)
   where
     same : the_ok s ≡ the_ok t → s ≡ t
     same x = cc
 
 -- what a journal that a stop left begun says
-begun_story : (limit : ℕ) (first : Option (List ℕ)) (name : List ℕ) (log : Log) (journal : List ℕ) (file : Option (List ℕ)) →
+pub begun_story : (limit : ℕ) (first : Option (List ℕ)) (name : List ℕ) (log : Log) (journal : List ℕ) (file : Option (List ℕ)) →
     limit < 2 ^ 32 → AdmitsDone log → IsLeftBegun limit first name log journal file →
     replay limit name journal ≡ Ok (story_of_log (header_beside limit first) name log)
 begun_story limit first name log journal file small whole left =
@@ -153,7 +153,7 @@ begun_story limit first name log journal file small whole left =
     ∙ journals_report_logs (header_beside limit first) name log left.tail small whole left.cut
 
 -- one that isn't begun says nothing
-torn_story : (limit : ℕ) (first : Option (List ℕ)) (name : List ℕ) (log : Log) (journal : List ℕ) (file : Option (List ℕ)) →
+pub torn_story : (limit : ℕ) (first : Option (List ℕ)) (name : List ℕ) (log : Log) (journal : List ℕ) (file : Option (List ℕ)) →
     limit < 2 ^ 32 → IsLeftTorn limit first name log journal file → replay limit name journal ≡ Err NotBegun
 torn_story limit first name log journal file small left =
     ap (replay limit name) left.notes

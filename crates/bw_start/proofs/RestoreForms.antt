@@ -91,7 +91,7 @@ all_map P Q (x ∷ xs) f h =
     (all_map P Q xs (λ y c p. f y (suc c.0, omega (arith, c.1), c.2) p) (All-tail P x xs h))
 
 -- the file of another name is as it was
-other_take : (folder a b : List ℕ) (before after : List ℕ → Option (List ℕ)) → ChangesTake folder a before after → b ≢ a →
+pub other_take : (folder a b : List ℕ) (before after : List ℕ → Option (List ℕ)) → ChangesTake folder a before after → b ≢ a →
     after (wave_path folder b) ≡ before (wave_path folder b)
 other_take folder a b before after (inl k) other =
     k (wave_path folder b) (λ e. other (path_name folder (codes ".wav") b a e))
@@ -139,7 +139,7 @@ restored_next limit folder N T N1 T1 N2 T2 xs it absent found sound before kept_
     }
 
 -- whether two paths are the same
-other_path : (a b : List ℕ) → bytes_eq a b ≡ false → a ≢ b
+pub other_path : (a b : List ℕ) → bytes_eq a b ≡ false → a ≢ b
 other_path a b e same = true_false (sym (name_refl b) ∙ ap (λ (x : List ℕ). bytes_eq x b) (sym same) ∙ e)
 
 -- other journals are as they were after one more
@@ -210,20 +210,6 @@ takes_next folder T T1 T2 xs it before leaves changes path = go (leaves_take it.
     go true l (inl same) c = inl (leaves l path ∙ same)
     go true l (inr owned) c = inr (earlier owned)
     go false l old c = changed l (bytes_eq path (wave_path folder it.name)) refl old c
-
--- after calls that changed nothing
-pub after_keeps : (folder name : List ℕ) (A B C : List ℕ → Option (List ℕ)) → KeepsEach A B → ChangesTake folder name B C →
-    ChangesTake folder name A C
-after_keeps folder name A B C k (inl o) = inl (λ other d. o other d ∙ k other)
-after_keeps folder name A B C k (inr a) = inr (record {
-  ending = a.ending;
-  torn = a.torn;
-  apart = a.apart;
-  free = sym (k (path_with folder a.ending name)) ∙ a.free;
-  arrived = a.arrived ∙ k (wave_path folder name);
-  left = a.left;
-  others = λ other d e. a.others other d e ∙ k other;
-})
 
 -- one name further in a list
 pub take_more : {X : Type 0} (xs : List X) (i : ℕ) (x : X) → i < length xs → x ≡ get_or xs i x →

@@ -1,10 +1,11 @@
 -- What is read of a take's file at a start, and what is done with it.
-use Rattle.std.specs.Prelude.{◌≡◌, ◌<◌, ℕ, not, Bool, true, false, Option, Some, None, IsSome}
+use Rattle.std.specs.Prelude.{◌≡◌, ◌⊎◌, ◌<◌, ◌≤◌, ℕ, ◌+◌, not, Bool, true, false, Option, Some, None, IsSome}
 use Rattle.std.specs.Prelude.{IfSome, option_map, List, [], ◌∷◌, ◌++◌, length, take, drop, slice_get}
 use Rattle.std.specs.Str.{bytes_eq}
 use Rattle.bw_model.specs.Take.{Parts, Format}
 use Rattle.bw_model.specs.File.{data_place}
 use Rattle.bw_start.specs.Files.{data_end, header_by}
+use Rattle.bw_start.specs.Changes.{KeepsSamples}
 use Rattle.bw_start.specs.declared.adoption.FileFacts.{FileFacts}
 use Rattle.bw_start.specs.declared.adoption.Mending.{Mending}
 use Rattle.bw_start.specs.declared.adoption.Adoption.{Adoption}
@@ -65,3 +66,34 @@ abbrev pub DoesLeast : Parts → Adoption → List ℕ → Option (List ℕ) →
 DoesLeast p Keep header found = Unit {0}
 DoesLeast p SetAside header found = IsSome found
 DoesLeast p (Mend m) header found = IfSome found (IsLeast p m header)
+
+-- No part of a mending reaches the samples of its take, which is opened.
+pub record SparesSamples (p : Parts) (m : Mending) (header : List ℕ) : Type 0 where
+  pub opened : IsSome p.format
+  pub front : length header ≤ data_place (length p.history)
+  pub cut : IfSome m.cut (λ len. data_end p ≤ len)
+
+-- nor does what becomes of its file otherwise
+abbrev pub SparesTake : Parts → Adoption → List ℕ → Type 0
+SparesTake p Keep header = Unit {0}
+SparesTake p SetAside header = Unit {0}
+SparesTake p (Mend m) header = SparesSamples p m header
+
+-- The same of so many bytes from a place on in a file that has them: a byte is appended to them alone.
+pub record MendsAround (place count : ℕ) (m : Mending) (header found : List ℕ) : Type 0 where
+  pub front : length header ≤ place
+  pub long : place + count ≤ length found
+  pub cut : IfSome m.cut (λ len. place + count ≤ len)
+  pub pad : m.pad ≡ true → length (shortened m.cut found) ≤ place + count
+
+-- what a mending leaves of a file, whole or in part
+abbrev pub MendsInPart : ℕ → ℕ → Mending → List ℕ → Option (List ℕ) → Option (List ℕ) → Type 0
+MendsInPart place count m header before after =
+    (found : List ℕ) → before ≡ Some found → MendsAround place count m header found →
+    KeepsSamples place count found after
+
+-- what is left under the name, whichever call fails
+abbrev pub AdoptsInPart : ℕ → ℕ → Adoption → List ℕ → Option (List ℕ) → Option (List ℕ) → Type 0
+AdoptsInPart place count Keep header before after = after ≡ before
+AdoptsInPart place count SetAside header before after = (after ≡ before) ⊎ (after ≡ None)
+AdoptsInPart place count (Mend m) header before after = MendsInPart place count m header before after

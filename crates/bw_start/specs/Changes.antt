@@ -1,5 +1,6 @@
 -- What calls at a start leave of files.
-use Rattle.std.specs.Prelude.{◌≡◌, ◌≢◌, ◌⊎◌, ℕ, Option, Some, None, List, codes, take}
+use Rattle.std.specs.Prelude.{◌≡◌, ◌≢◌, ◌⊎◌, ℕ, ◌+◌, ◌≤◌, Option, Some, None, List, codes, length, take, drop}
+use Rattle.bw_disk.specs.Volumes.{KeepsEach}
 use Rattle.bw_store.specs.Stores.{KeepsOthers}
 use Rattle.bw_start.specs.Paths.{path_with, wave_path}
 
@@ -33,3 +34,15 @@ ChangesTake folder name before after =
 abbrev pub BecomesAs : (Option (List ℕ) → Option (List ℕ)) → Option (List ℕ) →
     Option (List ℕ) → Type 0
 BecomesAs f before after = after ≡ f before
+
+-- the take's file was moved, or nothing was changed
+abbrev pub MayMove : List ℕ → List ℕ → (List ℕ → Option (List ℕ)) → (List ℕ → Option (List ℕ)) → Type 0
+MayMove folder name before after = KeepsEach before after ⊎ IsAside folder name before after
+
+-- A file keeps so many bytes from a place on, and is no longer than it was, or than one byte past them.
+pub record KeepsSamples (place count : ℕ) (found : List ℕ) (after : Option (List ℕ)) : Type 0 where
+  pub later : List ℕ
+  pub stands : after ≡ Some later
+  pub long : place + count ≤ length later
+  pub samples : take count (drop place later) ≡ take count (drop place found)
+  pub short : (length later ≤ length found) ⊎ (length later ≤ place + count + 1)

@@ -9,7 +9,7 @@ use Rattle.bw_journal.specs.Faults.{fault_meaning}
 use Rattle.bw_journal.specs.Stories.{story_of}
 use Rattle.bw_start.specs.Names.{NameFault, OfJournal, OfFile, name_fault, kept_journal}
 use Rattle.bw_start.specs.Names.{file_beside}
-use Rattle.bw_start.specs.Adoptions.{adopted, DoesLeast}
+use Rattle.bw_start.specs.Adoptions.{adopted, DoesLeast, SparesTake}
 use Rattle.bw_start.specs.declared.finding.NameFault.{NameFault as Fault}
 use Rattle.bw_start.specs.declared.finding.NameFault.TheVariants.{Journal, OtherLimit, File}
 use Rattle.bw_start.specs.declared.finding.Begun.{Begun}
@@ -57,6 +57,12 @@ abbrev pub leaves_take : Finding → Bool
 leaves_take (Refused cause) = true
 leaves_take Unbegun = true
 leaves_take (Resumes b) = keeps_file b.adoption
+
+-- what becomes of the file of a name spares its samples
+abbrev pub SparesFile : Finding → Type 0
+SparesFile (Refused cause) = Unit {0}
+SparesFile Unbegun = Unit {0}
+SparesFile (Resumes b) = SparesTake b.replayed.state.parts b.adoption b.header.items
 
 -- this is found of a name with this journal and this file
 abbrev pub IsFound : ℕ → List ℕ → List ℕ → Option (List ℕ) → Finding → Type 0

@@ -4,7 +4,7 @@ use Rattle.std.specs.List.{Contains}
 use Rattle.bw_model.specs.Wire.{is_name}
 use Rattle.bw_start.specs.Paths.{path_with, wave_path}
 use Rattle.bw_start.specs.Paths.{notes_path}
-use Rattle.bw_start.specs.Findings.{IsFound}
+use Rattle.bw_start.specs.Findings.{IsFound, SparesFile}
 use Rattle.bw_start.specs.declared.listing.FoundName.{FoundName}
 
 -- the names
@@ -26,6 +26,7 @@ pub record IsFoundIn (limit : ℕ) (folder : List ℕ) (notes takes : List ℕ �
   pub journal : List ℕ
   pub stands : notes (notes_path folder it.name) ≡ Some journal
   pub found : IsFound limit it.name journal (takes (wave_path folder it.name)) it.finding
+  pub spares : SparesFile it.finding
 
 -- The name of a file with this ending was added, if it has one.
 pub record AddsName (ending file : List ℕ) (before after : List (List ℕ)) : Type 0 where

@@ -4,6 +4,7 @@ pub mod Adoptions
 pub mod Changes
 pub mod Names
 pub mod LeftNames
+pub mod StaysLeft
 pub mod FilesRead
 pub mod Paths
 pub mod Findings

@@ -8,6 +8,7 @@ ghost use Rattle.bw_model.specs.File.{data_place as place_after, cues};
 ghost use Rattle.bw_start.specs.Files.{data_end as end_of, file_len as len_of, header_by, file_fault};
 ghost use Rattle.bw_start.specs.Files.{opened_fault as fault_of, is_unchanged, mended, file_after};
 ghost use Rattle.bw_start.specs.Adoptions.{IsFileHeader, IsSeen, Sees, adopted, patched, shortened, DoesLeast, IsLeast};
+ghost use Rattle.bw_start.specs.Adoptions.{SparesTake};
 ghost use Rattle.bw_start.specs.declared.adoption.Adoption.TheVariants.{Keep, SetAside};
 
 use crate::fault::FileFault;
@@ -134,6 +135,7 @@ pub fn judge_file(
         IfOk result (λ a. a ≡ Keep) }
     ensures least { (file : Option (List ℕ)) → Sees state.now.parts file found.entry →
         IfOk result (λ a. DoesLeast state.now.parts a header.now file) }
+    ensures spares { IfOk result (λ a. SparesTake state.now.parts a header.now) }
 {
     if state.is_taken() {
         return match found {
@@ -155,6 +157,7 @@ fn judge_unopened(state: &TakeState, exists: bool) -> Adoption
     requires { state.now.parts.format ≡ None }
     ensures open { state.now.parts.closed ≡ false }
     ensures value { result ≡ (if exists then SetAside else Keep) }
+    ensures spares { (header : List ℕ) → SparesTake state.now.parts result header }
 {
     let _closed = state.is_closed();
     if exists {
@@ -190,6 +193,7 @@ fn judge_opened(
         ≡ Some (mended limit state.now.parts f file)) }
     ensures least { (file : List ℕ) → IsSeen state.now.parts file facts.now →
         IfOk result (λ a. DoesLeast state.now.parts a header.now (Some file)) }
+    ensures spares { IfOk result (λ a. SparesTake state.now.parts a header.now) }
 {
     let unchanged = facts.len == file_len(state) && facts.front == header;
     match opened_fault(state, facts.len, unchanged) {
@@ -226,6 +230,7 @@ fn least_mending(state: &TakeState, header: &[u8], facts: &FileFacts<'_>) -> Men
         patched result header.now file ≡ mended limit state.now.parts f file }
     ensures least { (file : List ℕ) → IsSeen state.now.parts file facts.now →
         IsLeast state.now.parts result header.now file }
+    ensures cut { IfSome result.cut (λ len. end_of state.now.parts ≤ len) }
 {
     let len = state.data_len();
     let kept = kept_len(data_end(state), is_padded(len, facts.after));
@@ -272,6 +277,7 @@ fn kept_len(end: u64, padded: bool) -> u64
 fn cut(len: u64, kept: u64) -> Option<u64>
     ensures value { (file : List ℕ) → len ≡ length file → shortened result file ≡ take kept file }
     ensures least { IfSome result (λ n. n < len) }
+    ensures kept { IfSome result (λ n. n ≡ kept) }
 {
     if len > kept { Some(kept) } else { None }
 }

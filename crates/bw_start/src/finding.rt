@@ -12,7 +12,7 @@ ghost use Rattle.bw_start.specs.Names.{begins_take};
 ghost use Rattle.bw_start.specs.Paths.{wave_path, notes_path};
 ghost use Rattle.bw_model.specs.Take.{Format};
 ghost use Rattle.bw_start.specs.Adoptions.{IsFileHeader};
-ghost use Rattle.bw_start.specs.Findings.{IsFound};
+ghost use Rattle.bw_start.specs.Findings.{IsFound, SparesFile};
 
 use crate::adoption::{Adoption, header_of, judge_file};
 use crate::fault::FileFault;
@@ -91,6 +91,7 @@ pub fn look<D: Volume, E: Volume>(
         (λ found. (journal : List ℕ) →
         E.contents notes.old (notes_path folder.now name.now) ≡ Some journal → IfSome found
         (IsFound limit name.now journal (D.contents takes.old (wave_path folder.now name.now)))) }
+    ensures spares { IfOk result (λ found. IfSome found SparesFile) }
 {
     let Some(journal) = read_journal(notes, alloc, folder, name)? else {
         return Ok(None);
@@ -126,6 +127,7 @@ fn judge_name<D: Volume>(
     ensures takes { StaysWhole D.Disk takes.old takes.new }
     ensures found { IsTrue (D.honest takes.old) → IfOk result (IsFound limit name.now journal.now
         (D.contents takes.old (wave_path folder.now name.now))) }
+    ensures spares { IfOk result SparesFile }
 {
     let path = path_in(alloc, folder, name, ".wav")?;
     judge_at(alloc, takes, path.as_str(), limit, name, journal)
@@ -143,6 +145,7 @@ fn judge_at<D: Volume>(
     ensures takes { StaysWhole D.Disk takes.old takes.new }
     ensures found { IsTrue (D.honest takes.old) → IfOk result
         (IsFound limit name.now journal.now (D.contents takes.old path.now)) }
+    ensures spares { IfOk result SparesFile }
 {
     if journal.len() > JOURNAL_MAX {
         return Err(ReadFault::Memory);
@@ -166,6 +169,7 @@ fn judge_begun<D: Volume>(
         replay_of limit name journal ≡ Ok (story_of replayed) →
         replayed.used + replayed.torn ≡ length journal →
         IsFound limit name journal (D.contents takes.old path.now) found) }
+    ensures spares { IfOk result SparesFile }
 {
     let header = header_if(alloc, &replayed.state, limit)?;
     let read = read_take(takes, alloc, path, &replayed.state)?;
@@ -212,6 +216,7 @@ fn judge_fault<D: Volume>(
     ensures found { IsTrue (D.honest takes.old) → IfOk result (λ found. (limit : ℕ) (name : List ℕ) →
         IsJournalFault fault (replay_of limit name journal.now) →
         IsFound limit name journal.now (D.contents takes.old path.now) found) }
+    ensures spares { IfOk result SparesFile }
 {
     match fault {
         ReplayFault::NotBegun => judge_unbegun(alloc, takes, path),
@@ -227,9 +232,10 @@ fn judge_fault<D: Volume>(
 
 /// A name that is refused by the limit in its journal's header.
 fn other_limit(journal: &[u8]) -> Finding
-    ensures { (limit : ℕ) (name : List ℕ) (file : Option (List ℕ)) →
+    ensures found { (limit : ℕ) (name : List ℕ) (file : Option (List ℕ)) →
         replay_of limit name journal.now ≡ Err other_limit_there →
         IsFound limit name journal.now file result }
+    ensures spares { SparesFile result }
 {
     match header_limit(journal) {
         Some(limit) => Finding::Refused(NameFault::OtherLimit(limit)),
@@ -243,6 +249,7 @@ fn judge_unbegun<D: Volume>(alloc: Global, takes: &mut D, path: &str) -> Result<
     ensures found { IsTrue (D.honest takes.old) → IfOk result (λ found.
         (limit : ℕ) (name journal : List ℕ) → replay_of limit name journal ≡ Err not_begun →
         IsFound limit name journal (D.contents takes.old path.now) found) }
+    ensures spares { IfOk result SparesFile }
 {
     if is_take_at(takes, alloc, path)? {
         return Ok(Finding::Refused(NameFault::Journal(ReplayFault::Damaged)));

@@ -1,9 +1,9 @@
 //! Mending the file of an open take: its header, its length, and its pad byte.
-ghost use Rattle.std.specs.Prelude.{◌≡◌, ◌+◌, ◌++◌, ◌∷◌, [], ℕ, List, IsTrue, OnOk, OnErr, None, false, true, length};
-ghost use Rattle.std.specs.Prelude.{take, drop};
+ghost use Rattle.std.specs.Prelude.{◌≡◌, ◌+◌, ◌≤◌, ◌++◌, ◌∷◌, [], ℕ, List, Some, IsTrue, OnOk, OnErr, None, false, true};
+ghost use Rattle.std.specs.Prelude.{length, take, drop, IfSome};
 ghost use Rattle.bw_store.specs.Stores.{KeepsOthers};
-ghost use Rattle.bw_start.specs.Adoptions.{patched, with_header, shortened, with_pad};
-ghost use Rattle.bw_start.specs.Changes.{Becomes};
+ghost use Rattle.bw_start.specs.Adoptions.{patched, with_header, shortened, with_pad, MendsInPart};
+ghost use Rattle.bw_start.specs.Changes.{Becomes, KeepsSamples};
 
 use crate::adoption::Mending;
 use bw_disk::{DiskFault, Volume};
@@ -16,7 +16,7 @@ use bw_disk::{DiskFault, Volume};
 ///
 /// # Not specified
 /// - When the disk fails.
-/// - What an error leaves of the file: its samples, by the order of the calls.
+/// - What an error leaves of the file, but that its samples stay.
 pub fn mend<D: Volume>(
     disk: &mut D,
     file: &mut D::File,
@@ -28,6 +28,9 @@ pub fn mend<D: Volume>(
     ensures ok { IsTrue (D.honest disk.old) → OnOk result (Becomes
         (patched mending.now header.now)
         (D.contents disk.old (D.path_of file.old)) (D.contents disk.new (D.path_of file.old))) }
+    ensures part { IsTrue (D.honest disk.old) → (place count : ℕ) →
+        MendsInPart place count mending.now header.now
+        (D.contents disk.old (D.path_of file.old)) (D.contents disk.new (D.path_of file.old)) }
     ensures others { IsTrue (D.honest disk.old) →
         KeepsOthers (D.contents disk.old) (D.contents disk.new) (D.path_of file.old) }
 {
@@ -47,6 +50,10 @@ fn put_header<D: Volume>(
     ensures path { D.path_of file.new ≡ D.path_of file.old }
     ensures ok { IsTrue (D.honest disk.old) → OnOk result (Becomes (with_header needed header.now)
         (D.contents disk.old (D.path_of file.old)) (D.contents disk.new (D.path_of file.old))) }
+    ensures part { IsTrue (D.honest disk.old) → (place count : ℕ) (found : List ℕ) →
+        D.contents disk.old (D.path_of file.old) ≡ Some found → length header.now ≤ place →
+        place + count ≤ length found →
+        KeepsSamples place count found (D.contents disk.new (D.path_of file.old)) }
     ensures others { IsTrue (D.honest disk.old) →
         KeepsOthers (D.contents disk.old) (D.contents disk.new) (D.path_of file.old) }
 {
@@ -62,6 +69,10 @@ fn cut_file<D: Volume>(disk: &mut D, file: &mut D::File, len: Option<u64>) -> Re
     ensures path { D.path_of file.new ≡ D.path_of file.old }
     ensures ok { IsTrue (D.honest disk.old) → OnOk result (Becomes (shortened len)
         (D.contents disk.old (D.path_of file.old)) (D.contents disk.new (D.path_of file.old))) }
+    ensures part { IsTrue (D.honest disk.old) → (place count : ℕ) (found : List ℕ) →
+        D.contents disk.old (D.path_of file.old) ≡ Some found → place + count ≤ length found →
+        IfSome len (λ n. place + count ≤ n) →
+        KeepsSamples place count found (D.contents disk.new (D.path_of file.old)) }
     ensures others { IsTrue (D.honest disk.old) →
         KeepsOthers (D.contents disk.old) (D.contents disk.new) (D.path_of file.old) }
 {
@@ -77,6 +88,10 @@ fn put_pad<D: Volume>(disk: &mut D, file: &mut D::File, needed: bool) -> Result<
     ensures path { D.path_of file.new ≡ D.path_of file.old }
     ensures ok { IsTrue (D.honest disk.old) → OnOk result (Becomes (with_pad needed)
         (D.contents disk.old (D.path_of file.old)) (D.contents disk.new (D.path_of file.old))) }
+    ensures part { IsTrue (D.honest disk.old) → (place count : ℕ) (found : List ℕ) →
+        D.contents disk.old (D.path_of file.old) ≡ Some found → place + count ≤ length found →
+        (needed ≡ true → length found ≤ place + count) →
+        KeepsSamples place count found (D.contents disk.new (D.path_of file.old)) }
     ensures others { IsTrue (D.honest disk.old) →
         KeepsOthers (D.contents disk.old) (D.contents disk.new) (D.path_of file.old) }
 {

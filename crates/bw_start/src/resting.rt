@@ -9,6 +9,7 @@ ghost use Rattle.bw_start.specs.RestingStarts.{StartsOver, RefusesStart, IsPlain
 ghost use Rattle.bw_start.specs.RestingStarts.{IsFolderUnchanged, NoneStandsInTheWay};
 ghost use Rattle.bw_start.specs.RestingStarts.{ListsThoseInTheWay, HasBoth, AddsIf, IsListOf};
 ghost use Rattle.bw_start.specs.declared.resting.Settings.{Settings as StartSettings};
+ghost use Rattle.bw_start.specs.StaysLeft.{BooksStayLeft};
 ghost use Rattle.bw_start.specs.Started.{IsSetTo, OfEachBookLeft};
 
 use crate::ending::{Ending, is_there, list_files, push_name};
@@ -123,6 +124,9 @@ pub fn start_over<D: Volume, E: Volume, W: StartWatch>(
         (λ e. IsFolderUnchanged (StaysWhole D.Disk takes e.1 × StaysWhole E.Disk notes e.2) e.0) }
     ensures untouched_back { IsTrue (D.honest takes) → IsTrue (E.honest notes) → IfErr result (λ e.
         KeepsTheRest settings.limit folder.now (E.contents notes) (D.contents takes)
+        (E.contents e.2) (D.contents e.1)) }
+    ensures left_back { IsTrue (D.honest takes) → IsTrue (E.honest notes) → IfErr result (λ e.
+        BooksStayLeft settings.limit folder.now (E.contents notes) (D.contents takes)
         (E.contents e.2) (D.contents e.1)) }
 {
     let mut notes = notes;

@@ -9,6 +9,7 @@ ghost use Rattle.bw_start.specs.FoundNames.{found_names, IsFoundIn};
 ghost use Rattle.bw_start.specs.Restored.{IsRestoredIn, are_sound, count_done, with_done_name};
 ghost use Rattle.bw_start.specs.Restored.{with_refusal, KeepsTheRest};
 ghost use Rattle.bw_start.specs.Restored.{KeepsTakesBut, KeepsNotesBut, FindsFolder, IsFoundFault, IsPlainFault};
+ghost use Rattle.bw_start.specs.StaysLeft.{NamesStayLeft, BooksStayLeft};
 ghost use Rattle.bw_start.specs.Restored.{ResumesFolder, RefusesFolder, IsUnchanged, refusal_as, refusals_of};
 
 use crate::finding::{Finding, NameFault};
@@ -88,6 +89,9 @@ pub fn restore_folder<D: Volume, E: Volume, W: StartWatch>(
         (StaysWhole D.Disk takes.old takes.new × StaysWhole E.Disk notes.old notes.new)) }
     ensures kept { IsTrue (D.honest takes.old) → IsTrue (E.honest notes.old) →
         KeepsTheRest limit folder.now (E.contents notes.old) (D.contents takes.old)
+        (E.contents notes.new) (D.contents takes.new) }
+    ensures left { IsTrue (D.honest takes.old) → IsTrue (E.honest notes.old) →
+        BooksStayLeft limit folder.now (E.contents notes.old) (D.contents takes.old)
         (E.contents notes.new) (D.contents takes.new) }
 {
     let _bytes = limit_bytes(limit);
@@ -238,6 +242,10 @@ fn restore_found<D: Volume, E: Volume>(
     ensures kept { IsTrue (D.honest takes.old) → IsTrue (E.honest notes.old) →
         KeepsTakesBut folder.now found.items (D.contents takes.old) (D.contents takes.new)
         × KeepsNotesBut folder.now (found_names found.items) (E.contents notes.old) (E.contents notes.new) }
+    ensures left { IsTrue (D.honest takes.old) → IsTrue (E.honest notes.old) → (limit : ℕ) →
+        All (IsFoundIn limit folder.now (E.contents notes.old) (D.contents takes.old)) found.items →
+        AreDistinct (found_names found.items) → NamesStayLeft limit folder.now (E.contents notes.old)
+        (D.contents takes.old) (E.contents notes.new) (D.contents takes.new) }
 {
     match restore_each(alloc, takes, notes, folder, found.as_slice()) {
         Ok(()) => Ok(found),
@@ -263,6 +271,10 @@ fn restore_each<D: Volume, E: Volume>(
     ensures kept { IsTrue (D.honest takes.old) → IsTrue (E.honest notes.old) →
         KeepsTakesBut folder.now found.now (D.contents takes.old) (D.contents takes.new)
         × KeepsNotesBut folder.now (found_names found.now) (E.contents notes.old) (E.contents notes.new) }
+    ensures left { IsTrue (D.honest takes.old) → IsTrue (E.honest notes.old) → (limit : ℕ) →
+        All (IsFoundIn limit folder.now (E.contents notes.old) (D.contents takes.old)) found.now →
+        AreDistinct (found_names found.now) → NamesStayLeft limit folder.now (E.contents notes.old)
+        (D.contents takes.old) (E.contents notes.new) (D.contents takes.new) }
 {
     for it in found {
         restore_name(alloc, takes, notes, folder, &it.name, &it.finding)?;

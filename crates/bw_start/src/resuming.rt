@@ -3,12 +3,13 @@
 ghost use Rattle.std.specs.Prelude.{◌≡◌, ℕ, List, Option, Some, IsTrue, IsFalse, IfOk, OnOk, OnErr, take};
 ghost use Rattle.std.specs.Prelude.{option_map, codes, string_bytes, length, ◌+◌, ◌++◌, None, decimal};
 ghost use Rattle.bw_store.specs.Stores.{KeepsOthers};
-ghost use Rattle.bw_start.specs.Adoptions.{adopted, patched};
+ghost use Rattle.bw_start.specs.Adoptions.{adopted, patched, MendsInPart, AdoptsInPart, SparesTake};
 ghost use Rattle.bw_start.specs.Names.{name_fault};
-ghost use Rattle.bw_start.specs.Findings.{IsFound, IsBegunAs, IsRestored, keeps_file, leaves_take};
-ghost use Rattle.bw_start.specs.Changes.{Becomes, BecomesAs, IsAside, ChangesTake, IsNoWave};
+ghost use Rattle.bw_start.specs.Findings.{IsFound, IsBegunAs, IsRestored, SparesFile, keeps_file, leaves_take};
+ghost use Rattle.bw_start.specs.Changes.{Becomes, BecomesAs, IsAside, MayMove, ChangesTake, IsNoWave};
 ghost use Rattle.bw_start.specs.Paths.{path_with, wave_path, notes_path};
-ghost use Rattle.bw_disk.specs.Volumes.{KeepsEach, Moves, Renames};
+ghost use Rattle.bw_start.specs.StaysLeft.{StaysLeft};
+ghost use Rattle.bw_disk.specs.Volumes.{KeepsEach, IsCutInPart, Moves, Renames};
 
 use crate::adoption::{Adoption, Mending};
 use crate::finding::{Begun, Finding};
@@ -28,7 +29,8 @@ use std::alloc::Global;
 /// memory was refused. The same name may be looked at and resumed again.
 ///
 /// # Not specified
-/// What an error leaves of the name's own files, but that those of other names are as they were.
+/// What an error leaves of the name's own files, but that it is what a stop may leave of the same
+/// log, and that the files of other names are as they were.
 pub fn restore_name<D: Volume, E: Volume>(
     alloc: Global,
     takes: &mut D,
@@ -43,11 +45,17 @@ pub fn restore_name<D: Volume, E: Volume>(
         (limit : ℕ) (journal : List ℕ) (file : Option (List ℕ)) →
         E.contents notes.old (notes_path folder.now name.now) ≡ Some journal →
         D.contents takes.old (wave_path folder.now name.now) ≡ file →
-        IsFound limit name.now journal file finding.now →
-        name_fault limit name.now journal file ≡ None →
+        IsFound limit name.now journal file finding.now → name_fault limit name.now journal file ≡ None →
         OnOk result (IsRestored limit name.now journal file
         (E.contents notes.new (notes_path folder.now name.now))
         (D.contents takes.new (wave_path folder.now name.now))) }
+    ensures left { IsTrue (D.honest takes.old) → IsTrue (E.honest notes.old) →
+        (limit : ℕ) (journal : List ℕ) (file : Option (List ℕ)) →
+        E.contents notes.old (notes_path folder.now name.now) ≡ Some journal →
+        D.contents takes.old (wave_path folder.now name.now) ≡ file →
+        IsFound limit name.now journal file finding.now → SparesFile finding.now →
+        StaysLeft limit name.now (Some journal) file (E.contents notes.new (notes_path folder.now name.now))
+        (D.contents takes.new (wave_path folder.now name.now)) }
     ensures others { IsTrue (D.honest takes.old) → IsTrue (E.honest notes.old) →
         ChangesTake folder.now name.now (D.contents takes.old) (D.contents takes.new)
         × KeepsOthers (E.contents notes.old) (E.contents notes.new)
@@ -76,10 +84,17 @@ fn restore_begun<D: Volume, E: Volume>(
         (limit : ℕ) (journal : List ℕ) (file : Option (List ℕ)) →
         E.contents notes.old (notes_path folder.now name.now) ≡ Some journal →
         D.contents takes.old (wave_path folder.now name.now) ≡ file →
-        IsBegunAs limit name.now journal file begun.now →
-        OnOk result (IsRestored limit name.now journal file
+        IsBegunAs limit name.now journal file begun.now → OnOk result (IsRestored limit name.now journal file
         (E.contents notes.new (notes_path folder.now name.now))
         (D.contents takes.new (wave_path folder.now name.now))) }
+    ensures left { IsTrue (D.honest takes.old) → IsTrue (E.honest notes.old) →
+        (limit : ℕ) (journal : List ℕ) (file : Option (List ℕ)) →
+        E.contents notes.old (notes_path folder.now name.now) ≡ Some journal →
+        D.contents takes.old (wave_path folder.now name.now) ≡ file →
+        IsBegunAs limit name.now journal file begun.now →
+        SparesTake begun.now.replayed.state.parts begun.now.adoption begun.now.header.items →
+        StaysLeft limit name.now (Some journal) file (E.contents notes.new (notes_path folder.now name.now))
+        (D.contents takes.new (wave_path folder.now name.now)) }
     ensures others { IsTrue (D.honest takes.old) → IsTrue (E.honest notes.old) →
         ChangesTake folder.now name.now (D.contents takes.old) (D.contents takes.new)
         × KeepsOthers (E.contents notes.old) (E.contents notes.new)
@@ -104,6 +119,9 @@ fn cut_torn<E: Volume>(
         replayed.now.used + replayed.now.torn ≡ length journal →
         OnOk result (E.contents notes.new (notes_path folder.now name.now)
         ≡ Some (take replayed.now.used journal)) }
+    ensures part { IsTrue (E.honest notes.old) → IsCutInPart
+        (E.contents notes.old (notes_path folder.now name.now)) replayed.now.used
+        (E.contents notes.new (notes_path folder.now name.now)) }
     ensures others { IsTrue (E.honest notes.old) → KeepsOthers
         (E.contents notes.old) (E.contents notes.new) (notes_path folder.now name.now) }
 {
@@ -119,7 +137,7 @@ fn cut_torn<E: Volume>(
 /// `Disk` if a call of the disk failed, or there is no journal; `Memory` if memory was refused.
 ///
 /// # Not specified
-/// What an error leaves of the journal, but that other files are as they were.
+/// How much of what is to be cut an error leaves; other files are as they were.
 pub fn cut_journal<E: Volume>(
     notes: &mut E,
     alloc: Global,
@@ -131,6 +149,9 @@ pub fn cut_journal<E: Volume>(
     ensures ok { IsTrue (E.honest notes.old) → OnOk result (Becomes (take len)
         (E.contents notes.old (notes_path folder.now name.now))
         (E.contents notes.new (notes_path folder.now name.now))) }
+    ensures part { IsTrue (E.honest notes.old) → IsCutInPart
+        (E.contents notes.old (notes_path folder.now name.now)) len
+        (E.contents notes.new (notes_path folder.now name.now)) }
     ensures others { IsTrue (E.honest notes.old) → KeepsOthers
         (E.contents notes.old) (E.contents notes.new) (notes_path folder.now name.now) }
 {
@@ -143,6 +164,8 @@ fn cut_at<E: Volume>(notes: &mut E, path: &str, len: u64) -> Result<(), ReadFaul
     ensures honest { E.honest notes.new ≡ E.honest notes.old }
     ensures ok { IsTrue (E.honest notes.old) → OnOk result (Becomes (take len)
         (E.contents notes.old path.now) (E.contents notes.new path.now)) }
+    ensures part { IsTrue (E.honest notes.old) →
+        IsCutInPart (E.contents notes.old path.now) len (E.contents notes.new path.now) }
     ensures others { IsTrue (E.honest notes.old) →
         KeepsOthers (E.contents notes.old) (E.contents notes.new) path.now }
 {
@@ -168,7 +191,8 @@ fn cut_at<E: Volume>(notes: &mut E, path: &str, len: u64) -> Result<(), ReadFaul
 /// `Memory` if memory was refused.
 ///
 /// # Not specified
-/// What an error leaves of the file, but that other files are as they were.
+/// What an error leaves of the file, but that its samples stay, and that other files are as they
+/// were.
 pub fn adopt_file<D: Volume>(
     takes: &mut D,
     alloc: Global,
@@ -182,6 +206,10 @@ pub fn adopt_file<D: Volume>(
         (adopted adoption.now header.now)
         (D.contents takes.old (wave_path folder.now name.now))
         (D.contents takes.new (wave_path folder.now name.now))) }
+    ensures part { IsTrue (D.honest takes.old) → (place count : ℕ) →
+        AdoptsInPart place count adoption.now header.now
+        (D.contents takes.old (wave_path folder.now name.now))
+        (D.contents takes.new (wave_path folder.now name.now)) }
     ensures others { IsTrue (D.honest takes.old) → ChangesTake folder.now name.now
         (D.contents takes.old) (D.contents takes.new) }
     ensures kept { IsTrue (keeps_file adoption.now) → takes.new ≡ takes.old }
@@ -207,6 +235,9 @@ fn mend_at<D: Volume>(
     ensures ok { IsTrue (D.honest takes.old) → OnOk result
         (D.contents takes.new path.now
         ≡ option_map (patched mending.now header.now) (D.contents takes.old path.now)) }
+    ensures part { IsTrue (D.honest takes.old) → (place count : ℕ) →
+        MendsInPart place count mending.now header.now
+        (D.contents takes.old path.now) (D.contents takes.new path.now) }
     ensures others { IsTrue (D.honest takes.old) →
         KeepsOthers (D.contents takes.old) (D.contents takes.new) path.now }
 {
@@ -232,6 +263,8 @@ fn set_aside<D: Volume>(
     ensures honest { D.honest takes.new ≡ D.honest takes.old }
     ensures ok { IsTrue (D.honest takes.old) → OnOk result (IsAside folder.now name.now
         (D.contents takes.old) (D.contents takes.new)) }
+    ensures part { IsTrue (D.honest takes.old) → MayMove folder.now name.now
+        (D.contents takes.old) (D.contents takes.new) }
     ensures others { IsTrue (D.honest takes.old) → ChangesTake folder.now name.now
         (D.contents takes.old) (D.contents takes.new) }
 {
@@ -257,7 +290,7 @@ fn try_aside<D: Volume>(
         IsAside folder.now name.now (D.contents takes.old) (D.contents takes.new)) }
     ensures stays { IsTrue (D.honest takes.old) → IfOk result (λ moved. IsFalse moved →
         KeepsEach (D.contents takes.old) (D.contents takes.new)) }
-    ensures err { IsTrue (D.honest takes.old) → OnErr result (ChangesTake folder.now name.now
+    ensures err { IsTrue (D.honest takes.old) → OnErr result (MayMove folder.now name.now
         (D.contents takes.old) (D.contents takes.new)) }
 {
     let from = path_in(alloc, folder, name, ".wav")?;

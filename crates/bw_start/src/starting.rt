@@ -8,6 +8,7 @@ ghost use Rattle.bw_session.specs.Books.{HoldsBook, NotesBook};
 ghost use Rattle.bw_start.specs.Restored.{IsUnchanged, RefusesFolder, KeepsTheRest, IsPlainFault};
 ghost use Rattle.bw_start.specs.Restored.{HasFewDone, IsSoundFolder, ResumesFolder, count_done};
 ghost use Rattle.bw_model.specs.Turn.{most_takes};
+ghost use Rattle.bw_start.specs.StaysLeft.{BooksStayLeft};
 ghost use Rattle.bw_start.specs.Started.{IsLeftIn, IsSetTo, OfEachBookLeft};
 ghost use Rattle.bw_folder.specs.TakeFolders.{takes_disk};
 ghost use Rattle.bw_folder.specs.JournalFolders.{journals_disk};
@@ -34,7 +35,8 @@ use std::alloc::{AllocError, Global};
 /// The fault, with both disks. `Refused` if something is wrong with the journal or the file of a
 /// name, with each of those; `TooMany` if more names have done numbers than a server keeps. `Disk`
 /// if a call of a disk failed, also after some names were restored, or if a file can't be opened for
-/// lack of memory; `Memory` if memory was refused. The same folder may be started over again.
+/// lack of memory; `Memory` if memory was refused. Whatever book an earlier server left, the disks
+/// still hold what it may leave, so the same folder may be started over again.
 ///
 /// # Not specified
 /// When memory is refused.
@@ -49,10 +51,7 @@ pub fn start<D: Volume, E: Volume, W: StartWatch>(
 ) -> Result<Server<FolderStore<D>, FolderJournal<E>>, (StartFault, D, E)>
     ensures holds { IsTrue (D.honest takes) → IsTrue (E.honest notes) → IfOk result
         (λ s. OfEachBookLeft limit folder.now (E.contents notes) (D.contents takes)
-        (λ first book. HoldsBook _ _ first s (cut_book book))) }
-    ensures noted { IsTrue (D.honest takes) → IsTrue (E.honest notes) → IfOk result
-        (λ s. OfEachBookLeft limit folder.now (E.contents notes) (D.contents takes)
-        (λ first book. NotesBook _ _ first s (cut_book book))) }
+        (λ first book. HoldsBook _ _ first s (cut_book book) × NotesBook _ _ first s (cut_book book))) }
     ensures admits { IsTrue (D.honest takes) → IsTrue (E.honest notes) → IfErr result
         (λ e. OfEachBookLeft limit folder.now (E.contents notes) (D.contents takes)
         (λ first book. HasFewDone limit folder.now (E.contents notes) → IsPlainFault e.0)) }
@@ -68,6 +67,8 @@ pub fn start<D: Volume, E: Volume, W: StartWatch>(
         (E.contents (journals_disk (server_journal s))) (D.contents (takes_disk (server_store s)))) }
     ensures untouched_back { IsTrue (D.honest takes) → IsTrue (E.honest notes) → IfErr result
         (λ e. KeepsTheRest limit folder.now (E.contents notes) (D.contents takes) (E.contents e.2) (D.contents e.1)) }
+    ensures left_back { IsTrue (D.honest takes) → IsTrue (E.honest notes) → IfErr result
+        (λ e. BooksStayLeft limit folder.now (E.contents notes) (D.contents takes) (E.contents e.2) (D.contents e.1)) }
 {
     let mut takes = takes;
     let mut notes = notes;

@@ -76,8 +76,8 @@ impl Folder {
 /// Starts a server over what was left, if none runs.
 ///
 /// # Errors
-/// `Memory` if memory was refused, `Start` if the start failed, as memory was refused in it. What such
-/// a start leaves isn't claimed, so the rehearsal ends.
+/// `Memory` if memory was refused, `Start` if the start failed, as memory was refused in it: the
+/// rehearsal ends then.
 ///
 /// # Not specified
 /// When memory is refused.

@@ -1,8 +1,10 @@
-use Rattle.std.proofs.Common.{◌≡◌, ℕ, ◌+◌, ◌%◌, ◌∙◌, ◌↔◌, ◌++◌, List, cond, not, IsTrue, Option, Some, ap, subst}
+use Rattle.std.proofs.Common.{◌≡◌, ℕ, ◌+◌, ◌%◌, ◌∙◌, ◌↔◌, ◌++◌, List, cond, not, IsTrue, Option, Some, ap, subst, arith}
 use Rattle.std.proofs.Common.{take, drop, length}
 use Rattle.std.specs.Str.{bytes_eq}
 use Rattle.bw_model.specs.Layout.{pad}
 use Rattle.bw_model.specs.File.{data_place}
+use Rattle.bw_start.specs.Files.{data_end}
+use Rattle.bw_start.proofs.JudgedFiles.{cut_past}
 use Rattle.bw_start.proofs.MendingLemmas.{patches}
 use Rattle.bw_start.proofs.adoption.least_mending.Goals as goal
 
@@ -22,3 +24,10 @@ returns-clause-mended c limit f file seen long header len =
     (c.kept_len-kept.ensures ∙ ap (λ (m : ℕ). m + cond c.is_padded.result 1 0) c.data_end.ensures.value)
     (λ z e. c.cut.ensures.value z (seen.len ∙ e))
     ∙ ap (λ (z : List ℕ). z ++ (take p.samples_len (drop (data_place (length p.history)) file) ++ pad p.samples_len)) header
+
+pub returns-clause-cut : goal.returns-clause-cut
+returns-clause-cut c =
+    let kept = c.kept_len-kept.ensures in
+    let ends = c.data_end.ensures.value in
+    cut_past c.cut.result c.kept_len-kept.result (data_end c.args.state.now.parts) c.cut.ensures.kept
+    (omega (arith, kept, ends))

@@ -31,4 +31,4 @@ returns-in-Damaged-clause-found g c honest limit name is =
 
 pub returns-in-OtherLimit-clause-found : goal.returns-in-OtherLimit-clause-found
 returns-in-OtherLimit-clause-found g c honest limit name is =
-    c.other_limit.ensures limit name _ (is OtherLimit (ap fault_meaning c.in-OtherLimit.is))
+    c.other_limit.ensures.found limit name _ (is OtherLimit (ap fault_meaning c.in-OtherLimit.is))

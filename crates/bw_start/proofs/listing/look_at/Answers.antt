@@ -1,6 +1,6 @@
 use Rattle.std.proofs.Common.{List, ℕ, sym, subst}
 use Rattle.std.specs.Prelude.{IsSome}
-use Rattle.bw_start.specs.Findings.{IsFound}
+use Rattle.bw_start.specs.Findings.{IsFound, SparesFile}
 use Rattle.bw_start.specs.FoundNames.{IsFoundIn}
 use Rattle.bw_start.specs.Paths.{wave_path, notes_path}
 use Rattle.bw_start.proofs.ListForms.{found_in, of_some}
@@ -16,4 +16,5 @@ returns-in-Some-clause-found g c = λ takes notes.
     (notes_path c.args.folder.now c.args.name.now))) c.in-Some.is (c.in_ok-finding.ensures.some notes))
     (λ journal e. of_some c.in_ok-finding.field-0 c.in-Some.finding (IsFound c.args.limit c.args.name.now journal
     (g.D.Disk.contents c.args.takes.now (wave_path c.args.folder.now c.args.name.now))) c.in-Some.is
-    (c.in_ok-finding.ensures.found takes notes journal e)))
+    (c.in_ok-finding.ensures.found takes notes journal e))
+    (of_some c.in_ok-finding.field-0 c.in-Some.finding SparesFile c.in-Some.is c.in_ok-finding.ensures.spares))

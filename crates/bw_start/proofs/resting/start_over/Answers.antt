@@ -2,8 +2,10 @@ use Rattle.std.proofs.Common.{IsTrue, List, ℕ, Option, refl, sym, subst}
 use Rattle.std.proofs.Math.Path.{fun_ext}
 use Rattle.bw_start.specs.Restored.{HasFewDone, KeepsTheRest, RefusesFolder}
 use Rattle.bw_start.specs.Started.{IsLeftIn}
+use Rattle.bw_start.specs.StaysLeft.{BooksStayLeft}
 use Rattle.bw_start.specs.RestingStarts.{StartsOver}
 use Rattle.bw_start.proofs.LookForms.{whole_next}
+use Rattle.bw_start.proofs.LeftForms.{books_same}
 use Rattle.bw_start.proofs.RestingForms.{both_unchanged, unchanged_with, whole_now, rest_kept}
 use Rattle.bw_start.proofs.resting.start_over.Goals as goal
 
@@ -17,8 +19,8 @@ returns-in-Ok-clause-started g c = λ ht hn.
     subst (λ (f : List ℕ → Option (List ℕ)). StartsOver c.args.settings c.args.folder.now f
     (g.D.Disk.contents c.args.takes) c.in-Ok.server) same
     (record {
-      holds = s.holds ht hn1;
-      noted = s.noted ht hn1;
+      holds = λ first book left. (s.holds ht hn1 first book left).0;
+      noted = λ first book left. (s.holds ht hn1 first book left).1;
       sound = s.sound ht hn1;
       free = rw same (c.in_default.ensures.free hn);
       untouched = s.untouched ht hn1;
@@ -71,3 +73,17 @@ returns-in-Err-start-clause-untouched_back g c = λ ht hn.
     subst (λ (f : List ℕ → Option (List ℕ)). KeepsTheRest c.args.settings.limit c.args.folder.now f
     (g.D.Disk.contents c.args.takes) (g.E.Disk.contents c.in-Err-start.notes) (g.D.Disk.contents c.in-Err-start.takes))
     (fun_ext (read.contents hn)) (c.in-Err-start.ensures.untouched_back ht (subst IsTrue (sym read.honest) hn))
+
+-- nothing was changed
+pub returns-in-Err-clause-left_back : goal.returns-in-Err-clause-left_back
+returns-in-Err-clause-left_back g c = λ ht hn.
+    books_same c.args.settings.limit c.args.folder.now (g.E.Disk.contents c.args.notes) (g.D.Disk.contents c.args.takes)
+    (g.E.Disk.contents c.judge_rest.new.notes) (g.D.Disk.contents c.args.takes)
+    (c.judge_rest.ensures.notes.contents hn) (λ path. refl)
+
+pub returns-in-Err-start-clause-left_back : goal.returns-in-Err-start-clause-left_back
+returns-in-Err-start-clause-left_back g c = λ ht hn.
+    let read = c.judge_rest.ensures.notes in
+    subst (λ (f : List ℕ → Option (List ℕ)). BooksStayLeft c.args.settings.limit c.args.folder.now f
+    (g.D.Disk.contents c.args.takes) (g.E.Disk.contents c.in-Err-start.notes) (g.D.Disk.contents c.in-Err-start.takes))
+    (fun_ext (read.contents hn)) (c.in-Err-start.ensures.left_back ht (subst IsTrue (sym read.honest) hn))

@@ -24,8 +24,8 @@ returns-in-Ok-start c = λ book left.
     (record {
       honest = refl;
       honest_notes = refl;
-      held = s.holds refl refl no_contents book there;
-      noted = s.noted refl refl no_contents book there;
+      held = (s.holds refl refl no_contents book there).0;
+      noted = (s.holds refl refl no_contents book there).1;
       settings = s.settings;
       untouched = (s.untouched refl refl).1;
     }) in
