@@ -1,15 +1,13 @@
 -- What was offered are the first of the feed's requests, and what an upload that is done says of them.
 use Rattle.std.proofs.Common.{◌≡◌, ◌≢◌, ℕ, suc, zero, ◌<◌, Bool, true, false, List, [], ◌∷◌, ◌++◌, length, Option, Some, None}
 use Rattle.std.proofs.Common.{refl, sym, cond, ap, subst, ◌∙◌, arith, append_assoc, append-nil}
-use Rattle.std.specs.Prelude.{◌&&◌, ◌==◌, is_none, slice_get}
-use Rattle.std.proofs.lemmas.Bool.{eqb-true, false≢true}
-use Rattle.bw_model.specs.Bytes.{at, put}
-use Rattle.bw_model.specs.Replies.{Reply, Judged, Noticed, Refused}
-use Rattle.bw_model.specs.Take.{Request, Verdict, Stored, is_stored, NameTaken, AlreadyOpen, NotOpen, Closed, BadFormat}
-use Rattle.bw_model.specs.Take.{BadBlock, BadMarker, DuplicateMarker, TooManyMarkers, BadField, WrongTotal}
-use Rattle.bw_model.specs.World.{Sender as Defined, OfferFault, offer, offer_fault, hear, is_counted, pending, pending_from}
+use Rattle.std.specs.Prelude.{◌==◌, is_none, slice_get}
+use Rattle.std.proofs.lemmas.Bool.{and_parts, eqb-true, false≢true}
+use Rattle.bw_model.specs.Bytes.{at}
+use Rattle.bw_model.specs.Take.{Request, Verdict, Stored, is_stored}
+use Rattle.bw_model.specs.World.{Sender as Defined, OfferFault, offer, offer_fault, pending, pending_from}
 use Rattle.bw_model.specs.World.{refused, refused_from}
-use Rattle.bw_engine.specs.Hears.{hear_all}
+use Rattle.bw_engine.proofs.HeardSenders.{all_heard, stored_is}
 use Rattle.bw_stream.specs.declared.sink.Sink.{Ghosts as Writer}
 use Rattle.bw_stream.specs.declared.source.Source.{Ghosts as Reader}
 use Rattle.bw_ports.specs.declared.dial.Dial.{Ghosts as DialGhosts}
@@ -29,34 +27,7 @@ use Rattle.bw_upload.specs.declared.outcome.Outcome.TheVariants as outcomes
 accepted : (s : Defined) (r : Request) → offer_fault s r ≡ None → offer s r ≡ record s { offered = s.offered ++ r ∷ [] }
 accepted s r e = ap (λ (o : Option OfferFault). cond (is_none o) (record s { offered = s.offered ++ r ∷ [] }) s) e
 
-one_heard : (s : Defined) (r : Reply) → (hear s r).offered ≡ s.offered
-one_heard s (Judged name n v) = go (is_counted s name n)
-  where
-    go : (b : Bool) → (cond b (record s { verdicts = put s.verdicts n v }) s).offered ≡ s.offered
-    go true = refl
-    go false = refl
-one_heard s (Noticed name n code next) = refl
-one_heard s (Refused reason place) = refl
-
-all_heard : (s : Defined) (rs : List Reply) → (hear_all s rs).offered ≡ s.offered
-all_heard s [] = refl
-all_heard s (r ∷ rs) = all_heard (hear s r) rs ∙ one_heard s r
-
 -- ---- all of them stored
-
-is_stored_so : (v : Verdict) → is_stored v ≡ true → v ≡ Stored
-is_stored_so Stored e = refl
-is_stored_so NameTaken e = absurd (false≢true e)
-is_stored_so AlreadyOpen e = absurd (false≢true e)
-is_stored_so NotOpen e = absurd (false≢true e)
-is_stored_so Closed e = absurd (false≢true e)
-is_stored_so BadFormat e = absurd (false≢true e)
-is_stored_so BadBlock e = absurd (false≢true e)
-is_stored_so BadMarker e = absurd (false≢true e)
-is_stored_so DuplicateMarker e = absurd (false≢true e)
-is_stored_so TooManyMarkers e = absurd (false≢true e)
-is_stored_so BadField e = absurd (false≢true e)
-is_stored_so WrongTotal e = absurd (false≢true e)
 
 -- where none has no verdict, and none is refused
 each_stored : (m : ℕ) (rs : List Request) (vs : List (Option Verdict)) → pending_from m rs vs ≡ [] →
@@ -69,7 +40,7 @@ each_stored m (r ∷ rs) (Some v ∷ vs) none welcome n lt =
   where
     place : (k : ℕ) → k < suc (length rs) → is_stored v ≡ true →
         ((j : ℕ) → j < length rs → at vs j ≡ Some Stored) → at (Some v ∷ vs) k ≡ Some Stored
-    place zero lt e rec = ap Some (is_stored_so v e)
+    place zero lt e rec = ap Some (stored_is v e)
     place (suc k) lt e rec = rec k (omega (arith, lt))
 
     go : (b : Bool) → is_stored v ≡ b →
@@ -87,11 +58,6 @@ no_length : {X : Type 0} (xs : List X) → length xs ≡ 0 → xs ≡ []
 no_length [] e = refl
 no_length (x ∷ xs) e = absurd (omega (arith, e))
 
-both : (a b : Bool) → (a && b) ≡ true → (a ≡ true) × (b ≡ true)
-both true true e = (refl, refl)
-both true false e = absurd (false≢true e)
-both false b e = absurd (false≢true e)
-
 none_there : {X : Type 0} (o : Option X) → is_none o ≡ true → o ≡ None
 none_there None e = refl
 none_there (Some x) e = absurd (false≢true e)
@@ -99,8 +65,8 @@ none_there (Some x) e = absurd (false≢true e)
 -- an upload is done with the feed at its end, and each request stored
 done_so : (s : Defined) (ended : Bool) → is_done s ended ≡ true → (ended ≡ true) × HasEachStored s
 done_so s ended done =
-    let first = both ended _ done in
-    let second = both (is_none (pending s 0)) (length (refused s) == 0) first.1 in
+    let first = and_parts ended _ done in
+    let second = and_parts (is_none (pending s 0)) (length (refused s) == 0) first.1 in
     let none = no_first (pending_from 0 s.offered s.verdicts) (none_there (pending s 0) second.0) in
     let welcome = no_length (refused s) (eqb-true (length (refused s)) 0 second.1) in
     (first.0, each_stored 0 s.offered s.verdicts none welcome)
@@ -228,7 +194,7 @@ module _ {F P D R W X : Type 0} (feed : FeedGhosts F X) (pause : PauseGhosts P) 
   feeds_so es s requests f p d y outcome went rightly left =
       let so = fed_chain es s requests (starts s f p d) y went (fed_first s requests f p d left) in
       let is : says_done outcome ≡ true → is_done y.filling.sender y.filling.is_ended ≡ true = λ done.
-      (both (is_done y.filling.sender y.filling.is_ended) _ (sym (rightly (not_memory outcome done)) ∙ done)).0 in
+      (and_parts (is_done y.filling.sender y.filling.is_ended) _ (sym (rightly (not_memory outcome done)) ∙ done)).0 in
       record {
         given = so.given;
         rest = so.rest;

@@ -15,9 +15,9 @@ use Rattle.bw_sender.specs.declared.offer.OfferError.{OfferError}
 use Rattle.bw_sender.specs.declared.offer.OfferError.TheVariants as errors
 use Rattle.bw_ports.specs.declared.pause.Pause.{Ghosts as PauseGhosts}
 use Rattle.bw_upload.specs.Chains.{Chain}
-use Rattle.bw_upload.specs.Filling.{Filling, FillEvent, FillStep, Takes, Lacks, Closes, MayAsk, AsksFeed}
+use Rattle.bw_upload.specs.Filling.{is_done, Filling, FillEvent, FillStep, Takes, Lacks, Closes, MayAsk, AsksFeed}
 use Rattle.bw_upload.specs.Stopping.{StopsFeed}
-use Rattle.bw_upload.specs.Supplies.{IsFilling, FillsUp, FillsOnce, FollowsFeed}
+use Rattle.bw_upload.specs.Supplies.{IsFilling, FilledBy, FilledOnceBy, FillsUp, FillsOnce, FollowsFeed}
 use Rattle.bw_upload.specs.Supplies.{outcome_of_offer}
 use Rattle.bw_upload.specs.declared.feed.Feed.{Ghosts as FeedGhosts}
 use Rattle.bw_upload.specs.declared.feed.Given.{Given}
@@ -66,6 +66,11 @@ pub lent_is_none : (o : Option (ℕ × Bor Request)) (p : Option (ℕ × Request
     is_none o ≡ is_none p
 lent_is_none None p e = ap is_none e
 lent_is_none (Some x) p e = ap is_none e
+
+-- whether a sender is done, by what the code knows of its feed
+pub done_as : {F P : Type 0} {supply : Supply} {f : F} {p : P} (x : Filling F P) (done : Bool) → IsFilling x supply f p →
+    is_done x.sender supply.is_ended ≡ done → is_done x.sender x.is_ended ≡ done
+done_as x done filling is = ap (λ (e : Bool). is_done x.sender e) (sym filling.ended) ∙ is
 
 module _ {F P X : Type 0} (feed : FeedGhosts F X) (pause : PauseGhosts P) where
   -- ---- one question
@@ -172,19 +177,25 @@ module _ {F P X : Type 0} (feed : FeedGhosts F X) (pause : PauseGhosts P) where
   lacks (Ok gives.End) x supply supply' f f' p p' is may g h waits = absurd (true_or_false (Ok false) h.0 refl)
   lacks (Err fault) x supply supply' f f' p p' is may g h waits = absurd (ok_or_err (Ok false) false (outcomes.Feed fault) refl h.0)
 
+  has_lacked : (result : Result Bool (Outcome X)) (x : Filling F P) (supply : Supply) (f : F) (p : P) →
+      FillStep feed pause Lacks x (waiting_on x f p) →
+      FilledOnceBy feed pause result (Lacks ∷ []) (waiting_on x f p) supply f p →
+      FillsOnce feed pause result x supply f p
+  has_lacked result x supply f p step by = record {
+    events = Lacks ∷ [];
+    after = waiting_on x f p;
+    went = (waiting_on x f p, step, refl);
+    verdicts = refl;
+    by = by;
+  }
+
   pub fills_waiting : (given : Result Given X) (x : Filling F P) (supply supply' : Supply) (f f' : F) (p p' : P) →
       IsFilling x supply f p → MayAsk feed pause x → AsksFeed feed f given f' →
       FollowsFeed (Ok false) given x.sender supply supply' → pending x.sender 0 ≡ None → pause.waits p 100 p' →
       FillsOnce feed pause (Ok true) x supply' f' p'
   fills_waiting given x supply supply' f f' p p' is may g h none waits =
       let l = lacks given x supply supply' f f' p p' is may g h (inl (none, waits)) in
-      record {
-        events = Lacks ∷ [];
-        after = waiting_on x f' p';
-        went = (waiting_on x f' p', l.0, refl);
-        verdicts = refl;
-        by = (l.1, refl);
-      }
+      has_lacked (Ok true) x supply' f' p' l.0 (l.1, refl)
 
   pub fills_later : (given : Result Given X) (x : Filling F P) (supply supply' : Supply) (f f' : F) (p : P) →
       IsFilling x supply f p → MayAsk feed pause x → AsksFeed feed f given f' →
@@ -192,13 +203,7 @@ module _ {F P X : Type 0} (feed : FeedGhosts F X) (pause : PauseGhosts P) where
       FillsOnce feed pause (Ok false) x supply' f' p
   fills_later given x supply supply' f f' p is may g h some =
       let l = lacks given x supply supply' f f' p p is may g h (inr (some, refl)) in
-      record {
-        events = Lacks ∷ [];
-        after = waiting_on x f' p;
-        went = (waiting_on x f' p, l.0, refl);
-        verdicts = refl;
-        by = (l.1, inr some);
-      }
+      has_lacked (Ok false) x supply' f' p l.0 (l.1, inr some)
 
   -- nothing may be pending where it had nothing yet
   pub lacks_sender : (given : Result Given X) (s : Defined) (supply supply' : Supply) →
@@ -211,25 +216,23 @@ module _ {F P X : Type 0} (feed : FeedGhosts F X) (pause : PauseGhosts P) where
   lacks_sender (Ok gives.End) s supply supply' h is = subst (IsSender s) (sym h.2) is
   lacks_sender (Err fault) s supply supply' h is = subst (λ (z : Supply). IsSender s z.sender) (sym h.1) is
 
-  -- the upload ends
+  -- the upload ends, without a step
+  ends_here : (outcome : Outcome X) (x : Filling F P) (supply : Supply) (f : F) (p : P) →
+      FilledOnceBy feed pause (Err outcome) [] x supply f p → FillsOnce feed pause (Err outcome) x supply f p
+  ends_here outcome x supply f p by = record { events = []; after = x; went = refl; verdicts = refl; by = by }
+
   pub fills_stopped : (outcome : Outcome X) (given : Result Given X) (x : Filling F P) (supply supply' : Supply)
       (f f' : F) (p : P) → IsFilling x supply f p → MayAsk feed pause x → AsksFeed feed f given f' →
       FollowsFeed (Err outcome) given x.sender supply supply' → FillsOnce feed pause (Err outcome) x supply' f' p
   fills_stopped outcome (Ok (gives.Request r)) x supply supply' f f' p is may g h =
       let stop = stopped h.0 (subst (λ (z : F). AsksFeed feed z (Ok (gives.Request r)) f') (sym is.feed) g) h.2 in
-      record {
-        events = [];
-        after = x;
-        went = refl;
-        verdicts = refl;
-        by = (
-          h.3,
-          may.goes_on,
-          is.pause,
-          subst (λ (z : Outcome X). StopsFeed feed pause z x f') (sym h.1) stop.0,
-          λ e. stop.1 (sym h.1 ∙ e),
-        );
-      }
+      ends_here outcome x supply' f' p (
+        h.3,
+        may.goes_on,
+        is.pause,
+        subst (λ (z : Outcome X). StopsFeed feed pause z x f') (sym h.1) stop.0,
+        λ e. stop.1 (sym h.1 ∙ e),
+      )
     where
       stopped : (error : OfferError) → AsksFeed feed x.feed (Ok (gives.Request r)) f' →
           fault_of error ≡ offer_fault x.sender r →
@@ -243,20 +246,14 @@ module _ {F P X : Type 0} (feed : FeedGhosts F X) (pause : PauseGhosts P) where
   fills_stopped outcome (Ok gives.End) x supply supply' f f' p is may g h = absurd (ok_or_err (Err outcome) true outcome h.0 refl)
   fills_stopped outcome (Err fault) x supply supply' f f' p is may g h =
       let same : outcome ≡ outcomes.Feed fault = same_err (Err outcome) outcome (outcomes.Feed fault) refl h.0 in
-      record {
-        events = [];
-        after = x;
-        went = refl;
-        verdicts = refl;
-        by = (
-          subst (λ (z : Supply). IsSender x.sender z.sender) (sym h.1) is.sender,
-          may.goes_on,
-          is.pause,
-          subst (λ (z : Outcome X). StopsFeed feed pause z x f') (sym same)
-              (may, subst (λ (z : F). AsksFeed feed z (Err fault) f') (sym is.feed) g),
-          λ e. not_limit (sym same ∙ e),
-        );
-      }
+      ends_here outcome x supply' f' p (
+        subst (λ (z : Supply). IsSender x.sender z.sender) (sym h.1) is.sender,
+        may.goes_on,
+        is.pause,
+        subst (λ (z : Outcome X). StopsFeed feed pause z x f') (sym same)
+            (may, subst (λ (z : F). AsksFeed feed z (Err fault) f') (sym is.feed) g),
+        λ e. not_limit (sym same ∙ e),
+      )
     where
       not_limit : outcomes.Feed fault ≡ outcomes.Limit → ⊥
       not_limit e = absurd cc
@@ -299,6 +296,20 @@ module _ {F P X : Type 0} (feed : FeedGhosts F X) (pause : PauseGhosts P) where
         many = omega (arith, len, so.many, m.by.1);
       }
 
+  -- the questions so far, and the last one
+  with_last : (n : ℕ) (result : Result (Unit {0}) (Outcome X)) (once : Result Bool (Outcome X)) (x : Filling F P)
+      (supply supply' : Supply) (f f' : F) (p p' : P) (so : FilledSoFar n x supply f p)
+      (m : FillsOnce feed pause once so.after supply' f' p') →
+      FilledBy feed pause result (so.events ++ m.events) m.after supply' f' p' →
+      FillsUp feed pause result x supply' f' p'
+  with_last n result once x supply supply' f f' p p' so m by = record {
+    events = so.events ++ m.events;
+    after = m.after;
+    went = chain_on (FillStep feed pause) so.events m.events x so.after m.after so.went m.went;
+    verdicts = m.verdicts ∙ so.verdicts;
+    by = by;
+  }
+
   pub so_far_done : (n : ℕ) (go_on : Bool) (x : Filling F P) (supply supply' : Supply) (f f' : F) (p p' : P) →
       go_on ≡ false → FilledSoFar n x supply f p →
       ((y : Filling F P) → IsFilling y supply f p → FillsOnce feed pause (Ok go_on) y supply' f' p') →
@@ -306,13 +317,7 @@ module _ {F P X : Type 0} (feed : FeedGhosts F X) (pause : PauseGhosts P) where
   so_far_done n true x supply supply' f f' p p' e so h = absurd cc
   so_far_done n false x supply supply' f f' p p' e so h =
       let m = h so.after so.is in
-      record {
-        events = so.events ++ m.events;
-        after = m.after;
-        went = chain_on (FillStep feed pause) so.events m.events x so.after m.after so.went m.went;
-        verdicts = m.verdicts ∙ so.verdicts;
-        by = m.by;
-      }
+      with_last n (Ok tt) (Ok false) x supply supply' f f' p p' so m m.by
 
   pub so_far_stopped : (n : ℕ) (outcome : Outcome X) (x : Filling F P) (supply supply' : Supply) (f f' : F) (p p' : P)
       → FilledSoFar n x supply f p →
@@ -320,13 +325,8 @@ module _ {F P X : Type 0} (feed : FeedGhosts F X) (pause : PauseGhosts P) where
       FillsUp feed pause (Err outcome) x supply' f' p'
   so_far_stopped n outcome x supply supply' f f' p p' so h =
       let m = h so.after so.is in
-      record {
-        events = so.events ++ m.events;
-        after = m.after;
-        went = chain_on (FillStep feed pause) so.events m.events x so.after m.after so.went m.went;
-        verdicts = m.verdicts ∙ so.verdicts;
-        by = (m.by.0, m.by.1, m.by.2, m.by.3, λ e. absurd (m.by.4 e));
-      }
+      with_last n (Err outcome) (Err outcome) x supply supply' f f' p p' so m
+      (m.by.0, m.by.1, m.by.2, m.by.3, λ e. absurd (m.by.4 e))
 
   pub so_far_ended : (n : ℕ) (x : Filling F P) (supply : Supply) (f : F) (p : P) → supply.is_ended ≡ true →
       FilledSoFar n x supply f p → FillsUp feed pause (Ok tt) x supply f p

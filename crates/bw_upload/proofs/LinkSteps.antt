@@ -1,6 +1,6 @@
 -- Links are made, one after another.
 use Rattle.std.proofs.Common.{◌≡◌, ◌⊎◌, ℕ, suc, ◌+◌, ◌-◌, ◌^◌, ◌≤◌, Bool, true, false, List, [], ◌∷◌, ◌++◌, length, map}
-use Rattle.std.proofs.Common.{Option, Some, None, Ok, Err, refl, sym, ap, subst, ◌∙◌, append_assoc, arith, inl, inr}
+use Rattle.std.proofs.Common.{Option, Some, None, Result, Ok, Err, refl, sym, ap, subst, ◌∙◌, append_assoc, arith, inl, inr}
 use Rattle.std.specs.Prelude.{is_none, ◌&&◌, ◌==◌, nat_lt, if◌then◌else◌}
 use Rattle.std.proofs.Math.Bool.{and-false, and-true}
 use Rattle.std.proofs.lemmas.Bool.{eqb-true, le-ltb}
@@ -22,7 +22,7 @@ use Rattle.bw_upload.specs.Conversing.{new_line}
 use Rattle.bw_upload.specs.Courses.{Course, CourseStep, UploadEvent, Fills, Misses, Makes, Leaves, fruitless_after, starts}
 use Rattle.bw_upload.specs.Filling.{Filling, FillEvent, FillStep, is_done}
 use Rattle.bw_upload.specs.FinalStops.{final_stop, final_stops, named_stop}
-use Rattle.bw_upload.specs.Links.{says_done, EndsFilled, Prepares, EndsUpload, DialsNext}
+use Rattle.bw_upload.specs.Links.{says_done, EndsFilled, PreparedBy, Prepares, EndsUpload, DialsNext}
 use Rattle.bw_upload.specs.Links.{LinkAsked, end_of_link, WaitsBefore}
 use Rattle.bw_upload.specs.Stopping.{StopsFeed}
 use Rattle.bw_upload.specs.Supplies.{IsFilling, FillsUp, RefusedBy}
@@ -145,50 +145,42 @@ module _ {F P X : Type 0} (feed : FeedGhosts F X) (pause : PauseGhosts P) (most 
   prep_refused outcomes.Memory n x supply f p is r = absurd r
   prep_refused outcomes.Limit n x supply f p is r = absurd r
 
+  -- the window was filled, and nothing else was done
+  as_filled : (filled result : Result (Unit {0}) (Outcome X)) (n : ℕ) (x : Filling F P) (supply : Supply) (f : F) (p : P)
+      (u : FillsUp feed pause filled x supply f p) →
+      PreparedBy feed pause most result n (length u.events) u.after supply f p →
+      Prepares feed pause most result n x supply f p
+  as_filled filled result n x supply f p u by = record { events = u.events; after = u.after; went = u.went; by = by }
+
   pub prep_stopped : (outcome : Outcome X) (n : ℕ) (x : Filling F P) (supply : Supply) (f : F) (p : P) →
       FillsUp feed pause (Err outcome) x supply f p → Prepares feed pause most (Err outcome) n x supply f p
-  prep_stopped outcome n x supply f p u = record {
-    events = u.events;
-    after = u.after;
-    went = u.went;
-    by = (
-      u.by.0,
-      u.by.2,
-      stop_ends outcome n (length u.events) u.after f u.by.3 u.by.4,
-      λ other. rightly_of outcome _ (stop_names outcome u.after f u.by.3)
-          (stop_says outcome u.after f u.by.3 ∙ sym (undone_open u.after.sender u.after.is_ended u.by.1)),
-    );
-  }
+  prep_stopped outcome n x supply f p u = as_filled (Err outcome) (Err outcome) n x supply f p u (
+    u.by.0,
+    u.by.2,
+    stop_ends outcome n (length u.events) u.after f u.by.3 u.by.4,
+    λ other. rightly_of outcome _ (stop_names outcome u.after f u.by.3)
+        (stop_says outcome u.after f u.by.3 ∙ sym (undone_open u.after.sender u.after.is_ended u.by.1)),
+  )
 
   pub prep_done : (n : ℕ) (x : Filling F P) (supply : Supply) (f : F) (p : P) →
       (u : FillsUp feed pause (Ok tt) x supply f p) → is_done u.after.sender u.after.is_ended ≡ true →
       Prepares feed pause most (Err outcomes.Done) n x supply f p
-  prep_done n x supply f p u done = record {
-    events = u.events;
-    after = u.after;
-    went = u.went;
-    by = (
-      u.by.0.sender,
-      u.by.0.pause,
-      u.by.0.feed,
-      λ other. rightly_of {X = X} outcomes.Done _ refl (sym done),
-    );
-  }
+  prep_done n x supply f p u done = as_filled (Ok tt) (Err outcomes.Done) n x supply f p u (
+    u.by.0.sender,
+    u.by.0.pause,
+    u.by.0.feed,
+    λ other. rightly_of {X = X} outcomes.Done _ refl (sym done),
+  )
 
   pub prep_spent : (n : ℕ) (x : Filling F P) (supply : Supply) (f : F) (p : P) →
       (u : FillsUp feed pause (Ok tt) x supply f p) → is_done u.after.sender u.after.is_ended ≡ false →
       is_spent most n ≡ true → Prepares feed pause most (Err outcomes.Fruitless) n x supply f p
-  prep_spent n x supply f p u undone spent = record {
-    events = u.events;
-    after = u.after;
-    went = u.went;
-    by = (
-      u.by.0.sender,
-      u.by.0.pause,
-      (spent, u.by.0.feed),
-      λ other. rightly_of {X = X} outcomes.Fruitless _ refl (sym undone),
-    );
-  }
+  prep_spent n x supply f p u undone spent = as_filled (Ok tt) (Err outcomes.Fruitless) n x supply f p u (
+    u.by.0.sender,
+    u.by.0.pause,
+    (spent, u.by.0.feed),
+    λ other. rightly_of {X = X} outcomes.Fruitless _ refl (sym undone),
+  )
 
   pub prep_ready : (n : ℕ) (x : Filling F P) (supply : Supply) (f : F) (p : P) →
       (u : FillsUp feed pause (Ok tt) x supply f p) → length (refused x.sender) ≡ 0 →
@@ -197,12 +189,8 @@ module _ {F P X : Type 0} (feed : FeedGhosts F X) (pause : PauseGhosts P) (most 
   prep_ready n x supply f p u welcome undone left =
       let none : length (refused u.after.sender) ≡ 0 =
       ap (λ (vs : List (Option Verdict)). length (refused_from 0 vs)) u.verdicts ∙ welcome in
-      record {
-        events = u.events;
-        after = u.after;
-        went = u.went;
-        by = (u.by.0, still_some u.after.sender u.after.is_ended undone none u.by.1, none, left);
-      }
+      as_filled (Ok tt) (Ok tt) n x supply f p u
+      (u.by.0, still_some u.after.sender u.after.is_ended undone none u.by.1, none, left)
 
 module _ {F P D R W X : Type 0} (feed : FeedGhosts F X) (pause : PauseGhosts P) (dial : DialGhosts D R W)
     (reader : Reader R) (writer : Writer W) (most : Option ℕ) where
@@ -210,6 +198,10 @@ module _ {F P D R W X : Type 0} (feed : FeedGhosts F X) (pause : PauseGhosts P) 
   Leads es x y = Chain (CourseStep feed pause dial reader writer most) es x y
 
   -- ---- one link
+
+  dialled : {x : Course F P D R W} {supply : Supply} {f : F} {p : P} {d : D} (d' : D) (made : Result (Duplex R W) DialFault) →
+      DialsNext feed pause dial reader writer most x supply f p d → dial.dials d made d' → dial.dials x.dial made d'
+  dialled d' made n called = subst (λ (z : D). dial.dials z made d') (sym n.dial_is) called
 
   pub link_missed : (fault : DialFault) (x : Course F P D R W) (supply : Supply) (f : F) (p : P) (d d' : D) →
       DialsNext feed pause dial reader writer most x supply f p d → dial.dials d (Err fault) d' →
@@ -226,13 +218,7 @@ module _ {F P D R W X : Type 0} (feed : FeedGhosts F X) (pause : PauseGhosts P) 
         after = y;
         went = (
           y,
-          record {
-            may = n.may;
-            waits = n.waits;
-            fault = fault;
-            called = subst (λ (z : D). dial.dials z (Err fault) d') (sym n.dial_is) called;
-            is = refl;
-          },
+          record { may = n.may; waits = n.waits; fault = fault; called = dialled d' (Err fault) n called; is = refl },
           refl,
         );
         by = (
@@ -267,13 +253,7 @@ module _ {F P D R W X : Type 0} (feed : FeedGhosts F X) (pause : PauseGhosts P) 
       dial.dials d (Ok link) d' → Leads es (made_course x p d' link) y → Leads (Makes ∷ es) x y
   made x supply f p d d' link es y n called went = (
     made_course x p d' link,
-    record {
-      may = n.may;
-      waits = n.waits;
-      link = link;
-      called = subst (λ (z : D). dial.dials z (Ok link) d') (sym n.dial_is) called;
-      is = refl;
-    },
+    record { may = n.may; waits = n.waits; link = link; called = dialled d' (Ok link) n called; is = refl },
     went,
   )
 

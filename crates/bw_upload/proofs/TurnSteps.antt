@@ -1,5 +1,5 @@
 -- What a piece does to a conversation.
-use Rattle.std.proofs.Common.{◌≡◌, ◌≢◌, ℕ, ◌+◌, ◌≤◌, true, false, List, [], ◌∷◌, ◌++◌, length, Option, Some, None}
+use Rattle.std.proofs.Common.{◌≡◌, ◌≢◌, ℕ, ◌+◌, ◌≤◌, Bool, true, false, List, [], ◌∷◌, ◌++◌, length, Option, Some, None}
 use Rattle.std.proofs.Common.{Result, Ok, Err, refl, sym, ap, subst, ◌∙◌, arith, inl, inr}
 use Rattle.std.proofs.lemmas.List.{length-append}
 use Rattle.bw_model.specs.Wire.{Reason, Cut}
@@ -12,7 +12,7 @@ use Rattle.bw_sender.specs.declared.sender.Sender.{Sender}
 use Rattle.bw_exchange.specs.Served.{HasGiven, HasNoneLeft}
 use Rattle.bw_engine.specs.Hears.{hear_all, IsHeardUpTo}
 use Rattle.bw_engine.specs.Stops.{first_stop}
-use Rattle.bw_engine.specs.Talks.{HasHeard, Listens, HearsPiece, HearsBadPiece}
+use Rattle.bw_engine.specs.Talks.{Listens, HearsPiece, HearsBadPiece}
 use Rattle.bw_engine.specs.declared.send_fault.SendFault.{SendFault}
 use Rattle.bw_engine.specs.declared.send_fault.SendFault.TheVariants as faults
 use Rattle.bw_engine.specs.declared.stop.Stop.{Stop}
@@ -22,7 +22,7 @@ use Rattle.bw_engine.specs.declared.talk.Talk.{Talk}
 use Rattle.bw_ports.specs.declared.dial.Duplex.{Duplex}
 use Rattle.bw_upload.specs.Chains.{Chain}
 use Rattle.bw_upload.specs.Conversing.{Conversing, TalkEvent, Hears, Says, Breaks, TalkStep, MayHear, HearsReplies, HeedsStop}
-use Rattle.bw_upload.specs.Turns.{IsLine, IsTalking, HeedsAny, HeardBy, HearsTurn, TurnBy, TakesTurn, HearsOut}
+use Rattle.bw_upload.specs.Turns.{IsLine, IsTalking, HeedsAny, HeardBy, HearsTurn, TurnBy, TakesTurn, TalksOn, HearsOut}
 use Rattle.bw_upload.specs.Turns.{turn_end, break_end}
 use Rattle.bw_upload.proofs.ChainSteps.{chain_on}
 use Rattle.bw_model.specs.Stream.{frames_bytes}
@@ -64,16 +64,23 @@ module _ {R W : Type 0} (reader : Reader R) (writer : Writer W) where
     is = refl;
   }
 
+  -- no step was made
+  abbrev no_talk : (x : Conversing R W) (sender : Sender) → IsSender x.sender sender → TalksOn reader writer x sender
+  no_talk x sender is = record { events = []; after = x; went = refl; sender_is = is }
+
+  -- a step was made, and then others
+  abbrev after_step : (e : TalkEvent) (x y : Conversing R W) (sender : Sender) → TalkStep reader writer e x y →
+      TalksOn reader writer y sender → TalksOn reader writer x sender
+  after_step e x y sender step t =
+      record { events = e ∷ t.events; after = t.after; went = (y, step, t.went); sender_is = t.sender_is }
+
   -- nothing was heard, and the link is left
   quiet_turn : (end : Option LinkEnd) (x : Conversing R W) (sender sender' : Sender) (talk' : Talk)
       (link' : Duplex R W) → IsSender x.sender sender → sender' ≡ sender → HeedsAny end x.line.stop →
       HeardBy reader writer end (length x.line.input) x talk' link' →
       HearsTurn reader writer end x sender' talk' link'
   quiet_turn end x sender sender' talk' link' is same heeds by = record {
-    events = [];
-    after = x;
-    went = refl;
-    sender_is = subst (IsSender x.sender) (sym same) is;
+    talks = no_talk x sender' (subst (IsSender x.sender) (sym same) is);
     broken = refl;
     heeds = heeds;
     by = by;
@@ -92,10 +99,7 @@ module _ {R W : Type 0} (reader : Reader R) (writer : Writer W) where
       record { reader = refl; writer = is.line_is.writer; next = said ∙ is.line_is.next; heard = has } in
       let len = length-append x.line.input h.piece in
       record {
-        events = Hears h.heard ∷ [];
-        after = y;
-        went = (y, step, refl);
-        sender_is = h.counted x.sender is.sender_is;
+        talks = after_step (Hears h.heard) x y sender' step (no_talk y sender' (h.counted x.sender is.sender_is));
         broken = refl;
         heeds = heeds stop (sym (h.stop_is x.sender is.sender_is));
         by = by stop line (omega (arith, len, h.some)) (sym (h.stop_is x.sender is.sender_is));
@@ -121,11 +125,9 @@ module _ {R W : Type 0} (reader : Reader R) (writer : Writer W) where
   piece_bad x sender sender' talk talk' link r' is may h =
       let bad = h.follows x.line.input x.line.heard is.line_is.heard in
       let y = after_piece x r' h.piece h.heard in
+      let step = piece_step x link.reader r' h.piece h.heard bad.0 is.line_is.reader may h.some h.given bad.2 in
       record {
-        events = Hears h.heard ∷ [];
-        after = y;
-        went = (y, piece_step x link.reader r' h.piece h.heard bad.0 is.line_is.reader may h.some h.given bad.2, refl);
-        sender_is = h.counted x.sender is.sender_is;
+        talks = after_step (Hears h.heard) x y sender' step (no_talk y sender' (h.counted x.sender is.sender_is));
         broken = refl;
         heeds = tt;
         by = inl (bad.0, bad.1, bad.2);
@@ -181,13 +183,20 @@ module _ {R W : Type 0} (reader : Reader R) (writer : Writer W) where
       IsTalking x sender talk link → OutSoFar x sender talk link
   out_none x sender talk link is = record { events = []; after = x; went = refl; is = is; broken = refl }
 
+  -- what was heard so far, and then more
+  abbrev talks_further : (x : Conversing R W) (sender sender' : Sender) (talk : Talk) (link : Duplex R W)
+      (f : OutSoFar x sender talk link) → TalksOn reader writer f.after sender' → TalksOn reader writer x sender'
+  talks_further x sender sender' talk link f t = record {
+    events = f.events ++ t.events;
+    after = t.after;
+    went = chain_on (TalkStep reader writer) f.events t.events x f.after t.after f.went t.went;
+    sender_is = t.sender_is;
+  }
+
   pub out_over : (x : Conversing R W) (sender : Sender) (talk : Talk) (link : Duplex R W) → x.line.is_broken ≡ true →
       OutSoFar x sender talk link → HearsOut reader writer (ends.Broken faults.Write) x sender talk link
   out_over x sender talk link broken f = record {
-    events = f.events;
-    after = f.after;
-    went = f.went;
-    sender_is = f.is.sender_is;
+    talks = record { events = f.events; after = f.after; went = f.went; sender_is = f.is.sender_is };
     broken = f.broken;
     heeds = f.is.unstopped;
     by = f.broken ∙ broken;
@@ -225,14 +234,12 @@ module _ {R W : Type 0} (reader : Reader R) (writer : Writer W) where
       HearsOut reader writer (break_end end) x sender' talk' link'
   out_end x sender sender' talk talk' link link' end broken f hears =
       let h = hears f.after f.is (f.is.unstopped, inl (f.broken ∙ broken)) in
+      let talks = talks_further x sender sender' talk link f h.talks in
       record {
-        events = f.events ++ h.events;
-        after = h.after;
-        went = chain_on (TalkStep reader writer) f.events h.events x f.after h.after f.went h.went;
-        sender_is = h.sender_is;
+        talks = talks;
         broken = h.broken ∙ f.broken;
-        heeds = heeds_broken end h.after.line.stop h.heeds;
-        by = left_broken end (length f.after.line.input) (length x.line.input) h.after talk' link'
+        heeds = heeds_broken end talks.after.line.stop h.heeds;
+        by = left_broken end (length f.after.line.input) (length x.line.input) talks.after talk' link'
             (h.broken ∙ f.broken ∙ broken) h.by;
       }
 
@@ -242,15 +249,44 @@ module _ {R W : Type 0} (reader : Reader R) (writer : Writer W) where
       HearsTurn reader writer None y sender' talk' link') → OutSoFar x sender' talk' link'
   out_more x sender sender' talk talk' link link' broken f hears =
       let h = hears f.after f.is (f.is.unstopped, inl (f.broken ∙ broken)) in
+      let talks = talks_further x sender sender' talk link f h.talks in
       record {
-        events = f.events ++ h.events;
-        after = h.after;
-        went = chain_on (TalkStep reader writer) f.events h.events x f.after h.after f.went h.went;
-        is = record { sender_is = h.sender_is; line_is = h.by.0; unstopped = h.heeds };
+        events = talks.events;
+        after = talks.after;
+        went = talks.went;
+        is = record { sender_is = talks.sender_is; line_is = h.by.0; unstopped = h.heeds };
         broken = h.broken ∙ f.broken;
       }
 
   -- ---- a turn
+
+  -- a link whose writer alone was used since then
+  abbrev written_on : Conversing R W → W → ℕ → Bool → Conversing R W
+  written_on x w' next is_broken = record {
+    sender = x.sender;
+    line = record x.line { writer = w'; next = next; is_broken = is_broken };
+  }
+
+  still_talking : (x : Conversing R W) (sender : Sender) (talk talk' : Talk) (link : Duplex R W) (w' : W) (next : ℕ)
+      (is_broken : Bool) → IsTalking x sender talk link → talk'.next ≡ next → talk'.framer ≡ talk.framer →
+      IsTalking (written_on x w' next is_broken) sender talk' (record link { writer = w' })
+  still_talking x sender talk talk' link w' next is_broken is said same =
+      let heard = is.line_is.heard in
+      record {
+        sender_is = is.sender_is;
+        line_is = record {
+          reader = is.line_is.reader;
+          writer = refl;
+          next = said;
+          heard = record {
+            gave = subst (λ (p : Pending). GaveReplies x.line.input x.line.heard p) (sym same) heard.gave;
+            quiet = ap (λ (p : Pending). (next_of reply_codec p).0) same ∙ heard.quiet;
+            all = heard.all;
+            fed = ap (λ (p : Pending). p.fed) same ∙ heard.fed;
+          };
+        };
+        unstopped = is.unstopped;
+      }
 
   -- what is pending was said
   pub said_and_heard : (end : Option LinkEnd) (x : Conversing R W) (sender sender' : Sender) (talk talk' talk'' : Talk)
@@ -261,49 +297,23 @@ module _ {R W : Type 0} (reader : Reader R) (writer : Writer W) where
       ((y : Conversing R W) → IsTalking y sender talk' (record link { writer = w' }) → MayHear reader writer y →
       HearsTurn reader writer end y sender' talk'' link') → TakesTurn reader writer end x sender' talk'' link'
   said_and_heard end x sender sender' talk talk' talk'' link link' w' is whole some said next same hears =
-      let y : Conversing R W = record {
-        sender = x.sender;
-        line = record x.line { writer = w'; next = length x.sender.offered };
-      } in
-      let h = hears y (record {
-        sender_is = is.sender_is;
-        line_is = record {
-          reader = is.line_is.reader;
-          writer = refl;
-          next = next;
-          heard = same_heard x.line.input x.line.heard talk talk' same is.line_is.heard;
-        };
-        unstopped = is.unstopped;
-      }) (is.unstopped, inr (refl, some)) in
+      let count = length x.sender.offered in
+      let y = written_on x w' count x.line.is_broken in
+      let h = hears y (still_talking x sender talk talk' link w' count x.line.is_broken is next same)
+      (is.unstopped, inr (refl, some)) in
       record {
-        events = Says ∷ h.events;
-        after = h.after;
-        went = (
-          y,
-          record {
-            whole = whole;
-            said = subst (λ (z : W). WritesMessages (unsaid_messages x.sender x.line.next) (writer.written z) (writer.written w'))
-                (sym is.line_is.writer)
-                (subst (λ (n : ℕ). WritesMessages (unsaid_messages x.sender n) (writer.written link.writer) (writer.written w'))
-                is.line_is.next said);
-            is = refl;
-          },
-          h.went,
-        );
-        sender_is = h.sender_is;
+        talks = after_step Says x y sender' (record {
+          whole = whole;
+          said = subst (λ (z : W). WritesMessages (unsaid_messages x.sender x.line.next) (writer.written z) (writer.written w'))
+              (sym is.line_is.writer)
+              (subst (λ (n : ℕ). WritesMessages (unsaid_messages x.sender n) (writer.written link.writer) (writer.written w'))
+              is.line_is.next said);
+          is = refl;
+        }) h.talks;
         heeds = h.heeds;
-        by = as_turn end h.after talk'' link' (h.broken ∙ whole) h.by;
+        by = as_turn end h.talks.after talk'' link' (h.broken ∙ whole) h.by;
       }
     where
-      same_heard : (input : List ℕ) (heard : List Reply) (t t' : Talk) → t'.framer ≡ t.framer → HasHeard input heard t →
-          HasHeard input heard t'
-      same_heard input heard t t' e h = record {
-        gave = subst (λ (p : Pending). GaveReplies input heard p) (sym e) h.gave;
-        quiet = ap (λ (p : Pending). (next_of reply_codec p).0) e ∙ h.quiet;
-        all = h.all;
-        fed = ap (λ (p : Pending). p.fed) e ∙ h.fed;
-      }
-
       as_turn : (end : Option LinkEnd) (y : Conversing R W) (talk : Talk) (link : Duplex R W) →
           y.line.is_broken ≡ false → HeardBy reader writer end (length x.line.input) y talk link →
           TurnBy reader writer end (length x.line.input) y talk link
@@ -328,42 +338,18 @@ module _ {R W : Type 0} (reader : Reader R) (writer : Writer W) where
       HearsOut reader writer end y sender' talk'' link') →
       TakesTurn reader writer (Some end) x sender' talk'' link'
   broke_and_heard end x sender sender' talk talk' talk'' link link' w' is whole begun failed same hears =
-      let y : Conversing R W = record {
-        sender = x.sender;
-        line = record x.line { writer = w'; next = talk'.next; is_broken = true };
-      } in
-      let h = hears y (record {
-        sender_is = is.sender_is;
-        line_is = record {
-          reader = is.line_is.reader;
-          writer = refl;
-          next = refl;
-          heard = record {
-            gave = subst (λ (p : Pending). GaveReplies x.line.input x.line.heard p) (sym same) is.line_is.heard.gave;
-            quiet = ap (λ (p : Pending). (next_of reply_codec p).0) same ∙ is.line_is.heard.quiet;
-            all = is.line_is.heard.all;
-            fed = ap (λ (p : Pending). p.fed) same ∙ is.line_is.heard.fed;
-          };
-        };
-        unstopped = is.unstopped;
-      }) refl in
+      let y = written_on x w' talk'.next true in
+      let h = hears y (still_talking x sender talk talk' link w' talk'.next true is refl same) refl in
       record {
-        events = Breaks ∷ h.events;
-        after = h.after;
-        went = (
-          y,
-          record {
-            whole = whole;
-            begun = subst (λ (z : W). Begins (writer.written z) (frames_bytes (unsaid_messages x.sender x.line.next)) (writer.written w'))
-                (sym is.line_is.writer)
-                (subst (λ (n : ℕ). Begins (writer.written link.writer) (frames_bytes (unsaid_messages x.sender n)) (writer.written w'))
-                is.line_is.next begun);
-            failed = failed ∙ ap (λ (z : W). one_more (writer.failures z)) (sym is.line_is.writer);
-            is = refl;
-          },
-          h.went,
-        );
-        sender_is = h.sender_is;
+        talks = after_step Breaks x y sender' (record {
+          whole = whole;
+          begun = subst (λ (z : W). Begins (writer.written z) (frames_bytes (unsaid_messages x.sender x.line.next)) (writer.written w'))
+              (sym is.line_is.writer)
+              (subst (λ (n : ℕ). Begins (writer.written link.writer) (frames_bytes (unsaid_messages x.sender n)) (writer.written w'))
+              is.line_is.next begun);
+          failed = failed ∙ ap (λ (z : W). one_more (writer.failures z)) (sym is.line_is.writer);
+          is = refl;
+        }) h.talks;
         heeds = h.heeds;
         by = h.by;
       }
@@ -373,10 +359,7 @@ module _ {R W : Type 0} (reader : Reader R) (writer : Writer W) where
       IsTalking x sender talk link →
       TakesTurn reader writer (Some (ends.Broken faults.Memory)) x sender talk' link'
   lacks_memory x sender talk talk' link link' is = record {
-    events = [];
-    after = x;
-    went = refl;
-    sender_is = is.sender_is;
+    talks = no_talk x sender is.sender_is;
     heeds = is.unstopped;
     by = tt;
   }

@@ -155,17 +155,18 @@ module _ {F P D R W X : Type 0} (feed : FeedGhosts F X) (pause : PauseGhosts P) 
   visit_turned end n x supply talk talk' link link' sender' f p so turns =
       let t = turns (record { sender = so.after.filling.sender; line = so.l })
       (record { sender_is = so.filling.sender; line_is = so.is_line; unstopped = so.unstopped }) so.whole so.some in
+      let more = t.talks in
       record {
-        events = so.events ++ map Talks t.events;
-        after = with_talk so.after t.after;
-        t = t.after;
+        events = so.events ++ map Talks more.events;
+        after = with_talk so.after more.after;
+        t = more.after;
         m = length so.l.input;
-        went = goes_on so.events (map Talks t.events) x so.after (with_talk so.after t.after) so.went
-            (lift_talk feed pause dial reader writer most t.events so.after so.l t.after so.line t.went);
+        went = goes_on so.events (map Talks more.events) x so.after (with_talk so.after more.after) so.went
+            (lift_talk feed pause dial reader writer most more.events so.after so.l more.after so.line more.went);
         line = refl;
         sender = refl;
         filling = record {
-          sender = t.sender_is;
+          sender = more.sender_is;
           ended = so.filling.ended;
           feed = so.filling.feed;
           pause = so.filling.pause;
@@ -176,7 +177,7 @@ module _ {F P D R W X : Type 0} (feed : FeedGhosts F X) (pause : PauseGhosts P) 
         before = so.before;
         many = so.many;
         heeds = t.heeds;
-        finals = finals_on so.events (map Talks t.events) [] so.finals (talks_finals t.events);
+        finals = finals_on so.events (map Talks more.events) [] so.finals (talks_finals more.events);
       }
 
   -- a course that leaves its link
@@ -212,6 +213,25 @@ module _ {F P D R W X : Type 0} (feed : FeedGhosts F X) (pause : PauseGhosts P) 
     };
   }
 
+  -- the upload ends here, since memory was refused
+  out_of_memory : (events : List UploadEvent) (x y : Course F P D R W) (supply : Supply) (f : F) (p : P) →
+      Goes events x y → KeepsDials x y → IsFilling y.filling supply f p → final_stops events ≡ [] →
+      Visits feed pause dial reader writer most (Err outcomes.Memory) x supply f p
+  out_of_memory events x y supply f p went kept filling finals = record {
+    events = events;
+    after = y;
+    went = went;
+    kept = kept;
+    by = record {
+      sender_is = filling.sender;
+      paused = filling.pause;
+      stops = tt;
+      undone = λ other. absurd (other refl);
+      many = λ e. absurd cc;
+      finals = finals;
+    };
+  }
+
   -- after a turn that ends it
   left_so : (end : LinkEnd) (n : ℕ) (x : Course F P D R W) (supply : Supply) (talk : Talk) (link : Duplex R W) (f : F)
       (p : P) → (v : VisitTurned (Some end) n x supply talk link f p) → LeavesBy reader writer end v.t →
@@ -230,20 +250,8 @@ module _ {F P D R W X : Type 0} (feed : FeedGhosts F X) (pause : PauseGhosts P) 
       left_so (ends.Broken faults.Read) n x supply talk link f p v v.by tt
   visit_left (ends.Broken faults.Write) n x supply talk link f p v =
       left_so (ends.Broken faults.Write) n x supply talk link f p v v.by tt
-  visit_left (ends.Broken faults.Memory) n x supply talk link f p v = record {
-    events = v.events;
-    after = v.after;
-    went = v.went;
-    kept = v.kept;
-    by = record {
-      sender_is = v.filling.sender;
-      paused = v.filling.pause;
-      stops = tt;
-      undone = λ other. absurd (other refl);
-      many = λ e. absurd cc;
-      finals = v.finals;
-    };
-  }
+  visit_left (ends.Broken faults.Memory) n x supply talk link f p v =
+      out_of_memory v.events x v.after supply f p v.went v.kept v.filling v.finals
   visit_left (ends.Broken faults.BadReply) n x supply talk link f p v =
       left_so (ends.Broken faults.BadReply) n x supply talk link f p v v.by tt
   visit_left (ends.Broken faults.TurnLimit) n x supply talk link f p v =
@@ -340,17 +348,5 @@ module _ {F P D R W X : Type 0} (feed : FeedGhosts F X) (pause : PauseGhosts P) 
   -- no talk begins: memory was refused
   pub visit_lacks : (x : Course F P D R W) (supply : Supply) (link : Duplex R W) (f : F) (p : P) →
       BeginsVisit x supply f p link → Visits feed pause dial reader writer most (Err outcomes.Memory) x supply f p
-  visit_lacks x supply link f p b = record {
-    events = [];
-    after = x;
-    went = refl;
-    kept = record { dial = refl; dials = refl };
-    by = record {
-      sender_is = b.filling.sender;
-      paused = b.filling.pause;
-      stops = tt;
-      undone = λ other. absurd (other refl);
-      many = λ e. absurd cc;
-      finals = refl;
-    };
-  }
+  visit_lacks x supply link f p b =
+      out_of_memory [] x x supply f p refl (record { dial = refl; dials = refl }) b.filling refl

@@ -56,6 +56,13 @@ turn_end (Ok listens.Ended) = Some ends.Ended
 turn_end (Err fault) = Some (ends.Broken fault)
 
 module _ {R W : Type 0} (reader : Reader R) (writer : Writer W) where
+  -- a talk went on by these steps, and this sender has heard what came
+  pub record TalksOn (x : Conversing R W) (sender : Sender) : Type 0 where
+    pub events : List TalkEvent
+    pub after : Conversing R W
+    pub went : Chain (TalkStep reader writer) events x after
+    pub sender_is : IsSender after.sender sender
+
   -- after a piece, before which so many bytes were read, the link can be used, or it is left
   abbrev pub HeardBy : Option LinkEnd → ℕ → Conversing R W → Talk → Duplex R W → Type 0
   HeardBy None n y talk link = IsLine y.line talk link × (n + 1 ≤ length y.line.input)
@@ -75,13 +82,10 @@ module _ {R W : Type 0} (reader : Reader R) (writer : Writer W) where
 
   pub record HearsTurn (end : Option LinkEnd) (x : Conversing R W) (sender : Sender) (talk : Talk)
       (link : Duplex R W) : Type 0 where
-    pub events : List TalkEvent
-    pub after : Conversing R W
-    pub went : Chain (TalkStep reader writer) events x after
-    pub sender_is : IsSender after.sender sender
-    pub broken : after.line.is_broken ≡ x.line.is_broken
-    pub heeds : HeedsAny end after.line.stop
-    pub by : HeardBy end (length x.line.input) after talk link
+    pub talks : TalksOn x sender
+    pub broken : talks.after.line.is_broken ≡ x.line.is_broken
+    pub heeds : HeedsAny end talks.after.line.stop
+    pub by : HeardBy end (length x.line.input) talks.after talk link
 
   -- after a turn the link can be used, or it is left, or memory was refused
   abbrev pub TurnBy : Option LinkEnd → ℕ → Conversing R W → Talk → Duplex R W → Type 0
@@ -104,20 +108,14 @@ module _ {R W : Type 0} (reader : Reader R) (writer : Writer W) where
 
   pub record TakesTurn (end : Option LinkEnd) (x : Conversing R W) (sender : Sender) (talk : Talk)
       (link : Duplex R W) : Type 0 where
-    pub events : List TalkEvent
-    pub after : Conversing R W
-    pub went : Chain (TalkStep reader writer) events x after
-    pub sender_is : IsSender after.sender sender
-    pub heeds : HeedsAny end after.line.stop
-    pub by : TurnBy end (length x.line.input) after talk link
+    pub talks : TalksOn x sender
+    pub heeds : HeedsAny end talks.after.line.stop
+    pub by : TurnBy end (length x.line.input) talks.after talk link
 
   -- all that came was heard, after a write had failed, up to a reply that stops the talk
   pub record HearsOut (end : LinkEnd) (x : Conversing R W) (sender : Sender) (talk : Talk)
       (link : Duplex R W) : Type 0 where
-    pub events : List TalkEvent
-    pub after : Conversing R W
-    pub went : Chain (TalkStep reader writer) events x after
-    pub sender_is : IsSender after.sender sender
-    pub broken : after.line.is_broken ≡ x.line.is_broken
-    pub heeds : HeedsStop end after.line.stop
-    pub by : TurnBy (Some end) (length x.line.input) after talk link
+    pub talks : TalksOn x sender
+    pub broken : talks.after.line.is_broken ≡ x.line.is_broken
+    pub heeds : HeedsStop end talks.after.line.stop
+    pub by : TurnBy (Some end) (length x.line.input) talks.after talk link

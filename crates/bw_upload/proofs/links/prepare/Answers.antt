@@ -1,6 +1,6 @@
-use Rattle.std.proofs.Common.{Bool, ap, sym, ◌∙◌}
+use Rattle.std.proofs.Common.{true, false, sym, ◌∙◌}
 use Rattle.std.proofs.lemmas.Result.{err_from_is_err_and}
-use Rattle.bw_upload.specs.Filling.{is_done}
+use Rattle.bw_upload.proofs.FillSteps.{done_as}
 use Rattle.bw_upload.proofs.LinkSteps.{prep_refused, prep_stopped, prep_done, prep_spent, prep_ready}
 use Rattle.bw_upload.proofs.links.prepare.Goals as goal
 
@@ -19,15 +19,13 @@ pub returns-then-is_done : goal.returns-then-is_done
 returns-then-is_done g c = λ x is.
     let u = c.in_ok-fill.ensures x is in
     prep_done g.F.Feed g.P.Pause c.args.most c.args.fruitless x _ _ _ u
-    (ap (λ (e : Bool). is_done u.after.sender e) (sym u.by.0.ended)
-    ∙ sym (c.is_done.ensures u.after.sender u.by.0.sender) ∙ c.if-is_done.true)
+    (done_as u.after true u.by.0 (sym (c.is_done.ensures u.after.sender u.by.0.sender) ∙ c.if-is_done.true))
 
 pub returns-then-is_spent : goal.returns-then-is_spent
 returns-then-is_spent g c = λ x is.
     let u = c.in_ok-fill.ensures x is in
     prep_spent g.F.Feed g.P.Pause c.args.most c.args.fruitless x _ _ _ u
-    (ap (λ (e : Bool). is_done u.after.sender e) (sym u.by.0.ended)
-    ∙ sym (c.is_done.ensures u.after.sender u.by.0.sender) ∙ c.if-is_done.false)
+    (done_as u.after false u.by.0 (sym (c.is_done.ensures u.after.sender u.by.0.sender) ∙ c.if-is_done.false))
     (sym c.is_spent.ensures ∙ c.if-is_spent.true)
 
 pub returns : goal.returns
@@ -35,6 +33,5 @@ returns g c = λ x is.
     let u = c.in_ok-fill.ensures x is in
     prep_ready g.F.Feed g.P.Pause c.args.most c.args.fruitless x _ _ _ u
     (c.in_default.ensures x.sender is.sender)
-    (ap (λ (e : Bool). is_done u.after.sender e) (sym u.by.0.ended)
-    ∙ sym (c.is_done.ensures u.after.sender u.by.0.sender) ∙ c.if-is_done.false)
+    (done_as u.after false u.by.0 (sym (c.is_done.ensures u.after.sender u.by.0.sender) ∙ c.if-is_done.false))
     (sym c.is_spent.ensures ∙ c.if-is_spent.false)

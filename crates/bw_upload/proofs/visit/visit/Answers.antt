@@ -1,6 +1,6 @@
-use Rattle.std.proofs.Common.{Bool, None, Some, ap, arith, sym, ◌∙◌}
+use Rattle.std.proofs.Common.{true, false, None, Some, arith, sym, ◌∙◌}
 use Rattle.std.proofs.lemmas.Result.{err_from_is_err_and}
-use Rattle.bw_upload.specs.Filling.{is_done}
+use Rattle.bw_upload.proofs.FillSteps.{done_as}
 use Rattle.bw_upload.proofs.VisitSteps.{visit_begins, visit_lacks, visit_turned, visit_left, visit_refused}
 use Rattle.bw_upload.proofs.VisitSteps.{visit_stopped, visit_done, visit_more, visit_limited}
 use Rattle.bw_upload.proofs.visit.visit.Goals as goal
@@ -49,8 +49,7 @@ returns-then-is_done g c = λ most x b.
     let u = c.in_ok-fill.ensures v.after.filling v.filling in
     visit_done g.F.Feed g.P.Pause g.D.Dial g.D.Reader.Source g.D.Writer.Sink most c.loop-read._read x _ _ _ _ c.part.new.writer
     _ _ _ _ v u
-    (ap (λ (e : Bool). is_done u.after.sender e) (sym u.by.0.ended)
-    ∙ sym (c.is_done.ensures u.after.sender u.by.0.sender) ∙ c.if-is_done.true) c.part.ensures
+    (done_as u.after true u.by.0 (sym (c.is_done.ensures u.after.sender u.by.0.sender) ∙ c.if-is_done.true)) c.part.ensures
 
 pub loop-read-preserved : goal.loop-read-preserved
 loop-read-preserved g c = λ most x b.
@@ -60,8 +59,7 @@ loop-read-preserved g c = λ most x b.
     let u = c.in_ok-fill.ensures v.after.filling v.filling in
     visit_more g.F.Feed g.P.Pause g.D.Dial g.D.Reader.Source g.D.Writer.Sink most c.loop-read._read x _ _ _ _ _ _ _ _ v u
     (sym (c.has_refused.ensures v.after.filling.sender v.filling.sender) ∙ c.if-has_refused.false)
-    (ap (λ (e : Bool). is_done u.after.sender e) (sym u.by.0.ended)
-    ∙ sym (c.is_done.ensures u.after.sender u.by.0.sender) ∙ c.if-is_done.false)
+    (done_as u.after false u.by.0 (sym (c.is_done.ensures u.after.sender u.by.0.sender) ∙ c.if-is_done.false))
 
 pub returns : goal.returns
 returns g c = λ most x b.
