@@ -4,7 +4,7 @@ use Rattle.std.proofs.Common.{Option, Some, None, refl, sym, ◌∙◌, ap, subs
 use Rattle.std.specs.Prelude.{IsSome, is_some, Result, Ok, Err, OnOk, IfOk, IfSome, get_or}
 use Rattle.std.specs.Option.{SomeIff}
 use Rattle.std.specs.List.{All, Contains}
-use Rattle.std.proofs.lemmas.List.Elements.{Contains-append_left, Contains-append_right, Contains-append_cases}
+use Rattle.std.proofs.lemmas.List.Elements.{Contains-append_cases}
 use Rattle.std.proofs.lemmas.Grind.{take_at_read}
 use Rattle.bw_model.specs.Wire.{is_name}
 use Rattle.std.proofs.Common.{◌≤◌}

@@ -1,17 +1,15 @@
 -- Names that rest in a folder, and those that stand in a server's way.
-use Rattle.std.proofs.Common.{◌≡◌, ◌⊎◌, inl, inr, ℕ, zero, suc, ◌+◌, ◌<◌, Bool, true, false, List, [], ◌∷◌, ◌++◌, length, take}
-use Rattle.std.proofs.Common.{Option, Some, None, refl, sym, ◌∙◌, ap, subst, arith, IsTrue, append_assoc}
-use Rattle.std.specs.Prelude.{IsSome, codes, get_or}
+use Rattle.std.proofs.Common.{◌≡◌, inl, inr, ℕ, ◌+◌, ◌<◌, Bool, true, false, List, [], ◌∷◌, ◌++◌, length, take}
+use Rattle.std.proofs.Common.{Option, refl, sym, ◌∙◌, ap, subst, arith, append_assoc}
+use Rattle.std.specs.Prelude.{codes, get_or}
 use Rattle.std.specs.List.{Contains}
 use Rattle.std.proofs.lemmas.List.Elements.{Contains-append_left, Contains-append_right, Contains-append_cases}
 use Rattle.std.proofs.lemmas.List.{append-nil}
-use Rattle.bw_model.specs.Wire.{is_name}
 use Rattle.bw_disk.specs.DiskSteps.{StaysWhole}
 use Rattle.bw_disk.specs.Volumes.{AreDistinct, KeepsEach}
 use Rattle.bw_disk.specs.declared.disk.Disk.{Ghosts}
 use Rattle.bw_start.specs.FaultLines.{closed_line, closed_lines}
 use Rattle.bw_start.specs.FoundNames.{ListsFiles}
-use Rattle.bw_start.specs.Paths.{notes_path, rest_path}
 use Rattle.bw_start.specs.RestingStarts.{HasBoth, AddsIf, ListsThoseInTheWay, SomeStandInTheWay, NoneStandsInTheWay}
 use Rattle.bw_start.specs.RestingStarts.{IsListOf, RefusesStart, IsPlainFolderFault, IsFolderUnchanged}
 use Rattle.bw_start.specs.Restored.{IsPlainFault, IsUnchanged, RefusesFolder, KeepsTheRest}

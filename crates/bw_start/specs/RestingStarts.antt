@@ -2,7 +2,6 @@
 use Rattle.std.specs.Prelude.{◌≡◌, ◌⊎◌, ◌<◌, ◌↔◌, ℕ, Bool, true, false, Option, IsSome, IsTrue, List, length}
 use Rattle.std.specs.List.{Contains}
 use Rattle.bw_model.specs.Wire.{is_name}
-use Rattle.bw_model.specs.Book.{Book}
 use Rattle.bw_disk.specs.Volumes.{AreDistinct}
 use Rattle.bw_disk.specs.declared.disk.Disk.{Ghosts as DiskGhosts}
 use Rattle.bw_store.specs.declared.store.TakeStore.{Ghosts as StoreGhosts}
