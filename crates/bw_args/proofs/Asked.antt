@@ -61,6 +61,12 @@ by_rows : (found : Found) (P : (Text → Option Text) → Type 0) → P (first_v
     → P (given_on_line (rows_of found))
 by_rows found P given = subst P (fun_ext (first_value-rows found)) given
 
+-- so the address under this option
+address_by_rows : (found : Found) (option : Text) (at : SocketAddr)
+    → GivesAddress (is_set (first_value found (codes "network"))) (first_value found option) at
+    → GivesAddress (is_set (given_on_line (rows_of found) (codes "network"))) (given_on_line (rows_of found) option) at
+address_by_rows found option at given = by_rows found (λ g. GivesAddress (is_set (g (codes "network"))) (g option) at) given
+
 -- none of these values is bad
 abbrev pub AllGood : List BadValue → (Text → Option Text) → Type 0
 AllGood [] given = ⊤
@@ -441,8 +447,7 @@ pub upload_asked : (found : Found) (sender : FileUpload)
 upload_asked found sender connects named takes waits ends reports states paced unmixed unsampled = (
   refl,
   record {
-    connects = by_rows found (λ g. GivesAddress (is_set (g (codes "network"))) (g (codes "connect")) sender.connect)
-        connects;
+    connects = address_by_rows found (codes "connect") sender.connect connects;
     named = by_rows found (λ g. GivesName (g (codes "name")) sender.name) named;
     takes = takes;
     waits = by_rows found (λ g. GivesCountOr default_timeout most_seconds (g (codes "timeout")) sender.timeout) waits;
@@ -471,8 +476,7 @@ pub pcm_asked : (found : Found) (sender : PcmUpload) (count : Option ℕ)
 pcm_asked found sender count connects named takes samples waits counts ends reports paced unmixed = (
   refl,
   record {
-    connects = by_rows found (λ g. GivesAddress (is_set (g (codes "network"))) (g (codes "connect")) sender.connect)
-        connects;
+    connects = address_by_rows found (codes "connect") sender.connect connects;
     named = by_rows found (λ g. GivesName (g (codes "name")) sender.name) named;
     takes = takes;
     samples = by_rows found (λ g. GivesSamples g (Some sender.pcm)) samples;

@@ -60,6 +60,17 @@ pub enum BadValue {
     Inspection,
 }
 
+/// The text that reports a value of which this is wrong, said in one or more pieces.
+macro_rules! report {
+    ($($wrong:literal),+) => {
+        concat!(
+            "error: ",
+            $($wrong),+,
+            "\n\nUsage: bwingest <COMMAND>\n\nFor more information, try '--help'.\n"
+        )
+    };
+}
+
 impl BadValue {
     /// The text that reports it.
     pub fn text(self) -> &'static str
@@ -96,210 +107,108 @@ impl BadValue {
     }
 }
 
-const BAD_NAME: &str = "\
-error: '--name <NAME>' takes 1 to 32 bytes of a-z, 0-9, '-' and '_'
-
-Usage: bwingest <COMMAND>
-
-For more information, try '--help'.
-";
-
-const BAD_LIMIT: &str = "\
-error: '--limit <N>' takes an even number from 8192 to 4294967294, in at most ten digits
-
-Usage: bwingest <COMMAND>
-
-For more information, try '--help'.
-";
-
-const BAD_FUSE: &str = "\
-error: '--fuse <K>' takes a number from 0 to 4294967295, in at most ten digits
-
-Usage: bwingest <COMMAND>
-
-For more information, try '--help'.
-";
-
-const BAD_LISTEN: &str = "\
-error: '--listen <ADDR>' takes 127.0.0.1:PORT, or any IP:PORT with '--network'; PORT is 1 to 65535
-
-Usage: bwingest <COMMAND>
-
-For more information, try '--help'.
-";
-
-const BAD_FOLDER: &str = "\
-error: '--folder <DIR>' takes the path of a folder, which isn't empty
-
-Usage: bwingest <COMMAND>
-
-For more information, try '--help'.
-";
-
-const BAD_EXCHANGES: &str = "\
-error: '--exchanges <N>' takes a number from 1 to 1000000, in at most ten digits
-
-Usage: bwingest <COMMAND>
-
-For more information, try '--help'.
-";
-
-const BAD_TIMEOUT: &str = "\
-error: '--timeout <SECONDS>' takes a number from 1 to 86400, in at most ten digits
-
-Usage: bwingest <COMMAND>
-
-For more information, try '--help'.
-";
-
-const BAD_RECORDERS: &str = "\
-error: '--recorders <N>' takes a number from 1 to 256, in at most ten digits
-
-Usage: bwingest <COMMAND>
-
-For more information, try '--help'.
-";
-
-const BAD_IDLE: &str = "\
-error: '--idle <SECONDS>' takes a number from 1 to 86400, in at most ten digits
-
-Usage: bwingest <COMMAND>
-
-For more information, try '--help'.
-";
-
-const BAD_WAIT: &str = "\
-error: '--idle <SECONDS>' is for '--recorders <N>', and '--timeout <SECONDS>' for a server without it
-
-Usage: bwingest <COMMAND>
-
-For more information, try '--help'.
-";
-
-const BAD_UNTIL_STOPPED: &str = "\
-error: '--until-stopped' can't be given beside '--exchanges <N>'
-
-Usage: bwingest <COMMAND>
-
-For more information, try '--help'.
-";
-
-const BAD_SYNC: &str = "\
-error: '--sync' is for '--journal'
-
-Usage: bwingest <COMMAND>
-
-For more information, try '--help'.
-";
-
-const BAD_REST: &str = "\
-error: '--rest' is for '--journal', without '--status <ADDR>'
-
-Usage: bwingest <COMMAND>
-
-For more information, try '--help'.
-";
-
-const BAD_STATUS: &str = "\
-error: '--status <ADDR>' is for '--recorders <N>', and takes 127.0.0.1:PORT, or any IP:PORT with '--network'; PORT is 1 to 65535
-
-Usage: bwingest <COMMAND>
-
-For more information, try '--help'.
-";
-
-const BAD_WATCH: &str = "\
-error: '--watch' can't be given beside '--check', '--json' and '--give-up <NAME>'
-
-Usage: bwingest <COMMAND>
-
-For more information, try '--help'.
-";
-
-const BAD_GIVE_UP: &str = "\
-error: '--give-up <NAME>' takes 1 to 32 bytes of a-z, 0-9, '-' and '_', without '--check' and '--json'
-
-Usage: bwingest <COMMAND>
-
-For more information, try '--help'.
-";
-
-const BAD_CONNECT: &str = "\
-error: '--connect <ADDR>' takes 127.0.0.1:PORT, or any IP:PORT with '--network'; PORT is 1 to 65535
-
-Usage: bwingest <COMMAND>
-
-For more information, try '--help'.
-";
-
-const BAD_ROUNDS: &str = "\
-error: '--rounds <N>' takes a number from 1 to 1000, in at most ten digits
-
-Usage: bwingest <COMMAND>
-
-For more information, try '--help'.
-";
-
-const BAD_FRUITLESS: &str = "\
-error: '--fruitless <N>' takes a number from 1 to 1000000, in at most ten digits
-
-Usage: bwingest <COMMAND>
-
-For more information, try '--help'.
-";
-
-const BAD_RATE: &str = "\
-error: '--rate <BYTES>' takes a number from 1 to 4294967295, in at most ten digits
-
-Usage: bwingest <COMMAND>
-
-For more information, try '--help'.
-";
-
-const BAD_MIXED: &str = "\
-error: '--set', '--strict', '--fruitless', '--log', '--state' and '--rate' are for '--file <FILE>' or '--spool <SPOOL>', and '--rounds <N>' for a sender without these
-
-Usage: bwingest <COMMAND>
-
-For more information, try '--help'.
-";
-
-const BAD_PCM: &str = "\
-error: '--pcm <RATE,CHANNELS,BITS>' takes three numbers with commas between them, each from 0 to 4294967295, in at most ten digits
-
-Usage: bwingest <COMMAND>
-
-For more information, try '--help'.
-";
-
-const BAD_SKIP: &str = "\
-error: '--skip <BYTES>' takes a number from 0 to 4294967295, in at most ten digits
-
-Usage: bwingest <COMMAND>
-
-For more information, try '--help'.
-";
-
-const BAD_BLOCK: &str = "\
-error: '--block <FRAMES>' takes a number from 1 to 4294967295, in at most ten digits
-
-Usage: bwingest <COMMAND>
-
-For more information, try '--help'.
-";
-
-const BAD_MIXED_SAMPLES: &str = "\
-error: '--pcm' is for '--file <FILE>' or '--spool <SPOOL>', without '--state'; '--skip', '--block', '--follow' and '--spool' are for '--pcm'; '--follow' goes with '--until <END>', and neither with '--spool'
-
-Usage: bwingest <COMMAND>
-
-For more information, try '--help'.
-";
-
-const BAD_INSPECTION: &str = "\
-error: '--json' can't be given beside '--human', and '-', which is read once, beside another file or '--digest'
-
-Usage: bwingest <COMMAND>
-
-For more information, try '--help'.
-";
+const BAD_NAME: &str = report!("'--name <NAME>' takes 1 to 32 bytes of a-z, 0-9, '-' and '_'");
+
+const BAD_LIMIT: &str = report!(
+    "'--limit <N>' takes an even number from 8192 to 4294967294, in at most ten digits"
+);
+
+const BAD_FUSE: &str = report!(
+    "'--fuse <K>' takes a number from 0 to 4294967295, in at most ten digits"
+);
+
+const BAD_LISTEN: &str = report!(
+    "'--listen <ADDR>' takes 127.0.0.1:PORT, or any IP:PORT with '--network'; PORT is 1 to ",
+    "65535"
+);
+
+const BAD_FOLDER: &str = report!("'--folder <DIR>' takes the path of a folder, which isn't empty");
+
+const BAD_EXCHANGES: &str = report!(
+    "'--exchanges <N>' takes a number from 1 to 1000000, in at most ten digits"
+);
+
+const BAD_TIMEOUT: &str = report!(
+    "'--timeout <SECONDS>' takes a number from 1 to 86400, in at most ten digits"
+);
+
+const BAD_RECORDERS: &str = report!(
+    "'--recorders <N>' takes a number from 1 to 256, in at most ten digits"
+);
+
+const BAD_IDLE: &str = report!(
+    "'--idle <SECONDS>' takes a number from 1 to 86400, in at most ten digits"
+);
+
+const BAD_WAIT: &str = report!(
+    "'--idle <SECONDS>' is for '--recorders <N>', and '--timeout <SECONDS>' for a server ",
+    "without it"
+);
+
+const BAD_UNTIL_STOPPED: &str = report!(
+    "'--until-stopped' can't be given beside '--exchanges <N>'"
+);
+
+const BAD_SYNC: &str = report!("'--sync' is for '--journal'");
+
+const BAD_REST: &str = report!("'--rest' is for '--journal', without '--status <ADDR>'");
+
+const BAD_STATUS: &str = report!(
+    "'--status <ADDR>' is for '--recorders <N>', and takes 127.0.0.1:PORT, or any IP:PORT ",
+    "with '--network'; PORT is 1 to 65535"
+);
+
+const BAD_WATCH: &str = report!(
+    "'--watch' can't be given beside '--check', '--json' and '--give-up <NAME>'"
+);
+
+const BAD_GIVE_UP: &str = report!(
+    "'--give-up <NAME>' takes 1 to 32 bytes of a-z, 0-9, '-' and '_', without '--check' and ",
+    "'--json'"
+);
+
+const BAD_CONNECT: &str = report!(
+    "'--connect <ADDR>' takes 127.0.0.1:PORT, or any IP:PORT with '--network'; PORT is 1 to ",
+    "65535"
+);
+
+const BAD_ROUNDS: &str = report!(
+    "'--rounds <N>' takes a number from 1 to 1000, in at most ten digits"
+);
+
+const BAD_FRUITLESS: &str = report!(
+    "'--fruitless <N>' takes a number from 1 to 1000000, in at most ten digits"
+);
+
+const BAD_RATE: &str = report!(
+    "'--rate <BYTES>' takes a number from 1 to 4294967295, in at most ten digits"
+);
+
+const BAD_MIXED: &str = report!(
+    "'--set', '--strict', '--fruitless', '--log', '--state' and '--rate' are for '--file ",
+    "<FILE>' or '--spool <SPOOL>', and '--rounds <N>' for a sender without these"
+);
+
+const BAD_PCM: &str = report!(
+    "'--pcm <RATE,CHANNELS,BITS>' takes three numbers with commas between them, each from 0 ",
+    "to 4294967295, in at most ten digits"
+);
+
+const BAD_SKIP: &str = report!(
+    "'--skip <BYTES>' takes a number from 0 to 4294967295, in at most ten digits"
+);
+
+const BAD_BLOCK: &str = report!(
+    "'--block <FRAMES>' takes a number from 1 to 4294967295, in at most ten digits"
+);
+
+const BAD_MIXED_SAMPLES: &str = report!(
+    "'--pcm' is for '--file <FILE>' or '--spool <SPOOL>', without '--state'; '--skip', ",
+    "'--block', '--follow' and '--spool' are for '--pcm'; '--follow' goes with '--until ",
+    "<END>', and neither with '--spool'"
+);
+
+const BAD_INSPECTION: &str = report!(
+    "'--json' can't be given beside '--human', and '-', which is read once, beside another ",
+    "file or '--digest'"
+);
