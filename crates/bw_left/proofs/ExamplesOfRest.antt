@@ -1,5 +1,6 @@
 -- The worked row of names at rest computes.
-use Rattle.std.proofs.Common.{◌≡◌, inl, ℕ, Bool, true, false, cond, ◌||◌, List, [], ◌∷◌, Option, Some, None, is_some, IsSome}
+use Rattle.std.proofs.Common.{◌≡◌, inl, ℕ, Bool, true, false, cond, ◌||◌}
+use Rattle.std.proofs.Common.{List, [], ◌∷◌, Option, Some, None, is_some, IsSome}
 use Rattle.std.proofs.Common.{refl, sym, ◌∙◌, ap, subst, arith}
 use Rattle.std.specs.Prelude.{IsTrue}
 use Rattle.std.specs.Str.{bytes_eq}
@@ -158,7 +159,8 @@ module _ (folder : List ℕ) (notes takes : List ℕ → Option (List ℕ)) (h :
           same_known = sym (ap (λ (v : Bool). v || is_known table name) not_a1);
           same_log = sym (ap (λ (v : Bool). cond v log_closed (log_of table name)) not_a1);
         });
-    outside = λ name some. subst (λ (x : List ℕ). is_known table x ≡ false) (same_name a1 name (only_a1 name some)) refl;
+    outside = λ name some.
+        subst (λ (x : List ℕ). is_known table x ≡ false) (same_name a1 name (only_a1 name some)) refl;
     resting = λ name some.
         subst (λ (x : List ℕ). IsLeftAtRest example_limit x (is_known book_of_two x) (log_of book_of_two x) None
         (notes (rest_path folder x)) (notes (notes_path folder x)) (takes (wave_path folder x)))

@@ -1,5 +1,6 @@
 -- What a frame's turn on a folder's book does to verdicts.
-use Rattle.std.proofs.Common.{◌≡◌, ◌⊎◌, inl, inr, ℕ, zero, suc, ◌<◌, Bool, true, false, not, cond, ◌&&◌, ◌||◌, List, [], ◌∷◌}
+use Rattle.std.proofs.Common.{◌≡◌, ◌⊎◌, inl, inr, ℕ, zero, suc, ◌<◌, Bool}
+use Rattle.std.proofs.Common.{true, false, not, cond, ◌&&◌, ◌||◌, List, [], ◌∷◌}
 use Rattle.std.proofs.Common.{refl, sym, ◌∙◌, ap, subst, arith}
 use Rattle.std.specs.List.{Contains}
 use Rattle.std.specs.Str.{bytes_eq}
@@ -168,7 +169,8 @@ module _ (existed : List ℕ → Bool) (before after : ℕ) (b mid : Book) (a : 
           too_long : {X : Type 0} {x y z : X} {xs : List X} → x ∷ y ∷ xs ≡ z ∷ [] → ⊥
           too_long e = cc
 
-      by_delays : LeavesOutDelays (a ∷ []) ran.served → HasVerdict existed (book_after existed alone ran.received) name n v
+      by_delays : LeavesOutDelays (a ∷ []) ran.served →
+          HasVerdict existed (book_after existed alone ran.received) name n v
       by_delays (inl (more, same, none)) =
           by_run ran.received (ran.answers ∙ same ∙ ap (λ (xs : List Answered). a ∷ xs) none)
       by_delays (inr off) = absurd (put_off off.0)

@@ -16,6 +16,8 @@ pub mod LeftRests
 pub mod NewFolders
 pub mod FolderVerdicts
 pub mod RestingLives
+pub mod RestingCalls
+pub mod AwakeTurns
 pub mod ExamplesOfRest
 pub mod RestingStarts
 pub mod ExamplesOfLeft

@@ -70,7 +70,8 @@ module _ (limit : ℕ) (name : List ℕ) (log : Log) (bytes : List ℕ) (file : 
     of_closed : (whole.closed ≡ true)
         × (nat_le (length (story_of_log h name log).table) (33 * (last_number Second + 1)) ≡ true)
     of_closed = and_parts whole.closed (nat_le (length (story_of_log h name log).table) (33 * (last_number Second + 1)))
-        (and_parts (length (journal_of h name log) == length bytes) (is_of_closed (Ok (story_of_log h name log))) fits).1
+        (and_parts (length (journal_of h name log) == length bytes)
+        (is_of_closed (Ok (story_of_log h name log))) fits).1
 
     no_tail : left.tail ≡ []
     no_tail =

@@ -33,7 +33,7 @@ module _ {X Y : Type 0} (S : StoreGhosts X) (J : JournalGhosts Y) (first : List 
   existed name = is_some (first name)
 
   -- each log that a server holds is one: of the table's book, or of a name that rests
-  held_logs : (s : Server X Y S J) (book : Book) → HoldsFolder S J first s book → AreLogs book
+  pub held_logs : (s : Server X Y S J) (book : Book) → HoldsFolder S J first s book → AreLogs book
   held_logs s book h name known = go (is_known h.table name) refl
     where
       go : (v : Bool) → is_known h.table name ≡ v → IsLog (log_of book name)
@@ -41,7 +41,8 @@ module _ {X Y : Type 0} (S : StoreGhosts X) (J : JournalGhosts Y) (first : List 
       go false e =
           (subst (λ (v : Bool). MatchBool v (RestsOutside s.limit name (log_of book name) (first name) (h.now name)
           (S.contents s.stores.store name) (J.resting s.stores.journal name))
-          (IsUnknown (first name) (h.now name) (J.resting s.stores.journal name))) known (h.outside name e)).at_rest.is_log
+          (IsUnknown (first name) (h.now name) (J.resting s.stores.journal name)))
+          known (h.outside name e)).at_rest.is_log
 
   -- a server's turns, from a book of its folder
   pub record TurnsKept (s : Server X Y S J) (book : Book) (answered : List Answered) : Type 0 where

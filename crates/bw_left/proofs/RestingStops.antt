@@ -290,7 +290,8 @@ module _ {D E F H : Type 0} (G : DiskGhosts D F) (K : DiskGhosts E H)
             (sym (ap cut_log stays ∙ cut_same (log_of book name) there.1.at_rest.all))
             (subst (λ (o : Option (List ℕ)). IsAtRest s.limit name (log_of book name) o (file name))
             (rests_by false name e)
-            (subst (λ (o : Option (List ℕ)). IsAtRest s.limit name (log_of book name) (R.resting s.stores.journal name) o)
+            (subst (λ (o : Option (List ℕ)).
+            IsAtRest s.limit name (log_of book name) (R.resting s.stores.journal name) o)
             (file_is name) there.1.at_rest));
         alone = alone name some;
       }

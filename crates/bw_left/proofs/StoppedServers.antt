@@ -53,7 +53,7 @@ other_log book m replies done name apart =
     go false = log-with_log_other book m.name name log apart
 
 -- a journal with a done number is no shorter than a header
-begun_long : (h : Header) (name : List ℕ) (log : Log) (journal : List ℕ) → Stands h name log (Some journal) →
+pub begun_long : (h : Header) (name : List ℕ) (log : Log) (journal : List ℕ) → Stands h name log (Some journal) →
     length journal < header_len → log.done ≡ 0
 begun_long h name log journal (inl p) short = p.0
 begun_long h name log journal (inr (count, e)) short =
@@ -74,7 +74,7 @@ due_wanted None log limit = refl
 due_wanted (Some bytes) log limit = refl
 
 -- in the words of a start
-in_order : (h : Header) (first : Option (List ℕ)) (name : List ℕ) (log : Log) (limit : ℕ) (journal file : Option (List ℕ)) →
+pub in_order : (h : Header) (first : Option (List ℕ)) (name : List ℕ) (log : Log) (limit : ℕ) (journal file : Option (List ℕ)) →
     h ≡ header_beside limit first → IsInOrder h first name log limit journal file →
     IsWrittenInOrder limit first name log journal file
 in_order h first name log limit journal file e o =

@@ -5,6 +5,7 @@ pub mod KilledFolders
 pub mod NewFolders
 pub mod RestingStops
 pub mod RestingLives
+pub mod RestingCalls
 pub mod ExamplesOfRest
 pub mod ExamplesOfLeft
 pub mod StoppedWorlds

@@ -64,11 +64,12 @@ module _ {D E F H : Type 0} (G : DiskGhosts D F) (K : DiskGhosts E H)
 
   -- A server stopped over a folder in which names rest. Who says so of one that ran:
   -- - `honest` and `held`: a run from a book of the folder, by `LeavesRestsFrom` of bw_rest.
-  -- - `order`, `own`, `apart`: what `turn` of bw_session keeps of names under which nothing rests, and
-  --   `rest` and `wake` of each other name. No relation of a run passes these on.
-  -- - `over`: the calls of store and journal, of which a server keeps folder and disks; a journal is
-  --   loose after `wake`, by which it was fit, or after a `rest` that failed, until it is noted in. It
-  --   is only tested that a run keeps this.
+  -- - `order`, `own`, `apart`: each call that it makes of bw_session, of `turn`, `rest` and `wake`, by
+  --   `law_resting_calls`. `RestingTurn` of bw_rest doesn't say which calls a turn makes.
+  -- - `over`: of folder and disks, store and journal, which a server keeps; of loose names the journal's
+  --   own calls: a name is loose after `wake`, by which it was fit and had no other journal, or after a
+  --   move of its journal that failed, and until something is noted under it. No relation of a server's
+  --   calls says so: that a run keeps it is tested.
   pub record StopsResting (first : List ℕ → Option (List ℕ)) (book : Book) (folder : List ℕ)
       (s : Server (FolderStore D F G) (RestingFolderJournal E H K) S R) : Type 0 where
     pub honest : IsTrue (S.honest (server_store s))

@@ -11,6 +11,8 @@ ghost use Rattle.bw_left.specs.LeftFolders.{LaterBooksForgetNothing};
 ghost use Rattle.bw_left.specs.LeftFolders.{LeftNamesAreInFolders, OrderedServersAreLeft};
 ghost use Rattle.bw_left.specs.LeftFolders.{QuietServersAreLeft};
 ghost use Rattle.bw_left.specs.NewFolders.{EmptyFoldersAreNew, NewFoldersAreLeft};
+ghost use Rattle.bw_left.specs.RestingCalls.{FailuresKeepOrder, HonestServersAreInOrder};
+ghost use Rattle.bw_left.specs.RestingCalls.{RestsKeepOrder, TurnsKeepOrder, WakesKeepOrder};
 ghost use Rattle.bw_left.specs.RestingFolders.{RestingStartsHoldFolders};
 ghost use Rattle.bw_left.specs.RestingLives.{RestingVerdictsOutliveStops};
 ghost use Rattle.bw_left.specs.RestingStops.{LeftNamesMayWake, RestingServersAreLeft};
@@ -99,6 +101,16 @@ pub fn law_resting_stops<D: Volume, E: Volume>()
     ensures left { RestingServersAreLeft D.Disk E.Disk ⟦<FolderStore<D> as TakeStore>⟧
         ⟦<RestingFolderJournal<E> as Journal>⟧ }
     ensures wake { LeftNamesMayWake }
+{}
+
+/// What is asked of it, but for its folder, is kept by each call that it makes: by the turn of a
+/// message under whose name nothing rests, and by the rest and the waking of a name, done or not.
+pub fn law_resting_calls<S: TakeStore, J: Journal>()
+    ensures asked { HonestServersAreInOrder S.TakeStore J.Journal }
+    ensures turn { TurnsKeepOrder S.TakeStore J.Journal }
+    ensures rest { RestsKeepOrder S.TakeStore J.Journal }
+    ensures wake { WakesKeepOrder S.TakeStore J.Journal }
+    ensures failed { FailuresKeepOrder S.TakeStore J.Journal }
 {}
 
 /// A folder in which no server has run is as one left it to which no message came, whether names may
