@@ -8,7 +8,7 @@ use Rattle.bw_stream.specs.declared.sink.Sink.{Ghosts as Writer}
 use Rattle.bw_exchange.specs.Answering.{Answered, AnswersAll}
 use Rattle.bw_exchange.proofs.Going.{answers_append}
 use Rattle.bw_console.specs.declared.exit.Exit.{Exit}
-use Rattle.bw_console.specs.declared.exit.Exit.TheVariants.{Done, Refused, Usage, Device, Memory}
+use Rattle.bw_console.specs.declared.exit.Exit.TheVariants.{Memory}
 use Rattle.bw_ports.specs.declared.link.Link.{Ghosts as LinkGhosts}
 use Rattle.bw_ports.specs.declared.reactor.Reactor.{Ghosts as ReactorGhosts}
 use Rattle.bw_connections.specs.Keeping.{Tagged, all_answered, tagged}
@@ -94,16 +94,7 @@ module _ {L S O E : Type 0} (G : LinkGhosts L) (answers : S → Frame → List R
         AllByRecursion (λ (left : RoundLeft L S). AnswersAll answers s left.answered left.server)
         (left_in_run reactor G answers out reported log bounds exit s s' b b' o o' e e' run)
     run_answers bounds Memory s s' b b' o o' e e' run = tt
-    run_answers bounds Done s s' b b' o o' e e' run =
-        left_answers bounds.idle bounds.exchanges run.in_rounds.count run.in_rounds.empty run.following s s' b
-        run.reactor_after o o' e e' run.in_rounds.each
-    run_answers bounds Refused s s' b b' o o' e e' run =
-        left_answers bounds.idle bounds.exchanges run.in_rounds.count run.in_rounds.empty run.following s s' b
-        run.reactor_after o o' e e' run.in_rounds.each
-    run_answers bounds Usage s s' b b' o o' e e' run =
-        left_answers bounds.idle bounds.exchanges run.in_rounds.count run.in_rounds.empty run.following s s' b
-        run.reactor_after o o' e e' run.in_rounds.each
-    run_answers bounds Device s s' b b' o o' e e' run =
+    run_answers bounds exit s s' b b' o o' e e' run =
         left_answers bounds.idle bounds.exchanges run.in_rounds.count run.in_rounds.empty run.following s s' b
         run.reactor_after o o' e e' run.in_rounds.each
 
@@ -173,19 +164,7 @@ module _ {T S : Type 0} (inner : T → S) (outer : T → Frame → List Reply �
           RunsSeen bounds exit (inner t) (inner t') b b' o o' e e' v v'
       run_seen bounds Memory t t' b b' o o' e e' v v' made run same =
           ((ap inner run.0, run.1, run.2, run.3), same)
-      run_seen bounds Done t t' b b' o o' e e' v v' made run seen = (
-        served_inner inner outer answers passes G out reported log reactor bounds Done t t' b b' o o' e e' seen.run,
-        looks_made bounds Done t t' b b' o o' e e' v v' made seen,
-      )
-      run_seen bounds Refused t t' b b' o o' e e' v v' made run seen = (
-        served_inner inner outer answers passes G out reported log reactor bounds Refused t t' b b' o o' e e' seen.run,
-        looks_made bounds Refused t t' b b' o o' e e' v v' made seen,
-      )
-      run_seen bounds Usage t t' b b' o o' e e' v v' made run seen = (
-        served_inner inner outer answers passes G out reported log reactor bounds Usage t t' b b' o o' e e' seen.run,
-        looks_made bounds Usage t t' b b' o o' e e' v v' made seen,
-      )
-      run_seen bounds Device t t' b b' o o' e e' v v' made run seen = (
-        served_inner inner outer answers passes G out reported log reactor bounds Device t t' b b' o o' e e' seen.run,
-        looks_made bounds Device t t' b b' o o' e e' v v' made seen,
+      run_seen bounds exit t t' b b' o o' e e' v v' made run seen = (
+        served_inner inner outer answers passes G out reported log reactor bounds exit t t' b b' o o' e e' seen.run,
+        looks_made bounds exit t t' b b' o o' e e' v v' made seen,
       )

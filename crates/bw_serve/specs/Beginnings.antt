@@ -6,7 +6,7 @@ use Rattle.std.specs.declared.io.Error.{Error as IoError}
 use Rattle.std.specs.declared.net.socket_addr.SocketAddr.{SocketAddr}
 use Rattle.bw_stream.specs.Moves.{one_more}
 use Rattle.bw_stream.specs.declared.sink.Sink.{Ghosts as Writer}
-use Rattle.bw_console.specs.Printing.{HasStopped}
+use Rattle.bw_console.specs.Printing.{HasPrinted, HasStopped}
 use Rattle.bw_console.specs.declared.exit.Exit.{Exit}
 use Rattle.bw_console.specs.declared.fault.Fault.TheVariants as faults
 use Rattle.bw_ports.specs.declared.listener_setup.ListenerSetup.{Ghosts as ListenerSetupGhosts}
@@ -17,7 +17,7 @@ use Rattle.bw_ports.specs.declared.starts_resting.StartsResting.{Ghosts as RestG
 use Rattle.bw_serve.specs.declared.hosting.Hosting.{Hosting}
 use Rattle.bw_serve.specs.declared.hosting_in_turn.Serving.{Serving}
 use Rattle.bw_serve.specs.Refusals.{ReportsRefusal}
-use Rattle.bw_serve.specs.Reported.{GivesUp, ReportsUnopened}
+use Rattle.bw_serve.specs.Reported.{GivesUp, ReportsExit, ReportsUnopened}
 
 -- what calls of one kind may return, from which state to which, and how many have failed
 pub record Calls (N T F : Type 0) : Type 1 where
@@ -109,6 +109,22 @@ pub record WantsFirst {P O E : Type 0} (reported : Writer E) (exit : Exit) (p p'
   pub unmet : p' ≡ p
   pub printed : o' ≡ o
   pub reports : GivesUp reported faults.Memory exit e e'
+
+-- After these opening lines it ran until it ended so, which is reported: from one state to a later
+-- one, of which this is claimed.
+pub record OpensAndRuns {T O E : Type 0} (out : Writer O) (reported : Writer E) (opening : List ℕ)
+    (Runs : Exit → T → O → E → Type 0)
+    (Leaves : (ended : Exit) (following : T) (between : O) (logged : E) →
+    Runs ended following between logged → Type 0)
+    (exit : Exit) (o : O) (e' : E) : Type 0 where
+  pub following : T
+  pub between : O
+  pub opens : HasPrinted out opening o between
+  pub ended : Exit
+  pub logged : E
+  pub run : Runs ended following between logged
+  pub leaves : Leaves ended following between logged run
+  pub reports : ReportsExit reported ended exit logged e'
 
 -- the opening can't be written, and nothing is served
 pub record CantOpen {P O E : Type 0} (out : Writer O) (reported : Writer E) (opening : List ℕ)

@@ -15,15 +15,13 @@ use Rattle.bw_session.specs.declared.server.Server.{Server}
 use Rattle.bw_session.specs.SeenServers.{server_store, server_limit}
 use Rattle.bw_exchange.specs.Answering.{Answered}
 use Rattle.bw_engine.specs.ServerRuns.{RunsOn}
-use Rattle.bw_console.specs.Printing.{HasPrinted}
 use Rattle.bw_console.specs.declared.exit.Exit.{Exit}
 use Rattle.bw_console.specs.declared.exit.Exit.TheVariants.{Done, Refused, Usage, Device, Memory}
 use Rattle.bw_ports.specs.declared.link.Link.{Ghosts as LinkGhosts}
 use Rattle.bw_ports.specs.declared.peers.Peers.{Ghosts as PeerGhosts}
 use Rattle.bw_ports.specs.declared.reactor.Reactor.{Ghosts as ReactorGhosts}
 use Rattle.bw_connections.specs.Keeping.{all_answered}
-use Rattle.bw_serve.specs.Beginnings.{CantOpen}
-use Rattle.bw_serve.specs.Reported.{ReportsExit}
+use Rattle.bw_serve.specs.Beginnings.{CantOpen, OpensAndRuns}
 use Rattle.bw_serve.specs.ServedAll.{ServesRun, answered_in_run}
 use Rattle.bw_serve.specs.Serving.{RunsEventLoop}
 use Rattle.bw_serve.specs.declared.serving.Bounds.{Bounds}
@@ -49,18 +47,13 @@ module _ {X Y P R W O E : Type 0} (S : StoreGhosts X) (J : JournalGhosts Y)
     (peers : PeerGhosts P R W) (reader : Reader R) (writer : Writer W) (out : Writer O)
     (reported : Writer E) where
   -- after its opening lines this server served its exchanges, one after another
-  pub record ServesFrom (opening : List ℕ) (exchanges : ℕ) (log : Bool) (exit : Exit)
-      (server : Server X Y S J) (p p' : P) (o o' : O) (e e' : E) : Type 0 where
-    pub following : Server X Y S J
-    pub between : O
-    pub opens : HasPrinted out opening o between
-    pub ended : Exit
-    pub logged : E
-    pub run : ServesRun (ServerTurn S J) peers reader writer out reported log exchanges ended server
-        following p p' between o' e logged
-    pub leaves : LeavesRunsFrom S J server following (answered_in_run (ServerTurn S J) peers reader
-        writer out reported log exchanges ended server following p p' between o' e logged run)
-    pub reports : ReportsExit reported ended exit logged e'
+  abbrev pub ServesFrom : List ℕ → ℕ → Bool → Exit → Server X Y S J → P → P → O → O → E → E → Type 0
+  ServesFrom opening exchanges log exit server p p' o o' e e' = OpensAndRuns out reported opening
+      (λ ended following between logged. ServesRun (ServerTurn S J) peers reader writer out reported log
+      exchanges ended server following p p' between o' e logged)
+      (λ ended following between logged run. LeavesRunsFrom S J server following (answered_in_run
+      (ServerTurn S J) peers reader writer out reported log exchanges ended server following p p' between
+      o' e logged run)) exit o e'
 
   -- it did, or could not print its opening lines
   abbrev pub HostsFrom : List ℕ → ℕ → Bool → Exit → Server X Y S J → P → P → O → O → E → E → Type 0
@@ -84,18 +77,14 @@ module _ {B L T O E : Type 0} (reactor : ReactorGhosts B L) (link : LinkGhosts L
 module _ {X Y B L O E : Type 0} (S : StoreGhosts X) (J : JournalGhosts Y) (reactor : ReactorGhosts B L)
     (link : LinkGhosts L) (out : Writer O) (reported : Writer E) where
   -- after its opening lines this server served its exchanges, many at once
-  pub record ServesManyFrom (opening : List ℕ) (bounds : Bounds) (log : Bool) (exit : Exit)
-      (server : Server X Y S J) (b b' : B) (o o' : O) (e e' : E) : Type 0 where
-    pub following : Server X Y S J
-    pub between : O
-    pub opens : HasPrinted out opening o between
-    pub ended : Exit
-    pub logged : E
-    pub run : RunsEventLoop reactor link (ServerTurn S J) out reported log bounds ended server
-        following b b' between o' e logged
-    pub leaves : LeavesRunsFrom S J server following (answered_in_loop reactor link (ServerTurn S J)
-        out reported log bounds ended server following b b' between o' e logged run)
-    pub reports : ReportsExit reported ended exit logged e'
+  abbrev pub ServesManyFrom : List ℕ → Bounds → Bool → Exit → Server X Y S J → B → B → O → O → E → E →
+      Type 0
+  ServesManyFrom opening bounds log exit server b b' o o' e e' = OpensAndRuns out reported opening
+      (λ ended following between logged. RunsEventLoop reactor link (ServerTurn S J) out reported log
+      bounds ended server following b b' between o' e logged)
+      (λ ended following between logged run. LeavesRunsFrom S J server following (answered_in_loop
+      reactor link (ServerTurn S J) out reported log bounds ended server following b b' between o' e
+      logged run)) exit o e'
 
   -- it did, or could not print its opening lines
   abbrev pub HostsManyFrom : List ℕ → Bounds → Bool → Exit → Server X Y S J → B → B → O → O → E → E

@@ -1,5 +1,6 @@
 -- What the command `serve --journal --rest` does.
 use Rattle.std.specs.Prelude.{◌⊎◌, ℕ, Bool, List}
+use Rattle.std.specs.declared.net.socket_addr.SocketAddr.{SocketAddr}
 use Rattle.bw_stream.specs.declared.sink.Sink.{Ghosts as Writer}
 use Rattle.bw_stream.specs.declared.source.Source.{Ghosts as Reader}
 use Rattle.bw_store.specs.declared.store.TakeStore.{Ghosts as StoreGhosts}
@@ -17,12 +18,12 @@ use Rattle.bw_ports.specs.declared.network.Network.{Ghosts as NetworkGhosts}
 use Rattle.bw_ports.specs.declared.peers.Peers.{Ghosts as PeerGhosts}
 use Rattle.bw_ports.specs.declared.reactor.Reactor.{Ghosts as ReactorGhosts}
 use Rattle.bw_ports.specs.declared.starts_resting.StartsResting.{Ghosts as RestGhosts}
-use Rattle.bw_serve.specs.Beginnings.{CantOpen, ServesOrReports, WantsFirst, peer_calls, reactor_calls}
-use Rattle.bw_serve.specs.Beginnings.{rest_calls}
+use Rattle.bw_serve.specs.Beginnings.{CantOpen, OpensAndRuns, ServesOrReports, WantsFirst, peer_calls}
+use Rattle.bw_serve.specs.Beginnings.{reactor_calls, rest_calls}
 use Rattle.bw_serve.specs.HostedFrom.{answered_in_loop}
 use Rattle.bw_serve.specs.HostedResumed.{OpensWith}
-use Rattle.bw_serve.specs.HostedTurns.{ServesTurns, ServesManyTurns}
-use Rattle.bw_serve.specs.ServedAll.{answered_in_run}
+use Rattle.bw_serve.specs.ServedAll.{ServesRun, answered_in_run}
+use Rattle.bw_serve.specs.Serving.{RunsEventLoop}
 use Rattle.bw_serve.specs.declared.hosting.Hosting.{Hosting}
 use Rattle.bw_serve.specs.declared.hosting_in_turn.Serving.{Serving}
 
@@ -33,30 +34,43 @@ pub record RestsFromNow {X Y Z : Type 0} (S : StoreGhosts X) (J : JournalGhosts 
   pub journal : becomes (server_journal server) (server_journal (table_server resting))
   pub books : KeepsItsBooks S J K server (table_server resting)
 
+-- the server that was started, the one of which names rest from then on, and the first lines
+pub record BeginsResting {X Y Z : Type 0} (S : StoreGhosts X) (J : JournalGhosts Y) (K : JournalGhosts Z)
+    (becomes : Y → Z → Type 0) (address : SocketAddr) (server : Server X Y S J)
+    (resting : RestingServer X Z S K) (opening : List ℕ) : Type 0 where
+  pub opens : OpensWith S J address server opening
+  pub rests : RestsFromNow S J K becomes server resting
+
+-- a server that was started lets its names rest from then on, and does this after its first lines
+pub record HostsRestingBy {X Y Z : Type 0} (S : StoreGhosts X) (J : JournalGhosts Y) (K : JournalGhosts Z)
+    (becomes : Y → Z → Type 0) (address : SocketAddr) (server : Server X Y S J)
+    (Does : RestingServer X Z S K → List ℕ → Type 0) : Type 0 where
+  pub resting : RestingServer X Z S K
+  pub opening : List ℕ
+  pub begins : BeginsResting S J K becomes address server resting opening
+  pub hosts : Does resting opening
+
 module _ {X Y P R W O E : Type 0} (S : StoreGhosts X) (K : JournalGhosts Y) (peers : PeerGhosts P R W)
     (reader : Reader R) (writer : Writer W) (out : Writer O) (reported : Writer E) where
   -- after its opening lines this server served its exchanges, one after another: from each book of
   -- the folder
-  pub record ServesResting (opening : List ℕ) (serving : Serving) (exit : Exit)
-      (server : RestingServer X Y S K) (p p' : P) (o o' : O) (e e' : E) : Type 0 where
-    pub serves : ServesTurns (resting_answers S K) peers reader writer out reported opening
-        serving.exchanges serving.log exit server p p' o o' e e'
-    pub leaves : LeavesRestsFrom S K (table_server server) (table_server serves.following) (answered_in_run
-        (resting_answers S K) peers reader writer out reported serving.log serving.exchanges
-        serves.ended server serves.following p p' serves.between o' e serves.logged serves.run)
+  abbrev pub ServesResting : List ℕ → Serving → Exit → RestingServer X Y S K → P → P → O → O → E → E → Type 0
+  ServesResting opening serving exit server p p' o o' e e' = OpensAndRuns out reported opening
+      (λ ended following between logged. ServesRun (resting_answers S K) peers reader writer out reported
+      serving.log serving.exchanges ended server following p p' between o' e logged)
+      (λ ended following between logged run. LeavesRestsFrom S K (table_server server)
+      (table_server following) (answered_in_run (resting_answers S K) peers reader writer out reported
+      serving.log serving.exchanges ended server following p p' between o' e logged run)) exit o e'
 
 module _ {X Y Z P R W O E : Type 0} (S : StoreGhosts X) (J : JournalGhosts Y) (K : JournalGhosts Z)
     (becomes : Y → Z → Type 0) (peers : PeerGhosts P R W) (reader : Reader R) (writer : Writer W)
     (out : Writer O) (reported : Writer E) where
   -- a server that was started lets its names rest, and serves its exchanges after its first lines
-  pub record HostsResting (serving : Serving) (exit : Exit) (server : Server X Y S J) (p p' : P)
-      (o o' : O) (e e' : E) : Type 0 where
-    pub opening : List ℕ
-    pub opens : OpensWith S J serving.address server opening
-    pub resting : RestingServer X Z S K
-    pub rests : RestsFromNow S J K becomes server resting
-    pub hosts : ServesResting S K peers reader writer out reported opening serving exit resting p p'
-        o o' e e' ⊎ CantOpen out reported opening exit p p' o o' e e'
+  abbrev pub HostsResting : Serving → Exit → Server X Y S J → P → P → O → O → E → E → Type 0
+  HostsResting serving exit server p p' o o' e e' =
+      HostsRestingBy S J K becomes serving.address server (λ resting opening.
+      ServesResting S K peers reader writer out reported opening serving exit resting p p' o o' e e'
+      ⊎ CantOpen out reported opening exit p p' o o' e e')
 
   -- it does, or memory was refused before its first lines
   abbrev pub HostsRestingOver : Serving → Exit → Server X Y S J → P → P → O → O → E → E → Type 0
@@ -75,25 +89,23 @@ module _ {X Y Z P R W O E : Type 0} (S : StoreGhosts X) (J : JournalGhosts Y) (K
 module _ {X Y B L O E : Type 0} (S : StoreGhosts X) (K : JournalGhosts Y) (reactor : ReactorGhosts B L)
     (link : LinkGhosts L) (out : Writer O) (reported : Writer E) where
   -- the same of exchanges that are served at once
-  pub record ServesManyResting (opening : List ℕ) (hosting : Hosting) (exit : Exit)
-      (server : RestingServer X Y S K) (b b' : B) (o o' : O) (e e' : E) : Type 0 where
-    pub serves : ServesManyTurns (resting_answers S K) reactor link out reported opening
-        hosting.bounds hosting.log exit server b b' o o' e e'
-    pub leaves : LeavesRestsFrom S K (table_server server) (table_server serves.following)
-        (answered_in_loop reactor link (resting_answers S K) out reported hosting.log hosting.bounds
-        serves.ended server serves.following b b' serves.between o' e serves.logged serves.run)
+  abbrev pub ServesManyResting : List ℕ → Hosting → Exit → RestingServer X Y S K → B → B → O → O → E → E →
+      Type 0
+  ServesManyResting opening hosting exit server b b' o o' e e' = OpensAndRuns out reported opening
+      (λ ended following between logged. RunsEventLoop reactor link (resting_answers S K) out reported
+      hosting.log hosting.bounds ended server following b b' between o' e logged)
+      (λ ended following between logged run. LeavesRestsFrom S K (table_server server)
+      (table_server following) (answered_in_loop reactor link (resting_answers S K) out reported
+      hosting.log hosting.bounds ended server following b b' between o' e logged run)) exit o e'
 
 module _ {X Y Z B L O E : Type 0} (S : StoreGhosts X) (J : JournalGhosts Y) (K : JournalGhosts Z)
     (becomes : Y → Z → Type 0) (reactor : ReactorGhosts B L) (link : LinkGhosts L) (out : Writer O)
     (reported : Writer E) where
-  pub record HostsManyResting (hosting : Hosting) (exit : Exit) (server : Server X Y S J) (b b' : B)
-      (o o' : O) (e e' : E) : Type 0 where
-    pub opening : List ℕ
-    pub opens : OpensWith S J hosting.address server opening
-    pub resting : RestingServer X Z S K
-    pub rests : RestsFromNow S J K becomes server resting
-    pub hosts : ServesManyResting S K reactor link out reported opening hosting exit resting b b' o o'
-        e e' ⊎ CantOpen out reported opening exit b b' o o' e e'
+  abbrev pub HostsManyResting : Hosting → Exit → Server X Y S J → B → B → O → O → E → E → Type 0
+  HostsManyResting hosting exit server b b' o o' e e' =
+      HostsRestingBy S J K becomes hosting.address server (λ resting opening.
+      ServesManyResting S K reactor link out reported opening hosting exit resting b b' o o' e e'
+      ⊎ CantOpen out reported opening exit b b' o o' e e')
 
   abbrev pub HostsManyRestingOver : Hosting → Exit → Server X Y S J → B → B → O → O → E → E → Type 0
   HostsManyRestingOver hosting exit server b b' o o' e e' =

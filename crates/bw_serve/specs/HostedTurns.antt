@@ -5,14 +5,12 @@ use Rattle.bw_model.specs.Replies.{Reply}
 use Rattle.bw_stream.specs.declared.sink.Sink.{Ghosts as Writer}
 use Rattle.bw_stream.specs.declared.source.Source.{Ghosts as Reader}
 use Rattle.bw_exchange.specs.Answering.{AnswersAll}
-use Rattle.bw_console.specs.Printing.{HasPrinted}
 use Rattle.bw_console.specs.declared.exit.Exit.{Exit}
 use Rattle.bw_ports.specs.declared.link.Link.{Ghosts as LinkGhosts}
 use Rattle.bw_ports.specs.declared.peers.Peers.{Ghosts as PeerGhosts}
 use Rattle.bw_ports.specs.declared.reactor.Reactor.{Ghosts as ReactorGhosts}
-use Rattle.bw_serve.specs.Beginnings.{CantOpen}
+use Rattle.bw_serve.specs.Beginnings.{CantOpen, OpensAndRuns}
 use Rattle.bw_serve.specs.HostedFrom.{answered_in_loop}
-use Rattle.bw_serve.specs.Reported.{ReportsExit}
 use Rattle.bw_serve.specs.ServedAll.{ServesRun, answered_in_run}
 use Rattle.bw_serve.specs.Serving.{RunsEventLoop}
 use Rattle.bw_serve.specs.declared.serving.Bounds.{Bounds}
@@ -20,18 +18,13 @@ use Rattle.bw_serve.specs.declared.serving.Bounds.{Bounds}
 module _ {T P R W O E : Type 0} (answers : T → Frame → List Reply → T → Type 0) (peers : PeerGhosts P R W)
     (reader : Reader R) (writer : Writer W) (out : Writer O) (reported : Writer E) where
   -- after its opening lines this server served its exchanges, one after another
-  pub record ServesTurns (opening : List ℕ) (exchanges : ℕ) (log : Bool) (exit : Exit)
-      (server : T) (p p' : P) (o o' : O) (e e' : E) : Type 0 where
-    pub following : T
-    pub between : O
-    pub opens : HasPrinted out opening o between
-    pub ended : Exit
-    pub logged : E
-    pub run : ServesRun answers peers reader writer out reported log exchanges ended server following
-        p p' between o' e logged
-    pub frames : AnswersAll answers server (answered_in_run answers peers reader writer out reported log
-        exchanges ended server following p p' between o' e logged run) following
-    pub reports : ReportsExit reported ended exit logged e'
+  abbrev pub ServesTurns : List ℕ → ℕ → Bool → Exit → T → P → P → O → O → E → E → Type 0
+  ServesTurns opening exchanges log exit server p p' o o' e e' = OpensAndRuns out reported opening
+      (λ ended following between logged. ServesRun answers peers reader writer out reported log exchanges
+      ended server following p p' between o' e logged)
+      (λ ended following between logged run. AnswersAll answers server (answered_in_run answers peers
+      reader writer out reported log exchanges ended server following p p' between o' e logged run)
+      following) exit o e'
 
   -- it did, or could not print its opening lines
   abbrev pub HostsTurns : List ℕ → ℕ → Bool → Exit → T → P → P → O → O → E → E → Type 0
@@ -42,18 +35,13 @@ module _ {T P R W O E : Type 0} (answers : T → Frame → List Reply → T → 
 module _ {T B L O E : Type 0} (answers : T → Frame → List Reply → T → Type 0)
     (reactor : ReactorGhosts B L) (link : LinkGhosts L) (out : Writer O) (reported : Writer E) where
   -- after its opening lines this server served its exchanges, many at once
-  pub record ServesManyTurns (opening : List ℕ) (bounds : Bounds) (log : Bool) (exit : Exit)
-      (server : T) (b b' : B) (o o' : O) (e e' : E) : Type 0 where
-    pub following : T
-    pub between : O
-    pub opens : HasPrinted out opening o between
-    pub ended : Exit
-    pub logged : E
-    pub run : RunsEventLoop reactor link answers out reported log bounds ended server following b b'
-        between o' e logged
-    pub frames : AnswersAll answers server (answered_in_loop reactor link answers out reported log
-        bounds ended server following b b' between o' e logged run) following
-    pub reports : ReportsExit reported ended exit logged e'
+  abbrev pub ServesManyTurns : List ℕ → Bounds → Bool → Exit → T → B → B → O → O → E → E → Type 0
+  ServesManyTurns opening bounds log exit server b b' o o' e e' = OpensAndRuns out reported opening
+      (λ ended following between logged. RunsEventLoop reactor link answers out reported log bounds ended
+      server following b b' between o' e logged)
+      (λ ended following between logged run. AnswersAll answers server (answered_in_loop reactor link
+      answers out reported log bounds ended server following b b' between o' e logged run) following)
+      exit o e'
 
   -- it did, or could not print its opening lines
   abbrev pub HostsManyTurns : List ℕ → Bounds → Bool → Exit → T → B → B → O → O → E → E → Type 0

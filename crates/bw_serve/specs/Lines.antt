@@ -1,11 +1,10 @@
 -- The lines of connections that ended.
-use Rattle.std.specs.Prelude.{◌≡◌, ℕ, suc, Bool, List, [], ◌∷◌, ◌++◌, codes, decimal}
+use Rattle.std.specs.Prelude.{◌≡◌, ℕ, suc, Bool, List, [], ◌∷◌, codes}
 use Rattle.std.specs.declared.net.socket_addr.SocketAddr.{SocketAddr}
 use Rattle.bw_stream.specs.declared.sink.Sink.{Ghosts as Writer}
 use Rattle.bw_exchange.specs.EndNames.{name_of_end}
 use Rattle.bw_exchange.specs.Answering.{answered_frames}
 use Rattle.bw_console.specs.Printing.{Print, IsOf, IsPrint}
-use Rattle.bw_console.specs.Text.{as_line}
 use Rattle.bw_connections.specs.declared.connection.ConnectionEnd.{ConnectionEnd}
 use Rattle.bw_connections.specs.declared.connection.ConnectionEnd.TheVariants.{Over, Idle}
 use Rattle.bw_ports.specs.declared.link.Link.{Ghosts as LinkGhosts}
@@ -13,6 +12,7 @@ use Rattle.bw_connections.specs.declared.connections.Closed.{Closed}
 use Rattle.bw_connections.specs.Keeping.{Tagged, own}
 use Rattle.bw_exchange.specs.LinkCounts.{Counted, message_count, up_to_last}
 use Rattle.bw_serve.specs.LinkLines.{Logs, peer_line}
+use Rattle.bw_serve.specs.ServedOne.{exchange_line}
 
 -- what an end is called
 abbrev pub name_of_connection_end : ConnectionEnd → List ℕ
@@ -21,8 +21,7 @@ name_of_connection_end Idle = codes "Idle"
 
 -- the line of the connection that ended as the one with this number
 abbrev pub connection_line : ℕ → ConnectionEnd → List ℕ
-connection_line index end =
-    as_line (codes "exchange " ++ decimal index ++ codes " " ++ name_of_connection_end end)
+connection_line index end = exchange_line index (name_of_connection_end end)
 
 -- the line of each of these was printed, one after another, the first with this number
 abbrev pub ReportsEnds : {L O : Type 0} → Writer O → ℕ → List (Closed L) → O → O → Type 0

@@ -108,15 +108,6 @@ module _ {B L S O E : Type 0} (reactor : ReactorGhosts B L) (G : LinkGhosts L)
       RunsEventLoop reactor G answers out reported log bounds exit s s' b b' o o' e e' →
       List (RoundLeft L S)
   left_in_run bounds exits.Memory s s' b b' o o' e e' run = []
-  left_in_run bounds exits.Done s s' b b' o o' e e' run =
-      left_in_rounds bounds.idle bounds.exchanges run.in_rounds.count run.in_rounds.empty run.following
-      s s' b run.reactor_after o o' e e' run.in_rounds.each
-  left_in_run bounds exits.Refused s s' b b' o o' e e' run =
-      left_in_rounds bounds.idle bounds.exchanges run.in_rounds.count run.in_rounds.empty run.following
-      s s' b run.reactor_after o o' e e' run.in_rounds.each
-  left_in_run bounds exits.Usage s s' b b' o o' e e' run =
-      left_in_rounds bounds.idle bounds.exchanges run.in_rounds.count run.in_rounds.empty run.following
-      s s' b run.reactor_after o o' e e' run.in_rounds.each
-  left_in_run bounds exits.Device s s' b b' o o' e e' run =
+  left_in_run bounds exit s s' b b' o o' e e' run =
       left_in_rounds bounds.idle bounds.exchanges run.in_rounds.count run.in_rounds.empty run.following
       s s' b run.reactor_after o o' e e' run.in_rounds.each

@@ -10,7 +10,7 @@ use Rattle.bw_exchange.specs.Answering.{Answered, answered_frames}
 use Rattle.bw_exchange.specs.declared.serving.ExchangeEnd.{ExchangeEnd}
 use Rattle.bw_exchange.specs.LinkCounts.{message_count}
 use Rattle.bw_console.specs.declared.exit.Exit.{Exit}
-use Rattle.bw_console.specs.declared.exit.Exit.TheVariants.{Done, Refused, Usage, Device, Memory}
+use Rattle.bw_console.specs.declared.exit.Exit.TheVariants.{Done, Device, Memory}
 use Rattle.bw_serve.specs.ServedOne.{ServesTo}
 use Rattle.bw_serve.specs.LinkLines.{Logs, link_line}
 use Rattle.bw_ports.specs.declared.peers.AcceptFault.{AcceptFault}
@@ -131,11 +131,5 @@ module _ {T P R W O E : Type 0} (answers : T → Frame → List Reply → T → 
       (e e' : E) → ServesRun exchanges exit t t' p p' o o' e e' → List Answered
   answered_in_run exchanges Done t t' p p' o o' e e' run =
       answered_each 0 run.outcomes t t' p p' o o' e e' run.each
-  answered_in_run exchanges Refused t t' p p' o o' e e' run =
-      answered_early exchanges Refused t t' p p' o o' e e' run
-  answered_in_run exchanges Usage t t' p p' o o' e e' run =
-      answered_early exchanges Usage t t' p p' o o' e e' run
-  answered_in_run exchanges Device t t' p p' o o' e e' run =
-      answered_early exchanges Device t t' p p' o o' e e' run
-  answered_in_run exchanges Memory t t' p p' o o' e e' run =
-      answered_early exchanges Memory t t' p p' o o' e e' run
+  answered_in_run exchanges exit t t' p p' o o' e e' run =
+      answered_early exchanges exit t t' p p' o o' e e' run

@@ -13,10 +13,13 @@ use Rattle.bw_console.specs.Text.{as_line}
 use Rattle.bw_console.specs.declared.exit.Exit.{Exit}
 use Rattle.bw_console.specs.declared.exit.Exit.TheVariants.{Done, Device, Memory}
 
--- the line of the exchange with this number
+-- the line of the exchange with this number, whose end is called so
+abbrev pub exchange_line : ℕ → List ℕ → List ℕ
+exchange_line index name = as_line (codes "exchange " ++ decimal index ++ codes " " ++ name)
+
+-- of one that ended so
 abbrev pub exchange_end_line : ℕ → ExchangeEnd → List ℕ
-exchange_end_line index end =
-    as_line (codes "exchange " ++ decimal index ++ codes " " ++ name_of_end end)
+exchange_end_line index end = exchange_line index (name_of_end end)
 
 -- how the call ends after this end of the exchange
 abbrev pub exit_of_end : ExchangeEnd → Exit
@@ -39,10 +42,18 @@ exit_after end (Whole text) = exit_of_end end
 exit_after end (Part text) = exit_unreported end
 exit_after end Nothing = exit_unreported end
 
+-- the line of an exchange that ended so was printed, and no other, and the call ends so
+pub record PrintsEnd {O : Type 0} (out : Writer O) (index : ℕ) (end : ExchangeEnd) (exit : Exit)
+    (o o' : O) : Type 0 where
+  pub print : Print
+  pub line : IsOf (exchange_end_line index end) print
+  pub printed : IsPrint out print o o'
+  pub exit_is : exit ≡ exit_after end print
+
 module _ {S R W O : Type 0} (answers : S → Frame → List Reply → S → Type 0) (reader : Reader R)
     (writer : Writer W) (out : Writer O) where
   -- An exchange was served to this end: what the server answered, what was read and what was
-  -- written is that of such an exchange. Its line and no other was printed, and the call ends so.
+  -- written is that of such an exchange. Its line was printed, and the call ends so.
   pub record ServesTo (index : ℕ) (end : ExchangeEnd) (exit : Exit) (s s' : S) (r r' : R)
       (w w' : W) (o o' : O) : Type 0 where
     pub serves : Serves answers end s s' (reader.left r) (reader.left r') (writer.written w)
@@ -51,10 +62,7 @@ module _ {S R W O : Type 0} (answers : S → Frame → List Reply → S → Type
     pub writes : writer.failures w' ≡ writes_failed end (writer.failures w)
     pub calls : reader.calls r' ≤ reader.calls r + most_reads
     pub limit : IsLimited end (reader.moved r) (reader.moved r') (reader.calls r) (reader.calls r')
-    pub print : Print
-    pub line : IsOf (exchange_end_line index end) print
-    pub printed : IsPrint out print o o'
-    pub exit_is : exit ≡ exit_after end print
+    pub ends : PrintsEnd out index end exit o o'
 
   -- to any end
   abbrev pub ServesOne : ℕ → Exit → S → S → R → R → W → W → O → O → Type 0

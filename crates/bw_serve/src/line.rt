@@ -2,6 +2,7 @@
 ghost use Rattle.std.specs.Prelude.{◌≡◌, ◌≤◌, codes, length};
 ghost use Rattle.bw_console.specs.Printing.{IsOf, IsPrint, Print};
 ghost use Rattle.bw_serve.specs.Lines.{connection_line, name_of_connection_end};
+ghost use Rattle.bw_serve.specs.ServedOne.{exchange_line};
 
 use arrayvec::ArrayString;
 use bw_connections::ConnectionEnd;
@@ -22,12 +23,20 @@ pub(crate) fn print_end<O: Sink>(index: u64, end: ConnectionEnd, out: &mut O)
 fn end_line(index: u64, end: ConnectionEnd) -> ArrayString<64>
     ensures { result.bytes ≡ connection_line index end }
 {
+    exchange_line(index, name_of(end))
+}
+
+/// The line of the exchange with number `index`, whose end is called so.
+pub(crate) fn exchange_line(index: u64, name: &str) -> ArrayString<64>
+    requires { length name.now ≤ 16 }
+    ensures { result.bytes ≡ exchange_line index name.now }
+{
     let mut digits = Buffer::new();
     let mut line = ArrayString::new();
     line.push_str("exchange ");
     line.push_str(digits.format(index));
     line.push_str(" ");
-    line.push_str(name_of(end));
+    line.push_str(name);
     line.push_str("\n");
     line
 }

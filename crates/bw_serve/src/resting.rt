@@ -1,5 +1,6 @@
 //! The command `serve` with a journal and with names that rest.
-ghost use Rattle.bw_serve.specs.HostedResting.{HostsManyRested, HostsManyRestingOver};
+ghost use Rattle.std.specs.Prelude.{IfOk, string_bytes};
+ghost use Rattle.bw_serve.specs.HostedResting.{BeginsResting, HostsManyRested, HostsManyRestingOver};
 ghost use Rattle.bw_serve.specs.HostedResting.{HostsRested, HostsRestingOver};
 
 use crate::hosting::{Hosting, serve_many_turns};
@@ -15,7 +16,8 @@ use bw_rest::laws::law_leaves_folders;
 use bw_session::Server;
 use bw_store::TakeStore;
 use bw_stream::Sink;
-use std::alloc::Global;
+use std::alloc::{AllocError, Global};
+use std::net::SocketAddr;
 
 /// Serves a number of exchanges, one after another, from what an earlier server left in the folder,
 /// as `serve_journaled` does; closed takes rest once the table is full, and wake at their next
@@ -68,10 +70,7 @@ fn serve_rested<S: TakeStore, J: BecomesResting, P: Peers, O: Sink, E: Sink>(
         P.Reader.Source P.Writer.Sink O.Sink E.Sink serving.now result server peers.old peers.new
         out.old out.new faults.old faults.new }
 {
-    let Ok(lines) = format_opening(alloc, server.names(), serving.address) else {
-        return give_up(faults, &Fault::Memory);
-    };
-    let Ok(server) = RestingServer::new(alloc, server.becomes_resting()) else {
+    let Ok((server, lines)) = begin_resting(alloc, server, serving.address) else {
         return give_up(faults, &Fault::Memory);
     };
     law_leaves_folders::<S, J::Resting>();
@@ -128,12 +127,31 @@ fn serve_many_rested<S: TakeStore, J: BecomesResting, B: Reactor, O: Sink, E: Si
         B.Link.Link O.Sink E.Sink hosting.now result server reactor.old reactor.new out.old out.new
         faults.old faults.new }
 {
-    let Ok(lines) = format_opening(alloc, server.names(), hosting.address) else {
-        return give_up(faults, &Fault::Memory);
-    };
-    let Ok(server) = RestingServer::new(alloc, server.becomes_resting()) else {
+    let Ok((server, lines)) = begin_resting(alloc, server, hosting.address) else {
         return give_up(faults, &Fault::Memory);
     };
     law_leaves_folders::<S, J::Resting>();
     serve_many_turns(alloc, server, lines.as_str(), reactor, hosting, out, faults)
+}
+
+/// The server with names that may rest from then on, and its first lines.
+///
+/// # Errors
+/// `AllocError` if memory was refused.
+///
+/// # Not specified
+/// When memory is refused.
+fn begin_resting<S: TakeStore, J: BecomesResting>(
+    alloc: Global,
+    server: Server<S, J>,
+    address: SocketAddr,
+) -> Result<(RestingServer<S, J::Resting>, String), AllocError>
+    ensures { IfOk result (λ begun. BeginsResting S.TakeStore J.Journal J.Resting.Journal J.becomes
+        address server begun.0 (string_bytes begun.1)) }
+{
+    let lines = format_opening(alloc, server.names(), address)?;
+    let Ok(server) = RestingServer::new(alloc, server.becomes_resting()) else {
+        return Err(AllocError);
+    };
+    Ok((server, lines))
 }

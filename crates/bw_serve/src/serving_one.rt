@@ -1,14 +1,14 @@
 //! One exchange of the command `serve`, and its line.
 ghost use Rattle.std.specs.Prelude.{◌≡◌};
-ghost use Rattle.bw_serve.specs.ServedOne.{ServesOne, ServesTo, exchange_end_line, exit_of_end};
-ghost use Rattle.bw_serve.specs.ServedOne.{exit_unreported};
+ghost use Rattle.bw_serve.specs.ServedOne.{PrintsEnd, ServesOne, ServesTo, exchange_end_line};
+ghost use Rattle.bw_serve.specs.ServedOne.{exit_of_end, exit_unreported};
 
+use crate::line::exchange_line;
 use arrayvec::ArrayString;
 use bw_console::Exit;
 use bw_console::print::print;
 use bw_exchange::{ExchangeEnd, Turns, end_name, serve_exchange};
 use bw_stream::{Sink, Source};
-use itoa::Buffer;
 use std::alloc::Global;
 
 /// Serves one exchange, and prints how it ended: `exchange INDEX END`.
@@ -55,25 +55,25 @@ pub(crate) fn serve_link<R: Source, W: Sink, T: Turns, O: Sink>(
         server.new reader.old reader.new writer.old writer.new out.old out.new }
 {
     let end = serve_exchange(alloc, server, reader, writer);
-    let exit = match print(out, end_line(index, end).as_str().as_bytes()) {
+    let exit = print_exchange(index, end, out);
+    Ended { end, exit }
+}
+
+/// Prints how an exchange ended, and returns how the call ends.
+fn print_exchange<O: Sink>(index: u64, end: ExchangeEnd, out: &mut O) -> Exit
+    ensures { PrintsEnd O.Sink index end result out.old out.new }
+{
+    match print(out, end_line(index, end).as_str().as_bytes()) {
         Ok(()) => exit_reported(end),
         Err(_failed) => exit_unwritten(end),
-    };
-    Ended { end, exit }
+    }
 }
 
 /// The line of an exchange that ended like this.
 fn end_line(index: u64, end: ExchangeEnd) -> ArrayString<64>
     ensures { result.bytes ≡ exchange_end_line index end }
 {
-    let mut digits = Buffer::new();
-    let mut line = ArrayString::new();
-    line.push_str("exchange ");
-    line.push_str(digits.format(index));
-    line.push_str(" ");
-    line.push_str(end_name(end));
-    line.push_str("\n");
-    line
+    exchange_line(index, end_name(end))
 }
 
 /// How the call ends if the line is written.

@@ -35,10 +35,7 @@ returns g c =
         writes = to.writes;
         calls = to.calls;
         limit = to.limit;
-        print = to.print;
-        line = to.line;
-        printed = to.printed;
-        exit_is = to.exit_is;
+        ends = to.ends;
       };
       logs = subst (λ (n : List ℕ). Logs g.E.Sink c.args.log (peer_line c.args.peer.address n
           (message_count (answered_frames to.serves.answered))) c.args.faults.now c.report_link.new.faults) c.end_name.ensures.value

@@ -1,29 +1,11 @@
-use Rattle.std.proofs.Common.{ap, inl, inr, ◌∙◌}
-use Rattle.bw_console.specs.Printing.{Whole, Part}
 use Rattle.bw_serve.proofs.serving_one.serve_link.Goals as goal
 
-pub returns-in-Ok : goal.returns-in-Ok
-returns-in-Ok g c = record {
+pub returns : goal.returns
+returns g c = record {
   serves = c.serve_exchange-end.ensures.served;
   reads = c.serve_exchange-end.ensures.reads;
   writes = c.serve_exchange-end.ensures.writes;
   calls = c.serve_exchange-end.ensures.calls;
   limit = c.serve_exchange-end.ensures.limit;
-  print = Whole c.as_bytes.result.now;
-  line = inl (ap Whole (c.as_bytes.ensures.value ∙ c.as_str.ensures.value ∙ c.end_line.ensures));
-  printed = c.in-Ok.ensures.ok;
-  exit_is = c.exit_reported-exit.ensures;
-}
-
-pub returns-in-Err : goal.returns-in-Err
-returns-in-Err g c = record {
-  serves = c.serve_exchange-end.ensures.served;
-  reads = c.serve_exchange-end.ensures.reads;
-  writes = c.serve_exchange-end.ensures.writes;
-  calls = c.serve_exchange-end.ensures.calls;
-  limit = c.serve_exchange-end.ensures.limit;
-  print = Part c.as_bytes.result.now;
-  line = inr (ap Part (c.as_bytes.ensures.value ∙ c.as_str.ensures.value ∙ c.end_line.ensures));
-  printed = c.in-Err.ensures.err;
-  exit_is = c.exit_unwritten-exit.ensures;
+  ends = c.print_exchange-exit.ensures;
 }
