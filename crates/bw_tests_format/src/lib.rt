@@ -4,14 +4,4 @@
 #![tactic(auto)]
 
 #[cfg(test)]
-mod compare;
-#[cfg(test)]
-mod layouts;
-#[cfg(test)]
-mod messages;
-#[cfg(test)]
-mod readers;
-#[cfg(test)]
-mod replies;
-#[cfg(test)]
-mod takes;
+mod tests;

@@ -1,7 +1,7 @@
 //! Worked rows of the published layouts, and each call once.
 ghost use Rattle.std.specs.Prelude.{◌^◌, ◌≤◌};
 
-use crate::compare::same;
+use crate::tests::compare::same;
 use bw_layout::*;
 use std::alloc::{AllocError, Global};
 use std::test::Fail;

@@ -1,6 +1,6 @@
 //! Readers: no clause says how many bytes a slice gives, and in no run does a file grow.
 
-use crate::compare::same;
+use crate::tests::compare::same;
 use bw_stream::*;
 use std::io::Cursor;
 

@@ -1,6 +1,6 @@
 //! Bodies that are no reply, and the first reason: the program reports none.
 
-use crate::compare::same;
+use crate::tests::compare::same;
 use bw_wire::*;
 
 /// Bodies that are no reply, and the first reason.

@@ -1,7 +1,7 @@
 //! Frames for which memory is refused, a long piece, and the texts of faults: what no run of the
 //! program shows.
 
-use crate::compare::same;
+use crate::tests::compare::same;
 use bw_take::{Name, RequestRef};
 use bw_wire::*;
 use std::process::Abort;

@@ -3,7 +3,7 @@ ghost use Rattle.std.specs.Prelude.{◌≤◌, IsTrue};
 ghost use Rattle.bw_model.specs.Wire.{is_request};
 ghost use Rattle.bw_request.specs.Requests.{meaning};
 
-use crate::compare::same;
+use crate::tests::compare::same;
 use bw_take::{Name, Request, RequestRef, TakeState, UnknownVerdict, Verdict, judge};
 use std::alloc::{AllocError, Global};
 use std::process::Abort;
