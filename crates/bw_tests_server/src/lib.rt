@@ -2,12 +2,4 @@
 #![tactic(auto)]
 
 #[cfg(test)]
-mod compare;
-#[cfg(test)]
-mod entries;
-#[cfg(test)]
-mod journals;
-#[cfg(test)]
-mod play;
-#[cfg(test)]
-mod resting;
+mod tests;

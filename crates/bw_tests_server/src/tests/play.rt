@@ -1,13 +1,14 @@
 //! The messages of a take and their replies, and the file that they leave.
-use crate::compare::same;
+use crate::tests::compare::same;
 use arrayvec::ArrayVec;
 use bw_journal::Journal;
 use bw_layout::Limit;
 use bw_request::{Name, Verdict};
 use bw_session::Server;
 use bw_store::MemoryStore;
+use bw_tests_kit::two_frames;
 use bw_wire::{Frame, Notice, Reply, decode};
-use std::alloc::{AllocError, Global};
+use std::alloc::Global;
 use std::process::Abort;
 use std::test::Fail;
 
@@ -96,18 +97,4 @@ pub(crate) fn has_file(
         "another file"
     );
     Ok(())
-}
-
-/// The RIFF file of two frames at 48,000 Hz, one channel, 16 bits: 694 bytes.
-fn two_frames(alloc: Global) -> Result<Vec<u8>, AllocError> {
-    let mut file = Vec::with_capacity(alloc, 694)?;
-    file.extend_from_slice(b"RIFF\xae\x02\0\0WAVEJUNK\x1c\0\0\0")?;
-    file.resize(48, 0)?;
-    file.extend_from_slice(b"fmt \x10\0\0\0\x01\0\x01\0\x80\xbb\0\0\0\x77\x01\0\x02\0\x10\0")?;
-    file.extend_from_slice(b"bext\x5a\x02\0\0")?;
-    file.resize(426, 0)?;
-    file.push(1)?;
-    file.resize(682, 0)?;
-    file.extend_from_slice(b"data\x04\0\0\0\x01\0\x02\0")?;
-    Ok(file)
 }

@@ -1,16 +1,15 @@
 //! Servers over journals: each done number is noted, and a fault of the journal is one of the
 //! store.
-ghost use Rattle.std.specs.Prelude.{None, false};
-
-use crate::entries::{ENDS, JOURNAL};
-use crate::play::Reported::{Judged, Noticed};
-use crate::play::{Reported, Turn, a1, has_file, noting_server, send};
-use bw_journal::{FuseJournal, Journal, MemoryJournal, replay};
+use crate::tests::entries::{ENDS, JOURNAL};
+use crate::tests::expecting::Expecting;
+use crate::tests::play::Reported::{Judged, Noticed};
+use crate::tests::play::{Reported, Turn, a1, has_file, noting_server, send};
+use bw_journal::{FuseJournal, MemoryJournal, replay};
 use bw_layout::Limit;
 use bw_request::Name;
 use bw_request::Verdict::{BadBlock, Stored};
 use bw_session::{KeptTake, Server};
-use bw_store::{CallCounter, MemoryStore, StoreFault};
+use bw_store::MemoryStore;
 use bw_wire::Notice::{Conflict, DelayedStore, Held};
 use std::alloc::Global;
 use std::process::Abort;
@@ -22,7 +21,7 @@ const OPEN: &[u8] = b"\x01\x02a1\0\0\0\0\x80\xbb\0\0\x01\0\x10\0\0\0";
 const BLOCK: &[u8] = b"\x02\x02a1\x01\0\0\0\x01\0\x02\0";
 
 /// The messages of `JOURNAL`, with their verdicts.
-pub(crate) static MESSAGES: [(&[u8], Reported); 6] = [
+static MESSAGES: [(&[u8], Reported); 6] = [
     (
         b"\x01\x02a1\0\0\0\0\x80\xbb\0\0\x01\0\x10\0\x05\0A=PCM",
         Judged(0, Stored),
@@ -37,56 +36,9 @@ pub(crate) static MESSAGES: [(&[u8], Reported); 6] = [
     (b"\x05\x02a1\x05\0\0\0\x02\0\0\0\0\0\0\0", Judged(5, Stored)),
 ];
 
-/// A journal that takes the bytes of `JOURNAL` after its header, each once and in their order, and
-/// fails if it is given others.
-#[derive(Drop)]
-struct Expecting {
-    /// How many bytes of it are noted; none before it is begun.
-    noted: usize,
-    call_counter: CallCounter,
-}
-
-impl Journal for Expecting {
-    ghost notes = { λ _ _. None };
-
-    ghost header = { λ _ _. record { limit = 0; existed = false } };
-
-    ghost resting = { λ _ _. None };
-
-    ghost failures = { λ j. j.call_counter.failures };
-
-    ghost honest = { λ _. false };
-
-    fn begin(&mut self, _name: &Name) -> Result<(), StoreFault> {
-        self.call_counter.count(false);
-        if self.noted == 0 {
-            self.noted = 29;
-        }
-        Ok(())
-    }
-
-    fn note(&mut self, _name: &Name, offset: u64, bytes: &[u8]) -> Result<(), StoreFault> {
-        let is_expected = offset == self.noted as u64
-            && match JOURNAL.get(self.noted..) {
-                Some(rest) => self.noted != 0 && rest.starts_with(bytes),
-                None => false,
-            };
-        self.call_counter.count(!is_expected);
-        if !is_expected {
-            return Err(StoreFault);
-        }
-        self.noted = self.noted.saturating_add(bytes.len());
-        Ok(())
-    }
-}
-
 #[test]
 fn each_done_number_is_noted_byte_for_byte(rt: HostRuntime) -> Result<(), Fail> {
-    let journal = Expecting {
-        noted: 0,
-        call_counter: CallCounter::new(),
-    };
-    let mut server = noting_server(rt.alloc(), journal)?;
+    let mut server = noting_server(rt.alloc(), Expecting::new(rt.alloc(), 0, 0))?;
     for (body, reported) in &MESSAGES {
         send(&rt, "a noted message", &mut server, body, &[*reported])?;
         send(&rt, "its repeat", &mut server, body, &[*reported])?;
@@ -143,33 +95,33 @@ fn a_fault_of_the_journal_delays_a_number(rt: HostRuntime) -> Result<(), Fail> {
     has_file(&rt, rt.alloc(), server.store(), &b2)
 }
 
-/// A server that noted the first of the messages of `JOURNAL`, each once.
-fn played(
+/// A server over a journal that knows what it is to be given.
+pub(crate) type Noting = Server<MemoryStore, Expecting>;
+
+/// A server that noted the first of the messages of `JOURNAL`, each once; so many bytes are read of
+/// its journal while that rests.
+pub(crate) fn played(
     rt: &impl Abort,
     alloc: Global,
     count: usize,
-) -> Result<Server<MemoryStore, Expecting>, Fail> {
-    let journal = Expecting {
-        noted: 0,
-        call_counter: CallCounter::new(),
-    };
-    let mut server = noting_server(alloc, journal)?;
-    for (body, reported) in MESSAGES.iter().take(count) {
-        send(rt, "a message", &mut server, body, &[*reported])?;
-    }
+    readable: usize,
+) -> Result<Noting, Fail> {
+    let mut server = noting_server(alloc, Expecting::new(alloc, 0, readable))?;
+    send_first(rt, &mut server, count)?;
     Ok(server)
 }
 
+/// Sends the first of the messages, which get their verdicts.
+pub(crate) fn send_first(rt: &impl Abort, server: &mut Noting, count: usize) -> Result<(), Fail> {
+    for (body, reported) in MESSAGES.iter().take(count) {
+        send(rt, "a message", server, body, &[*reported])?;
+    }
+    Ok(())
+}
+
 /// A server that resumes over this store, from the first bytes of `JOURNAL`.
-fn resumed(
-    alloc: Global,
-    store: MemoryStore,
-    noted: usize,
-) -> Result<Server<MemoryStore, Expecting>, Fail> {
-    let journal = Expecting {
-        noted,
-        call_counter: CallCounter::new(),
-    };
+fn resumed(alloc: Global, store: MemoryStore, noted: usize) -> Result<Noting, Fail> {
+    let journal = Expecting::new(alloc, noted, 0);
     let bytes = JOURNAL.get(..noted).ok_or("a prefix")?;
     let Ok(replayed) = replay(alloc, Limit::default(), &a1()?, bytes) else {
         return Err("a fault")?;
@@ -185,13 +137,11 @@ fn resumed(
 #[test]
 fn a_server_that_resumes_keeps_the_verdicts_and_goes_on(rt: HostRuntime) -> Result<(), Fail> {
     let alloc = rt.alloc();
-    let whole = played(&rt, alloc, 6)?;
+    let whole = played(&rt, alloc, 6, 0)?;
     for done in 1..7usize {
-        let store = played(&rt, alloc, done)?.into_store();
+        let store = played(&rt, alloc, done, 0)?.into_store();
         let mut server = resumed(alloc, store, ENDS[done])?;
-        for (body, reported) in &MESSAGES {
-            send(&rt, "a message", &mut server, body, &[*reported])?;
-        }
+        send_first(&rt, &mut server, 6)?;
         let same = server.store().content(&a1()?) == whole.store().content(&a1()?);
         assert!(&rt; same, "another file after {} numbers", done);
     }
