@@ -3,34 +3,4 @@
 #![tactic(auto)]
 
 #[cfg(test)]
-mod compare;
-#[cfg(test)]
-mod ends;
-#[cfg(test)]
-mod garbage;
-#[cfg(test)]
-mod growths;
-#[cfg(test)]
-mod hosts;
-#[cfg(test)]
-mod logged;
-#[cfg(test)]
-mod memory_network;
-#[cfg(test)]
-mod places;
-#[cfg(test)]
-mod play;
-#[cfg(test)]
-mod recorder;
-#[cfg(test)]
-mod reported;
-#[cfg(test)]
-mod scripted;
-#[cfg(test)]
-mod scripted_reactor;
-#[cfg(test)]
-mod silent;
-#[cfg(test)]
-mod stores;
-#[cfg(test)]
-mod together;
+mod tests;

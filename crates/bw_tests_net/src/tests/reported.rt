@@ -1,9 +1,9 @@
 //! What a reactor reports of links: as soon as there may be bytes, or room, and only once.
-use crate::play::{
+use crate::tests::play::{
     ALL, OTHERS, QUICK, QUICK_OTHER, TAKE, VERDICTS, bounds, is_over, is_reported, serve,
 };
-use crate::scripted::{Give, Take};
-use crate::scripted_reactor::{Comes, Plan, ReportsRound, Visit};
+use crate::tests::scripted::{Give, Take};
+use crate::tests::scripted_reactor::{Comes, Plan, ReportsRound, Visit};
 use bw_console::Exit;
 use std::alloc::Global;
 use std::process::Abort;

@@ -1,9 +1,9 @@
 //! The log lines of recorders that are served at once.
-use crate::play::{
+use crate::tests::play::{
     ALL, OTHER, QUICK, QUICK_OTHER, bounds, is_logged, is_over, serve, serve_logged,
 };
-use crate::scripted::{Give, Take};
-use crate::scripted_reactor::{Comes, Plan, Visit};
+use crate::tests::scripted::{Give, Take};
+use crate::tests::scripted_reactor::{Comes, Plan, Visit};
 use bw_console::Exit;
 use std::test::Fail;
 

@@ -2,7 +2,7 @@
 ghost use Rattle.std.specs.Prelude.{◌≡◌, [], IfOk, ⊤};
 ghost use Rattle.bw_ports.specs.Reactors.{closes_after};
 
-use crate::scripted::{Give, Record, Script, Scripted, Take, new_record};
+use crate::tests::scripted::{Give, Record, Script, Scripted, Take, new_record};
 use bw_ports::{Accepted, Link, Reactor, Ready, TryAcceptFault, WaitFault};
 use std::alloc::{AllocError, Global};
 use std::cell::RefCell;

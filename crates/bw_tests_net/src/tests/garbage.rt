@@ -1,8 +1,8 @@
 //! What follows a bad frame.
-use crate::compare::same;
-use crate::play::{ALL, Received, bounds, is_over, is_reported, serve};
-use crate::scripted::Give;
-use crate::scripted_reactor::{Comes, Plan, Visit};
+use crate::tests::compare::same;
+use crate::tests::play::{ALL, Received, bounds, is_over, is_reported, serve};
+use crate::tests::scripted::Give;
+use crate::tests::scripted_reactor::{Comes, Plan, Visit};
 use bw_console::Exit;
 use std::alloc::Global;
 use std::process::Abort;

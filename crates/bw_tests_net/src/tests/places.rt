@@ -1,11 +1,12 @@
 //! More recorders than places, or than are wanted.
-use crate::compare::same;
-use crate::play::{
+use crate::tests::compare::same;
+use crate::tests::play::{
     OTHERS, QUICK, QUICK_OTHER, Received, VERDICTS, bounds, is_over, is_reported, serve,
 };
-use crate::scripted_reactor::{Plan, Visit};
+use crate::tests::scripted_reactor::{Plan, Visit};
 use bw_console::Exit;
 use std::alloc::Global;
+use std::process::Abort;
 use std::test::Fail;
 
 const THREE_VISITS: &[Visit] = &[QUICK, QUICK_OTHER, QUICK];
@@ -16,6 +17,12 @@ fn serve_three(alloc: Global, places: usize, exchanges: u64) -> Result<Received,
     serve(alloc, &bounds(places, exchanges, 60_000), plan)
 }
 
+/// Compares in which round the one with this number was let in, and at which place.
+fn is_let_in(rt: &impl Abort, received: &Received, number: usize, round_and_place: (u64, usize)) {
+    let found = received.scripted_reactor.round_and_place(number);
+    same(rt, "the round and the place", &found, &round_and_place);
+}
+
 #[test]
 fn the_next_is_let_in_where_a_place_is_free(rt: HostRuntime) -> Result<(), Fail> {
     let received = serve_three(rt.alloc(), 1, 3)?;
@@ -24,18 +31,8 @@ fn the_next_is_let_in_where_a_place_is_free(rt: HostRuntime) -> Result<(), Fail>
     is_reported(&rt, &received, 1, OTHERS);
     is_reported(&rt, &received, 2, VERDICTS);
     // the first is over in its second round, at its end; the second in its first one, at its Bye
-    same(
-        &rt,
-        "the second",
-        &received.scripted_reactor.round_and_place(1),
-        &(3, 0),
-    );
-    same(
-        &rt,
-        "the third",
-        &received.scripted_reactor.round_and_place(2),
-        &(4, 0),
-    );
+    is_let_in(&rt, &received, 1, (3, 0));
+    is_let_in(&rt, &received, 2, (4, 0));
     Ok(())
 }
 
@@ -54,12 +51,7 @@ fn no_more_are_let_in_than_are_wanted(rt: HostRuntime) -> Result<(), Fail> {
         &received.scripted_reactor.let_in(),
         &2,
     );
-    same(
-        &rt,
-        "the second",
-        &received.scripted_reactor.round_and_place(1),
-        &(1, 1),
-    );
+    is_let_in(&rt, &received, 1, (1, 1));
     Ok(())
 }
 

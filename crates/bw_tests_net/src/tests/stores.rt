@@ -1,6 +1,6 @@
 //! Stores in memory, with calls that no run of the program makes, and of which no clause says that
 //! they succeed.
-use crate::recorder::{Call, Recorder};
+use crate::tests::recorder::{Call, Recorder};
 use bw_disk::MemoryDisk;
 use bw_folder::FolderStore;
 use bw_request::Name;

@@ -1,9 +1,9 @@
 //! A store that notes which calls come: the one that shows that the clauses `asked` can be kept.
 ghost use Rattle.std.specs.Prelude.{◌≡◌, IsTrue, Some, None, [], ◌∷◌, ◌++◌, map, if◌then◌else◌};
 ghost use Rattle.bw_store.specs.Calls.{Create, WriteAt, Finish};
-ghost use Rattle.bw_tests_net.specs.declared.recorder.Call.TheVariants.{Create as create};
-ghost use Rattle.bw_tests_net.specs.declared.recorder.Call.TheVariants.{Write as write};
-ghost use Rattle.bw_tests_net.specs.declared.recorder.Call.TheVariants.{Finish as finish};
+ghost use Rattle.bw_tests_net.specs.declared.tests.recorder.Call.TheVariants.{Create as create};
+ghost use Rattle.bw_tests_net.specs.declared.tests.recorder.Call.TheVariants.{Write as write};
+ghost use Rattle.bw_tests_net.specs.declared.tests.recorder.Call.TheVariants.{Finish as finish};
 
 use bw_request::Name;
 use bw_store::{Created, StoreFault, TakeStore};

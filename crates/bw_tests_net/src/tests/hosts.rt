@@ -1,8 +1,8 @@
 //! The whole command: its first line, its lines, and what it reports if something can't be used.
-use crate::compare::same;
-use crate::memory_network::{FOLDER, MemoryNetwork, PORT};
-use crate::play::{QUICK, QUICK_OTHER, bounds};
-use crate::scripted_reactor::{Plan, Visit};
+use crate::tests::compare::same;
+use crate::tests::memory_network::{FOLDER, MemoryNetwork, PORT};
+use crate::tests::play::{QUICK, QUICK_OTHER, bounds};
+use crate::tests::scripted_reactor::{Plan, Visit};
 use bw_console::Exit;
 use bw_layout::Limit;
 use bw_serve::{Hosting, serve_many};

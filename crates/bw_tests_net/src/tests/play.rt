@@ -1,7 +1,7 @@
 //! The bytes of worked takes, and runs over them.
-use crate::compare::same;
-use crate::scripted::{Give, Take};
-use crate::scripted_reactor::{Comes, Plan, ScriptedReactor, Visit};
+use crate::tests::compare::same;
+use crate::tests::scripted::{Give, Take};
+use crate::tests::scripted_reactor::{Comes, Plan, ScriptedReactor, Visit};
 use bw_console::Exit;
 use bw_exchange::Metered;
 use bw_layout::Limit;
@@ -10,7 +10,8 @@ use bw_serve::{Bounds, run_event_loop};
 use bw_session::Server;
 use bw_store::MemoryStore;
 use bw_stream::MemorySink;
-use std::alloc::{AllocError, Global};
+use bw_tests_kit::two_frames;
+use std::alloc::Global;
 use std::process::Abort;
 use std::test::Fail;
 
@@ -141,18 +142,4 @@ pub(crate) fn has_file(
         "another file"
     );
     Ok(())
-}
-
-/// The RIFF file of two frames at 48,000 Hz, one channel, 16 bits: 694 bytes.
-pub(crate) fn two_frames(alloc: Global) -> Result<Vec<u8>, AllocError> {
-    let mut file = Vec::with_capacity(alloc, 694)?;
-    file.extend_from_slice(b"RIFF\xae\x02\0\0WAVEJUNK\x1c\0\0\0")?;
-    file.resize(48, 0)?;
-    file.extend_from_slice(b"fmt \x10\0\0\0\x01\0\x01\0\x80\xbb\0\0\0\x77\x01\0\x02\0\x10\0")?;
-    file.extend_from_slice(b"bext\x5a\x02\0\0")?;
-    file.resize(426, 0)?;
-    file.push(1)?;
-    file.resize(682, 0)?;
-    file.extend_from_slice(b"data\x04\0\0\0\x01\0\x02\0")?;
-    Ok(file)
 }

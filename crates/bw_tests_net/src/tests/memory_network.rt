@@ -2,7 +2,7 @@
 ghost use Rattle.std.specs.Prelude.{◌≡◌, None};
 ghost use Rattle.bw_stream.specs.Moves.{failures_after};
 
-use crate::scripted_reactor::{Plan, ScriptedReactor};
+use crate::tests::scripted_reactor::{Plan, ScriptedReactor};
 use bw_ports::{
     AcceptFault, Dial, DialFault, Duplex, ListenerSetup, Network, Peer, Peers, StartRefusal,
 };
@@ -44,9 +44,9 @@ impl MemoryNetwork {
 impl Network for MemoryNetwork {
     type Store = MemoryStore;
 
-    type Peers = Nobody;
+    type Peers = NoLinks;
 
-    type Dial = Nowhere;
+    type Dial = NoLinks;
 
     ghost failures = { λ n. n.failures };
 
@@ -71,12 +71,12 @@ impl Network for MemoryNetwork {
         _address: SocketAddr,
         _folder: &str,
         _timeout: Option<u32>,
-    ) -> io::Result<Nobody> {
-        Ok(Nobody { failures: 0 })
+    ) -> io::Result<NoLinks> {
+        Ok(NoLinks { failures: 0 })
     }
 
-    fn dial(&self, _address: SocketAddr, _timeout: Option<u32>) -> Nowhere {
-        Nowhere { failures: 0 }
+    fn dial(&self, _address: SocketAddr, _timeout: Option<u32>) -> NoLinks {
+        NoLinks { failures: 0 }
     }
 }
 
@@ -102,13 +102,13 @@ impl ListenerSetup for MemoryNetwork {
     }
 }
 
-/// Peers, none of which come.
+/// Peers, none of which come, and links, none of which is made.
 #[derive(Drop)]
-pub(crate) struct Nobody {
+pub(crate) struct NoLinks {
     failures: u64,
 }
 
-impl Peers for Nobody {
+impl Peers for NoLinks {
     type Reader = MemorySource<'static>;
 
     type Writer = MemorySink;
@@ -123,13 +123,7 @@ impl Peers for Nobody {
     }
 }
 
-/// Links, none of which is made.
-#[derive(Drop)]
-pub(crate) struct Nowhere {
-    failures: u64,
-}
-
-impl Dial for Nowhere {
+impl Dial for NoLinks {
     type Reader = MemorySource<'static>;
 
     type Writer = MemorySink;

@@ -1,9 +1,9 @@
 //! Recorders that are served at once.
-use crate::play::{
+use crate::tests::play::{
     ALL, OTHER, OTHERS, TAKE, VERDICTS, bounds, has_file, is_over, is_reported, serve,
 };
-use crate::scripted::{Give, Take};
-use crate::scripted_reactor::{Comes, Plan, Visit};
+use crate::tests::scripted::{Give, Take};
+use crate::tests::scripted_reactor::{Comes, Plan, Visit};
 use bw_console::Exit;
 use std::test::Fail;
 

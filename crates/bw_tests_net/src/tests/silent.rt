@@ -1,10 +1,10 @@
 //! Recorders that send no whole frame, or take no reply, beside another.
-use crate::compare::same;
-use crate::play::{
+use crate::tests::compare::same;
+use crate::tests::play::{
     ALL, FIRST, OTHERS, QUICK_OTHER, TAKE, VERDICTS, bounds, is_over, is_reported, serve,
 };
-use crate::scripted::{Give, Take};
-use crate::scripted_reactor::{Comes, Plan, Visit};
+use crate::tests::scripted::{Give, Take};
+use crate::tests::scripted_reactor::{Comes, Plan, Visit};
 use bw_console::Exit;
 use std::alloc::Global;
 use std::process::Abort;

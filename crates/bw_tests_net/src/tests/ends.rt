@@ -1,8 +1,10 @@
 //! How connections end, and the run.
-use crate::compare::same;
-use crate::play::{ALL, OTHER, OTHERS_FIRST, QUICK, VERDICTS, bounds, is_over, is_reported, serve};
-use crate::scripted::{Give, Take};
-use crate::scripted_reactor::{Comes, Plan, Visit};
+use crate::tests::compare::same;
+use crate::tests::play::{
+    ALL, OTHER, OTHERS_FIRST, QUICK, VERDICTS, bounds, is_over, is_reported, serve,
+};
+use crate::tests::scripted::{Give, Take};
+use crate::tests::scripted_reactor::{Comes, Plan, Visit};
 use bw_console::Exit;
 use std::alloc::Global;
 use std::process::Abort;
