@@ -23,4 +23,5 @@ pub mod RestingStarts
 pub mod ExamplesOfLeft
 pub mod StoppedWorlds
 pub mod ServedWorlds
+pub mod FailedStarts
 pub mod ExamplesOfStops

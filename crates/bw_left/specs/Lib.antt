@@ -10,5 +10,6 @@ pub mod ExamplesOfRest
 pub mod ExamplesOfLeft
 pub mod StoppedWorlds
 pub mod ServedWorlds
+pub mod FailedStarts
 pub mod ExamplesOfStops
 pub mod RestingFolders

@@ -5,6 +5,7 @@
 ghost use Rattle.bw_left.specs.ExamplesOfLeft.{CutNoteExample, WholeNoteExample};
 ghost use Rattle.bw_left.specs.ExamplesOfRest.{RestingFolderExample};
 ghost use Rattle.bw_left.specs.ExamplesOfStops.{StoppedTurnExample};
+ghost use Rattle.bw_left.specs.FailedStarts.{FailedStartsLeaveBooks, FailedStartsLoseNothing};
 ghost use Rattle.bw_left.specs.KilledFolders.{KilledFoldersAreLeft};
 ghost use Rattle.bw_left.specs.LeftFolders.{CutAnswersAreNotLeft, CutBooksAreQuiet};
 ghost use Rattle.bw_left.specs.LeftFolders.{LaterBooksForgetNothing};
@@ -85,9 +86,17 @@ pub fn law_served_worlds<D: Volume, E: Volume>()
         ⟦<FolderJournal<E> as Journal>⟧ }
 {}
 
-/// A server that is started over a folder in which names rest, and lets them rest, over honest disks,
-/// holds with what rests the book of the folder: from every book that an earlier one may have left
-/// there.
+/// A start that fails, in whichever call, leaves the very book that the last server left: so however
+/// many starts fail one after the other over a folder, the next one takes that book over, and the
+/// server that starts in the end holds each of its done numbers, with its verdict.
+pub fn law_failed_starts<D: Volume, E: Volume>()
+    ensures books { FailedStartsLeaveBooks D.Disk E.Disk }
+    ensures server { FailedStartsLoseNothing D.Disk E.Disk ⟦<FolderStore<D> as TakeStore>⟧
+        ⟦<FolderJournal<E> as Journal>⟧ }
+{}
+
+/// A server that is started over a folder in which names rest, and lets them rest, holds with what
+/// rests the book of the folder: from every book that an earlier one may have left there.
 pub fn law_resting_starts<D: Volume, E: Volume>()
     ensures { RestingStartsHoldFolders D.Disk E.Disk ⟦<FolderStore<D> as TakeStore>⟧
         ⟦<FolderJournal<E> as Journal>⟧ ⟦<RestingFolderJournal<E> as Journal>⟧ }
