@@ -47,18 +47,22 @@ pub record AdmitsFiltered {L : Type 0} (admitted : List (Admission L) → Type 0
   pub by_reactor : admitted given
   pub through : links ≡ map (λ x. (x.0, filtered_link one_name x.1)) given
 
--- peers that were asked for are filtered, as was chosen
-pub record ListensFiltered {N P E : Type 0} (listens : Result P E → N → Type 0) (n : FilteredNetwork N)
-    (result : Result (FilteredPeers P) E) (n' : FilteredNetwork N) : Type 0 where
-  pub opened : Result P E
-  pub by_network : listens opened n'.network
-  pub through : result ≡ with_ok (λ peers. record { peers = peers; one_name = n.one_name }) opened
+-- peers, each of which is to be filtered so
+abbrev pub filtered_peers : {P : Type 0} → Bool → P → FilteredPeers P
+filtered_peers one_name peers = record { peers = peers; one_name = one_name }
+
+-- a reactor, each link of which is to be filtered so
+abbrev pub filtered_reactor : {B : Type 0} → Bool → B → FilteredReactor B
+filtered_reactor one_name reactor = record { reactor = reactor; one_name = one_name }
+
+-- what was asked for is filtered so, as was chosen
+pub record OpensFiltered {N T U E : Type 0} (filters : Bool → T → U) (opens : Result T E → N → Type 0)
+    (n : FilteredNetwork N) (result : Result U E) (n' : FilteredNetwork N) : Type 0 where
+  pub opened : Result T E
+  pub by_network : opens opened n'.network
+  pub through : result ≡ with_ok (filters n.one_name) opened
   pub kept : n'.one_name ≡ n.one_name
 
--- and so is a reactor
-pub record OpensFiltered {N B E : Type 0} (opens : Result B E → N → Type 0) (n : FilteredNetwork N)
-    (result : Result (FilteredReactor B) E) (n' : FilteredNetwork N) : Type 0 where
-  pub opened : Result B E
-  pub by_network : opens opened n'.network
-  pub through : result ≡ with_ok (λ reactor. record { reactor = reactor; one_name = n.one_name }) opened
-  pub kept : n'.one_name ≡ n.one_name
+-- a call was passed on, and the choice stays
+abbrev pub PassedOn : {N R : Type 0} → (R → N → Type 0) → FilteredNetwork N → R → FilteredNetwork N → Type 0
+PassedOn calls n result n' = calls result n'.network × (n'.one_name ≡ n.one_name)

@@ -1,6 +1,6 @@
 //! A network whose links are filtered, if that is chosen.
 ghost use Rattle.std.specs.Prelude.{◌≡◌, Bool, false};
-ghost use Rattle.bw_one_name.specs.Wrapping.{ListensFiltered, OpensFiltered};
+ghost use Rattle.bw_one_name.specs.Wrapping.{OpensFiltered, PassedOn, filtered_peers, filtered_reactor};
 ghost use Rattle.bw_one_name.specs.Filtered.{inner_reactor, inner_network, network_has_one_name};
 
 use crate::peers::FilteredPeers;
@@ -63,12 +63,10 @@ impl<N: Network> Network for FilteredNetwork<N> {
 
     ghost failures = { λ n. N.failures (inner_network n) };
 
-    ghost stores = { λ n folder result n'.
-        N.stores (inner_network n) folder result (inner_network n')
-        × (network_has_one_name n' ≡ network_has_one_name n) };
+    ghost stores = { λ n folder. PassedOn (N.stores (inner_network n) folder) n };
 
     ghost listens = { λ n address folder timeout result n'.
-        ListensFiltered (N.listens (inner_network n) address folder timeout) n result n' };
+        OpensFiltered filtered_peers (N.listens (inner_network n) address folder timeout) n result n' };
 
     ghost calls = { λ n address timeout dial. N.calls (inner_network n) address timeout dial };
 
@@ -105,7 +103,7 @@ impl<N: ListenerSetup> ListenerSetup for FilteredNetwork<N> {
     ghost failures = { λ n. N.failures (inner_network n) };
 
     ghost opens = { λ n address folder places result n'.
-        OpensFiltered (N.opens (inner_network n) address folder places) n result n' };
+        OpensFiltered filtered_reactor (N.opens (inner_network n) address folder places) n result n' };
 
     fn reactor(
         &mut self,
@@ -123,9 +121,7 @@ impl<N: ListenerSetup> ListenerSetup for FilteredNetwork<N> {
 impl<T, N: Starts<T>> Starts<T> for FilteredNetwork<N> {
     ghost failures = { λ n. N.failures (inner_network n) };
 
-    ghost starts = { λ n folder limit sync result n'.
-        N.starts (inner_network n) folder limit sync result (inner_network n')
-        × (network_has_one_name n' ≡ network_has_one_name n) };
+    ghost starts = { λ n folder limit sync. PassedOn (N.starts (inner_network n) folder limit sync) n };
 
     fn start(&mut self, folder: &str, limit: Limit, sync: bool) -> Result<T, StartRefusal> {
         self.network.start(folder, limit, sync)
@@ -135,9 +131,8 @@ impl<T, N: Starts<T>> Starts<T> for FilteredNetwork<N> {
 impl<T, N: StartsResting<T>> StartsResting<T> for FilteredNetwork<N> {
     ghost rest_failures = { λ n. N.rest_failures (inner_network n) };
 
-    ghost starts_resting = { λ n folder limit sync result n'.
-        N.starts_resting (inner_network n) folder limit sync result (inner_network n')
-        × (network_has_one_name n' ≡ network_has_one_name n) };
+    ghost starts_resting = { λ n folder limit sync.
+        PassedOn (N.starts_resting (inner_network n) folder limit sync) n };
 
     fn start_resting(&mut self, folder: &str, limit: Limit, sync: bool) -> Result<T, StartRefusal> {
         self.network.start_resting(folder, limit, sync)
@@ -149,9 +144,8 @@ impl<B, N: StatusSetup<B>> StatusSetup<FilteredReactor<B>> for FilteredNetwork<N
 
     ghost failures = { λ n. N.failures (inner_network n) };
 
-    ghost shows = { λ n reactor address folder result n'.
-        N.shows (inner_network n) (inner_reactor reactor) address folder result (inner_network n')
-        × (network_has_one_name n' ≡ network_has_one_name n) };
+    ghost shows = { λ n reactor address folder.
+        PassedOn (N.shows (inner_network n) (inner_reactor reactor) address folder) n };
 
     fn status_port(
         &mut self,
