@@ -18,6 +18,7 @@ pub mod FolderVerdicts
 pub mod RestingLives
 pub mod RestingCalls
 pub mod AwakeTurns
+pub mod RestingBeginnings
 pub mod ExamplesOfRest
 pub mod RestingStarts
 pub mod ExamplesOfLeft

@@ -60,7 +60,7 @@ module _ {X Y : Type 0} (S : StoreGhosts X) (J : JournalGhosts Y) (first : List 
   unknown_here s book h name e =
       h.held.holds.names name ∙ ap (λ (o : Option Session). is_some (option_map kept_by o)) e
 
-  none_kept : (s : Server X Y S J) (book : Book) (h : HoldsFolder S J first s book) (name : List ℕ) →
+  pub none_kept : (s : Server X Y S J) (book : Book) (h : HoldsFolder S J first s book) (name : List ℕ) →
       is_known h.table name ≡ false → session_in s.sessions name ≡ None
   none_kept s book h name e = no_session (session_in s.sessions name) (sym (h.held.holds.names name) ∙ e)
 

@@ -53,7 +53,7 @@ cut_same log all = ap (λ (xs : List (Option Request)). record { admitted = xs; 
     (take_all log.done log.admitted all)
 
 -- what rests stays where it is
-rest_stays : (folder : List ℕ) (before after : List ℕ → Option (List ℕ)) → KeepsJournals folder before after →
+pub rest_stays : (folder : List ℕ) (before after : List ℕ → Option (List ℕ)) → KeepsJournals folder before after →
     (name : List ℕ) → after (closed_path folder name) ≡ before (rest_path folder name)
 unfolding closed_path path_with
 rest_stays folder before after kept name = elim (kept (rest_path folder name)) [

@@ -48,7 +48,7 @@ module _ {X Y : Type 0} (S : StoreGhosts X) (J : JournalGhosts Y) where
       record { left = left.later; next = left.ahead; stands = left.left }
 
 -- a journal that stands after a start is of a name
-named : (folder : List ℕ) (before after : List ℕ → Option (List ℕ)) → KeepsJournals folder before after →
+pub named : (folder : List ℕ) (before after : List ℕ → Option (List ℕ)) → KeepsJournals folder before after →
     ((name : List ℕ) → IsSome (before (notes_path folder name)) → IsTrue (is_name name)) →
     (name : List ℕ) → IsSome (notes_at after folder name) → IsTrue (is_name name)
 unfolding journal_path path_with

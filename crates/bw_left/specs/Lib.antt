@@ -6,6 +6,7 @@ pub mod NewFolders
 pub mod RestingStops
 pub mod RestingLives
 pub mod RestingCalls
+pub mod RestingBeginnings
 pub mod ExamplesOfRest
 pub mod ExamplesOfLeft
 pub mod StoppedWorlds

@@ -64,8 +64,9 @@ module _ {D E F H : Type 0} (G : DiskGhosts D F) (K : DiskGhosts E H)
 
   -- A server stopped over a folder in which names rest. Who says so of one that ran:
   -- - `honest` and `held`: a run from a book of the folder, by `LeavesRestsFrom` of bw_rest.
-  -- - `order`, `own`, `apart`: each call that it makes of bw_session, of `turn`, `rest` and `wake`, by
-  --   `law_resting_calls`. `RestingTurn` of bw_rest doesn't say which calls a turn makes.
+  -- - `order`, `own`, `apart`: its start, by `law_resting_begins`, and each call that it makes of
+  --   bw_session, of `turn`, `rest` and `wake`, by `law_resting_calls`. `RestingTurn` of bw_rest doesn't
+  --   say which calls a turn makes.
   -- - `over`: of folder and disks, store and journal, which a server keeps; of loose names the journal's
   --   own calls: a name is loose after `wake`, by which it was fit and had no other journal, or after a
   --   move of its journal that failed, and until something is noted under it. No relation of a server's

@@ -12,6 +12,7 @@ ghost use Rattle.bw_left.specs.LeftFolders.{LaterBooksForgetNothing};
 ghost use Rattle.bw_left.specs.LeftFolders.{LeftNamesAreInFolders, OrderedServersAreLeft};
 ghost use Rattle.bw_left.specs.LeftFolders.{QuietServersAreLeft};
 ghost use Rattle.bw_left.specs.NewFolders.{EmptyFoldersAreNew, NewFoldersAreLeft};
+ghost use Rattle.bw_left.specs.RestingBeginnings.{RestingStartsAreHonest};
 ghost use Rattle.bw_left.specs.RestingCalls.{FailuresKeepOrder, HonestServersAreInOrder};
 ghost use Rattle.bw_left.specs.RestingCalls.{RestsKeepOrder, TurnsKeepOrder, WakesKeepOrder};
 ghost use Rattle.bw_left.specs.RestingFolders.{RestingStartsHoldFolders};
@@ -102,18 +103,25 @@ pub fn law_resting_starts<D: Volume, E: Volume>()
         ⟦<FolderJournal<E> as Journal>⟧ ⟦<RestingFolderJournal<E> as Journal>⟧ }
 {}
 
-/// A server whose names rest leaves, wherever it is stopped, a folder in which the next one with names
-/// that rest is started: from its book, or from one in which numbers that waited are done. What is
-/// asked of the server is in `StopsResting`, with who says it. In such a folder each name that rests
-/// has no other journal, so that none stands in the next server's way, and may wake.
+/// A server whose names rest leaves, wherever it is stopped, a folder that the next one takes over, by
+/// `law_resting_starts`: from its book, or from one in which numbers that waited are done. What is asked
+/// of the server is in `StopsResting`, with who says it. In such a folder each name that rests has no
+/// other journal, so that none stands in the next server's way, and may wake.
 pub fn law_resting_stops<D: Volume, E: Volume>()
     ensures left { RestingServersAreLeft D.Disk E.Disk ⟦<FolderStore<D> as TakeStore>⟧
         ⟦<RestingFolderJournal<E> as Journal>⟧ }
     ensures wake { LeftNamesMayWake }
 {}
 
-/// What is asked of it, but for its folder, is kept by each call that it makes: by the turn of a
-/// message under whose name nothing rests, and by the rest and the waking of a name, done or not.
+/// What is asked of it, but for its folder, holds when it begins over what an earlier one left, with
+/// honest disks, if no file that begins as this server's existed before the first one.
+pub fn law_resting_begins<D: Volume, E: Volume>()
+    ensures { RestingStartsAreHonest D.Disk E.Disk ⟦<FolderStore<D> as TakeStore>⟧
+        ⟦<FolderJournal<E> as Journal>⟧ ⟦<RestingFolderJournal<E> as Journal>⟧ }
+{}
+
+/// And each call that it makes keeps it: the turn of a message under whose name nothing rests, and the
+/// rest and the waking of a name, done or not.
 pub fn law_resting_calls<S: TakeStore, J: Journal>()
     ensures asked { HonestServersAreInOrder S.TakeStore J.Journal }
     ensures turn { TurnsKeepOrder S.TakeStore J.Journal }
