@@ -11,12 +11,13 @@ use Rattle.bw_journal.specs.Replays.{Story, JournalFault, NotBegun, Damaged, rep
 use Rattle.bw_journal.proofs.ReportLaws.{journals_report_logs}
 use Rattle.bw_journal.proofs.HeaderReads.{cut_headers_are_not_begun}
 use Rattle.bw_journal.proofs.Taken.{taken-made}
+use Rattle.bw_session.proofs.ClosedForms.{made_format}
 use Rattle.bw_start.specs.Left.{IsMended, wanted_file}
 use Rattle.bw_start.specs.Names.{begins_take, OfFile, OfJournal, fault_beside, kept_journal}
 use Rattle.bw_start.specs.Names.{file_beside}
 use Rattle.bw_start.specs.LeftNames.{header_beside, IsLeftBegun, IsLeftTorn, IsResumed, LeftNamesAreResumed}
 use Rattle.bw_start.proofs.FileLemmas.{left_files_are_mended}
-use Rattle.bw_start.proofs.MadeLemmas.{made_format, made_fields}
+use Rattle.bw_start.proofs.MadeLemmas.{made_fields}
 
 begun : (limit : ℕ) (first : Option (List ℕ)) (name : List ℕ) (log : Log) (journal : List ℕ) (found : Option (List ℕ)) →
     limit < 2 ^ 32 → AdmitsDone log → IsLeftBegun limit first name log journal found →
