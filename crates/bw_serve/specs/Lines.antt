@@ -12,7 +12,7 @@ use Rattle.bw_connections.specs.declared.connections.Closed.{Closed}
 use Rattle.bw_connections.specs.Keeping.{Tagged, own}
 use Rattle.bw_exchange.specs.LinkCounts.{Counted, message_count, up_to_last}
 use Rattle.bw_serve.specs.LinkLines.{Logs, peer_line}
-use Rattle.bw_serve.specs.ServedOne.{exchange_line}
+use Rattle.bw_serve.specs.ServedOne.{ended_line}
 
 -- what an end is called
 abbrev pub name_of_connection_end : ConnectionEnd → List ℕ
@@ -21,7 +21,7 @@ name_of_connection_end Idle = codes "Idle"
 
 -- the line of the connection that ended as the one with this number
 abbrev pub connection_line : ℕ → ConnectionEnd → List ℕ
-connection_line index end = exchange_line index (name_of_connection_end end)
+connection_line index end = ended_line index (name_of_connection_end end)
 
 -- the line of each of these was printed, one after another, the first with this number
 abbrev pub ReportsEnds : {L O : Type 0} → Writer O → ℕ → List (Closed L) → O → O → Type 0

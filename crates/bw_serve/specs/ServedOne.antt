@@ -14,12 +14,12 @@ use Rattle.bw_console.specs.declared.exit.Exit.{Exit}
 use Rattle.bw_console.specs.declared.exit.Exit.TheVariants.{Done, Device, Memory}
 
 -- the line of the exchange with this number, whose end is called so
-abbrev pub exchange_line : ℕ → List ℕ → List ℕ
-exchange_line index name = as_line (codes "exchange " ++ decimal index ++ codes " " ++ name)
+abbrev pub ended_line : ℕ → List ℕ → List ℕ
+ended_line index name = as_line (codes "exchange " ++ decimal index ++ codes " " ++ name)
 
 -- of one that ended so
 abbrev pub exchange_end_line : ℕ → ExchangeEnd → List ℕ
-exchange_end_line index end = exchange_line index (name_of_end end)
+exchange_end_line index end = ended_line index (name_of_end end)
 
 -- how the call ends after this end of the exchange
 abbrev pub exit_of_end : ExchangeEnd → Exit

@@ -2,7 +2,7 @@
 ghost use Rattle.std.specs.Prelude.{◌≡◌, ◌≤◌, codes, length};
 ghost use Rattle.bw_console.specs.Printing.{IsOf, IsPrint, Print};
 ghost use Rattle.bw_serve.specs.Lines.{connection_line, name_of_connection_end};
-ghost use Rattle.bw_serve.specs.ServedOne.{exchange_line};
+ghost use Rattle.bw_serve.specs.ServedOne.{ended_line};
 
 use arrayvec::ArrayString;
 use bw_connections::ConnectionEnd;
@@ -29,7 +29,7 @@ fn end_line(index: u64, end: ConnectionEnd) -> ArrayString<64>
 /// The line of the exchange with number `index`, whose end is called so.
 pub(crate) fn exchange_line(index: u64, name: &str) -> ArrayString<64>
     requires { length name.now ≤ 16 }
-    ensures { result.bytes ≡ exchange_line index name.now }
+    ensures { result.bytes ≡ ended_line index name.now }
 {
     let mut digits = Buffer::new();
     let mut line = ArrayString::new();
