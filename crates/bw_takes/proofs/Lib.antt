@@ -6,3 +6,4 @@ pub mod TakeShapes
 pub mod ProgressLemmas
 pub mod RoundLemmas
 pub mod WatchLemmas
+pub mod EndLemmas

@@ -1,5 +1,5 @@
 -- The takes that the files of a folder belong to.
-use Rattle.std.proofs.Common.{◌≡◌, ◌⊎◌, inl, inr, ℕ, ◌+◌, ◌<◌, ◌≤◌, Bool, true, false, cond, ◌&&◌, not, List, [], ◌∷◌, ◌++◌, length, take}
+use Rattle.std.proofs.Common.{◌≡◌, ◌⊎◌, inl, inr, ℕ, ◌+◌, ◌<◌, ◌≤◌, Bool, true, false, cond, ◌&&◌, not, List, [], ◌∷◌, ◌++◌, length, map, take}
 use Rattle.std.proofs.Common.{Option, Some, None, refl, sym, ◌∙◌, ap, subst, IsTrue}
 use Rattle.std.specs.Prelude.{◌↔◌, ◌==◌, IsSome, IfSome, get_or, codes, IsUtf8}
 use Rattle.std.specs.Option.{SomeIff}
@@ -12,7 +12,7 @@ use Rattle.std.proofs.lemmas.Cmp.{nat_list_cmp_total}
 use Rattle.std.proofs.lemmas.Map.Lookups.{exact_bytes}
 use Rattle.std.proofs.lemmas.Map.Views.{btree_set_contains_iff, tells_apart}
 use Rattle.std.specs.BTreeMap.{is_at}
-use Rattle.std.proofs.lemmas.List.{take_all}
+use Rattle.std.proofs.lemmas.List.{take_all, length-map, get_or-map}
 use Rattle.std.proofs.lemmas.List.Folds.{list_all-append}
 use Rattle.std.proofs.lemmas.Str.{IsUtf8-append, IsUtf8-take, IsUtf8-from_ascii, IsCharBoundary-at_seam}
 use Rattle.std.proofs.Math.Seq.{take-append_seam}
@@ -23,6 +23,15 @@ use Rattle.bw_start.proofs.NameBytes.{journal_is_listed, journal_is_utf8, ending
 use Rattle.bw_start.specs.declared.ending.Ending.TheVariants.{Closed}
 use Rattle.bw_start.proofs.ListForms.{contains_step}
 use Rattle.bw_takes.specs.TakeNames.{IsFileOf, IsTakeIn, ListsTakes, AddsTake}
+
+-- the text of an item stands at its index among the texts of all
+pub text_at : {X : Type 0} (text : X → List ℕ) (items : List X) (k : ℕ) (item : X) (file : List ℕ) →
+    k < length items → item ≡ get_or items k item → file ≡ text item →
+    (k < length (map text items)) × (get_or (map text items) k file ≡ file)
+text_at text items k item file below is value = (
+  rw length-map below,
+  get_or-map text items k item file below ∙ ap text (sym is) ∙ sym value,
+)
 
 -- the file of a name has a name in UTF-8
 wave_is_utf8 : (name : List ℕ) → IsTrue (is_name name) → IsUtf8 (name ++ codes ".wav")

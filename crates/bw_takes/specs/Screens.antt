@@ -104,6 +104,11 @@ open_text style row = if is_open_state row.take.state then row_text style row el
 abbrev pub other_text : ScreenStyle → Row → List ℕ
 other_text style row = if is_open_state row.take.state then [] else row_text style row
 
+-- the line of a take if it is open, or if it isn't
+abbrev pub text_if : Bool → ScreenStyle → Row → List ℕ
+text_if true = open_text
+text_if false = other_text
+
 -- how many takes are open
 abbrev pub open_count : List Row → ℕ
 open_count rows = count_by (λ row. is_open_state row.take.state) rows

@@ -5,7 +5,9 @@ use Rattle.std.specs.Prelude.{min, nat_le, if◌then◌else◌}
 use Rattle.bw_model.specs.Bytes.{u32_at}
 use Rattle.bw_journal.specs.Replays.{JournalFault, NotBegun, NotAJournal, OtherName, OtherLimit}
 use Rattle.bw_journal.specs.Replays.{OtherVerdict, NotAnEntry, Damaged}
-use Rattle.bw_start.specs.FaultLines.{file_cause_text}
+use Rattle.bw_journal.specs.declared.fault.ReplayFault.{ReplayFault}
+use Rattle.bw_journal.specs.declared.fault.ReplayFault.TheVariants as faults
+use Rattle.bw_start.specs.FaultLines.{file_cause_text, journal_text}
 use Rattle.bw_start.specs.Names.{NameFault, OfJournal, OfFile}
 
 -- the largest limit
@@ -70,17 +72,17 @@ numbered_line name word number =
 abbrev pub state_word : Bool → List ℕ
 state_word closed = if closed then codes "closed" else codes "open"
 
--- what is wrong with a journal
-abbrev pub journal_fault_text : JournalFault → List ℕ
-journal_fault_text NotBegun = codes "NotBegun"
-journal_fault_text NotAJournal = codes "NotAJournal"
-journal_fault_text OtherName = codes "OtherName"
-journal_fault_text OtherLimit = codes "OtherLimit"
-journal_fault_text OtherVerdict = codes "OtherVerdict"
-journal_fault_text NotAnEntry = codes "NotAnEntry"
-journal_fault_text Damaged = codes "Damaged"
+-- what is wrong with a journal, as the code has it
+abbrev pub replay_fault : JournalFault → ReplayFault
+replay_fault NotBegun = faults.NotBegun
+replay_fault NotAJournal = faults.NotAJournal
+replay_fault OtherName = faults.OtherName
+replay_fault OtherLimit = faults.OtherLimit
+replay_fault OtherVerdict = faults.OtherVerdict
+replay_fault NotAnEntry = faults.NotAnEntry
+replay_fault Damaged = faults.Damaged
 
 -- what is wrong with a take
 abbrev pub take_fault_text : NameFault → List ℕ
-take_fault_text (OfJournal f) = journal_fault_text f
+take_fault_text (OfJournal f) = journal_text (replay_fault f)
 take_fault_text (OfFile f) = file_cause_text f

@@ -19,7 +19,6 @@ mod watching;
 pub use comparing::{Depth, examine_take};
 pub use finding::TakeFinding;
 pub use json::take_json;
-pub use line::put_take_line;
 pub use listing::{LineStyle, TakesReport, report_takes};
 pub use locked::give_up_locked;
 pub use naming::{take_of, takes_in};

@@ -12,141 +12,134 @@ use bw_request::Name;
 use bw_start::{NameFault, file_cause, journal_cause};
 use std::alloc::{AllocError, Global};
 
-/// Appends the line of a take, ended by a line feed: its name; whether it is open, closed or not
-/// opened, or stood before the server's; of one with samples of the server's its frames and seconds;
-/// and its next number. Of one with which something is wrong it is the name and the cause, and of one
-/// with other samples than its journal has the digests of, the first such number.
-///
-/// # Errors
-/// `AllocError` if memory was refused.
-pub fn put_take_line(
-    alloc: Global,
-    name: &Name,
-    finding: &TakeFinding,
-    lines: &mut Vec<u8>,
-) -> Result<(), AllocError>
-    ensures { OnOk result (lines.new.items
-        ≡ lines.old.items ++ summary_line name.now (finding_summary finding.now)) }
-{
-    let Ok(name) = std::str::from_utf8(name.as_bytes()) else {
-        return Err(AllocError);
-    };
-    match finding {
-        TakeFinding::Stood => put_next(alloc, name, "stood", 0, lines),
-        TakeFinding::Unbegun => put_next(alloc, name, "unopened", 0, lines),
-        TakeFinding::Refused(fault) => put_word(alloc, name, cause_word(fault), lines),
-        TakeFinding::Twice => put_word(alloc, name, "TwoJournals", lines),
-        TakeFinding::Begun(replayed) => put_begun(alloc, name, replayed, lines),
-        TakeFinding::Changed(number) => {
-            put_numbered(alloc, name, "ChangedBlock", u64::from(*number), lines)
+impl TakeFinding {
+    /// Appends the line of the take of this name of which this was found, ended by a line feed: its
+    /// name; whether it is open, closed or not opened, or stood before the server's; of one with
+    /// samples of the server's its frames and seconds; and its next number. Of one with which
+    /// something is wrong it is the name and the cause, and of one with other samples than its journal
+    /// has the digests of, the first such number.
+    ///
+    /// # Errors
+    /// `AllocError` if memory was refused.
+    pub fn put_take_line(
+        &self,
+        alloc: Global,
+        name: &Name,
+        lines: &mut Vec<u8>,
+    ) -> Result<(), AllocError>
+        ensures { OnOk result (lines.new.items
+            ≡ lines.old.items ++ summary_line name.now (finding_summary self.now)) }
+    {
+        let Ok(name) = std::str::from_utf8(name.as_bytes()) else {
+            return Err(AllocError);
+        };
+        let named = Named { alloc, name };
+        match self {
+            TakeFinding::Stood => named.put_next("stood", 0, lines),
+            TakeFinding::Unbegun => named.put_next("unopened", 0, lines),
+            TakeFinding::Refused(fault) => named.put_word(cause_word(fault), lines),
+            TakeFinding::Twice => named.put_word("TwoJournals", lines),
+            TakeFinding::Begun(replayed) => named.put_begun(replayed, lines),
+            TakeFinding::Changed(number) => {
+                named.put_numbered("ChangedBlock", u64::from(*number), lines)
+            }
         }
     }
 }
 
-/// Appends the line of a take whose journal is begun.
-fn put_begun(
+/// A name whose line is put.
+#[derive(Drop)]
+struct Named<'a> {
     alloc: Global,
-    name: &str,
-    replayed: &Replayed,
-    lines: &mut Vec<u8>,
-) -> Result<(), AllocError>
-    ensures { OnOk result (lines.new.items ≡ lines.old.items ++ summary_line name.now
-        (story_summary replayed.now.state.parts (row_count replayed.now.table.items))) }
-{
-    let state = &replayed.state;
-    let next = replayed.table.len() / 33;
-    if state.is_taken() {
-        return put_next(alloc, name, "stood", next, lines);
+    name: &'a str,
+}
+
+impl Named<'_> {
+    /// Appends the line of a take whose journal is begun.
+    fn put_begun(&self, replayed: &Replayed, lines: &mut Vec<u8>) -> Result<(), AllocError>
+        ensures { OnOk result (lines.new.items ≡ lines.old.items ++ summary_line self.now.name.now
+            (story_summary replayed.now.state.parts (row_count replayed.now.table.items))) }
+    {
+        let state = &replayed.state;
+        let next = replayed.table.len() / 33;
+        if state.is_taken() {
+            return self.put_next("stood", next, lines);
+        }
+        let word = state_word(state.is_closed());
+        match state.format() {
+            Some(format) => self.put_opened(word, state.frames(), format.rate(), next, lines),
+            None => self.put_next("unopened", next, lines),
+        }
     }
-    match state.format() {
-        Some(format) => put_opened(
-            alloc,
-            name,
-            state_word(state.is_closed()),
-            state.frames(),
-            format.rate(),
-            next,
-            lines,
-        ),
-        None => put_next(alloc, name, "unopened", next, lines),
+
+    /// Appends the line of a take that is one word.
+    #[tactic(auto, unfolding(crate::specs::TakeLines::word_line))]
+    fn put_word(&self, word: &str, lines: &mut Vec<u8>) -> Result<(), AllocError>
+        ensures { OnOk result (lines.new.items
+            ≡ lines.old.items ++ word_line self.now.name.now word.now) }
+    {
+        let name = self.name;
+        let line = format!(in self.alloc; "{name} {word}\n")?;
+        lines.extend_from_slice(line.as_bytes())
     }
-}
 
-/// Appends the line of a take that is one word.
-#[tactic(auto, unfolding(crate::specs::TakeLines::word_line))]
-fn put_word(alloc: Global, name: &str, word: &str, lines: &mut Vec<u8>) -> Result<(), AllocError>
-    ensures { OnOk result (lines.new.items ≡ lines.old.items ++ word_line name.now word.now) }
-{
-    let line = format!(in alloc; "{name} {word}\n")?;
-    lines.extend_from_slice(line.as_bytes())
-}
+    /// Appends the line of a take with which this is wrong at a number.
+    #[tactic(auto, unfolding(crate::specs::TakeLines::numbered_line))]
+    fn put_numbered(&self, word: &str, number: u64, lines: &mut Vec<u8>) -> Result<(), AllocError>
+        ensures { OnOk result (lines.new.items
+            ≡ lines.old.items ++ numbered_line self.now.name.now word.now number) }
+    {
+        let name = self.name;
+        let line = format!(in self.alloc; "{name} {word} number {number}\n")?;
+        lines.extend_from_slice(line.as_bytes())
+    }
 
-/// Appends the line of a take with which this is wrong at a number.
-#[tactic(auto, unfolding(crate::specs::TakeLines::numbered_line))]
-fn put_numbered(
-    alloc: Global,
-    name: &str,
-    word: &str,
-    number: u64,
-    lines: &mut Vec<u8>,
-) -> Result<(), AllocError>
-    ensures { OnOk result (lines.new.items
-        ≡ lines.old.items ++ numbered_line name.now word.now number) }
-{
-    let line = format!(in alloc; "{name} {word} number {number}\n")?;
-    lines.extend_from_slice(line.as_bytes())
-}
+    /// Appends the line of a take without samples of the server's.
+    #[tactic(auto, unfolding(crate::specs::TakeLines::next_line))]
+    fn put_next(&self, word: &str, next: usize, lines: &mut Vec<u8>) -> Result<(), AllocError>
+        ensures { OnOk result (lines.new.items
+            ≡ lines.old.items ++ next_line self.now.name.now word.now next) }
+    {
+        let name = self.name;
+        let line = format!(in self.alloc; "{name} {word} next {next}\n")?;
+        lines.extend_from_slice(line.as_bytes())
+    }
 
-/// Appends the line of a take without samples of the server's.
-#[tactic(auto, unfolding(crate::specs::TakeLines::next_line))]
-fn put_next(
-    alloc: Global,
-    name: &str,
-    word: &str,
-    next: usize,
-    lines: &mut Vec<u8>,
-) -> Result<(), AllocError>
-    ensures { OnOk result (lines.new.items ≡ lines.old.items ++ next_line name.now word.now next) }
-{
-    let line = format!(in alloc; "{name} {word} next {next}\n")?;
-    lines.extend_from_slice(line.as_bytes())
-}
+    /// Appends the line of a take with so many frames at a rate: its seconds are rounded down.
+    #[tactic(auto, using(std::proofs::lemmas::List::append_assoc))]
+    fn put_opened(
+        &self,
+        word: &str,
+        frames: u64,
+        rate: u32,
+        next: usize,
+        lines: &mut Vec<u8>,
+    ) -> Result<(), AllocError>
+        requires { 1 ≤ rate }
+        ensures { OnOk result (lines.new.items
+            ≡ lines.old.items ++ opened_line self.now.name.now word.now frames rate next) }
+    {
+        let rate = u64::from(rate);
+        self.put_start(word, frames, frames / rate, lines)?;
+        put_end(self.alloc, frames % rate * 1000 / rate, next, lines)
+    }
 
-/// Appends the line of a take with so many frames at a rate: its seconds are rounded down.
-#[tactic(auto, using(std::proofs::lemmas::List::append_assoc))]
-fn put_opened(
-    alloc: Global,
-    name: &str,
-    word: &str,
-    frames: u64,
-    rate: u32,
-    next: usize,
-    lines: &mut Vec<u8>,
-) -> Result<(), AllocError>
-    requires { 1 ≤ rate }
-    ensures { OnOk result (lines.new.items
-        ≡ lines.old.items ++ opened_line name.now word.now frames rate next) }
-{
-    let rate = u64::from(rate);
-    put_start(alloc, name, word, frames, frames / rate, lines)?;
-    put_end(alloc, frames % rate * 1000 / rate, next, lines)
-}
-
-/// Appends a line's frames and whole seconds.
-#[tactic(auto, unfolding(crate::specs::TakeLines::timed_start))]
-fn put_start(
-    alloc: Global,
-    name: &str,
-    word: &str,
-    frames: u64,
-    seconds: u64,
-    lines: &mut Vec<u8>,
-) -> Result<(), AllocError>
-    ensures { OnOk result (lines.new.items
-        ≡ lines.old.items ++ timed_start name.now word.now frames seconds) }
-{
-    let line = format!(in alloc; "{name} {word} frames {frames} seconds {seconds}.")?;
-    lines.extend_from_slice(line.as_bytes())
+    /// Appends a line's frames and whole seconds.
+    #[tactic(auto, unfolding(crate::specs::TakeLines::timed_start))]
+    fn put_start(
+        &self,
+        word: &str,
+        frames: u64,
+        seconds: u64,
+        lines: &mut Vec<u8>,
+    ) -> Result<(), AllocError>
+        ensures { OnOk result (lines.new.items
+            ≡ lines.old.items ++ timed_start self.now.name.now word.now frames seconds) }
+    {
+        let name = self.name;
+        let line = format!(in self.alloc; "{name} {word} frames {frames} seconds {seconds}.")?;
+        lines.extend_from_slice(line.as_bytes())
+    }
 }
 
 /// Appends a line's thousandths of a second and its next number.

@@ -1,5 +1,6 @@
 //! The lines of a folder's takes.
 ghost use Rattle.std.specs.Prelude.{◌≡◌, ◌++◌, ◌&&◌, IsTrue, IfOk, OnOk};
+ghost use Rattle.bw_console.specs.Text.{as_line};
 ghost use Rattle.bw_disk.specs.DiskSteps.{StaysWhole};
 ghost use Rattle.bw_takes.specs.TakeReports.{ReportsTakes, finding_summary, line_in, is_sound_in, styled_line};
 ghost use Rattle.bw_takes.specs.TakeSummaries.{is_sound_summary};
@@ -7,7 +8,6 @@ ghost use Rattle.bw_takes.specs.TakeSummaries.{is_sound_summary};
 use crate::comparing::{Depth, examine_take};
 use crate::finding::TakeFinding;
 use crate::json::take_json;
-use crate::line::put_take_line;
 use crate::naming::takes_in;
 use bw_disk::{ReadFault, Volume};
 use bw_request::Name;
@@ -79,7 +79,7 @@ fn put_take<D: Volume>(
 {
     let finding = examine_take(alloc, disk, folder, name, depth)?;
     report.sound = report.sound && is_sound(&finding);
-    match put_entry(alloc, style, name, &finding, &mut report.lines) {
+    match put_entry(alloc, style, name, &finding, report) {
         Ok(()) => Ok(()),
         Err(_) => Err(ReadFault::Memory),
     }
@@ -91,30 +91,24 @@ fn put_entry(
     style: LineStyle,
     name: &Name,
     finding: &TakeFinding,
-    lines: &mut Vec<u8>,
+    report: &mut TakesReport,
 ) -> Result<(), AllocError>
-    ensures { OnOk result (lines.new.items
-        ≡ lines.old.items ++ styled_line style name.now (finding_summary finding.now)) }
+    ensures line { OnOk result (report.new.lines.items
+        ≡ report.old.lines.items ++ styled_line style name.now (finding_summary finding.now)) }
+    ensures sound { report.new.sound ≡ report.old.sound }
 {
     match style {
-        LineStyle::Words => put_take_line(alloc, name, finding, lines),
-        LineStyle::Json => put_json(alloc, name, finding, lines),
+        LineStyle::Words => finding.put_take_line(alloc, name, &mut report.lines),
+        LineStyle::Json => put_line(&take_json(alloc, name, finding)?, &mut report.lines),
     }
 }
 
-/// The same of a line of JSON.
+/// Appends a text, and ends its line.
 #[tactic(auto, using(std::proofs::lemmas::List::append_assoc))]
-fn put_json(
-    alloc: Global,
-    name: &Name,
-    finding: &TakeFinding,
-    lines: &mut Vec<u8>,
-) -> Result<(), AllocError>
-    ensures { OnOk result (lines.new.items
-        ≡ lines.old.items ++ styled_line LineStyle.Json name.now (finding_summary finding.now)) }
+fn put_line(text: &str, lines: &mut Vec<u8>) -> Result<(), AllocError>
+    ensures { OnOk result (lines.new.items ≡ lines.old.items ++ as_line text.now) }
 {
-    let line = take_json(alloc, name, finding)?;
-    lines.extend_from_slice(line.as_bytes())?;
+    lines.extend_from_slice(text.as_bytes())?;
     lines.extend_from_slice(b"\n")
 }
 

@@ -4,7 +4,7 @@ ghost use Rattle.bw_takes.specs.Screens.{first_row as first_of, next_row as next
 ghost use Rattle.bw_takes.specs.Screens.{row_after as after};
 ghost use Rattle.bw_takes.specs.Screens.{all_word, column_names, open_word};
 ghost use Rattle.bw_takes.specs.Screens.{head_text, is_open_state, open_count as count_of};
-ghost use Rattle.bw_takes.specs.Screens.{open_text, other_text, rows_after as all_after, takes_text};
+ghost use Rattle.bw_takes.specs.Screens.{rows_after as all_after, takes_text, text_if};
 ghost use Rattle.bw_takes.specs.Screens.{line_end as line_ends, screen_end as ends_with};
 ghost use Rattle.bw_takes.specs.Screens.{screen_start as starts_with, screen_text as text_of};
 
@@ -124,8 +124,8 @@ fn screen_text(alloc: Global, style: ScreenStyle, rows: &[Row]) -> Result<Vec<u8
     let mut text = Vec::new(alloc);
     text.extend_from_slice(screen_start(style))?;
     put_head(alloc, style, rows, &mut text)?;
-    put_open_rows(alloc, style, rows, &mut text)?;
-    put_other_rows(alloc, style, rows, &mut text)?;
+    put_rows(alloc, style, true, rows, &mut text)?;
+    put_rows(alloc, style, false, rows, &mut text)?;
     text.extend_from_slice(screen_end(style))?;
     Ok(text)
 }
@@ -200,62 +200,36 @@ fn heading() -> &'static [u8]
     b"STATE         RECORDED    GROWTH     UNCHANGED  NAME"
 }
 
-/// Appends the lines of the open takes.
-fn put_open_rows(
+/// Appends the lines of the open takes, or of the others.
+fn put_rows(
     alloc: Global,
     style: ScreenStyle,
+    opened: bool,
     rows: &[Row],
     text: &mut Vec<u8>,
 ) -> Result<(), AllocError>
-    ensures { OnOk result (text.new.items ≡ text.old.items ++ flat_map (open_text style) rows.now) }
+    ensures { OnOk result (text.new.items
+        ≡ text.old.items ++ flat_map (text_if opened style) rows.now) }
 {
     for row in rows {
-        put_if_open(alloc, style, row, text)?;
+        put_row_if(alloc, style, opened, row, text)?;
     }
     Ok(())
 }
 
-fn put_if_open(
+fn put_row_if(
     alloc: Global,
     style: ScreenStyle,
+    opened: bool,
     row: &Row,
     text: &mut Vec<u8>,
 ) -> Result<(), AllocError>
-    ensures { OnOk result (text.new.items ≡ text.old.items ++ open_text style row.now) }
+    ensures { OnOk result (text.new.items ≡ text.old.items ++ text_if opened style row.now) }
 {
-    if is_open(row.take.state) {
+    if is_open(row.take.state) == opened {
         return put_row(alloc, style, row, text);
     }
     Ok(())
-}
-
-/// Appends the lines of the other takes.
-fn put_other_rows(
-    alloc: Global,
-    style: ScreenStyle,
-    rows: &[Row],
-    text: &mut Vec<u8>,
-) -> Result<(), AllocError>
-    ensures { OnOk result (text.new.items ≡ text.old.items ++ flat_map (other_text style) rows.now) }
-{
-    for row in rows {
-        put_unless_open(alloc, style, row, text)?;
-    }
-    Ok(())
-}
-
-fn put_unless_open(
-    alloc: Global,
-    style: ScreenStyle,
-    row: &Row,
-    text: &mut Vec<u8>,
-) -> Result<(), AllocError>
-    ensures { OnOk result (text.new.items ≡ text.old.items ++ other_text style row.now) }
-{
-    if is_open(row.take.state) {
-        return Ok(());
-    }
-    put_row(alloc, style, row, text)
 }
 
 fn is_open(state: ProgressState) -> bool

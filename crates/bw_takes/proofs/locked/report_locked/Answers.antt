@@ -1,7 +1,8 @@
 use Rattle.std.proofs.Common.{true, refl, sym}
 use Rattle.bw_console.specs.Printing.{Nothing, IsOf}
-use Rattle.bw_console.specs.declared.exit.Exit.TheVariants.{Device, Memory}
+use Rattle.bw_console.specs.declared.exit.Exit.TheVariants.{Device}
 use Rattle.bw_takes.specs.GiveUpShowings.{running_text}
+use Rattle.bw_takes.proofs.EndLemmas.{is_out_of_memory, out_of_memory}
 use Rattle.bw_takes.proofs.locked.report_locked.Goals as goal
 
 pub returns-in-Running : goal.returns-in-Running
@@ -16,9 +17,5 @@ returns-in-Running g c =
 
 pub returns-in-Memory : goal.returns-in-Memory
 returns-in-Memory g c =
-    let l = c.give_up.ensures.line in (
-      record { reads_all = true; out = Nothing; faults = l.0; exit = Memory },
-      sym c.give_up.ensures.exit,
-      rw c.in-Memory.is (record { exit_is = refl; reads = refl; prints = refl; reports = l.1 }),
-      l.2,
-    )
+    let l = c.give_up.ensures.line in
+    (out_of_memory l.0, sym c.give_up.ensures.exit, rw c.in-Memory.is (is_out_of_memory l.0 l.1), l.2)

@@ -1,26 +1,25 @@
-use Rattle.std.proofs.Common.{◌≡◌, ◌≤◌, ◌<◌, List, ℕ, map, length, sym, ◌∙◌, ap, subst}
-use Rattle.std.specs.Prelude.{string_bytes, get_or}
-use Rattle.std.proofs.lemmas.List.{length-map, get_or-map}
+use Rattle.std.proofs.Common.{◌≤◌, List, ℕ, map, length, sym, subst}
+use Rattle.std.specs.Prelude.{string_bytes}
+use Rattle.std.proofs.lemmas.List.{length-map}
 use Rattle.bw_disk.specs.Volumes.{Lists}
-use Rattle.bw_takes.proofs.TakeNameLemmas.{only_next, each_next, listed_all}
+use Rattle.bw_takes.proofs.TakeNameLemmas.{text_at, only_next, each_next, listed_all}
 use Rattle.bw_takes.proofs.naming.takes_in.Goals as goal
 
 pub loop-file-preserved : goal.loop-file-preserved
 loop-file-preserved g c =
     let i = c.loop-file.invariant in
     let items = c.deref-file-items.result.now in
-    let files : List (List ℕ) = map string_bytes items in
     let k = c.loop-file.file-index in
-    let below : k < length files = rw length-map c.loop-file-test.true in
     let file = c.as_str.result.now in
-    let at : get_or files k file ≡ file =
-    get_or-map string_bytes items k c.file-item.result file c.loop-file-test.true
-    ∙ ap string_bytes (sym c.file-item.is) ∙ sym c.as_str.ensures.value in
+    let at = text_at string_bytes items k c.file-item.result file c.loop-file-test.true c.file-item.is
+    c.as_str.ensures.value in
     let added = c.in_ok-add_take.ensures.added in
+    let before = c.loop-file.names.keys in
+    let after = c.add_take.new.names.keys in
     record {
       ordered = c.in_ok-add_take.ensures.ordered i.ordered;
-      only = only_next files k file c.loop-file.names.keys c.add_take.new.names.keys below at added i.only;
-      each = each_next files k file c.loop-file.names.keys c.add_take.new.names.keys below at added i.each;
+      only = only_next (map string_bytes items) k file before after at.0 at.1 added i.only;
+      each = each_next (map string_bytes items) k file before after at.0 at.1 added i.each;
     }
 
 pub returns-clause-each : goal.returns-clause-each

@@ -1,17 +1,14 @@
 use Rattle.std.proofs.Common.{inl, inr, true, refl, sym}
 use Rattle.bw_console.specs.Printing.{Nothing, IsOf}
-use Rattle.bw_console.specs.declared.exit.Exit.TheVariants.{Device, Memory}
+use Rattle.bw_console.specs.declared.exit.Exit.TheVariants.{Device}
 use Rattle.bw_takes.specs.Showings.{unread_text}
+use Rattle.bw_takes.proofs.EndLemmas.{is_out_of_memory, out_of_memory}
 use Rattle.bw_takes.proofs.printing.report_unread.Goals as goal
 
 pub returns-in_default : goal.returns-in_default
 returns-in_default g c =
-    let l = c.give_up.ensures.line in (
-      record { reads_all = true; out = Nothing; faults = l.0; exit = Memory },
-      sym c.give_up.ensures.exit,
-      inr (record { exit_is = refl; reads = refl; prints = refl; reports = l.1 }),
-      l.2,
-    )
+    let l = c.give_up.ensures.line in
+    (out_of_memory l.0, sym c.give_up.ensures.exit, inr (is_out_of_memory l.0 l.1), l.2)
 
 pub returns : goal.returns
 returns g c =

@@ -1,14 +1,15 @@
 use Rattle.std.proofs.Common.{inl, inr, true, refl, sym}
-use Rattle.bw_console.specs.Printing.{Nothing, Part}
-use Rattle.bw_console.specs.declared.exit.Exit.TheVariants.{Device, Memory}
+use Rattle.bw_console.specs.Printing.{Part}
+use Rattle.bw_console.specs.declared.exit.Exit.TheVariants.{Device}
+use Rattle.bw_takes.proofs.EndLemmas.{is_out_of_memory, out_of_memory}
 use Rattle.bw_takes.proofs.watching.show_read.Goals as goal
 
 pub returns-in_default-clause-err : goal.returns-in_default-clause-err
 returns-in_default-clause-err g c =
     let l = c.give_up.ensures.line in (
-      record { reads_all = true; out = Nothing; faults = l.0; exit = Memory },
+      out_of_memory l.0,
       sym c.give_up.ensures.exit,
-      inr (record { exit_is = refl; reads = refl; prints = refl; reports = l.1 }),
+      inr (is_out_of_memory l.0 l.1),
       record { printed = refl; reported = l.2 },
       refl,
     )
