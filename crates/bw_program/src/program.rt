@@ -81,8 +81,7 @@ pub fn start<
         (sender_side N.Dial.Dial N.Dial.Reader.Source N.Dial.Writer.Sink)
         (upload_side ⟦<PlanFeed<F::File, F::Stamped> as Feed>⟧ (LooksAt F.Stamped.Stamped)
         ⟦<PcmFeed<F::Growing> as Feed>⟧ P.Pause)
-        N.Network N.ListenerSetup
-        (start_side N.Starts N.StartsResting J.Resting.Journal J.becomes)
+        N.Network N.ListenerSetup (start_side N.Starts N.StartsResting J.Resting.Journal J.becomes)
         (S.words outside.old.system) exit outside.old outside.new }
 {
     ExitCode::from(obey(alloc, outside).status())
@@ -115,8 +114,7 @@ fn obey<
         (sender_side N.Dial.Dial N.Dial.Reader.Source N.Dial.Writer.Sink)
         (upload_side ⟦<PlanFeed<F::File, F::Stamped> as Feed>⟧ (LooksAt F.Stamped.Stamped)
         ⟦<PcmFeed<F::Growing> as Feed>⟧ P.Pause)
-        N.Network N.ListenerSetup
-        (start_side N.Starts N.StartsResting J.Resting.Journal J.becomes)
+        N.Network N.ListenerSetup (start_side N.Starts N.StartsResting J.Resting.Journal J.becomes)
         (S.words outside.old.system) result outside.old outside.new }
 {
     match outside.system.words() {
@@ -152,8 +150,7 @@ fn answer<
         (sender_side N.Dial.Dial N.Dial.Reader.Source N.Dial.Writer.Sink)
         (upload_side ⟦<PlanFeed<F::File, F::Stamped> as Feed>⟧ (LooksAt F.Stamped.Stamped)
         ⟦<PcmFeed<F::Growing> as Feed>⟧ P.Pause)
-        N.Network N.ListenerSetup
-        (start_side N.Starts N.StartsResting J.Resting.Journal J.becomes)
+        N.Network N.ListenerSetup (start_side N.Starts N.StartsResting J.Resting.Journal J.becomes)
         (Some (map string_bytes words.now)) result outside.old outside.new }
 {
     match parse(alloc, words) {
@@ -190,8 +187,7 @@ fn perform<
         (sender_side N.Dial.Dial N.Dial.Reader.Source N.Dial.Writer.Sink)
         (upload_side ⟦<PlanFeed<F::File, F::Stamped> as Feed>⟧ (LooksAt F.Stamped.Stamped)
         ⟦<PcmFeed<F::Growing> as Feed>⟧ P.Pause)
-        N.Network N.ListenerSetup
-        (start_side N.Starts N.StartsResting J.Resting.Journal J.becomes)
+        N.Network N.ListenerSetup (start_side N.Starts N.StartsResting J.Resting.Journal J.becomes)
         (S.file_at outside.old.system) (S.failures outside.old.system) line.now result
         outside.old outside.new }
 {
@@ -233,8 +229,7 @@ fn run<
         (sender_side N.Dial.Dial N.Dial.Reader.Source N.Dial.Writer.Sink)
         (upload_side ⟦<PlanFeed<F::File, F::Stamped> as Feed>⟧ (LooksAt F.Stamped.Stamped)
         ⟦<PcmFeed<F::Growing> as Feed>⟧ P.Pause)
-        N.Network N.ListenerSetup
-        (start_side N.Starts N.StartsResting J.Resting.Journal J.becomes)
+        N.Network N.ListenerSetup (start_side N.Starts N.StartsResting J.Resting.Journal J.becomes)
         (S.file_at outside.old.system) (S.failures outside.old.system)
         (CommandLine.Run task.now) result outside.old outside.new }
 {
