@@ -3,12 +3,4 @@
 #![tactic(auto)]
 
 #[cfg(test)]
-mod lives;
-#[cfg(test)]
-mod rests;
-#[cfg(test)]
-mod script;
-#[cfg(test)]
-mod shared;
-#[cfg(test)]
-mod stops;
+mod tests;

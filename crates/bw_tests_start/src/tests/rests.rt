@@ -1,5 +1,5 @@
 //! A start over a folder in which names rest: started, or refused by name.
-use crate::lives::FOLDER;
+use crate::tests::lives::FOLDER;
 use bw_disk::{Disk, MemoryDisk};
 use bw_layout::Limit;
 use bw_start::{Settings, Unwatched, start_over};

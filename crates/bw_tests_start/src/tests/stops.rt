@@ -1,7 +1,7 @@
 //! What a kill leaves, whichever call it falls in: each verdict that was answered stands, and the
 //! take is finished by whoever sends its messages again.
-use crate::lives::{Answers, Death, Verdicts, live};
-use crate::script::COUNT;
+use crate::tests::lives::{Answers, Death, Verdicts, live};
+use crate::tests::script::COUNT;
 use bw_disk::MemoryDisk;
 use bw_request::Verdict::{self, BadBlock, Stored};
 use std::alloc::Global;

@@ -1,6 +1,6 @@
 //! One life of a server: its start over what stands on a disk, a take's messages, and its death.
-use crate::script::{COUNT, body};
-use crate::shared::{Mortal, SharedDisk};
+use crate::tests::script::{COUNT, body};
+use crate::tests::shared::SharedDisk;
 use arrayvec::ArrayVec;
 use bw_disk::{MemoryDisk, MortalDisk};
 use bw_folder::{FolderJournal, FolderStore};
@@ -49,7 +49,12 @@ pub(crate) struct Answers {
     pub(crate) verdicts: Verdicts,
 }
 
-type Under = Server<FolderStore<SharedDisk>, FolderJournal<SharedDisk>>;
+/// A disk in memory that dies in a chosen call.
+type Mortal = MortalDisk<MemoryDisk>;
+
+type Shared = SharedDisk<Mortal>;
+
+type Under = Server<FolderStore<Shared>, FolderJournal<Shared>>;
 
 /// Starts a server, gives it the take's messages once, and returns what stands on the disk then.
 pub(crate) fn live(

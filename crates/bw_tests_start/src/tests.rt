@@ -1,0 +1,7 @@
+//! The tests, and the lives of servers that they are about.
+
+mod lives;
+mod rests;
+mod script;
+mod shared;
+mod stops;
