@@ -3,6 +3,7 @@ use crate::noting::{FOLDER, NOTES, PATH, a1, limit, with_header};
 use bw_disk::{MemoryDisk, MortalDisk, Volume};
 use bw_folder::{FolderJournal, RestingFolderJournal};
 use bw_journal::{BecomesResting, Journal, RestingJournal};
+use bw_request::Name;
 use std::alloc::Global;
 use std::test::Fail;
 
@@ -11,6 +12,8 @@ const CLOSED: &str = "takes/a1.closed";
 
 /// How many calls a server makes at most here.
 const CALLS: u64 = 40;
+
+type Mortal = RestingFolderJournal<MortalDisk<MemoryDisk>>;
 
 /// The journals of the folder on a disk.
 fn over<D: Volume>(disk: D, alloc: Global, sync: bool) -> Result<RestingFolderJournal<D>, Fail> {
@@ -72,28 +75,27 @@ fn a_journal_that_woke_goes_on(rt: HostRuntime) -> Result<(), Fail> {
     Ok(())
 }
 
-/// Notes, rests, wakes, notes and rests until a call fails; how many of the six succeeded.
-fn lived(journal: &mut RestingFolderJournal<MortalDisk<MemoryDisk>>) -> Result<usize, Fail> {
+/// Begins, notes, rests, wakes, notes and rests until a call fails; how many of the six succeeded.
+fn lived(journal: &mut Mortal) -> Result<usize, Fail> {
     let name = a1()?;
-    if journal.begin(&name).is_err() {
-        return Ok(0);
-    }
-    if journal.note(&name, 29, NOTES[0]).is_err() {
-        return Ok(1);
-    }
-    if journal.rest(&name).is_err() {
-        return Ok(2);
-    }
-    if journal.wake(&name).is_err() {
-        return Ok(3);
-    }
-    if journal.note(&name, 43, NOTES[1]).is_err() {
-        return Ok(4);
-    }
-    if journal.rest(&name).is_err() {
-        return Ok(5);
+    for call in 0..6 {
+        if !succeeds(journal, &name, call) {
+            return Ok(call);
+        }
     }
     Ok(6)
+}
+
+/// Makes the call with this number; whether it succeeded.
+fn succeeds(journal: &mut Mortal, name: &Name, call: usize) -> bool {
+    match call {
+        0 => journal.begin(name).is_ok(),
+        1 => journal.note(name, 29, NOTES[0]).is_ok(),
+        2 => journal.rest(name).is_ok(),
+        3 => journal.wake(name).is_ok(),
+        4 => journal.note(name, 43, NOTES[1]).is_ok(),
+        _ => journal.rest(name).is_ok(),
+    }
 }
 
 /// The notes that were reported after this many successful calls.
