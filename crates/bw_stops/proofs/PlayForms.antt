@@ -8,11 +8,12 @@ use Rattle.bw_model.specs.Replies.{Reply, Noticed, Next}
 use Rattle.bw_model.specs.Book.{Book, log_of}
 use Rattle.bw_model.specs.Turn.{Faults, good, turn}
 use Rattle.bw_model.specs.Exchange.{nothing_stands}
-use Rattle.bw_model.specs.World.{World, Event, Offer, Send, Deliver, Bring, Ask, happens, send, bring, deliver, comes, pending}
+use Rattle.bw_model.specs.World.{World, Event, Offer, Send, Deliver, Bring, Ask, happens, deliver, comes, pending}
 use Rattle.bw_journal.specs.Stops.{cut_book}
 use Rattle.bw_left.specs.StoppedWorlds.{WorldStep, Happens, Dies, Stops, Starts, MayCome, IsNextStep}
 use Rattle.bw_rehearsal.specs.Rehearsing.{event_meaning}
 use Rattle.bw_rehearsal.specs.declared.event.Event.{Event as Played}
+use Rattle.bw_rehearsal.proofs.Staging.{sent_book, brought_book}
 use Rattle.bw_stops.specs.Machines.{IsRunning, IsLeftAt, IsMachine, KeepsRunning, DiesInTurn, TurnsMachine, runs}
 use Rattle.bw_stops.specs.Networks.{IsNetwork}
 use Rattle.bw_stops.specs.declared.event.StopEvent.{StopEvent}
@@ -72,73 +73,61 @@ module _ (limit : ℕ) (w : World) (n : Network) (was : Bool) where
   each_by_stop (Ok m) e other same p = by_stop m e other same p
   each_by_stop (Err x) e other same p = p
 
-sent_book : (w : World) (o : Option (ℕ × Request)) → (send w o).book ≡ w.book
-sent_book w None = refl
-sent_book w (Some p) = refl
-
-brought_book : (w : World) (o : Option Reply) → (bring w o).book ≡ w.book
-brought_book w None = refl
-brought_book w (Some r) = refl
-
 module _ (limit : ℕ) (w : World) (later : Network) where
+  -- an event that leaves the machine as it is
+  happened : (m : Machine) (e : Event) → IsPlayedEvent w (runs m) e (Happens e good ∷ []) (runs m) →
+      (happens nothing_stands w e good).book ≡ w.book → IsNetwork (happens nothing_stands w e good) later →
+      IsMachine limit w.book m → PlaysBy limit w (IsPlayedEvent w (runs m) e) later m
+  happened m e played same n is = record {
+    steps = Happens e good ∷ [];
+    world = happens nothing_stands w e good;
+    played = played;
+    went = (tt, refl);
+    network_is = n;
+    machine_is = subst (λ (b : Book). IsMachine limit b m) (sym same) is;
+  }
+
   pub offered : (m : Machine) (r : Request) → IsNetwork (happens nothing_stands w (Offer r) good) later →
       IsMachine limit w.book m → PlaysBy limit w (IsPlayedEvent w (runs m) (Offer r)) later m
   unfolding happens
-  offered m r n is = record {
-    steps = Happens (Offer r) good ∷ [];
-    world = happens nothing_stands w (Offer r) good;
-    played = (refl, refl);
-    went = (tt, refl);
-    network_is = n;
-    machine_is = is;
-  }
+  offered m r n is = happened m (Offer r) (refl, refl) refl n is
 
   pub sent : (m : Machine) (i : ℕ) → IsNetwork (happens nothing_stands w (Send i) good) later →
       IsMachine limit w.book m → PlaysBy limit w (IsPlayedEvent w (runs m) (Send i)) later m
   unfolding happens
-  sent m i n is = record {
-    steps = Happens (Send i) good ∷ [];
-    world = happens nothing_stands w (Send i) good;
-    played = (refl, refl);
-    went = (tt, refl);
-    network_is = n;
-    machine_is = subst (λ (b : Book). IsMachine limit b m) (sym (sent_book w (pending w.sender i))) is;
-  }
+  sent m i n is = happened m (Send i) (refl, refl) (sent_book w (pending w.sender i)) n is
 
   pub brought : (m : Machine) (i : ℕ) → IsNetwork (happens nothing_stands w (Bring i) good) later →
       IsMachine limit w.book m → PlaysBy limit w (IsPlayedEvent w (runs m) (Bring i)) later m
   unfolding happens
-  brought m i n is = record {
-    steps = Happens (Bring i) good ∷ [];
-    world = happens nothing_stands w (Bring i) good;
-    played = (refl, refl);
-    went = (tt, refl);
+  brought m i n is = happened m (Bring i) (refl, refl) (brought_book w (slice_get w.replies i)) n is
+
+  -- an event of which nothing comes
+  idle : (m : Machine) (AreSteps : List WorldStep → Bool → Type 0) → AreSteps [] (runs m) → IsNetwork w later →
+      IsMachine limit w.book m → PlaysBy limit w AreSteps later m
+  idle m AreSteps played n is = record {
+    steps = [];
+    world = w;
+    played = played;
+    went = refl;
     network_is = n;
-    machine_is = subst (λ (b : Book). IsMachine limit b m) (sym (brought_book w (slice_get w.replies i))) is;
+    machine_is = is;
   }
 
   -- what comes while no server runs is lost
   pub lost : (m : Machine) (folder : Folder) (k : ℕ) → m ≡ Stopped folder → IsNetwork w later →
       IsMachine limit w.book m → PlaysBy limit w (IsPlayedEvent w (runs m) (Deliver k)) later (Stopped folder)
-  lost m folder k e n is = record {
-    steps = [];
-    world = w;
-    played = subst (λ (b : Bool). DeliversIf b (slice_get w.sent k) k [] false) (sym (ap runs e)) (refl, refl);
-    went = refl;
-    network_is = n;
-    machine_is = subst (IsMachine limit w.book) e is;
-  }
+  lost m folder k e n is =
+      idle (Stopped folder) (IsPlayedEvent w (runs m) (Deliver k))
+      (subst (λ (b : Bool). DeliversIf b (slice_get w.sent k) k [] false) (sym (ap runs e)) (refl, refl)) n
+      (subst (IsMachine limit w.book) e is)
 
   pub unasked : (m : Machine) (folder : Folder) → m ≡ Stopped folder → IsNetwork w later →
       IsMachine limit w.book m → PlaysBy limit w (IsPlayedEvent w (runs m) Ask) later (Stopped folder)
-  unasked m folder e n is = record {
-    steps = [];
-    world = w;
-    played = subst (λ (b : Bool). (false ≡ b) × AsksIf b []) (sym (ap runs e)) (refl, refl);
-    went = refl;
-    network_is = n;
-    machine_is = subst (IsMachine limit w.book) e is;
-  }
+  unasked m folder e n is =
+      idle (Stopped folder) (IsPlayedEvent w (runs m) Ask)
+      (subst (λ (b : Bool). (false ≡ b) × AsksIf b []) (sym (ap runs e)) (refl, refl)) n
+      (subst (IsMachine limit w.book) e is)
 
   -- what a server does that runs
   pub on_runs : {E : Type 0} (m : Machine) (life : Life) (e : Event) (r : Result Machine E) → m ≡ Runs life →
@@ -152,27 +141,15 @@ module _ (limit : ℕ) (w : World) (later : Network) where
   -- there is no such message
   pub unsent : (life : Life) (k : ℕ) → slice_get w.sent k ≡ None → IsNetwork w later → IsRunning limit w.book life →
       PlaysBy limit w (IsPlayedEvent w true (Deliver k)) later (Runs life)
-  unsent life k none n is = record {
-    steps = [];
-    world = w;
-    played = subst (λ (o : Option Message). DeliversIf true o k [] true) (sym none) (refl, refl);
-    went = refl;
-    network_is = n;
-    machine_is = is;
-  }
+  unsent life k none n is =
+      idle (Runs life) (IsPlayedEvent w true (Deliver k))
+      (subst (λ (o : Option Message). DeliversIf true o k [] true) (sym none) (refl, refl)) n is
 
   pub asked : (life : Life) → IsNetwork (with_replies w
       (Noticed w.sender.name 0 Next (log_of w.book w.sender.name).done ∷ []) w.book) later →
       IsRunning limit w.book life → PlaysBy limit w (IsPlayedEvent w true Ask) later (Runs life)
   unfolding turn happens
-  asked life n is = record {
-    steps = Happens Ask good ∷ [];
-    world = happens nothing_stands w Ask good;
-    played = (refl, refl);
-    went = (tt, refl);
-    network_is = n;
-    machine_is = is;
-  }
+  asked life n is = happened (Runs life) Ask (refl, refl) refl n is
 
   -- a message comes to the server
   module _ (k : ℕ) (m : Message) (replies : List Reply) (at : slice_get w.sent k ≡ Some m)
@@ -231,15 +208,21 @@ module _ (limit : ℕ) (w : World) (later : Network) where
 
 -- A machine whose server stops, or which gets one.
 module _ (limit : ℕ) (w : World) (m : Machine) where
-  pub runs_already : (life : Life) → m ≡ Runs life → IsMachine limit w.book m →
-      LeavesBook limit w (λ steps on. (on ≡ true) × StartsIf (runs m) steps) (Runs life)
-  runs_already life e is = record {
+  -- nothing changes
+  unchanged : (later : Machine) (AreSteps : List WorldStep → Bool → Type 0) → AreSteps [] (runs later) → m ≡ later →
+      IsMachine limit w.book m → LeavesBook limit w AreSteps later
+  unchanged later AreSteps played e is = record {
     steps = [];
     book = w.book;
-    played = subst (λ (b : Bool). (true ≡ true) × StartsIf b []) (sym (ap runs e)) (refl, refl);
+    played = played;
     went = refl;
     machine_is = subst (IsMachine limit w.book) e is;
   }
+
+  pub runs_already : (life : Life) → m ≡ Runs life → IsMachine limit w.book m →
+      LeavesBook limit w (λ steps on. (on ≡ true) × StartsIf (runs m) steps) (Runs life)
+  runs_already life e is =
+      unchanged (Runs life) _ (subst (λ (b : Bool). (true ≡ true) × StartsIf b []) (sym (ap runs e)) (refl, refl)) e is
 
   pub started : (folder : Folder) (life : Life) → m ≡ Stopped folder → IsMachine limit w.book m →
       (IsLeftAt limit w.book folder → IsRunning limit (cut_book w.book) life) →
@@ -254,13 +237,8 @@ module _ (limit : ℕ) (w : World) (m : Machine) where
 
   pub stopped_already : (folder : Folder) → m ≡ Stopped folder → IsMachine limit w.book m →
       LeavesBook limit w (λ steps on. (on ≡ false) × StopsIf (runs m) steps) (Stopped folder)
-  stopped_already folder e is = record {
-    steps = [];
-    book = w.book;
-    played = subst (λ (b : Bool). (false ≡ false) × StopsIf b []) (sym (ap runs e)) (refl, refl);
-    went = refl;
-    machine_is = subst (IsMachine limit w.book) e is;
-  }
+  stopped_already folder e is =
+      unchanged (Stopped folder) _ (subst (λ (b : Bool). (false ≡ false) × StopsIf b []) (sym (ap runs e)) (refl, refl)) e is
 
   pub stopped_now : (life : Life) (folder : Folder) (left : Book) → m ≡ Runs life →
       IsNextStep nothing_stands w (Stops left) → IsLeftAt limit left folder →

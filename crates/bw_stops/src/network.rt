@@ -5,7 +5,7 @@ ghost use Rattle.bw_model.specs.Exchange.{nothing_stands};
 ghost use Rattle.bw_model.specs.World.{World, Offer, Send, Bring, happens, new_world};
 ghost use Rattle.bw_stops.specs.Networks.{IsNetwork};
 
-use bw_rehearsal::unless_memory;
+use bw_rehearsal::offer_copy;
 use bw_request::{Name, Request};
 use bw_sender::Sender;
 use bw_wire::{Reply, encode};
@@ -48,14 +48,7 @@ impl Network {
         ensures { (w : World) → IsNetwork w self.old →
             OnOk result (IsNetwork (happens nothing_stands w (Offer request.now) good) self.new) }
     {
-        let copy = request.as_ref().to_request(self.alloc)?;
-        match self.sender.offer(copy) {
-            Ok(number) => {
-                self.offered = u64::from(number) + 1;
-                Ok(())
-            }
-            Err((error, _request)) => unless_memory(error),
-        }
+        offer_copy(self.alloc, &mut self.sender, &mut self.offered, request)
     }
 
     /// Sends the pending request at a place.

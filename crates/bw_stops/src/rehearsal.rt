@@ -49,17 +49,18 @@ pub struct Rehearsed {
 /// there, by disks that die in a chosen call.
 ///
 /// All that was ever sent and written stays: what isn't delivered or brought is lost, and the rest
-/// may come again, in any order. A server stops in the turn in which a disk died, and none of that
-/// turn's replies is written.
+/// may come again, in any order. A server is stopped in a turn in which a disk dies; none of the
+/// replies of a turn in which one stops is written.
 ///
 /// # Errors
 /// `Memory` if memory was refused to the sender, for the messages and replies or for a folder's copy;
-/// `Start` if a start failed, as memory was refused in it. The name isn't given back.
+/// `Start` if a start failed. The name isn't given back.
 ///
 /// # Not specified
 /// - When memory is refused, and which events were played before.
-/// - In which call a disk dies: contracts count only calls, and don't say how many a turn makes.
-/// - What a start leaves that fails.
+/// - In which call a disk dies: contracts count only calls, and don't say how many a turn makes. So
+///   also that a server stops in each turn in which a disk died, and in no other.
+/// - What a start leaves that fails, and that only want of memory makes one fail.
 pub fn rehearse_stops(
     alloc: Global,
     name: Name,
