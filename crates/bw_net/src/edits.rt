@@ -1,6 +1,7 @@
 //! Files that are changed in place, by the calls of std.
 ghost use Rattle.std.specs.Prelude.{◌≡◌, None};
 
+use crate::counting::counted;
 use crate::host::open_source;
 use crate::recordings::HostRecordings;
 use bw_edit::EditedFiles;
@@ -20,19 +21,14 @@ impl EditedFiles for HostRecordings<'_> {
     ghost edit_failures = { recordings_failures };
 
     fn open_edited(&mut self, path: &str) -> io::Result<SeekSource<File>> {
-        let opened = open_source(self.rt, path);
-        if opened.is_err() {
-            self.failures = self.failures.saturating_add(1);
-        }
-        opened
+        counted(open_source(self.rt, path), &mut self.failures)
     }
 
     fn overwrite(&mut self, path: &str, place: u64, bytes: &[u8]) -> io::Result<()> {
-        let written = write_in_place(self.rt, path, place, bytes);
-        if written.is_err() {
-            self.failures = self.failures.saturating_add(1);
-        }
-        written
+        counted(
+            write_in_place(self.rt, path, place, bytes),
+            &mut self.failures,
+        )
     }
 }
 

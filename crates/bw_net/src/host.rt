@@ -2,6 +2,7 @@
 ghost use Rattle.std.specs.Prelude.{◌≡◌, Some, None};
 ghost use Rattle.std.specs.Fs.{IsFile, file_type, metadata_len};
 
+use crate::counting::counted;
 use bw_ports::System;
 use bw_stream::SeekSource;
 use std::fs::{File, Metadata};
@@ -41,19 +42,11 @@ impl System for Host<'_> {
     ghost failures = { host_failures };
 
     fn words(&mut self) -> io::Result<Vec<String>> {
-        let found = words(self.rt);
-        if found.is_err() {
-            self.failures = self.failures.saturating_add(1);
-        }
-        found
+        counted(words(self.rt), &mut self.failures)
     }
 
     fn open(&mut self, path: &str) -> io::Result<SeekSource<File>> {
-        let opened = open_source(self.rt, path);
-        if opened.is_err() {
-            self.failures = self.failures.saturating_add(1);
-        }
-        opened
+        counted(open_source(self.rt, path), &mut self.failures)
     }
 }
 

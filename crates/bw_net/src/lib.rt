@@ -2,6 +2,7 @@
 //! words.
 #![tactic(auto)]
 
+mod counting;
 mod edits;
 mod folder;
 mod followed;

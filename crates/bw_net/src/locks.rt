@@ -1,4 +1,5 @@
 //! The locks of folders of this machine.
+use crate::counting::counted;
 use crate::lock::FolderLock;
 use crate::recordings::HostRecordings;
 use bw_lock::{FolderLocks, LockRefusal};
@@ -17,9 +18,6 @@ impl FolderLocks for HostRecordings<'_> {
 
     fn lock(&mut self, folder: &str) -> Result<FolderLock, LockRefusal> {
         let taken = FolderLock::take(self.rt, self.rt.alloc(), folder);
-        if taken.is_err() {
-            self.failures = self.failures.saturating_add(1);
-        }
-        taken
+        counted(taken, &mut self.failures)
     }
 }

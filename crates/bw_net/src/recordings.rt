@@ -1,6 +1,7 @@
 //! The files of recordings, by the calls of std.
 ghost use Rattle.std.specs.Prelude.{◌≡◌, None};
 
+use crate::counting::counted;
 use crate::followed::FollowedFile;
 use crate::host::open_source;
 use crate::spool::SpoolCell;
@@ -59,11 +60,7 @@ impl<'a> RecordingFiles for HostRecordings<'a> {
     ghost failures = { recordings_failures };
 
     fn open(&mut self, path: &str) -> io::Result<SeekSource<File>> {
-        let opened = open_source(self.rt, path);
-        if opened.is_err() {
-            self.failures = self.failures.saturating_add(1);
-        }
-        opened
+        counted(open_source(self.rt, path), &mut self.failures)
     }
 
     fn follow(
@@ -76,18 +73,11 @@ impl<'a> RecordingFiles for HostRecordings<'a> {
             Some(until) => FollowedFile::open(self.rt, path, skip, until),
             None => FollowedFile::spool(self.rt, path, skip, self.spool),
         };
-        if followed.is_err() {
-            self.failures = self.failures.saturating_add(1);
-        }
-        followed
+        counted(followed, &mut self.failures)
     }
 
     fn stamp(&mut self, path: &str) -> io::Result<FileStamp> {
-        let stamp = stamp_of(self.rt, path);
-        if stamp.is_err() {
-            self.failures = self.failures.saturating_add(1);
-        }
-        stamp
+        counted(stamp_of(self.rt, path), &mut self.failures)
     }
 
     fn stamped(&mut self, path: &str) -> Result<StampedFile<'a>, AllocError> {
@@ -133,11 +123,7 @@ impl Stamped for StampedFile<'_> {
     ghost failures = { stamped_failures };
 
     fn stamp(&mut self) -> io::Result<FileStamp> {
-        let stamp = stamp_of(self.rt, self.path.as_str());
-        if stamp.is_err() {
-            self.failures = self.failures.saturating_add(1);
-        }
-        stamp
+        counted(stamp_of(self.rt, self.path.as_str()), &mut self.failures)
     }
 }
 

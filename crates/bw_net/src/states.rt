@@ -1,6 +1,7 @@
 //! Files of senders' states, by the calls of std.
 ghost use Rattle.std.specs.Prelude.{◌≡◌, None};
 
+use crate::counting::counted;
 use bw_resume::{StateFiles, StateLog};
 use std::fs::{File, OpenOptions};
 use std::io::{self, ErrorKind, Read, Write};
@@ -38,29 +39,17 @@ impl StateFiles for HostStates<'_> {
     ghost failures = { states_failures };
 
     fn read(&mut self, path: &str, most: usize) -> io::Result<Vec<u8>> {
-        let found = first_bytes(self.rt, path, most);
-        if found.is_err() {
-            self.failures = self.failures.saturating_add(1);
-        }
-        found
+        counted(first_bytes(self.rt, path, most), &mut self.failures)
     }
 
     fn begin(&mut self, path: &str, bytes: &[u8]) -> io::Result<StateFile> {
-        let begun = begin(self.rt, path, bytes);
-        if begun.is_err() {
-            self.failures = self.failures.saturating_add(1);
-        }
-        begun
+        counted(begin(self.rt, path, bytes), &mut self.failures)
     }
 
     fn go_on(&mut self, path: &str) -> io::Result<StateFile> {
-        match OpenOptions::new().append(true).open(self.rt, path) {
-            Ok(file) => Ok(StateFile { file, failures: 0 }),
-            Err(error) => {
-                self.failures = self.failures.saturating_add(1);
-                Err(error)
-            }
-        }
+        let opened = OpenOptions::new().append(true).open(self.rt, path);
+        let file = counted(opened, &mut self.failures)?;
+        Ok(StateFile { file, failures: 0 })
     }
 }
 
@@ -115,18 +104,10 @@ impl StateLog for StateFile {
     ghost failures = { state_failures };
 
     fn append(&mut self, bytes: &[u8]) -> io::Result<()> {
-        let written = self.file.write_all(bytes);
-        if written.is_err() {
-            self.failures = self.failures.saturating_add(1);
-        }
-        written
+        counted(self.file.write_all(bytes), &mut self.failures)
     }
 
     fn sync(&mut self) -> io::Result<()> {
-        let synced = self.file.sync_data();
-        if synced.is_err() {
-            self.failures = self.failures.saturating_add(1);
-        }
-        synced
+        counted(self.file.sync_data(), &mut self.failures)
     }
 }

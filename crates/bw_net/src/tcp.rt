@@ -1,6 +1,7 @@
 //! Links over TCP: to a server, and of its peers.
 ghost use Rattle.std.specs.Prelude.{◌≡◌, IfOk, None};
 
+use crate::counting::counted;
 use crate::folder::has_folder;
 use crate::link_stream::{LinkStream, connect};
 use crate::pause::SpoolPause;
@@ -176,11 +177,7 @@ impl<R: Net + Files> Peers for TcpPeers<'_, R, R::Listener> {
         × (peers_timeout p' ≡ peers_timeout p) };
 
     fn accept(&mut self) -> Result<Peer<StdIo<R::Stream>, StdIo<R::Stream>>, AcceptFault> {
-        let peer = self.next_peer();
-        if peer.is_err() {
-            self.failures = self.failures.saturating_add(1);
-        }
-        peer
+        counted(self.next_peer(), &mut self.failures)
     }
 }
 
