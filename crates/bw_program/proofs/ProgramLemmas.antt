@@ -1,5 +1,5 @@
 -- What the program does, from what its parts do.
-use Rattle.std.proofs.Common.{◌≡◌, ◌≢◌, ℕ, List, [], true, Option, Some, Result, Err, inl, inr, refl}
+use Rattle.std.proofs.Common.{◌≡◌, ◌≢◌, ℕ, Bool, List, [], true, Option, Some, Result, Err, inl, inr, refl}
 use Rattle.std.proofs.Common.{subst}
 use Rattle.clap.specs.Walk.{Text}
 use Rattle.clap.specs.declared.error.ErrorKind.{ErrorKind as TextKind}
@@ -7,7 +7,8 @@ use Rattle.clap.specs.declared.error.ErrorKind.TheVariants as texts
 use Rattle.bw_args.specs.Lines.{IsLineOf}
 use Rattle.bw_console.specs.Faults.{IsReportedBy, exit_of}
 use Rattle.bw_commands.specs.Inspections.{IsPrintOfText}
-use Rattle.bw_console.specs.Printing.{IsOf, Nothing, Print}
+use Rattle.bw_console.specs.Outcomes.{Outcome}
+use Rattle.bw_console.specs.Printing.{IsOf, IsPrint, Nothing, Print}
 use Rattle.bw_ports.specs.declared.network.Network.{Ghosts as NetworkGhosts}
 use Rattle.bw_ports.specs.declared.listener_setup.ListenerSetup.{Ghosts as ListenerSetupGhosts}
 use Rattle.bw_program.specs.Sides.{HostSide, SenderSide, ServerSide, UploadSide, StartSide}
@@ -54,6 +55,29 @@ module _ {S T F H G M SB SL Ed LK DK DF N X Y Z P R W L K SP SK D A B U J Q I O 
     (server_side : ServerSide X Y Z P R W L K N SP SK) (sender_side : SenderSide D A B)
     (upload_side : UploadSide U J Q) (network : NetworkGhosts N X P D R W A B) (listener_setup : ListenerSetupGhosts N L K)
     (starts : StartSide server_side.store server_side.journal N VR) where
+  -- a text is reported, and all else stays as it was
+  pub reports_alone : {is_asked : Bool → Outcome → Type 0} {exit : Exit} {x : Outside S F DK N Q I O E V C} {after : E}
+      (reported : Print) (ending : Exit) → ending ≡ exit →
+      is_asked true (record { reads_all = true; out = Nothing; faults = reported; exit = ending }) →
+      IsPrint host.reported reported x.faults after
+      → DoesAlone host server_side sender_side upload_side network listener_setup starts is_asked exit
+      (host.system.failures x.system) x (record x { faults = after })
+  reports_alone reported ending ends is prints = record {
+    does = record {
+      did = record { reads_all = true; out = Nothing; faults = reported; exit = ending };
+      ends = ends;
+      gives_all = true;
+      is = is;
+      failures = refl;
+      reads = refl;
+      writes = record { printed = refl; reported = prints };
+    };
+    unused = refl;
+    unread = refl;
+    unpaused = refl;
+    kept = refl;
+  }
+
   -- what is done for the words that were found is done for those that the system reported before
   pub reported-words : (words : Option (List Text)) (found : List Text) (exit : Exit) (system : S)
       (x x' : Outside S F DK N Q I O E V C) →

@@ -31,7 +31,7 @@ pub(crate) fn work_on_takes<D: Volume, L: FolderLocks, P: Pause, W: Sink, E: Sin
     let folder = listing.folder.as_str();
     match &listing.work {
         FolderWork::Report { check, json } => {
-            let (style, depth) = (style_of(*json), depth_of(*check));
+            let (style, depth) = report_form(*json, *check);
             show_takes(alloc, disk, folder, style, depth, out, faults)
         }
         FolderWork::Watch => watch_takes(alloc, disk, folder, screens, pause, out, faults),
@@ -39,22 +39,20 @@ pub(crate) fn work_on_takes<D: Volume, L: FolderLocks, P: Pause, W: Sink, E: Sin
     }
 }
 
-fn style_of(json: bool) -> LineStyle
-    ensures { result ≡ style_if json }
+/// How takes are reported, and how far they are looked at.
+fn report_form(json: bool, check: bool) -> (LineStyle, Depth)
+    ensures style { result.0 ≡ style_if json }
+    ensures depth { result.1 ≡ depth_if check }
 {
-    if json {
+    let style = if json {
         LineStyle::Json
     } else {
         LineStyle::Words
-    }
-}
-
-fn depth_of(check: bool) -> Depth
-    ensures { result ≡ depth_if check }
-{
-    if check {
+    };
+    let depth = if check {
         Depth::Samples
     } else {
         Depth::Journals
-    }
+    };
+    (style, depth)
 }
