@@ -1,5 +1,5 @@
 -- Strokes of the same levels.
-use Rattle.std.proofs.Common.{◌≡◌, ℕ, zero, suc, ◌+◌, ◌*◌, ◌<◌, ◌≤◌, List, ◌++◌, length, refl, ◌∙◌, ap, arith}
+use Rattle.std.proofs.Common.{◌≡◌, ℕ, zero, suc, ◌+◌, ◌*◌, ◌<◌, ◌≤◌, List, ◌++◌, length, refl, sym, ◌∙◌, ap, arith}
 use Rattle.bw_picture.specs.Columns.{channel_height, stroke, strokes}
 use Rattle.std.proofs.Common.{IsTrue, Option, subst}
 use Rattle.std.specs.Prelude.{replicate, slice_index}
@@ -33,6 +33,14 @@ strokes_same w column (suc n) low high low' high' e f =
     ap (λ (z : List ℕ). z ++ stroke w column (n * channel_height) (record { low = low n; high = high n })) first
     ∙ ap (λ (z : List ℕ). strokes w column low' high' n ++ z) last
 
+-- levels that were widened from the same one in each channel
+from_one : (of : ℕ → ℕ → ℕ) (level channels n : ℕ) (levels widened : List ℕ) → levels ≡ replicate channels level →
+    n ≡ channels → ((c : ℕ) → c < n → slice_index widened c ≡ of c (slice_index levels c)) → (c : ℕ) → c < channels →
+    slice_index widened c ≡ of c level
+from_one of level channels n levels widened same many are c below =
+    are c (subst (λ (k : ℕ). c < k) (sym many) below)
+    ∙ ap (of c) (ap (λ (z : List ℕ). slice_index z c) same ∙ get_or-replicate channels c level 0 below)
+
 -- a column was drawn, from the levels that were read
 pub column_drawn : (b : List ℕ) (s : Shape) (column place count align : ℕ) (lows highs lows' highs' old new : List ℕ)
     (left : Option (List ℕ)) → place ≡ column_place s column → count ≡ column_frames s column → align ≡ frame_bytes s →
@@ -49,17 +57,11 @@ column_drawn b s column place count align lows highs lows' highs' old new left p
     let width : length lows ≡ s.channels = ap length l ∙ length-replicate s.channels 4294967295 in
     let wide : length lows' ≡ s.channels = long ∙ width in
     let low : (c : ℕ) → c < length lows' → slice_index lows' c ≡ column_low b s column c =
-    λ c under. let below : c < s.channels = omega (arith, under, wide) in
-    is.lows_are c (omega (arith, below, width))
-    ∙ ap (λ (v : ℕ). least_of (file_level s.width b (column_place s column) (frame_bytes s) c) v
-    (column_frames s column))
-    (ap (λ (z : List ℕ). slice_index z c) l ∙ get_or-replicate s.channels c 4294967295 0 below) in
+    λ c under. from_one (λ k v. least_of (file_level s.width b (column_place s column) (frame_bytes s) k) v
+    (column_frames s column)) 4294967295 s.channels _ lows lows' l width is.lows_are c (omega (arith, under, wide)) in
     let high : (c : ℕ) → c < length lows' → slice_index highs' c ≡ column_high b s column c =
-    λ c under. let below : c < s.channels = omega (arith, under, wide) in
-    is.highs_are c (omega (arith, below, width))
-    ∙ ap (λ (v : ℕ). greatest_of (file_level s.width b (column_place s column) (frame_bytes s) c) v
-    (column_frames s column))
-    (ap (λ (z : List ℕ). slice_index z c) h ∙ get_or-replicate s.channels c 0 0 below) in
+    λ c under. from_one (λ k v. greatest_of (file_level s.width b (column_place s column) (frame_bytes s) k) v
+    (column_frames s column)) 0 s.channels _ highs highs' h width is.highs_are c (omega (arith, under, wide)) in
     record {
       text = drawn
           ∙ ap (λ (z : List ℕ). old ++ z) (strokes_same s.width column (length lows') _ _ (column_low b s column)

@@ -35,6 +35,17 @@ greatest-same f g high (suc n) e =
     ap (λ (k : ℕ). max k (f n)) (greatest-same f g high n (λ k h. e k (omega arith)))
     ∙ ap (max (greatest_of g high n)) (e n (omega arith))
 
+-- a level of some values and then of others, where it is the least of them or the greatest
+module _ (of : (ℕ → ℕ) → ℕ → ℕ → ℕ)
+    (same : (f g : ℕ → ℕ) (v n : ℕ) → ((k : ℕ) → k < n → f k ≡ g k) → of f v n ≡ of g v n)
+    (add : (f : ℕ → ℕ) (v m n : ℕ) → of f v (m + n) ≡ of (λ k. f (m + k)) (of f v m) n) where
+  level_more : (value shown : ℕ → ℕ) (first mid last done count : ℕ) → mid ≡ of value first done →
+      last ≡ of shown mid count → ((k : ℕ) → k < count → shown k ≡ value (done + k)) →
+      last ≡ of value first (done + count)
+  level_more value shown first mid last done count was is shows =
+      is ∙ same shown (λ k. value (done + k)) mid count shows
+      ∙ ap (λ (v : ℕ). of (λ k. value (done + k)) v count) was ∙ sym (add value first done count)
+
 part : (b piece : List ℕ) (base n p m : ℕ) → piece ≡ slice_range b base (base + n) → p + m ≤ n →
     slice_range piece p (p + m) ≡ slice_range b (base + p) (base + p + m)
 part b piece base n p m e h =
@@ -87,18 +98,14 @@ widened_more b place done count w align lows highs lows' highs' lows'' highs'' p
     record {
       lows_are = λ c below.
           let below' : c < length lows' = omega (arith, long, below) in
-          lo c below'
-          ∙ least-same _ (λ k. file_level w b place align c (done + k)) (slice_index lows' c) count
-          (λ k under. same_level w b piece place done count align c k (length lows) given.bytes below fits under)
-          ∙ ap (λ (v : ℕ). least_of (λ k. file_level w b place align c (done + k)) v count) (h.lows_are c below)
-          ∙ sym (least-add (file_level w b place align c) (slice_index lows c) done count);
+          level_more least_of least-same least-add (file_level w b place align c) _ _ _ _ done count
+          (h.lows_are c below) (lo c below')
+          (λ k under. same_level w b piece place done count align c k (length lows) given.bytes below fits under);
       highs_are = λ c below.
           let below' : c < length lows' = omega (arith, long, below) in
-          hi c below'
-          ∙ greatest-same _ (λ k. file_level w b place align c (done + k)) (slice_index highs' c) count
-          (λ k under. same_level w b piece place done count align c k (length lows) given.bytes below fits under)
-          ∙ ap (λ (v : ℕ). greatest_of (λ k. file_level w b place align c (done + k)) v count) (h.highs_are c below)
-          ∙ sym (greatest-add (file_level w b place align c) (slice_index highs c) done count);
+          level_more greatest_of greatest-same greatest-add (file_level w b place align c) _ _ _ _ done count
+          (h.highs_are c below) (hi c below')
+          (λ k under. same_level w b piece place done count align c k (length lows) given.bytes below fits under);
       rest = given.rest ∙ ap (λ (k : ℕ). Some (drop k b))
           (let at : place + done * align + count * align ≡ place + (done + count) * align = omega arith in at);
     }
