@@ -1,2 +1,4 @@
 mod EndSteps
 mod FeedSteps
+pub mod SentSo
+pub mod Reported

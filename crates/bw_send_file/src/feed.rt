@@ -106,22 +106,11 @@ pub fn is_close(request: &Request) -> bool
     ensures { result ≡ is_closing request.now }
 {
     match request.as_ref() {
-        RequestRef::OpenTake {
-            rate: _rate,
-            channels: _channels,
-            bits: _bits,
-            history: _history,
-        } => false,
-        RequestRef::Block { bytes: _bytes } => false,
-        RequestRef::Mark {
-            id: _id,
-            frame: _frame,
-        } => false,
-        RequestRef::SetField {
-            tag: _tag,
-            value: _value,
-        } => false,
-        RequestRef::CloseTake { frames: _frames } => true,
+        RequestRef::OpenTake { .. } => false,
+        RequestRef::Block { .. } => false,
+        RequestRef::Mark { .. } => false,
+        RequestRef::SetField { .. } => false,
+        RequestRef::CloseTake { .. } => true,
     }
 }
 

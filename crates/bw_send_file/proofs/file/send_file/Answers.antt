@@ -1,29 +1,21 @@
-use Rattle.std.proofs.Common.{ℕ, List, true, refl, sym, subst, inl, inr}
+use Rattle.std.proofs.Common.{ℕ, List, refl, sym, subst, inl, inr}
+use Rattle.std.specs.Prelude.{codes}
 use Rattle.bw_recorder.specs.Packs.{IsReportedText}
-use Rattle.bw_recorder.proofs.PackSteps.{at_once, not_opened, refusal, refused, unopened}
+use Rattle.bw_recorder.proofs.PackSteps.{at_once, not_opened}
+use Rattle.bw_send_file.proofs.Reported.{refuses, reports_unopened}
+use Rattle.bw_send_file.proofs.SentSo.{sent_so}
 use Rattle.bw_send_file.proofs.file.send_file.Goals as goal
 
 pub returns-in-Err : goal.returns-in-Err
 returns-in-Err g c =
-    let r = c.refuse_options.ensures in (
-      refusal c.refuse_options.result r.0,
-      refl,
-      inl (at_once (refused _ _ _ c.in-Err.fault _ r.0 c.in-Err.ensures.err r.1), refl),
-      refl,
-      record { between = c.args.faults.now; warns = refl; prints = refl; reports = r.2 },
-    )
+    refuses _ _ _ _ _ _ c.in-Err.fault _ _ _ _ _ (λ did h. inl (at_once h, refl)) c.in-Err.ensures.err
+    c.refuse_options.ensures
 
 pub returns-in-Ok-open_feed : goal.returns-in-Ok-open_feed
 returns-in-Ok-open_feed g c =
     let w = c.warn.ensures in
     let s = c.send_feed.ensures in (
-      record {
-        is_system_well = true;
-        warned = w.0;
-        out = s.0.out;
-        faults = s.0.faults;
-        exit = c.send_feed.result;
-      },
+      sent_so w.0 s.0 c.send_feed.result,
       refl,
       inr (
         c.in-Ok.options,
@@ -49,18 +41,15 @@ returns-in-Ok-open_feed g c =
 
 pub returns : goal.returns
 returns g c =
-    let r = c.report_open_fault.ensures in
-    let fault = c.in-Err-open_feed.fault in (
-      unopened fault c.report_open_fault.result r.0,
+    let fault = c.in-Err-open_feed.fault in
+    let exit = c.report_open_fault.result in
+    reports_unopened _ _ _ (codes "send") _ fault exit _ _ _ _ _
+    (λ print r. inl (
+      inr (inr (
+        c.in-Ok.options,
+        c.in-Ok.ensures.ok,
+        not_opened _ _ _ _ fault exit print c.in-Err-open_feed.ensures.err r,
+      )),
       refl,
-      inl (
-        inr (inr (
-          c.in-Ok.options,
-          c.in-Ok.ensures.ok,
-          not_opened _ _ _ _ fault _ r.0 c.in-Err-open_feed.ensures.err r.1,
-        )),
-        refl,
-      ),
-      c.in-Err-open_feed.ensures.count,
-      record { between = c.args.faults.now; warns = refl; prints = refl; reports = r.2 },
-    )
+    ))
+    c.in-Err-open_feed.ensures.count c.report_open_fault.ensures
