@@ -15,7 +15,7 @@ abbrev one_if : Bool → ℕ
 one_if empty = cond (not empty) 1 0
 
 -- a request for each value that is given
-count_fields : (tag : ℕ) (values : List (List ℕ)) → length (field_requests tag values) ≡ given_count values
+pub count_fields : (tag : ℕ) (values : List (List ℕ)) → length (field_requests tag values) ≡ given_count values
 count_fields tag [] = refl
 count_fields tag ([] ∷ values) =
     let step = sum_by-cons (λ (v : List ℕ). cond (not (length v == 0)) 1 0) [] values in

@@ -2,15 +2,15 @@
 use Rattle.std.proofs.Common.{◌≡◌, ℕ, zero, suc, ◌+◌, ◌-◌, ◌*◌, ◌≤◌, inl, inr, List, [], ◌∷◌, ◌++◌, length, map}
 use Rattle.std.proofs.Common.{refl, ◌∙◌, ap, arith}
 use Rattle.std.proofs.Common.{length-take, length-drop}
-use Rattle.std.proofs.Common.{◌<◌, Bool, false, cond, not, mul_comm}
-use Rattle.std.specs.Prelude.{◌/◌, ◌%◌, ◌==◌, min, max, take, drop}
+use Rattle.std.proofs.Common.{◌<◌, mul_comm}
+use Rattle.std.specs.Prelude.{◌/◌, ◌%◌, min, max, take, drop}
 use Rattle.std.proofs.Math.Nat.{div-add-mod, mod-lt, mul-div_cancel, mul-sub, suc-mul, zero-mul}
-use Rattle.std.proofs.lemmas.Bool.{cases_lt, ne_eqb}
-use Rattle.std.proofs.lemmas.List.Sums.{sum_by-cons}
+use Rattle.std.proofs.lemmas.Bool.{cases_lt}
 use Rattle.std.proofs.lemmas.Nat.{mul-le}
 use Rattle.bw_model.specs.Take.{Request, Block, Close, block_align}
 use Rattle.bw_plan.specs.Plans.{plan, pieces, field_requests, block_requests, mark_request}
 use Rattle.bw_plan.specs.Recordings.{block_frames, given_count, piece_count}
+use Rattle.bw_plan.proofs.PlanCounts.{count_fields}
 use Rattle.bw_plan.proofs.PlanLaws.{align_is_some}
 use Rattle.bw_progress.specs.CountedFrames.{SettledFramesAreCounted, frames_of_first}
 
@@ -114,23 +114,6 @@ enough_pieces size len some =
           ap (λ (k : ℕ). k * size) count in
           omega (arith, d, none, turn, bytes)
     ]
-
--- 1 for a value that is given
-abbrev one_if : Bool → ℕ
-one_if empty = cond (not empty) 1 0
-
--- a request for each value that is given
-count_fields : (tag : ℕ) (values : List (List ℕ)) → length (field_requests tag values) ≡ given_count values
-count_fields tag [] = refl
-count_fields tag ([] ∷ values) =
-    let step = sum_by-cons (λ (v : List ℕ). cond (not (length v == 0)) 1 0) [] values in
-    count_fields (suc tag) values ∙ omega (arith, step)
-count_fields tag ((c ∷ cs) ∷ values) =
-    let given : (length (c ∷ cs) == 0) ≡ false = ne_eqb (length (c ∷ cs)) 0 (λ e. omega (arith, e)) in
-    let one : one_if (length (c ∷ cs) == 0) ≡ one_if false = ap one_if given in
-    let step = sum_by-cons (λ (v : List ℕ). cond (not (length v == 0)) 1 0) (c ∷ cs) values in
-    let rest = count_fields (suc tag) values in
-    omega (arith, step, one, rest)
 
 some_of_most : (n : ℕ) → 1 ≤ max 1 n
 some_of_most n = omega arith

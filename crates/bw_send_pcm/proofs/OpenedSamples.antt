@@ -1,6 +1,6 @@
 -- A file that is opened for its samples.
 use Rattle.std.proofs.Common.{◌≡◌, ◌∙◌, ◌+◌, ◌-◌, ◌<◌, ◌≤◌, ◌⊎◌, ℕ, List, ◌++◌, Option, Some, None, Result, Ok, Err}
-use Rattle.std.proofs.Common.{ap, sym, refl, arith, length, drop, length-drop, append-nil, true, inl, inr}
+use Rattle.std.proofs.Common.{ap, sym, subst, refl, arith, length, drop, length-drop, append-nil, true, inl, inr}
 use Rattle.std.specs.Prelude.{◌^◌, IsTrue, option_map, slice_range}
 use Rattle.std.proofs.lemmas.Bool.{ltb-false}
 use Rattle.std.proofs.lemmas.List.Folds.{drop_split}
@@ -21,8 +21,26 @@ use Rattle.bw_plan.specs.declared.fault.RecordingKind.TheVariants.{Unread}
 use Rattle.bw_plan.specs.declared.pcm.Pcm.{Pcm}
 use Rattle.bw_plan.proofs.FaultLists.{none_hold}
 use Rattle.bw_plan.proofs.PcmRecordings.{pcm_comes, pcm_recordings_are_whole}
+use Rattle.bw_ports.specs.declared.recording_files.FileStamp.{FileStamp}
 use Rattle.bw_send_file.specs.FileFeeds.{AreToCome}
-use Rattle.bw_send_pcm.specs.PcmSendings.{FeedsSamples}
+use Rattle.bw_send_pcm.specs.PcmSendings.{FeedsSamples, IsStampOf}
+
+-- The file is looked at and then opened: the bytes and the length of its stamp are what was reported
+-- before.
+pub looked_at : (path : List ℕ) (files files' : List ℕ → Option (List ℕ)) (stamps stamps' : List ℕ → Option FileStamp)
+    (stamp : FileStamp) (b : List ℕ) → files' ≡ files → stamps' ≡ stamps →
+    ((now : FileStamp) → stamps' path ≡ Some now → stamp ≡ now) → files path ≡ Some b → IsStampOf (stamps path) b →
+    (files' path ≡ Some b) × (stamp.len ≡ length b)
+looked_at path files files' stamps stamps' stamp b same same_stamps reported at st = (
+  ap (λ (f : List ℕ → Option (List ℕ)). f path) same ∙ at,
+  ap (λ (s : FileStamp). s.len)
+      (reported st.0 (ap (λ (f : List ℕ → Option FileStamp). f path) same_stamps ∙ st.1)) ∙ st.2,
+)
+
+-- .. and so is the outline
+pub outlined_at : (b : List ℕ) (o : Options) (p : Pcm) (outline : Outline) (len : ℕ) → len ≡ length b →
+    pcm_outline_of o p len ≡ Ok outline → pcm_outline_of o p (length b) ≡ Ok outline
+outlined_at b o p outline len same is = subst (λ (n : ℕ). pcm_outline_of o p n ≡ Ok outline) same is
 
 -- the recording of the samples, with this outline
 abbrev pub samples_of : List ℕ → Pcm → Outline → Recording

@@ -1,5 +1,5 @@
 -- A server is asked, link after link.
-use Rattle.std.proofs.Common.{◌≡◌, ◌+◌, ◌∙◌, ℕ, suc, false, List, [], ◌++◌, Option, Some, None, Result, Ok, Err, IfSome, OnErr, OnOk, ap, sym, refl, arith, append_assoc, append-nil, subst}
+use Rattle.std.proofs.Common.{◌≡◌, ◌+◌, ℕ, suc, false, List, [], ◌++◌, Option, Some, None, Result, Ok, Err, IfSome, OnErr, OnOk, refl, arith, append-nil, subst}
 use Rattle.bw_stream.specs.Moves.{Begins, Writes}
 use Rattle.bw_stream.specs.declared.sink.Sink.{Ghosts as Writer}
 use Rattle.bw_stream.specs.declared.source.Source.{Ghosts as Reader}
@@ -13,33 +13,11 @@ use Rattle.bw_send_state.specs.declared.asking.NotAsked.{NotAsked}
 use Rattle.bw_send_state.specs.declared.asking.NotAsked.TheVariants.{Fruitless, Memory}
 use Rattle.bw_send_state.specs.Asks.{AnswersAsk, AnswersAskOver, AsksInVain, AsksServer, DialsToAsk, HasAnswered, IsAskAnswered, WaitsToAsk}
 
--- more may come after a text of which a prefix was written
-pub begins_more : (old new : Option (List ℕ)) (a b : List ℕ) → Begins old a new → Begins old (a ++ b) new
-begins_more old new a b h = λ xs is.
-    let p = h xs is in
-    record {
-      part = p.part;
-      rest = p.rest ++ b;
-      whole = sym (append_assoc p.part p.rest b) ∙ ap (λ (z : List ℕ). z ++ b) p.whole;
-      stands = p.stands;
-    }
-
 pub written_begins : (old new : Option (List ℕ)) (a b : List ℕ) → Writes old a new → Begins old (a ++ b) new
 written_begins old new a b h = λ xs is. record { part = a; rest = b; whole = refl; stands = h xs is }
 
 pub written_whole : (old new : Option (List ℕ)) (a : List ℕ) → Writes old a new → Begins old a new
 written_whole old new a h = λ xs is. record { part = a; rest = []; whole = append-nil a; stands = h xs is }
-
-pub writes_begins : (old mid new : Option (List ℕ)) (a b : List ℕ) → Writes old a mid → Begins mid b new →
-    Begins old (a ++ b) new
-writes_begins old mid new a b h k = λ xs is.
-    let p = k (xs ++ a) (h xs is) in
-    record {
-      part = a ++ p.part;
-      rest = p.rest;
-      whole = append_assoc a p.part p.rest ∙ ap (λ (z : List ℕ). a ++ z) p.whole;
-      stands = p.stands ∙ ap (λ (z : List ℕ). Some z) (append_assoc xs a p.part);
-    }
 
 -- a text was written, or a prefix of it
 pub begun_by : {E : Type 0} (r : Result (Unit {0}) E) (old new : Option (List ℕ)) (a : List ℕ) →

@@ -1,14 +1,16 @@
 -- A command with a state ends before anything was sent.
-use Rattle.std.proofs.Common.{◌≡◌, ◌⊎◌, ℕ, Bool, true, false, inl, inr}
-use Rattle.bw_console.specs.Printing.{failures_if}
+use Rattle.std.proofs.Common.{◌≡◌, ◌⊎◌, ℕ, Bool, true, false, refl, inl, inr}
+use Rattle.bw_console.specs.Printing.{Print, Nothing, failures_if}
+use Rattle.bw_console.specs.declared.exit.Exit.{Exit}
 use Rattle.bw_stream.specs.Moves.{one_more}
 use Rattle.bw_ports.specs.declared.recording_files.FileStamp.{FileStamp}
 use Rattle.std.proofs.Common.{Option}
 use Rattle.bw_plan.specs.Recordings.{Options}
 use Rattle.bw_recorder.specs.Packs.{Packing}
+use Rattle.bw_recorder.proofs.PackSteps.{refusal}
 use Rattle.bw_upload.specs.declared.feed.Feed.{Ghosts as FeedGhosts}
 use Rattle.bw_send_file.specs.declared.fault.FeedFault.{FeedFault}
-use Rattle.bw_send_state.specs.FilesSentOn.{GivesNoHeader, IsSilent, KnownFile}
+use Rattle.bw_send_state.specs.FilesSentOn.{Continuation, GivesNoHeader, IsSilent, IsUnsent, KnownFile}
 use Rattle.bw_send_state.specs.declared.job.Job.{Job}
 
 -- a call failed, or this is so
@@ -22,3 +24,17 @@ pub silent_of : {F : Type 0} (feed : FeedGhosts F FeedFault) (looks_at : Option 
     (o : Options) (file : KnownFile) (did : Packing) → GivesNoHeader feed looks_at job o file did → IsSilent did
 silent_of feed looks_at job o file did (inl x) = record { warned = x.warned; prints = x.prints }
 silent_of feed looks_at job o file did (inr x) = x.silent
+
+-- the command ended with this report, and nothing was sent
+abbrev pub ended_with : Bool → Print → Exit → Print → Continuation
+ended_with well began exit print = record {
+  is_state_well = well;
+  began = began;
+  sent = refusal exit print;
+  unkept = Nothing;
+  exit = exit;
+}
+
+pub sends_nothing : (well : Bool) (began : Print) (exit : Exit) (print : Print) → IsUnsent (ended_with well began exit print)
+sends_nothing well began exit print =
+    record { silent = record { warned = refl; prints = refl }; keeps = refl; exit_is = refl }

@@ -1,9 +1,9 @@
-use Rattle.std.proofs.Common.{rules, ◌≡◌, ◌∙◌, ◌<◌, ℕ, List, Option, Some, Ok, ap, sym, subst, length}
+use Rattle.std.proofs.Common.{rules, ◌∙◌, ◌<◌, ℕ, List, Option, ap, sym, subst, length}
 use Rattle.std.specs.Prelude.{◌^◌}
 use Rattle.bw_plan.specs.Recordings.{block_frames}
-use Rattle.bw_plan.specs.PcmRecordings.{PcmFaultOf, pcm_outline_of}
+use Rattle.bw_plan.specs.PcmRecordings.{PcmFaultOf}
 use Rattle.bw_ports.specs.declared.recording_files.FileStamp.{FileStamp}
-use Rattle.bw_send_pcm.proofs.OpenedSamples.{samples_opened, samples_there}
+use Rattle.bw_send_pcm.proofs.OpenedSamples.{looked_at, outlined_at, samples_opened, samples_there}
 use Rattle.bw_send_pcm.proofs.finished.open_samples.Goals as goal
 
 pub returns-in-Ok-begin-clause-opens : goal.returns-in-Ok-begin-clause-opens
@@ -11,19 +11,13 @@ returns-in-Ok-begin-clause-opens g c =
     let path : List ℕ = c.args.path.now in
     let o = c.args.options.now in (
       (λ b e st.
-          let same : g.F.RecordingFiles.file_at c.stamp.new.self path ≡ Some b =
-          ap (λ (f : List ℕ → Option (List ℕ)). f path) (c.in-Ok-stamp.ensures.files ∙ c.in-Ok.ensures.files) ∙ e in
-          let stamp : c.in-Ok-stamp.stamp ≡ st.0 =
-          c.in-Ok-stamp.ensures.ok st.0
-          (ap (λ (f : List ℕ → Option FileStamp). f path) c.in-Ok.ensures.stamps ∙ st.1) in
-          let len : c.in-Ok-stamp.stamp.len ≡ length b = ap (λ (s : FileStamp). s.len) stamp ∙ st.2 in
-          let outlined : pcm_outline_of o c.args.pcm (length b) ≡ Ok c.in-Ok-outline.outline =
-          subst (λ (n : ℕ). pcm_outline_of o c.args.pcm n ≡ Ok c.in-Ok-outline.outline) len c.in-Ok-outline.ensures.ok in
+          let at = looked_at path _ _ _ _ c.in-Ok-stamp.stamp b (c.in-Ok-stamp.ensures.files ∙ c.in-Ok.ensures.files)
+          c.in-Ok.ensures.stamps c.in-Ok-stamp.ensures.ok e st in
           samples_opened b o c.args.pcm c.in-Ok-outline.outline c.block_frames-frames.result c.in-Ok-begin.plan _ _
-          c.requires.allowed outlined
+          c.requires.allowed (outlined_at b o c.args.pcm c.in-Ok-outline.outline _ at.1 c.in-Ok-outline.ensures.ok)
           (c.block_frames-frames.ensures.value ∙ ap (block_frames o) c.format.ensures)
           c.in-Ok-begin.ensures.plan c.in-Ok-begin.ensures.place
-          (c.in-Ok-begin.ensures.stands b (c.in-Ok-open.ensures.ok b same)) c.in-Ok-begin.ensures.end
+          (c.in-Ok-begin.ensures.stands b (c.in-Ok-open.ensures.ok b at.0)) c.in-Ok-begin.ensures.end
           c.in-Ok-begin.ensures.sound c.new.ensures.left),
       c.new.ensures.looks _ (record {
         again_is = c.in-Ok.ensures.ok;
@@ -34,17 +28,11 @@ returns-in-Ok-begin-clause-opens g c =
 
 pub returns-in-Err-begin-clause-opens : goal.returns-in-Err-begin-clause-opens
 returns-in-Err-begin-clause-opens g c = λ b e st.
-    let path : List ℕ = c.args.path.now in
     let o = c.args.options.now in
-    let same : g.F.RecordingFiles.file_at c.stamp.new.self path ≡ Some b =
-    ap (λ (f : List ℕ → Option (List ℕ)). f path) (c.in-Ok-stamp.ensures.files ∙ c.in-Ok.ensures.files) ∙ e in
-    let stamp : c.in-Ok-stamp.stamp ≡ st.0 =
-    c.in-Ok-stamp.ensures.ok st.0
-    (ap (λ (f : List ℕ → Option FileStamp). f path) c.in-Ok.ensures.stamps ∙ st.1) in
-    let len : c.in-Ok-stamp.stamp.len ≡ length b = ap (λ (s : FileStamp). s.len) stamp ∙ st.2 in
-    let outlined : pcm_outline_of o c.args.pcm (length b) ≡ Ok c.in-Ok-outline.outline =
-    subst (λ (n : ℕ). pcm_outline_of o c.args.pcm n ≡ Ok c.in-Ok-outline.outline) len c.in-Ok-outline.ensures.ok in
+    let at = looked_at c.args.path.now _ _ _ _ c.in-Ok-stamp.stamp b
+    (c.in-Ok-stamp.ensures.files ∙ c.in-Ok.ensures.files) c.in-Ok.ensures.stamps c.in-Ok-stamp.ensures.ok e st in
     let few : c.in-Ok-stamp.stamp.len < 2 ^ 64 = search rules in
     subst (PcmFaultOf o c.args.pcm (length b)) (sym c.unread.ensures)
-    (samples_there b o c.args.pcm c.in-Ok-outline.outline c.in-Err-begin.fault _ c.requires.allowed outlined
-    (subst (λ (n : ℕ). n < 2 ^ 64) len few) (c.in-Ok-open.ensures.ok b same) c.in-Err-begin.ensures.cut)
+    (samples_there b o c.args.pcm c.in-Ok-outline.outline c.in-Err-begin.fault _ c.requires.allowed
+    (outlined_at b o c.args.pcm c.in-Ok-outline.outline _ at.1 c.in-Ok-outline.ensures.ok)
+    (subst (λ (n : ℕ). n < 2 ^ 64) at.1 few) (c.in-Ok-open.ensures.ok b at.0) c.in-Err-begin.ensures.cut)

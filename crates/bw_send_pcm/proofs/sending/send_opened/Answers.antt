@@ -1,18 +1,13 @@
-use Rattle.std.proofs.Common.{true, refl, sym}
+use Rattle.std.proofs.Common.{refl, sym}
 use Rattle.bw_console.specs.Printing.{Nothing}
 use Rattle.bw_recorder.proofs.PackSteps.{unopened}
+use Rattle.bw_send_file.proofs.SentSo.{sent_so}
 use Rattle.bw_send_pcm.proofs.sending.send_opened.Goals as goal
 
 pub returns-in-Ok : goal.returns-in-Ok
 returns-in-Ok g c =
     let s = c.send_feed.ensures in (
-      record {
-        is_system_well = true;
-        warned = Nothing;
-        out = s.0.out;
-        faults = s.0.faults;
-        exit = c.send_feed.result;
-      },
+      sent_so Nothing s.0 c.send_feed.result,
       refl,
       rw c.in-Ok.is refl,
       rw c.in-Ok.is (record {

@@ -1,6 +1,7 @@
 use Rattle.bw_wire.specs.Replies.{reply_of}
 use Rattle.bw_send_state.specs.Asks.{bye_frame}
-use Rattle.bw_send_state.proofs.AskSteps.{begins_more, begun_by, writes_begins, written_begins}
+use Rattle.bw_engine.proofs.Beginnings.{begins-after, begins-before}
+use Rattle.bw_send_state.proofs.AskSteps.{begun_by, written_begins}
 use Rattle.bw_send_state.proofs.ReadSteps.{if_some}
 use Rattle.bw_send_state.proofs.asking.ask_over.Goals as goal
 
@@ -9,7 +10,7 @@ returns-clause-answer g c = if_some c.next_in.result _ _ c.next_in.ensures (λ n
 
 pub returns-in-Err-clause-writes : goal.returns-in-Err-clause-writes
 returns-in-Err-clause-writes g c =
-    (c.write_all.new.writer, begins_more _ _ c.args.frame.now bye_frame c.in-Err.ensures.err)
+    (c.write_all.new.writer, begins-before _ _ c.args.frame.now bye_frame c.in-Err.ensures.err)
 
 pub returns-in_err-reply-clause-writes : goal.returns-in_err-reply-clause-writes
 returns-in_err-reply-clause-writes g c =
@@ -18,6 +19,6 @@ returns-in_err-reply-clause-writes g c =
 pub returns-clause-writes : goal.returns-clause-writes
 returns-clause-writes g c = (
   c.write_all-2.new.writer,
-  writes_begins _ _ _ c.args.frame.now bye_frame c.in-Ok.ensures.ok
+  begins-after _ _ _ c.args.frame.now bye_frame c.in-Ok.ensures.ok
       (begun_by c.write_all-2.result _ _ bye_frame c.write_all-2.ensures.ok c.write_all-2.ensures.err),
 )

@@ -2,9 +2,8 @@ use Rattle.std.proofs.Common.{◌∙◌, Bool, List, ℕ, ap, inl, inr, refl, su
 use Rattle.std.proofs.lemmas.Result.{err_from_is_err_and}
 use Rattle.std.specs.IoError.{error_kind}
 use Rattle.bw_console.specs.Printing.{IsPrint, Nothing, failures_if}
-use Rattle.bw_recorder.proofs.PackSteps.{refusal}
 use Rattle.bw_send_state.specs.FoundCounts.{IsStateFound}
-use Rattle.bw_send_state.proofs.BeginSteps.{silent_of, well_of}
+use Rattle.bw_send_state.proofs.BeginSteps.{ended_with, sends_nothing, silent_of, well_of}
 use Rattle.bw_send_state.proofs.beginning.begin.Goals as goal
 
 pub returns-in_err-header-clause-err : goal.returns-in_err-header-clause-err
@@ -31,17 +30,11 @@ pub returns-in-Err-clause-err : goal.returns-in-Err-clause-err
 returns-in-Err-clause-err g c =
     let r = c.report_unkept.ensures in
     let w = well_of _ _ _ c.in-Err.ensures.err in (
-      record {
-        is_state_well = w.0;
-        began = Nothing;
-        sent = refusal c.report_unkept.result r.0;
-        unkept = Nothing;
-        exit = c.report_unkept.result;
-      },
+      ended_with w.0 Nothing c.report_unkept.result r.0,
       refl,
       inl (
         record {
-          unsent = record { silent = record { warned = refl; prints = refl }; keeps = refl; exit_is = refl };
+          unsent = sends_nothing w.0 Nothing c.report_unkept.result r.0;
           unbegun = record { states = c.in-Err.ensures.kept; began = refl };
           unasked = refl;
         },
@@ -83,16 +76,10 @@ returns-clause-err g c =
     let r = c.report_unkept-in-Err-open_log.ensures in
     let s = c.in_ok-count.ensures.ok in
     let w = well_of _ _ _ c.in-Err-open_log.ensures.err in (
-      record {
-        is_state_well = w.0;
-        began = s.0;
-        sent = refusal c.report_unkept-in-Err-open_log.result r.0;
-        unkept = Nothing;
-        exit = c.report_unkept-in-Err-open_log.result;
-      },
+      ended_with w.0 s.0 c.report_unkept-in-Err-open_log.result r.0,
       refl,
       inr (record {
-        unsent = record { silent = record { warned = refl; prints = refl }; keeps = refl; exit_is = refl };
+        unsent = sends_nothing w.0 s.0 c.report_unkept-in-Err-open_log.result r.0;
         header = c.in_ok-header.header.text.items;
         found = c.in-Ok.found;
         knows = record {

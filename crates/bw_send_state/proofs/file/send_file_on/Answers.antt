@@ -1,25 +1,20 @@
 use Rattle.std.proofs.Common.{◌∙◌, ℕ, List, Option, ap, inl, inr, refl, subst, sym, true}
 use Rattle.bw_console.specs.Printing.{Nothing, failures_if}
 use Rattle.bw_console.specs.declared.exit.Exit.{Exit}
-use Rattle.bw_recorder.proofs.PackSteps.{refusal, refused}
+use Rattle.bw_recorder.proofs.PackSteps.{refused}
 use Rattle.bw_send_state.specs.FilesSentOn.{EndsKept}
+use Rattle.bw_send_state.proofs.BeginSteps.{ended_with, sends_nothing}
 use Rattle.bw_send_state.proofs.StateSteps.{continued, count_is, ends_kept, kept_done, resumes, sends_same, unsent_before}
 use Rattle.bw_send_state.proofs.file.send_file_on.Goals as goal
 
 pub returns-in-Err : goal.returns-in-Err
 returns-in-Err g c =
     let r = c.refuse_options.ensures in (
-      record {
-        is_state_well = true;
-        began = Nothing;
-        sent = refusal c.refuse_options.result r.0;
-        unkept = Nothing;
-        exit = c.refuse_options.result;
-      },
+      ended_with true Nothing c.refuse_options.result r.0,
       refl,
       inl (
         record {
-          unsent = record { silent = record { warned = refl; prints = refl }; keeps = refl; exit_is = refl };
+          unsent = sends_nothing true Nothing c.refuse_options.result r.0;
           unbegun = record { states = refl; began = refl };
           unasked = refl;
         },

@@ -1,12 +1,15 @@
 use Rattle.std.proofs.Common.{◌∙◌, List, ℕ, inl, inr, refl, sym, subst, true}
+use Rattle.std.specs.Prelude.{codes}
 use Rattle.bw_console.specs.Printing.{Nothing}
 use Rattle.bw_plan.specs.Plans.{plan}
 use Rattle.bw_plan.specs.Recordings.{block_frames}
 use Rattle.bw_recorder.specs.Packs.{IsReportedText}
-use Rattle.bw_recorder.proofs.PackSteps.{not_opened, unopened}
+use Rattle.bw_recorder.proofs.PackSteps.{not_opened}
+use Rattle.bw_send_file.proofs.Reported.{reports_unopened}
 use Rattle.bw_send_file.specs.declared.fault.FeedFault.TheVariants.{Changed}
 use Rattle.bw_send_state.specs.SentOn.{stored_sender}
-use Rattle.bw_send_state.proofs.RestSteps.{rest_sent}
+use Rattle.bw_send_file.proofs.SentSo.{sent_so}
+use Rattle.bw_send_state.proofs.RestSteps.{fails_to_pass, rest_sent}
 use Rattle.bw_send_state.proofs.SkipSteps.{not_passed, passed}
 use Rattle.bw_send_state.proofs.rest.send_rest.Goals as goal
 
@@ -29,13 +32,7 @@ returns-in-Ok-true-clause-did g c =
     let p = passed _ _ _ _ _ _ _ c.in-Ok-true.field-0-test c.in-Ok-true.ensures.ok in
     let s = c.send_feed_after.ensures (stored_sender c.args.job.now.recorder.name.now p.0)
     (record { name_is = refl; offered = p.1.many; stored = refl; unclosed = p.1.unclosed }) in (
-      record {
-        is_system_well = true;
-        warned = w.0;
-        out = s.0.out;
-        faults = s.0.faults;
-        exit = c.send_feed_after.result;
-      },
+      sent_so w.0 s.0 c.send_feed_after.result,
       refl,
       inr (record {
         begun = c.in-Ok.opened.feed;
@@ -65,24 +62,13 @@ returns-in-Ok-false-clause-did g c =
     let r = c.report_file_fault.ensures in (
       record { is_system_well = true; warned = w.0; out = Nothing; faults = r.0; exit = c.report_file_fault.result },
       refl,
-      inr (record {
-        begun = c.in-Ok.opened.feed;
-        text = c.in-Ok.opened.warnings.items;
-        opens = record { looked = c.in-Ok.ensures.looked; right = c.in-Ok.ensures.ok };
-        warns = subst (λ (t : List ℕ). IsReportedText t w.0) c.as_slice.ensures.value w.1;
-        well = refl;
-        goes = inr (record {
-          unsent = refl;
-          prints = refl;
-          fault = Changed;
-          why = inr (
+      fails_to_pass _ _ _ _ _ c.in-Ok.opened.feed c.in-Ok.opened.warnings.items _ Changed c.report_file_fault.result w.0 r.0
+          (record { looked = c.in-Ok.ensures.looked; right = c.in-Ok.ensures.ok })
+          (subst (λ (t : List ℕ). IsReportedText t w.0) c.as_slice.ensures.value w.1) (inr (
             refl,
             λ now is. not_passed _ _ _ _ _ _ _ c.in-Ok-false.field-0-test
                 (c.in-Ok.ensures.looked.first_is now is ∙ sym (c.requires.stamp now is)) c.in-Ok-false.ensures.ok,
-          );
-          reports = r.1;
-        });
-      }),
+          )) r.1,
       c.in-Ok.ensures.count,
       record { between = c.warn.new.faults; warns = w.2; prints = refl; reports = r.2 },
     )
@@ -90,34 +76,21 @@ returns-in-Ok-false-clause-did g c =
 pub returns-clause-did : goal.returns-clause-did
 returns-clause-did g c =
     let w = c.warn.ensures in
+    let exit = c.report_file_fault-in-Err-pass_over.result in
     let r = c.report_file_fault-in-Err-pass_over.ensures in (
-      record { is_system_well = true; warned = w.0; out = Nothing; faults = r.0; exit = c.report_file_fault-in-Err-pass_over.result },
+      record { is_system_well = true; warned = w.0; out = Nothing; faults = r.0; exit = exit },
       refl,
-      inr (record {
-        begun = c.in-Ok.opened.feed;
-        text = c.in-Ok.opened.warnings.items;
-        opens = record { looked = c.in-Ok.ensures.looked; right = c.in-Ok.ensures.ok };
-        warns = subst (λ (t : List ℕ). IsReportedText t w.0) c.as_slice.ensures.value w.1;
-        well = refl;
-        goes = inr (record {
-          unsent = refl;
-          prints = refl;
-          fault = c.in-Err-pass_over.fault;
-          why = inl c.in-Err-pass_over.ensures.err;
-          reports = r.1;
-        });
-      }),
+      fails_to_pass _ _ _ _ _ c.in-Ok.opened.feed c.in-Ok.opened.warnings.items _ c.in-Err-pass_over.fault exit w.0 r.0
+          (record { looked = c.in-Ok.ensures.looked; right = c.in-Ok.ensures.ok })
+          (subst (λ (t : List ℕ). IsReportedText t w.0) c.as_slice.ensures.value w.1)
+          (inl c.in-Err-pass_over.ensures.err) r.1,
       c.in-Ok.ensures.count,
       record { between = c.warn.new.faults; warns = w.2; prints = refl; reports = r.2 },
     )
 
 pub returns-in-Err-clause-did : goal.returns-in-Err-clause-did
 returns-in-Err-clause-did g c =
-    let r = c.report_open_fault.ensures in
-    let fault = c.in-Err.fault in (
-      unopened fault c.report_open_fault.result r.0,
-      refl,
-      inl (not_opened _ _ _ _ fault _ r.0 c.in-Err.ensures.err r.1, refl),
-      c.in-Err.ensures.count,
-      record { between = c.args.faults.now; warns = refl; prints = refl; reports = r.2 },
-    )
+    let fault = c.in-Err.fault in
+    reports_unopened _ _ _ (codes "send") _ fault c.report_open_fault.result _ _ _ _ _
+    (λ print r. inl (not_opened _ _ _ _ fault _ print c.in-Err.ensures.err r, refl)) c.in-Err.ensures.count
+    c.report_open_fault.ensures
