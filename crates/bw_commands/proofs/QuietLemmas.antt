@@ -1,35 +1,25 @@
 -- Runs and rehearsals in which no store call failed leave nothing pending.
 use Rattle.std.proofs.Common.{◌≡◌, ◌∙◌, ℕ, ◌<◌, ◌≤◌, Bool, true, false, List, [], ◌∷◌, Option, Some, None, refl}
-use Rattle.std.proofs.Common.{sym, ap, subst, arith, nat_lt}
+use Rattle.std.proofs.Common.{sym, ap, subst, arith}
 use Rattle.std.specs.Prelude.{slice_get}
 use Rattle.std.specs.Option.{option_map_or}
 use Rattle.std.specs.Str.{bytes_eq}
-use Rattle.std.proofs.lemmas.Bool.{ltb-true, ltb-false}
 use Rattle.bw_model.specs.Counts.{Counts, last_count}
-use Rattle.bw_model.specs.Take.{Request}
 use Rattle.bw_model.specs.Wire.{Message, Frame, Says, Asks, Bye}
-use Rattle.bw_model.specs.Replies.{Reply}
 use Rattle.bw_model.specs.Book.{Log, Book, log_of, with_log}
 use Rattle.bw_model.specs.CountedTurn.{is_pending, stops_short, log_after_frame}
 use Rattle.bw_model.specs.Turn.{Faults, turn, with_change}
 use Rattle.bw_model.specs.Exchange.{nothing_stands}
-use Rattle.bw_model.specs.World.{World, Event, Offer, Send, Deliver, Bring, Ask, Foreign, send, deliver}
-use Rattle.bw_model.specs.World.{bring, pending, happens, world_after}
+use Rattle.bw_model.specs.World.{World, Event, Offer, Send, Deliver, Bring, Ask, Foreign, deliver}
+use Rattle.bw_model.specs.World.{pending, happens, world_after}
 use Rattle.bw_model.proofs.BookLemmas.{same_name, log-with_log_same, log-with_log_other}
 use Rattle.bw_rehearsal.specs.FaultRuns.{AreFaultsOf, AreFaultsOfDelivery, AreFaultsOfRuns}
+use Rattle.bw_rehearsal.proofs.FaultLaws.{counted_up, event_up, schedule_up}
+use Rattle.bw_rehearsal.proofs.Staging.{sent_book, brought_book}
 use Rattle.bw_exchange.specs.Answering.{Answered}
 use Rattle.bw_exchange.specs.TurnRuns.{IsRun}
 
 -- Counts.
-
--- a count never falls
-pub never_falls : (a b : ℕ) (x : Bool) → Counts a b x → a ≤ b
-never_falls a b false h = let same = h.quiet refl in omega (arith, same)
-never_falls a b true h = go (nat_lt a last_count) refl
-  where
-    go : (below : Bool) → nat_lt a last_count ≡ below → a ≤ b
-    go true e = let more = h.rises refl (ltb-true a last_count e) in omega (arith, more)
-    go false e = let same = h.stays (ltb-false a last_count e) in omega (arith, same)
 
 -- at 0 nothing was counted
 not_counted : (a b : ℕ) (x : Bool) → Counts a b x → a ≤ 0 → b ≤ 0 → x ≡ false
@@ -43,28 +33,8 @@ pub run_rises : (existed : List ℕ → Bool) (before after : ℕ) (book : Book)
     IsRun existed before after book answered later → before ≤ after
 run_rises existed before after book [] later h = let same = h.0 in omega (arith, same)
 run_rises existed before after book (a ∷ rest) later h =
-    let one = never_falls before h.0 _ h.2.count in
+    let one = counted_up before h.0 _ h.2.count in
     let more = run_rises existed h.0 after h.1 rest later h.3 in
-    omega (arith, one, more)
-
-delivered_rises : (before after : ℕ) (w : World) (o : Option Message) (faults : Faults) →
-    AreFaultsOfDelivery before after w.book o faults → before ≤ after
-delivered_rises before after w None faults h = let e = h.count in omega (arith, e)
-delivered_rises before after w (Some m) faults h = never_falls before after _ h.count
-
-event_rises : (before after : ℕ) (w : World) (e : Event) (faults : Faults) → AreFaultsOf before after w e faults → before ≤ after
-event_rises before after w (Offer r) faults h = let e = h.count in omega (arith, e)
-event_rises before after w (Send i) faults h = let e = h.count in omega (arith, e)
-event_rises before after w (Deliver k) faults h = delivered_rises before after w (slice_get w.sent k) faults h
-event_rises before after w (Bring k) faults h = let e = h.count in omega (arith, e)
-event_rises before after w Ask faults h = let e = h.count in omega (arith, e)
-event_rises before after w (Foreign f) faults h = absurd h
-
-faults_rise : (before after : ℕ) (w : World) (es : List (Event × Faults)) → AreFaultsOfRuns before after w es → before ≤ after
-faults_rise before after w [] h = omega (arith, h)
-faults_rise before after w (e ∷ es) h =
-    let one = event_rises before h.0 w e.0 e.1 h.1 in
-    let more = faults_rise h.0 after (happens nothing_stands w e.0 e.1) es h.2 in
     omega (arith, one, more)
 
 -- Books.
@@ -97,21 +67,13 @@ pub quiet_run : (existed : List ℕ → Bool) (before after : ℕ) (book : Book)
     IsRun existed before after book answered later → after ≤ 0 → NonePends book → NonePends later
 quiet_run existed before after book [] later h zero none = subst NonePends (sym h.1) none
 quiet_run existed before after book (a ∷ rest) later h zero none =
-    let one = never_falls before h.0 _ h.2.count in
+    let one = counted_up before h.0 _ h.2.count in
     let more = run_rises existed h.0 after h.1 rest later h.3 in
     let mid : h.0 ≤ 0 = omega (arith, more, zero) in
     let first : before ≤ 0 = omega (arith, one, mid) in
     quiet_run existed h.0 after h.1 rest later h.3 zero
     (subst NonePends h.2.left (quiet_turn existed book a.frame h.2.faults none
     (not_counted before h.0 _ h.2.count first mid)))
-
-sent_book : (w : World) (p : Option (ℕ × Request)) → (send w p).book ≡ w.book
-sent_book w None = refl
-sent_book w (Some p) = refl
-
-brought_book : (w : World) (r : Option Reply) → (bring w r).book ≡ w.book
-brought_book w None = refl
-brought_book w (Some r) = refl
 
 quiet_delivery : (before after : ℕ) (w : World) (o : Option Message) (faults : Faults) →
     AreFaultsOfDelivery before after w.book o faults → before ≤ 0 → after ≤ 0 → NonePends w.book →
@@ -138,8 +100,8 @@ pub quiet_world : (before after : ℕ) (w : World) (es : List (Event × Faults))
     after ≤ 0 → NonePends w.book → NonePends (world_after nothing_stands w es).book
 quiet_world before after w [] h zero none = none
 quiet_world before after w (e ∷ es) h zero none =
-    let one = event_rises before h.0 w e.0 e.1 h.1 in
-    let more = faults_rise h.0 after (happens nothing_stands w e.0 e.1) es h.2 in
+    let one = event_up before h.0 w e.0 e.1 h.1 in
+    let more = schedule_up h.0 after (happens nothing_stands w e.0 e.1) es h.2 in
     let mid : h.0 ≤ 0 = omega (arith, more, zero) in
     let first : before ≤ 0 = omega (arith, one, mid) in
     quiet_world h.0 after (happens nothing_stands w e.0 e.1) es h.2 zero

@@ -40,7 +40,8 @@ use Rattle.bw_engine.specs.Ingesting.{AreServed, input_bytes}
 use Rattle.bw_engine.specs.ServerRuns.{all_done}
 use Rattle.bw_engine.specs.declared.ingest.Run.{Run}
 use Rattle.bw_exchange.specs.declared.serving.ExchangeEnd.{ExchangeEnd}
-use Rattle.bw_commands.proofs.QuietLemmas.{never_falls, run_rises, quiet_run}
+use Rattle.bw_rehearsal.proofs.FaultLaws.{counted_up}
+use Rattle.bw_commands.proofs.QuietLemmas.{run_rises, quiet_run}
 use Rattle.bw_exchange.proofs.GoodRuns.{GoesWell, good_run, in_order_well, turns_are_runs}
 use Rattle.bw_engine.proofs.GoodExchanges.{following, well_parts, replies_well}
 
@@ -145,7 +146,7 @@ none_delayed : (existed : List ℕ → Bool) (before after : ℕ) (book : Book) 
     IsRun' existed before after book answered later → after ≡ 0 → list_any is_delayed (replies_of answered) ≡ false
 none_delayed existed before after book [] later h none = refl
 none_delayed existed before after book (a ∷ rest) later h none =
-    let one = never_falls before h.0 _ h.2.count in
+    let one = counted_up before h.0 _ h.2.count in
     let more = run_rises existed h.0 after h.1 rest later h.3 in
     list_any-append is_delayed a.replies (replies_of rest)
     ∙ (ap (λ (b : Bool). b || list_any is_delayed (replies_of rest))

@@ -1,6 +1,6 @@
--- What a rehearsal's command reads and writes, and how it ends.
+-- The text of a rehearsal, and what refuses its input.
 use Rattle.std.specs.Prelude.{◌≡◌, ◌⊎◌, ◌<◌, ◌≤◌, ℕ, Option, false, true, List, ◌++◌, length, map}
-use Rattle.std.specs.Prelude.{Result, Ok, Err, codes, decimal}
+use Rattle.std.specs.Prelude.{codes, decimal}
 use Rattle.bw_model.specs.Book.{log_of}
 use Rattle.bw_model.specs.CountedTurn.{is_pending}
 use Rattle.bw_model.specs.Turn.{Faults}
@@ -8,7 +8,6 @@ use Rattle.bw_model.specs.Exchange.{nothing_stands, take_in, content_in}
 use Rattle.bw_model.specs.Holds.{Kept, Holds}
 use Rattle.bw_model.specs.World as model
 use Rattle.bw_store.specs.MemoryNames.{AreNames}
-use Rattle.bw_stream.specs.Readers.{Of}
 use Rattle.bw_session.specs.Books.{HoldsBook}
 use Rattle.bw_sender.specs.Senders.{IsSender}
 use Rattle.bw_rehearsal.specs.FaultRuns.{AreFaultsOfRuns}
@@ -17,8 +16,6 @@ use Rattle.bw_rehearsal.specs.declared.rehearsal.World.{World}
 use Rattle.bw_commands.specs.EventLines.{SayEvents, FirstOther}
 use Rattle.bw_console.specs.Input.{longest_input}
 use Rattle.bw_console.specs.Lines.{lines_of}
-use Rattle.bw_console.specs.Printing.{Print, Nothing, Whole, Part}
-use Rattle.bw_console.specs.Outcomes.{Outcome, ResultsIn}
 use Rattle.bw_console.specs.Text.{as_line}
 use Rattle.bw_commands.specs.Text.{files_text}
 use Rattle.bw_console.specs.declared.fault.Fault.{Fault}
@@ -84,13 +81,6 @@ pub record IsTextOfLines (name : List ℕ) (limit : ℕ) (input text : List ℕ)
   pub said : SayEvents (lines_of input) events
   pub right : IsWorldText name limit events text
 
--- the text of a world was to be printed
-pub record PrintsWorld (name : List ℕ) (limit : ℕ) (input : Option (List ℕ))
-    (printed : List ℕ → Print) (print : Print) : Type 0 where
-  pub text : List ℕ
-  pub is : print ≡ printed text
-  pub right : Of input (λ xs. IsTextOfLines name limit xs text)
-
 -- a fault that refuses is the one that the input has
 abbrev pub RefusesEvents : Fault → List ℕ → Type 0
 RefusesEvents faults.TooLong input = longest_input < length input
@@ -101,20 +91,3 @@ RefusesEvents (faults.NotRequest n) input = ⊥
 RefusesEvents faults.Unreadable input = Unit {0}
 RefusesEvents faults.Unwritable input = Unit {0}
 RefusesEvents faults.Memory input = Unit {0}
-
--- nothing is printed, and a fault that refuses is the one that the input has
-pub record RefusesWorld (input : Option (List ℕ)) (fault : Fault) (print : Print) : Type 0 where
-  pub is : print ≡ Nothing
-  pub right : Of input (λ xs. RefusesEvents fault xs)
-
--- what is printed of a rehearsal that results in this
-abbrev pub IsPrintOfWorld : List ℕ → ℕ → Option (List ℕ) → Result (Unit {0}) Fault → Print →
-    Type 0
-IsPrintOfWorld name limit input (Ok x) print = PrintsWorld name limit input Whole print
-IsPrintOfWorld name limit input (Err faults.Unwritable) print =
-    PrintsWorld name limit input Part print
-IsPrintOfWorld name limit input (Err fault) print = RefusesWorld input fault print
-
--- a rehearsal of this input did this
-abbrev pub IsRehearsal : List ℕ → ℕ → Option (List ℕ) → Outcome → Type 0
-IsRehearsal name limit input = ResultsIn (IsPrintOfWorld name limit input)

@@ -11,4 +11,6 @@ mod text;
 mod world_text;
 
 pub use inspection::{inspect_file, inspect_run};
-pub use rehearsal::rehearse_run;
+pub use rehearsal::text_of_rehearsal;
+pub use text::put_file;
+pub use world_text::{put_counts, put_progress_of};

@@ -70,8 +70,7 @@ fn put_exchange_line(
 {
     let name = end_name(end);
     let text = format!(in alloc; "exchange {index} {name}\n")?;
-    out.extend_from_slice(text.as_bytes())?;
-    Ok(())
+    out.extend_from_slice(text.as_bytes())
 }
 
 /// Adds a line for each reply whose frame these bytes have.
@@ -142,8 +141,16 @@ fn put_file_at(
 }
 
 /// Adds a file's name and length, and its bytes in hex.
+///
+/// # Errors
+/// `AllocError` if memory was refused: a prefix may have been added.
 #[tactic(auto, using(std::proofs::lemmas::List::append_assoc))]
-fn put_file(alloc: Global, out: &mut Vec<u8>, name: &Name, content: &[u8]) -> Result<(), AllocError>
+pub fn put_file(
+    alloc: Global,
+    out: &mut Vec<u8>,
+    name: &Name,
+    content: &[u8],
+) -> Result<(), AllocError>
     ensures { OnOk result (out.new.items ≡ out.old.items ++ file_text name.now content.now) }
 {
     let size = content.len();

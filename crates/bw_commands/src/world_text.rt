@@ -24,21 +24,27 @@ pub fn text_of_world(alloc: Global, name: &Name, world: &World) -> Result<Vec<u8
         (memory_content (server_store world.now.server))) }
 {
     let mut text = Vec::new(alloc);
-    put_counts(alloc, &mut text, world)?;
+    put_counts(alloc, &mut text, world.offered, world.sent, world.replies)?;
     put_progress(alloc, &mut text, name, world)?;
     put_files(alloc, &mut text, world.server.store())?;
     Ok(text)
 }
 
 /// Adds how many requests were offered, messages sent and replies written.
-fn put_counts(alloc: Global, out: &mut Vec<u8>, world: &World) -> Result<(), AllocError>
-    ensures { OnOk result (out.new.items ≡ out.old.items ++
-        world_counts_line world.now.offered world.now.sent world.now.replies) }
+///
+/// # Errors
+/// `AllocError` if memory was refused: a prefix may have been added.
+pub fn put_counts(
+    alloc: Global,
+    out: &mut Vec<u8>,
+    offered: u64,
+    sent: usize,
+    replies: usize,
+) -> Result<(), AllocError>
+    ensures { OnOk result (out.new.items ≡ out.old.items ++ world_counts_line offered sent replies) }
 {
-    let (offered, sent, replies) = (world.offered, world.sent, world.replies);
     let text = format!(in alloc; "offered {offered} sent {sent} replies {replies}\n")?;
-    out.extend_from_slice(text.as_bytes())?;
-    Ok(())
+    out.extend_from_slice(text.as_bytes())
 }
 
 /// Adds how far the server and the sender got.
@@ -63,7 +69,10 @@ fn put_progress(
 }
 
 /// Adds how many numbers are done, settled and stored.
-fn put_progress_of(
+///
+/// # Errors
+/// `AllocError` if memory was refused: a prefix may have been added.
+pub fn put_progress_of(
     alloc: Global,
     out: &mut Vec<u8>,
     done: u32,
@@ -73,6 +82,5 @@ fn put_progress_of(
     ensures { OnOk result (out.new.items ≡ out.old.items ++ world_progress_line done settled stored) }
 {
     let text = format!(in alloc; "done {done} settled {settled} stored {stored}\n")?;
-    out.extend_from_slice(text.as_bytes())?;
-    Ok(())
+    out.extend_from_slice(text.as_bytes())
 }

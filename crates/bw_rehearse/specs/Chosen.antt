@@ -1,15 +1,15 @@
 -- What the command `rehearse` reads and writes, with servers that stop and start or without.
 use Rattle.std.specs.Prelude.{◌≡◌, ℕ, Bool, true, false, Option, List, ◌≤◌, length, Result, Ok, Err}
 use Rattle.bw_stream.specs.Readers.{Of}
-use Rattle.bw_console.specs.Faults.{is_readable}
 use Rattle.bw_console.specs.Input.{longest_input}
 use Rattle.bw_console.specs.Lines.{FirstWithout, lines_of}
 use Rattle.bw_console.specs.Outcomes.{Outcome, ResultsIn}
 use Rattle.bw_console.specs.Printing.{Print, Nothing, Whole, Part}
 use Rattle.bw_console.specs.declared.fault.Fault.{Fault}
 use Rattle.bw_console.specs.declared.fault.Fault.TheVariants as faults
+use Rattle.bw_commands.specs.EventLines.{IsEventFault}
 use Rattle.bw_commands.specs.Rehearsals.{IsTextOfLines, RefusesEvents}
-use Rattle.bw_rehearse.specs.ServerLines.{SaysStopEvent, has_servers}
+use Rattle.bw_rehearse.specs.ServerLines.{IsStopEventFault, SaysStopEvent, has_servers}
 use Rattle.bw_rehearse.specs.StopTexts.{IsStopsTextOfLines}
 
 -- the text of an input, in which a line is of a server, or none is
@@ -24,14 +24,10 @@ RefusesIf true (faults.NotEvent n) input =
 RefusesIf true fault input = RefusesEvents fault input
 RefusesIf false fault input = RefusesEvents fault input
 
--- what is printed of a rehearsal in which servers stop, by an input that is read
-abbrev pub IsPrintOfStops : List ℕ → ℕ → List ℕ → Result (Unit {0}) Fault → Print → Type 0
-IsPrintOfStops name limit input (Ok x) print =
-    (text : List ℕ) × (print ≡ Whole text) × IsStopsTextOfLines name limit input text
-IsPrintOfStops name limit input (Err faults.Unwritable) print =
-    (text : List ℕ) × (print ≡ Part text) × IsStopsTextOfLines name limit input text
-IsPrintOfStops name limit input (Err fault) print =
-    (print ≡ Nothing) × RefusesIf true fault input × (is_readable fault ≡ true)
+-- lack of memory, or the first line of such an input that says no event
+abbrev pub IsFaultIf : Bool → Fault → List (List ℕ) → Type 0
+IsFaultIf true fault lines = IsStopEventFault fault lines
+IsFaultIf false fault lines = IsEventFault fault lines
 
 -- a text of the input was to be printed
 pub record PrintsChosen (name : List ℕ) (limit : ℕ) (input : Option (List ℕ))

@@ -1,27 +1,28 @@
 //! The command `rehearse`, by the events of its input.
-ghost use Rattle.std.specs.Prelude.{◌≡◌, ◌+◌, ◌≤◌, List, Some, true, length, IfOk, IfErr};
+ghost use Rattle.std.specs.Prelude.{◌≡◌, ◌+◌, ◌≤◌, Some, true, length, IfOk, IfErr};
 ghost use Rattle.bw_stream.specs.Readers.{Of};
 ghost use Rattle.bw_console.specs.Input.{IsReadAhead, longest_input};
+ghost use Rattle.bw_console.specs.Lines.{lines_of};
 ghost use Rattle.bw_console.specs.Outcomes.{HasWritten, Outcome};
-ghost use Rattle.bw_console.specs.Printing.{IsPrint, Print, failures_if};
-ghost use Rattle.bw_rehearse.specs.Chosen.{IsChosenRehearsal, IsPrintOfStops};
-ghost use Rattle.bw_rehearse.specs.ServerLines.{SayStopEvents, has_servers};
-ghost use Rattle.bw_rehearse.specs.StopTexts.{IsStopsText};
+ghost use Rattle.bw_console.specs.Printing.{failures_if};
+ghost use Rattle.bw_rehearse.specs.Chosen.{IsChosenRehearsal, IsFaultIf, IsTextIf};
+ghost use Rattle.bw_rehearse.specs.ServerLines.{IsStopEventFault, has_servers};
+ghost use Rattle.bw_rehearse.specs.StopTexts.{IsStopsText, IsStopsTextOfLines};
 
 use crate::events::{has_server_line, stop_events};
 use crate::text::text_of_stops;
-use bw_commands::rehearse_run;
-use bw_console::print::{give_up, print};
+use bw_commands::text_of_rehearsal;
+use bw_console::print::{give_up, print_text};
 use bw_console::{Exit, Fault, all_bytes};
 use bw_layout::Limit;
 use bw_request::Name;
 use bw_stops::{StopEvent, rehearse_stops};
-use bw_stream::{MemorySource, Sink, Source};
+use bw_stream::{Sink, Source};
 use std::alloc::Global;
 
-/// Plays the events that the lines of the input say, and writes the outcome as text: by `rehearse_run`
-/// if no line begins with `start` or `stop`; else with servers that stop and start, of which none runs
-/// at first, over a folder in memory.
+/// Plays the events that the lines of the input say, and writes the outcome as text: by
+/// `text_of_rehearsal` if no line begins with `start` or `stop`; else with servers that stop and
+/// start, of which none runs at first, over a folder in memory.
 ///
 /// A fault's line goes to `faults`; a failure to write it is ignored. Of the input at most
 /// 16,777,217 bytes are read.
@@ -32,8 +33,11 @@ use std::alloc::Global;
 ///
 /// # Not specified
 /// - When memory is refused.
-/// - In which call of a turn a server stops that starts with `start store K` or `start journal K`.
-/// - What `rehearse_run` leaves open.
+/// - Whether a server stops in a turn, and in which call of it: so also that none does that starts
+///   with `start`, and that one stops in the call of its number that starts with `start store K` or
+///   `start journal K`.
+/// - What `text_of_rehearsal` leaves open.
+/// - Of a reader that doesn't report its bytes: what is refused, and what the text is of.
 pub fn rehearse_with_stops_run<R: Source, W: Sink, E: Sink>(
     alloc: Global,
     name: Name,
@@ -69,45 +73,41 @@ fn rehearse_bytes<W: Sink, E: Sink>(
         × (did.reads_all ≡ true)
         × HasWritten W.Sink E.Sink did out.old out.new faults.old faults.new }
 {
-    if !has_server_line(input) {
-        return rehearse_run(
-            alloc,
-            name,
-            limit,
-            &mut MemorySource::new(input),
-            out,
-            faults,
-        );
-    }
-    match play_stops(alloc, name, limit, input, out) {
-        Ok(()) => Exit::Done,
+    match text_of_bytes(alloc, name, limit, input) {
+        Ok(text) => print_text(text.as_slice(), out, faults),
         Err(fault) => give_up(faults, &fault),
     }
 }
 
-/// Plays the events that the lines of an input say, with servers that stop and start, and writes the
-/// outcome as text.
-fn play_stops<W: Sink>(
-    alloc: Global,
-    name: Name,
-    limit: Limit,
-    input: &[u8],
-    out: &mut W,
-) -> Result<(), Fault>
+/// The outcome as text of the events that the lines of an input say.
+///
+/// # Errors
+/// `NotEvent` for the first line that is no event; `Memory` if memory was refused.
+fn text_of_bytes(alloc: Global, name: Name, limit: Limit, input: &[u8]) -> Result<Vec<u8>, Fault>
     requires { length input.now ≤ longest_input }
-    ensures prints { (print : Print) × IsPrintOfStops name limit input.now result print
-        × IsPrint W.Sink print out.old out.new }
+    ensures ok { IfOk result (λ text.
+        IsTextIf (has_servers input.now) name limit input.now text.items) }
+    ensures err { IfErr result (λ fault.
+        IsFaultIf (has_servers input.now) fault (lines_of input.now)) }
+{
+    if has_server_line(input) {
+        return stops_text(alloc, name, limit, input);
+    }
+    text_of_rehearsal(alloc, name, limit, input)
+}
+
+/// The same of an input in which a line is of a server.
+fn stops_text(alloc: Global, name: Name, limit: Limit, input: &[u8]) -> Result<Vec<u8>, Fault>
+    requires { length input.now ≤ longest_input }
+    ensures ok { IfOk result (λ text. IsStopsTextOfLines name limit input.now text.items) }
+    ensures err { IfErr result (λ fault. IsStopEventFault fault (lines_of input.now)) }
 {
     let events = stop_events(alloc, input)?;
-    let text = stops_text(alloc, name, limit, events.as_slice())?;
-    match print(out, text.as_slice()) {
-        Ok(()) => Ok(()),
-        Err(_) => Err(Fault::Unwritable),
-    }
+    text_of_events(alloc, name, limit, events.as_slice())
 }
 
 /// The text of what a rehearsal of the events results in.
-fn stops_text(
+fn text_of_events(
     alloc: Global,
     name: Name,
     limit: Limit,

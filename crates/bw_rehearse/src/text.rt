@@ -1,17 +1,15 @@
 //! The text of a rehearsal in which servers stop and start.
 ghost use Rattle.std.specs.Prelude.{◌≡◌, ℕ, ◌++◌, List, IfOk, OnOk};
-ghost use Rattle.hex.specs.Hex.{encode_lower};
 ghost use Rattle.bw_model.specs.World.{World};
 ghost use Rattle.bw_sender.specs.Senders.{IsSender};
-ghost use Rattle.bw_console.specs.Text.{as_line};
-ghost use Rattle.bw_commands.specs.Rehearsals.{world_counts_line, world_progress_line};
-ghost use Rattle.bw_commands.specs.Text.{file_text, file_text_if};
+ghost use Rattle.bw_commands.specs.Text.{file_text_if};
 ghost use Rattle.bw_folder.specs.Folders.{take_content};
 ghost use Rattle.bw_stops.specs.Machines.{IsMachine, takes_at, the_folder};
 ghost use Rattle.bw_stops.specs.Rehearsals.{WasRehearsedWithStops};
 ghost use Rattle.bw_stops.specs.declared.event.StopEvent.{StopEvent as SaidEvent};
 ghost use Rattle.bw_rehearse.specs.StopTexts.{IsStopsText, progress_text, stopped_line};
 
+use bw_commands::{put_counts, put_file, put_progress_of};
 use bw_request::Name;
 use bw_stops::{Machine, Rehearsed};
 use std::alloc::{AllocError, Global};
@@ -27,21 +25,10 @@ pub(crate) fn text_of_stops(
         IsStopsText name.now limit events text.items) }
 {
     let mut text = Vec::new(alloc);
-    put_counts(alloc, &mut text, it)?;
+    put_counts(alloc, &mut text, it.offered, it.sent, it.replies)?;
     put_progress(alloc, &mut text, name, it)?;
     put_take(alloc, &mut text, name, &it.machine)?;
     Ok(text)
-}
-
-/// Adds how many requests were offered, messages sent and replies written.
-fn put_counts(alloc: Global, out: &mut Vec<u8>, it: &Rehearsed) -> Result<(), AllocError>
-    ensures { OnOk result (out.new.items ≡ out.old.items ++
-        world_counts_line it.now.offered it.now.sent it.now.replies) }
-{
-    let (offered, sent, replies) = (it.offered, it.sent, it.replies);
-    let text = format!(in alloc; "offered {offered} sent {sent} replies {replies}\n")?;
-    out.extend_from_slice(text.as_bytes())?;
-    Ok(())
 }
 
 /// Adds how far the server and the sender got.
@@ -63,21 +50,6 @@ fn put_progress(
         }
         Machine::Stopped(_) => put_stopped(alloc, out, settled, stored),
     }
-}
-
-/// Adds how many numbers are done, settled and stored.
-fn put_progress_of(
-    alloc: Global,
-    out: &mut Vec<u8>,
-    done: u32,
-    settled: u32,
-    stored: u32,
-) -> Result<(), AllocError>
-    ensures { OnOk result (out.new.items ≡ out.old.items ++ world_progress_line done settled stored) }
-{
-    let text = format!(in alloc; "done {done} settled {settled} stored {stored}\n")?;
-    out.extend_from_slice(text.as_bytes())?;
-    Ok(())
 }
 
 /// Adds how many numbers are settled and stored, where no server runs.
@@ -108,27 +80,4 @@ fn put_take(
         return Ok(());
     };
     put_file(alloc, out, name, content)
-}
-
-/// Adds a file's name and length, and its bytes in hex.
-#[tactic(auto, using(std::proofs::lemmas::List::append_assoc))]
-fn put_file(alloc: Global, out: &mut Vec<u8>, name: &Name, content: &[u8]) -> Result<(), AllocError>
-    ensures { OnOk result (out.new.items ≡ out.old.items ++ file_text name.now content.now) }
-{
-    let size = content.len();
-    let text = format!(in alloc; " {size}\n")?;
-    out.extend_from_slice(b"file ")?;
-    out.extend_from_slice(name.as_bytes())?;
-    out.extend_from_slice(text.as_bytes())?;
-    put_hex_line(alloc, out, content)
-}
-
-/// Adds bytes in hex and the end of the line.
-fn put_hex_line(alloc: Global, out: &mut Vec<u8>, bytes: &[u8]) -> Result<(), AllocError>
-    ensures { OnOk result (out.new.items ≡ out.old.items ++ as_line (encode_lower bytes.now)) }
-{
-    let digits = hex::encode(alloc, bytes)?;
-    out.extend_from_slice(digits.as_bytes())?;
-    out.push(b'\n')?;
-    Ok(())
 }

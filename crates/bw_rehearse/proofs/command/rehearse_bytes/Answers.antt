@@ -1,16 +1,19 @@
-use Rattle.std.proofs.Common.{sym}
-use Rattle.bw_rehearse.proofs.ChosenOutcomes.{stops_done, stops_failed}
+use Rattle.bw_rehearse.proofs.ChosenOutcomes.{lines_reported, text_printed}
 use Rattle.bw_rehearse.proofs.command.rehearse_bytes.Goals as goal
 
 pub returns-in-Ok : goal.returns-in-Ok
 returns-in-Ok g c =
-    let p = c.in-Ok.ensures.prints in
-    stops_done g.W.Sink g.E.Sink c.args.name c.args.limit c.args.input.now _ _ _ p.0
-    (sym c.if-not-has_server_line.ensures) p.1 p.2
+    let p = c.print_text.ensures in (
+      p.0,
+      p.1,
+      text_printed c.args.name c.args.limit c.args.input.now c.in-Ok.text.items c.as_slice.result.now p.0
+          c.in-Ok.ensures.ok c.as_slice.ensures.value p.2,
+      p.2.0,
+      p.3,
+    )
 
 pub returns-in-Err : goal.returns-in-Err
 returns-in-Err g c =
-    let p = c.in-Err.ensures.prints in
     let l = c.give_up.ensures.line in
-    stops_failed g.W.Sink g.E.Sink c.args.name c.args.limit c.args.input.now c.in-Err.fault _ _ _ _ _ p.0 l.0
-    (sym c.if-not-has_server_line.ensures) p.1 p.2 c.give_up.ensures.exit l.1 l.2
+    lines_reported g.W.Sink g.E.Sink c.args.name c.args.limit c.args.input.now c.in-Err.fault _ _ _ _ l.0 c.requires
+    c.in-Err.ensures.err c.give_up.ensures.exit l.1 l.2
