@@ -8,7 +8,6 @@ pub returns-in_err-skip_at-clause-err : goal.returns-in_err-skip_at-clause-err
 returns-in_err-skip_at-clause-err g c =
     let answer = err_from_is_err_and c.from_residual.result c.from_residual.ensures.1 in
     rw (answer.1, answer.2) (λ b e bytes.
-    let missed = c.in_err-skip_at.ensures.err b e in
-    let cut = missed.cuts (ap not (bytes_no_read _ bytes)) in
+    let cut = (c.in_err-skip_at.ensures.err b e).cuts (ap not (bytes_no_read _ bytes)) in
     let short : length b < 0 + c.args.place = cut.1 in
     omega (arith, short))
