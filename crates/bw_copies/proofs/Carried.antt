@@ -17,7 +17,7 @@ use Rattle.bw_plan.specs.declared.pcm.Pcm.{Pcm}
 use Rattle.bw_plan.specs.Recordings.{Setting, Field, History, Options, Outline, Recording, FaultAt, FileNotes}
 use Rattle.bw_plan.specs.Recordings.{recording_of, Unread, recorded, notes_of, outline_of, set_outline, outline}
 use Rattle.bw_plan.specs.Recordings.{with_setting, with_value, raw_fields, recording_faults, samples_of, block_frames}
-use Rattle.bw_plan.specs.Recordings.{request_count}
+use Rattle.bw_plan.specs.Recordings.{no_options, request_count}
 use Rattle.bw_plan.proofs.FaultLists.{none_hold}
 use Rattle.bw_plan.proofs.PcmRecordings.{pcm_comes, pcm_recordings_are_whole}
 use Rattle.bw_plan.proofs.WholeRecordings.{outlines, not_ok, ok_inj, recordings_are_whole}
@@ -127,13 +127,7 @@ pcm_carried b o p r allowed h =
     let size : ℕ = length b - p.skip in
     let out : Outline = set_pcm_outline o (pcm_format p) size in
     let free = none_hold (pcm_faults o p (length b)) c.free in
-    let bare : Outline = record {
-      format = pcm_format p;
-      history = [];
-      values = values_of shapes [];
-      markers = [];
-      samples_len = size;
-    } in
+    let bare : Outline = set_pcm_outline no_options (pcm_format p) size in
     let base : HasRoom bare = record { history = omega arith; values = refl } in
     record {
       whole = pcm_recordings_are_whole b o p r allowed h;

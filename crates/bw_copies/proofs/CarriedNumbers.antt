@@ -1,27 +1,26 @@
 -- The numbers of each recording are such as a file holds, and its samples are bytes.
 use Rattle.std.proofs.Common.{◌≡◌, ℕ, zero, suc, ◌+◌, ◌-◌, ◌^◌, Bool, true, false, cond, List, [], ◌∷◌, ◌++◌, length}
 use Rattle.std.proofs.Common.{map, drop, Option, Some, None, Ok, refl, ◌∙◌, subst, arith}
-use Rattle.std.specs.Prelude.{◌&&◌, fold, slice_set, slice_range, nat_le, nat_lt, codes, option_map, ◌/◌, ◌%◌}
+use Rattle.std.specs.Prelude.{◌&&◌, fold, slice_set, slice_range, nat_le, nat_lt, codes, option_map}
 use Rattle.std.specs.List.{list_all}
-use Rattle.std.specs.Int.{bytes_low_first, byte_at}
 use Rattle.std.specs.Str.{bytes_eq}
 use Rattle.std.proofs.lemmas.Bool.{and_parts, and_from, lt-ltb}
 use Rattle.std.proofs.lemmas.List.Folds.{list_all-append}
-use Rattle.std.proofs.lemmas.Nat.{mod_below}
 use Rattle.bw_model.specs.Bytes.{le16, le64, u16_at, u32_at, u64_at}
 use Rattle.bw_model.specs.Take.{Shape, Text, Digits, Whole, Maybe, Level, shapes, not_given}
 use Rattle.bw_model.specs.Reading.{Form, Entry, entry_of}
 use Rattle.bw_model.specs.ReadBack.{is_marker}
 use Rattle.bw_model.specs.Report.{RawCue, report_of, content_of, raw_bext, raw_cues}
-use Rattle.bw_model.specs.Wire.{is_below, are_bytes}
+use Rattle.bw_model.specs.Wire.{are_bytes}
 use Rattle.bw_model.proofs.ByteNumbers.{IsBytes-from_test, are_bytes-parts, wide32}
 use Rattle.bw_plan.specs.Cleaning.{are_zero, value_of, values_of, is_marker_kept, with_cue}
-use Rattle.bw_plan.specs.PcmRecordings.{pcm_recording_of, pcm_format}
+use Rattle.bw_plan.specs.PcmRecordings.{pcm_recording_of, pcm_format, set_pcm_outline}
 use Rattle.bw_plan.specs.declared.pcm.Pcm.{Pcm}
 use Rattle.bw_plan.specs.Recordings.{Setting, Field, History, Options, Outline, Recording, FileNotes, recording_of}
-use Rattle.bw_plan.specs.Recordings.{notes_of, outline, with_setting, with_value, raw_fields, bext_fields}
+use Rattle.bw_plan.specs.Recordings.{notes_of, outline, no_options, with_setting, with_value, raw_fields, bext_fields}
 use Rattle.bw_plan.proofs.PcmRecordings.{pcm_comes}
 use Rattle.bw_plan.proofs.WholeRecordings.{outlines}
+use Rattle.bw_delivery.proofs.SpelledBytes.{low_bytes}
 use Rattle.bw_copies.specs.Copies.{is_setting_of_bytes}
 use Rattle.bw_copies.proofs.ReadFields.{RawBytes, AllRawBytes}
 use Rattle.bw_copies.proofs.Carried.{comes}
@@ -63,16 +62,6 @@ settings_numbers r (s ∷ ss) h k =
     settings_numbers (with_setting r s) ss both.1 (setting_numbers r s both.0 k)
 
 -- the numbers that `bext` has
-
-low_byte : (i n : ℕ) → is_below 256 (byte_at i n) ≡ true
-low_byte zero n = lt-ltb (n % 256) 256 (mod_below n 256 (omega arith))
-low_byte (suc i) n = lt-ltb (n / 256 ^ suc i % 256) 256 (mod_below (n / 256 ^ suc i) 256 (omega arith))
-
-low_bytes : (i count n : ℕ) → are_bytes (bytes_low_first i count n) ≡ true
-low_bytes i zero n = refl
-low_bytes i (suc count) n =
-    and_from (is_below 256 (byte_at i n)) (are_bytes (bytes_low_first (suc i) count n)) (low_byte i n)
-    (low_bytes (suc i) count n)
 
 pub range_bytes : (b : List ℕ) (i j : ℕ) → are_bytes b ≡ true → are_bytes (slice_range b i j) ≡ true
 range_bytes b i j h = (are_bytes-parts (j - i) (drop i b) (are_bytes-parts i b h).1).0
@@ -213,13 +202,7 @@ pub pcm_numbers : (b : List ℕ) (o : Options) (p : Pcm) (r : Recording) →
     list_all is_setting_of_bytes o.settings ≡ true → pcm_recording_of b o p ≡ Ok r → HasNumbers r.outline
 pcm_numbers b o p r of_bytes h =
     let c = pcm_comes b o p r h in
-    let bare : Outline = record {
-      format = pcm_format p;
-      history = [];
-      values = values_of shapes [];
-      markers = [];
-      samples_len = length b - p.skip;
-    } in
+    let bare : Outline = set_pcm_outline no_options (pcm_format p) (length b - p.skip) in
     let base : HasNumbers bare = record {
       values = (tt, (tt, (tt, (tt, (tt, (refl, (refl, (refl, (refl, (refl, (refl, (refl, tt))))))))))));
       markers = refl;

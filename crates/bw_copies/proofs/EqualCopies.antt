@@ -7,9 +7,9 @@ use Rattle.std.specs.Str.{bytes_eq}
 use Rattle.std.proofs.lemmas.Bool.{and_parts, or_cases, eqb-true, not-true}
 use Rattle.bw_model.specs.Take.{Shape, Text, Digits, Whole, Maybe, Level, shapes, not_given}
 use Rattle.bw_plan.specs.Cleaning.{are_zero, value_of, values_of}
-use Rattle.bw_plan.specs.PcmRecordings.{pcm_format}
+use Rattle.bw_plan.specs.PcmRecordings.{pcm_format, set_pcm_outline}
 use Rattle.bw_plan.specs.Recordings.{Setting, Field, History, Outline, Recording, FileNotes, notes_of, outline}
-use Rattle.bw_plan.specs.Recordings.{with_setting, raw_fields}
+use Rattle.bw_plan.specs.Recordings.{no_options, with_setting, raw_fields}
 use Rattle.bw_plan.proofs.PcmRecordings.{pcm_comes}
 use Rattle.bw_plan.proofs.WholeRecordings.{outlines}
 use Rattle.bw_copies.specs.Copies.{is_not_given, given_value, given_values, copy_of, is_given_or_left_out}
@@ -101,12 +101,6 @@ copies_are_equal b o r given h =
 pub pcm_copies_are_equal : PcmCopiesAreEqual
 pcm_copies_are_equal b o p r given h =
     let c = pcm_comes b o p r h in
-    let bare : Outline = record {
-      format = pcm_format p;
-      history = [];
-      values = values_of shapes [];
-      markers = [];
-      samples_len = length b - p.skip;
-    } in
+    let bare : Outline = set_pcm_outline no_options (pcm_format p) (length b - p.skip) in
     copy-same r (subst (λ (x : Outline). AllGiven shapes x.values) c.outline
     (settings_given bare o.settings given (values_given shapes [])))

@@ -21,7 +21,7 @@ low_byte : (i n : ℕ) → is_below 256 (byte_at i n) ≡ true
 low_byte zero n = lt-ltb (n % 256) 256 (mod_below n 256 (omega arith))
 low_byte (suc i) n = lt-ltb (n / 256 ^ suc i % 256) 256 (mod_below (n / 256 ^ suc i) 256 (omega arith))
 
-low_bytes : (i count n : ℕ) → are_bytes (bytes_low_first i count n) ≡ true
+pub low_bytes : (i count n : ℕ) → are_bytes (bytes_low_first i count n) ≡ true
 low_bytes i zero n = refl
 low_bytes i (suc count) n =
     and_from (is_below 256 (byte_at i n)) (are_bytes (bytes_low_first (suc i) count n)) (low_byte i n)

@@ -34,7 +34,8 @@ pub fn law_delivered()
 
 /// The same of a server with more takes than its table has places for: to a sender it is as if no
 /// name had ever rested, though some of its frames are put off. If one of its requests is a CLOSE,
-/// an honest store has that take's file, whether the take rests or not.
+/// an honest store has that take's file, whether the take rests or not, provided the journal is
+/// honest too.
 pub fn law_delivered_at_rest<S: TakeStore, J: Journal>()
     ensures heard { RestingDeliveriesAreTrue }
     ensures whole { StoredRestingDeliveriesAreWhole }

@@ -8,7 +8,7 @@ use Rattle.bw_stream.specs.declared.source.Source.{Ghosts as Reader}
 use Rattle.bw_exchange.specs.Answering.{Answered, AnswersAll}
 use Rattle.bw_connections.specs.Keeping.{Tagged, tagged, all_answered, own}
 use Rattle.bw_console.specs.declared.exit.Exit.{Exit}
-use Rattle.bw_console.specs.declared.exit.Exit.TheVariants.{Done, Refused, Usage, Device, Memory}
+use Rattle.bw_console.specs.declared.exit.Exit.TheVariants.{Done}
 use Rattle.bw_ports.specs.declared.peers.Peers.{Ghosts as PeerGhosts}
 use Rattle.bw_serve.specs.ServedAll.{ServedOutcome, Served, Gone, Closed, ServesNext, ServesEach}
 use Rattle.bw_serve.specs.ServedAll.{EndsEarly, ServesRun}
@@ -75,14 +75,8 @@ module _ {T P R W O E : Type 0} (answers : T → Frame → List Reply → T → 
       List (ServedExchange R W)
   exchanges_in_run exchanges Done t t' p p' o o' e e' run =
       exchanges_each 0 run.outcomes t t' p p' o o' e e' run.each
-  exchanges_in_run exchanges Refused t t' p p' o o' e e' run =
-      exchanges_early exchanges Refused t t' p p' o o' e e' run
-  exchanges_in_run exchanges Usage t t' p p' o o' e e' run =
-      exchanges_early exchanges Usage t t' p p' o o' e e' run
-  exchanges_in_run exchanges Device t t' p p' o o' e e' run =
-      exchanges_early exchanges Device t t' p p' o o' e e' run
-  exchanges_in_run exchanges Memory t t' p p' o o' e e' run =
-      exchanges_early exchanges Memory t t' p p' o o' e e' run
+  exchanges_in_run exchanges exit t t' p p' o o' e e' run =
+      exchanges_early exchanges exit t t' p p' o o' e e' run
 
   -- The server answered the frames of these exchanges, and each over its own link.
   pub record AnswersInTurn (exchanges : List (ServedExchange R W)) (t t' : T) : Type 0 where

@@ -18,7 +18,7 @@ use Rattle.bw_model.specs.ExamplesOfWorlds.{small_take}
 use Rattle.bw_journal.proofs.CutLaws.{cut_books_are_books}
 use Rattle.bw_exchange.specs.Answering.{Answered}
 use Rattle.bw_connections.specs.Keeping.{Tagged, own}
-use Rattle.bw_delivery.specs.Deliveries.{LinkBytes, IsOwnLink, IsOfAnother, IsDelivery, HasOnly, HearsVerdict}
+use Rattle.bw_delivery.specs.Deliveries.{LinkBytes, IsOwnLink, IsOfAnother, IsJoined, IsDelivery, HasOnly, HearsVerdict}
 use Rattle.bw_delivery.proofs.Elements.{each-contains}
 use Rattle.bw_delivery.proofs.ExamplesOfDeliveries.{skipped, take_said}
 use Rattle.bw_restarts.specs.Restarts.{ServerLife, GoesOnFrom, HeardInLives}
@@ -50,6 +50,15 @@ others l trace apart n = go (cases_eq n 0)
     go : (n ≡ 0) ⊎ (n ≡ 0 → ⊥) → IsLinkOrEmpty l trace n
     go (inl e) = inl (l, subst (λ (k : ℕ). Contains (one_link l) (k, l)) (sym e) (0, omega arith, refl))
     go (inr e) = inr (subst (AllByRecursion (λ a. IsOfAnother a1 a.frame)) (sym (skipped n trace (apart n e))) tt)
+
+joined : (l : LinkBytes) (trace : List Tagged) → IsOwnLink a1 small_take (own 0 trace) l →
+    ((n : ℕ) → (n ≡ 0 → ⊥) → AllByRecursion (λ t. (t.0 == n) ≡ false) trace) →
+    IsJoined a1 small_take (one_link l) trace
+joined l trace is_own apart = record {
+  own_links = λ n m has. each-contains (λ x. IsOwnLink a1 small_take (own x.0 trace) x.1) (one_link l) (n, m)
+      (is_own, tt) has;
+  others = others l trace apart;
+}
 
 apart_two : (n : ℕ) → (n ≡ 0 → ⊥) → (0 == n) ≡ false
 apart_two n e = ne_eqb 0 n (λ k. e (sym k))
@@ -111,11 +120,7 @@ first_delivery = record {
     answers = refl;
     left = refl;
   };
-  joined = record {
-    own_links = λ n l has. each-contains (λ x. IsOwnLink a1 small_take (own x.0 first_trace) x.1)
-        (one_link first_link) (n, l) (first_own, tt) has;
-    others = others first_link first_trace (λ n e. (apart_two n e, (apart_two n e, tt)));
-  };
+  joined = joined first_link first_trace first_own (λ n e. (apart_two n e, (apart_two n e, tt)));
 }
 
 second_delivery : IsDelivery nothing_stands a1 small_take second_life.links second_life.began second_life.left
@@ -129,11 +134,7 @@ second_delivery = record {
     answers = refl;
     left = refl;
   };
-  joined = record {
-    own_links = λ n l has. each-contains (λ x. IsOwnLink a1 small_take (own x.0 second_trace) x.1)
-        (one_link second_link) (n, l) (second_own, tt) has;
-    others = others second_link second_trace (λ n e. (apart_two n e, (apart_two n e, tt)));
-  };
+  joined = joined second_link second_trace second_own (λ n e. (apart_two n e, (apart_two n e, tt)));
 }
   where
     only : HasOnly small_take (log_of second_life.began a1)
