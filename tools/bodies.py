@@ -2,6 +2,7 @@
 
 The sources are read line by line, as `rt fmt` lays them out.
 """
+import hashlib
 import pathlib
 import re
 from dataclasses import dataclass, replace
@@ -13,6 +14,7 @@ FUNCTION = re.compile(rf" *{PUB}(?:const |unsafe |final )*fn (\w+)")
 OWNER = re.compile(r" *(?:unsafe )?impl\b| *" + PUB + r"trait\b")
 ITEM = re.compile(rf"(?m)^ *{PUB}(?:const|static|enum|struct) (\w+)")
 MOST = 48  # bodies of a batch, so that their check stays small
+TURNS = 8  # in one of so many versions of its crate a private function's wrong bodies have their turn
 UNNAMED = "()"  # a type without a name, as a tuple: what a check names its functions by isn't known
 
 
@@ -212,6 +214,11 @@ class Sources:
         heads = rf"\bfn {name_of(path)}<[^(]*\b[A-Z]|^ *(?:unsafe )?impl<[^>]*\b[A-Z]"
         return bool(re.search(heads, self.text_of(path))) or bool(re.match(heads, self.owner(path)))
 
+    def is_for_others(self, path):
+        """Whether other crates can call a function: it is `pub`, or a method of a trait."""
+        is_pub = re.search(rf"(?m)^ *pub (?:const |unsafe |final )*fn {name_of(path)}\b", self.text_of(path))
+        return bool(is_pub or re.search(r"\btrait\b| for ", self.owner(path)))
+
     def clauses(self, path):
         """The names of what a function ensures."""
         return re.findall(r"(?m)^ *ensures (\w+) \{", self.text_of(path))
@@ -330,6 +337,18 @@ def bodies_of(folder, names=()):
             else:
                 found.setdefault(crate.name, []).append(body)
     return found, faults
+
+
+def in_turn(found):
+    """Of wrong bodies by crate those that the gate tries: each that a function must refuse which other crates can call,
+    and of a crate whose turn it is the others too."""
+    picked = {}
+    for name, bodies in found.items():
+        sources = Sources(ROOT / "crates" / name)
+        digest = hashlib.sha256("".join(sources.texts.values()).encode()).digest()
+        every = digest[0] % TURNS == 0
+        picked[name] = [it for it in bodies if every or any(map(sources.is_for_others, it.refused))]
+    return {name: bodies for name, bodies in picked.items() if bodies}
 
 
 def named(body):
