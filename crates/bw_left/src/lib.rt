@@ -96,8 +96,9 @@ pub fn law_failed_starts<D: Volume, E: Volume>()
         ⟦<FolderJournal<E> as Journal>⟧ }
 {}
 
-/// A server that is started over a folder in which names rest, and lets them rest, holds with what
-/// rests the book of the folder: from every book that an earlier one may have left there.
+/// A server that is started over a folder in which names rest, and lets them rest, over honest disks,
+/// holds with what rests the book of the folder: from every book that an earlier one may have left
+/// there.
 pub fn law_resting_starts<D: Volume, E: Volume>()
     ensures { RestingStartsHoldFolders D.Disk E.Disk ⟦<FolderStore<D> as TakeStore>⟧
         ⟦<FolderJournal<E> as Journal>⟧ ⟦<RestingFolderJournal<E> as Journal>⟧ }
