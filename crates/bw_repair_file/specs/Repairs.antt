@@ -43,17 +43,13 @@ pub record IsRefusedRepair (fault : RepairFault) (did : Outcome) : Type 0 where
 abbrev pub IsUnwritten : List ℕ → ErrorKind → Outcome → Type 0
 IsUnwritten path = ReportsFailure (unwritten_text path)
 
--- no path has other contents, and the system gave all that was asked of it
-pub record IsLeftAsItIs (before after : Contents) (gives_all : Bool) : Type 0 where
-  pub kept : after ≡ before
-  pub gives : gives_all ≡ true
-
 -- the file is sound, and stays as it is
 pub record TellsSound (before after : Contents) (path : List ℕ) (gives_all : Bool) (did : Outcome)
     : Type 0 where
   pub frames : ℕ
   pub right : Of (before path) (λ b. StandsAsItIs b × HasFrames b frames)
-  pub left : IsLeftAsItIs before after gives_all
+  pub kept : after ≡ before
+  pub gives : gives_all ≡ true
   pub prints : PrintsText (sound_text frames) did
 
 -- the sizes that it lacks are printed, and it stays as it is
@@ -61,7 +57,8 @@ pub record TellsSizes (before after : Contents) (path : List ℕ) (gives_all : B
     : Type 0 where
   pub plan : SizePlan
   pub right : Of (before path) (λ b. LacksSizes b plan)
-  pub left : IsLeftAsItIs before after gives_all
+  pub kept : after ≡ before
+  pub gives : gives_all ≡ true
   pub prints : PrintsText (plan_text plan false) did
 
 -- the sizes of this plan are written, and nothing else, or a prefix of them if the system fails
@@ -86,7 +83,8 @@ pub record RefusesRepair (before after : Contents) (path : List ℕ) (gives_all 
     : Type 0 where
   pub fault : RepairFault
   pub right : Of (before path) (λ b. IsRefusal b fault)
-  pub left : IsLeftAsItIs before after gives_all
+  pub kept : after ≡ before
+  pub gives : gives_all ≡ true
   pub reports : IsRefusedRepair fault did
 
 -- it isn't opened

@@ -1,6 +1,5 @@
 //! What is to be written into a file.
-ghost use Rattle.std.specs.Prelude.{◌≡◌, ℕ, List, IfOk, IfErr};
-ghost use Rattle.bw_stream.specs.Moves.{Keeps};
+ghost use Rattle.std.specs.Prelude.{◌≡◌, IfOk, IfErr};
 ghost use Rattle.bw_stream.specs.Readers.{Of};
 ghost use Rattle.bw_console.specs.Printing.{failures_if};
 ghost use Rattle.bw_model.specs.Report.{frames_of};
@@ -65,7 +64,10 @@ pub fn plan_repair<F: EditedFiles>(
     ensures count { F.edit_failures files.new ≡
         failures_if (is_plan_well result) (F.edit_failures files.old) }
 {
-    let mut reader = open(files, path)?;
+    let mut reader = match files.open_edited(path) {
+        Ok(reader) => reader,
+        Err(error) => return Err(PlanFault::Unopened(error)),
+    };
     match find_data(&mut reader) {
         Ok(Some(head)) => plan_at(alloc, files, path, &head),
         Ok(None) => look(alloc, files, path),
@@ -100,7 +102,10 @@ fn plan_at<F: EditedFiles>(
     if sizes.form == head.form && sizes.data == head.size {
         return look(alloc, files, path);
     }
-    let reader = open(files, path)?;
+    let reader = match files.open_edited(path) {
+        Ok(reader) => reader,
+        Err(error) => return Err(PlanFault::Unopened(error)),
+    };
     match check(alloc, reader, head.place, sizes) {
         Ok(report) => Ok(Soundness::Lacking(plan_with(head, sizes, &report))),
         Err(fault) => Err(PlanFault::Refused(RepairFault::from(fault))),
@@ -139,27 +144,13 @@ fn look<F: EditedFiles>(alloc: Global, files: &mut F, path: &str) -> Result<Soun
     ensures count { F.edit_failures files.new ≡
         failures_if (is_plan_well result) (F.edit_failures files.old) }
 {
-    let mut reader = open(files, path)?;
+    let mut reader = match files.open_edited(path) {
+        Ok(reader) => reader,
+        Err(error) => return Err(PlanFault::Unopened(error)),
+    };
     match inspect(alloc, &mut reader) {
         Ok(report) => Ok(Soundness::Sound(frames_in(&report))),
         Err(fault) => Err(PlanFault::Refused(RepairFault::from(fault))),
-    }
-}
-
-/// Opens the file at a path.
-///
-/// # Errors
-/// The error of the system.
-fn open<F: EditedFiles>(files: &mut F, path: &str) -> Result<F::Edited, PlanFault>
-    ensures ok { IfOk result (λ file. Keeps (F.content_at files.old path.now) (F.Edited.left file)) }
-    ensures err { IfErr result (λ e. (b : List ℕ) → RefusesPlan b e) }
-    ensures contents { F.content_at files.new ≡ F.content_at files.old }
-    ensures count { F.edit_failures files.new ≡
-        failures_if (is_plan_well result) (F.edit_failures files.old) }
-{
-    match files.open_edited(path) {
-        Ok(file) => Ok(file),
-        Err(error) => Err(PlanFault::Unopened(error)),
     }
 }
 

@@ -15,7 +15,8 @@ returns-in-Ok-Sound g c =
       inl (record {
         frames = c.in-Ok-Sound.frames;
         right = rw c.in-Ok-Sound.field-0-is at c.in-Ok-Sound.ensures.ok;
-        left = record { kept = c.in-Ok-Sound.ensures.contents; gives = refl };
+        kept = c.in-Ok-Sound.ensures.contents;
+        gives = refl;
         prints = printed;
       }),
       c.in-Ok-Sound.ensures.count,
@@ -31,7 +32,8 @@ returns-in-Err-Refused g c =
       inr (inr (inl (record {
         fault = c.in-Err-Refused.fault;
         right = rw c.in-Err-Refused.field-0-is at c.in-Err-Refused.ensures.err;
-        left = record { kept = c.in-Err-Refused.ensures.contents; gives = refl };
+        kept = c.in-Err-Refused.ensures.contents;
+        gives = refl;
         reports = r.2;
       }))),
       rw c.in-Err-Refused.field-0-is at c.in-Err-Refused.ensures.count,
