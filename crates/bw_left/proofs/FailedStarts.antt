@@ -11,11 +11,12 @@ use Rattle.bw_start.specs.LeftNames.{IsLeft}
 use Rattle.bw_start.specs.Paths.{wave_path, notes_path}
 use Rattle.bw_start.specs.StaysLeft.{IsLeftOf}
 use Rattle.bw_start.specs.Started.{IsLeftIn}
-use Rattle.bw_left.specs.FailedStarts.{ShowsFolder, FailedStart, StartsFail}
+use Rattle.bw_left.specs.FailedStarts.{FailedStart, StartsFail}
 use Rattle.bw_left.specs.FailedStarts.{FailedStartsLeaveBooks, FailedStartsLoseNothing}
+use Rattle.bw_left.specs.ShownFolders.{ShowsFolder}
 
 -- disks that show the folder as it was left
-shown : (limit : ℕ) (folder : List ℕ) (first : List ℕ → Option (List ℕ)) (book : Book)
+pub shown : (limit : ℕ) (folder : List ℕ) (first : List ℕ → Option (List ℕ)) (book : Book)
     (left_notes left_takes notes takes : List ℕ → Option (List ℕ)) →
     ShowsFolder folder left_notes left_takes notes takes → IsLeftOf limit folder first book left_notes left_takes →
     IsLeftOf limit folder first book notes takes

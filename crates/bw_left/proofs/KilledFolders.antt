@@ -11,7 +11,8 @@ use Rattle.bw_folder.specs.declared.journal.FolderJournal.{FolderJournal}
 use Rattle.bw_start.specs.LeftNames.{IsLeft}
 use Rattle.bw_left.specs.KilledFolders.{KilledFoldersAreLeft}
 use Rattle.bw_left.proofs.KilledServers.{killed_servers}
-use Rattle.bw_left.proofs.LeftPaths.{in_folders}
+use Rattle.bw_left.proofs.FailedStarts.{shown}
+use Rattle.bw_left.proofs.LeftPaths.{by_paths}
 
 -- where store and journal have of each name what is at its paths
 pub killed_folders : {D E F H : Type 0} (G : DiskGhosts D F) (K : DiskGhosts E H)
@@ -19,23 +20,26 @@ pub killed_folders : {D E F H : Type 0} (G : DiskGhosts D F) (K : DiskGhosts E H
     ((x : FolderStore D F G) → S.contents x ≡ take_content (G.contents x.disk) (string_bytes x.folder)) →
     ((x : FolderJournal E H K) → J.notes x ≡ notes_at (K.contents x.disk) (string_bytes x.folder)) →
     KilledFoldersAreLeft G K S J
-killed_folders G K S J stores journals first old new book ts r went one =
+killed_folders G K S J stores journals first old new book ts notes takes r went one shows =
     let x = killed_servers S J first old new book ts r went in
     let k = x.1 in
-    let files = stores new.stores.store in
-    let notes = journals new.stores.journal
-    ∙ ap (λ (f : List ℕ). notes_at (K.contents new.stores.journal.disk) f) one.folder in (
+    let folder : List ℕ = string_bytes new.stores.store.folder in
+    let own_notes = K.contents new.stores.journal.disk in
+    let own_takes = G.contents new.stores.store.disk in
+    let noted = journals new.stores.journal ∙ ap (λ (f : List ℕ). notes_at own_notes f) one in (
       x.0,
       record {
         began = k.began;
         frames = k.frames;
         ahead = k.ahead;
-        left = in_folders new.limit (string_bytes new.stores.store.folder) first x.0.left
-            (K.contents new.stores.journal.disk) (G.contents new.stores.store.disk)
-            (subst (λ (c : List ℕ → Option (List ℕ)). IsLeft new.limit first x.0.left
-            (notes_at (K.contents new.stores.journal.disk) (string_bytes new.stores.store.folder)) c) files
-            (subst (λ (n : List ℕ → Option (List ℕ)). IsLeft new.limit first x.0.left n
-            (S.contents new.stores.store)) notes k.left))
-            one.alike;
+        left = record {
+          left = shown new.limit folder first x.0.left own_notes own_takes notes takes shows
+              (by_paths new.limit folder first x.0.left own_notes own_takes
+              (subst (λ (c : List ℕ → Option (List ℕ)). IsLeft new.limit first x.0.left (notes_at own_notes folder) c)
+              (stores new.stores.store)
+              (subst (λ (n : List ℕ → Option (List ℕ)). IsLeft new.limit first x.0.left n
+              (S.contents new.stores.store)) noted k.left)));
+          one_folder = shows.one_folder;
+        };
       },
     )

@@ -2,12 +2,13 @@
 use Rattle.std.proofs.Common.{◌≡◌, ℕ, cond, List, []}
 use Rattle.std.proofs.Common.{Option, None, is_some, IsSome, refl, sym, ◌∙◌, ap, subst}
 use Rattle.std.proofs.lemmas.Bool.{false≢true}
-use Rattle.bw_model.specs.Book.{no_log}
+use Rattle.bw_model.specs.Book.{no_log, log_of}
 use Rattle.bw_model.proofs.BookLaws.{empty_book}
 use Rattle.bw_session.proofs.ResumeForms.{book_admits}
 use Rattle.bw_start.specs.LeftNames.{IsLeftName, IsLeft}
 use Rattle.bw_start.specs.Paths.{wave_path, notes_path, rest_path}
 use Rattle.bw_left.specs.NewFolders.{IsNewFolder, NewFoldersAreLeft, EmptyFoldersAreNew}
+use Rattle.bw_left.specs.NewFolders.{FoldersWithoutRestAreLeft}
 use Rattle.bw_left.specs.RestingFolders.{first_beside_rest}
 
 none_some : (o : Option (List ℕ)) → o ≡ None → IsSome o → ⊥
@@ -43,9 +44,32 @@ new_folders limit folder first notes takes new = (
 )
 
 pub empty_folders : EmptyFoldersAreNew
-empty_folders folder notes takes no_notes no_takes = record {
-  files = λ name. no_takes (wave_path folder name);
-  no_notes = λ name. no_notes (notes_path folder name);
-  none_rests = λ name. no_notes (rest_path folder name);
-  one_folder = λ name. ap is_some (no_notes (wave_path folder name) ∙ sym (no_takes (wave_path folder name)));
+empty_folders folder notes takes no_notes none_rests none_there no_takes = record {
+  files = no_takes;
+  no_notes = no_notes;
+  none_rests = none_rests;
+  one_folder = λ name. ap is_some (none_there name ∙ sym (no_takes name));
 }
+
+-- where nothing rests, what stood under a name at first is the same to both servers
+pub without_rest : FoldersWithoutRestAreLeft
+without_rest limit folder first book notes takes left none_rests = record {
+  table = book;
+  left = record {
+    left = record {
+      is_book = left.left.is_book;
+      admits = left.left.admits;
+      fit = left.left.fit;
+      names = λ name. subst (λ (o : Option (List ℕ)). IsLeftName limit o name (log_of book name)
+          (notes (notes_path folder name)) (takes (wave_path folder name))) (sym (same name)) (left.left.names name);
+    };
+    one_folder = left.one_folder;
+  };
+  awake = λ name none. record { same_known = refl; same_log = refl };
+  outside = λ name some. absurd (none_some (notes (rest_path folder name)) (none_rests name) some);
+  resting = λ name some. absurd (none_some (notes (rest_path folder name)) (none_rests name) some);
+}
+  where
+    same : (name : List ℕ) → first_beside_rest folder notes takes first name ≡ first name
+    same name = ap (λ (o : Option (List ℕ)). cond (is_some o) (takes (wave_path folder name)) (first name))
+        (none_rests name)

@@ -119,14 +119,11 @@ resting_lives {D} {E} {F} {H} G K S J R starts stops limit folder first notes ta
     ran.went in
     let same : run.ended.limit ≡ limit = limit_after S R first run.began run.ended run.answered ran.went
     ∙ ran.started.same.limit ∙ ran.started.set.limit_is ∙ limit_is in
-    let stop : LeavesRestingLater run.ended.limit folder first turned.later
-    (K.contents run.ended.stores.journal.inner.disk) (G.contents run.ended.stores.store.disk) =
-    stops folder first turned.later run.ended (subst (λ (l : ℕ). l < 2 ^ 32) (sym same) small)
-    (ran.stops turned.later turned.held) in
-    let on = resting_lives G K S J R starts stops limit folder first (K.contents run.ended.stores.journal.inner.disk)
-    (G.contents run.ended.stores.store.disk) stop.later runs small
-    (subst (λ (l : ℕ). IsLeftResting l folder first stop.later (K.contents run.ended.stores.journal.inner.disk)
-    (G.contents run.ended.stores.store.disk)) same stop.left) went.1 in
+    let stop : LeavesRestingLater run.ended.limit folder first turned.later run.notes run.takes =
+    stops folder first turned.later run.ended run.notes run.takes (subst (λ (l : ℕ). l < 2 ^ 32) (sym same) small)
+    (ran.stops turned.later turned.held) ran.shows in
+    let on = resting_lives G K S J R starts stops limit folder first run.notes run.takes stop.later runs small
+    (subst (λ (l : ℕ). IsLeftResting l folder first stop.later run.notes run.takes) same stop.left) went.1 in
     record {
       after = on.after;
       left = on.left;

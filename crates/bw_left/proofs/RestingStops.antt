@@ -31,7 +31,8 @@ use Rattle.bw_start.specs.Names.{begins_take}
 use Rattle.bw_start.specs.Paths.{wave_path, notes_path, rest_path}
 use Rattle.bw_left.specs.LeftFolders.{EachIsInOrder, IsWrittenInOrder, RunsOver, LeavesLater}
 use Rattle.bw_left.specs.RestingFolders.{IsLeftAtRest, IsLeftAwake, first_beside_rest}
-use Rattle.bw_left.specs.RestingStops.{StopsResting, LeavesRestingLater, RestingServersAreLeft}
+use Rattle.bw_left.specs.RestingStops.{StandsAsAtRest, StopsResting, LeavesRestingLater, RestingServersAreLeft}
+use Rattle.bw_left.specs.ShownFolders.{ShowsRestingFolder}
 use Rattle.bw_left.proofs.BooksWithout.{book_without, known-without_in, known-without_out}
 use Rattle.bw_left.proofs.BooksWithout.{log-without_in, log-without_out, without_is_book}
 use Rattle.bw_left.proofs.LeftBooks.{chosen, ahead_book, ahead, log-chosen, known-ahead}
@@ -52,13 +53,15 @@ module _ {D E F H : Type 0} (G : DiskGhosts D F) (K : DiskGhosts E H)
     ≡ resting_header (is_loose x.loose name) (K.contents x.inner.disk (closed_path (string_bytes x.inner.folder) name))
     (header_in_folder x.inner name))
     (folder : List ℕ) (first : List ℕ → Option (List ℕ)) (book : Book)
-    (s : Server (FolderStore D F G) (RestingFolderJournal E H K) S R) (small : s.limit < 2 ^ 32)
-    (p : StopsResting G K S R first book folder s) where
-  abbrev notes : List ℕ → Option (List ℕ)
-  notes = K.contents s.stores.journal.inner.disk
+    (s : Server (FolderStore D F G) (RestingFolderJournal E H K) S R) (notes takes : List ℕ → Option (List ℕ))
+    (small : s.limit < 2 ^ 32) (p : StopsResting G K S R first book folder s)
+    (seen : ShowsRestingFolder folder (K.contents s.stores.journal.inner.disk) (G.contents s.stores.store.disk) notes
+    takes) where
+  abbrev own_notes : List ℕ → Option (List ℕ)
+  own_notes = K.contents s.stores.journal.inner.disk
 
-  abbrev takes : List ℕ → Option (List ℕ)
-  takes = G.contents s.stores.store.disk
+  abbrev own_takes : List ℕ → Option (List ℕ)
+  own_takes = G.contents s.stores.store.disk
 
   abbrev closed : List ℕ → Option (List ℕ)
   closed name = notes (rest_path folder name)
@@ -82,15 +85,20 @@ module _ {D E F H : Type 0} (G : DiskGhosts D F) (K : DiskGhosts E H)
   file_is : (name : List ℕ) → S.contents s.stores.store name ≡ file name
   file_is name =
       ap (λ (f : List ℕ → Option (List ℕ)). f name) (stores s.stores.store)
-      ∙ ap (λ (f : List ℕ). takes (take_path f name)) p.over.store
-      ∙ take_there takes folder name
+      ∙ ap (λ (f : List ℕ). own_takes (take_path f name)) p.over.store
+      ∙ take_there own_takes folder name
+      ∙ sym (seen.shows.files name)
 
   noted_is : (name : List ℕ) →
       R.notes s.stores.journal name ≡ cond (loose name) (option_or (journal name) (closed name)) (journal name)
   noted_is name =
       noteds s.stores.journal name
-      ∙ ap (λ (f : List ℕ). noted_at (loose name) notes f name) p.over.journal
-      ∙ noted_there (loose name) notes folder name
+      ∙ ap (λ (f : List ℕ). noted_at (loose name) own_notes f name) p.over.journal
+      ∙ noted_there (loose name) own_notes folder name
+      ∙ ap (λ (o : Option (List ℕ)). cond (loose name) (option_or o (own_notes (rest_path folder name))) o)
+      (sym (seen.shows.journals name))
+      ∙ ap (λ (o : Option (List ℕ)). cond (loose name) (option_or (journal name) o) (journal name))
+      (sym (seen.resting name))
 
   noted_by : (v : Bool) (name : List ℕ) → loose name ≡ v →
       R.notes s.stores.journal name ≡ cond v (option_or (journal name) (closed name)) (journal name)
@@ -100,9 +108,18 @@ module _ {D E F H : Type 0} (G : DiskGhosts D F) (K : DiskGhosts E H)
   rests_by : (v : Bool) (name : List ℕ) → loose name ≡ v → R.resting s.stores.journal name ≡ cond v None (closed name)
   rests_by v name e =
       restings s.stores.journal name
-      ∙ ap (λ (f : List ℕ). resting_at (loose name) notes f name) p.over.journal
-      ∙ rests_there (loose name) notes folder name
+      ∙ ap (λ (f : List ℕ). resting_at (loose name) own_notes f name) p.over.journal
+      ∙ rests_there (loose name) own_notes folder name
+      ∙ ap (λ (o : Option (List ℕ)). cond (loose name) None o) (sym (seen.resting name))
       ∙ ap (λ (b : Bool). cond b None (closed name)) e
+
+  -- a loose name's journal, where it stands where it rested
+  stands : (name : List ℕ) → loose name ≡ true → IsSome (closed name) →
+      StandsAsAtRest s.limit name (closed name) (journal name)
+  stands name e some =
+      subst (λ (o : Option (List ℕ)). StandsAsAtRest s.limit name (closed name) o) (sym (seen.shows.journals name))
+      (subst (λ (o : Option (List ℕ)). StandsAsAtRest s.limit name o (own_notes (notes_path folder name)))
+      (sym (seen.resting name)) (p.over.loose name e (ap is_some (sym (seen.resting name)) ∙ some)))
 
   -- where nothing stands where a name rests, nothing rests, and its journal is what is noted
   none_rests : (name : List ℕ) → closed name ≡ None → R.resting s.stores.journal name ≡ None
@@ -124,7 +141,7 @@ module _ {D E F H : Type 0} (G : DiskGhosts D F) (K : DiskGhosts E H)
   alone name some = go (loose name) refl
     where
       go : (v : Bool) → loose name ≡ v → journal name ≡ None
-      go true e = (p.over.loose name e some).alone
+      go true e = (stands name e some).alone
       go false e = sym (noted_by false name e) ∙ (p.apart name (ap is_some (rests_by false name e) ∙ some)).1
 
   -- of a name under which nothing rests the table has what the folder has
@@ -310,7 +327,7 @@ module _ {D E F H : Type 0} (G : DiskGhosts D F) (K : DiskGhosts E H)
       let there = says name (rests_by true name e) in
       let new : now name ≡ None = none_is (now name) (sym (p.held.noted.existed name)
       ∙ ap (λ (x : Header). x.existed) (headers s.stores.journal name)
-      ∙ header_loose (loose name) (notes (closed_path (string_bytes s.stores.journal.inner.folder) name))
+      ∙ header_loose (loose name) (own_notes (closed_path (string_bytes s.stores.journal.inner.folder) name))
       (header_in_folder s.stores.journal.inner name) e) in
       let noted : R.notes s.stores.journal name ≡ closed name =
       noted_by true name e ∙ ap (λ (o : Option (List ℕ)). option_or o (closed name)) (alone name some) in
@@ -346,7 +363,7 @@ module _ {D E F H : Type 0} (G : DiskGhosts D F) (K : DiskGhosts E H)
           wakes_as_left s.limit name (log_of left.later name) bytes (file name) small
           (book_admits left.later left.left.is_book name)
           (λ done. left.left.is_book.logs name (known_done done))
-          (subst (λ (o : Option (List ℕ)). IsTrue (may_wake s.limit name o)) same (p.over.loose name e some).fit)
+          (subst (λ (o : Option (List ℕ)). IsTrue (may_wake s.limit name o)) same (stands name e some).fit)
           is_left
 
   pub stop_leaves : LeavesRestingLater s.limit folder first book notes takes
@@ -362,7 +379,7 @@ module _ {D E F H : Type 0} (G : DiskGhosts D F) (K : DiskGhosts E H)
           fit = λ name some. p.own.names name (has_notes name some (loose name) refl);
           names = is_table;
         };
-        one_folder = p.over.alike;
+        one_folder = seen.shows.one_folder;
       };
       awake = awake_is;
       outside = λ name some. known-without_in out left.later name some;
@@ -397,5 +414,5 @@ pub resting_servers : {D E F H : Type 0} (G : DiskGhosts D F) (K : DiskGhosts E 
     ≡ resting_header (is_loose x.loose name) (K.contents x.inner.disk (closed_path (string_bytes x.inner.folder) name))
     (header_in_folder x.inner name)) →
     RestingServersAreLeft G K S R
-resting_servers G K S R stores noteds restings headers folder first book s small p =
-    stop_leaves G K S R stores noteds restings headers folder first book s small p
+resting_servers G K S R stores noteds restings headers folder first book s notes takes small p seen =
+    stop_leaves G K S R stores noteds restings headers folder first book s notes takes small p seen

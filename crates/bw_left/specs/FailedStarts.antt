@@ -1,5 +1,5 @@
 -- Starts that fail over what an earlier server left, and the one that then succeeds.
-use Rattle.std.specs.Prelude.{◌≡◌, ℕ, Option, is_some, IsTrue, List, [], ◌∷◌}
+use Rattle.std.specs.Prelude.{ℕ, Option, IsTrue, List, [], ◌∷◌}
 use Rattle.bw_model.specs.Book.{Book}
 use Rattle.bw_store.specs.declared.store.TakeStore.{Ghosts as StoreGhosts}
 use Rattle.bw_disk.specs.declared.disk.Disk.{Ghosts as DiskGhosts}
@@ -9,18 +9,9 @@ use Rattle.bw_folder.specs.declared.folder.FolderStore.{FolderStore}
 use Rattle.bw_folder.specs.declared.journal.FolderJournal.{FolderJournal}
 use Rattle.bw_session.specs.Books.{HoldsBook, NotesBook}
 use Rattle.bw_session.specs.declared.server.Server.{Server}
-use Rattle.bw_start.specs.Paths.{wave_path, notes_path}
 use Rattle.bw_start.specs.StaysLeft.{IsLeftOf, BooksStayLeft}
 use Rattle.bw_start.specs.Started.{IsLeftIn, OfEachBookLeft}
-
--- Two disks show a folder as others left it, the journals of the one and the takes of the other; and
--- they show alike whether something is at the path of a take.
-pub record ShowsFolder (folder : List ℕ) (left_notes left_takes notes takes : List ℕ → Option (List ℕ)) :
-    Type 0 where
-  pub journals : (name : List ℕ) → notes (notes_path folder name) ≡ left_notes (notes_path folder name)
-  pub files : (name : List ℕ) → takes (wave_path folder name) ≡ left_takes (wave_path folder name)
-  pub one_folder : (name : List ℕ) →
-      is_some (notes (wave_path folder name)) ≡ is_some (takes (wave_path folder name))
+use Rattle.bw_left.specs.ShownFolders.{ShowsFolder}
 
 module _ {D E F H : Type 0} (G : DiskGhosts D F) (K : DiskGhosts E H) where
   -- A start failed: it was given these disks, which are honest, and gave these back. Which call failed,

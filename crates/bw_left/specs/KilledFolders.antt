@@ -7,7 +7,6 @@ use Rattle.bw_store.specs.declared.store.TakeStore.{Ghosts as StoreGhosts}
 use Rattle.bw_disk.specs.declared.disk.Disk.{Ghosts as DiskGhosts}
 use Rattle.bw_journal.specs.declared.journal.Journal.{Ghosts as JournalGhosts}
 use Rattle.bw_wire.specs.declared.reply.Reply.{Reply}
-use Rattle.bw_folder.specs.Folders.{take_path}
 use Rattle.bw_folder.specs.declared.folder.FolderStore.{FolderStore}
 use Rattle.bw_folder.specs.declared.journal.FolderJournal.{FolderJournal}
 use Rattle.bw_folder.specs.TakeFolders.{takes_disk, takes_folder}
@@ -16,38 +15,31 @@ use Rattle.bw_session.specs.declared.server.Server.{Server}
 use Rattle.bw_session.specs.SeenServers.{server_store, server_journal, server_limit}
 use Rattle.bw_start.specs.Started.{IsLeftIn}
 use Rattle.bw_left.specs.LeftFolders.{GoesAhead}
+use Rattle.bw_left.specs.ShownFolders.{ShowsFolder}
 use Rattle.bw_left.specs.StoppedLives.{StoppedLife}
 use Rattle.bw_left.specs.StoppedTurns.{RunsHonestly, HadTurns}
 
 module _ {D E F H : Type 0} (G : DiskGhosts D F) (K : DiskGhosts E H)
     (S : StoreGhosts (FolderStore D F G)) (J : JournalGhosts (FolderJournal E H K)) where
-  -- the server's store and journal are of one folder, and their disks show alike whether something
-  -- is at the path of a take
-  pub record IsOverOneFolder (s : Server (FolderStore D F G) (FolderJournal E H K) S J) :
-      Type 0 where
-    pub folder : journals_folder (server_journal s) ≡ takes_folder (server_store s)
-    pub alike : (name : List ℕ) →
-        is_some (K.contents (journals_disk (server_journal s))
-        (take_path (takes_folder (server_store s)) name))
-        ≡ is_some (G.contents (takes_disk (server_store s))
-        (take_path (takes_folder (server_store s)) name))
-
-  -- A server was killed: these messages had their turns, from this book, and its disks have what
+  -- A server was killed: these messages had their turns, from this book, and two disks have what
   -- `start` takes as its premise, from the book that the life left.
   pub record IsKilledOver (first : List ℕ → Option (List ℕ)) (book : Book) (messages : List Message)
-      (new : Server (FolderStore D F G) (FolderJournal E H K) S J) (life : StoppedLife) :
-      Type 0 where
+      (new : Server (FolderStore D F G) (FolderJournal E H K) S J)
+      (notes takes : List ℕ → Option (List ℕ)) (life : StoppedLife) : Type 0 where
     pub began : life.began ≡ book
     pub frames : map (λ t. t.0) life.turns ≡ map Says messages
     pub ahead : GoesAhead (book_after (λ name. is_some (first name)) book life.turns) life.left
-    pub left : IsLeftIn (server_limit new) (takes_folder (server_store new)) first life.left
-        (K.contents (journals_disk (server_journal new))) (G.contents (takes_disk (server_store new)))
+    pub left : IsLeftIn (server_limit new) (takes_folder (server_store new)) first life.left notes takes
 
-  -- Whatever its disks are, as those that die in a call, if they are honest: a server that is stopped
-  -- after any turns, or in the last of them, leaves that, whichever calls failed in any of them.
+  -- Whatever its disks are, as those that die in a call, if they are honest: a server over one folder
+  -- that is stopped after any turns, or in the last of them, leaves that, whichever calls failed in any
+  -- of them. The two disks are those that the next start is given, which show the folder as it was left.
   abbrev pub KilledFoldersAreLeft : Type 0
   KilledFoldersAreLeft = (first : List ℕ → Option (List ℕ))
       (old new : Server (FolderStore D F G) (FolderJournal E H K) S J) (book : Book)
-      (ts : List (Message × List Reply)) → RunsHonestly S J first old book →
-      HadTurns S J old ts new → IsOverOneFolder new →
-      (life : StoppedLife) × IsKilledOver first book (map (λ t. t.0) ts) new life
+      (ts : List (Message × List Reply)) (notes takes : List ℕ → Option (List ℕ)) →
+      RunsHonestly S J first old book → HadTurns S J old ts new →
+      journals_folder (server_journal new) ≡ takes_folder (server_store new) →
+      ShowsFolder (takes_folder (server_store new)) (K.contents (journals_disk (server_journal new)))
+      (G.contents (takes_disk (server_store new))) notes takes →
+      (life : StoppedLife) × IsKilledOver first book (map (λ t. t.0) ts) new notes takes life

@@ -1,6 +1,7 @@
 pub mod LeftFolders
 pub mod StoppedLives
 pub mod StoppedTurns
+pub mod ShownFolders
 pub mod KilledFolders
 pub mod NewFolders
 pub mod RestingStops

@@ -1,5 +1,6 @@
 -- Folders in which no server has run.
 use Rattle.std.specs.Prelude.{◌≡◌, ℕ, Option, None, is_some, List, []}
+use Rattle.bw_model.specs.Book.{Book}
 use Rattle.bw_start.specs.Paths.{wave_path, notes_path, rest_path}
 use Rattle.bw_start.specs.Started.{IsLeftIn}
 use Rattle.bw_left.specs.RestingFolders.{IsLeftResting}
@@ -20,8 +21,18 @@ NewFoldersAreLeft = (limit : ℕ) (folder : List ℕ) (first notes takes : List 
     IsNewFolder folder first notes takes →
     IsLeftIn limit folder first [] notes takes × IsLeftResting limit folder first [] notes takes
 
--- A folder without a file is a new one.
+-- A folder without takes is a new one, whatever else is on its disks.
 abbrev pub EmptyFoldersAreNew : Type 0
 EmptyFoldersAreNew = (folder : List ℕ) (notes takes : List ℕ → Option (List ℕ)) →
-    ((path : List ℕ) → notes path ≡ None) → ((path : List ℕ) → takes path ≡ None) →
+    ((name : List ℕ) → notes (notes_path folder name) ≡ None) →
+    ((name : List ℕ) → notes (rest_path folder name) ≡ None) →
+    ((name : List ℕ) → notes (wave_path folder name) ≡ None) →
+    ((name : List ℕ) → takes (wave_path folder name) ≡ None) →
     IsNewFolder folder (λ name. None) notes takes
+
+-- A folder that a server left which let no names rest is one for a server that lets them rest.
+abbrev pub FoldersWithoutRestAreLeft : Type 0
+FoldersWithoutRestAreLeft = (limit : ℕ) (folder : List ℕ) (first : List ℕ → Option (List ℕ)) (book : Book)
+    (notes takes : List ℕ → Option (List ℕ)) → IsLeftIn limit folder first book notes takes →
+    ((name : List ℕ) → notes (rest_path folder name) ≡ None) →
+    IsLeftResting limit folder first book notes takes

@@ -20,6 +20,7 @@ use Rattle.bw_rest.specs.Resting.{RestingTurn}
 use Rattle.bw_start.specs.declared.resting.Settings.{Settings}
 use Rattle.bw_left.specs.RestingFolders.{WasStartedResting, IsLeftResting}
 use Rattle.bw_left.specs.RestingStops.{StopsResting}
+use Rattle.bw_left.specs.ShownFolders.{ShowsRestingFolder}
 
 -- the number is done in the book, with this verdict
 abbrev pub IsDoneWith : (List ℕ → Option (List ℕ)) → Book → List ℕ → ℕ → Verdict → Type 0
@@ -34,12 +35,15 @@ GaveInAnswers (a ∷ rest) name n v = Contains a.replies (Judged name n v) ⊎ G
 module _ {D E F H : Type 0} (G : DiskGhosts D F) (K : DiskGhosts E H)
     (S : StoreGhosts (FolderStore D F G)) (J : JournalGhosts (FolderJournal E H K))
     (R : JournalGhosts (RestingFolderJournal E H K)) where
-  -- a server as it began and as it ended, and the frames that it answered
+  -- a server as it began and as it ended, the frames that it answered, and the folder afterwards, as the
+  -- next start is shown it
   pub record RestingRun : Type 0 where
     pub settings : Settings
     pub began : Server (FolderStore D F G) (RestingFolderJournal E H K) S R
     pub answered : List Answered
     pub ended : Server (FolderStore D F G) (RestingFolderJournal E H K) S R
+    pub notes : List ℕ → Option (List ℕ)
+    pub takes : List ℕ → Option (List ℕ)
 
   -- It was started with this limit over a folder, let its names rest, had turns over honest store and
   -- journals, and stopped as `StopsResting` says, from each book that it held then.
@@ -52,23 +56,24 @@ module _ {D E F H : Type 0} (G : DiskGhosts D F) (K : DiskGhosts E H)
     pub went : AnswersAll (RestingTurn S R) run.began run.answered run.ended
     pub stops : (book : Book) → HoldsFolder S R first run.ended book →
         StopsResting G K S R first book folder run.ended
+    pub shows : ShowsRestingFolder folder (K.contents (disk_of_all (server_journal run.ended)))
+        (G.contents (takes_disk (server_store run.ended))) run.notes run.takes
 
   -- what is there after some runs
   abbrev pub notes_after : (List ℕ → Option (List ℕ)) → List RestingRun → List ℕ → Option (List ℕ)
   notes_after notes [] = notes
-  notes_after notes (run ∷ runs) = notes_after (K.contents (disk_of_all (server_journal run.ended))) runs
+  notes_after notes (run ∷ runs) = notes_after run.notes runs
 
   abbrev pub takes_after : (List ℕ → Option (List ℕ)) → List RestingRun → List ℕ → Option (List ℕ)
   takes_after takes [] = takes
-  takes_after takes (run ∷ runs) = takes_after (G.contents (takes_disk (server_store run.ended))) runs
+  takes_after takes (run ∷ runs) = takes_after run.takes runs
 
   -- each was started over what the one before left
   abbrev pub FollowResting : ℕ → List ℕ → (first notes takes : List ℕ → Option (List ℕ)) →
       List RestingRun → Type 0
   FollowResting limit folder first notes takes [] = Unit {0}
   FollowResting limit folder first notes takes (run ∷ runs) = RanResting limit folder first notes takes run
-      × FollowResting limit folder first (K.contents (disk_of_all (server_journal run.ended)))
-      (G.contents (takes_disk (server_store run.ended))) runs
+      × FollowResting limit folder first run.notes run.takes runs
 
   -- one of them gave this verdict
   abbrev pub GaveInRuns : List RestingRun → List ℕ → ℕ → Verdict → Type 0

@@ -1,5 +1,5 @@
 -- What a server whose names rest leaves in its folder wherever it is stopped.
-use Rattle.std.specs.Prelude.{◌≡◌, ℕ, true, Option, None, is_some, IsSome, IsTrue, List, ◌<◌, ◌^◌}
+use Rattle.std.specs.Prelude.{◌≡◌, ℕ, true, Option, None, IsSome, IsTrue, List, ◌<◌, ◌^◌}
 use Rattle.bw_model.specs.Book.{Book}
 use Rattle.bw_store.specs.declared.store.TakeStore.{Ghosts as StoreGhosts}
 use Rattle.bw_disk.specs.declared.disk.Disk.{Ghosts as DiskGhosts}
@@ -12,10 +12,11 @@ use Rattle.bw_session.specs.RestFaults.{may_wake}
 use Rattle.bw_session.specs.declared.server.Server.{Server}
 use Rattle.bw_session.specs.SeenServers.{server_store, server_journal, server_limit, session_kept}
 use Rattle.bw_rest.specs.Folders.{HoldsFolder}
-use Rattle.bw_start.specs.Paths.{wave_path, notes_path, rest_path}
+use Rattle.bw_start.specs.Paths.{notes_path, rest_path}
 use Rattle.bw_start.specs.RestingStarts.{NoneStandsInTheWay}
 use Rattle.bw_left.specs.LeftFolders.{EachIsInOrder, GoesAhead, IsOwnFolder}
 use Rattle.bw_left.specs.RestingFolders.{IsLeftResting}
+use Rattle.bw_left.specs.ShownFolders.{ShowsRestingFolder}
 
 -- A name's journal where it rests: the name has no other, and may wake by it.
 pub record StandsAsAtRest (limit : ℕ) (name : List ℕ) (closed journal : Option (List ℕ)) : Type 0 where
@@ -47,15 +48,12 @@ module _ {X Y : Type 0} (S : StoreGhosts X) (J : JournalGhosts Y) where
 
 module _ {D E F H : Type 0} (G : DiskGhosts D F) (K : DiskGhosts E H)
     (S : StoreGhosts (FolderStore D F G)) (R : JournalGhosts (RestingFolderJournal E H K)) where
-  -- The server's store and journals are of one folder, and their disks show alike whether something is
-  -- at the path of a take. The journal of a loose name that stands where it rested is as it was there.
+  -- The server's store and journals are of one folder. The journal of a loose name that stands where it
+  -- rested is as it was there.
   pub record IsOverRestingFolder (s : Server (FolderStore D F G) (RestingFolderJournal E H K) S R)
       (folder : List ℕ) : Type 0 where
     pub store : takes_folder (server_store s) ≡ folder
     pub journal : folder_of_all (server_journal s) ≡ folder
-    pub alike : (name : List ℕ) →
-        is_some (K.contents (disk_of_all (server_journal s)) (wave_path folder name))
-        ≡ is_some (G.contents (takes_disk (server_store s)) (wave_path folder name))
     pub loose : (name : List ℕ) → is_loose_in (server_journal s) name ≡ true →
         IsSome (K.contents (disk_of_all (server_journal s)) (rest_path folder name)) →
         StandsAsAtRest (server_limit s) name
@@ -63,14 +61,14 @@ module _ {D E F H : Type 0} (G : DiskGhosts D F) (K : DiskGhosts E H)
         (K.contents (disk_of_all (server_journal s)) (notes_path folder name))
 
   -- A server stopped over a folder in which names rest. Who says so of one that ran:
-  -- - `honest` and `held`: a run from a book of the folder, by `LeavesRestsFrom` of bw_rest.
+  -- - `honest`: each turn, by `RestingTurn` of bw_rest; `held`: a run from a book of the folder, by
+  --   `LeavesRestsFrom` there.
   -- - `order`, `own`, `apart`: its start, by `law_resting_begins`, and each call that it makes of
   --   bw_session, of `turn`, `rest` and `wake`, by `law_resting_calls`. `RestingTurn` of bw_rest doesn't
   --   say which calls a turn makes.
-  -- - `over`: of folder and disks, store and journal, which a server keeps; of loose names the journal's
-  --   own calls: a name is loose after `wake`, by which it was fit and had no other journal, or after a
-  --   move of its journal that failed, and until something is noted under it. No relation of a server's
-  --   calls says so: that a run keeps it is tested.
+  -- - `over`: store and journal, which a server keeps; of loose names the journal's own calls: a name is
+  --   loose after `wake`, by which it was fit and had no other journal, or after a `rest` that failed,
+  --   until something is noted under it or it is put to rest. No relation of a server's calls says so.
   pub record StopsResting (first : List ℕ → Option (List ℕ)) (book : Book) (folder : List ℕ)
       (s : Server (FolderStore D F G) (RestingFolderJournal E H K) S R) : Type 0 where
     pub honest : IsTrue (S.honest (server_store s))
@@ -80,10 +78,13 @@ module _ {D E F H : Type 0} (G : DiskGhosts D F) (K : DiskGhosts E H)
     pub apart : RestsApart S R s
     pub over : IsOverRestingFolder s folder
 
-  -- So each leaves what the next start takes over, also while names that woke still stand where they
-  -- rested.
+  -- So each leaves what the next start takes over, also while journals of names in the table stand where
+  -- they rested: on any two disks that show the folder as it was left.
   abbrev pub RestingServersAreLeft : Type 0
   RestingServersAreLeft = (folder : List ℕ) (first : List ℕ → Option (List ℕ)) (book : Book)
-      (s : Server (FolderStore D F G) (RestingFolderJournal E H K) S R) → server_limit s < 2 ^ 32 →
-      StopsResting first book folder s → LeavesRestingLater (server_limit s) folder first book
-      (K.contents (disk_of_all (server_journal s))) (G.contents (takes_disk (server_store s)))
+      (s : Server (FolderStore D F G) (RestingFolderJournal E H K) S R)
+      (notes takes : List ℕ → Option (List ℕ)) → server_limit s < 2 ^ 32 →
+      StopsResting first book folder s →
+      ShowsRestingFolder folder (K.contents (disk_of_all (server_journal s)))
+      (G.contents (takes_disk (server_store s))) notes takes →
+      LeavesRestingLater (server_limit s) folder first book notes takes

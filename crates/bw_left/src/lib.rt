@@ -12,6 +12,7 @@ ghost use Rattle.bw_left.specs.LeftFolders.{LaterBooksForgetNothing};
 ghost use Rattle.bw_left.specs.LeftFolders.{LeftNamesAreInFolders, OrderedServersAreLeft};
 ghost use Rattle.bw_left.specs.LeftFolders.{QuietServersAreLeft};
 ghost use Rattle.bw_left.specs.NewFolders.{EmptyFoldersAreNew, NewFoldersAreLeft};
+ghost use Rattle.bw_left.specs.NewFolders.{FoldersWithoutRestAreLeft};
 ghost use Rattle.bw_left.specs.RestingBeginnings.{RestingStartsAreHonest};
 ghost use Rattle.bw_left.specs.RestingCalls.{FailuresKeepOrder, HonestServersAreInOrder};
 ghost use Rattle.bw_left.specs.RestingCalls.{RestsKeepOrder, TurnsKeepOrder, WakesKeepOrder};
@@ -132,10 +133,12 @@ pub fn law_resting_calls<S: TakeStore, J: Journal>()
 {}
 
 /// A folder in which no server has run is as one left it to which no message came, whether names may
-/// rest or not: so a first start asks for no earlier server.
+/// rest or not: so a first start asks for no earlier server. And what a server left that let no names
+/// rest is what one takes over that lets them rest.
 pub fn law_new_folders()
     ensures new { NewFoldersAreLeft }
     ensures empty { EmptyFoldersAreNew }
+    ensures without_rest { FoldersWithoutRestAreLeft }
 {}
 
 /// Servers whose names rest follow one another over a folder, each stopped wherever it was, over honest
