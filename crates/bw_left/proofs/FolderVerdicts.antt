@@ -1,11 +1,12 @@
 -- What a frame's turn on a folder's book does to verdicts.
 use Rattle.std.proofs.Common.{◌≡◌, ◌⊎◌, inl, inr, ℕ, zero, suc, ◌<◌, Bool}
-use Rattle.std.proofs.Common.{true, false, not, cond, ◌&&◌, ◌||◌, List, [], ◌∷◌}
+use Rattle.std.proofs.Common.{true, false, not, cond, ◌&&◌, ◌||◌, List, [], ◌∷◌, Some}
 use Rattle.std.proofs.Common.{refl, sym, ◌∙◌, ap, subst, arith}
 use Rattle.std.specs.List.{Contains}
 use Rattle.std.specs.Str.{bytes_eq}
 use Rattle.std.proofs.lemmas.Bool.{false≢true}
-use Rattle.bw_model.specs.Take.{Verdict}
+use Rattle.bw_model.specs.Bytes.{at}
+use Rattle.bw_model.specs.Take.{Request, Verdict}
 use Rattle.bw_model.specs.Wire.{Frame, Message, Says, Asks, Bye}
 use Rattle.bw_model.specs.Replies.{Reply, Judged, Noticed, Refused, Notice}
 use Rattle.bw_model.specs.Book.{Log, Book, log_of, is_known, verdict_at, no_log}
@@ -16,13 +17,14 @@ use Rattle.bw_model.proofs.BookLemmas.{name_refl, unknown_log}
 use Rattle.bw_model.proofs.Elements.{Each, each-map}
 use Rattle.bw_model.proofs.Isolation.{served-not_away}
 use Rattle.bw_model.proofs.OtherTurns.{IsOf, message_of}
-use Rattle.bw_model.proofs.VerdictLaws.{verdicts_stay, verdicts_true_reported}
+use Rattle.bw_model.proofs.VerdictLaws.{admitted_stays, verdicts_stay, verdicts_true_reported}
 use Rattle.bw_exchange.specs.Answering.{Answered}
 use Rattle.bw_exchange.specs.TurnRuns.{answers_in}
 use Rattle.bw_rest.specs.Folding.{ServesFrame, turn_where, delay_of}
 use Rattle.bw_rest.specs.OwnRuns.{book_of_name, is_own_answer, LeavesOutDelays, RunsAlone}
 use Rattle.bw_rest.proofs.OwnRuns.{names_run_alone}
 use Rattle.bw_delivery.proofs.TurnCases.{by_case}
+use Rattle.bw_left.specs.RestingLives.{IsDoneOf}
 use Rattle.bw_left.proofs.LifeSteps.{HasVerdict}
 
 -- each log of a folder's book is one, though there may be more than a table takes
@@ -100,7 +102,7 @@ served_gives full existed name b Bye faults n = tt
 module _ (existed : List ℕ → Bool) (before after : ℕ) (b mid : Book) (a : Answered) (logs : AreLogs b)
     (turned : ((full : Bool) × ServesFrame full existed before after b a.frame a.replies mid)
     ⊎ ((a.replies ≡ delay_of a.frame) × (mid ≡ b)))
-    (name : List ℕ) (n : ℕ) (v : Verdict) where
+    (name : List ℕ) (n : ℕ) where
   abbrev alone : Book
   alone = book_of_name b name
 
@@ -127,16 +129,25 @@ module _ (existed : List ℕ → Bool) (before after : ℕ) (b mid : Book) (a : 
   ran : RunsAlone existed name b mid (a ∷ [])
   ran = names_run_alone existed name before after b mid (a ∷ []) (after, mid, turned, (refl, refl))
 
+  -- each request stays
+  pub request_stays : (r : Request) → IsDoneOf b name n r → IsDoneOf mid name n r
+  request_stays r h =
+      let own = subst (λ (l : Log). (n < l.done) × (at l.admitted n ≡ Some r)) (sym alone_log) h in
+      subst (λ (l : Log). (n < l.done) × (at l.admitted n ≡ Some r)) ran.log (
+        (verdicts_stay existed alone ran.received alone_is name n own.0).0,
+        admitted_stays existed alone ran.received name n r own.1,
+      )
+
   -- each verdict stays
-  pub verdict_stays : HasVerdict existed b name n v → HasVerdict existed mid name n v
-  verdict_stays h =
+  pub verdict_stays : (v : Verdict) → HasVerdict existed b name n v → HasVerdict existed mid name n v
+  verdict_stays v h =
       let own = has_by existed b alone name n v (sym alone_log) h in
       let more = verdicts_stay existed alone ran.received alone_is name n own.0 in
       has_by existed (book_after existed alone ran.received) mid name n v ran.log (more.0, own.1 ∙ sym more.1)
 
   -- and each that is given is that of a done number
-  pub verdict_given : Contains a.replies (Judged name n v) → HasVerdict existed mid name n v
-  verdict_given said = go (is_own_answer name a) refl
+  pub verdict_given : (v : Verdict) → Contains a.replies (Judged name n v) → HasVerdict existed mid name n v
+  verdict_given v said = go (is_own_answer name a) refl
     where
       put_off : a.replies ≡ delay_of a.frame → ⊥
       put_off e = contains-none name n v (delay_of a.frame) (delay_gives name a.frame)

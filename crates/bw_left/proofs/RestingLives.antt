@@ -1,16 +1,18 @@
 -- Verdicts of servers whose names rest, one after another.
 use Rattle.std.proofs.Common.{◌≡◌, ◌⊎◌, inl, inr, ℕ, ◌<◌, ◌^◌, Bool, true, false, List, [], ◌∷◌, Option, is_some}
-use Rattle.std.proofs.Common.{refl, sym, ◌∙◌, ap, subst}
+use Rattle.std.proofs.Common.{refl, sym, ◌∙◌, ap, subst, arith, Some}
 use Rattle.std.specs.Prelude.{IsTrue, MatchBool}
-use Rattle.bw_model.specs.Take.{Verdict}
+use Rattle.bw_model.specs.Bytes.{at}
+use Rattle.bw_model.specs.Take.{Request, Verdict}
 use Rattle.bw_model.specs.Replies.{Reply}
 use Rattle.bw_model.specs.Wire.{Frame}
-use Rattle.bw_model.specs.Book.{Book, log_of, is_known}
+use Rattle.bw_model.specs.Book.{Log, Book, log_of, is_known}
 use Rattle.bw_model.specs.BookRules.{IsLog}
 use Rattle.bw_store.specs.declared.store.TakeStore.{Ghosts as StoreGhosts}
 use Rattle.bw_disk.specs.declared.disk.Disk.{Ghosts as DiskGhosts}
 use Rattle.bw_journal.specs.declared.journal.Journal.{Ghosts as JournalGhosts}
 use Rattle.bw_journal.specs.Stops.{cut_book}
+use Rattle.bw_journal.proofs.CutLaws.{at-take, logs_cut}
 use Rattle.bw_exchange.specs.Answering.{Answered, AnswersAll}
 use Rattle.bw_folder.specs.declared.folder.FolderStore.{FolderStore}
 use Rattle.bw_folder.specs.declared.journal.FolderJournal.{FolderJournal}
@@ -23,10 +25,31 @@ use Rattle.bw_rest.specs.Resting.{RestingTurn, FolderTurn}
 use Rattle.bw_rest.proofs.RestRuns.{honest_then}
 use Rattle.bw_left.specs.RestingFolders.{IsLeftResting, RestingStartsHoldFolders}
 use Rattle.bw_left.specs.RestingStops.{RestingServersAreLeft, LeavesRestingLater}
-use Rattle.bw_left.specs.RestingLives.{GaveInAnswers, RanResting}
+use Rattle.bw_left.specs.LeftFolders.{GoesAhead}
+use Rattle.bw_left.specs.RestingLives.{GaveInAnswers, IsDoneOf, RanResting}
 use Rattle.bw_left.specs.RestingLives.{RestingVerdictsOutliveStops}
-use Rattle.bw_left.proofs.FolderVerdicts.{AreLogs, verdict_stays, verdict_given}
+use Rattle.bw_left.proofs.FolderVerdicts.{AreLogs, request_stays, verdict_stays, verdict_given}
 use Rattle.bw_left.proofs.LifeSteps.{HasVerdict, through_stop, through_start}
+
+-- a request stays through a start, which cuts the book
+request_cut : (book : Book) (name : List ℕ) (n : ℕ) (r : Request) → IsDoneOf book name n r →
+    IsDoneOf (cut_book book) name n r
+request_cut book name n r h =
+    let cut = logs_cut book name in
+    let done = ap (λ (l : Log). l.done) cut in
+    let below = h.0 in (
+      omega (arith, done, below),
+      ap (λ (l : Log). at l.admitted n) cut ∙ at-take (log_of book name).done n (log_of book name).admitted h.0 ∙ h.1,
+    )
+
+-- and through a stop
+request_ahead : (book later : Book) (name : List ℕ) (n : ℕ) (r : Request) → GoesAhead book later →
+    IsDoneOf book name n r → IsDoneOf later name n r
+request_ahead book later name n r goes h = elim (goes.logs name) [
+  | inl e ↦ subst (λ (l : Log). (n < l.done) × (at l.admitted n ≡ Some r)) (sym e) h
+  | inr x ↦ subst (λ (l : Log). (n < l.done) × (at l.admitted n ≡ Some r)) (sym x.1)
+      (let below = h.0 in (omega (arith, below), h.1))
+]
 
 module _ {X Y : Type 0} (S : StoreGhosts X) (J : JournalGhosts Y) (first : List ℕ → Option (List ℕ)) where
   abbrev existed : List ℕ → Bool
@@ -48,6 +71,7 @@ module _ {X Y : Type 0} (S : StoreGhosts X) (J : JournalGhosts Y) (first : List 
   pub record TurnsKept (s : Server X Y S J) (book : Book) (answered : List Answered) : Type 0 where
     pub later : Book
     pub held : HoldsFolder S J first s later
+    pub requests : (name : List ℕ) (n : ℕ) (r : Request) → IsDoneOf book name n r → IsDoneOf later name n r
     pub kept : (name : List ℕ) (n : ℕ) (v : Verdict) → HasVerdict existed book name n v →
         HasVerdict existed later name n v
     pub given : (name : List ℕ) (n : ℕ) (v : Verdict) → GaveInAnswers answered name n v →
@@ -59,6 +83,7 @@ module _ {X Y : Type 0} (S : StoreGhosts X) (J : JournalGhosts Y) (first : List 
   turns_kept old new [] book honest honest_notes h same = record {
     later = book;
     held = subst (λ (s : Server X Y S J). HoldsFolder S J first s book) (sym same) h;
+    requests = λ name n r is. is;
     kept = λ name n v has. has;
     given = λ name n v gave. absurd gave;
   }
@@ -75,6 +100,8 @@ module _ {X Y : Type 0} (S : StoreGhosts X) (J : JournalGhosts Y) (first : List 
       record {
         later = on.later;
         held = on.held;
+        requests = λ name n r is. on.requests name n r (request_stays existed (failures_of S J old)
+            (failures_of S J mid) book turn.later a logs by name n r is);
         kept = λ name n v has. on.kept name n v (verdict_stays existed (failures_of S J old) (failures_of S J mid) book
             turn.later a logs by name n v has);
         given = λ name n v gave. elim gave [
@@ -106,6 +133,7 @@ pub resting_lives : {D E F H : Type 0} (G : DiskGhosts D F) (K : DiskGhosts E H)
 resting_lives G K S J R starts stops limit folder first notes takes book [] small left went = record {
   after = book;
   left = left;
+  requests = λ name n r is. is;
   kept = λ name n v has. has;
   given = λ name n v gave. absurd gave;
 }
@@ -127,6 +155,8 @@ resting_lives {D} {E} {F} {H} G K S J R starts stops limit folder first notes ta
     record {
       after = on.after;
       left = on.left;
+      requests = λ name n r is. on.requests name n r (request_ahead turned.later stop.later name n r stop.ahead
+          (turned.requests name n r (request_cut book name n r is)));
       kept = λ name n v has. on.kept name n v (through_stop (λ x. is_some (first x)) turned.later stop.later name n v
           stop.ahead (turned.kept name n v (through_start (λ x. is_some (first x)) book name n v has)));
       given = λ name n v gave. elim gave [

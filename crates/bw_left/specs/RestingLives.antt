@@ -1,7 +1,8 @@
 -- Servers whose names rest, one after another over a folder, each stopped wherever it was.
-use Rattle.std.specs.Prelude.{◌≡◌, ◌⊎◌, ◌<◌, ◌^◌, ℕ, Option, is_some, IsTrue, List, [], ◌∷◌}
+use Rattle.std.specs.Prelude.{◌≡◌, ◌⊎◌, ◌<◌, ◌^◌, ℕ, Option, Some, is_some, IsTrue, List, [], ◌∷◌}
 use Rattle.std.specs.List.{Contains}
-use Rattle.bw_model.specs.Take.{Verdict}
+use Rattle.bw_model.specs.Bytes.{at}
+use Rattle.bw_model.specs.Take.{Request, Verdict}
 use Rattle.bw_model.specs.Replies.{Judged}
 use Rattle.bw_model.specs.Book.{Book, log_of, verdict_at}
 use Rattle.bw_store.specs.declared.store.TakeStore.{Ghosts as StoreGhosts}
@@ -26,6 +27,10 @@ use Rattle.bw_left.specs.ShownFolders.{ShowsRestingFolder}
 abbrev pub IsDoneWith : (List ℕ → Option (List ℕ)) → Book → List ℕ → ℕ → Verdict → Type 0
 IsDoneWith first book name n v = (n < (log_of book name).done)
     × (v ≡ verdict_at (is_some (first name)) (log_of book name).admitted n)
+
+-- the number is done in the book, and is this request's
+abbrev pub IsDoneOf : Book → List ℕ → ℕ → Request → Type 0
+IsDoneOf book name n r = (n < (log_of book name).done) × (at (log_of book name).admitted n ≡ Some r)
 
 -- in one of these answers this verdict was given
 abbrev pub GaveInAnswers : List Answered → List ℕ → ℕ → Verdict → Type 0
@@ -80,12 +85,14 @@ module _ {D E F H : Type 0} (G : DiskGhosts D F) (K : DiskGhosts E H)
   GaveInRuns [] name n v = ⊥
   GaveInRuns (run ∷ runs) name n v = GaveInAnswers run.answered name n v ⊎ GaveInRuns runs name n v
 
-  -- They leave a folder of a book in which each number that was done at first is done, with its verdict,
-  -- and each of which one of them gave a verdict, with that one.
+  -- They leave a folder of a book in which each number that was done at first is done, with its request
+  -- and its verdict, and each of which one of them gave a verdict, with that one.
   pub record LeavesVerdicts (limit : ℕ) (folder : List ℕ) (first notes takes : List ℕ → Option (List ℕ))
       (book : Book) (runs : List RestingRun) : Type 0 where
     pub after : Book
     pub left : IsLeftResting limit folder first after (notes_after notes runs) (takes_after takes runs)
+    pub requests : (name : List ℕ) (n : ℕ) (r : Request) → IsDoneOf book name n r →
+        IsDoneOf after name n r
     pub kept : (name : List ℕ) (n : ℕ) (v : Verdict) → IsDoneWith first book name n v →
         IsDoneWith first after name n v
     pub given : (name : List ℕ) (n : ℕ) (v : Verdict) → GaveInRuns runs name n v →
