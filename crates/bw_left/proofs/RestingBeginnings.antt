@@ -11,6 +11,7 @@ use Rattle.bw_store.specs.declared.store.TakeStore.{Ghosts as StoreGhosts}
 use Rattle.bw_disk.specs.declared.disk.Disk.{Ghosts as DiskGhosts}
 use Rattle.bw_journal.specs.JournalHeaders.{Header}
 use Rattle.bw_journal.specs.Stops.{cut_book}
+use Rattle.bw_journal.proofs.CutLaws.{logs_cut}
 use Rattle.bw_journal.specs.declared.journal.Journal.{Ghosts as JournalGhosts}
 use Rattle.bw_folder.specs.JournalFolders.{header_in_folder}
 use Rattle.bw_folder.specs.Journals.{journal_path}
@@ -161,7 +162,8 @@ resting_beginnings G K S J R starts noteds restings headers settings folder firs
           held;
       names = begins_named G K S J R noteds restings headers settings folder first book notes takes s was left honest
           held;
-      foreign = λ name bytes none stood. foreign name bytes stood;
+      foreign = λ name bytes none stood. foreign name bytes
+          (sym (ap (λ (l : Log). l.done) (logs_cut book name)) ∙ none) stood;
       apart = begins_apart G K S J R noteds restings headers settings folder first book notes takes s was left honest
           held;
     }

@@ -1,6 +1,6 @@
 -- Servers whose names rest, as they begin.
-use Rattle.std.specs.Prelude.{ℕ, Option, IsTrue, List, ◌<◌, ◌^◌}
-use Rattle.bw_model.specs.Book.{Book}
+use Rattle.std.specs.Prelude.{◌≡◌, ℕ, false, Option, Some, IsTrue, List, ◌<◌, ◌^◌}
+use Rattle.bw_model.specs.Book.{Book, log_of}
 use Rattle.bw_store.specs.declared.store.TakeStore.{Ghosts as StoreGhosts}
 use Rattle.bw_disk.specs.declared.disk.Disk.{Ghosts as DiskGhosts}
 use Rattle.bw_journal.specs.Stops.{cut_book}
@@ -10,21 +10,23 @@ use Rattle.bw_folder.specs.declared.journal.FolderJournal.{FolderJournal}
 use Rattle.bw_folder.specs.declared.resting.RestingFolderJournal.{RestingFolderJournal}
 use Rattle.bw_session.specs.declared.server.Server.{Server}
 use Rattle.bw_session.specs.SeenServers.{server_store, server_journal}
+use Rattle.bw_start.specs.Names.{begins_take}
 use Rattle.bw_start.specs.declared.resting.Settings.{Settings}
 use Rattle.bw_left.specs.RestingCalls.{RestsHonestly}
 use Rattle.bw_left.specs.RestingFolders.{WasStartedResting, IsLeftResting}
-use Rattle.bw_left.specs.ServedWorlds.{NoneIsForeign}
 
 module _ {D E F H : Type 0} (G : DiskGhosts D F) (K : DiskGhosts E H)
     (S : StoreGhosts (FolderStore D F G)) (J : JournalGhosts (FolderJournal E H K))
     (R : JournalGhosts (RestingFolderJournal E H K)) where
   -- A server that was started over what an earlier one left, over honest disks, is as its calls keep it,
-  -- if no file that begins as this server's existed before the first one.
+  -- if no file that begins as this server's existed at first under a name of which no number is done.
   abbrev pub RestingStartsAreHonest : Type 0
   RestingStartsAreHonest = (settings : Settings) (folder : List ℕ)
       (first : List ℕ → Option (List ℕ)) (book : Book) (notes takes : List ℕ → Option (List ℕ))
       (s : Server (FolderStore D F G) (RestingFolderJournal E H K) S R) → settings.limit < 2 ^ 32 →
       WasStartedResting G K S J R settings folder notes takes s →
       IsLeftResting settings.limit folder first book notes takes →
-      IsTrue (S.honest (server_store s)) → IsTrue (R.honest (server_journal s)) → NoneIsForeign first →
+      IsTrue (S.honest (server_store s)) → IsTrue (R.honest (server_journal s)) →
+      ((name bytes : List ℕ) → (log_of book name).done ≡ 0 → first name ≡ Some bytes →
+      begins_take bytes ≡ false) →
       RestsHonestly S R first s (cut_book book)

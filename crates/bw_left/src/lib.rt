@@ -116,7 +116,8 @@ pub fn law_resting_stops<D: Volume, E: Volume>()
 {}
 
 /// What is asked of it, but for its folder, holds when it begins over what an earlier one left, with
-/// honest disks, if no file that begins as this server's existed before the first one.
+/// honest disks, if no file that begins as this server's existed at first under a name of which no
+/// number is done.
 pub fn law_resting_begins<D: Volume, E: Volume>()
     ensures { RestingStartsAreHonest D.Disk E.Disk ⟦<FolderStore<D> as TakeStore>⟧
         ⟦<FolderJournal<E> as Journal>⟧ ⟦<RestingFolderJournal<E> as Journal>⟧ }
