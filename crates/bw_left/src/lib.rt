@@ -54,7 +54,8 @@ pub fn law_stopped<S: TakeStore, J: Journal>()
 {}
 
 /// The same by the disks of a folder, as those that die in a chosen call (`MortalDisk` of `bw_disk`):
-/// a server that is stopped leaves on them what `start` takes as its premise.
+/// on any two that show the folder as a stopped server left it, `start` finds what it takes as its
+/// premise.
 pub fn law_killed<D: Volume, E: Volume>()
     ensures { KilledFoldersAreLeft D.Disk E.Disk ⟦<FolderStore<D> as TakeStore>⟧
         ⟦<FolderJournal<E> as Journal>⟧ }
