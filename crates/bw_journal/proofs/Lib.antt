@@ -19,3 +19,4 @@ pub mod RepairLaws
 pub mod BetweenLaws
 pub mod Starts
 pub mod StopLaws
+pub mod StandingForms

@@ -16,3 +16,4 @@ pub mod Rows
 pub mod Stops
 pub mod Recovery
 pub mod Resting
+pub mod Standing

@@ -1,5 +1,5 @@
 -- Journals of which some rest.
-use Rattle.std.specs.Prelude.{◌≡◌, ◌≢◌, ℕ, Bool, true, false, Option, Some, None, IsSome, List}
+use Rattle.std.specs.Prelude.{◌≡◌, ◌≢◌, ℕ, Bool, true, false, Option, Some, None, IsSome, List, Result, Ok, Err}
 use Rattle.bw_store.specs.Stores.{KeepsOthers}
 use Rattle.bw_journal.specs.JournalHeaders.{Header}
 
@@ -55,6 +55,11 @@ RestsIf false name before after = SameJournals before after
 abbrev pub WakesIf : Bool → List ℕ → Journals → Journals → Type 0
 WakesIf true name before after = WakesJournal name before after
 WakesIf false name before after = (before.resting name ≡ None) × SameJournals before after
+
+-- a journal woke
+abbrev pub is_woken : {E : Type 0} → Result Bool E → Bool
+is_woken (Ok woken) = woken
+is_woken (Err e) = false
 
 -- What a name's journal begins with where names may rest: a name under which something rests has a
 -- file that exists.

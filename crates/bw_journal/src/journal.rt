@@ -1,11 +1,12 @@
 //! Journals by name, next to a store of takes.
-ghost use Rattle.std.specs.Prelude.{◌≡◌, ℕ, List, Bool, Option, None, false, IsOk, IsTrue, OnOk};
+ghost use Rattle.std.specs.Prelude.{◌≡◌, ℕ, List, [], Bool, Option, None, false, IsOk, IsTrue, OnOk};
 ghost use Rattle.std.specs.Prelude.{OnErr, is_err};
 ghost use Rattle.bw_model.specs.Counts.{Counts};
 ghost use Rattle.bw_store.specs.Stores.{KeepsOthers};
 ghost use Rattle.bw_journal.specs.JournalHeaders.{Header};
 ghost use Rattle.bw_journal.specs.Notes.{BeginsNotes, BeginsInPart, Notes, NotesInPart};
 ghost use Rattle.bw_journal.specs.Notes.{KeepsHeaders, KeepsResting};
+ghost use Rattle.bw_journal.specs.Standing.{Standing, Apart, KeepsStanding};
 
 use bw_request::Name;
 use bw_store::StoreFault;
@@ -31,6 +32,12 @@ pub trait Journal: Drop {
     /// Whether the journal does what the clauses on notes, headers and what rests say.
     ghost honest: { Self → Bool };
 
+    /// The path of the folder that the journals are kept in, if there is one: no call changes it.
+    ghost folder: { Self → List ℕ } = { λ _. [] };
+
+    /// Where the journal of each name stands that doesn't rest.
+    ghost stands: { Self → List ℕ → Standing } = { λ _ _. Apart };
+
     /// Writes the header of a name's journal, unless it is there whole.
     ///
     /// Bytes that are no prefix of the header are never written over.
@@ -46,6 +53,9 @@ pub trait Journal: Drop {
     fn begin(&mut self, name: &Name) -> Result<(), StoreFault>
         ensures failures { Counts (failures self.old) (failures self.new) (is_err result) }
         ensures honest { honest self.new ≡ honest self.old }
+        ensures folder { folder self.new ≡ folder self.old }
+        ensures standing { IsTrue (honest self.old) → KeepsStanding (stands self.old)
+            (stands self.new) (notes self.old) (notes self.new) }
         ensures headers { IsTrue (honest self.old) →
             KeepsHeaders (header self.old) (header self.new) }
         ensures resting { IsTrue (honest self.old) →
@@ -72,6 +82,9 @@ pub trait Journal: Drop {
     fn note(&mut self, name: &Name, offset: u64, bytes: &[u8]) -> Result<(), StoreFault>
         ensures failures { Counts (failures self.old) (failures self.new) (is_err result) }
         ensures honest { honest self.new ≡ honest self.old }
+        ensures folder { folder self.new ≡ folder self.old }
+        ensures standing { IsTrue (honest self.old) → KeepsStanding (stands self.old)
+            (stands self.new) (notes self.old) (notes self.new) }
         ensures headers { IsTrue (honest self.old) →
             KeepsHeaders (header self.old) (header self.new) }
         ensures resting { IsTrue (honest self.old) →

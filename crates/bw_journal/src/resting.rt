@@ -1,7 +1,8 @@
 //! Journals that can rest.
 ghost use Rattle.std.specs.Prelude.{◌≡◌, ℕ, List, Option, IsTrue, IfOk, OnErr, is_err, option_map};
 ghost use Rattle.bw_model.specs.Counts.{Counts};
-ghost use Rattle.bw_journal.specs.Resting.{journals, SameJournals, RestsIf, WakesIf};
+ghost use Rattle.bw_journal.specs.Resting.{journals, SameJournals, RestsIf, WakesIf, is_woken};
+ghost use Rattle.bw_journal.specs.Standing.{KeepsStanding, MayStandAtRest, StandsIf};
 
 use crate::journal::Journal;
 use bw_request::Name;
@@ -23,6 +24,10 @@ pub trait RestingJournal: Journal {
     fn rest(&mut self, name: &Name) -> Result<bool, StoreFault>
         ensures failures { Counts (Self.failures self.old) (Self.failures self.new) (is_err result) }
         ensures honest { Self.honest self.new ≡ Self.honest self.old }
+        ensures folder { Self.folder self.new ≡ Self.folder self.old }
+        ensures standing { IsTrue (Self.honest self.old) → MayStandAtRest name.now
+            (Self.stands self.old) (Self.stands self.new)
+            (Self.notes self.old) (Self.notes self.new) }
         ensures rested { IsTrue (Self.honest self.old) → IfOk result (λ rested.
             RestsIf rested name.now
             (journals (Self.notes self.old) (Self.resting self.old) (Self.header self.old))
@@ -41,6 +46,9 @@ pub trait RestingJournal: Journal {
     fn read_resting(&mut self, name: &Name) -> Result<Option<Vec<u8>>, StoreFault>
         ensures failures { Counts (Self.failures self.old) (Self.failures self.new) (is_err result) }
         ensures honest { Self.honest self.new ≡ Self.honest self.old }
+        ensures folder { Self.folder self.new ≡ Self.folder self.old }
+        ensures standing { IsTrue (Self.honest self.old) → KeepsStanding (Self.stands self.old)
+            (Self.stands self.new) (Self.notes self.old) (Self.notes self.new) }
         ensures read { IsTrue (Self.honest self.old) → IfOk result (λ found.
             option_map (λ v. v.items) found ≡ Self.resting self.old name.now) }
         ensures kept { IsTrue (Self.honest self.old) → SameJournals
@@ -58,6 +66,10 @@ pub trait RestingJournal: Journal {
     fn wake(&mut self, name: &Name) -> Result<bool, StoreFault>
         ensures failures { Counts (Self.failures self.old) (Self.failures self.new) (is_err result) }
         ensures honest { Self.honest self.new ≡ Self.honest self.old }
+        ensures folder { Self.folder self.new ≡ Self.folder self.old }
+        ensures standing { IsTrue (Self.honest self.old) → StandsIf (is_woken result) name.now
+            (Self.stands self.old) (Self.stands self.new)
+            (Self.notes self.old) (Self.notes self.new) }
         ensures woken { IsTrue (Self.honest self.old) → IfOk result (λ woken.
             WakesIf woken name.now
             (journals (Self.notes self.old) (Self.resting self.old) (Self.header self.old))

@@ -2,7 +2,7 @@
 use Rattle.std.specs.Prelude.{◌≡◌, ℕ, ◌≤◌, Bool, Option, List, length, IsTrue, is_some}
 use Rattle.std.specs.List.{list_any}
 use Rattle.bw_model.specs.Counts.{Counts}
-use Rattle.bw_model.specs.Wire.{Frame, Message, Says, Asks, Bye}
+use Rattle.bw_model.specs.Wire.{Frame, Message, Says, Asks, Bye, Second, is_frame}
 use Rattle.bw_model.specs.Replies.{Reply}
 use Rattle.bw_model.specs.Book.{Book}
 use Rattle.bw_model.specs.CountedTurn.{IsTurn, is_delayed}
@@ -10,7 +10,8 @@ use Rattle.bw_store.specs.declared.store.TakeStore.{Ghosts as StoreGhosts}
 use Rattle.bw_model.specs.Turn.{is_turned_away}
 use Rattle.bw_journal.specs.Notes.{KeepsHeaders, KeepsResting}
 use Rattle.bw_journal.specs.declared.journal.Journal.{Ghosts as JournalGhosts}
-use Rattle.bw_session.specs.Books.{failures_of, HoldsBook, NotesBook, SameStores, AsksTurn}
+use Rattle.bw_session.specs.Books.{failures_of, HoldsBook, NotesBook, SameStores, AsksTurn, OrdersBooks}
+use Rattle.bw_session.specs.Numbered.{KeepsBoth}
 use Rattle.bw_session.specs.Servers.{done_in}
 use Rattle.bw_session.specs.Sessions.{CallsFew}
 use Rattle.bw_session.specs.declared.server.Server.{Server}
@@ -31,9 +32,13 @@ module _ {X Y : Type 0} (S : StoreGhosts X) (J : JournalGhosts Y) where
     pub noted : IsTrue (J.honest old.stores.journal) → NotesBook S J first old book →
         NotesBook S J first new later
 
-  -- What the store is asked for a message: what its turn asks, in at most four calls for each number
-  -- of its name that was done, and four more where a call failed.
+  -- What store and journal are asked for a message, which is one of a frame: what its turn asks of the
+  -- store, in at most four calls for each number of its name that was done, and four more where a call
+  -- failed; and of each other name they have what they had.
   pub record AsksForMessage (m : Message) (failed : Bool) (old new : Server X Y S J) : Type 0 where
+    pub fits : IsTrue (is_frame Second (Says m))
+    pub both : KeepsBoth S J failed m.name old.stores.store new.stores.store old.stores.journal
+        new.stores.journal
     pub asked : AsksTurn S J old new m
     pub few : CallsFew (S.calls old.stores.store) (S.calls new.stores.store)
         (done_in old.sessions m.name) (done_in new.sessions m.name) failed
@@ -46,7 +51,8 @@ module _ {X Y : Type 0} (S : StoreGhosts X) (J : JournalGhosts Y) where
 
   -- A server may answer the frame so. Over any store and journal its limit stays, these are as
   -- honest as they were, the replies are few, and none reports a failed call where none failed;
-  -- over an honest store it is a turn on every book that the server holds.
+  -- over an honest store it is a turn on every book that the server holds, and over an honest journal
+  -- too it keeps the order of file and entry.
   pub record ServerTurn (old : Server X Y S J) (frame : Frame) (replies : List Reply)
       (new : Server X Y S J) : Type 0 where
     pub limit : new.limit ≡ old.limit
@@ -68,3 +74,4 @@ module _ {X Y : Type 0} (S : StoreGhosts X) (J : JournalGhosts Y) where
     pub away : IsTrue (is_turned_away replies) → SameStores S J old new
     pub turned : IsTrue (S.honest old.stores.store) → (first : List ℕ → Option (List ℕ))
         (book : Book) → HoldsBook S J first old book → TurnsOn first old new book frame replies
+    pub ordered : OrdersBooks S J old new

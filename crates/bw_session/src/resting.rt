@@ -92,6 +92,10 @@ impl<S: TakeStore, J: RestingJournal> Server<S, J> {
         ensures failures { Counts (J.failures (server_journal self.old))
             (J.failures (server_journal self.new)) (is_rest_failed result) }
         ensures honest { J.honest (server_journal self.new) ≡ J.honest (server_journal self.old) }
+        ensures folder { J.folder (server_journal self.new) ≡ J.folder (server_journal self.old) }
+        ensures standing { IsTrue (J.honest (server_journal self.old)) → MayStandAtRest name.now
+            (J.stands (server_journal self.old)) (J.stands (server_journal self.new))
+            (J.notes (server_journal self.old)) (J.notes (server_journal self.new)) }
         ensures unready { restable_kept self.old name.now ≡ false →
             (result ≡ Ok false) × (self.new ≡ self.old) }
         ensures rested { IfOk result (λ rested.

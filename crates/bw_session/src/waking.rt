@@ -54,6 +54,10 @@ impl<S: TakeStore, J: RestingJournal> Server<S, J> {
         ensures failures { Counts (J.failures (server_journal self.old))
             (J.failures (server_journal self.new)) (is_err result) }
         ensures honest { J.honest (server_journal self.new) ≡ J.honest (server_journal self.old) }
+        ensures folder { J.folder (server_journal self.new) ≡ J.folder (server_journal self.old) }
+        ensures standing { IsTrue (J.honest (server_journal self.old)) → KeepsStanding
+            (J.stands (server_journal self.old)) (J.stands (server_journal self.new))
+            (J.notes (server_journal self.old)) (J.notes (server_journal self.new)) }
         ensures value { IsTrue (J.honest (server_journal self.old)) → IfOk result (λ rests.
             rests ≡ is_some (J.resting (server_journal self.old) name.now)) }
         ensures kept { KeepsNames S.TakeStore J.Journal self.old self.new }
@@ -79,6 +83,11 @@ impl<S: TakeStore, J: RestingJournal> Server<S, J> {
         ensures failures { Counts (J.failures (server_journal self.old))
             (J.failures (server_journal self.new)) (is_wake_failed result) }
         ensures honest { J.honest (server_journal self.new) ≡ J.honest (server_journal self.old) }
+        ensures folder { J.folder (server_journal self.new) ≡ J.folder (server_journal self.old) }
+        ensures standing { IsTrue (J.honest (server_journal self.old)) →
+            StandsIf (is_woken result) name.now
+            (J.stands (server_journal self.old)) (J.stands (server_journal self.new))
+            (J.notes (server_journal self.old)) (J.notes (server_journal self.new)) }
         ensures woken { IfOk result (λ woken.
             WakesNameIf S.TakeStore J.Journal woken name.now self.old self.new) }
         ensures failed { OnErr result (KeepsNames S.TakeStore J.Journal self.old self.new) }

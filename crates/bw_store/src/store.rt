@@ -43,6 +43,9 @@ pub trait TakeStore: Drop {
     /// Whether the store does what the clauses on contents say.
     ghost honest: { Self → Bool };
 
+    /// The path of the folder that contents are kept in, if there is one: no call changes it.
+    ghost folder: { Self → List ℕ } = { λ _. [] };
+
     /// Makes a name with empty contents, unless it is there already.
     ///
     /// # Errors
@@ -56,6 +59,7 @@ pub trait TakeStore: Drop {
         ensures calls { Counts (calls self.old) (calls self.new) true }
         ensures asked { Asks (Create name.now ∷ []) (asked self.old) (asked self.new) }
         ensures honest { honest self.new ≡ honest self.old }
+        ensures folder { folder self.new ≡ folder self.old }
         ensures created { IsTrue (honest self.old) →
             IfOk result (λ c. Creates c (contents self.old name.now) (contents self.new name.now)) }
         ensures failed { IsTrue (honest self.old) →
@@ -78,6 +82,7 @@ pub trait TakeStore: Drop {
         ensures asked { Asks (WriteAt name.now offset (length bytes.now) ∷ [])
             (asked self.old) (asked self.new) }
         ensures honest { honest self.new ≡ honest self.old }
+        ensures folder { folder self.new ≡ folder self.old }
         ensures written { IsTrue (honest self.old) → OnOk result
             (Written (contents self.old name.now) offset bytes.now (contents self.new name.now)) }
         ensures failed { IsTrue (honest self.old) → OnErr result (MayTear
@@ -99,6 +104,7 @@ pub trait TakeStore: Drop {
         ensures calls { Counts (calls self.old) (calls self.new) true }
         ensures asked { Asks (Finish name.now ∷ []) (asked self.old) (asked self.new) }
         ensures honest { honest self.new ≡ honest self.old }
+        ensures folder { folder self.new ≡ folder self.old }
         ensures unchanged { IsTrue (honest self.old) →
             (other : List ℕ) → contents self.new other ≡ contents self.old other };
 }

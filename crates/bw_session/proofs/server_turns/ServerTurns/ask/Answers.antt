@@ -22,6 +22,7 @@ returns-clause-answered g c = record {
   delays = next_not_delayed c.name.result c.number.result c.ask.ensures.notice.0 (reply_of c.ask.result)
       c.ask.ensures.notice.1;
   asks = refl;
+  ordered = λ honest honest_notes first book h n o. o;
   away = λ turned_away. (refl, refl);
   turned = λ honest first book h. record {
     later = book;

@@ -4,6 +4,7 @@ use Rattle.std.specs.Prelude.{is_some}
 use Rattle.bw_model.specs.Book.{Book}
 use Rattle.bw_wire.specs.Frames.{message_of}
 use Rattle.bw_wire.specs.Replies.{reply_of}
+use Rattle.bw_wire.proofs.BodyLaws.{message_spelled}
 use Rattle.bw_session.specs.Books.{failures_of, NotesBook}
 use Rattle.bw_session.specs.Servers.{store_since, done_in}
 use Rattle.bw_session.specs.Tables.{session_in}
@@ -24,7 +25,8 @@ returns-clause-answered g c =
       failed = c.turn.ensures.both.0;
       counted = both.failures;
       delays = one_failed c.turn.ensures.both.0 c.turn.new.out.items c.turn.ensures.both.3;
-      asks = record { asked = c.turn.ensures.asked; few = c.turn.ensures.both.2 };
+      asks = record { fits = (message_spelled c.args.message.now.body.now c.args.message.now.spells).fits; both = both; asked = c.turn.ensures.asked; few = c.turn.ensures.both.2 };
+      ordered = c.turn.ensures.ordered;
       away = λ turned_away. let kept = c.turn.ensures.uncalled turned_away in (kept.0, kept.1);
       turned = λ honest first book h.
           let t = c.turn.ensures.turned honest first book h in
