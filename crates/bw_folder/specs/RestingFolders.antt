@@ -2,12 +2,13 @@
 use Rattle.std.specs.Prelude.{◌≡◌, ◌⊎◌, Bool, ℕ, List, Option, Result, IsTrue, IfOk, OnErr}
 use Rattle.std.specs.Prelude.{string_bytes}
 use Rattle.bw_journal.specs.Resting.{Journals}
+use Rattle.bw_journal.specs.Standing.{Standing}
 use Rattle.bw_disk.specs.DiskSteps.{StaysWhole}
 use Rattle.bw_disk.specs.Volumes.{Moves, Renames, KeepsEach}
 use Rattle.bw_disk.specs.declared.disk.Disk.{Ghosts}
 use Rattle.bw_folder.specs.Journals.{existences, failure_of}
 use Rattle.bw_folder.specs.JournalFolders.{header_in_folder}
-use Rattle.bw_folder.specs.RestingJournals.{is_loose, folder_journals}
+use Rattle.bw_folder.specs.RestingJournals.{is_loose, folder_journals, standing_at}
 use Rattle.bw_folder.specs.declared.journal.FolderJournal.{FolderJournal}
 use Rattle.bw_folder.specs.declared.resting.RestingFolderJournal.{RestingFolderJournal}
 
@@ -78,6 +79,11 @@ module _ {D F : Type 0} {G : Ghosts D F} where
   -- whether a sync failed for a name's journal, if it is open
   abbrev pub sync_failed_of_all : RestingFolderJournal D F G → List ℕ → Option Bool
   sync_failed_of_all j name = failure_of j.inner.journals.items name
+
+  -- where the journal of a name stands that doesn't rest
+  abbrev pub stands_in_all : RestingFolderJournal D F G → List ℕ → Standing
+  stands_in_all j name =
+      standing_at (is_loose j.loose name) (G.contents j.inner.disk) (string_bytes j.inner.folder) name
 
   -- whether the journal of a name is loose
   abbrev pub is_loose_in : RestingFolderJournal D F G → List ℕ → Bool

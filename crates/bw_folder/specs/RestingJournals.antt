@@ -7,6 +7,7 @@ use Rattle.std.specs.Str.{bytes_eq}
 use Rattle.bw_journal.specs.JournalHeaders.{Header}
 use Rattle.bw_journal.specs.Resting.{Journals, journals}
 use Rattle.bw_journal.specs.Notes.{KeepsHeaders, KeepsResting}
+use Rattle.bw_journal.specs.Standing.{Standing, Apart, AtRest, AtBoth}
 use Rattle.bw_store.specs.Stores.{KeepsOthers}
 use Rattle.bw_folder.specs.Journals.{journal_path}
 
@@ -27,6 +28,12 @@ noted_at loose contents folder name =
 -- what rests under a name
 abbrev pub resting_at : Bool → (List ℕ → Option (List ℕ)) → List ℕ → List ℕ → Option (List ℕ)
 resting_at loose contents folder name = if loose then None else contents (closed_path folder name)
+
+-- Where the journal of a name stands that doesn't rest: only a loose one can be at its place of rest.
+abbrev pub standing_at : Bool → (List ℕ → Option (List ℕ)) → List ℕ → List ℕ → Standing
+standing_at loose contents folder name =
+    if not (loose && is_some (contents (closed_path folder name))) then Apart
+    else if is_some (contents (journal_path folder name)) then AtBoth else AtRest
 
 -- What the journal of a name begins with: no file of a loose one existed; where one rests, its take's
 -- file exists.

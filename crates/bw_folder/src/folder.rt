@@ -252,6 +252,8 @@ impl<D: Disk> TakeStore for FolderStore<D> {
 
     ghost honest = { λ s. D.honest (takes_disk s) };
 
+    ghost folder = { takes_folder };
+
     /// Makes the file FOLDER/NAME.wav, by one call of the disk.
     ///
     /// # Errors

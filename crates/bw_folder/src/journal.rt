@@ -262,6 +262,8 @@ impl<D: Volume> Journal for FolderJournal<D> {
 
     ghost honest = { λ j. D.honest (journals_disk j) };
 
+    ghost folder = { journals_folder };
+
     /// Writes the header into the file of the name's journal, which is opened, or made if nothing is
     /// there. Nothing is synced.
     ///

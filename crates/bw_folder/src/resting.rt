@@ -9,7 +9,8 @@ ghost use Rattle.bw_journal.specs.Notes.{KeepsHeaders};
 ghost use Rattle.bw_journal.specs.Notes.{KeepsResting};
 ghost use Rattle.bw_folder.specs.Folders.{take_path as path_of_take};
 ghost use Rattle.bw_folder.specs.Syncing.{IsSyncedAt};
-ghost use Rattle.bw_journal.specs.Resting.{SameJournals, RestsIf, WakesIf};
+ghost use Rattle.bw_journal.specs.Resting.{SameJournals, RestsIf, WakesIf, is_woken};
+ghost use Rattle.bw_journal.specs.Standing.{KeepsStanding, MayStandAtRest, StandsIf};
 ghost use Rattle.bw_folder.specs.Journals.{existence_of};
 ghost use Rattle.bw_folder.specs.Journals.{journal_path as path_of_journal};
 ghost use Rattle.bw_folder.specs.RestingJournals.{closed_path as path_of_closed};
@@ -82,7 +83,7 @@ impl<D: Volume> RestingFolderJournal<D> {
 impl<D: Volume> Journal for RestingFolderJournal<D> {
     ghost use Rattle.bw_folder.specs.RestingFolders.{all_journals};
     ghost use Rattle.bw_folder.specs.RestingFolders.{disk_of_all, folder_of_all, failures_of_all};
-    ghost use Rattle.bw_folder.specs.RestingFolders.{syncs_all};
+    ghost use Rattle.bw_folder.specs.RestingFolders.{syncs_all, stands_in_all};
 
     ghost notes = { λ j. (all_journals D.Disk j).noted };
 
@@ -93,6 +94,10 @@ impl<D: Volume> Journal for RestingFolderJournal<D> {
     ghost failures = { failures_of_all };
 
     ghost honest = { λ j. D.honest (disk_of_all j) };
+
+    ghost folder = { folder_of_all };
+
+    ghost stands = { stands_in_all };
 
     /// Begins the journal of a name as a `FolderJournal` does, unless one rests under the name or is
     /// loose.
@@ -107,6 +112,10 @@ impl<D: Volume> Journal for RestingFolderJournal<D> {
         ensures failures { Counts (failures_of_all self.old) (failures_of_all self.new)
             (is_err result) }
         ensures honest { D.honest (disk_of_all self.new) ≡ D.honest (disk_of_all self.old) }
+        ensures folder { folder_of_all self.new ≡ folder_of_all self.old }
+        ensures standing { IsTrue (D.honest (disk_of_all self.old)) → KeepsStanding
+            (stands_in_all self.old) (stands_in_all self.new)
+            (all_journals D.Disk self.old).noted (all_journals D.Disk self.new).noted }
         ensures headers { IsTrue (D.honest (disk_of_all self.old)) → KeepsHeaders
             (all_journals D.Disk self.old).header (all_journals D.Disk self.new).header }
         ensures resting { IsTrue (D.honest (disk_of_all self.old)) → KeepsResting
@@ -144,6 +153,10 @@ impl<D: Volume> Journal for RestingFolderJournal<D> {
         ensures failures { Counts (failures_of_all self.old) (failures_of_all self.new)
             (is_err result) }
         ensures honest { D.honest (disk_of_all self.new) ≡ D.honest (disk_of_all self.old) }
+        ensures folder { folder_of_all self.new ≡ folder_of_all self.old }
+        ensures standing { IsTrue (D.honest (disk_of_all self.old)) → KeepsStanding
+            (stands_in_all self.old) (stands_in_all self.new)
+            (all_journals D.Disk self.old).noted (all_journals D.Disk self.new).noted }
         ensures headers { IsTrue (D.honest (disk_of_all self.old)) → KeepsHeaders
             (all_journals D.Disk self.old).header (all_journals D.Disk self.new).header }
         ensures resting { IsTrue (D.honest (disk_of_all self.old)) → KeepsResting
@@ -179,6 +192,7 @@ impl<D: Volume> RestingJournal for RestingFolderJournal<D> {
     ghost use Rattle.bw_folder.specs.RestingFolders.{all_journals};
     ghost use Rattle.bw_folder.specs.RestingFolders.{disk_of_all, folder_of_all, failures_of_all};
     ghost use Rattle.bw_folder.specs.RestingFolders.{open_of_all, is_loose_in, sync_failed_of_all};
+    ghost use Rattle.bw_folder.specs.RestingFolders.{stands_in_all};
 
     /// Moves the journal to `NAME.closed`, unless it is there already; it isn't open afterwards.
     ///
@@ -194,6 +208,10 @@ impl<D: Volume> RestingJournal for RestingFolderJournal<D> {
         ensures failures { Counts (failures_of_all self.old) (failures_of_all self.new)
             (is_err result) }
         ensures honest { D.honest (disk_of_all self.new) ≡ D.honest (disk_of_all self.old) }
+        ensures folder { folder_of_all self.new ≡ folder_of_all self.old }
+        ensures standing { IsTrue (D.honest (disk_of_all self.old)) → MayStandAtRest name.now
+            (stands_in_all self.old) (stands_in_all self.new)
+            (all_journals D.Disk self.old).noted (all_journals D.Disk self.new).noted }
         ensures rested { IsTrue (D.honest (disk_of_all self.old)) →
             IfOk result (λ rested. RestsIf rested
             name.now (all_journals D.Disk self.old) (all_journals D.Disk self.new)) }
@@ -225,6 +243,10 @@ impl<D: Volume> RestingJournal for RestingFolderJournal<D> {
         ensures failures { Counts (failures_of_all self.old) (failures_of_all self.new)
             (is_err result) }
         ensures honest { D.honest (disk_of_all self.new) ≡ D.honest (disk_of_all self.old) }
+        ensures folder { folder_of_all self.new ≡ folder_of_all self.old }
+        ensures standing { IsTrue (D.honest (disk_of_all self.old)) → KeepsStanding
+            (stands_in_all self.old) (stands_in_all self.new)
+            (all_journals D.Disk self.old).noted (all_journals D.Disk self.new).noted }
         ensures read { IsTrue (D.honest (disk_of_all self.old)) → IfOk result (λ found.
             option_map (λ v. v.items) found ≡ (all_journals D.Disk self.old).resting name.now) }
         ensures kept { IsTrue (D.honest (disk_of_all self.old)) →
@@ -248,6 +270,10 @@ impl<D: Volume> RestingJournal for RestingFolderJournal<D> {
         ensures failures { Counts (failures_of_all self.old) (failures_of_all self.new)
             (is_err result) }
         ensures honest { D.honest (disk_of_all self.new) ≡ D.honest (disk_of_all self.old) }
+        ensures folder { folder_of_all self.new ≡ folder_of_all self.old }
+        ensures standing { IsTrue (D.honest (disk_of_all self.old)) → StandsIf (is_woken result) name.now
+            (stands_in_all self.old) (stands_in_all self.new)
+            (all_journals D.Disk self.old).noted (all_journals D.Disk self.new).noted }
         ensures woken { IsTrue (D.honest (disk_of_all self.old)) →
             IfOk result (λ woken. WakesIf woken
             name.now (all_journals D.Disk self.old) (all_journals D.Disk self.new)) }
