@@ -4,9 +4,9 @@ use Rattle.std.specs.Prelude.{◌≡◌, ◌≢◌, ℕ, Bool, true, false, Opti
 -- Where the journal of a name stands that doesn't rest: apart from those that rest; or, once it woke or
 -- was about to rest, at its place of rest; or at both.
 pub data Standing : Type 0 where
-  pub Apart : Standing
-  pub AtRest : Standing
-  pub AtBoth : Standing
+  Apart : Standing
+  AtRest : Standing
+  AtBoth : Standing
 
 -- the journal doesn't stand at its place of rest
 abbrev pub is_apart : Standing → Bool
