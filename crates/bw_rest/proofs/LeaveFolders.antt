@@ -43,7 +43,7 @@ module _ {X Y : Type 0} (S : StoreGhosts X) (J : JournalGhosts Y) where
   limit_then : (old new : Server X Y S J) (f : Frame) (replies : List Reply) → RestingTurn S J old f replies new →
       new.limit ≡ old.limit
   limit_then old new f replies t = elim (t.answered) [
-    | inl served ↦ served.1.limit ∙ t.prepared.limit
+    | inl served ↦ served.1.served.limit ∙ t.prepared.limit
     | inr off ↦ ap (λ (s : Server X Y S J). s.limit) off.1 ∙ t.prepared.limit
   ]
 

@@ -1,6 +1,6 @@
 -- Servers of which names rest and wake before a frame is answered.
 use Rattle.std.proofs.Common.{◌≡◌, ℕ, ◌+◌, ◌<◌, ◌≤◌, Bool, true, false, List, Option, Some, None, refl, sym, ◌∙◌, ap, subst}
-use Rattle.std.proofs.Common.{◌⊎◌, inl, inr, arith}
+use Rattle.std.proofs.Common.{◌⊎◌, inl, inr, arith, [], ◌∷◌, ◌++◌}
 use Rattle.std.specs.Prelude.{IsTrue, IsSome, is_some, nat_le}
 use Rattle.std.specs.Option.{option_map_or}
 use Rattle.std.proofs.lemmas.Bool.{leb-true, leb-false}
@@ -8,13 +8,14 @@ use Rattle.std.specs.Str.{bytes_eq}
 use Rattle.bw_model.specs.Counts.{Counts, last_count}
 use Rattle.bw_model.specs.Book.{Book, is_known, log_of}
 use Rattle.bw_model.specs.Replies.{Reply}
-use Rattle.bw_model.specs.Wire.{Message, Frame, Says}
+use Rattle.bw_model.specs.Wire.{Message, Frame, Says, is_name}
 use Rattle.bw_model.proofs.BookLemmas.{same_name}
 use Rattle.bw_store.specs.declared.store.TakeStore.{Ghosts as StoreGhosts}
 use Rattle.bw_journal.specs.declared.journal.Journal.{Ghosts as JournalGhosts}
 use Rattle.bw_session.specs.Books.{failures_of}
 use Rattle.bw_session.specs.Numbered.{failed_calls}
 use Rattle.bw_session.specs.RestingNames.{KeepsNames, RestsNow, WakesNow, RestsNameIf, WakesNameIf, is_restable}
+use Rattle.bw_session.specs.RestingNames.{is_restable_in}
 use Rattle.bw_session.specs.Servers.{store_since}
 use Rattle.bw_session.specs.ServerTurns.{ServerTurn}
 use Rattle.bw_session.specs.Tables.{session_in}
@@ -23,6 +24,8 @@ use Rattle.bw_session.specs.declared.server.Server.{Server}
 use Rattle.bw_session.proofs.ServerForms.{apart_names, unknown_here}
 use Rattle.bw_rest.specs.Folders.{HoldsFolder}
 use Rattle.bw_rest.specs.Folding.{name_of_frame, delay_of, ServesFrame}
+use Rattle.bw_rest.specs.RestCalls.{KeepsStore, KeepsPlaces, KeepsOtherPlaces, WasToRest, WasWoken, WasLeft, WasCalled}
+use Rattle.bw_rest.specs.RestCalls.{WereCalled}
 use Rattle.bw_rest.specs.Resting.{KeepsFolders, StaysOutside, NoneMayRest, HasPlace, IsAwake, FolderTurn, PutsOff, RestingTurn}
 use Rattle.bw_rest.proofs.FolderForms.{never, folder_kept, rests_outside}
 use Rattle.bw_rest.proofs.FolderRests.{folder_rests}
@@ -69,44 +72,83 @@ module _ {X Y : Type 0} (S : StoreGhosts X) (J : JournalGhosts Y) where
     limit = refl;
     honest = refl;
     failures = quiet_count (J.failures s.stores.journal);
+    between = [];
+    calls = refl;
     books = λ honest honest_notes first book h. h;
   }
 
-  pub keeps_names : (failed : Bool) (old new : Server X Y S J) → new.stores.store ≡ old.stores.store →
-      new.limit ≡ old.limit → J.honest new.stores.journal ≡ J.honest old.stores.journal →
+  -- one call
+  one_call : (old new : Server X Y S J) → KeepsStore S J old new →
+      ((name : List ℕ) × WasToRest S J name old new) ⊎ (((name : List ℕ) × WasWoken S J name old new) ⊎ WasLeft S J old new) →
+      WereCalled S J old (new ∷ []) new
+  one_call old new keeps did = (record { keeps = keeps; did = did }, refl)
+
+  -- calls after calls
+  pub called_then : (old : Server X Y S J) (some : List (Server X Y S J)) (mid : Server X Y S J) (more : List (Server X Y S J))
+      (new : Server X Y S J) → WereCalled S J old some mid → WereCalled S J mid more new → WereCalled S J old (some ++ more) new
+  called_then old [] mid more new same calls =
+      subst (λ (s : Server X Y S J). WereCalled S J s more new) same calls
+  called_then old (next ∷ some) mid more new one calls =
+      (one.0, called_then next some mid more new one.1 calls)
+
+  keeps_called : (failed : Bool) (old new : Server X Y S J) (keeps : KeepsStore S J old new) →
       Counts (J.failures old.stores.journal) (J.failures new.stores.journal) failed → KeepsNames S J old new →
-      KeepsFolders S J failed old new
-  keeps_names failed old new store limit honest count kept = record {
-    store = store;
-    limit = limit;
-    honest = honest;
+      WereCalled S J old (new ∷ []) new → KeepsFolders S J failed old new
+  keeps_called failed old new keeps count kept calls = record {
+    store = keeps.store;
+    limit = keeps.limit;
+    honest = keeps.honest;
     failures = count;
-    books = λ _ honest_notes first book h. folder_kept S J old new store limit kept honest_notes first book h;
+    between = new ∷ [];
+    calls = calls;
+    books = λ _ honest_notes first book h. folder_kept S J old new keeps.store keeps.limit kept honest_notes first book h;
   }
 
-  pub keeps_rest : (failed : Bool) (old new : Server X Y S J) (name : List ℕ) →
-      J.honest new.stores.journal ≡ J.honest old.stores.journal →
+  -- a call by which each name kept what it had: nothing was to rest
+  pub keeps_names : (failed : Bool) (old new : Server X Y S J) → KeepsStore S J old new → KeepsPlaces S J old new →
+      Counts (J.failures old.stores.journal) (J.failures new.stores.journal) failed → KeepsNames S J old new →
+      KeepsFolders S J failed old new
+  keeps_names failed old new keeps places count kept =
+      keeps_called failed old new keeps count kept
+      (one_call old new keeps (inr (inr (record { places = places; names = kept }))))
+
+  -- or a name was that may rest
+  pub keeps_awake : (failed : Bool) (old new : Server X Y S J) (name : List ℕ) → IsTrue (is_restable_in old.sessions name) →
+      KeepsStore S J old new → KeepsOtherPlaces S J name old new →
+      Counts (J.failures old.stores.journal) (J.failures new.stores.journal) failed → KeepsNames S J old new →
+      KeepsFolders S J failed old new
+  keeps_awake failed old new name ready keeps places count kept =
+      keeps_called failed old new keeps count kept
+      (one_call old new keeps (inl (name, record { ready = ready; places = places; rested = inr kept })))
+
+  pub keeps_rest : (failed : Bool) (old new : Server X Y S J) (name : List ℕ) → KeepsStore S J old new →
+      KeepsOtherPlaces S J name old new →
       Counts (J.failures old.stores.journal) (J.failures new.stores.journal) failed → RestsNow S J name old new →
       KeepsFolders S J failed old new
-  keeps_rest failed old new name honest count r = record {
-    store = r.others.store;
-    limit = r.others.limit;
-    honest = honest;
+  keeps_rest failed old new name keeps places count r = record {
+    store = keeps.store;
+    limit = keeps.limit;
+    honest = keeps.honest;
     failures = count;
+    between = new ∷ [];
+    calls = one_call old new keeps (inl (name, record { ready = r.ready; places = places; rested = inl r }));
     books = λ honest_store honest_notes first book h.
         folder_rests S J old new name r.others (r.journal honest_notes) first book h
         (r.rests honest_store honest_notes h.now h.table h.held h.noted (h.limits name));
   }
 
-  pub keeps_wake : (failed : Bool) (old new : Server X Y S J) (name : List ℕ) → session_in old.sessions name ≡ None →
-      J.honest new.stores.journal ≡ J.honest old.stores.journal →
+  pub keeps_wake : (failed : Bool) (old new : Server X Y S J) (name : List ℕ) → IsTrue (is_name name) →
+      session_in old.sessions name ≡ None → KeepsStore S J old new → KeepsOtherPlaces S J name old new →
       Counts (J.failures old.stores.journal) (J.failures new.stores.journal) failed → WakesNow S J name old new →
       KeepsFolders S J failed old new
-  keeps_wake failed old new name fresh honest count w = record {
-    store = w.others.store;
-    limit = w.others.limit;
-    honest = honest;
+  keeps_wake failed old new name named fresh keeps places count w = record {
+    store = keeps.store;
+    limit = keeps.limit;
+    honest = keeps.honest;
     failures = count;
+    between = new ∷ [];
+    calls = one_call old new keeps
+        (inr (inl (name, record { named = named; fresh = fresh; places = places; woke = w })));
     books = λ honest_store honest_notes first book h.
         folder_woke S J old new name w.others (w.journal honest_notes) w.wakes honest_store honest_notes first book h
         (unknown_here old.limit (store_since S h.now old.stores.store) (session_in old.sessions) h.table h.held honest_store
@@ -120,6 +162,8 @@ module _ {X Y : Type 0} (S : StoreGhosts X) (J : JournalGhosts Y) where
     limit = two.limit ∙ one.limit;
     honest = two.honest ∙ one.honest;
     failures = subst (λ (n : ℕ). Counts n (J.failures c.stores.journal) failed) (one.failures.quiet refl) two.failures;
+    between = one.between ++ two.between;
+    calls = called_then a one.between b two.between c one.calls two.calls;
     books = λ honest honest_notes first book h.
         two.books (ap S.honest one.store ∙ honest) (one.honest ∙ honest_notes) first book
         (one.books honest honest_notes first book h);
@@ -218,7 +262,7 @@ module _ {X Y : Type 0} (S : StoreGhosts X) (J : JournalGhosts Y) where
     failed = false;
     prepared = kept;
     inside = inside;
-    answered = inl (refl, t);
+    answered = inl (refl, record { served = t; awake = awake; room = place });
     turned = λ honest honest_notes first book h.
         turn_from first old ready new book f replies (failures_same old ready kept) (outside_before inside)
         (folder_turned S J ready new f replies t first book (kept.books honest honest_notes first book h)

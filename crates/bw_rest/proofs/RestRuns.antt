@@ -17,8 +17,8 @@ module _ {X Y : Type 0} (S : StoreGhosts X) (J : JournalGhosts Y) where
       × (J.honest new.stores.journal ≡ J.honest old.stores.journal)
   honest_then old new f replies t = elim (t.answered) [
     | inl served ↦ (
-      served.1.honest ∙ ap S.honest t.prepared.store,
-      served.1.honest_notes ∙ t.prepared.honest,
+      served.1.served.honest ∙ ap S.honest t.prepared.store,
+      served.1.served.honest_notes ∙ t.prepared.honest,
     )
     | inr off ↦ (
       ap (λ (s : Server X Y S J). S.honest s.stores.store) off.1 ∙ ap S.honest t.prepared.store,

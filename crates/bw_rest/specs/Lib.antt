@@ -7,3 +7,4 @@ pub mod Runs
 pub mod RestingServers
 pub mod Leaving
 pub mod UseOrder
+pub mod RestCalls

@@ -2,7 +2,7 @@
 use Rattle.std.specs.Prelude.{◌≡◌, ◌⊎◌, ℕ, Bool, true, false, not, Option, None, is_some}
 use Rattle.std.specs.Prelude.{IsTrue, IsFalse, IsSome, List}
 use Rattle.bw_model.specs.Counts.{Counts}
-use Rattle.bw_model.specs.Wire.{Frame}
+use Rattle.bw_model.specs.Wire.{Frame, Message, Says}
 use Rattle.bw_model.specs.Replies.{Reply}
 use Rattle.bw_model.specs.Book.{Book, is_known}
 use Rattle.bw_model.specs.Turn.{is_full}
@@ -16,6 +16,7 @@ use Rattle.bw_session.specs.RestingNames.{restable_kept}
 use Rattle.bw_rest.specs.declared.finding.Found.{Found}
 use Rattle.bw_rest.specs.declared.finding.Found.TheVariants.{Known, New, PutOff, Failed}
 use Rattle.bw_rest.specs.Folders.{HoldsFolder}
+use Rattle.bw_rest.specs.RestCalls.{WereCalled}
 use Rattle.bw_rest.specs.Folding.{name_of_frame, delay_of, ServesFrame, IsCrowded}
 
 -- A frame is put off: the book is as it was, and the name isn't in the table. Either a call failed;
@@ -51,12 +52,15 @@ module _ {X Y : Type 0} (S : StoreGhosts X) (J : JournalGhosts Y) where
       HoldsFolder S J first old book → FolderTurn first old new book f replies
 
   -- What rest and waking leave: the store, the limit and each book of the folder. The journal's
-  -- failure is counted, if it failed.
+  -- failure is counted, if it failed. They come of calls one after another, each of which is one of
+  -- RestCalls.
   pub record KeepsFolders (failed : Bool) (old new : Server X Y S J) : Type 0 where
     pub store : server_store new ≡ server_store old
     pub limit : server_limit new ≡ server_limit old
     pub honest : J.honest (server_journal new) ≡ J.honest (server_journal old)
     pub failures : Counts (J.failures (server_journal old)) (J.failures (server_journal new)) failed
+    pub between : List (Server X Y S J)
+    pub calls : WereCalled S J old between new
     pub books : IsTrue (S.honest (server_store old)) → IsTrue (J.honest (server_journal old)) →
         (first : List ℕ → Option (List ℕ)) (book : Book) → HoldsFolder S J first old book →
         HoldsFolder S J first new book
@@ -93,6 +97,18 @@ module _ {X Y : Type 0} (S : StoreGhosts X) (J : JournalGhosts Y) where
       ⊎ HasPlace false s)
   IsWhere name Failed s = session_kept s name ≡ None
 
+  -- A message's name has a place in the table, or none of the table's names may rest.
+  abbrev pub HasRoomFor : Server X Y S J → Frame → Type 0
+  HasRoomFor s f = (m : Message) → f ≡ Says m → session_kept s m.name ≡ None →
+      HasPlace true s ⊎ NoneMayRest s
+
+  -- A server answers a frame under whose name nothing rests.
+  pub record ServesReady (ready : Server X Y S J) (f : Frame) (replies : List Reply)
+      (new : Server X Y S J) : Type 0 where
+    pub served : ServerTurn S J ready f replies new
+    pub awake : IsAwake (name_of_frame f) ready
+    pub room : HasRoomFor ready f
+
   -- A server whose names rest may answer the frame so. If its name is in the table, it is answered
   -- as by the server alone. Else names may rest and wake first, which makes another server ready,
   -- or the frame is put off.
@@ -102,6 +118,6 @@ module _ {X Y : Type 0} (S : StoreGhosts X) (J : JournalGhosts Y) where
     pub failed : Bool
     pub prepared : KeepsFolders failed old ready
     pub inside : IsSome (session_kept old (name_of_frame f)) → ready ≡ old
-    pub answered : (IsFalse failed × ServerTurn S J ready f replies new)
+    pub answered : (IsFalse failed × ServesReady ready f replies new)
         ⊎ ((replies ≡ delay_of f) × (new ≡ ready) × (session_kept old (name_of_frame f) ≡ None))
     pub turned : FolderTurns old new f replies

@@ -161,6 +161,8 @@ fn wake_name<S: TakeStore, J: RestingJournal>(server: &mut Server<S, J>, name: &
     ensures kept { KeepsFolders S.TakeStore J.Journal (find_failed result) server.old server.new }
     ensures found { IsWhere S.TakeStore J.Journal name.now result server.new }
 {
+    // Its clause says that these are the bytes of a name.
+    let _bytes = name.as_bytes();
     match server.wake(name) {
         Ok(true) => Found::Known,
         Ok(false) => Found::New,

@@ -6,6 +6,8 @@ ghost use Rattle.bw_model.specs.Book.{Log};
 ghost use Rattle.bw_model.specs.Turn.{most_takes};
 ghost use Rattle.bw_journal.specs.Faults.{fault_meaning};
 ghost use Rattle.bw_journal.specs.Replays.{replay as replay_of};
+ghost use Rattle.bw_journal.specs.Resting.{is_woken};
+ghost use Rattle.bw_journal.specs.Standing.{KeepsStanding, StandsIf};
 ghost use Rattle.bw_journal.specs.Stories.{story_of};
 ghost use Rattle.bw_session.specs.RestingNames.{IsAtRest, IsMadeFrom};
 ghost use Rattle.bw_session.specs.RestFaults.{is_wake_failed, is_unfit, is_fit_to_wake};
