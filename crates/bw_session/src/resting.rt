@@ -1,6 +1,6 @@
 //! Names that rest: nothing is kept of them but their journals.
 ghost use Rattle.std.specs.Prelude.{◌≡◌, ◌<◌, ◌+◌, ◌&&◌, ◌==◌, ℕ, List, Option, IfOk, OnOk, OnErr, Ok};
-ghost use Rattle.std.specs.Prelude.{false, is_some};
+ghost use Rattle.std.specs.Prelude.{false, is_some, IsTrue};
 ghost use Rattle.std.specs.HashMap.{hash_map_len, spare};
 ghost use Rattle.bw_model.specs.Counts.{Counts};
 ghost use Rattle.bw_model.specs.Book.{Book, log_of, is_known, made};

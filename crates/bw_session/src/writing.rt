@@ -37,6 +37,7 @@ pub(crate) fn write_request<S: TakeStore>(
     ensures begun { OnErr result (WasAskedFirst S.TakeStore (request_plan growing.old
         state.now.parts (meaning request.now) true) store.old store.new) }
     ensures honest { S.honest store.new ≡ S.honest store.old }
+    ensures folder { S.folder store.new ≡ S.folder store.old }
     ensures others { IsTrue (S.honest store.old) →
         KeepsOthers (S.contents store.old) (S.contents store.new) growing.old.name }
     ensures known { Knows result (meaning request.now) growing.old growing.new }
