@@ -99,7 +99,7 @@ module _ {X Y : Type 0} (S : StoreGhosts X) (J : JournalGhosts Y) where
 
   -- A message's name has a place in the table, or none of the table's names may rest.
   abbrev pub HasRoomFor : Server X Y S J → Frame → Type 0
-  HasRoomFor s f = (m : Message) → f ≡ Says m → session_kept s m.name ≡ None →
+  HasRoomFor s f = (m : Message) → f ≡ Says m → session_kept s (name_of_frame f) ≡ None →
       HasPlace true s ⊎ NoneMayRest s
 
   -- A server answers a frame under whose name nothing rests.

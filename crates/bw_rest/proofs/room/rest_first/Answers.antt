@@ -30,6 +30,10 @@ loop-name-preserved g c =
           (c.loop-name.invariant.same c.name-item.result)) ∙ c.rest_name-rest.ensures.unable both.1));
     }
 
+pub returns-then-is_over-clause-kept : goal.returns-then-is_over-clause-kept
+returns-then-is_over-clause-kept g c =
+    keeps_then g.S.TakeStore g.J.Journal _ _ _ _ c.loop-name.invariant.kept c.rest_name-rest.ensures.kept
+
 pub returns-else-refused-clause-unable : goal.returns-else-refused-clause-unable
 returns-else-refused-clause-unable g c = λ none.
     subst (λ (names : List (List ℕ)). All (λ name. is_restable_in c.args.server.now.sessions name ≡ false) names)
