@@ -20,8 +20,7 @@ use Rattle.bw_rest.specs.RestCalls.{WereCalled}
 use Rattle.bw_rest.specs.Folding.{name_of_frame, delay_of, ServesFrame, IsCrowded}
 
 -- A frame is put off: the book is as it was, and the name isn't in the table. Either a call failed;
--- or the name rests and doesn't wake, or the table is full, for want of memory or of names that may
--- rest.
+-- or the name rests, or the table is full.
 pub record PutsOff (before after : ℕ) (table book : Book) (f : Frame) (replies : List Reply)
     (later : Book) : Type 0 where
   pub answered : replies ≡ delay_of f

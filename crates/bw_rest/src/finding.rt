@@ -36,6 +36,7 @@ impl<S: TakeStore, J: RestingJournal> RestingServer<S, J> {
         ensures free { result ≡ Room.Free → names_kept self.new.server < most_takes }
         ensures place { result ≡ Room.Free → HasPlace S.TakeStore J.Journal true self.new.server }
         ensures none { result ≡ Room.Full → NoneMayRest S.TakeStore J.Journal self.new.server }
+        ensures full { result ≡ Room.Full → HasPlace S.TakeStore J.Journal false self.new.server }
         ensures refused { result ≡ Room.Refused →
             HasPlace S.TakeStore J.Journal false self.new.server }
     {

@@ -68,6 +68,8 @@ pub(crate) fn rest_oldest<S: TakeStore, J: RestingJournal>(
 ) -> Rest
     ensures kept { KeepsFolders S.TakeStore J.Journal (is_failed result) server.old server.new }
     ensures outside { StaysOutside S.TakeStore J.Journal server.old server.new }
+    ensures same { has_rested result ≡ false →
+        KeepsSessions (session_kept server.old) (session_kept server.new) }
     ensures first { result ≡ Rest.Done →
         FirstHasLeft (restable_kept server.old) names.now (session_kept server.new) }
 {
@@ -150,6 +152,7 @@ pub(crate) fn room_after<S: TakeStore, J: RestingJournal>(server: &Server<S, J>,
     ensures free { result ≡ Room.Free → names_kept server.now < most_takes }
     ensures place { result ≡ Room.Free → HasPlace S.TakeStore J.Journal true server.now }
     ensures none { result ≡ Room.Full → rest ≡ Rest.NoneMay }
+    ensures full { result ≡ Room.Full → HasPlace S.TakeStore J.Journal false server.now }
     ensures refused { result ≡ Room.Refused → HasPlace S.TakeStore J.Journal false server.now }
 {
     let full = server.is_full();

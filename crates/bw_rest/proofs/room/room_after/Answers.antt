@@ -1,6 +1,10 @@
 use Rattle.std.proofs.Common.{sym, ◌∙◌}
 use Rattle.bw_rest.proofs.room.room_after.Goals as goal
 
+pub returns-then-full-clause-full : goal.returns-then-full-clause-full
+returns-then-full-clause-full g c = λ full first book h.
+    sym (c.is_full-full.ensures.value first book h) ∙ c.if-full.true
+
 pub returns-else-full-clause-place : goal.returns-else-full-clause-place
 returns-else-full-clause-place g c = λ free first book h. sym (c.is_full-full.ensures.value first book h) ∙ c.if-full.false
 
