@@ -21,7 +21,7 @@ use bw_wire::decode_request;
 pub const ENTRY_MAX: usize = 4152;
 
 /// The kind byte of a block.
-pub(crate) const BLOCK: u8 = 2;
+const BLOCK: u8 = 2;
 
 /// A done number as a journal has it: a block has zeros in place of its samples.
 #[derive(Clone, Copy, Debug)]

@@ -1,16 +1,16 @@
 //! Writing an entry.
 ghost use Rattle.std.specs.Prelude.{◌≡◌, ◌+◌, ◌≤◌, IsTrue, length, take, vec_len, vec_capacity};
 ghost use Rattle.bw_model.specs.Limits.{longest_history};
-ghost use Rattle.bw_model.specs.Wire.{is_request, kind as kind_of};
+ghost use Rattle.bw_model.specs.Wire.{is_request};
 ghost use Rattle.bw_layout.specs.Appending.{Appends, Gains};
 ghost use Rattle.bw_request.specs.Requests.{meaning};
 ghost use Rattle.bw_request.specs.Verdicts.{verdict_meaning};
 ghost use Rattle.bw_journal.specs.Entries.{JournalEntry, noted as noted_of, noted_payload};
 ghost use Rattle.bw_journal.specs.Entries.{content as content_of, sealed_entry, longest_entry};
 
-use crate::entry::BLOCK;
 use crate::seal::{check, push, push_length};
 use bw_request::{RequestRef, Verdict};
+use bw_wire::{kind, put_payload};
 use std::alloc::{AllocError, Global};
 
 /// Appends the entry of a done number: for a block its length, and not its samples.
@@ -87,18 +87,6 @@ fn noted_len(request: &RequestRef<'_>) -> usize
     }
 }
 
-fn kind(request: &RequestRef<'_>) -> u8
-    ensures { result ≡ kind_of (meaning request.now) }
-{
-    match request {
-        RequestRef::OpenTake { .. } => 1,
-        RequestRef::Block { .. } => BLOCK,
-        RequestRef::Mark { .. } => 3,
-        RequestRef::SetField { .. } => 4,
-        RequestRef::CloseTake { .. } => 5,
-    }
-}
-
 /// Appends a request's payload, or for a block its length; there is room for it.
 fn push_payload(out: &mut Vec<u8>, request: &RequestRef<'_>)
     requires fits { IsTrue (is_request (meaning request.now)) }
@@ -108,27 +96,10 @@ fn push_payload(out: &mut Vec<u8>, request: &RequestRef<'_>)
         Gains bytes (length bytes) out.old out.new }
 {
     match *request {
-        RequestRef::OpenTake {
-            rate,
-            channels,
-            bits,
-            history,
-        } => {
-            push(out, &rate.to_le_bytes());
-            push(out, &channels.to_le_bytes());
-            push(out, &bits.to_le_bytes());
-            push(out, &(history.len() as u16).to_le_bytes());
-            push(out, history);
-        }
         RequestRef::Block { bytes } => push(out, &(bytes.len() as u32).to_le_bytes()),
-        RequestRef::Mark { id, frame } => {
-            push(out, &id.to_le_bytes());
-            push(out, &frame.to_le_bytes());
-        }
-        RequestRef::SetField { tag, value } => {
-            push(out, &[tag]);
-            push(out, value);
-        }
-        RequestRef::CloseTake { frames } => push(out, &frames.to_le_bytes()),
+        RequestRef::OpenTake { .. }
+        | RequestRef::Mark { .. }
+        | RequestRef::SetField { .. }
+        | RequestRef::CloseTake { .. } => put_payload(out, request).unwrap(),
     }
 }

@@ -6,6 +6,7 @@ ghost use Rattle.bw_request.specs.Requests.{meaning};
 ghost use Rattle.bw_recorder.specs.RequestLines.{LinesAreRead, request_hex};
 
 use bw_request::RequestRef;
+use bw_wire::{kind, put_payload};
 use std::alloc::{AllocError, Global};
 
 /// What is printed of a request is read as that request.
@@ -42,38 +43,7 @@ fn body(alloc: Global, request: &RequestRef<'_>) -> Result<Vec<u8>, AllocError>
         ≡ kind_of_request (meaning request.now) ∷ payload (meaning request.now)) }
 {
     let mut out = Vec::new(alloc);
-    match *request {
-        RequestRef::OpenTake {
-            rate,
-            channels,
-            bits,
-            history,
-        } => {
-            out.push(1)?;
-            out.extend_from_slice(&rate.to_le_bytes())?;
-            out.extend_from_slice(&channels.to_le_bytes())?;
-            out.extend_from_slice(&bits.to_le_bytes())?;
-            out.extend_from_slice(&(history.len() as u16).to_le_bytes())?;
-            out.extend_from_slice(history)?;
-        }
-        RequestRef::Block { bytes } => {
-            out.push(2)?;
-            out.extend_from_slice(bytes)?;
-        }
-        RequestRef::Mark { id, frame } => {
-            out.push(3)?;
-            out.extend_from_slice(&id.to_le_bytes())?;
-            out.extend_from_slice(&frame.to_le_bytes())?;
-        }
-        RequestRef::SetField { tag, value } => {
-            out.push(4)?;
-            out.push(tag)?;
-            out.extend_from_slice(value)?;
-        }
-        RequestRef::CloseTake { frames } => {
-            out.push(5)?;
-            out.extend_from_slice(&frames.to_le_bytes())?;
-        }
-    }
+    out.push(kind(request))?;
+    put_payload(&mut out, request)?;
     Ok(out)
 }

@@ -1,5 +1,6 @@
 //! From a message or an ask to its frame.
-ghost use Rattle.std.specs.Prelude.{◌≡◌, ◌≤◌, ◌+◌, ◌++◌, IsTrue, IfOk, OnOk, length};
+ghost use Rattle.std.specs.Prelude.{◌≡◌, ◌≤◌, ◌+◌, ◌++◌, IsTrue, IfOk, IsOk, OnOk, OnErr, length};
+ghost use Rattle.std.specs.Prelude.{vec_len, vec_capacity};
 ghost use Rattle.bw_model.specs.Bytes.{le32};
 ghost use Rattle.bw_model.specs.Limits.{longest_block};
 ghost use Rattle.bw_model.specs.Wire.{Second, last_number, Asks, kind as kind_in};
@@ -72,7 +73,8 @@ fn begin(
     Ok(out)
 }
 
-fn kind(request: &RequestRef<'_>) -> u8
+/// The byte that a message of this request has for its kind.
+pub fn kind(request: &RequestRef<'_>) -> u8
     ensures { result ≡ kind_in (meaning request.now) }
 {
     match request {
@@ -97,9 +99,36 @@ fn payload_len(request: &RequestRef<'_>) -> usize
     }
 }
 
-fn put_payload(out: &mut Vec<u8>, request: &RequestRef<'_>) -> Result<(), AllocError>
+/// Appends a request's payload: what follows the number in its frame.
+///
+/// # Errors
+/// `AllocError` if memory was refused, never if there is room: the bytes are as they were.
+///
+/// # Not specified
+/// When memory is refused, and how much room is made beyond what is needed.
+pub fn put_payload(out: &mut Vec<u8>, request: &RequestRef<'_>) -> Result<(), AllocError>
     requires { IsTrue (is_request (meaning request.now)) }
-    ensures { OnOk result (out.new.items ≡ out.old.items ++ payload_in (meaning request.now)) }
+    ensures ok { OnOk result (out.new.items ≡ out.old.items ++ payload_in (meaning request.now)) }
+    ensures len { OnOk result (vec_len out.new
+        ≡ vec_len out.old + length (payload_in (meaning request.now))) }
+    ensures err { OnErr result (out.new.items ≡ out.old.items) }
+    ensures capacity { vec_capacity out.old ≤ vec_capacity out.new }
+    ensures enough { vec_len out.old + length (payload_in (meaning request.now))
+        ≤ vec_capacity out.old → IsOk result }
+{
+    out.reserve(payload_len(request))?;
+    push_payload(out, request);
+    Ok(())
+}
+
+/// Appends a request's payload; there is room for it.
+fn push_payload(out: &mut Vec<u8>, request: &RequestRef<'_>)
+    requires fits { IsTrue (is_request (meaning request.now)) }
+    requires room { vec_len out.old + length (payload_in (meaning request.now))
+        ≤ vec_capacity out.old }
+    ensures items { out.new.items ≡ out.old.items ++ payload_in (meaning request.now) }
+    ensures len { vec_len out.new ≡ vec_len out.old + length (payload_in (meaning request.now)) }
+    ensures capacity { vec_capacity out.old ≤ vec_capacity out.new }
 {
     match *request {
         RequestRef::OpenTake {
@@ -108,22 +137,31 @@ fn put_payload(out: &mut Vec<u8>, request: &RequestRef<'_>) -> Result<(), AllocE
             bits,
             history,
         } => {
-            out.extend_from_slice(&rate.to_le_bytes())?;
-            out.extend_from_slice(&channels.to_le_bytes())?;
-            out.extend_from_slice(&bits.to_le_bytes())?;
-            out.extend_from_slice(&(history.len() as u16).to_le_bytes())?;
-            out.extend_from_slice(history)?;
+            push(out, &rate.to_le_bytes());
+            push(out, &channels.to_le_bytes());
+            push(out, &bits.to_le_bytes());
+            push(out, &(history.len() as u16).to_le_bytes());
+            push(out, history);
         }
-        RequestRef::Block { bytes } => out.extend_from_slice(bytes)?,
+        RequestRef::Block { bytes } => push(out, bytes),
         RequestRef::Mark { id, frame } => {
-            out.extend_from_slice(&id.to_le_bytes())?;
-            out.extend_from_slice(&frame.to_le_bytes())?;
+            push(out, &id.to_le_bytes());
+            push(out, &frame.to_le_bytes());
         }
         RequestRef::SetField { tag, value } => {
-            out.push(tag)?;
-            out.extend_from_slice(value)?;
+            push(out, &[tag]);
+            push(out, value);
         }
-        RequestRef::CloseTake { frames } => out.extend_from_slice(&frames.to_le_bytes())?,
+        RequestRef::CloseTake { frames } => push(out, &frames.to_le_bytes()),
     }
-    Ok(())
+}
+
+/// Appends bytes; there is room for them.
+fn push(out: &mut Vec<u8>, bytes: &[u8])
+    requires { vec_len out.old + length bytes.now ≤ vec_capacity out.old }
+    ensures items { out.new.items ≡ out.old.items ++ bytes.now }
+    ensures len { vec_len out.new ≡ vec_len out.old + length bytes.now }
+    ensures capacity { vec_capacity out.old ≤ vec_capacity out.new }
+{
+    out.extend_from_slice(bytes).unwrap();
 }

@@ -23,7 +23,7 @@ mod reply_prefix;
 mod request_text;
 
 pub use decoder::{decode, decode_request};
-pub use encoder::{encode, encode_ask};
+pub use encoder::{encode, encode_ask, kind, put_payload};
 pub use fault::WireFault;
 pub use framer::Framer;
 pub use message::{Ask, Frame, Message};

@@ -10,7 +10,7 @@ pub returns : goal.returns
 returns c =
     let name = c.args.name.now in
     let request = meaning c.args.request.now in
-    let written = c.in_ok-put_payload.ensures ∙ ap (λ (x : List ℕ). x ++ payload request) c.in_ok-out.ensures.items
+    let written = c.in_ok-put_payload.ensures.ok ∙ ap (λ (x : List ℕ). x ++ payload request) c.in_ok-out.ensures.items
     ∙ ap (λ (n : ℕ). le32 (6 + length name + n) ++ addressed c.kind.result name c.args.number ++ payload request)
     c.payload_len.ensures.value
     ∙ ap (λ (k : ℕ). le32 (6 + length name + length (payload request)) ++ addressed k name c.args.number
