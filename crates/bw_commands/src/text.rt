@@ -2,17 +2,16 @@
 ghost use Rattle.std.specs.Prelude.{◌≡◌, ℕ, ◌+◌, ◌*◌, ◌^◌, ◌<◌, ◌≤◌, List, [], ◌∷◌, ◌++◌, length};
 ghost use Rattle.std.specs.Prelude.{flat_map, codes, decimal, IsTrue, IfOk, OnOk, Some, slice_get};
 ghost use Rattle.std.specs.List.{list_all};
-ghost use Rattle.hex.specs.Hex.{encode_lower};
-ghost use Rattle.bw_model.specs.Wire.{framed};
-ghost use Rattle.bw_model.specs.Replies.{Reply, is_reply};
-ghost use Rattle.bw_model.specs.Exchange.{replies_bytes};
-ghost use Rattle.bw_store.specs.MemoryNames.{names_of, AreNames};
 ghost use Rattle.bw_commands.specs.Runs.{ReportedExchange, AllReport};
-ghost use Rattle.bw_exchange.specs.EndNames.{name_of_end};
-ghost use Rattle.bw_commands.specs.Text.{reply_line};
+ghost use Rattle.bw_commands.specs.Text.{reply_line, exchanges_text, file_text, file_text_if};
+ghost use Rattle.bw_commands.specs.Text.{files_text};
 ghost use Rattle.bw_console.specs.Text.{as_line};
-ghost use Rattle.bw_commands.specs.Text.{exchanges_text, file_text, file_text_if, files_text};
-ghost use Rattle.bw_store.specs.MemoryNames.{memory_content};
+ghost use Rattle.bw_exchange.specs.EndNames.{name_of_end};
+ghost use Rattle.bw_model.specs.Exchange.{replies_bytes};
+ghost use Rattle.bw_model.specs.Replies.{Reply, is_reply};
+ghost use Rattle.bw_model.specs.Wire.{framed};
+ghost use Rattle.bw_store.specs.MemoryNames.{names_of, AreNames, memory_content};
+ghost use Rattle.hex.specs.Hex.{encode_lower};
 
 use bw_exchange::{ExchangeEnd, end_name};
 use bw_request::Name;

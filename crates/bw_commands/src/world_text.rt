@@ -1,13 +1,12 @@
 //! The text of a rehearsal's outcome.
 ghost use Rattle.std.specs.Prelude.{◌≡◌, ◌++◌, length, IfOk, OnOk};
-ghost use Rattle.bw_model.specs.Book.{log_of};
-ghost use Rattle.bw_model.specs.World.{World as ReportedWorld, settled, stored};
-ghost use Rattle.bw_store.specs.MemoryNames.{names_of, AreNames};
 ghost use Rattle.bw_commands.specs.Rehearsals.{world_counts_line, world_progress_line, world_lines};
 ghost use Rattle.bw_commands.specs.Rehearsals.{HasWorld};
 ghost use Rattle.bw_commands.specs.Text.{files_text};
-ghost use Rattle.bw_store.specs.MemoryNames.{memory_content};
+ghost use Rattle.bw_model.specs.Book.{log_of};
+ghost use Rattle.bw_model.specs.World.{World as ReportedWorld, settled, stored};
 ghost use Rattle.bw_session.specs.SeenServers.{server_store};
+ghost use Rattle.bw_store.specs.MemoryNames.{names_of, AreNames, memory_content};
 
 use crate::text::put_files;
 use bw_rehearsal::World;

@@ -8,8 +8,8 @@ ghost use Rattle.bw_resume.specs.Counts.{most_settled};
 ghost use Rattle.bw_resume.specs.States.{state_bytes};
 ghost use Rattle.bw_send_file.specs.FileLooks.{LooksAt};
 ghost use Rattle.bw_send_state.specs.FilesSentOn.{BeginsState, Continuation, HasReported};
-ghost use Rattle.bw_send_state.specs.FilesSentOn.{StopsBeforeSending, outside_by};
-ghost use Rattle.bw_send_state.specs.FilesSentOn.{sending_side, ways};
+ghost use Rattle.bw_send_state.specs.FilesSentOn.{StopsBeforeSending, outside_by, sending_side};
+ghost use Rattle.bw_send_state.specs.FilesSentOn.{ways};
 ghost use Rattle.bw_send_state.specs.FoundCounts.{BeginsLog, counts_begun, goes_on as is_gone_on};
 ghost use Rattle.bw_stream.specs.Moves.{one_more};
 
