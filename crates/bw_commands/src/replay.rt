@@ -1,13 +1,11 @@
 //! The command `replay`: runs from standard input.
-ghost use Rattle.std.specs.Prelude.{◌≡◌, ◌+◌, ◌≤◌, Some, None, All, length, map, IfOk};
-ghost use Rattle.bw_stream.specs.Readers.{Of};
-ghost use Rattle.bw_console.specs.Outcomes.{Outcome, HasWritten};
-ghost use Rattle.bw_commands.specs.Replays.{IsReplay};
+ghost use Rattle.std.specs.Prelude.{◌≡◌, ◌+◌, ◌≤◌, All, length, map, IfOk};
+ghost use Rattle.bw_commands.specs.Replays.{IsReplay, IsPrintOf, IsRunText};
 ghost use Rattle.bw_console.specs.Faults.{is_read};
-ghost use Rattle.bw_console.specs.Input.{longest_input};
+ghost use Rattle.bw_console.specs.Input.{longest_input, IsReadAhead};
+ghost use Rattle.bw_console.specs.Outcomes.{Outcome, HasWritten};
 ghost use Rattle.bw_console.specs.Printing.{IsPrint, Print, failures_if};
-ghost use Rattle.bw_commands.specs.Replays.{IsPrintOf, IsRunText};
-ghost use Rattle.bw_console.specs.Input.{IsReadAhead};
+ghost use Rattle.bw_stream.specs.Readers.{Of};
 
 use crate::replay_store::ReplayStore;
 use crate::text::text_of_run;
@@ -19,10 +17,12 @@ use bw_stream::{Sink, Source};
 use std::alloc::{AllocError, Global};
 
 /// Runs each line of the input as an exchange, over an empty store in memory, and writes replies
-/// and files as text.
+/// and files as text. The store's call of the number `fuse`, counted from 0, fails; with None, none
+/// does.
 ///
-/// In a run that is printed no store call failed, so that no reply reports one, and each file is
-/// its take's.
+/// In a run that is printed without a fuse no store call failed, so that no reply reports one, and
+/// each file is its take's. With one a store call failed if there were more calls than its number,
+/// else none; a reply reports a failed call only if one failed.
 ///
 /// A fault's line goes to `faults`; a failure to write it is ignored. A file whose RIFF form would
 /// be longer than `limit` bytes is written as BW64. Of the input at most 16,777,217 bytes are read.
@@ -32,54 +32,11 @@ use std::alloc::{AllocError, Global};
 /// is printed then, or a prefix if the writer failed.
 ///
 /// # Not specified
-/// - When memory is refused.
-/// - Of a reader that doesn't report its bytes: what is refused, and what the text is of.
-pub fn replay<R: Source, W: Sink, E: Sink>(
-    alloc: Global,
-    limit: Limit,
-    input: &mut R,
-    out: &mut W,
-    faults: &mut E,
-) -> Exit
-    ensures within { Of (R.left input.old) (λ xs. IsReadAhead xs (R.left input.new)) }
-    ensures most { R.moved input.new ≤ R.moved input.old + (longest_input + 1) }
-    ensures did { (did : Outcome) × (did.exit ≡ result) × IsReplay limit None (R.left input.old) did
-        × (R.failures input.new ≡ failures_if did.reads_all (R.failures input.old))
-        × HasWritten W.Sink E.Sink did out.old out.new faults.old faults.new }
-{
-    replay_over(alloc, limit, None, input, out, faults)
-}
-
-/// `replay` over a store whose call number `fuse`, counted from 0, fails.
-///
-/// In a run that is printed one store call failed if there were more than `fuse` calls, else none.
-/// A reply reports a failed call only if one failed.
-///
-/// # Not specified
 /// - How many store calls a run makes, between those that its files took and four for each number
 ///   that was done or tried: and so which reply reports the failed call.
 /// - When memory is refused.
 /// - Of a reader that doesn't report its bytes: what is refused, and what the text is of.
-pub fn replay_fused<R: Source, W: Sink, E: Sink>(
-    alloc: Global,
-    limit: Limit,
-    fuse: u32,
-    input: &mut R,
-    out: &mut W,
-    faults: &mut E,
-) -> Exit
-    ensures within { Of (R.left input.old) (λ xs. IsReadAhead xs (R.left input.new)) }
-    ensures most { R.moved input.new ≤ R.moved input.old + (longest_input + 1) }
-    ensures did { (did : Outcome) × (did.exit ≡ result)
-        × IsReplay limit (Some fuse) (R.left input.old) did
-        × (R.failures input.new ≡ failures_if did.reads_all (R.failures input.old))
-        × HasWritten W.Sink E.Sink did out.old out.new faults.old faults.new }
-{
-    replay_over(alloc, limit, Some(fuse), input, out, faults)
-}
-
-/// `replay` over a store whose call of this number fails, if there is one.
-fn replay_over<R: Source, W: Sink, E: Sink>(
+pub fn replay<R: Source, W: Sink, E: Sink>(
     alloc: Global,
     limit: Limit,
     fuse: Option<u32>,

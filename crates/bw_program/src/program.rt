@@ -19,7 +19,7 @@ use crate::remote::{send_as, serve_as};
 use crate::samples::{send_pcm_as, send_pcm_watched};
 use crate::uploads::{send_file_as, send_file_watched};
 use bw_args::{CommandLine, Task, parse};
-use bw_commands::replay::{replay, replay_fused};
+use bw_commands::replay::replay;
 use bw_console::print::{give_up, print, print_diagnostic};
 use bw_console::{Exit, Fault, report_bad_argv};
 use bw_disk::Volume;
@@ -247,10 +247,9 @@ fn run<
         screens,
     } = outside;
     match task {
-        Task::Replay { limit, fuse } => match (Limit::new(*limit), fuse) {
-            (Some(limit), Some(fuse)) => replay_fused(alloc, limit, *fuse, input, out, faults),
-            (Some(limit), None) => replay(alloc, limit, input, out, faults),
-            (None, _) => unreachable!(),
+        Task::Replay { limit, fuse } => match Limit::new(*limit) {
+            Some(limit) => replay(alloc, limit, *fuse, input, out, faults),
+            None => unreachable!(),
         },
         Task::Inspect { file } => { inspect_one(alloc, system, input, file.as_str(), out, faults) }
         Task::InspectFiles(inspection) => {

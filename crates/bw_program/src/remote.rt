@@ -14,7 +14,7 @@ use bw_layout::Limit;
 use bw_one_name::NameRule;
 use bw_operators::StatusSetup;
 use bw_ports::{ListenerSetup, Network, Starts, StartsResting, Watch};
-use bw_send::send_watched;
+use bw_send::send_run;
 use bw_serve::{
     Bounds, Hosting, Serving, serve, serve_journaled, serve_many, serve_many_journaled,
     serve_many_resting, serve_resting,
@@ -331,7 +331,7 @@ pub(crate) fn send_as<N: Network, R: Source, W: Sink, E: Sink, V: Watch>(
         faults.old faults.new }
 {
     let mut dial = network.dial(sender.connect, sender.timeout);
-    send_watched(
+    send_run(
         alloc,
         sender.name.copy(),
         sender.rounds,

@@ -10,6 +10,6 @@ mod sending;
 mod text;
 mod watch;
 
-pub use sending::{send_run, send_watched};
+pub use sending::send_run;
 pub use text::text_of_sender;
 pub use watch::Progress;

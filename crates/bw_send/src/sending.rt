@@ -16,7 +16,7 @@ use crate::rounds::make_rounds;
 use crate::text::text_of_sender;
 use bw_console::print::{give_up, print, print_diagnostic};
 use bw_console::{Exit, Fault};
-use bw_ports::{Dial, NoWatch, Watch};
+use bw_ports::{Dial, Watch};
 use bw_request::{Name, Request};
 use bw_sender::Sender;
 use bw_stream::{Sink, Source};
@@ -25,8 +25,8 @@ use std::alloc::{AllocError, Global};
 /// The report on a sender that isn't done.
 const UNSETTLED: &str = "not every request has its verdict yet\n";
 
-/// Sends the requests in the lines of the input, as a recorder of this name, and writes the outcome
-/// as text.
+/// Sends the requests in the lines of the input, as a recorder of this name, writes the outcome as
+/// text, and reports its progress to a watcher after each round.
 ///
 /// All lines are read before the first link is made. `Done` if each line's request is settled and
 /// stored; `Refused` if one is refused, or the input is. A fault's line goes to `faults`; a failure
@@ -39,32 +39,8 @@ const UNSETTLED: &str = "not every request has its verdict yet\n";
 /// # Not specified
 /// - When memory is refused, and what was sent and settled before it: nothing is printed of that.
 /// - Which round found no link.
-pub fn send_run<D: Dial, R: Source, W: Sink, E: Sink>(
-    alloc: Global,
-    name: Name,
-    rounds: u32,
-    dial: &mut D,
-    input: &mut R,
-    out: &mut W,
-    faults: &mut E,
-) -> Exit
-    ensures within { Of (R.left input.old) (λ xs. IsReadAhead xs (R.left input.new)) }
-    ensures most { R.moved input.new ≤ R.moved input.old + (longest_input + 1) }
-    ensures did { (did : Outcome) × (did.exit ≡ result)
-        × IsSendRun D.Dial D.Reader.Source D.Writer.Sink name rounds (R.left input.old)
-        dial.old dial.new did
-        × (R.failures input.new ≡ failures_if did.reads_all (R.failures input.old))
-        × HasWritten W.Sink E.Sink did out.old out.new faults.old faults.new }
-{
-    send_watched(alloc, name, rounds, dial, input, out, faults, &mut NoWatch)
-}
-
-/// Sends as `send_run` does, and reports its progress to a watcher after each round.
-///
-/// # Not specified
-/// - What `send_run` leaves open.
 /// - That the watcher gets a report of each round, with its number.
-pub fn send_watched<D: Dial, R: Source, W: Sink, E: Sink, V: Watch>(
+pub fn send_run<D: Dial, R: Source, W: Sink, E: Sink, V: Watch>(
     alloc: Global,
     name: Name,
     rounds: u32,

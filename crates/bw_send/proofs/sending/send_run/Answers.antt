@@ -1,6 +1,6 @@
 use Rattle.std.proofs.Common.{Ok, Err, true, refl, sym}
 use Rattle.bw_console.specs.Faults.{exit_on, is_readable}
-use Rattle.bw_send.proofs.sending.send_watched.Goals as goal
+use Rattle.bw_send.proofs.sending.send_run.Goals as goal
 
 pub returns-in-Ok-clause-did : goal.returns-in-Ok-clause-did
 returns-in-Ok-clause-did g c =

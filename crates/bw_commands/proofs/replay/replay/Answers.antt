@@ -1,5 +1,5 @@
 use Rattle.bw_console.proofs.OutcomeLemmas.{ends_done, ends_at}
-use Rattle.bw_commands.proofs.replay.replay_over.Goals as goal
+use Rattle.bw_commands.proofs.replay.replay.Goals as goal
 
 pub returns-in-Ok-clause-did : goal.returns-in-Ok-clause-did
 returns-in-Ok-clause-did g c =
