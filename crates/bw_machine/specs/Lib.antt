@@ -1,1 +1,3 @@
+pub mod LockedStarts
 pub mod SeenMachine
+pub mod StartsHere

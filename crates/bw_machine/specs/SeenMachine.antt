@@ -7,6 +7,10 @@ use Rattle.bw_machine.specs.declared.terminal.Terminal.{Terminal}
 abbrev pub network_failures : TcpNetwork → ℕ
 network_failures n = n.failures
 
+-- whether a folder is locked for a server that the network started
+abbrev pub holds_lock : TcpNetwork → Bool
+holds_lock n = is_some n.lock
+
 -- whether what is shown is seen
 abbrev pub terminal_is_seen : Terminal → Bool
 terminal_is_seen s = is_some s.screen

@@ -2,11 +2,12 @@
 #![tactic(auto)]
 
 mod journals;
+mod locked;
 mod network;
 mod starting;
 mod status;
 mod terminal;
 
 pub use network::TcpNetwork;
-pub use starting::FolderServer;
+pub use starting::{FolderServer, MachineDisk};
 pub use terminal::Terminal;

@@ -20,7 +20,7 @@ use std::time::Duration;
 pub struct TcpNetwork<'a> {
     pub(crate) rt: &'a HostRuntime,
     /// Is filled while a link's calls wait, if there is one.
-    spool: &'a SpoolCell,
+    pub(crate) spool: &'a SpoolCell,
     pub(crate) failures: u64,
     /// The lock of the folder over which a server with journals was started.
     pub(crate) lock: Option<FolderLock>,

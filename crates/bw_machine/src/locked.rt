@@ -1,0 +1,82 @@
+//! The start of a server with journals over a folder, under the folder's lock.
+ghost use Rattle.std.specs.Prelude.{◌≡◌, IfOk, MatchResult, Result};
+ghost use Rattle.bw_lock.specs.declared.folder_locks.LockRefusal.{LockRefusal as Refusal};
+ghost use Rattle.bw_machine.specs.LockedStarts.{IsFolderRefusal, RefusesUnder, StartsUnder, refusal_by};
+ghost use Rattle.bw_start.specs.Started.{IsSetTo};
+
+use bw_disk::Volume;
+use bw_folder::{FolderJournal, FolderStore};
+use bw_lock::{FolderLocks, LockRefusal};
+use bw_ports::StartRefusal;
+use bw_session::Server;
+use bw_start::{FolderFault, Settings, StartFault, StartWatch, start_over};
+use std::alloc::Global;
+
+/// A server over a folder, and the lock of that folder.
+#[derive(Drop)]
+pub(crate) struct Locked<S, K> {
+    pub(crate) server: S,
+    pub(crate) lock: K,
+}
+
+/// Starts a server over what an earlier one left in a folder, as `start_over` does, once the folder
+/// is locked. The lock comes with the server; where none is started, it is given back.
+///
+/// # Errors
+/// The refusal, with both disks: they are as they were if the folder isn't locked.
+///
+/// # Not specified
+/// - When memory is refused, and when the folder can be locked.
+/// - That the lock is held meanwhile: only the order of the calls shows it.
+pub(crate) fn start_locked<L: FolderLocks, D: Volume, E: Volume, W: StartWatch>(
+    alloc: Global,
+    locks: &mut L,
+    takes: D,
+    notes: E,
+    folder: &str,
+    settings: Settings,
+    watch: &mut W,
+) -> Result<Locked<Server<FolderStore<D>, FolderJournal<E>>, L::Lock>, (StartRefusal, D, E)>
+    ensures met { (answer : Result L.Lock Refusal) × L.locks locks.old folder.now answer locks.new
+        × MatchResult result (λ started. StartsUnder D.Disk E.Disk answer settings folder.now
+        takes notes started.server started.lock)
+        (λ e. RefusesUnder D.Disk E.Disk answer settings folder.now takes notes e.0 e.1 e.2) }
+    ensures set { IfOk result (λ started.
+        IsSetTo settings.limit folder.now settings.sync started.server) }
+{
+    let lock = match locks.lock(folder) {
+        Ok(lock) => lock,
+        Err(refusal) => return Err((refusal_by_lock(refusal), takes, notes)),
+    };
+    match start_over(alloc, takes, notes, folder, settings, watch) {
+        Ok(server) => Ok(Locked { server, lock }),
+        Err((fault, takes, notes)) => Err((refusal_of(alloc, folder, &fault), takes, notes)),
+    }
+}
+
+/// Why a server isn't started whose folder isn't locked.
+fn refusal_by_lock(refusal: LockRefusal) -> StartRefusal
+    ensures { result ≡ refusal_by refusal }
+{
+    match refusal {
+        LockRefusal::Running => StartRefusal::Running,
+        LockRefusal::Unusable(error) => StartRefusal::Unusable(error),
+        LockRefusal::Memory => StartRefusal::Memory,
+    }
+}
+
+/// Why a server isn't started, with a line for each name that can't be resumed or rests.
+fn refusal_of(alloc: Global, folder: &str, fault: &FolderFault) -> StartRefusal
+    ensures { IsFolderRefusal folder.now fault.now result }
+{
+    match fault {
+        FolderFault::Start(StartFault::Disk) => StartRefusal::Device,
+        FolderFault::Start(StartFault::Memory) => StartRefusal::Memory,
+        FolderFault::Start(_) | FolderFault::Rests(_) | FolderFault::Twice(_) => {
+            match fault.lines(alloc, folder) {
+                Ok(lines) => StartRefusal::Unfit(lines),
+                Err(_) => StartRefusal::Memory,
+            }
+        }
+    }
+}
