@@ -4,7 +4,7 @@ use Rattle.std.proofs.Common.{◌≡◌, ◌<◌, ◌≤◌, ◌+◌, ℕ, List,
 use Rattle.std.proofs.Common.{◌∙◌, ap, get_or, length, take, string_bytes}
 use Rattle.std.specs.Prelude.{◌==◌, ◌&&◌}
 use Rattle.std.specs.List.{find, ends_with}
-use Rattle.std.specs.Option.{option_or, option_map}
+use Rattle.std.specs.Option.{option_or}
 use Rattle.std.specs.Str.{bytes_eq}
 use Rattle.std.proofs.lemmas.List.Folds.{find-append}
 use Rattle.std.proofs.lemmas.Slice.Eq.{bytes_eq-Decides}
@@ -39,32 +39,31 @@ some_or : {X : Type 0} (o b : Option X) → is_some o ≡ true → o ≡ option_
 some_or (Some x) b e = refl
 some_or None b e = cc
 
--- a file that isn't copied, since its path ends otherwise
-pub not_ending : (ending from content : List ℕ) (before : List ℕ → Option (List ℕ)) (path : List ℕ) →
-    ends_with ◌==◌ from ending ≡ false → before path ≡ added_at ending before from content path
-not_ending ending from content before path other = go (bytes_eq from path) refl
+-- a file that isn't copied changes nothing at its own path, nor at any other
+unchanged : (ending from content : List ℕ) (before : List ℕ → Option (List ℕ)) (path : List ℕ) →
+    (from ≡ path → before path ≡ option_or (before path) (cond (ends_with ◌==◌ path ending) (Some content) None)) →
+    before path ≡ added_at ending before from content path
+unchanged ending from content before path own = go (bytes_eq from path) refl
   where
     go : (v : Bool) → bytes_eq from path ≡ v →
         before path ≡ option_or (before path) (cond (v && ends_with ◌==◌ path ending) (Some content) None)
     go false e = or_none (before path)
-    go true e =
-        let at : from ≡ path = (bytes_eq-Decides from path).0 e in
-        or_none (before path)
-        ∙ ap (λ (b : Bool). option_or (before path) (cond b (Some content) None))
-        (sym other ∙ ap (λ (p : List ℕ). ends_with ◌==◌ p ending) at)
+    go true e = own ((bytes_eq-Decides from path).0 e)
+
+-- a file that isn't copied, since its path ends otherwise
+pub not_ending : (ending from content : List ℕ) (before : List ℕ → Option (List ℕ)) (path : List ℕ) →
+    ends_with ◌==◌ from ending ≡ false → before path ≡ added_at ending before from content path
+not_ending ending from content before path other = unchanged ending from content before path (λ at.
+    or_none (before path)
+    ∙ ap (λ (b : Bool). option_or (before path) (cond b (Some content) None))
+    (sym other ∙ ap (λ (p : List ℕ). ends_with ◌==◌ p ending) at))
 
 -- or since something is there
 pub not_missing : (ending from content : List ℕ) (before : List ℕ → Option (List ℕ)) (path : List ℕ) →
     is_some (before from) ≡ true → before path ≡ added_at ending before from content path
-not_missing ending from content before path stands = go (bytes_eq from path) refl
-  where
-    go : (v : Bool) → bytes_eq from path ≡ v →
-        before path ≡ option_or (before path) (cond (v && ends_with ◌==◌ path ending) (Some content) None)
-    go false e = or_none (before path)
-    go true e =
-        let at : from ≡ path = (bytes_eq-Decides from path).0 e in
-        some_or (before path) (cond (ends_with ◌==◌ path ending) (Some content) None)
-        (ap (λ (p : List ℕ). is_some (before p)) (sym at) ∙ stands)
+not_missing ending from content before path stands = unchanged ending from content before path (λ at.
+    some_or (before path) (cond (ends_with ◌==◌ path ending) (Some content) None)
+    (ap (λ (p : List ℕ). is_some (before p)) (sym at) ∙ stands))
 
 -- a file that is copied
 pub added : (ending from content : List ℕ) (before : List ℕ → Option (List ℕ)) (path : List ℕ) →

@@ -1,7 +1,7 @@
 -- What calls leave of a disk, whatever disk it is.
-use Rattle.std.specs.Prelude.{◌≡◌, ◌<◌, ◌≤◌, ℕ, Bool, IsTrue, List, take, true}
+use Rattle.std.specs.Prelude.{◌≡◌, ◌<◌, ◌≤◌, ℕ, Bool, IsTrue, List, take, Result}
 use Rattle.bw_store.specs.Stores.{Written, KeepsOthers, last_count}
-use Rattle.bw_disk.specs.Disks.{IsOneCall}
+use Rattle.bw_disk.specs.Disks.{IsOneCall, Syncs}
 use Rattle.bw_disk.specs.Volumes.{KeepsEach}
 use Rattle.bw_disk.specs.declared.disk.Disk.{Ghosts}
 
@@ -16,6 +16,15 @@ pub record ChangesAt {D F : Type 0} (G : Ghosts D F) (path : List ℕ) (old new 
   pub honest : G.honest new ≡ G.honest old
   pub others : IsTrue (G.honest old) → KeepsOthers (G.contents old) (G.contents new) path
   pub synced : IsTrue (G.honest old) → KeepsEach (G.synced old) (G.synced new)
+
+-- The disk is as honest as it was, holds what it had, and has synced what is at the path if the sync
+-- succeeded.
+pub record SyncsOne {D F T E : Type 0} (G : Ghosts D F) (answer : Result T E) (path : List ℕ)
+    (old new : D) : Type 0 where
+  pub honest : G.honest new ≡ G.honest old
+  pub contents : IsTrue (G.honest old) → KeepsEach (G.contents old) (G.contents new)
+  pub synced : IsTrue (G.honest old) →
+      Syncs answer (G.contents old path) (G.synced old) (G.synced new) path
 
 -- A disk that dies in its call of the number `life`, counted from 0: an earlier call is one of the
 -- inner disk, that call and each later one fails, and the later ones change nothing.

@@ -6,6 +6,7 @@ mod memory_copy;
 mod memory_disk;
 mod memory_volume;
 mod mortal;
+mod mortal_volume;
 mod reading;
 mod system;
 mod system_volume;

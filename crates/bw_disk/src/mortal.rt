@@ -1,11 +1,10 @@
 //! A disk that dies in a chosen call.
-ghost use Rattle.std.specs.Prelude.{◌≡◌, ◌⊎◌, ◌<◌, ◌≤◌, ◌↔◌, Some, IsTrue, IfOk, IfSome, OnOk, OnErr};
-ghost use Rattle.std.specs.Prelude.{is_err, length, map, option_map, string_bytes};
-ghost use Rattle.bw_store.specs.Stores.{Written, MayTear, KeepsOthers};
-ghost use Rattle.bw_disk.specs.Disks.{IsOneCall, Makes, Syncs};
-ghost use Rattle.bw_disk.specs.DiskSteps.{StaysWhole, ChangesAt, LivesUntil, WritesItsShare};
-ghost use Rattle.bw_disk.specs.Volumes.{Finds, ReadsFrom, WrittenInPart, IsCutTo, IsCutInPart};
-ghost use Rattle.bw_disk.specs.Volumes.{Moves, Renames, Lists, KeepsEach, KeepsAllBut};
+ghost use Rattle.std.specs.Prelude.{◌≡◌, ◌<◌, ◌≤◌, ◌↔◌, IsTrue, IfOk, IfSome, OnOk, OnErr, true};
+ghost use Rattle.std.specs.Prelude.{is_err, length};
+ghost use Rattle.bw_store.specs.Stores.{MayTear};
+ghost use Rattle.bw_disk.specs.Disks.{Makes};
+ghost use Rattle.bw_disk.specs.DiskSteps.{ChangesAt, SyncsOne};
+ghost use Rattle.bw_disk.specs.MortalDisks.{IsCounted, IsMortalCall, IsMortalWrite};
 
 use crate::disk::{Disk, DiskFault};
 use crate::volume::Volume;
@@ -22,9 +21,9 @@ use std::marker::Model;
 /// next call leaves.
 #[derive(Drop)]
 pub struct MortalDisk<D: Volume> {
-    inner: D,
+    pub(crate) inner: D,
     life: u64,
-    reached: usize,
+    pub(crate) reached: usize,
     call_counter: CallCounter,
 }
 
@@ -93,15 +92,32 @@ impl<D: Volume> MortalDisk<D> {
         inner
     }
 
-    /// Whether the next call is one of the inner disk.
-    fn is_alive(&self) -> bool
-        ensures { IsTrue result ↔ (self.now.calls < self.now.life) }
+    /// Goes on to a call of the inner disk, as long as this one lives; else the call fails.
+    ///
+    /// # Errors
+    /// `DiskFault` if the disk dies in this call or is dead: the failed call is counted.
+    pub(crate) fn live(&mut self) -> Result<(), DiskFault>
+        ensures alive { OnOk result ((self.new ≡ self.old) × (self.old.calls < self.old.life)) }
+        ensures over { OnErr result (self.old.life ≤ self.old.calls) }
+        ensures failed { OnErr result (IsCounted self.old self.new true) }
     {
-        self.call_counter.calls() < self.life
+        if self.call_counter.calls() < self.life {
+            return Ok(());
+        }
+        self.counted(Err(DiskFault))
+    }
+
+    /// Counts a call with its answer, and returns the answer.
+    pub(crate) fn counted<T>(&mut self, answer: Result<T, DiskFault>) -> Result<T, DiskFault>
+        ensures answer { result ≡ answer }
+        ensures counted { IsCounted self.old self.new (is_err answer) }
+    {
+        self.call_counter.count(answer.is_err());
+        answer
     }
 
     /// Whether it dies in the next call, and that call is done if it can't be done in part.
-    fn succeeds_unseen(&self) -> bool
+    pub(crate) fn succeeds_unseen(&self) -> bool
         ensures { IsTrue result ↔
             ((self.now.calls ≡ self.now.life) × (0 < self.now.reached)) }
     {
@@ -109,7 +125,7 @@ impl<D: Volume> MortalDisk<D> {
     }
 
     /// Whether it dies in the next call.
-    fn is_dying(&self) -> bool
+    pub(crate) fn is_dying(&self) -> bool
         ensures { IsTrue result ↔ (self.now.calls ≡ self.now.life) }
     {
         self.call_counter.calls() == self.life
@@ -137,11 +153,7 @@ impl<D: Volume> Disk for MortalDisk<D> {
     /// `DiskFault` if the inner call failed, or the disk dies or is dead: the inner disk isn't
     /// called then.
     fn create_new(&mut self, path: &str) -> Result<Option<D::File>, DiskFault>
-        ensures call { IsOneCall (λ d. d.calls) (λ d. d.failures)
-            self.old self.new (is_err result) }
-        ensures lives { LivesUntil D.Disk self.old.life self.old.calls (is_err result)
-            self.old.inner self.new.inner }
-        ensures span { (self.new.life ≡ self.old.life) × (self.new.reached ≡ self.old.reached) }
+        ensures call { IsMortalCall D.Disk self.old self.new (is_err result) }
         ensures path { IsTrue (D.honest self.old.inner) →
             IfOk result (λ made. IfSome made (λ file. D.path_of file ≡ path.now)) }
         ensures made { IsTrue (D.honest self.old.inner) → IfOk result (λ made. Makes made
@@ -150,13 +162,9 @@ impl<D: Volume> Disk for MortalDisk<D> {
             (D.contents self.new.inner path.now ≡ D.contents self.old.inner path.now) }
         ensures rest { ChangesAt D.Disk path.now self.old.inner self.new.inner }
     {
-        let answer = if self.is_alive() {
-            self.inner.create_new(path)
-        } else {
-            Err(DiskFault)
-        };
-        self.call_counter.count(answer.is_err());
-        answer
+        self.live()?;
+        let answer = self.inner.create_new(path);
+        self.counted(answer)
     }
 
     /// Writes to the inner disk, as long as this one lives; of the call in which it dies, the first
@@ -166,32 +174,23 @@ impl<D: Volume> Disk for MortalDisk<D> {
     /// `DiskFault` if the inner call failed, or the disk dies or is dead: the inner disk isn't
     /// called once it is dead.
     fn write_at(&mut self, file: &mut D::File, offset: u64, bytes: &[u8]) -> Result<(), DiskFault>
-        ensures call { IsOneCall (λ d. d.calls) (λ d. d.failures)
-            self.old self.new (is_err result) }
-        ensures lives { LivesUntil D.Disk self.old.life self.old.calls (is_err result)
-            self.old.inner self.new.inner }
-        ensures span { (self.new.life ≡ self.old.life) × (self.new.reached ≡ self.old.reached) }
-        ensures share { self.old.calls ≡ self.old.life → WritesItsShare D.Disk
-            (D.path_of file.old) offset bytes.now self.old.reached self.old.inner self.new.inner }
+        ensures call { IsMortalCall D.Disk self.old self.new (is_err result) }
         ensures path { D.path_of file.new ≡ D.path_of file.old }
-        ensures written { IsTrue (D.honest self.old.inner) → OnOk result (Written
-            (D.contents self.old.inner (D.path_of file.old)) offset bytes.now
-            (D.contents self.new.inner (D.path_of file.old))) }
+        ensures write { IsMortalWrite D.Disk result (D.path_of file.old) offset bytes.now
+            self.old self.new }
         ensures failed { IsTrue (D.honest self.old.inner) → OnErr result (MayTear
             (D.contents self.old.inner (D.path_of file.old)) offset (length bytes.now)
             (D.contents self.new.inner (D.path_of file.old))) }
         ensures rest { ChangesAt D.Disk (D.path_of file.old) self.old.inner self.new.inner }
     {
-        let answer = if self.is_alive() {
-            self.inner.write_at(file, offset, bytes)
-        } else {
-            if self.is_dying() {
-                write_share(&mut self.inner, file, offset, bytes, self.reached);
-            }
-            Err(DiskFault)
-        };
-        self.call_counter.count(answer.is_err());
-        answer
+        if self.is_dying() {
+            let share = &bytes[..bytes.len().min(self.reached)];
+            let _ = self.inner.write_at(file, offset, share);
+            return self.counted(Err(DiskFault));
+        }
+        self.live()?;
+        let answer = self.inner.write_at(file, offset, bytes);
+        self.counted(answer)
     }
 
     /// Syncs a file of the inner disk, as long as this one lives.
@@ -200,342 +199,12 @@ impl<D: Volume> Disk for MortalDisk<D> {
     /// `DiskFault` if the inner call failed, or the disk dies or is dead: the inner disk isn't
     /// called then.
     fn sync(&mut self, file: &D::File) -> Result<(), DiskFault>
-        ensures call { IsOneCall (λ d. d.calls) (λ d. d.failures)
-            self.old self.new (is_err result) }
-        ensures lives { LivesUntil D.Disk self.old.life self.old.calls (is_err result)
+        ensures call { IsMortalCall D.Disk self.old self.new (is_err result) }
+        ensures rest { SyncsOne D.Disk result (D.path_of file.now)
             self.old.inner self.new.inner }
-        ensures span { (self.new.life ≡ self.old.life) × (self.new.reached ≡ self.old.reached) }
-        ensures honest { D.honest self.new.inner ≡ D.honest self.old.inner }
-        ensures unchanged { IsTrue (D.honest self.old.inner) →
-            KeepsEach (D.contents self.old.inner) (D.contents self.new.inner) }
-        ensures synced { IsTrue (D.honest self.old.inner) → Syncs result
-            (D.contents self.old.inner (D.path_of file.now)) (D.synced self.old.inner)
-            (D.synced self.new.inner) (D.path_of file.now) }
     {
-        let answer = if self.is_alive() {
-            self.inner.sync(file)
-        } else {
-            Err(DiskFault)
-        };
-        self.call_counter.count(answer.is_err());
-        answer
+        self.live()?;
+        let answer = self.inner.sync(file);
+        self.counted(answer)
     }
-}
-
-/// Writes the first bytes, whether or not the disk takes them.
-fn write_share<D: Volume>(
-    disk: &mut D,
-    file: &mut D::File,
-    offset: u64,
-    bytes: &[u8],
-    reached: usize,
-)
-    ensures path { D.path_of file.new ≡ D.path_of file.old }
-    ensures share { WritesItsShare D.Disk (D.path_of file.old) offset bytes.now reached
-        disk.old disk.new }
-    ensures torn { IsTrue (D.honest disk.old) → MayTear (D.contents disk.old (D.path_of file.old))
-        offset (length bytes.now) (D.contents disk.new (D.path_of file.old)) }
-    ensures rest { ChangesAt D.Disk (D.path_of file.old) disk.old disk.new }
-{
-    let share = &bytes[..bytes.len().min(reached)];
-    let _ = disk.write_at(file, offset, share);
-}
-
-/// Appends the first bytes, whether or not the disk takes them.
-fn append_share<D: Volume>(
-    disk: &mut D,
-    file: &mut D::File,
-    offset: u64,
-    bytes: &[u8],
-    reached: usize,
-)
-    ensures path { D.path_of file.new ≡ D.path_of file.old }
-    ensures share { WritesItsShare D.Disk (D.path_of file.old) offset bytes.now reached
-        disk.old disk.new }
-    ensures part { IsTrue (D.honest disk.old) → WrittenInPart
-        (D.contents disk.old (D.path_of file.old)) offset bytes.now
-        (D.contents disk.new (D.path_of file.old)) }
-    ensures rest { ChangesAt D.Disk (D.path_of file.old) disk.old disk.new }
-{
-    let share = &bytes[..bytes.len().min(reached)];
-    let _ = disk.append(file, offset, share);
-}
-
-impl<D: Volume> Volume for MortalDisk<D> {
-    /// Opens the file on the inner disk, as long as this one lives.
-    ///
-    /// # Errors
-    /// `DiskFault` if the inner call failed, or the disk dies or is dead: the inner disk isn't
-    /// called then.
-    fn open(&mut self, path: &str) -> Result<Option<D::File>, DiskFault>
-        ensures call { IsOneCall (λ d. d.calls) (λ d. d.failures)
-            self.old self.new (is_err result) }
-        ensures lives { LivesUntil D.Disk self.old.life self.old.calls (is_err result)
-            self.old.inner self.new.inner }
-        ensures span { (self.new.life ≡ self.old.life) × (self.new.reached ≡ self.old.reached) }
-        ensures found { IsTrue (D.honest self.old.inner) → IfOk result
-            (λ found. Finds D.path_of path.now found (D.contents self.old.inner path.now)) }
-        ensures rest { StaysWhole D.Disk self.old.inner self.new.inner }
-    {
-        let answer = if self.is_alive() {
-            self.inner.open(path)
-        } else {
-            Err(DiskFault)
-        };
-        self.call_counter.count(answer.is_err());
-        answer
-    }
-
-    /// The length of a file of the inner disk, as long as this one lives.
-    ///
-    /// # Errors
-    /// `DiskFault` if the inner call failed, or the disk dies or is dead: the inner disk isn't
-    /// called then.
-    fn len(&mut self, file: &D::File) -> Result<u64, DiskFault>
-        ensures call { IsOneCall (λ d. d.calls) (λ d. d.failures)
-            self.old self.new (is_err result) }
-        ensures lives { LivesUntil D.Disk self.old.life self.old.calls (is_err result)
-            self.old.inner self.new.inner }
-        ensures span { (self.new.life ≡ self.old.life) × (self.new.reached ≡ self.old.reached) }
-        ensures value { IsTrue (D.honest self.old.inner) → IfOk result (λ len.
-            option_map length (D.contents self.old.inner (D.path_of file.now)) ≡ Some len) }
-        ensures rest { StaysWhole D.Disk self.old.inner self.new.inner }
-    {
-        let answer = if self.is_alive() {
-            self.inner.len(file)
-        } else {
-            Err(DiskFault)
-        };
-        self.call_counter.count(answer.is_err());
-        answer
-    }
-
-    /// Reads from the inner disk, as long as this one lives.
-    ///
-    /// # Errors
-    /// `DiskFault` if the inner call failed, or the disk dies or is dead: the inner disk isn't
-    /// called then.
-    fn read_at(
-        &mut self,
-        file: &mut D::File,
-        offset: u64,
-        room: &mut [u8],
-    ) -> Result<usize, DiskFault>
-        ensures call { IsOneCall (λ d. d.calls) (λ d. d.failures)
-            self.old self.new (is_err result) }
-        ensures lives { LivesUntil D.Disk self.old.life self.old.calls (is_err result)
-            self.old.inner self.new.inner }
-        ensures span { (self.new.life ≡ self.old.life) × (self.new.reached ≡ self.old.reached) }
-        ensures path { D.path_of file.new ≡ D.path_of file.old }
-        ensures fits { IfOk result (λ count. count ≤ length room.old) }
-        ensures read { IsTrue (D.honest self.old.inner) → IfOk result (λ count. ReadsFrom
-            (D.contents self.old.inner (D.path_of file.old)) offset (length room.old) count
-            room.new) }
-        ensures rest { StaysWhole D.Disk self.old.inner self.new.inner }
-    {
-        let answer = if self.is_alive() {
-            self.inner.read_at(file, offset, room)
-        } else {
-            Err(DiskFault)
-        };
-        self.call_counter.count(answer.is_err());
-        answer
-    }
-
-    /// Appends on the inner disk, as long as this one lives; of the call in which it dies, the
-    /// first bytes.
-    ///
-    /// # Errors
-    /// `DiskFault` if the inner call failed, or the disk dies or is dead: the inner disk isn't
-    /// called once it is dead.
-    fn append(&mut self, file: &mut D::File, offset: u64, bytes: &[u8]) -> Result<(), DiskFault>
-        ensures call { IsOneCall (λ d. d.calls) (λ d. d.failures)
-            self.old self.new (is_err result) }
-        ensures lives { LivesUntil D.Disk self.old.life self.old.calls (is_err result)
-            self.old.inner self.new.inner }
-        ensures span { (self.new.life ≡ self.old.life) × (self.new.reached ≡ self.old.reached) }
-        ensures share { self.old.calls ≡ self.old.life → WritesItsShare D.Disk
-            (D.path_of file.old) offset bytes.now self.old.reached self.old.inner self.new.inner }
-        ensures path { D.path_of file.new ≡ D.path_of file.old }
-        ensures written { IsTrue (D.honest self.old.inner) → OnOk result (Written
-            (D.contents self.old.inner (D.path_of file.old)) offset bytes.now
-            (D.contents self.new.inner (D.path_of file.old))) }
-        ensures failed { IsTrue (D.honest self.old.inner) → OnErr result (WrittenInPart
-            (D.contents self.old.inner (D.path_of file.old)) offset bytes.now
-            (D.contents self.new.inner (D.path_of file.old))) }
-        ensures rest { ChangesAt D.Disk (D.path_of file.old) self.old.inner self.new.inner }
-    {
-        let answer = if self.is_alive() {
-            self.inner.append(file, offset, bytes)
-        } else {
-            if self.is_dying() {
-                append_share(&mut self.inner, file, offset, bytes, self.reached);
-            }
-            Err(DiskFault)
-        };
-        self.call_counter.count(answer.is_err());
-        answer
-    }
-
-    /// Cuts a file of the inner disk, as long as this one lives; of the call in which it dies, all
-    /// or nothing.
-    ///
-    /// # Errors
-    /// `DiskFault` if the inner call failed, or the disk dies or is dead: the inner disk isn't
-    /// called once it is dead.
-    fn cut(&mut self, file: &mut D::File, len: u64) -> Result<(), DiskFault>
-        ensures call { IsOneCall (λ d. d.calls) (λ d. d.failures)
-            self.old self.new (is_err result) }
-        ensures lives { LivesUntil D.Disk self.old.life self.old.calls (is_err result)
-            self.old.inner self.new.inner }
-        ensures span { (self.new.life ≡ self.old.life) × (self.new.reached ≡ self.old.reached) }
-        ensures path { D.path_of file.new ≡ D.path_of file.old }
-        ensures cut { IsTrue (D.honest self.old.inner) → OnOk result (IsCutTo
-            (D.contents self.old.inner (D.path_of file.old)) len
-            (D.contents self.new.inner (D.path_of file.old))) }
-        ensures failed { IsTrue (D.honest self.old.inner) → OnErr result (IsCutInPart
-            (D.contents self.old.inner (D.path_of file.old)) len
-            (D.contents self.new.inner (D.path_of file.old))) }
-        ensures rest { ChangesAt D.Disk (D.path_of file.old) self.old.inner self.new.inner }
-    {
-        let answer = if self.is_alive() {
-            self.inner.cut(file, len)
-        } else {
-            if self.succeeds_unseen() {
-                cut_unseen(&mut self.inner, file, len);
-            }
-            Err(DiskFault)
-        };
-        self.call_counter.count(answer.is_err());
-        answer
-    }
-
-    /// Renames a file of the inner disk, as long as this one lives; of the call in which it dies,
-    /// all or nothing.
-    ///
-    /// # Errors
-    /// `DiskFault` if the inner call failed, or the disk dies or is dead: the inner disk isn't
-    /// called once it is dead.
-    fn rename(&mut self, from: &str, to: &str) -> Result<bool, DiskFault>
-        ensures call { IsOneCall (λ d. d.calls) (λ d. d.failures)
-            self.old self.new (is_err result) }
-        ensures lives { LivesUntil D.Disk self.old.life self.old.calls (is_err result)
-            self.old.inner self.new.inner }
-        ensures span { (self.new.life ≡ self.old.life) × (self.new.reached ≡ self.old.reached) }
-        ensures honest { D.honest self.new.inner ≡ D.honest self.old.inner }
-        ensures moved { IsTrue (D.honest self.old.inner) → IfOk result (λ moved. Renames moved
-            from.now to.now (D.contents self.old.inner) (D.contents self.new.inner)) }
-        ensures failed { IsTrue (D.honest self.old.inner) → OnErr result
-            (Moves from.now to.now (D.contents self.old.inner) (D.contents self.new.inner)
-            ⊎ KeepsEach (D.contents self.old.inner) (D.contents self.new.inner)) }
-        ensures synced { IsTrue (D.honest self.old.inner) →
-            KeepsAllBut from.now to.now (D.synced self.old.inner) (D.synced self.new.inner) }
-    {
-        let answer = if self.is_alive() {
-            self.inner.rename(from, to)
-        } else {
-            if self.succeeds_unseen() {
-                rename_unseen(&mut self.inner, from, to);
-            }
-            Err(DiskFault)
-        };
-        self.call_counter.count(answer.is_err());
-        answer
-    }
-
-    /// The names in a folder of the inner disk, as long as this one lives.
-    ///
-    /// # Errors
-    /// `DiskFault` if the inner call failed, or the disk dies or is dead: the inner disk isn't
-    /// called then.
-    fn list(&mut self, folder: &str) -> Result<Vec<String>, DiskFault>
-        ensures call { IsOneCall (λ d. d.calls) (λ d. d.failures)
-            self.old self.new (is_err result) }
-        ensures lives { LivesUntil D.Disk self.old.life self.old.calls (is_err result)
-            self.old.inner self.new.inner }
-        ensures span { (self.new.life ≡ self.old.life) × (self.new.reached ≡ self.old.reached) }
-        ensures names { IsTrue (D.honest self.old.inner) → IfOk result (λ names.
-            Lists folder.now (D.contents self.old.inner) (map string_bytes names.items)) }
-        ensures rest { StaysWhole D.Disk self.old.inner self.new.inner }
-    {
-        let answer = if self.is_alive() {
-            self.inner.list(folder)
-        } else {
-            Err(DiskFault)
-        };
-        self.call_counter.count(answer.is_err());
-        answer
-    }
-
-    /// Syncs a file of the inner disk, as long as this one lives.
-    ///
-    /// # Errors
-    /// `DiskFault` if the inner call failed, or the disk dies or is dead: the inner disk isn't
-    /// called then.
-    fn sync_data(&mut self, file: &D::File) -> Result<(), DiskFault>
-        ensures call { IsOneCall (λ d. d.calls) (λ d. d.failures)
-            self.old self.new (is_err result) }
-        ensures lives { LivesUntil D.Disk self.old.life self.old.calls (is_err result)
-            self.old.inner self.new.inner }
-        ensures span { (self.new.life ≡ self.old.life) × (self.new.reached ≡ self.old.reached) }
-        ensures honest { D.honest self.new.inner ≡ D.honest self.old.inner }
-        ensures contents { IsTrue (D.honest self.old.inner) →
-            KeepsEach (D.contents self.old.inner) (D.contents self.new.inner) }
-        ensures synced { IsTrue (D.honest self.old.inner) → Syncs result
-            (D.contents self.old.inner (D.path_of file.now)) (D.synced self.old.inner)
-            (D.synced self.new.inner) (D.path_of file.now) }
-    {
-        let answer = if self.is_alive() {
-            self.inner.sync_data(file)
-        } else {
-            Err(DiskFault)
-        };
-        self.call_counter.count(answer.is_err());
-        answer
-    }
-
-    /// Syncs a folder of the inner disk, as long as this one lives.
-    ///
-    /// # Errors
-    /// `DiskFault` if the inner call failed, or the disk dies or is dead: the inner disk isn't
-    /// called then.
-    fn sync_folder(&mut self, folder: &str) -> Result<(), DiskFault>
-        ensures call { IsOneCall (λ d. d.calls) (λ d. d.failures)
-            self.old self.new (is_err result) }
-        ensures lives { LivesUntil D.Disk self.old.life self.old.calls (is_err result)
-            self.old.inner self.new.inner }
-        ensures span { (self.new.life ≡ self.old.life) × (self.new.reached ≡ self.old.reached) }
-        ensures rest { StaysWhole D.Disk self.old.inner self.new.inner }
-    {
-        let answer = if self.is_alive() {
-            self.inner.sync_folder(folder)
-        } else {
-            Err(DiskFault)
-        };
-        self.call_counter.count(answer.is_err());
-        answer
-    }
-}
-
-/// Cuts a file, and doesn't report whether it succeeded.
-fn cut_unseen<D: Volume>(disk: &mut D, file: &mut D::File, len: u64)
-    ensures path { D.path_of file.new ≡ D.path_of file.old }
-    ensures part { IsTrue (D.honest disk.old) → IsCutInPart
-        (D.contents disk.old (D.path_of file.old)) len
-        (D.contents disk.new (D.path_of file.old)) }
-    ensures rest { ChangesAt D.Disk (D.path_of file.old) disk.old disk.new }
-{
-    let _ = disk.cut(file, len);
-}
-
-/// Renames a file, and doesn't report whether it succeeded.
-fn rename_unseen<D: Volume>(disk: &mut D, from: &str, to: &str)
-    ensures honest { D.honest disk.new ≡ D.honest disk.old }
-    ensures either { IsTrue (D.honest disk.old) →
-        (Moves from.now to.now (D.contents disk.old) (D.contents disk.new)
-        ⊎ KeepsEach (D.contents disk.old) (D.contents disk.new)) }
-    ensures synced { IsTrue (D.honest disk.old) →
-        KeepsAllBut from.now to.now (D.synced disk.old) (D.synced disk.new) }
-{
-    let _ = disk.rename(from, to);
 }

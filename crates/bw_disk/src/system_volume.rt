@@ -3,8 +3,8 @@ ghost use Rattle.std.specs.Prelude.{◌≡◌, ◌≤◌, IfOk, is_err, length};
 ghost use Rattle.bw_disk.specs.Disks.{IsOneCall};
 ghost use Rattle.bw_disk.specs.FileWrites.{PutsFrom};
 
-use crate::disk::DiskFault;
-use crate::system::{SystemDisk, put};
+use crate::disk::{Disk, DiskFault};
+use crate::system::SystemDisk;
 use crate::volume::Volume;
 use std::alloc::Global;
 use std::fs::{self, File, Files, OpenFile, OpenOptions};
@@ -62,9 +62,7 @@ impl<R: Files + AllocGlobal + Clone + Drop> Volume for SystemDisk<R> {
             (is_err result) }
         ensures puts { PutsFrom R.File.Seek R.File.Write offset bytes.now file.old file.new result }
     {
-        let answer = put(file, offset, bytes).map_err(|_| DiskFault);
-        self.call_counter.count(answer.is_err());
-        answer
+        self.write_at(file, offset, bytes)
     }
 
     fn cut(&mut self, file: &mut R::File, len: u64) -> Result<(), DiskFault> {

@@ -1,8 +1,5 @@
-use Rattle.std.proofs.Common.{◌≡◌, [], ◌∷◌, ◌++◌, true, is_some, string_bytes, ◌∙◌, ap, rules, cond, Option, List, ℕ, Some, None}
+use Rattle.std.proofs.Common.{◌≡◌, true, is_some, string_bytes, ◌∙◌, rules, None}
 use Rattle.std.specs.List.{position}
-use Rattle.std.specs.Option.{option_or}
-use Rattle.std.specs.Str.{bytes_eq}
-use Rattle.bw_disk.specs.declared.memory_disk.StoredFile.{StoredFile}
 use Rattle.bw_disk.specs.MemoryDisks.{stands_at, content_at}
 use Rattle.bw_disk.proofs.MemoryDisks.{stands}
 use Rattle.bw_disk.proofs.Copies.{not_missing, copy_added}

@@ -1,4 +1,4 @@
-use Rattle.std.proofs.Common.{◌≡◌, ◌∙◌, inl, inr, List, ℕ, true, false, [], ◌∷◌, ◌++◌, refl, ap, map, rules, string_bytes}
+use Rattle.std.proofs.Common.{◌≡◌, ◌∙◌, inl, inr, true, false, [], ◌∷◌, ◌++◌, refl, ap, map, rules, string_bytes}
 use Rattle.std.specs.List.{list_any}
 use Rattle.std.specs.Str.{bytes_eq}
 use Rattle.bw_disk.proofs.Listings.{among_any, none_any, pushed_text}

@@ -1,4 +1,4 @@
-use Rattle.std.proofs.Common.{◌≡◌, ◌<◌, ◌≤◌, ◌+◌, List, ℕ, [], ◌∷◌, ◌++◌, get_or, length, map, take, subst, sym, arith, rules, string_bytes}
+use Rattle.std.proofs.Common.{◌≡◌, ◌<◌, List, get_or, length, map, take, subst, sym, arith, rules, string_bytes}
 use Rattle.bw_disk.specs.declared.memory_disk.StoredFile.{StoredFile}
 use Rattle.bw_disk.specs.MemoryDisks.{content_at, AddsListed}
 use Rattle.bw_disk.specs.Volumes.{Lists}

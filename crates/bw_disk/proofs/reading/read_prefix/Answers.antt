@@ -1,18 +1,11 @@
-use Rattle.std.proofs.Common.{rules, arith, ◌≡◌, ◌≤◌, ◌+◌, ◌-◌, ℕ, List, Option, IsTrue, length, take, sym, ap, ◌∙◌, subst}
-use Rattle.bw_disk.specs.DiskSteps.{StaysWhole}
-use Rattle.bw_disk.specs.Volumes.{ReadsFrom}
-use Rattle.bw_disk.proofs.PrefixReads.{IsReadTo, read_more}
-use Rattle.bw_disk.proofs.DiskChains.{stays_twice}
+use Rattle.std.proofs.Common.{rules, arith, ◌≡◌, ◌≤◌, ◌-◌, IsTrue, length, sym, ap, ◌∙◌, subst}
+use Rattle.bw_disk.proofs.PrefixReads.{read_more}
+use Rattle.bw_disk.proofs.DiskChains.{stays_on}
 use Rattle.bw_disk.proofs.reading.read_prefix.Goals as goal
 
 pub loop-count-preserved : goal.loop-count-preserved
 loop-count-preserved g c =
     let was = c.loop-count.invariant in
-    let stays : StaysWhole g.D.Disk c.loop-count.disk c.read_at.new.self = record {
-      honest = c.read_at.ensures.honest;
-      contents = c.read_at.ensures.contents;
-      synced = c.read_at.ensures.synced;
-    } in
     let len : length c.read_at.new.room ≡ length c.loop-count.room - c.loop-count.count = search rules in
     let fits : c.in_ok-more.more ≤ length c.loop-count.room - c.loop-count.count = search rules in
     let small = was.0 in (
@@ -20,7 +13,8 @@ loop-count-preserved g c =
       grind (arith, len, fits, small, was.1),
       c.read_at.ensures.path ∙ was.2,
       search rules,
-      stays_twice g.D.Disk c.args.disk.now c.loop-count.disk c.read_at.new.self was.4 stays,
+      stays_on g.D.Disk c.args.disk.now c.loop-count.disk c.read_at.new.self was.4 c.read_at.ensures.honest
+          c.read_at.ensures.contents c.read_at.ensures.synced,
       λ honest.
           let now = subst IsTrue (sym was.4.honest) honest in
           let same : g.D.Disk.contents c.loop-count.disk (g.D.Disk.path_of c.loop-count.file)

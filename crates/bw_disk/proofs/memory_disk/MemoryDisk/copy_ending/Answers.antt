@@ -1,7 +1,7 @@
-use Rattle.std.proofs.Common.{◌≡◌, ◌∙◌, ◌<◌, ◌+◌, List, ℕ, get_or, length, arith, rules, string_bytes}
+use Rattle.std.proofs.Common.{◌≡◌, ◌∙◌, ◌<◌, List, ℕ, get_or, length, arith, rules, string_bytes}
 use Rattle.bw_disk.specs.declared.memory_disk.StoredFile.{StoredFile}
 use Rattle.bw_disk.specs.MemoryDisks.{content_at, added_at}
-use Rattle.bw_disk.proofs.Copies.{copied_more, copied_none, copied_all}
+use Rattle.bw_disk.proofs.Copies.{copied_more}
 use Rattle.bw_disk.proofs.memory_disk.MemoryDisk.copy_ending.Goals as goal
 
 pub loop-place-preserved : goal.loop-place-preserved
