@@ -10,4 +10,5 @@ pub mod ClosedPaths
 pub mod ClosedNames
 pub mod LooseForms
 pub mod LooseJournals
+pub mod Standings
 pub mod BecomingForms

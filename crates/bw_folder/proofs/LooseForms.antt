@@ -85,13 +85,14 @@ header_of limit existed = record { limit = limit; existed = existed }
 headers : (m n : ℕ) (x y : Bool) → m ≡ n → x ≡ y → header_of m x ≡ header_of n y
 headers m n x y e f = ap (λ (k : ℕ). header_of k x) e ∙ ap (λ (b : Bool). header_of n b) f
 
-abbrev noted_of : Bool → Option (List ℕ) → Option (List ℕ) → Option (List ℕ)
+-- what is noted under one name
+abbrev pub noted_of : Bool → Option (List ℕ) → Option (List ℕ) → Option (List ℕ)
 noted_of loose noted closed = if loose then option_or noted closed else noted
 
 abbrev resting_of : Bool → Option (List ℕ) → Option (List ℕ)
 resting_of loose closed = if loose then None else closed
 
-noted_eq : (l l' : Bool) (a a' b b' : Option (List ℕ)) → l' ≡ l → a' ≡ a → b' ≡ b → noted_of l' a' b' ≡ noted_of l a b
+pub noted_eq : (l l' : Bool) (a a' b b' : Option (List ℕ)) → l' ≡ l → a' ≡ a → b' ≡ b → noted_of l' a' b' ≡ noted_of l a b
 noted_eq l l' a a' b b' el ea eb =
     ap (λ (x : Bool). noted_of x a' b') el ∙ ap (λ (x : Option (List ℕ)). noted_of l x b') ea
     ∙ ap (λ (x : Option (List ℕ)). noted_of l a x) eb
@@ -104,6 +105,22 @@ header_eq : (l l' : Bool) (b b' : Option (List ℕ)) (h h' : Header) → l' ≡ 
 header_eq l l' b b' h h' el eb eh =
     ap (λ (x : Bool). resting_header x b' h') el ∙ ap (λ (x : Option (List ℕ)). resting_header l x h') eb
     ∙ ap (λ (x : Header). resting_header l b x) eh
+
+-- one name of which something holds, and the others
+pub by_name : (P : List ℕ → Type 0) (name : List ℕ) → P name → ((n : List ℕ) → bytes_eq name n ≡ false → P n) → (n : List ℕ) → P n
+by_name P name one others n = go (bytes_eq name n) refl
+  where
+    go : (b : Bool) → bytes_eq name n ≡ b → P n
+    go true e = subst P (same_name name n e) one
+    go false e = others n e
+
+-- distinct names, by the test
+pub apart : (name n : List ℕ) → (n ≡ name → ⊥) → bytes_eq name n ≡ false
+apart name n differ = go (bytes_eq name n) refl
+  where
+    go : (b : Bool) → bytes_eq name n ≡ b → b ≡ false
+    go true e = absurd (differ (sym (same_name name n e)))
+    go false e = refl
 
 module _ (loose loose' : List ℕ → Bool) (header header' : List ℕ → Header) (c c' : List ℕ → Option (List ℕ)) (folder : List ℕ) where
   abbrev before : Journals
@@ -145,19 +162,8 @@ module _ (loose loose' : List ℕ → Bool) (header header' : List ℕ → Heade
   same_parts el eh ec = all_same (λ n. same_at n (el n) (eh n) (ec (noted n)) (ec (closed n)))
 
   -- one name at which all is shown, and the others
-  by_name : (name : List ℕ) → SameAt name → ((n : List ℕ) → bytes_eq name n ≡ false → SameAt n) → SameJournals before after
-  by_name name one others = all_same (λ n. go n (bytes_eq name n) refl)
-    where
-      go : (n : List ℕ) (b : Bool) → bytes_eq name n ≡ b → SameAt n
-      go n true e = subst (λ (m : List ℕ). SameAt m) (same_name name n e) one
-      go n false e = others n e
-
-  apart : (name n : List ℕ) → (n ≡ name → ⊥) → bytes_eq name n ≡ false
-  apart name n differ = go (bytes_eq name n) refl
-    where
-      go : (b : Bool) → bytes_eq name n ≡ b → b ≡ false
-      go true e = absurd (differ (sym (same_name name n e)))
-      go false e = refl
+  same_by_name : (name : List ℕ) → SameAt name → ((n : List ℕ) → bytes_eq name n ≡ false → SameAt n) → SameJournals before after
+  same_by_name name one others = all_same (by_name (λ n. SameAt n) name one others)
 
   module _ (name : List ℕ) (ec : (p : List ℕ) → c' p ≡ c p) where
     -- the name became loose
@@ -174,7 +180,7 @@ module _ (loose loose' : List ℕ → Bool) (header header' : List ℕ → Heade
           ((n : List ℕ) → bytes_eq name n ≡ false → header' n ≡ header n) → c (closed name) ≡ None →
           SameJournals before after
       loosened tied new el' eh free =
-          by_name name
+          same_by_name name
           (record {
             noted_same = noted_eq true (loose' name) (c (noted name)) (c' (noted name)) None (c' (closed name)) loose_now
                 (ec (noted name)) (ec (closed name) ∙ free)
@@ -259,7 +265,7 @@ module _ (loose loose' : List ℕ → Bool) (header header' : List ℕ → Heade
       ((n : List ℕ) → bytes_eq name n ≡ false → c' (noted n) ≡ c (noted n)) →
       ((n : List ℕ) → bytes_eq name n ≡ false → c' (closed n) ≡ c (closed n)) → SameJournals before after
   moved_loose name el el' eh was same ej ek =
-      by_name name
+      same_by_name name
       (record {
         noted_same = ap (λ (l : Bool). noted_of l (c' (noted name)) (c' (closed name))) (el name ∙ was)
             ∙ same

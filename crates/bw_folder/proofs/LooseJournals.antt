@@ -23,7 +23,7 @@ use Rattle.bw_folder.specs.declared.resting.RestingFolderJournal.{RestingFolderJ
 use Rattle.bw_folder.proofs.JournalPaths.{journal_path_injective, paths_apart}
 use Rattle.bw_folder.proofs.ClosedPaths.{closed_path_injective, closed_apart, takes_apart}
 use Rattle.bw_folder.proofs.HeaderKeeping.{header_kept}
-use Rattle.bw_folder.proofs.LooseForms.{same_parts, moved_loose, loosened, beside, same_back, or_none}
+use Rattle.bw_folder.proofs.LooseForms.{same_parts, same_twice, moved_loose, loosened, beside, same_back, or_none}
 use Rattle.bw_store.specs.Stores.{KeepsOthers}
 
 -- a file was moved, or nothing changed
@@ -43,8 +43,8 @@ pub keeps_all_but : (from to : List ℕ) (before after : List ℕ → Option (Li
 keeps_all_but from to before after (inl m) = m.others
 keeps_all_but from to before after (inr k) = λ p a b. k p
 
--- distinct names, by the test
-differ : (name n : List ℕ) → bytes_eq name n ≡ false → n ≡ name → ⊥
+-- names that the test tells apart
+pub differ : (name n : List ℕ) → bytes_eq name n ≡ false → n ≡ name → ⊥
 differ name n e same =
     let yes : bytes_eq name n ≡ true = subst (λ (m : List ℕ). bytes_eq name m ≡ true) (sym same) (name_refl name) in
     let no : true ≡ false = sym yes ∙ e in cc
@@ -57,12 +57,12 @@ module _ (c c' : List ℕ → Option (List ℕ)) (folder name : List ℕ) where
   keeps_takes : KeepsBut → (n : List ℕ) → c' (take_path folder n) ≡ c (take_path folder n)
   keeps_takes k n = k (take_path folder n) (paths_apart folder n name) (takes_apart folder n name)
 
-  keeps_noted : KeepsBut → (n : List ℕ) → bytes_eq name n ≡ false → c' (journal_path folder n) ≡ c (journal_path folder n)
+  pub keeps_noted : KeepsBut → (n : List ℕ) → bytes_eq name n ≡ false → c' (journal_path folder n) ≡ c (journal_path folder n)
   keeps_noted k n e =
       k (journal_path folder n) (λ same. differ name n e (journal_path_injective folder n name same))
       (λ same. closed_apart folder name n (sym same))
 
-  keeps_closed : KeepsBut → (n : List ℕ) → bytes_eq name n ≡ false → c' (closed_path folder n) ≡ c (closed_path folder n)
+  pub keeps_closed : KeepsBut → (n : List ℕ) → bytes_eq name n ≡ false → c' (closed_path folder n) ≡ c (closed_path folder n)
   keeps_closed k n e =
       k (closed_path folder n) (λ same. closed_apart folder n name same)
       (λ same. differ name n e (closed_path_injective folder n name same))
@@ -114,13 +114,16 @@ module _ {D F : Type 0} (G : Ghosts D F) where
       (string_bytes old.folder) takes n
 
   -- two states with the same folder
-  in_folder : (old new : RestingFolderJournal D F G) → new.inner.folder ≡ old.inner.folder →
+  in_folder : (old new : RestingFolderJournal D F G) → string_bytes new.inner.folder ≡ string_bytes old.inner.folder →
       SameJournals (all_journals G old) (folder_journals (is_loose new.loose) (header_in_folder new.inner)
       (G.contents new.inner.disk) (string_bytes old.inner.folder)) →
       SameJournals (all_journals G old) (all_journals G new)
   in_folder old new e s =
-      subst (λ v. SameJournals (all_journals G old) (folder_journals (is_loose new.loose) (header_in_folder new.inner)
-      (G.contents new.inner.disk) (string_bytes v))) (sym e) s
+      subst (λ (v : List ℕ). SameJournals (all_journals G old) (folder_journals (is_loose new.loose) (header_in_folder new.inner)
+      (G.contents new.inner.disk) v)) (sym e) s
+
+  pub still_honest : (old new : FolderJournal D F G) → OnlyReads G old new → IsTrue (G.honest old.disk) → IsTrue (G.honest new.disk)
+  still_honest old new r honest = subst (λ (b : Bool). IsTrue b) (sym r.stays.honest) honest
 
   pub reads_header : (old new : FolderJournal D F G) → OnlyReads G old new → IsTrue (G.honest old.disk) → (n : List ℕ) →
       header_in_folder new n ≡ header_in_folder old n
@@ -131,10 +134,18 @@ module _ {D F : Type 0} (G : Ghosts D F) where
   pub reads_same : (old new : RestingFolderJournal D F G) → OnlyReads G old.inner new.inner → new.loose ≡ old.loose →
       IsTrue (G.honest old.inner.disk) → SameJournals (all_journals G old) (all_journals G new)
   reads_same old new r el honest =
-      in_folder old new r.stays.folder
+      in_folder old new (ap string_bytes r.stays.folder)
       (same_parts (is_loose old.loose) (is_loose new.loose) (header_in_folder old.inner) (header_in_folder new.inner)
       (G.contents old.inner.disk) (G.contents new.inner.disk) (string_bytes old.inner.folder)
       (λ n. ap (λ v. is_loose v n) el) (reads_header old.inner new.inner r honest) (r.disk.contents honest))
+
+  -- and then a call left the same
+  pub reads_then : (old mid new : RestingFolderJournal D F G) → OnlyReads G old.inner mid.inner → mid.loose ≡ old.loose →
+      (IsTrue (G.honest mid.inner.disk) → SameJournals (all_journals G mid) (all_journals G new)) →
+      IsTrue (G.honest old.inner.disk) → SameJournals (all_journals G old) (all_journals G new)
+  reads_then old mid new r el more honest =
+      same_twice (all_journals G old) (all_journals G mid) (all_journals G new) (reads_same old mid r el honest)
+      (more (still_honest old.inner mid.inner r honest))
 
   -- a loose journal was moved
   moved_same : (name : List ℕ) (old new : RestingFolderJournal D F G) → StaysOpen G old.inner new.inner →
@@ -145,7 +156,7 @@ module _ {D F : Type 0} (G : Ghosts D F) where
       let c = G.contents old.inner.disk in
       let c' = G.contents new.inner.disk in
       let folder : List ℕ = string_bytes old.inner.folder in
-      in_folder old new s.folder
+      in_folder old new (ap string_bytes s.folder)
       (moved_loose (is_loose old.loose) (is_loose new.loose) (header_in_folder old.inner) (header_in_folder new.inner) c c' folder
       name (λ n. ap (λ v. is_loose v n) el) s.limit
       (λ n e. header_same old.inner new.inner s (keeps_takes c c' folder name m.keeps) n) was m.same
@@ -224,7 +235,7 @@ module _ {D F : Type 0} (G : Ghosts D F) where
     pub closed_loose : ((n : List ℕ) → is_loose new.loose n ≡ is_loose old.loose n) → is_loose old.loose name ≡ true →
         SameJournals (all_journals G old) (all_journals G new)
     closed_loose el was =
-        in_folder old new folder
+        in_folder old new (ap string_bytes folder)
         (moved_loose (is_loose old.loose) (is_loose new.loose) (header_in_folder old.inner) (header_in_folder new.inner)
         (G.contents old.inner.disk) (G.contents new.inner.disk) (string_bytes old.inner.folder) name el limit others_kept was
         (ap (λ (d : D). option_or (G.contents d (journal_path (string_bytes old.inner.folder) name))
@@ -237,7 +248,7 @@ module _ {D F : Type 0} (G : Ghosts D F) where
         G.contents old.inner.disk (closed_path (string_bytes old.inner.folder) name) ≡ None →
         SameJournals (all_journals G old) (all_journals G new)
     closed_open el tied own free =
-        in_folder old new folder
+        in_folder old new (ap string_bytes folder)
         (loosened (is_loose old.loose) (is_loose new.loose) (header_in_folder old.inner) (header_in_folder new.inner)
         (G.contents old.inner.disk) (G.contents new.inner.disk) (string_bytes old.inner.folder) name contents_kept el tied
         (ap (λ (k : Option Bool). unwrap_or k (is_some (G.contents old.inner.disk (take_path (string_bytes old.inner.folder) name)))) own)
@@ -270,7 +281,8 @@ module _ {D F : Type 0} (G : Ghosts D F) where
       (G.contents j.inner.disk (journal_path (string_bytes j.inner.folder) name))) tied
 
   -- a journal that wasn't opened
-  pub unopened : (old new : RestingFolderJournal D F G) → new.inner.folder ≡ old.inner.folder → new.loose ≡ old.loose →
+  pub unopened : (old new : RestingFolderJournal D F G) → string_bytes new.inner.folder ≡ string_bytes old.inner.folder →
+      new.loose ≡ old.loose →
       ((n : List ℕ) → header_in_folder new.inner n ≡ header_in_folder old.inner n) →
       KeepsEach (G.contents old.inner.disk) (G.contents new.inner.disk) → SameJournals (all_journals G old) (all_journals G new)
   unopened old new ef el eh ec =
@@ -280,8 +292,8 @@ module _ {D F : Type 0} (G : Ghosts D F) where
       (λ n. ap (λ v. is_loose v n) el) eh ec)
 
   -- a loose journal was opened where it is noted in
-  module _ (name : List ℕ) (old new : RestingFolderJournal D F G) (folder : new.inner.folder ≡ old.inner.folder)
-      (limit : new.inner.limit ≡ old.inner.limit)
+  module _ (name : List ℕ) (old new : RestingFolderJournal D F G)
+      (folder : string_bytes new.inner.folder ≡ string_bytes old.inner.folder) (limit : new.inner.limit ≡ old.inner.limit)
       (same : KeepsEach (G.contents old.inner.disk) (G.contents new.inner.disk))
       (heads : (n : List ℕ) → header_in_folder new.inner n
       ≡ cond (bytes_eq name n) (record (header_in_folder old.inner n) { existed = false }) (header_in_folder old.inner n))

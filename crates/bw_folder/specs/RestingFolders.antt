@@ -2,7 +2,7 @@
 use Rattle.std.specs.Prelude.{◌≡◌, ◌⊎◌, Bool, ℕ, List, Option, Result, IsTrue, IfOk, OnErr}
 use Rattle.std.specs.Prelude.{string_bytes}
 use Rattle.bw_journal.specs.Resting.{Journals}
-use Rattle.bw_journal.specs.Standing.{Standing}
+use Rattle.bw_journal.specs.Standing.{Standing, KeepsStanding, MayStandAtRest, StandsIf}
 use Rattle.bw_disk.specs.DiskSteps.{StaysWhole}
 use Rattle.bw_disk.specs.Volumes.{Moves, Renames, KeepsEach}
 use Rattle.bw_disk.specs.declared.disk.Disk.{Ghosts}
@@ -88,3 +88,18 @@ module _ {D F : Type 0} {G : Ghosts D F} where
   -- whether the journal of a name is loose
   abbrev pub is_loose_in : RestingFolderJournal D F G → List ℕ → Bool
   is_loose_in j name = is_loose j.loose name
+
+  -- a journal that isn't apart stands where it stood, and has what it had
+  abbrev pub KeepsStandings : RestingFolderJournal D F G → RestingFolderJournal D F G → Type 0
+  KeepsStandings old new = KeepsStanding (stands_in_all old) (stands_in_all new)
+      (all_journals G old).noted (all_journals G new).noted
+
+  -- so it is of each other name; this one's may be where it rests
+  abbrev pub MayMoveToRest : List ℕ → RestingFolderJournal D F G → RestingFolderJournal D F G → Type 0
+  MayMoveToRest name old new = MayStandAtRest name (stands_in_all old) (stands_in_all new)
+      (all_journals G old).noted (all_journals G new).noted
+
+  -- a name's journal may be where it rests now; or none is there that wasn't
+  abbrev pub StandingsIf : Bool → List ℕ → RestingFolderJournal D F G → RestingFolderJournal D F G → Type 0
+  StandingsIf woken name old new = StandsIf woken name (stands_in_all old) (stands_in_all new)
+      (all_journals G old).noted (all_journals G new).noted

@@ -6,7 +6,8 @@ ghost use Rattle.bw_disk.specs.Volumes.{KeepsAllBut};
 ghost use Rattle.bw_folder.specs.Journals.{existences, existence_of, failure_of};
 
 use crate::heading::exists;
-use crate::journal::{FolderJournal, find};
+use crate::journal::FolderJournal;
+use crate::noting::find;
 use bw_disk::{Volume, read_file};
 use bw_request::Name;
 use bw_store::StoreFault;

@@ -7,6 +7,7 @@ mod folder;
 mod heading;
 mod journal;
 mod loose;
+mod noting;
 mod paths;
 mod resting;
 mod syncing;

@@ -7,7 +7,7 @@ ghost use Rattle.bw_disk.specs.Volumes.{KeepsAllBut};
 ghost use Rattle.bw_folder.specs.Folders.{take_path as path_of_take};
 ghost use Rattle.bw_folder.specs.Syncing.{IsSyncedAt};
 ghost use Rattle.bw_journal.specs.Notes.{BeginsNotes, BeginsInPart, Notes, NotesInPart};
-ghost use Rattle.bw_journal.specs.Resting.{SameJournals, RestsIf, WakesIf};
+ghost use Rattle.bw_journal.specs.Resting.{SameJournals, RestsIf, WakesIf, is_woken};
 ghost use Rattle.bw_folder.specs.Journals.{journal_path as path_of_journal, existences, existence_of, failure_of};
 ghost use Rattle.bw_folder.specs.RestingJournals.{closed_path as path_of_closed, is_loose, KeepsBeside};
 
@@ -19,6 +19,7 @@ use bw_store::StoreFault;
 
 impl<D: Volume> RestingFolderJournal<D> {
     ghost use Rattle.bw_folder.specs.RestingFolders.{all_journals, OnlyReads, StaysOpen, KeepsSettings};
+    ghost use Rattle.bw_folder.specs.RestingFolders.{KeepsStandings, MayMoveToRest, StandingsIf};
 
     /// Whether something is where the journal of a name rests.
     fn stands_closed(&mut self, name: &Name) -> Result<bool, StoreFault>
@@ -47,6 +48,7 @@ impl<D: Volume> RestingFolderJournal<D> {
     /// Puts the journal of a name to rest; false if it may not rest.
     pub(crate) fn rest_file(&mut self, name: &Name) -> Result<bool, StoreFault>
         ensures settings { KeepsSettings D.Disk self.old self.new }
+        ensures standing { IsTrue (D.honest self.old.inner.disk) → MayMoveToRest name.now self.old self.new }
         ensures rested { IsTrue (D.honest self.old.inner.disk) → IfOk result (λ rested. RestsIf rested
             name.now (all_journals D.Disk self.old) (all_journals D.Disk self.new)) }
         ensures failed { IsTrue (D.honest self.old.inner.disk) → OnErr result
@@ -74,6 +76,7 @@ impl<D: Volume> RestingFolderJournal<D> {
     /// Makes the journal of a name loose, if it may rest, and returns whether it is.
     fn loosen(&mut self, name: &Name) -> Result<bool, StoreFault>
         ensures settings { KeepsSettings D.Disk self.old self.new }
+        ensures standing { IsTrue (D.honest self.old.inner.disk) → KeepsStandings self.old self.new }
         ensures loose { IfOk result (λ loose. IsTrue loose → IsTrue (is_loose self.new.loose name.now)) }
         ensures same { IsTrue (D.honest self.old.inner.disk) →
             SameJournals (all_journals D.Disk self.old) (all_journals D.Disk self.new) }
@@ -107,6 +110,7 @@ impl<D: Volume> RestingFolderJournal<D> {
         requires { IsTrue (is_loose self.old.loose name.now) }
         ensures stays { StaysOpen D.Disk self.old.inner self.new.inner }
         ensures loose { self.new.loose ≡ self.old.loose }
+        ensures standing { IsTrue (D.honest self.old.inner.disk) → MayMoveToRest name.now self.old self.new }
         ensures same { IsTrue (D.honest self.old.inner.disk) →
             SameJournals (all_journals D.Disk self.old) (all_journals D.Disk self.new) }
         ensures moved { IsTrue (D.honest self.old.inner.disk) → IfOk result (λ moved. IsTrue moved →
@@ -143,6 +147,8 @@ impl<D: Volume> RestingFolderJournal<D> {
     /// Wakes the journal of a name; false if none rests under it.
     pub(crate) fn wake_file(&mut self, name: &Name) -> Result<bool, StoreFault>
         ensures rest { OnlyReads D.Disk self.old.inner self.new.inner }
+        ensures standing { IsTrue (D.honest self.old.inner.disk) →
+            StandingsIf (is_woken result) name.now self.old self.new }
         ensures woken { IsTrue (D.honest self.old.inner.disk) → IfOk result (λ woken. WakesIf woken
             name.now (all_journals D.Disk self.old) (all_journals D.Disk self.new)) }
         ensures failed { IsTrue (D.honest self.old.inner.disk) → OnErr result
@@ -164,6 +170,7 @@ impl<D: Volume> RestingFolderJournal<D> {
     /// Begins the journal of a name of which none rests, and none is loose.
     pub(crate) fn begin_free(&mut self, name: &Name) -> Result<(), StoreFault>
         ensures settings { KeepsSettings D.Disk self.old self.new }
+        ensures standing { IsTrue (D.honest self.old.inner.disk) → KeepsStandings self.old self.new }
         ensures begun { IsTrue (D.honest self.old.inner.disk) → OnOk result (BeginsNotes name.now
             ((all_journals D.Disk self.old).header name.now)
             ((all_journals D.Disk self.old).noted name.now)
@@ -196,6 +203,7 @@ impl<D: Volume> RestingFolderJournal<D> {
         bytes: &[u8],
     ) -> Result<(), StoreFault>
         ensures settings { KeepsSettings D.Disk self.old self.new }
+        ensures standing { IsTrue (D.honest self.old.inner.disk) → KeepsStandings self.old self.new }
         ensures noted { IsTrue (D.honest self.old.inner.disk) → OnOk result (Notes offset bytes.now
             ((all_journals D.Disk self.old).noted name.now)
             ((all_journals D.Disk self.new).noted name.now)) }
@@ -221,6 +229,7 @@ impl<D: Volume> RestingFolderJournal<D> {
     /// Opens the journal of a name, if it is loose.
     fn tie(&mut self, name: &Name) -> Result<(), StoreFault>
         ensures settings { KeepsSettings D.Disk self.old self.new }
+        ensures standing { IsTrue (D.honest self.old.inner.disk) → KeepsStandings self.old self.new }
         ensures same { IsTrue (D.honest self.old.inner.disk) →
             SameJournals (all_journals D.Disk self.old) (all_journals D.Disk self.new) }
         ensures tied { OnOk result (is_loose self.new.loose name.now ≡ false) }
@@ -245,6 +254,7 @@ impl<D: Volume> RestingFolderJournal<D> {
         requires { IsTrue (is_loose self.old.loose name.now) }
         ensures stays { StaysOpen D.Disk self.old.inner self.new.inner }
         ensures loose { self.new.loose ≡ self.old.loose }
+        ensures standing { IsTrue (D.honest self.old.inner.disk) → KeepsStandings self.old self.new }
         ensures same { IsTrue (D.honest self.old.inner.disk) →
             SameJournals (all_journals D.Disk self.old) (all_journals D.Disk self.new) }
         ensures moved { IsTrue (D.honest self.old.inner.disk) → OnOk result (D.contents self.new.inner.disk

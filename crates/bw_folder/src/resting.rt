@@ -10,7 +10,6 @@ ghost use Rattle.bw_journal.specs.Notes.{KeepsResting};
 ghost use Rattle.bw_folder.specs.Folders.{take_path as path_of_take};
 ghost use Rattle.bw_folder.specs.Syncing.{IsSyncedAt};
 ghost use Rattle.bw_journal.specs.Resting.{SameJournals, RestsIf, WakesIf, is_woken};
-ghost use Rattle.bw_journal.specs.Standing.{KeepsStanding, MayStandAtRest, StandsIf};
 ghost use Rattle.bw_folder.specs.Journals.{existence_of};
 ghost use Rattle.bw_folder.specs.Journals.{journal_path as path_of_journal};
 ghost use Rattle.bw_folder.specs.RestingJournals.{closed_path as path_of_closed};
@@ -83,7 +82,7 @@ impl<D: Volume> RestingFolderJournal<D> {
 impl<D: Volume> Journal for RestingFolderJournal<D> {
     ghost use Rattle.bw_folder.specs.RestingFolders.{all_journals};
     ghost use Rattle.bw_folder.specs.RestingFolders.{disk_of_all, folder_of_all, failures_of_all};
-    ghost use Rattle.bw_folder.specs.RestingFolders.{syncs_all, stands_in_all};
+    ghost use Rattle.bw_folder.specs.RestingFolders.{syncs_all, stands_in_all, KeepsStandings};
 
     ghost notes = { λ j. (all_journals D.Disk j).noted };
 
@@ -113,9 +112,7 @@ impl<D: Volume> Journal for RestingFolderJournal<D> {
             (is_err result) }
         ensures honest { D.honest (disk_of_all self.new) ≡ D.honest (disk_of_all self.old) }
         ensures folder { folder_of_all self.new ≡ folder_of_all self.old }
-        ensures standing { IsTrue (D.honest (disk_of_all self.old)) → KeepsStanding
-            (stands_in_all self.old) (stands_in_all self.new)
-            (all_journals D.Disk self.old).noted (all_journals D.Disk self.new).noted }
+        ensures standing { IsTrue (D.honest (disk_of_all self.old)) → KeepsStandings self.old self.new }
         ensures headers { IsTrue (D.honest (disk_of_all self.old)) → KeepsHeaders
             (all_journals D.Disk self.old).header (all_journals D.Disk self.new).header }
         ensures resting { IsTrue (D.honest (disk_of_all self.old)) → KeepsResting
@@ -154,9 +151,7 @@ impl<D: Volume> Journal for RestingFolderJournal<D> {
             (is_err result) }
         ensures honest { D.honest (disk_of_all self.new) ≡ D.honest (disk_of_all self.old) }
         ensures folder { folder_of_all self.new ≡ folder_of_all self.old }
-        ensures standing { IsTrue (D.honest (disk_of_all self.old)) → KeepsStanding
-            (stands_in_all self.old) (stands_in_all self.new)
-            (all_journals D.Disk self.old).noted (all_journals D.Disk self.new).noted }
+        ensures standing { IsTrue (D.honest (disk_of_all self.old)) → KeepsStandings self.old self.new }
         ensures headers { IsTrue (D.honest (disk_of_all self.old)) → KeepsHeaders
             (all_journals D.Disk self.old).header (all_journals D.Disk self.new).header }
         ensures resting { IsTrue (D.honest (disk_of_all self.old)) → KeepsResting
@@ -192,7 +187,7 @@ impl<D: Volume> RestingJournal for RestingFolderJournal<D> {
     ghost use Rattle.bw_folder.specs.RestingFolders.{all_journals};
     ghost use Rattle.bw_folder.specs.RestingFolders.{disk_of_all, folder_of_all, failures_of_all};
     ghost use Rattle.bw_folder.specs.RestingFolders.{open_of_all, is_loose_in, sync_failed_of_all};
-    ghost use Rattle.bw_folder.specs.RestingFolders.{stands_in_all};
+    ghost use Rattle.bw_folder.specs.RestingFolders.{KeepsStandings, MayMoveToRest, StandingsIf};
 
     /// Moves the journal to `NAME.closed`, unless it is there already; it isn't open afterwards.
     ///
@@ -209,9 +204,8 @@ impl<D: Volume> RestingJournal for RestingFolderJournal<D> {
             (is_err result) }
         ensures honest { D.honest (disk_of_all self.new) ≡ D.honest (disk_of_all self.old) }
         ensures folder { folder_of_all self.new ≡ folder_of_all self.old }
-        ensures standing { IsTrue (D.honest (disk_of_all self.old)) → MayStandAtRest name.now
-            (stands_in_all self.old) (stands_in_all self.new)
-            (all_journals D.Disk self.old).noted (all_journals D.Disk self.new).noted }
+        ensures standing { IsTrue (D.honest (disk_of_all self.old)) →
+            MayMoveToRest name.now self.old self.new }
         ensures rested { IsTrue (D.honest (disk_of_all self.old)) →
             IfOk result (λ rested. RestsIf rested
             name.now (all_journals D.Disk self.old) (all_journals D.Disk self.new)) }
@@ -244,9 +238,7 @@ impl<D: Volume> RestingJournal for RestingFolderJournal<D> {
             (is_err result) }
         ensures honest { D.honest (disk_of_all self.new) ≡ D.honest (disk_of_all self.old) }
         ensures folder { folder_of_all self.new ≡ folder_of_all self.old }
-        ensures standing { IsTrue (D.honest (disk_of_all self.old)) → KeepsStanding
-            (stands_in_all self.old) (stands_in_all self.new)
-            (all_journals D.Disk self.old).noted (all_journals D.Disk self.new).noted }
+        ensures standing { IsTrue (D.honest (disk_of_all self.old)) → KeepsStandings self.old self.new }
         ensures read { IsTrue (D.honest (disk_of_all self.old)) → IfOk result (λ found.
             option_map (λ v. v.items) found ≡ (all_journals D.Disk self.old).resting name.now) }
         ensures kept { IsTrue (D.honest (disk_of_all self.old)) →
@@ -271,9 +263,8 @@ impl<D: Volume> RestingJournal for RestingFolderJournal<D> {
             (is_err result) }
         ensures honest { D.honest (disk_of_all self.new) ≡ D.honest (disk_of_all self.old) }
         ensures folder { folder_of_all self.new ≡ folder_of_all self.old }
-        ensures standing { IsTrue (D.honest (disk_of_all self.old)) → StandsIf (is_woken result) name.now
-            (stands_in_all self.old) (stands_in_all self.new)
-            (all_journals D.Disk self.old).noted (all_journals D.Disk self.new).noted }
+        ensures standing { IsTrue (D.honest (disk_of_all self.old)) →
+            StandingsIf (is_woken result) name.now self.old self.new }
         ensures woken { IsTrue (D.honest (disk_of_all self.old)) →
             IfOk result (λ woken. WakesIf woken
             name.now (all_journals D.Disk self.old) (all_journals D.Disk self.new)) }

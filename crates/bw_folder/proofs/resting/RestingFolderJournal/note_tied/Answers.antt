@@ -6,6 +6,7 @@ use Rattle.bw_folder.specs.RestingFolders.{all_journals}
 use Rattle.bw_folder.proofs.HeaderKeeping.{header_noted}
 use Rattle.bw_folder.proofs.LooseForms.{same_then_beside}
 use Rattle.bw_folder.proofs.LooseJournals.{written_beside, noted_as}
+use Rattle.bw_folder.proofs.Standings.{places_then, places_written}
 use Rattle.bw_folder.proofs.resting.RestingFolderJournal.note_tied.Goals as goal
 
 pub returns-clause-failed : goal.returns-clause-failed
@@ -31,3 +32,13 @@ returns-clause-rest g c = λ honest.
     (g.D.Disk.contents mid.inner.disk) (g.D.Disk.contents new.disk) (string_bytes mid.inner.folder) (string_bytes new.folder)
     c.args.name.now ens.settings.0 ens.known (ap string_bytes ens.settings.2) (ens.files still) n)
     (ens.files still))
+
+pub returns-clause-standing : goal.returns-clause-standing
+returns-clause-standing g c = λ honest.
+    let mid = c.tie.new.self in
+    let still : IsTrue (g.D.Disk.honest mid.inner.disk) = search rules in
+    let tied : is_loose mid.loose c.args.name.now ≡ false = search rules in
+    places_then g.D.Disk c.args.self.now mid (record { inner = c.note_in_file.new.self; loose = mid.loose })
+    (c.tie.ensures.standing honest)
+    (places_written g.D.Disk mid (record { inner = c.note_in_file.new.self; loose = mid.loose })
+    (ap string_bytes c.note_in_file.ensures.settings.2) c.args.name.now refl tied (c.note_in_file.ensures.files still))

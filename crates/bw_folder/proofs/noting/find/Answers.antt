@@ -1,5 +1,5 @@
 use Rattle.bw_folder.proofs.JournalNames.{known_at, named_at, failed_at}
-use Rattle.bw_folder.proofs.journal.find.Goals as goal
+use Rattle.bw_folder.proofs.noting.find.Goals as goal
 
 pub returns-clause-open : goal.returns-clause-open
 returns-clause-open g c = known_at c.args.journals.now c.args.name.now c.first_of.result c.first_of.ensures

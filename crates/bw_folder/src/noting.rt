@@ -1,0 +1,163 @@
+//! The files that a folder's journals are noted in: how one is found, begun and written.
+ghost use Rattle.std.specs.Prelude.{◌≡◌, ◌<◌, ◌↔◌, Some, IsTrue, IsErr, IsSome, IfOk, IfSome};
+ghost use Rattle.std.specs.Prelude.{OnOk, OnErr, string_bytes, length, false, true};
+ghost use Rattle.std.specs.List.{HoldsAt, position};
+ghost use Rattle.std.specs.Str.{bytes_eq};
+ghost use Rattle.bw_store.specs.Stores.{KeepsOthers};
+ghost use Rattle.bw_disk.specs.DiskSteps.{ChangesAt};
+ghost use Rattle.bw_journal.specs.Notes.{BeginsNotes, BeginsInPart, Notes, NotesInPart};
+ghost use Rattle.bw_journal.specs.Notes.{KeepsHeaders};
+ghost use Rattle.bw_folder.specs.Folders.{take_path as path_of_take};
+ghost use Rattle.bw_folder.specs.Journals.{journal_path as path_of_journal, notes_at, existences};
+ghost use Rattle.bw_folder.specs.Journals.{existence_of, header_at, failure_of, IsOpenAt};
+ghost use Rattle.bw_folder.specs.Syncing.{NotesPlainly, SyncsInOrder};
+
+use crate::heading::{append, exists, open_or_make, put_header};
+use crate::journal::{FolderJournal, OpenJournal};
+use crate::paths::{journal_path, take_path};
+use crate::syncing::append_synced;
+use bw_disk::Volume;
+use bw_journal::JournalHeader;
+use bw_request::Name;
+use bw_store::StoreFault;
+
+impl<D: Volume> FolderJournal<D> {
+    /// Writes the header into the file of a name's journal.
+    pub(crate) fn begin_file(&mut self, name: &Name) -> Result<(), StoreFault>
+        ensures failures { self.new.failures ≡ self.old.failures }
+        ensures settings { (self.new.limit ≡ self.old.limit) × (self.new.sync ≡ self.old.sync)
+            × (self.new.folder ≡ self.old.folder) }
+        ensures headers { IsTrue (D.honest self.old.disk) → KeepsHeaders
+            (header_at self.old.limit (existences self.old.journals.items) (D.contents self.old.disk)
+            (string_bytes self.old.folder))
+            (header_at self.new.limit (existences self.new.journals.items) (D.contents self.new.disk)
+            (string_bytes self.new.folder)) }
+        ensures begun { IsTrue (D.honest self.old.disk) → OnOk result (BeginsNotes name.now
+            (header_at self.old.limit (existences self.old.journals.items) (D.contents self.old.disk)
+            (string_bytes self.old.folder) name.now)
+            (notes_at (D.contents self.old.disk) (string_bytes self.old.folder) name.now)
+            (notes_at (D.contents self.new.disk) (string_bytes self.old.folder) name.now)) }
+        ensures failed { IsTrue (D.honest self.old.disk) → OnErr result (BeginsInPart name.now
+            (header_at self.old.limit (existences self.old.journals.items) (D.contents self.old.disk)
+            (string_bytes self.old.folder) name.now)
+            (notes_at (D.contents self.old.disk) (string_bytes self.old.folder) name.now)
+            (notes_at (D.contents self.new.disk) (string_bytes self.old.folder) name.now)) }
+        ensures rest { ChangesAt D.Disk (path_of_journal (string_bytes self.old.folder) name.now)
+            self.old.disk self.new.disk }
+    {
+        let place = self.opened(name)?;
+        let journal = &mut self.journals[place];
+        let header = JournalHeader {
+            limit: self.limit,
+            existed: journal.existed,
+        };
+        put_header(&mut self.disk, &mut journal.file, &header.to_bytes(name))
+    }
+
+    /// The place of a name's open journal, which is opened now if it wasn't, or made.
+    fn opened(&mut self, name: &Name) -> Result<usize, StoreFault>
+        ensures failures { self.new.failures ≡ self.old.failures }
+        ensures settings { (self.new.limit ≡ self.old.limit) × (self.new.sync ≡ self.old.sync)
+            × (self.new.folder ≡ self.old.folder) }
+        ensures place { IfOk result (λ place. (place < length self.new.journals.items)
+            × HoldsAt (λ journal. (journal.name ≡ name.now)
+            × (existence_of (existences self.new.journals.items) name.now ≡ Some journal.existed))
+            self.new.journals.items place) }
+        ensures headers { IsTrue (D.honest self.old.disk) → KeepsHeaders
+            (header_at self.old.limit (existences self.old.journals.items) (D.contents self.old.disk)
+            (string_bytes self.old.folder))
+            (header_at self.new.limit (existences self.new.journals.items) (D.contents self.new.disk)
+            (string_bytes self.new.folder)) }
+        ensures found { IsTrue (D.honest self.old.disk) → OnOk result (IsOpenAt
+            (notes_at (D.contents self.old.disk) (string_bytes self.old.folder) name.now)
+            (notes_at (D.contents self.new.disk) (string_bytes self.old.folder) name.now)) }
+        ensures failed { IsTrue (D.honest self.old.disk) → OnErr result
+            (notes_at (D.contents self.new.disk) (string_bytes self.old.folder) name.now
+            ≡ notes_at (D.contents self.old.disk) (string_bytes self.old.folder) name.now) }
+        ensures rest { ChangesAt D.Disk (path_of_journal (string_bytes self.old.folder) name.now)
+            self.old.disk self.new.disk }
+    {
+        if let Some(place) = find(&self.journals, name) {
+            return Ok(place);
+        }
+        // Whatever needs memory comes first, so that a call that fails makes no file.
+        let take = take_path(self.alloc, &self.folder, name)?;
+        let path = journal_path(self.alloc, &self.folder, name)?;
+        self.journals.reserve(1).map_err(|_| StoreFault)?;
+        let existed = exists(&mut self.disk, &take)?;
+        let file = open_or_make(&mut self.disk, &path)?;
+        let place = self.journals.len();
+        let journal = OpenJournal::new(name, existed, file);
+        self.journals.push(journal).map_err(|_| StoreFault)?;
+        Ok(place)
+    }
+
+    /// Writes bytes into the file of a name's journal; with `sync` the take's file is synced before
+    /// that, and the journal after it.
+    pub(crate) fn note_in_file(
+        &mut self,
+        name: &Name,
+        offset: u64,
+        bytes: &[u8],
+    ) -> Result<(), StoreFault>
+        ensures failures { self.new.failures ≡ self.old.failures }
+        ensures settings { (self.new.limit ≡ self.old.limit) × (self.new.sync ≡ self.old.sync)
+            × (self.new.folder ≡ self.old.folder) }
+        ensures honest { D.honest self.new.disk ≡ D.honest self.old.disk }
+        ensures known { existences self.new.journals.items ≡ existences self.old.journals.items }
+        ensures noted { IsTrue (D.honest self.old.disk) → OnOk result (Notes offset bytes.now
+            (notes_at (D.contents self.old.disk) (string_bytes self.old.folder) name.now)
+            (notes_at (D.contents self.new.disk) (string_bytes self.old.folder) name.now)) }
+        ensures failed { IsTrue (D.honest self.old.disk) → OnErr result (NotesInPart offset bytes.now
+            (notes_at (D.contents self.old.disk) (string_bytes self.old.folder) name.now)
+            (notes_at (D.contents self.new.disk) (string_bytes self.old.folder) name.now)) }
+        ensures files { IsTrue (D.honest self.old.disk) → KeepsOthers (D.contents self.old.disk)
+            (D.contents self.new.disk) (path_of_journal (string_bytes self.old.folder) name.now) }
+        ensures stopped { failure_of self.old.journals.items name.now ≡ Some true →
+            IsErr result × (self.new.disk ≡ self.old.disk) }
+        ensures plain { self.old.sync ≡ false → NotesPlainly D.Disk result self.old.disk self.new.disk }
+        ensures order { IsTrue (D.honest self.old.disk) → IsTrue self.old.sync → SyncsInOrder D.Disk
+            result (path_of_take (string_bytes self.old.folder) name.now)
+            (path_of_journal (string_bytes self.old.folder) name.now) self.old.disk self.new.disk }
+    {
+        let Some(place) = find(&self.journals, name) else {
+            return Err(StoreFault);
+        };
+        if self.journals[place].failed {
+            return Err(StoreFault);
+        }
+        if !self.sync {
+            let journal = &mut self.journals[place];
+            return append(&mut self.disk, &mut journal.file, offset, bytes);
+        }
+        let take = take_path(self.alloc, &self.folder, name)?;
+        append_synced(
+            &mut self.disk,
+            &mut self.journals[place],
+            &take,
+            &self.folder,
+            offset,
+            bytes,
+        )
+    }
+}
+
+/// The place of a name among the open journals.
+pub(crate) fn find<F: Drop>(journals: &[OpenJournal<F>], name: &Name) -> Option<usize>
+    ensures open { IsSome result ↔ IsSome (existence_of (existences journals.now) name.now) }
+    ensures place { IfSome result (λ place. (place < length journals.now)
+        × HoldsAt (λ journal. (journal.name ≡ name.now)
+        × (existence_of (existences journals.now) name.now ≡ Some journal.existed))
+        journals.now place) }
+    ensures failed { IfSome result (λ place. HoldsAt
+        (λ journal. failure_of journals.now name.now ≡ Some journal.failed) journals.now place) }
+{
+    first_of(journals, name)
+}
+
+/// The first place of a name among journals.
+fn first_of<F: Drop>(journals: &[OpenJournal<F>], name: &Name) -> Option<usize>
+    ensures { result ≡ position (λ journal. bytes_eq journal.name name.now) journals.now }
+{
+    journals.iter().position(|journal| journal.name == *name)
+}
