@@ -44,11 +44,11 @@ pub fn replay<R: Source, W: Sink, E: Sink>(
     out: &mut W,
     faults: &mut E,
 ) -> Exit
-    ensures within { Of (R.left input.old) (λ xs. IsReadAhead xs (R.left input.new)) }
-    ensures most { R.moved input.new ≤ R.moved input.old + (longest_input + 1) }
     ensures did { (did : Outcome) × (did.exit ≡ result) × IsReplay limit fuse (R.left input.old) did
         × (R.failures input.new ≡ failures_if did.reads_all (R.failures input.old))
         × HasWritten W.Sink E.Sink did out.old out.new faults.old faults.new }
+    ensures within { Of (R.left input.old) (λ xs. IsReadAhead xs (R.left input.new)) }
+    ensures most { R.moved input.new ≤ R.moved input.old + (longest_input + 1) }
 {
     match play(alloc, limit, fuse, input, out) {
         Ok(()) => Exit::Done,

@@ -1,12 +1,12 @@
 //! The lines of an input as requests.
 ghost use Rattle.std.specs.Prelude.{◌≡◌, ◌≢◌, ℕ, ◌+◌, ◌≤◌, length, IfOk, IfErr};
+ghost use Rattle.bw_stream.specs.Readers.{Of};
 ghost use Rattle.bw_console.specs.Faults.{is_read};
 ghost use Rattle.bw_console.specs.Input.{longest_input, IsReadAhead};
 ghost use Rattle.bw_console.specs.Lines.{lines_of};
 ghost use Rattle.bw_console.specs.Printing.{failures_if};
 ghost use Rattle.bw_send.specs.RequestLines.{AreRequestsOf, IsRequestFault, RefusesRequests};
 ghost use Rattle.bw_send.specs.RequestLines.{SayRequests};
-ghost use Rattle.bw_stream.specs.Readers.{Of};
 
 use bw_console::{Fault, all_bytes, first_line};
 use bw_request::Request;

@@ -3,9 +3,8 @@ ghost use Rattle.std.specs.Prelude.{◌≡◌, ◌+◌, ◌≤◌, IfOk};
 ghost use Rattle.bw_stream.specs.Readers.{Of};
 ghost use Rattle.bw_console.specs.Outcomes.{Outcome, HasWritten};
 ghost use Rattle.bw_console.specs.Faults.{is_read};
-ghost use Rattle.bw_console.specs.Input.{longest_input};
+ghost use Rattle.bw_console.specs.Input.{longest_input, IsReadAhead};
 ghost use Rattle.bw_console.specs.Printing.{IsPrint, Print, failures_if};
-ghost use Rattle.bw_console.specs.Input.{IsReadAhead};
 ghost use Rattle.bw_send.specs.RoundsMade.{MakesRounds};
 ghost use Rattle.bw_send.specs.SendState.{Sending, IsSending, new_sending};
 ghost use Rattle.bw_send.specs.Sends.{IsPrintOfSend, IsSendRun, ReportsOfExit};
@@ -50,15 +49,15 @@ pub fn send_run<D: Dial, R: Source, W: Sink, E: Sink, V: Watch>(
     faults: &mut E,
     watch: &mut V,
 ) -> Exit
-    ensures within { Of (R.left input.old) (λ xs. IsReadAhead xs (R.left input.new)) }
-    ensures most { R.moved input.new ≤ R.moved input.old + (longest_input + 1) }
     ensures did { (did : Outcome) × (did.exit ≡ result)
         × IsSendRun D.Dial D.Reader.Source D.Writer.Sink name rounds (R.left input.old)
         dial.old dial.new did
         × (R.failures input.new ≡ failures_if did.reads_all (R.failures input.old))
         × HasWritten W.Sink E.Sink did out.old out.new faults.old faults.new }
+    ensures within { Of (R.left input.old) (λ xs. IsReadAhead xs (R.left input.new)) }
+    ensures most { R.moved input.new ≤ R.moved input.old + (longest_input + 1) }
 {
-    match send(alloc, name, rounds, dial, input, out, watch) {
+    match send(alloc, name, rounds, input, dial, out, watch) {
         Ok(exit) => report_of_exit(exit, faults),
         Err(fault) => give_up(faults, &fault),
     }
@@ -82,8 +81,8 @@ fn send<D: Dial, R: Source, W: Sink, V: Watch>(
     alloc: Global,
     name: Name,
     rounds: u32,
-    dial: &mut D,
     input: &mut R,
+    dial: &mut D,
     out: &mut W,
     watch: &mut V,
 ) -> Result<Exit, Fault>

@@ -1,5 +1,5 @@
 -- Sets of names, in the order of their bytes.
-use Rattle.std.proofs.Common.{◌≡◌, ◌⊎◌, inl, inr, ℕ, Bool, true, false, cond, List, [], ◌∷◌, ◌++◌, Some, sym, ◌∙◌, ap, subst}
+use Rattle.std.proofs.Common.{◌≡◌, ◌⊎◌, inl, inr, ℕ, Bool, true, false, cond, List, [], ◌∷◌, Some, sym, ◌∙◌, ap, subst}
 use Rattle.std.proofs.Common.{IsTrue, refl, Less}
 use Rattle.std.specs.Prelude.{◌↔◌}
 use Rattle.std.specs.List.{Contains}
@@ -13,7 +13,7 @@ use Rattle.std.proofs.lemmas.Map.Lookups.{exact_bytes}
 use Rattle.std.proofs.lemmas.Map.Views.{All-after_first, btree_set_contains_iff, tells_apart}
 use Rattle.bw_model.specs.Wire.{is_name}
 use Rattle.bw_disk.specs.Volumes.{AreDistinct}
-use Rattle.bw_start.specs.FoundNames.{AddsName}
+use Rattle.bw_start.specs.FoundNames.{AddsNameOf}
 
 -- a name is among those of a set
 among : (s : BTreeSet (List ℕ)) (name : List ℕ) → IsTrue (contains (slice_cmp nat_cmp) s name) ↔ Contains s.keys name
@@ -22,15 +22,15 @@ among s name = btree_set_contains_iff nat_list_cmp_total exact_bytes s name
 some_name : (a b : List ℕ) → Some a ≡ Some b → a ≡ b
 some_name a b e = cc
 
--- the name of a file was put among others
-pub put_name : (ending file : List ℕ) (before after : BTreeSet (List ℕ)) (name : List ℕ) → IsTrue (is_name name) →
-    file ≡ name ++ ending → ((n : List ℕ) → IsTrue (is_name n) → file ≡ n ++ ending → Some name ≡ Some n) →
-    Updates (slice_cmp nat_cmp) before after name true → AddsName ending file before.keys after.keys
-put_name ending file before after name fits of each u = record {
+-- a name of which this holds, and of no other, was put among others
+pub put_name : (IsOf : List ℕ → Type 0) (before after : BTreeSet (List ℕ)) (name : List ℕ) →
+    IsTrue (is_name name) × IsOf name → ((n : List ℕ) → IsTrue (is_name n) → IsOf n → Some name ≡ Some n) →
+    Updates (slice_cmp nat_cmp) before after name true → AddsNameOf IsOf before.keys after.keys
+put_name IsOf before after name fits each u = record {
   kept = λ n c. (among after n).0 (u.0 n ∙ either (is_at (slice_cmp nat_cmp name) n)
       (contains (slice_cmp nat_cmp) before n) ((among before n).1 c));
-  next = λ n f e. (among after n).0 (subst (λ (x : List ℕ). IsTrue (contains (slice_cmp nat_cmp) after x))
-      (some_name name n (each n f e)) u.1);
+  next = λ n f of. (among after n).0 (subst (λ (x : List ℕ). IsTrue (contains (slice_cmp nat_cmp) after x))
+      (some_name name n (each n f of)) u.1);
   only = λ n c. go n (is_at (slice_cmp nat_cmp name) n) refl (sym (u.0 n) ∙ (among after n).1 c);
 }
   where
@@ -40,9 +40,9 @@ put_name ending file before after name fits of each u = record {
 
     go : (n : List ℕ) (b : Bool) → is_at (slice_cmp nat_cmp name) n ≡ b →
         cond b true (contains (slice_cmp nat_cmp) before n) ≡ true →
-        Contains before.keys n ⊎ (IsTrue (is_name n) × (file ≡ n ++ ending))
+        Contains before.keys n ⊎ (IsTrue (is_name n) × IsOf n)
     go n true e h =
-        inr (subst (λ (x : List ℕ). IsTrue (is_name x) × (file ≡ x ++ ending)) (tells_apart exact_bytes name n e) (fits, of))
+        inr (subst (λ (x : List ℕ). IsTrue (is_name x) × IsOf x) (tells_apart exact_bytes name n e) fits)
     go n false e h = inl ((among before n).0 h)
 
 -- no name is below itself

@@ -28,9 +28,13 @@ pub record IsFoundIn (limit : ℕ) (folder : List ℕ) (notes takes : List ℕ �
   pub found : IsFound limit it.name journal (takes (wave_path folder it.name)) it.finding
   pub spares : SparesFile it.finding
 
--- The name of a file with this ending was added, if it has one.
-pub record AddsName (ending file : List ℕ) (before after : List (List ℕ)) : Type 0 where
+-- The name of which this holds was added, if there is one.
+pub record AddsNameOf (IsOf : List ℕ → Type 0) (before after : List (List ℕ)) : Type 0 where
   pub kept : (name : List ℕ) → Contains before name → Contains after name
-  pub next : (name : List ℕ) → IsTrue (is_name name) → file ≡ name ++ ending → Contains after name
+  pub next : (name : List ℕ) → IsTrue (is_name name) → IsOf name → Contains after name
   pub only : (name : List ℕ) → Contains after name →
-      Contains before name ⊎ (IsTrue (is_name name) × (file ≡ name ++ ending))
+      Contains before name ⊎ (IsTrue (is_name name) × IsOf name)
+
+-- the name of a file with this ending was added, if it has one
+abbrev pub AddsName : List ℕ → List ℕ → List (List ℕ) → List (List ℕ) → Type 0
+AddsName ending file before after = AddsNameOf (λ name. file ≡ name ++ ending) before after

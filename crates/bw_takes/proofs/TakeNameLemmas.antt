@@ -1,17 +1,10 @@
 -- The takes that the files of a folder belong to.
-use Rattle.std.proofs.Common.{◌≡◌, ◌⊎◌, inl, inr, ℕ, ◌+◌, ◌<◌, ◌≤◌, Bool, true, false, cond, ◌&&◌, not, List, [], ◌∷◌, ◌++◌, length, map, take}
+use Rattle.std.proofs.Common.{◌≡◌, ◌⊎◌, inl, inr, ℕ, ◌+◌, ◌<◌, ◌≤◌, Bool, true, false, ◌&&◌, not, List, [], ◌∷◌, ◌++◌, length, map, take}
 use Rattle.std.proofs.Common.{Option, Some, None, refl, sym, ◌∙◌, ap, subst, IsTrue}
 use Rattle.std.specs.Prelude.{◌↔◌, ◌==◌, IsSome, IfSome, get_or, codes, IsUtf8}
 use Rattle.std.specs.Option.{SomeIff}
 use Rattle.std.specs.List.{All, Contains, list_all}
-use Rattle.std.specs.Ordering.{nat_cmp}
-use Rattle.std.specs.Cmp.Lexicographic.{slice_cmp}
-use Rattle.std.specs.BTreeSet.{BTreeSet, contains, Updates}
 use Rattle.std.proofs.lemmas.Bool.{and_parts, and_from}
-use Rattle.std.proofs.lemmas.Cmp.{nat_list_cmp_total}
-use Rattle.std.proofs.lemmas.Map.Lookups.{exact_bytes}
-use Rattle.std.proofs.lemmas.Map.Views.{btree_set_contains_iff, tells_apart}
-use Rattle.std.specs.BTreeMap.{is_at}
 use Rattle.std.proofs.lemmas.List.{take_all, length-map, get_or-map}
 use Rattle.std.proofs.lemmas.List.Folds.{list_all-append}
 use Rattle.std.proofs.lemmas.Str.{IsUtf8-append, IsUtf8-take, IsUtf8-from_ascii, IsCharBoundary-at_seam}
@@ -66,10 +59,6 @@ no_both_at_rest file a b wave rest = wave_no_rest [] a b
 pub no_two_journals : (file a b : List ℕ) → file ≡ a ++ codes ".closed" → file ≡ b ++ codes ".journal" → ⊥
 no_two_journals file a b rest notes = rest_no_notes [] a b
     (sym (path_listed [] (codes ".closed") a) ∙ ap (in_folder []) (sym rest ∙ notes) ∙ path_listed [] (codes ".journal") b)
-
--- a name is among those of a set
-pub among : (s : BTreeSet (List ℕ)) (name : List ℕ) → IsTrue (contains (slice_cmp nat_cmp) s name) ↔ Contains s.keys name
-among s name = btree_set_contains_iff nat_list_cmp_total exact_bytes s name
 
 -- one further in the files
 pub only_next : (files : List (List ℕ)) (i : ℕ) (file : List ℕ) (before after : List (List ℕ)) → i < length files →
@@ -144,29 +133,3 @@ pub named_wave : (r : Option (List ℕ)) (P : Type 0) (stem file : List ℕ) →
     file ≡ stem ++ codes ".wav" → IfSome r (λ name. file ≡ name ++ codes ".wav")
 named_wave None P stem file h e = tt
 named_wave (Some name) P stem file h e = e ∙ ap (λ (x : List ℕ). x ++ codes ".wav") (sym h.1)
-
-some_name : (a b : List ℕ) → Some a ≡ Some b → a ≡ b
-some_name a b e = cc
-
--- a name was put among others
-pub added_take : (file : List ℕ) (before after : BTreeSet (List ℕ)) (name : List ℕ) →
-    IsTrue (is_name name) × IsFileOf name file →
-    ((n : List ℕ) → IsTrue (is_name n) → IsFileOf n file → Some name ≡ Some n) →
-    Updates (slice_cmp nat_cmp) before after name true → AddsTake file before.keys after.keys
-added_take file before after name fits each u = record {
-  kept = λ n c. (among after n).0 (u.0 n ∙ either (is_at (slice_cmp nat_cmp name) n)
-      (contains (slice_cmp nat_cmp) before n) ((among before n).1 c));
-  next = λ n f of. (among after n).0 (subst (λ (x : List ℕ). IsTrue (contains (slice_cmp nat_cmp) after x))
-      (some_name name n (each n f of)) u.1);
-  only = λ n c. go n (is_at (slice_cmp nat_cmp name) n) refl (sym (u.0 n) ∙ (among after n).1 c);
-}
-  where
-    either : (b x : Bool) → x ≡ true → cond b true x ≡ true
-    either true x e = refl
-    either false x e = e
-
-    go : (n : List ℕ) (b : Bool) → is_at (slice_cmp nat_cmp name) n ≡ b →
-        cond b true (contains (slice_cmp nat_cmp) before n) ≡ true →
-        Contains before.keys n ⊎ (IsTrue (is_name n) × IsFileOf n file)
-    go n true e h = inr (subst (λ (x : List ℕ). IsTrue (is_name x) × IsFileOf x file) (tells_apart exact_bytes name n e) fits)
-    go n false e h = inl ((among before n).0 h)

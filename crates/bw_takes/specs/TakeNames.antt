@@ -5,6 +5,7 @@ use Rattle.std.specs.List.Sorted.{IsStrictlySortedBy}
 use Rattle.std.specs.Ordering.{nat_cmp}
 use Rattle.std.specs.Cmp.Lexicographic.{slice_cmp}
 use Rattle.bw_model.specs.Wire.{is_name}
+use Rattle.bw_start.specs.FoundNames.{AddsNameOf}
 use Rattle.bw_start.specs.Paths.{wave_path, notes_path, rest_path}
 
 -- a file of this name is the journal of a take, at rest or not, or its samples
@@ -27,9 +28,6 @@ ListsTakes folder contents names =
 abbrev pub AreNamesInOrder : List (List ℕ) → Type 0
 AreNamesInOrder names = IsStrictlySortedBy (slice_cmp nat_cmp) names
 
--- The take that a file belongs to was added, if it belongs to one.
-pub record AddsTake (file : List ℕ) (before after : List (List ℕ)) : Type 0 where
-  pub kept : (name : List ℕ) → Contains before name → Contains after name
-  pub next : (name : List ℕ) → IsTrue (is_name name) → IsFileOf name file → Contains after name
-  pub only : (name : List ℕ) → Contains after name →
-      Contains before name ⊎ (IsTrue (is_name name) × IsFileOf name file)
+-- the take that a file belongs to was added, if it belongs to one
+abbrev pub AddsTake : List ℕ → List (List ℕ) → List (List ℕ) → Type 0
+AddsTake file before after = AddsNameOf (λ name. IsFileOf name file) before after

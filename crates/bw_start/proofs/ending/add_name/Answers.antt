@@ -1,11 +1,11 @@
-use Rattle.std.proofs.Common.{sym, ◌∙◌}
+use Rattle.std.proofs.Common.{◌≡◌, ℕ, List, ◌++◌, sym, ◌∙◌}
 use Rattle.bw_start.specs.Endings.{ending_text}
 use Rattle.bw_start.proofs.SortedNames.{put_name}
 use Rattle.bw_start.proofs.ending.add_name.Goals as goal
 
 pub returns-in-Ok : goal.returns-in-Ok
 returns-in-Ok c = record {
-  added = put_name (ending_text c.args.ending) c.args.file.now c.args.names.now c.insert.new.self c.in-Some.name
-      c.in-Some.ensures.name c.in-Some.ensures.some (λ n fits en. sym c.in-Some.is ∙ c.name_with.ensures.each n fits en)
-      c.in-Ok.ensures.updates;
+  added = put_name (λ (n : List ℕ). c.args.file.now ≡ n ++ ending_text c.args.ending) c.args.names.now c.insert.new.self
+      c.in-Some.name (c.in-Some.ensures.name, c.in-Some.ensures.some)
+      (λ n fits en. sym c.in-Some.is ∙ c.name_with.ensures.each n fits en) c.in-Ok.ensures.updates;
 }
