@@ -1,5 +1,6 @@
 -- What the program does, from what its parts do.
-use Rattle.std.proofs.Common.{◌≡◌, ◌≢◌, ℕ, Bool, List, [], true, Option, Some, Result, Err, inl, inr, refl}
+use Rattle.std.proofs.Common.{◌≡◌, ◌≢◌, ℕ, Bool, List, [], true, Option, Some, Result, Err, inl}
+use Rattle.std.proofs.Common.{inr, refl}
 use Rattle.std.proofs.Common.{subst}
 use Rattle.clap.specs.Walk.{Text}
 use Rattle.clap.specs.declared.error.ErrorKind.{ErrorKind as TextKind}
@@ -24,43 +25,63 @@ use Rattle.bw_console.specs.declared.fault.Fault.{Fault}
 use Rattle.bw_console.specs.declared.fault.Fault.TheVariants as faults
 
 -- lack of memory ends the writing of any text
-pub reported-memory : (kind : TextKind) (reported : Print) → IsReportedBy (Err faults.Memory) reported
-    → IsReporting kind (record { reads_all = true; out = Nothing; faults = reported; exit = exits.Memory })
-reported-memory texts.DisplayHelp reported t =
-    record { outcome = Err faults.Memory; exit_is = refl; reads = refl; text = []; prints = refl; reports = t }
-reported-memory texts.DisplayVersion reported t =
-    record { outcome = Err faults.Memory; exit_is = refl; reads = refl; text = []; prints = refl; reports = t }
-reported-memory _ reported t = inr (record { exit_is = refl; reads = refl; prints = refl; reports = t })
+pub reported-memory : (kind : TextKind) (reported : Print) →
+    IsReportedBy (Err faults.Memory) reported →
+    IsReporting kind
+    (record { reads_all = true; out = Nothing; faults = reported; exit = exits.Memory })
+reported-memory texts.DisplayHelp reported t = record {
+  outcome = Err faults.Memory;
+  exit_is = refl;
+  reads = refl;
+  text = [];
+  prints = refl;
+  reports = t;
+}
+reported-memory texts.DisplayVersion reported t = record {
+  outcome = Err faults.Memory;
+  exit_is = refl;
+  reads = refl;
+  text = [];
+  prints = refl;
+  reports = t;
+}
+reported-memory _ reported t =
+    inr (record { exit_is = refl; reads = refl; prints = refl; reports = t })
 
 -- what is neither help nor the version is a fault of usage
 pub reported-usage : (kind : TextKind) (text : List ℕ) (reported : Print) → kind ≢ texts.DisplayHelp →
-    kind ≢ texts.DisplayVersion
-    → IsOf text reported → IsReporting kind (record { reads_all = true; out = Nothing; faults = reported; exit = exits.Usage })
+    kind ≢ texts.DisplayVersion → IsOf text reported →
+    IsReporting kind
+    (record { reads_all = true; out = Nothing; faults = reported; exit = exits.Usage })
 reported-usage texts.DisplayHelp text reported h v t = absurd (h refl)
 reported-usage texts.DisplayVersion text reported h v t = absurd (v refl)
-reported-usage _ text reported h v t = inl (record { exit_is = refl; reads = refl; prints = refl; text = text; reports = t })
+reported-usage _ text reported h v t =
+    inl (record { exit_is = refl; reads = refl; prints = refl; text = text; reports = t })
 
 -- help and the version are printed
-pub reported-help : (kind : TextKind) (outcome : Result (Unit {0}) Fault) (text : List ℕ) (out reported : Print)
-    → ¬ ((kind ≢ texts.DisplayHelp) × (kind ≢ texts.DisplayVersion)) → IsPrintOfText text outcome out →
-    IsReportedBy outcome reported
-    → IsReporting kind (record { reads_all = true; out = out; faults = reported; exit = exit_of outcome })
+pub reported-help : (kind : TextKind) (outcome : Result (Unit {0}) Fault) (text : List ℕ)
+    (out reported : Print) → ¬ ((kind ≢ texts.DisplayHelp) × (kind ≢ texts.DisplayVersion)) →
+    IsPrintOfText text outcome out → IsReportedBy outcome reported →
+    IsReporting kind
+    (record { reads_all = true; out = out; faults = reported; exit = exit_of outcome })
 reported-help texts.DisplayHelp outcome text out reported n p t =
     record { outcome = outcome; exit_is = refl; reads = refl; text = text; prints = p; reports = t }
 reported-help texts.DisplayVersion outcome text out reported n p t =
     record { outcome = outcome; exit_is = refl; reads = refl; text = text; prints = p; reports = t }
 reported-help _ outcome text out reported n p t = absurd (n ((λ e. cc), (λ e. cc)))
 
-module _ {S T F H G M SB SL Ed LK DK DF N X Y Z P R W L K SP SK D A B U J Q I O E V C VR : Type 0} (host : HostSide S T F H G M SB SL Ed LK DK DF I O E)
+module _ {S T F H G M SB SL Ed LK DK DF N X Y Z P R W L K SP SK D A B U J Q I O E V C VR : Type 0}
+    (host : HostSide S T F H G M SB SL Ed LK DK DF I O E)
     (server_side : ServerSide X Y Z P R W L K N SP SK) (sender_side : SenderSide D A B)
-    (upload_side : UploadSide U J Q) (network : NetworkGhosts N X P D R W A B) (listener_setup : ListenerSetupGhosts N L K)
+    (upload_side : UploadSide U J Q) (network : NetworkGhosts N X P D R W A B)
+    (listener_setup : ListenerSetupGhosts N L K)
     (starts : StartSide server_side.store server_side.journal N VR) where
   -- a text is reported, and all else stays as it was
-  pub reports_alone : {is_asked : Bool → Outcome → Type 0} {exit : Exit} {x : Outside S F DK N Q I O E V C} {after : E}
-      (reported : Print) (ending : Exit) → ending ≡ exit →
+  pub reports_alone : {is_asked : Bool → Outcome → Type 0} {exit : Exit}
+      {x : Outside S F DK N Q I O E V C} {after : E} (reported : Print) (ending : Exit) → ending ≡ exit →
       is_asked true (record { reads_all = true; out = Nothing; faults = reported; exit = ending }) →
-      IsPrint host.reported reported x.faults after
-      → DoesAlone host server_side sender_side upload_side network listener_setup starts is_asked exit
+      IsPrint host.reported reported x.faults after →
+      DoesAlone host server_side sender_side upload_side network listener_setup starts is_asked exit
       (host.system.failures x.system) x (record x { faults = after })
   reports_alone reported ending ends is prints = record {
     does = record {
@@ -81,29 +102,50 @@ module _ {S T F H G M SB SL Ed LK DK DF N X Y Z P R W L K SP SK D A B U J Q I O 
   -- what is done for the words that were found is done for those that the system reported before
   pub reported-words : (words : Option (List Text)) (found : List Text) (exit : Exit) (system : S)
       (x x' : Outside S F DK N Q I O E V C) →
-      ((reported : List Text) → words ≡ Some reported → found ≡ reported)
-      → host.system.file_at system ≡ host.system.file_at x.system
-      → host.system.failures system ≡ host.system.failures x.system
-      → IsProgram host server_side sender_side upload_side network listener_setup starts (Some found) exit
-      (record x { system = system }) x'
-      → IsProgram host server_side sender_side upload_side network listener_setup starts words exit x x'
+      ((reported : List Text) → words ≡ Some reported → found ≡ reported) →
+      host.system.file_at system ≡ host.system.file_at x.system →
+      host.system.failures system ≡ host.system.failures x.system →
+      IsProgram host server_side sender_side upload_side network listener_setup starts
+      (Some found) exit (record x { system = system }) x' →
+      IsProgram host server_side sender_side upload_side network listener_setup starts
+      words exit x x'
   reported-words words found exit system x x' same files counts (inl a) =
       inl (record {
         line = a.line;
-        comes = λ reported e. subst (λ (w : List Text). IsLineOf w a.line) (same reported e) (a.comes found refl);
-        done = done_for a.line (subst (λ (g : Text → Option (List ℕ)). IsDoneFor host server_side sender_side upload_side network
-            listener_setup starts g (host.system.failures x.system) a.line exit (record x { system = system }) x') files
-            (subst (λ (k : ℕ). IsDoneFor host server_side sender_side upload_side network listener_setup starts
-            (host.system.file_at system) k a.line exit (record x { system = system }) x') counts a.done));
+        comes = λ reported e.
+            subst (λ (w : List Text). IsLineOf w a.line) (same reported e) (a.comes found refl);
+        done = done_for a.line (subst (λ (g : Text → Option (List ℕ)).
+            IsDoneFor host server_side sender_side upload_side network listener_setup starts
+            g (host.system.failures x.system) a.line exit (record x { system = system }) x') files
+            (subst (λ (k : ℕ).
+            IsDoneFor host server_side sender_side upload_side network listener_setup starts
+            (host.system.file_at system) k a.line exit (record x { system = system }) x')
+            counts a.done));
       })
     where
-      done_for : (line : CommandLine) → IsDoneFor host server_side sender_side upload_side network listener_setup starts
-          (host.system.file_at x.system) (host.system.failures x.system) line exit (record x { system = system }) x'
-          → IsDoneFor host server_side sender_side upload_side network listener_setup starts (host.system.file_at x.system)
-          (host.system.failures x.system) line exit x x'
-      done_for (Run (Replay limit fuse)) done = record { does = done.does; unused = done.unused; unread = done.unread; unpaused = done.unpaused; kept = done.kept }
-      done_for (Run (Rehearse name limit)) done = record { does = done.does; unused = done.unused; unread = done.unread; unpaused = done.unpaused; kept = done.kept }
-      done_for (Run (Inspect file)) done = record { does = done.does; unused = done.unused; unread = done.unread; unpaused = done.unpaused; kept = done.kept }
+      -- what is done alone doesn't depend on what the system was asked before
+      alone : {is_asked : Bool → Outcome → Type 0} {failed : ℕ} →
+          DoesAlone host server_side sender_side upload_side network listener_setup starts
+          is_asked exit failed (record x { system = system }) x' →
+          DoesAlone host server_side sender_side upload_side network listener_setup starts
+          is_asked exit failed x x'
+      alone done = record {
+        does = done.does;
+        unused = done.unused;
+        unread = done.unread;
+        unpaused = done.unpaused;
+        kept = done.kept;
+      }
+
+      done_for : (line : CommandLine) →
+          IsDoneFor host server_side sender_side upload_side network listener_setup starts
+          (host.system.file_at x.system) (host.system.failures x.system) line exit
+          (record x { system = system }) x' →
+          IsDoneFor host server_side sender_side upload_side network listener_setup starts
+          (host.system.file_at x.system) (host.system.failures x.system) line exit x x'
+      done_for (Run (Replay limit fuse)) done = alone done
+      done_for (Run (Rehearse name limit)) done = alone done
+      done_for (Run (Inspect file)) done = alone done
       done_for (Run (InspectFiles inspection)) done = done
       done_for (Run (Serve server)) done = done
       done_for (Run (Send sender)) done = done
@@ -113,8 +155,10 @@ module _ {S T F H G M SB SL Ed LK DK DF N X Y Z P R W L K SP SK D A B U J Q I O 
       done_for (Run (Picture file)) done = done
       done_for (Run (Repair file write)) done = done
       done_for (Run (Takes listing)) done = done
-      done_for (Bad value) done = record { does = done.does; unused = done.unused; unread = done.unread; unpaused = done.unpaused; kept = done.kept }
-      done_for (Report error) done = record { does = done.does; unused = done.unused; unread = done.unread; unpaused = done.unpaused; kept = done.kept }
+      done_for (Bad value) done = alone done
+      done_for (Report error) done = alone done
   reported-words words found exit system x x' same files counts (inr w) =
-      inr (subst (λ (k : ℕ). DoesAlone host server_side sender_side upload_side network listener_setup starts IsUnread exit k x x') counts
+      inr (subst (λ (k : ℕ).
+      DoesAlone host server_side sender_side upload_side network listener_setup starts
+      IsUnread exit k x x') counts
       (record { does = w.does; unused = w.unused; unread = w.unread; unpaused = w.unpaused; kept = w.kept }))

@@ -9,7 +9,7 @@ use bw_console::Exit;
 use bw_pace::PacedNetwork;
 use bw_plan::Pcm;
 use bw_ports::{Network, Pause, RecordingFiles};
-use bw_progress::{Extent, UploadWatch};
+use bw_progress::{Extent, SamplesSent, UploadWatch};
 use bw_recorder::RecordingFile;
 use bw_send_file::{PlanFeed, Recorder};
 use bw_send_pcm::{PcmFeed, PcmFile, follow_samples, send_samples};
@@ -87,7 +87,12 @@ pub(crate) fn send_pcm_watched<
         Some(_until) => Extent::Growing,
         None => Extent::Whole,
     };
-    watch.begin_samples(alloc, &sender.name, &file.file, file.pcm, extent);
+    let samples = SamplesSent {
+        file: &file.file,
+        pcm: file.pcm,
+        extent,
+    };
+    watch.begin_samples(alloc, &sender.name, &samples);
     let exit = send_pcm_as(alloc, sender, files, network, pause, watch, out, faults);
     watch.end();
     exit

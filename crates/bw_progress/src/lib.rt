@@ -24,4 +24,4 @@ pub use screen::{ProgressLine, Screen};
 pub use shared::{LineHandle, SharedProgress};
 pub use sink::ClearingSink;
 pub use speed::{Mark, Speed};
-pub use watch::{SendWatch, UploadWatch};
+pub use watch::{SamplesSent, SendWatch, UploadWatch};

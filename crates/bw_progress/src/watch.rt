@@ -12,6 +12,16 @@ use bw_sender::Sender;
 use bw_upload::{LinkEvent, Observer};
 use std::alloc::Global;
 
+/// Headerless samples in a file, which are sent.
+pub struct SamplesSent<'a> {
+    /// The file, and what is asked of its recording.
+    pub file: &'a RecordingFile<'a>,
+    /// The format of the samples.
+    pub pcm: Pcm,
+    /// Whether all of them are there.
+    pub extent: Extent,
+}
+
 /// Observes uploads, and learns first what is sent. No clause says what it shows; it changes nothing
 /// of what is sent.
 pub trait UploadWatch: Observer {
@@ -25,14 +35,7 @@ pub trait UploadWatch: Observer {
     ///
     /// # Not specified
     /// What it does.
-    fn begin_samples(
-        &mut self,
-        alloc: Global,
-        name: &Name,
-        file: &RecordingFile<'_>,
-        pcm: Pcm,
-        extent: Extent,
-    );
+    fn begin_samples(&mut self, alloc: Global, name: &Name, samples: &SamplesSent<'_>);
 
     /// The upload has ended.
     ///
@@ -79,18 +82,12 @@ impl<V, F: RecordingFiles, S: Screen + Drop, T: Stopwatch + Drop> UploadWatch
         }
     }
 
-    fn begin_samples(
-        &mut self,
-        alloc: Global,
-        name: &Name,
-        file: &RecordingFile<'_>,
-        pcm: Pcm,
-        extent: Extent,
-    ) {
+    fn begin_samples(&mut self, alloc: Global, name: &Name, samples: &SamplesSent<'_>) {
         if !self.line.is_there() {
             return;
         }
-        if let Some(measure) = measure_samples(alloc, &mut self.files, file, pcm, extent) {
+        let SamplesSent { file, pcm, extent } = samples;
+        if let Some(measure) = measure_samples(alloc, &mut self.files, file, *pcm, *extent) {
             self.line.begin(name.copy(), measure);
         }
     }

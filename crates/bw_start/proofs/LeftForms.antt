@@ -20,80 +20,103 @@ use Rattle.bw_start.proofs.PathLemmas.{path_name}
 use Rattle.bw_start.proofs.NameStays.{same_left}
 use Rattle.bw_start.proofs.RestoreForms.{notes_stay, takes_stay, other_path, other_take}
 
+-- what stands at each path of a disk
+abbrev Contents : Type 0
+Contents = List ℕ → Option (List ℕ)
+
 -- one change after another
-stays_then : (limit : ℕ) (name : List ℕ) (j f j1 f1 j2 f2 : Option (List ℕ)) → StaysLeft limit name j f j1 f1 →
-    StaysLeft limit name j1 f1 j2 f2 → StaysLeft limit name j f j2 f2
-stays_then limit name j f j1 f1 j2 f2 a b small first log whole left =
-    b small first log whole (a small first log whole left)
+stays_then : (limit : ℕ) (name : List ℕ) (journal file journal' file' journal'' file'' : Option (List ℕ)) →
+    StaysLeft limit name journal file journal' file' → StaysLeft limit name journal' file' journal'' file'' →
+    StaysLeft limit name journal file journal'' file''
+stays_then limit name journal file journal' file' journal'' file'' before after small first log whole left =
+    after small first log whole (before small first log whole left)
 
 -- over disks that are as they were
-pub names_same : (limit : ℕ) (folder : List ℕ) (N T N1 T1 : List ℕ → Option (List ℕ)) → KeepsEach N N1 → KeepsEach T T1 →
-    NamesStayLeft limit folder N T N1 T1
-names_same limit folder N T N1 T1 n t name =
-    same_left limit name (N (notes_path folder name)) (T (wave_path folder name)) (N1 (notes_path folder name))
-    (T1 (wave_path folder name)) (n (notes_path folder name)) (t (wave_path folder name))
+pub names_same : (limit : ℕ) (folder : List ℕ) (notes takes notes' takes' : Contents) →
+    KeepsEach notes notes' → KeepsEach takes takes' →
+    NamesStayLeft limit folder notes takes notes' takes'
+names_same limit folder notes takes notes' takes' n t name =
+    same_left limit name (notes (notes_path folder name)) (takes (wave_path folder name))
+    (notes' (notes_path folder name))
+    (takes' (wave_path folder name)) (n (notes_path folder name)) (t (wave_path folder name))
 
-pub names_then : (limit : ℕ) (folder : List ℕ) (N T N1 T1 N2 T2 : List ℕ → Option (List ℕ)) →
-    NamesStayLeft limit folder N T N1 T1 → NamesStayLeft limit folder N1 T1 N2 T2 → NamesStayLeft limit folder N T N2 T2
-names_then limit folder N T N1 T1 N2 T2 a b name =
-    stays_then limit name (N (notes_path folder name)) (T (wave_path folder name)) (N1 (notes_path folder name))
-    (T1 (wave_path folder name)) (N2 (notes_path folder name)) (T2 (wave_path folder name)) (a name) (b name)
+pub names_then : (limit : ℕ) (folder : List ℕ) (notes takes notes' takes' notes'' takes'' : Contents) →
+    NamesStayLeft limit folder notes takes notes' takes' →
+    NamesStayLeft limit folder notes' takes' notes'' takes'' →
+    NamesStayLeft limit folder notes takes notes'' takes''
+names_then limit folder notes takes notes' takes' notes'' takes'' a b name =
+    stays_then limit name (notes (notes_path folder name)) (takes (wave_path folder name))
+    (notes' (notes_path folder name))
+    (takes' (wave_path folder name)) (notes'' (notes_path folder name)) (takes'' (wave_path folder name))
+    (a name) (b name)
 
 -- one more name was restored, or its restoring failed
-pub left_next : (limit : ℕ) (folder : List ℕ) (N T N1 T1 N2 T2 : List ℕ → Option (List ℕ)) (xs : List FoundName)
-    (it : FoundName) → (Contains (found_names xs) it.name → ⊥) → IsFoundIn limit folder N T it →
-    NamesStayLeft limit folder N T N1 T1 → KeepsNotesBut folder (found_names xs) N N1 → KeepsTakesBut folder xs T T1 →
-    ((journal : List ℕ) (file : Option (List ℕ)) → N1 (notes_path folder it.name) ≡ Some journal →
-    T1 (wave_path folder it.name) ≡ file → IsFound limit it.name journal file it.finding → SparesFile it.finding →
-    StaysLeft limit it.name (Some journal) file (N2 (notes_path folder it.name)) (T2 (wave_path folder it.name))) →
-    ChangesTake folder it.name T1 T2 → KeepsOthers N1 N2 (notes_path folder it.name) →
-    NamesStayLeft limit folder N T N2 T2
-left_next limit folder N T N1 T1 N2 T2 xs it absent found before kept_notes kept_takes restores changes others =
-    names_then limit folder N T N1 T1 N2 T2 before (λ name. by_name name (bytes_eq name it.name) refl)
+pub left_next : (limit : ℕ) (folder : List ℕ) (notes takes notes' takes' notes'' takes'' : Contents)
+    (xs : List FoundName)
+    (it : FoundName) → (Contains (found_names xs) it.name → ⊥) → IsFoundIn limit folder notes takes it →
+    NamesStayLeft limit folder notes takes notes' takes' →
+    KeepsNotesBut folder (found_names xs) notes notes' → KeepsTakesBut folder xs takes takes' →
+    ((journal : List ℕ) (file : Option (List ℕ)) → notes' (notes_path folder it.name) ≡ Some journal →
+    takes' (wave_path folder it.name) ≡ file → IsFound limit it.name journal file it.finding →
+    SparesFile it.finding →
+    StaysLeft limit it.name (Some journal) file (notes'' (notes_path folder it.name))
+    (takes'' (wave_path folder it.name))) →
+    ChangesTake folder it.name takes' takes'' → KeepsOthers notes' notes'' (notes_path folder it.name) →
+    NamesStayLeft limit folder notes takes notes'' takes''
+left_next limit folder notes takes notes' takes' notes'' takes'' xs it absent found before kept_notes
+    kept_takes restores changes others =
+    names_then limit folder notes takes notes' takes' notes'' takes'' before
+    (λ name. by_name name (bytes_eq name it.name) refl)
   where
     Stays : List ℕ → Type 0
-    Stays name = StaysLeft limit name (N1 (notes_path folder name)) (T1 (wave_path folder name))
-        (N2 (notes_path folder name)) (T2 (wave_path folder name))
+    Stays name = StaysLeft limit name (notes' (notes_path folder name)) (takes' (wave_path folder name))
+        (notes'' (notes_path folder name)) (takes'' (wave_path folder name))
 
-    stood : N1 (notes_path folder it.name) ≡ Some found.journal
-    stood = notes_stay folder it.name (found_names xs) N N1 kept_notes absent ∙ found.stands
+    stood : notes' (notes_path folder it.name) ≡ Some found.journal
+    stood = notes_stay folder it.name (found_names xs) notes notes' kept_notes absent ∙ found.stands
 
-    file_stood : T1 (wave_path folder it.name) ≡ T (wave_path folder it.name)
-    file_stood = takes_stay folder it.name xs T T1 kept_takes absent
+    file_stood : takes' (wave_path folder it.name) ≡ takes (wave_path folder it.name)
+    file_stood = takes_stay folder it.name xs takes takes' kept_takes absent
 
-    last : StaysLeft limit it.name (Some found.journal) (T (wave_path folder it.name))
-        (N2 (notes_path folder it.name)) (T2 (wave_path folder it.name))
-    last = restores found.journal (T (wave_path folder it.name)) stood file_stood found.found found.spares
+    last : StaysLeft limit it.name (Some found.journal) (takes (wave_path folder it.name))
+        (notes'' (notes_path folder it.name)) (takes'' (wave_path folder it.name))
+    last = restores found.journal (takes (wave_path folder it.name)) stood file_stood found.found found.spares
 
     here : Stays it.name
     here =
-        subst (λ (o : Option (List ℕ)). StaysLeft limit it.name o (T1 (wave_path folder it.name))
-        (N2 (notes_path folder it.name)) (T2 (wave_path folder it.name))) (sym stood)
+        subst (λ (o : Option (List ℕ)). StaysLeft limit it.name o (takes' (wave_path folder it.name))
+        (notes'' (notes_path folder it.name)) (takes'' (wave_path folder it.name))) (sym stood)
         (subst (λ (o : Option (List ℕ)). StaysLeft limit it.name (Some found.journal) o
-        (N2 (notes_path folder it.name)) (T2 (wave_path folder it.name))) (sym file_stood) last)
+        (notes'' (notes_path folder it.name)) (takes'' (wave_path folder it.name))) (sym file_stood) last)
 
     by_name : (name : List ℕ) (v : Bool) → bytes_eq name it.name ≡ v → Stays name
     by_name name true e = subst Stays (sym (same_name name it.name e)) here
     by_name name false e =
-        same_left limit name (N1 (notes_path folder name)) (T1 (wave_path folder name)) (N2 (notes_path folder name))
-        (T2 (wave_path folder name))
+        same_left limit name (notes' (notes_path folder name)) (takes' (wave_path folder name))
+        (notes'' (notes_path folder name))
+        (takes'' (wave_path folder name))
         (others (notes_path folder name) (λ q. other_path name it.name e (path_name folder _ name it.name q)))
-        (other_take folder it.name name T1 T2 changes (other_path name it.name e))
+        (other_take folder it.name name takes' takes'' changes (other_path name it.name e))
 
 -- restoring all that was found, on disks that are as they were
-pub left_found : (limit : ℕ) (folder : List ℕ) (N T N1 T1 N2 T2 : List ℕ → Option (List ℕ)) (found : List FoundName) →
-    KeepsEach N N1 → KeepsEach T T1 → FindsFolder limit folder N T found →
-    (All (IsFoundIn limit folder N1 T1) found → AreDistinct (found_names found) → NamesStayLeft limit folder N1 T1 N2 T2) →
-    NamesStayLeft limit folder N T N2 T2
-left_found limit folder N T N1 T1 N2 T2 found n t f restores =
-    names_then limit folder N T N1 T1 N2 T2 (names_same limit folder N T N1 T1 n t)
-    (restores (subst (λ (x : List ℕ → Option (List ℕ)). All (IsFoundIn limit folder x T1) found) (sym (fun_ext n))
-    (subst (λ (y : List ℕ → Option (List ℕ)). All (IsFoundIn limit folder N y) found) (sym (fun_ext t)) f.each)) f.distinct)
+pub left_found : (limit : ℕ) (folder : List ℕ) (notes takes notes' takes' notes'' takes'' : Contents)
+    (found : List FoundName) →
+    KeepsEach notes notes' → KeepsEach takes takes' → FindsFolder limit folder notes takes found →
+    (All (IsFoundIn limit folder notes' takes') found → AreDistinct (found_names found) →
+    NamesStayLeft limit folder notes' takes' notes'' takes'') →
+    NamesStayLeft limit folder notes takes notes'' takes''
+left_found limit folder notes takes notes' takes' notes'' takes'' found n t f restores =
+    names_then limit folder notes takes notes' takes' notes'' takes''
+    (names_same limit folder notes takes notes' takes' n t)
+    (restores (subst (λ (x : Contents). All (IsFoundIn limit folder x takes') found) (sym (fun_ext n))
+    (subst (λ (y : Contents). All (IsFoundIn limit folder notes y) found) (sym (fun_ext t)) f.each))
+    f.distinct)
 
 -- each book stays left, if the names do, and only journals of names were changed
-pub books_stay : (limit : ℕ) (folder : List ℕ) (N T N2 T2 : List ℕ → Option (List ℕ)) → limit < 2 ^ 32 →
-    NamesStayLeft limit folder N T N2 T2 → KeepsJournals folder N N2 → BooksStayLeft limit folder N T N2 T2
-books_stay limit folder N T N2 T2 small names kept first book left = record {
+pub books_stay : (limit : ℕ) (folder : List ℕ) (notes takes notes'' takes'' : Contents) → limit < 2 ^ 32 →
+    NamesStayLeft limit folder notes takes notes'' takes'' → KeepsJournals folder notes notes'' →
+    BooksStayLeft limit folder notes takes notes'' takes''
+books_stay limit folder notes takes notes'' takes'' small names kept first book left = record {
   is_book = left.is_book;
   admits = left.admits;
   fit = λ name some. elim (kept (notes_path folder name)) [
@@ -104,18 +127,24 @@ books_stay limit folder N T N2 T2 small names kept first book left = record {
 }
 
 -- over disks that are as they were
-pub books_same : (limit : ℕ) (folder : List ℕ) (N T N1 T1 : List ℕ → Option (List ℕ)) → KeepsEach N N1 → KeepsEach T T1 →
-    BooksStayLeft limit folder N T N1 T1
-books_same limit folder N T N1 T1 n t first book left =
-    subst (λ (x : List ℕ → Option (List ℕ)). IsLeftOf limit folder first book x T1) (sym (fun_ext n))
-    (subst (IsLeftOf limit folder first book N) (sym (fun_ext t)) left)
+pub books_same : (limit : ℕ) (folder : List ℕ) (notes takes notes' takes' : Contents) →
+    KeepsEach notes notes' → KeepsEach takes takes' →
+    BooksStayLeft limit folder notes takes notes' takes'
+books_same limit folder notes takes notes' takes' n t first book left =
+    subst (λ (x : Contents). IsLeftOf limit folder first book x takes') (sym (fun_ext n))
+    (subst (IsLeftOf limit folder first book notes) (sym (fun_ext t)) left)
 
-pub books_then : (limit : ℕ) (folder : List ℕ) (N T N1 T1 N2 T2 : List ℕ → Option (List ℕ)) →
-    BooksStayLeft limit folder N T N1 T1 → BooksStayLeft limit folder N1 T1 N2 T2 → BooksStayLeft limit folder N T N2 T2
-books_then limit folder N T N1 T1 N2 T2 a b first book left = b first book (a first book left)
+pub books_then : (limit : ℕ) (folder : List ℕ) (notes takes notes' takes' notes'' takes'' : Contents) →
+    BooksStayLeft limit folder notes takes notes' takes' →
+    BooksStayLeft limit folder notes' takes' notes'' takes'' →
+    BooksStayLeft limit folder notes takes notes'' takes''
+books_then limit folder notes takes notes' takes' notes'' takes'' a b first book left =
+    b first book (a first book left)
 
 -- calls that change nothing afterwards
-pub books_on : (limit : ℕ) (folder : List ℕ) (N T N1 T1 N2 T2 : List ℕ → Option (List ℕ)) →
-    BooksStayLeft limit folder N T N1 T1 → KeepsEach N1 N2 → KeepsEach T1 T2 → BooksStayLeft limit folder N T N2 T2
-books_on limit folder N T N1 T1 N2 T2 a n t =
-    books_then limit folder N T N1 T1 N2 T2 a (books_same limit folder N1 T1 N2 T2 n t)
+pub books_on : (limit : ℕ) (folder : List ℕ) (notes takes notes' takes' notes'' takes'' : Contents) →
+    BooksStayLeft limit folder notes takes notes' takes' → KeepsEach notes' notes'' →
+    KeepsEach takes' takes'' → BooksStayLeft limit folder notes takes notes'' takes''
+books_on limit folder notes takes notes' takes' notes'' takes'' a n t =
+    books_then limit folder notes takes notes' takes' notes'' takes'' a
+    (books_same limit folder notes' takes' notes'' takes'' n t)
