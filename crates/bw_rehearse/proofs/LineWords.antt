@@ -8,7 +8,7 @@ use Rattle.bw_rehearsal.specs.Rehearsing.{event_meaning}
 use Rattle.bw_stops.specs.declared.event.Lives.{Lives}
 use Rattle.bw_stops.specs.declared.event.StopEvent.{StopEvent}
 use Rattle.bw_stops.specs.declared.event.StopEvent.TheVariants as events
-use Rattle.bw_rehearse.specs.ServerLines.{IsIndexAfter, SaysStart, SaysServerEvent, SaysStopEvent}
+use Rattle.bw_rehearse.specs.ServerLines.{IsIndexAfter, SaysStart, SaysStartCounting, SaysServerEvent, SaysStopEvent}
 
 -- an index after a word
 pub index_found : (r : Option ℕ) (word line text : List ℕ) → line ≡ word ++ text →
@@ -25,13 +25,23 @@ no_start line lives start store journal (inl h) = start h.0
 no_start line lives start store journal (inr (inl (k, h, dies))) = store k h
 no_start line lives start store journal (inr (inr (k, h, dies))) = journal k h
 
+no_counting : (line : List ℕ) (lives : Lives) → ((k : ℕ) → ¬ IsIndexAfter (codes "start counting store ") line k) →
+    ((k : ℕ) → ¬ IsIndexAfter (codes "start counting journal ") line k) → ¬ SaysStartCounting line lives
+no_counting line lives store journal (inl (k, h, dies)) = store k h
+no_counting line lives store journal (inr (k, h, dies)) = journal k h
+
 -- a line that is none of them
 pub none_of_server : (line : List ℕ) → line ≢ codes "stop" → line ≢ codes "start" →
     ((k : ℕ) → ¬ IsIndexAfter (codes "start store ") line k) →
-    ((k : ℕ) → ¬ IsIndexAfter (codes "start journal ") line k) → (e : StopEvent) → ¬ SaysServerEvent line e
-none_of_server line stop start store journal (events.Happens e) = λ h. h
-none_of_server line stop start store journal events.Stop = stop
-none_of_server line stop start store journal (events.Start lives) = no_start line lives start store journal
+    ((k : ℕ) → ¬ IsIndexAfter (codes "start journal ") line k) →
+    ((k : ℕ) → ¬ IsIndexAfter (codes "start counting store ") line k) →
+    ((k : ℕ) → ¬ IsIndexAfter (codes "start counting journal ") line k) → (e : StopEvent) → ¬ SaysServerEvent line e
+none_of_server line stop start store journal counting_store counting_journal (events.Happens e) = λ h. h
+none_of_server line stop start store journal counting_store counting_journal events.Stop = stop
+none_of_server line stop start store journal counting_store counting_journal (events.Start lives) =
+    no_start line lives start store journal
+none_of_server line stop start store journal counting_store counting_journal (events.StartCounting lives) =
+    no_counting line lives counting_store counting_journal
 
 -- nor an event of a rehearsal
 pub none_at_all : (line : List ℕ) → ((e : StopEvent) → ¬ SaysServerEvent line e) →
@@ -39,3 +49,4 @@ pub none_at_all : (line : List ℕ) → ((e : StopEvent) → ¬ SaysServerEvent 
 none_at_all line server other (events.Happens e) = other (event_meaning e)
 none_at_all line server other events.Stop = server events.Stop
 none_at_all line server other (events.Start lives) = server (events.Start lives)
+none_at_all line server other (events.StartCounting lives) = server (events.StartCounting lives)

@@ -25,22 +25,31 @@ pub record DieAfter (takes notes : ℕ) (lives : Lives) : Type 0 where
   pub none_reached : lives.reached ≡ 0
 
 -- the line says that a server starts: for good, or until its store or its journal fails in this call
+-- after the start
 abbrev pub SaysStart : List ℕ → Lives → Type 0
 SaysStart line lives = ((line ≡ codes "start") × DieAfter endless endless lives)
     ⊎ (((k : ℕ) × IsIndexAfter (codes "start store ") line k × DieAfter k endless lives)
     ⊎ ((k : ℕ) × IsIndexAfter (codes "start journal ") line k × DieAfter endless k lives))
+
+-- the same, and the disk's calls are counted from the first of the start
+abbrev pub SaysStartCounting : List ℕ → Lives → Type 0
+SaysStartCounting line lives =
+    ((k : ℕ) × IsIndexAfter (codes "start counting store ") line k × DieAfter k endless lives)
+    ⊎ ((k : ℕ) × IsIndexAfter (codes "start counting journal ") line k × DieAfter endless k lives)
 
 -- the line says this event of a server
 abbrev pub SaysServerEvent : List ℕ → StopEvent → Type 0
 SaysServerEvent line (events.Happens e) = ⊥
 SaysServerEvent line events.Stop = line ≡ codes "stop"
 SaysServerEvent line (events.Start lives) = SaysStart line lives
+SaysServerEvent line (events.StartCounting lives) = SaysStartCounting line lives
 
 -- the line says this event
 abbrev pub SaysStopEvent : List ℕ → StopEvent → Type 0
 SaysStopEvent line (events.Happens e) = SaysEvent line (event_meaning e)
 SaysStopEvent line events.Stop = line ≡ codes "stop"
 SaysStopEvent line (events.Start lives) = SaysStart line lives
+SaysStopEvent line (events.StartCounting lives) = SaysStartCounting line lives
 
 -- each line says its event
 abbrev pub SayStopEvents : List (List ℕ) → List StopEvent → Type 0

@@ -10,7 +10,7 @@ use bw_stops::{Lives, StopEvent};
 use std::alloc::{AllocError, Global};
 
 /// The event that a line says, if it says one: those of a rehearsal, and `stop`, `start`,
-/// `start store K` or `start journal K`.
+/// `start store K`, `start journal K`, `start counting store K` or `start counting journal K`.
 ///
 /// # Errors
 /// `AllocError` if memory was refused.
@@ -43,6 +43,12 @@ fn server_event_in(line: &[u8]) -> Option<StopEvent>
     }
     if let Some(call) = index_after(b"start journal ", line) {
         return Some(StopEvent::Start(lives(u64::MAX, call as u64)));
+    }
+    if let Some(call) = index_after(b"start counting store ", line) {
+        return Some(StopEvent::StartCounting(lives(call as u64, u64::MAX)));
+    }
+    if let Some(call) = index_after(b"start counting journal ", line) {
+        return Some(StopEvent::StartCounting(lives(u64::MAX, call as u64)));
     }
     None
 }

@@ -6,10 +6,14 @@ use Rattle.std.specs.List.{ends_with}
 use Rattle.std.specs.Option.{option_or}
 use Rattle.bw_model.specs.Book.{Book}
 use Rattle.bw_model.proofs.BookLaws.{empty_book}
+use Rattle.bw_disk.specs.MemoryVolumes.{disk_content}
+use Rattle.bw_disk.specs.declared.memory_disk.MemoryDisk.{MemoryDisk}
 use Rattle.bw_folder.specs.Folders.{take_path, take_content}
 use Rattle.bw_folder.specs.Journals.{journal_path, notes_at}
 use Rattle.bw_session.proofs.ResumeForms.{book_admits}
 use Rattle.bw_start.specs.LeftNames.{IsLeft}
+use Rattle.bw_start.specs.Paths.{path_with}
+use Rattle.bw_start.specs.StaysLeft.{IsLeftOf}
 use Rattle.bw_start.specs.Started.{IsLeftIn}
 use Rattle.bw_left.specs.ServedWorlds.{NoneIsForeign}
 use Rattle.bw_left.proofs.LeftPaths.{in_folders}
@@ -61,6 +65,21 @@ left_at limit before book at_notes at_takes notes later_notes takes later_takes 
     (subst (λ (x : Paths). IsLeft before no_contents book (notes_at notes the_folder) (take_content x the_folder)) (sym ts)
     (subst (λ (d : List ℕ). IsLeft before no_contents book (notes_at notes d) (take_content takes the_folder)) n
     (subst (λ (d : List ℕ). IsLeft before no_contents book (notes_at notes at_notes) (take_content takes d)) t left))))
+
+-- what a start was shown is left still, so it is left at the paths of the folder
+pub at_paths : (limit : ℕ) (book : Book) (notes takes : Paths) →
+    IsLeftOf limit the_folder no_contents book notes takes →
+    IsLeft limit no_contents book (notes_at notes the_folder) (take_content takes the_folder)
+unfolding take_path journal_path path_with
+at_paths limit book notes takes left = left
+
+-- the same is shown by disks that have these within
+pub shown_by : (limit : ℕ) (book : Book) (notes inner_notes takes inner_takes : MemoryDisk) → inner_notes ≡ notes →
+    inner_takes ≡ takes → IsLeftIn limit the_folder no_contents book (disk_content notes) (disk_content takes) →
+    IsLeftIn limit the_folder no_contents book (disk_content inner_notes) (disk_content inner_takes)
+shown_by limit book notes inner_notes takes inner_takes n t left =
+    subst (λ (d : MemoryDisk). IsLeftIn limit the_folder no_contents book (disk_content d) (disk_content inner_takes)) (sym n)
+    (subst (λ (d : MemoryDisk). IsLeftIn limit the_folder no_contents book (disk_content notes) (disk_content d)) (sym t) left)
 
 or_none : (o : Option (List ℕ)) → option_or o None ≡ o
 or_none None = refl

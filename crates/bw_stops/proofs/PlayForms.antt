@@ -14,10 +14,10 @@ use Rattle.bw_left.specs.StoppedWorlds.{WorldStep, Happens, Dies, Stops, Starts,
 use Rattle.bw_rehearsal.specs.Rehearsing.{event_meaning}
 use Rattle.bw_rehearsal.specs.declared.event.Event.{Event as Played}
 use Rattle.bw_rehearsal.proofs.Staging.{sent_book, brought_book}
-use Rattle.bw_stops.specs.Machines.{IsRunning, IsLeftAt, IsMachine, KeepsRunning, DiesInTurn, TurnsMachine, runs}
+use Rattle.bw_stops.specs.Machines.{IsRunning, IsLeftAt, IsMachine, KeepsRunning, DiesInTurn, TurnsMachine, StartsMachine, runs}
 use Rattle.bw_stops.specs.Networks.{IsNetwork}
 use Rattle.bw_stops.specs.declared.event.StopEvent.{StopEvent}
-use Rattle.bw_stops.specs.Playing.{PlaysBy, LeavesBook, IsPlayed, IsPlayedEvent, DeliversIf, AsksIf, StopsIf, StartsIf}
+use Rattle.bw_stops.specs.Playing.{PlaysBy, LeavesBook, IsPlayed, IsPlayedEvent, DeliversIf, AsksIf, StopsIf, StartsIf, MayStartIf}
 use Rattle.bw_stops.specs.declared.machine.Machine.{Machine}
 use Rattle.bw_stops.specs.declared.machine.Machine.TheVariants.{Runs, Stopped}
 use Rattle.bw_stops.specs.declared.machine.Life.{Life}
@@ -234,6 +234,43 @@ module _ (limit : ℕ) (w : World) (m : Machine) where
     went = (tt, refl);
     machine_is = f (subst (IsMachine limit w.book) e is);
   }
+
+  pub counted_already : (life : Life) → m ≡ Runs life → IsMachine limit w.book m →
+      LeavesBook limit w (MayStartIf (runs m)) (Runs life)
+  counted_already life e is =
+      unchanged (Runs life) _ (subst (λ (b : Bool). MayStartIf b [] true) (sym (ap runs e)) (refl, refl)) e is
+
+  -- a start in which a disk may have died
+  tried : (folder : Folder) (later : Machine) → m ≡ Stopped folder → StartsMachine limit w.book later →
+      LeavesBook limit w (MayStartIf (runs m)) later
+  tried folder (Runs life) e is = record {
+    steps = Starts ∷ [];
+    book = cut_book w.book;
+    played = subst (λ (b : Bool). MayStartIf b (Starts ∷ []) true) (sym (ap runs e)) (inl (refl, refl));
+    went = (tt, refl);
+    machine_is = is;
+  }
+  tried folder (Stopped left) e (inl is) = record {
+    steps = [];
+    book = w.book;
+    played = subst (λ (b : Bool). MayStartIf b [] false) (sym (ap runs e)) (inr (refl, inl refl));
+    went = refl;
+    machine_is = is;
+  }
+  tried folder (Stopped left) e (inr is) = record {
+    steps = Starts ∷ Stops is.left ∷ [];
+    book = is.left;
+    played = subst (λ (b : Bool). MayStartIf b (Starts ∷ Stops is.left ∷ []) false) (sym (ap runs e))
+        (inr (refl, inr (is.left, refl)));
+    went = (tt, (is.ahead, refl));
+    machine_is = is.stands;
+  }
+
+  pub each_tried : {E : Type 0} (folder : Folder) (r : Result Machine E) → m ≡ Stopped folder → IsMachine limit w.book m →
+      (IsLeftAt limit w.book folder → IfOk r (StartsMachine limit w.book)) →
+      IfOk r (λ later. LeavesBook limit w (MayStartIf (runs m)) later)
+  each_tried folder (Ok later) e is f = tried folder later e (f (subst (IsMachine limit w.book) e is))
+  each_tried folder (Err x) e is f = f (subst (IsMachine limit w.book) e is)
 
   pub stopped_already : (folder : Folder) → m ≡ Stopped folder → IsMachine limit w.book m →
       LeavesBook limit w (λ steps on. (on ≡ false) × StopsIf (runs m) steps) (Stopped folder)

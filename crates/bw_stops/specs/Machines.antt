@@ -1,5 +1,5 @@
 -- What a machine with a server over a folder in memory has to do with a world.
-use Rattle.std.specs.Prelude.{◌≡◌, ◌≤◌, ◌==◌, ◌++◌, ℕ, Bool, true, false, Option, None, List, [], codes}
+use Rattle.std.specs.Prelude.{◌≡◌, ◌⊎◌, ◌≤◌, ◌==◌, ◌++◌, ℕ, Bool, true, false, Option, None, List, [], codes}
 use Rattle.std.specs.Prelude.{if◌then◌else◌}
 use Rattle.std.specs.Option.{option_or}
 use Rattle.std.specs.List.{ends_with}
@@ -14,7 +14,10 @@ use Rattle.bw_folder.specs.Folders.{take_content}
 use Rattle.bw_folder.specs.Journals.{notes_at}
 use Rattle.bw_folder.specs.TakeFolders.{takes_disk}
 use Rattle.bw_folder.specs.JournalFolders.{journals_disk}
+use Rattle.bw_journal.specs.Stops.{cut_book}
 use Rattle.bw_start.specs.LeftNames.{IsLeft}
+use Rattle.bw_start.specs.Started.{IsLeftIn}
+use Rattle.bw_left.specs.LeftFolders.{GoesAhead}
 use Rattle.bw_left.specs.StoppedTurns.{RunsHonestly}
 use Rattle.bw_left.specs.StoppedWorlds.{Dies, IsNextStep}
 use Rattle.bw_rehearsal.specs.Rehearsing.{no_contents}
@@ -77,6 +80,32 @@ pub record DiesInTurn (limit : ℕ) (w : World) (m : Message) (replies : List Re
 abbrev pub TurnsMachine : ℕ → World → Message → List Reply → Machine → Type 0
 TurnsMachine limit w m replies (machines.Runs life) = KeepsRunning limit w m replies life
 TurnsMachine limit w m replies (machines.Stopped folder) = DiesInTurn limit w m replies folder
+
+-- A folder as a start is shown it, in which a server over this book left what is there: the disk of the
+-- journals shows which takes have a file, too.
+abbrev pub IsShownAt : ℕ → Book → Folder → Type 0
+IsShownAt limit book folder =
+    IsLeftIn limit the_folder no_contents book (disk_content folder.notes) (disk_content folder.takes)
+
+-- A server has started over what was left of this book, in an empty folder at first; whether its disks
+-- live isn't said.
+pub record HasStarted (limit : ℕ) (book : Book) (life : Life) : Type 0 where
+  pub limited : server_limit life.server ≡ limit
+  pub holds : RunsHonestly _ _ no_contents life.server (cut_book book)
+
+-- The server stopped at once that had started over this book: this is what it left.
+pub record StopsAtOnce (limit : ℕ) (book : Book) (folder : Folder) : Type 0 where
+  pub left : Book
+  pub ahead : GoesAhead (cut_book book) left
+  pub stands : IsLeftAt limit left folder
+
+-- What becomes of a machine by a start over what was left of this book, in which a disk may die. If its
+-- server runs, it holds the done numbers; else the start failed, and left the very book, or the server
+-- stopped at once.
+abbrev pub StartsMachine : ℕ → Book → Machine → Type 0
+StartsMachine limit book (machines.Runs life) = IsRunning limit (cut_book book) life
+StartsMachine limit book (machines.Stopped folder) =
+    IsLeftAt limit book folder ⊎ StopsAtOnce limit book folder
 
 -- what the disk of the journals shows at a path: the journals, and the takes' files of the other disk
 abbrev pub shown_at : (List ℕ → Option (List ℕ)) → (List ℕ → Option (List ℕ)) → List ℕ →

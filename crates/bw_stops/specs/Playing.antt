@@ -38,6 +38,13 @@ abbrev pub StartsIf : Bool → List WorldStep → Type 0
 StartsIf true steps = steps ≡ []
 StartsIf false steps = steps ≡ Starts ∷ []
 
+-- A server starts by disks that may die in the start, if none runs. One runs afterwards; or none does,
+-- since the start failed, which is no step and leaves the very book, or the server stopped at once.
+abbrev pub MayStartIf : Bool → List WorldStep → Bool → Type 0
+MayStartIf true steps on = (on ≡ true) × (steps ≡ [])
+MayStartIf false steps on = ((on ≡ true) × (steps ≡ Starts ∷ []))
+    ⊎ ((on ≡ false) × ((steps ≡ []) ⊎ ((left : Book) × (steps ≡ Starts ∷ Stops left ∷ []))))
+
 -- An event of a rehearsal is these steps of this world, in which a server runs or none does, and one
 -- runs afterwards or none does.
 abbrev pub IsPlayedEvent : model.World → Bool → model.Event → List WorldStep → Bool → Type 0
@@ -56,6 +63,7 @@ abbrev pub IsPlayed : model.World → Bool → StopEvent → List WorldStep → 
 IsPlayed w was (events.Happens e) steps on = IsPlayedEvent w was (event_meaning e) steps on
 IsPlayed w was events.Stop steps on = (on ≡ false) × StopsIf was steps
 IsPlayed w was (events.Start lives) steps on = (on ≡ true) × StartsIf was steps
+IsPlayed w was (events.StartCounting lives) steps on = MayStartIf was steps on
 
 -- By such steps another world follows, whose network and machine these are.
 pub record PlaysBy (limit : ℕ) (w : model.World) (AreSteps : List WorldStep → Bool → Type 0)

@@ -1,8 +1,7 @@
 //! What may happen in a rehearsal in which servers stop.
 use bw_rehearsal::Event;
 
-/// When the disks of a server die: each in its call after so many others, counted from the end of the
-/// server's start.
+/// When the disks of a server die: each in its call after so many others.
 ///
 /// Of the call in which a disk dies that writes bytes, the first `reached` are written; a cut or a
 /// rename is done if `reached` isn't 0.
@@ -23,6 +22,10 @@ pub enum StopEvent {
     Happens(Event),
     /// The server stops between turns, if one runs.
     Stop,
-    /// A server starts over what was left, if none runs.
+    /// A server starts over what was left, if none runs, and the calls of its disks are counted from
+    /// the end of the start.
     Start(Lives),
+    /// The same, but their calls are counted from the first of the start: a disk may die in it, and
+    /// then no server runs, and what the start left is what was left.
+    StartCounting(Lives),
 }

@@ -5,12 +5,15 @@ ghost use Rattle.bw_model.specs.Wire.{Says, Second, is_frame};
 ghost use Rattle.bw_model.specs.Book.{Book};
 ghost use Rattle.bw_model.specs.World.{World};
 ghost use Rattle.bw_journal.specs.Stops.{cut_book};
+ghost use Rattle.bw_disk.specs.MemoryVolumes.{disk_content};
+ghost use Rattle.bw_rehearsal.specs.Rehearsing.{no_contents};
+ghost use Rattle.bw_start.specs.StaysLeft.{IsLeftOf};
 ghost use Rattle.bw_wire.specs.Frames.{message_of};
 ghost use Rattle.bw_wire.specs.Replies.{reply_of};
 ghost use Rattle.bw_left.specs.StoppedWorlds.{MayCome};
 ghost use Rattle.bw_stops.specs.Machines.{IsRunning, IsLeftAt, IsMachine, TurnsMachine, the_folder};
-ghost use Rattle.bw_stops.specs.Machines.{runs};
-ghost use Rattle.bw_stops.specs.Playing.{LeavesBook, StopsIf, StartsIf};
+ghost use Rattle.bw_stops.specs.Machines.{HasStarted, IsShownAt, StartsMachine, runs};
+ghost use Rattle.bw_stops.specs.Playing.{LeavesBook, MayStartIf, StopsIf, StartsIf};
 ghost use Rattle.bw_folder.specs.TakeFolders.{takes_disk, takes_folder};
 ghost use Rattle.bw_folder.specs.JournalFolders.{journals_disk, journals_folder};
 ghost use Rattle.bw_session.specs.SeenServers.{server_store, server_journal};
@@ -109,35 +112,113 @@ fn start_over(
     ensures { (book : Book) → IsLeftAt limit book folder →
         IfOk result (λ life. IsRunning limit (cut_book book) life) }
 {
-    let Folder { takes, notes } = folder;
-    let Ok(shown) = shown_notes(alloc, &takes, &notes) else {
-        return Err(StopsFault::Memory);
+    let folder = show_again(alloc, folder)?;
+    let (of_takes, of_notes) = calls_of_start(alloc, &folder, limit)?;
+    let counted = Lives {
+        takes: of_takes.saturating_add(lives.takes),
+        notes: of_notes.saturating_add(lives.notes),
+        reached: lives.reached,
     };
-    let (of_takes, of_notes) = calls_of_start(alloc, &takes, &shown, limit)?;
-    let takes = MortalDisk::new(takes, of_takes.saturating_add(lives.takes), lives.reached);
-    let notes = MortalDisk::new(shown, of_notes.saturating_add(lives.notes), lives.reached);
-    match start(alloc, takes, notes, FOLDER, limit, false, &mut Unwatched) {
-        Ok(server) => {
-            if has_died(&server) {
-                return Err(StopsFault::Start);
-            }
-            Ok(Life { server })
-        }
-        Err(_) => Err(StopsFault::Start),
+    match start_by(alloc, folder, limit, &counted)? {
+        Machine::Runs(life) => Ok(life),
+        Machine::Stopped(_) => Err(StopsFault::Start),
     }
 }
 
-/// How many calls of each disk a start over these makes, by copies of them.
-fn calls_of_start(
+/// Starts a server over what was left, if none runs, by disks whose calls are counted from the first
+/// of the start. If one dies in it, no server runs.
+///
+/// # Errors
+/// As those of `start_again`, of a start in which no disk died.
+///
+/// # Not specified
+/// As of `start_again`.
+pub(crate) fn start_counting(
     alloc: Global,
-    takes: &MemoryDisk,
-    notes: &MemoryDisk,
+    machine: Machine,
     limit: Limit,
-) -> Result<(u64, u64), StopsFault> {
-    let Ok(takes) = copy_of(alloc, takes) else {
+    lives: &Lives,
+) -> Result<Machine, StopsFault>
+    ensures { (w : World) → IsMachine limit w.book machine →
+        IfOk result (λ later. LeavesBook limit w (MayStartIf (runs machine)) later) }
+{
+    match machine {
+        Machine::Runs(running) => Ok(Machine::Runs(running)),
+        Machine::Stopped(folder) => {
+            let folder = show_again(alloc, folder)?;
+            start_by(alloc, folder, limit, lives)
+        }
+    }
+}
+
+/// What was left, as a start is shown it.
+fn show_again(alloc: Global, folder: Folder) -> Result<Folder, StopsFault>
+    ensures { (limit : ℕ) (book : Book) → IsLeftAt limit book folder →
+        IfOk result (IsShownAt limit book) }
+{
+    let Folder { takes, notes } = folder;
+    match shown_notes(alloc, &takes, &notes) {
+        Ok(notes) => Ok(Folder { takes, notes }),
+        Err(_) => Err(StopsFault::Memory),
+    }
+}
+
+/// Starts a server over a folder that is shown, by disks that die in these calls, counted from the
+/// first of the start.
+fn start_by(
+    alloc: Global,
+    folder: Folder,
+    limit: Limit,
+    lives: &Lives,
+) -> Result<Machine, StopsFault>
+    ensures { (book : Book) → IsShownAt limit book folder → IfOk result (StartsMachine limit book) }
+{
+    let takes = MortalDisk::new(folder.takes, lives.takes, lives.reached);
+    let notes = MortalDisk::new(folder.notes, lives.notes, lives.reached);
+    match start(alloc, takes, notes, FOLDER, limit, false, &mut Unwatched) {
+        Ok(server) => after_start(Life { server }),
+        Err((_, takes, notes)) => after_failure(takes, notes),
+    }
+}
+
+/// The machine of a server that has started: it stops at once if a disk died in the start.
+fn after_start(life: Life) -> Result<Machine, StopsFault>
+    ensures { (limit : ℕ) (book : Book) → HasStarted limit book life →
+        IfOk result (StartsMachine limit book) }
+{
+    if !has_died(&life.server) {
+        return Ok(Machine::Runs(life));
+    }
+    match take_apart(life.server) {
+        Ok(folder) => Ok(Machine::Stopped(folder)),
+        Err(_) => Err(StopsFault::Memory),
+    }
+}
+
+/// The machine of a start that has failed: what it left, if one of its disks died.
+fn after_failure(
+    takes: MortalDisk<MemoryDisk>,
+    notes: MortalDisk<MemoryDisk>,
+) -> Result<Machine, StopsFault>
+    ensures { (limit : ℕ) (book : Book) →
+        IsLeftOf limit the_folder no_contents book (disk_content notes.inner) (disk_content takes.inner) →
+        IfOk result (StartsMachine limit book) }
+{
+    if !takes.is_dead() && !notes.is_dead() {
+        return Err(StopsFault::Start);
+    }
+    Ok(Machine::Stopped(Folder {
+        takes: takes.into_inner(),
+        notes: notes.into_inner(),
+    }))
+}
+
+/// How many calls of each disk a start over these makes, by copies of them.
+fn calls_of_start(alloc: Global, folder: &Folder, limit: Limit) -> Result<(u64, u64), StopsFault> {
+    let Ok(takes) = copy_of(alloc, &folder.takes) else {
         return Err(StopsFault::Memory);
     };
-    let Ok(notes) = copy_of(alloc, notes) else {
+    let Ok(notes) = copy_of(alloc, &folder.notes) else {
         return Err(StopsFault::Memory);
     };
     let takes = MortalDisk::new(takes, u64::MAX, 0);

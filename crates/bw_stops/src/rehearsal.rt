@@ -8,7 +8,7 @@ ghost use Rattle.bw_stops.specs.Playing.{PlaysBy, IsPlayed, IsPlayedEvent};
 ghost use Rattle.bw_stops.specs.Rehearsals.{WasRehearsedWithStops};
 
 use crate::event::StopEvent;
-use crate::machine::{Folder, Life, Machine, start_again, stop, turn};
+use crate::machine::{Folder, Life, Machine, start_again, start_counting, stop, turn};
 use crate::network::Network;
 use arrayvec::ArrayVec;
 use bw_layout::Limit;
@@ -50,17 +50,19 @@ pub struct Rehearsed {
 ///
 /// All that was ever sent and written stays: what isn't delivered or brought is lost, and the rest
 /// may come again, in any order. A server is stopped in a turn in which a disk dies; none of the
-/// replies of a turn in which one stops is written.
+/// replies of a turn in which one stops is written. A start in which a disk dies leaves no server, and
+/// the very book that was left.
 ///
 /// # Errors
 /// `Memory` if memory was refused to the sender, for the messages and replies or for a folder's copy;
-/// `Start` if a start failed. The name isn't given back.
+/// `Start` if a start failed in which no disk died. The name isn't given back.
 ///
 /// # Not specified
 /// - When memory is refused, and which events were played before.
-/// - In which call a disk dies: contracts count only calls, and don't say how many a turn makes. So
-///   also that a server stops in each turn in which a disk died, and in no other.
-/// - What a start leaves that fails, and that only want of memory makes one fail.
+/// - In which call a disk dies: contracts count only calls, and don't say how many a turn or a start
+///   makes. So also that a server stops in each turn, and a `StartCounting` leaves none by each start,
+///   in which a disk died, and in no other.
+/// - That only lack of memory makes a start fail in which no disk died.
 pub fn rehearse_stops(
     alloc: Global,
     name: Name,
@@ -114,6 +116,7 @@ fn play(
             Err(_) => Err(StopsFault::Memory),
         },
         StopEvent::Start(lives) => start_again(alloc, machine, limit, lives),
+        StopEvent::StartCounting(lives) => start_counting(alloc, machine, limit, lives),
     }
 }
 

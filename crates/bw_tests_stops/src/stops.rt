@@ -1,25 +1,10 @@
 //! A take of three messages whose server stops, in each call of its disks and between turns, and is
 //! finished by the next one.
-use bw_layout::Limit;
-use bw_rehearsal::event_in;
-use bw_request::Name;
-use bw_stops::{Lives, Machine, Rehearsed, StopEvent, StopsFault, rehearse_stops};
+use crate::plays::{CALLS, ENDLESS, FIRST, add, has_done, lives_of, play};
+use bw_stops::{Lives, Rehearsed, StopEvent, StopsFault};
 use std::alloc::Global;
 use std::process::Abort;
 use std::test::Fail;
-
-/// An OPEN, a BLOCK of one frame and a CLOSE are offered and sent, and each comes to the server.
-const FIRST: [&str; 9] = [
-    "offer 0180bb0000010010000000",
-    "offer 0201000200",
-    "offer 050200000000000000",
-    "send 0",
-    "send 1",
-    "send 2",
-    "deliver 0",
-    "deliver 1",
-    "deliver 2",
-];
 
 /// Each comes again, and every reply to the sender.
 const SECOND: [&str; 9] = [
@@ -44,32 +29,6 @@ const SPLIT: [&str; 6] = [
     "bring 0",
 ];
 
-/// Disks that don't die.
-const ENDLESS: Lives = Lives {
-    takes: u64::MAX,
-    notes: u64::MAX,
-    reached: 0,
-};
-
-/// More calls than a server makes here.
-const CALLS: u64 = 100;
-
-/// Adds the events of these lines.
-fn add(alloc: Global, events: &mut Vec<StopEvent>, lines: &[&'static str]) -> Result<(), Fail> {
-    for line in lines {
-        let event = event_in(alloc, line.as_bytes())?.ok_or("an event")?;
-        events.push(StopEvent::Happens(event))?;
-    }
-    Ok(())
-}
-
-/// Plays the events for the name `a1`.
-fn play(alloc: Global, events: &[StopEvent]) -> Result<Result<Rehearsed, StopsFault>, Fail> {
-    let name = Name::new(b"a1").ok_or("a name")?;
-    let limit = Limit::new(8_192).ok_or("a limit")?;
-    Ok(rehearse_stops(alloc, name, limit, events))
-}
-
 /// Two servers, of which the first has disks that live so long.
 fn two_lives(alloc: Global, first: Lives) -> Result<Result<Rehearsed, StopsFault>, Fail> {
     let mut events = Vec::new(alloc);
@@ -81,33 +40,11 @@ fn two_lives(alloc: Global, first: Lives) -> Result<Result<Rehearsed, StopsFault
     play(alloc, events.as_slice())
 }
 
-/// Whether so many numbers are done on a server that runs, and counted by the sender.
-fn has_done(it: &Rehearsed, count: u32) -> bool {
-    let Machine::Runs(life) = &it.machine else {
-        return false;
-    };
-    it.sender.settled() == count
-        && it.sender.stored() == count
-        && life.server.done(it.sender.name()) == Some(count)
-}
-
 /// Whether the take is finished whenever the first server's disks live that much longer, until
 /// neither dies: then each verdict is written twice.
 fn is_always_finished(alloc: Global, reached: usize, of_takes: bool) -> Result<bool, Fail> {
     for life in 0..CALLS {
-        let lives = if of_takes {
-            Lives {
-                takes: life,
-                notes: u64::MAX,
-                reached,
-            }
-        } else {
-            Lives {
-                takes: u64::MAX,
-                notes: life,
-                reached,
-            }
-        };
+        let lives = lives_of(of_takes, life, reached);
         let Ok(it) = two_lives(alloc, lives)? else {
             // The first server died in its start.
             continue;

@@ -14,3 +14,8 @@ pub returns-in-Start : goal.returns-in-Start
 returns-in-Start c = λ w k is.
     each_by_stop c.args.limit w _ _ c.start_again.result _ _ c.in-Start.is
     (each_by_machine c.args.limit w _ _ c.start_again.result k (c.start_again.ensures w is))
+
+pub returns-in-StartCounting : goal.returns-in-StartCounting
+returns-in-StartCounting c = λ w k is.
+    each_by_stop c.args.limit w _ _ c.start_counting.result _ _ c.in-StartCounting.is
+    (each_by_machine c.args.limit w _ _ c.start_counting.result k (c.start_counting.ensures w is))

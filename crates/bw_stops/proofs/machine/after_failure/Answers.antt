@@ -1,0 +1,10 @@
+use Rattle.std.proofs.Common.{refl, ap, inl}
+use Rattle.bw_disk.specs.MemoryVolumes.{disk_content}
+use Rattle.bw_stops.specs.Machines.{the_folder}
+use Rattle.bw_stops.proofs.MachineForms.{at_paths, left_at}
+use Rattle.bw_stops.proofs.machine.after_failure.Goals as goal
+
+pub returns : goal.returns
+returns c = λ limit book left.
+    inl (left_at limit limit book the_folder the_folder _ _ _ _ refl refl refl (ap disk_content c.into_inner-notes.ensures)
+    (ap disk_content c.into_inner-takes.ensures) (at_paths limit book _ _ left))

@@ -1,0 +1,182 @@
+//! A start over what a death left, in which a disk dies too: in each of its calls, and in many starts,
+//! one after the other.
+use crate::plays::{CALLS, ENDLESS, FIRST, add, has_done, lives_of, play};
+use bw_stops::{Lives, Machine, Rehearsed, StopEvent};
+use std::alloc::Global;
+use std::process::Abort;
+use std::test::Fail;
+
+/// The verdicts of the first server come to the sender.
+const HEARD: [&str; 3] = ["bring 0", "bring 1", "bring 2"];
+
+/// Each message comes again, and every reply.
+const AGAIN: [&str; 10] = [
+    "deliver 0",
+    "deliver 1",
+    "deliver 2",
+    "bring 0",
+    "bring 1",
+    "bring 2",
+    "bring 3",
+    "bring 4",
+    "bring 5",
+    "bring 6",
+];
+
+/// The length of the take's file: a header of 690 bytes, and two frames.
+const LENGTH: usize = 694;
+
+/// What became of a take whose server died, over starts in which a disk was to die.
+#[derive(Clone, Copy, PartialEq, Eq)]
+enum Fate {
+    /// A verdict that was answered doesn't stand, or the take isn't whole.
+    Lost,
+    /// Each of these starts failed, and all is well.
+    Failed,
+    /// A server ran after them, and all is well.
+    Started,
+}
+
+/// Whether a server runs, and has each number whose verdict came to the sender.
+fn stands(it: &Rehearsed) -> bool {
+    let Machine::Runs(life) = &it.machine else {
+        return false;
+    };
+    life.server.done(it.sender.name()).unwrap_or(0) >= it.sender.settled()
+}
+
+/// Whether the file of the take is there: RIFF, with its samples.
+fn is_whole(alloc: Global, it: &Rehearsed) -> Result<bool, Fail> {
+    let Some(file) = it.machine.take(alloc, it.sender.name())? else {
+        return Ok(false);
+    };
+    Ok(
+        file.len() == LENGTH
+            && file.starts_with(b"RIFF\xae\x02\0\0WAVE")
+            && file.ends_with(b"data\x04\0\0\0\x01\0\x02\0"),
+    )
+}
+
+/// The events of a server that dies, and of these starts after it. An ask is answered if one of them
+/// left a server; then one starts in any case.
+fn starts_after(alloc: Global, first: Lives, starts: &[Lives]) -> Result<Vec<StopEvent>, Fail> {
+    let mut events = Vec::new(alloc);
+    events.push(StopEvent::Start(first))?;
+    add(alloc, &mut events, &FIRST)?;
+    add(alloc, &mut events, &HEARD)?;
+    events.push(StopEvent::Stop)?;
+    for lives in starts {
+        events.push(StopEvent::StartCounting(*lives))?;
+    }
+    add(alloc, &mut events, &["ask"])?;
+    events.push(StopEvent::Start(ENDLESS))?;
+    Ok(events)
+}
+
+/// What becomes of the take over these starts.
+fn fate_of(alloc: Global, first: Lives, starts: &[Lives]) -> Result<Fate, Fail> {
+    let mut events = starts_after(alloc, first, starts)?;
+    let Ok(next) = play(alloc, events.as_slice())? else {
+        return Ok(Fate::Lost);
+    };
+    events.push(StopEvent::Stop)?;
+    events.push(StopEvent::Start(ENDLESS))?;
+    add(alloc, &mut events, &AGAIN)?;
+    let Ok(last) = play(alloc, events.as_slice())? else {
+        return Ok(Fate::Lost);
+    };
+    if !stands(&next) || !has_done(&last, 3) || !is_whole(alloc, &last)? {
+        return Ok(Fate::Lost);
+    }
+    if next.replies > next.sender.settled() as usize {
+        return Ok(Fate::Started);
+    }
+    Ok(Fate::Failed)
+}
+
+/// In how many calls of a disk a start may die over what this first life leaves; none if something is
+/// lost then.
+fn deaths(
+    alloc: Global,
+    first: Lives,
+    of_takes: bool,
+    reached: usize,
+) -> Result<Option<u64>, Fail> {
+    for life in 0..CALLS {
+        match fate_of(alloc, first, &[lives_of(of_takes, life, reached)])? {
+            Fate::Lost => return Ok(None),
+            Fate::Failed => (),
+            Fate::Started => return Ok(Some(life)),
+        }
+    }
+    Ok(None)
+}
+
+/// How many starts fail in a row over what this first life leaves, of which each dies a call later than
+/// the one before: first those whose journals' disk dies, then those whose takes' disk does. None if
+/// something is lost.
+fn failures(alloc: Global, first: Lives, reached: usize) -> Result<Option<usize>, Fail> {
+    let mut starts = Vec::new(alloc);
+    for of_takes in [false, true] {
+        for life in 0..CALLS {
+            starts.push(lives_of(of_takes, life, reached))?;
+            match fate_of(alloc, first, starts.as_slice())? {
+                Fate::Lost => return Ok(None),
+                Fate::Failed => (),
+                Fate::Started => {
+                    let _last = starts.pop();
+                    break;
+                }
+            }
+        }
+    }
+    Ok(Some(starts.len()))
+}
+
+/// Whether the take outlives these starts over what the first life leaves.
+fn outlives_starts(alloc: Global, first: Lives, reached: usize) -> Result<bool, Fail> {
+    let of_takes = deaths(alloc, first, true, reached)?;
+    let of_notes = deaths(alloc, first, false, reached)?;
+    let in_a_row = failures(alloc, first, reached)?;
+    Ok(of_takes.is_some() && of_notes.is_some() && in_a_row.is_some())
+}
+
+/// How many verdicts come to the sender of a first life.
+fn heard(alloc: Global, first: Lives) -> Result<u32, Fail> {
+    let events = starts_after(alloc, first, &[])?;
+    match play(alloc, events.as_slice())? {
+        Ok(it) => Ok(it.sender.settled()),
+        Err(_) => Err("a rehearsal")?,
+    }
+}
+
+/// Whether the take outlives starts that die, whenever a disk of the first server dies.
+fn outlives(alloc: Global, of_takes: bool, reached: usize) -> Result<bool, Fail> {
+    for life in 0..CALLS {
+        let first = lives_of(of_takes, life, reached);
+        if !outlives_starts(alloc, first, reached)? {
+            return Ok(false);
+        }
+        if heard(alloc, first)? == 3 {
+            return Ok(life > 0);
+        }
+    }
+    Ok(false)
+}
+
+/// Fails the test unless it is so for both disks of the first server.
+fn survives(rt: &impl Abort, alloc: Global, reached: usize) -> Result<(), Fail> {
+    assert!(rt; outlives(alloc, true, reached)?, "the takes' disk");
+    assert!(rt; outlives(alloc, false, reached)?, "the journals' disk");
+    Ok(())
+}
+
+#[test]
+fn a_take_outlives_starts_that_die_between_calls(rt: HostRuntime) -> Result<(), Fail> {
+    survives(&rt, rt.alloc(), 0)
+}
+
+#[test]
+fn a_take_outlives_starts_that_die_within_writes(rt: HostRuntime) -> Result<(), Fail> {
+    survives(&rt, rt.alloc(), 20)
+}
