@@ -26,14 +26,14 @@ const AGAIN: [&str; 10] = [
 /// The length of the take's file: a header of 690 bytes, and two frames.
 const LENGTH: usize = 694;
 
-/// What became of a take whose server died, over starts in which a disk was to die.
+/// What became of a take whose server died, by starts in which a disk was to die.
 #[derive(Clone, Copy, PartialEq, Eq)]
 enum Fate {
-    /// A verdict that was answered doesn't stand, or the take isn't whole.
+    /// A verdict that was answered doesn't stand.
     Lost,
-    /// Each of these starts failed, and all is well.
+    /// Each of these starts failed, and each verdict stands.
     Failed,
-    /// A server ran after them, and all is well.
+    /// A server ran after them, and each verdict stands.
     Started,
 }
 
@@ -73,25 +73,31 @@ fn starts_after(alloc: Global, first: Lives, starts: &[Lives]) -> Result<Vec<Sto
     Ok(events)
 }
 
-/// What becomes of the take over these starts.
+/// What becomes of the take by these starts.
 fn fate_of(alloc: Global, first: Lives, starts: &[Lives]) -> Result<Fate, Fail> {
-    let mut events = starts_after(alloc, first, starts)?;
-    let Ok(next) = play(alloc, events.as_slice())? else {
+    let events = starts_after(alloc, first, starts)?;
+    let Ok(it) = play(alloc, events.as_slice())? else {
         return Ok(Fate::Lost);
     };
-    events.push(StopEvent::Stop)?;
-    events.push(StopEvent::Start(ENDLESS))?;
-    add(alloc, &mut events, &AGAIN)?;
-    let Ok(last) = play(alloc, events.as_slice())? else {
-        return Ok(Fate::Lost);
-    };
-    if !stands(&next) || !has_done(&last, 3) || !is_whole(alloc, &last)? {
+    if !stands(&it) {
         return Ok(Fate::Lost);
     }
-    if next.replies > next.sender.settled() as usize {
+    if it.replies > it.sender.settled() as usize {
         return Ok(Fate::Started);
     }
     Ok(Fate::Failed)
+}
+
+/// Whether the take is finished after these starts, once each message comes again.
+fn is_finished(alloc: Global, first: Lives, starts: &[Lives]) -> Result<bool, Fail> {
+    let mut events = starts_after(alloc, first, starts)?;
+    events.push(StopEvent::Stop)?;
+    events.push(StopEvent::Start(ENDLESS))?;
+    add(alloc, &mut events, &AGAIN)?;
+    let Ok(it) = play(alloc, events.as_slice())? else {
+        return Ok(false);
+    };
+    Ok(has_done(&it, 3) && is_whole(alloc, &it)?)
 }
 
 /// In how many calls of a disk a start may die over what this first life leaves; none if something is
@@ -103,7 +109,11 @@ fn deaths(
     reached: usize,
 ) -> Result<Option<u64>, Fail> {
     for life in 0..CALLS {
-        match fate_of(alloc, first, &[lives_of(of_takes, life, reached)])? {
+        let start = lives_of(of_takes, life, reached);
+        if !is_finished(alloc, first, &[start])? {
+            return Ok(None);
+        }
+        match fate_of(alloc, first, &[start])? {
             Fate::Lost => return Ok(None),
             Fate::Failed => (),
             Fate::Started => return Ok(Some(life)),
@@ -130,15 +140,23 @@ fn failures(alloc: Global, first: Lives, reached: usize) -> Result<Option<usize>
             }
         }
     }
+    if !is_finished(alloc, first, starts.as_slice())? {
+        return Ok(None);
+    }
     Ok(Some(starts.len()))
 }
 
-/// Whether the take outlives these starts over what the first life leaves.
+/// Whether the take outlives starts that die over what the first life leaves. Each start lists the
+/// journals, so that it makes a call in which it may die.
 fn outlives_starts(alloc: Global, first: Lives, reached: usize) -> Result<bool, Fail> {
     let of_takes = deaths(alloc, first, true, reached)?;
     let of_notes = deaths(alloc, first, false, reached)?;
     let in_a_row = failures(alloc, first, reached)?;
-    Ok(of_takes.is_some() && of_notes.is_some() && in_a_row.is_some())
+    Ok(
+        of_takes.is_some()
+            && of_notes.is_some_and(|calls| calls > 0)
+            && in_a_row.is_some_and(|count| count > 0),
+    )
 }
 
 /// How many verdicts come to the sender of a first life.
@@ -158,7 +176,8 @@ fn outlives(alloc: Global, of_takes: bool, reached: usize) -> Result<bool, Fail>
             return Ok(false);
         }
         if heard(alloc, first)? == 3 {
-            return Ok(life > 0);
+            // The start over a whole take opens its file.
+            return Ok(deaths(alloc, first, true, reached)?.is_some_and(|calls| calls > 0));
         }
     }
     Ok(false)
