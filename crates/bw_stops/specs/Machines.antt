@@ -81,27 +81,27 @@ abbrev pub TurnsMachine : ℕ → World → Message → List Reply → Machine �
 TurnsMachine limit w m replies (machines.Runs life) = KeepsRunning limit w m replies life
 TurnsMachine limit w m replies (machines.Stopped folder) = DiesInTurn limit w m replies folder
 
--- A folder as a start is shown it, in which a server over this book left what is there: the disk of the
--- journals shows which takes have a file, too.
+-- What was left from this book, as a start is shown it: the disk of the journals shows the files of the
+-- takes too.
 abbrev pub IsShownAt : ℕ → Book → Folder → Type 0
 IsShownAt limit book folder =
     IsLeftIn limit the_folder no_contents book (disk_content folder.notes) (disk_content folder.takes)
 
--- A server has started over what was left of this book, in an empty folder at first; whether its disks
--- live isn't said.
+-- A server has started over what was left from this book, in an empty folder at first; one of its disks
+-- may have died.
 pub record HasStarted (limit : ℕ) (book : Book) (life : Life) : Type 0 where
   pub limited : server_limit life.server ≡ limit
   pub holds : RunsHonestly _ _ no_contents life.server (cut_book book)
 
--- The server stopped at once that had started over this book: this is what it left.
+-- The server that started from this book stopped at once, and left this.
 pub record StopsAtOnce (limit : ℕ) (book : Book) (folder : Folder) : Type 0 where
   pub left : Book
   pub ahead : GoesAhead (cut_book book) left
   pub stands : IsLeftAt limit left folder
 
--- What becomes of a machine by a start over what was left of this book, in which a disk may die. If its
--- server runs, it holds the done numbers; else the start failed, and left the very book, or the server
--- stopped at once.
+-- What becomes of a machine by a start over what was left from this book, in which a disk may die. If its
+-- server runs, it holds the book, cut to its done numbers; else the start failed, and left the very
+-- book, or the server stopped at once.
 abbrev pub StartsMachine : ℕ → Book → Machine → Type 0
 StartsMachine limit book (machines.Runs life) = IsRunning limit (cut_book book) life
 StartsMachine limit book (machines.Stopped folder) =

@@ -129,10 +129,10 @@ fn start_over(
 /// of the start. If one dies in it, no server runs.
 ///
 /// # Errors
-/// As those of `start_again`, of a start in which no disk died.
+/// `Memory` if memory was refused, `Start` if a start failed in which no disk died.
 ///
 /// # Not specified
-/// As of `start_again`.
+/// When memory is refused, and in which call a disk dies.
 pub(crate) fn start_counting(
     alloc: Global,
     machine: Machine,

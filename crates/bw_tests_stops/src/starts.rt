@@ -3,7 +3,6 @@
 use crate::plays::{CALLS, ENDLESS, FIRST, add, has_done, lives_of, play};
 use bw_stops::{Lives, Machine, Rehearsed, StopEvent};
 use std::alloc::Global;
-use std::process::Abort;
 use std::test::Fail;
 
 /// The verdicts of the first server come to the sender.
@@ -183,19 +182,26 @@ fn outlives(alloc: Global, of_takes: bool, reached: usize) -> Result<bool, Fail>
     Ok(false)
 }
 
-/// Fails the test unless it is so for both disks of the first server.
-fn survives(rt: &impl Abort, alloc: Global, reached: usize) -> Result<(), Fail> {
-    assert!(rt; outlives(alloc, true, reached)?, "the takes' disk");
-    assert!(rt; outlives(alloc, false, reached)?, "the journals' disk");
+#[test]
+fn starts_may_die_between_calls_after_the_takes_disk_died(rt: HostRuntime) -> Result<(), Fail> {
+    assert!(rt; outlives(rt.alloc(), true, 0)?);
     Ok(())
 }
 
 #[test]
-fn a_take_outlives_starts_that_die_between_calls(rt: HostRuntime) -> Result<(), Fail> {
-    survives(&rt, rt.alloc(), 0)
+fn starts_may_die_between_calls_after_the_journals_disk_died(rt: HostRuntime) -> Result<(), Fail> {
+    assert!(rt; outlives(rt.alloc(), false, 0)?);
+    Ok(())
 }
 
 #[test]
-fn a_take_outlives_starts_that_die_within_writes(rt: HostRuntime) -> Result<(), Fail> {
-    survives(&rt, rt.alloc(), 20)
+fn starts_may_die_within_writes_after_the_takes_disk_died(rt: HostRuntime) -> Result<(), Fail> {
+    assert!(rt; outlives(rt.alloc(), true, 20)?);
+    Ok(())
+}
+
+#[test]
+fn starts_may_die_within_writes_after_the_journals_disk_died(rt: HostRuntime) -> Result<(), Fail> {
+    assert!(rt; outlives(rt.alloc(), false, 20)?);
+    Ok(())
 }
