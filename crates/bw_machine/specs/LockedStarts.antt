@@ -10,11 +10,11 @@ use Rattle.bw_ports.specs.declared.starts.StartRefusal.{StartRefusal}
 use Rattle.bw_ports.specs.declared.starts.StartRefusal.TheVariants as refusals
 use Rattle.bw_session.specs.declared.server.Server.{Server}
 use Rattle.bw_start.specs.FaultLines.{folder_fault_lines}
-use Rattle.bw_start.specs.RestingStarts.{IsPlainFolderFault, RefusesStart, StartsOver}
+use Rattle.bw_start.specs.RestingStarts.{RefusesStart, StartsOver}
 use Rattle.bw_start.specs.declared.resting.FolderFault.{FolderFault}
-use Rattle.bw_start.specs.declared.resting.FolderFault.TheVariants.{Start}
+use Rattle.bw_start.specs.declared.resting.FolderFault.TheVariants.{Start, Rests, Twice}
 use Rattle.bw_start.specs.declared.resting.Settings.{Settings}
-use Rattle.bw_start.specs.declared.restoring.StartFault.TheVariants.{Disk}
+use Rattle.bw_start.specs.declared.restoring.StartFault.TheVariants.{Disk, Memory, Refused, TooMany}
 use Rattle.bw_store.specs.declared.store.TakeStore.{Ghosts as StoreGhosts}
 
 -- why a server isn't started whose folder isn't locked
@@ -23,15 +23,24 @@ refusal_by locks.Running = refusals.Running
 refusal_by (locks.Unusable error) = refusals.Unusable error
 refusal_by locks.Memory = refusals.Memory
 
--- why a server isn't started over a folder that has this fault: with the fault's lines, if it says
--- something of a name
+-- the lines of a folder's fault are told, or that memory was refused for them
+abbrev pub TellsFault : List ℕ → FolderFault → StartRefusal → Type 0
+TellsFault folder fault (refusals.Unfit lines) = lines.items ≡ folder_fault_lines folder fault
+TellsFault folder fault refusals.Running = ⊥
+TellsFault folder fault (refusals.Unusable error) = ⊥
+TellsFault folder fault refusals.Device = ⊥
+TellsFault folder fault refusals.Memory = Unit {0}
+
+-- why a server isn't started over a folder that has this fault
 abbrev pub IsFolderRefusal : List ℕ → FolderFault → StartRefusal → Type 0
-IsFolderRefusal folder fault (refusals.Unfit lines) =
-    (IsPlainFolderFault fault → ⊥) × (lines.items ≡ folder_fault_lines folder fault)
-IsFolderRefusal folder fault refusals.Running = ⊥
-IsFolderRefusal folder fault (refusals.Unusable error) = ⊥
-IsFolderRefusal folder fault refusals.Device = fault ≡ Start Disk
-IsFolderRefusal folder fault refusals.Memory = Unit {0}
+IsFolderRefusal folder (Start Disk) refusal = refusal ≡ refusals.Device
+IsFolderRefusal folder (Start Memory) refusal = refusal ≡ refusals.Memory
+IsFolderRefusal folder (Start (Refused names)) refusal =
+    TellsFault folder (Start (Refused names)) refusal
+IsFolderRefusal folder (Start (TooMany count)) refusal =
+    TellsFault folder (Start (TooMany count)) refusal
+IsFolderRefusal folder (Rests names) refusal = TellsFault folder (Rests names) refusal
+IsFolderRefusal folder (Twice names) refusal = TellsFault folder (Twice names) refusal
 
 module _ {D E F H L : Type 0} (G : DiskGhosts D F) (K : DiskGhosts E H) where
   -- honest disks show why no server starts over the folder with these settings

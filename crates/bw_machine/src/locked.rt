@@ -1,7 +1,8 @@
 //! The start of a server with journals over a folder, under the folder's lock.
 ghost use Rattle.std.specs.Prelude.{◌≡◌, IfOk, MatchResult, Result};
 ghost use Rattle.bw_lock.specs.declared.folder_locks.LockRefusal.{LockRefusal as Refusal};
-ghost use Rattle.bw_machine.specs.LockedStarts.{IsFolderRefusal, RefusesUnder, StartsUnder, refusal_by};
+ghost use Rattle.bw_machine.specs.LockedStarts.{IsFolderRefusal, RefusesUnder, StartsUnder};
+ghost use Rattle.bw_machine.specs.LockedStarts.{TellsFault, refusal_by};
 ghost use Rattle.bw_start.specs.Started.{IsSetTo};
 
 use bw_disk::Volume;
@@ -72,11 +73,19 @@ fn refusal_of(alloc: Global, folder: &str, fault: &FolderFault) -> StartRefusal
     match fault {
         FolderFault::Start(StartFault::Disk) => StartRefusal::Device,
         FolderFault::Start(StartFault::Memory) => StartRefusal::Memory,
-        FolderFault::Start(_) | FolderFault::Rests(_) | FolderFault::Twice(_) => {
-            match fault.lines(alloc, folder) {
-                Ok(lines) => StartRefusal::Unfit(lines),
-                Err(_) => StartRefusal::Memory,
-            }
-        }
+        FolderFault::Start(StartFault::Refused(_)) => unfit(alloc, folder, fault),
+        FolderFault::Start(StartFault::TooMany(_)) => unfit(alloc, folder, fault),
+        FolderFault::Rests(_) => unfit(alloc, folder, fault),
+        FolderFault::Twice(_) => unfit(alloc, folder, fault),
+    }
+}
+
+/// The lines of a fault, or that memory was refused for them.
+fn unfit(alloc: Global, folder: &str, fault: &FolderFault) -> StartRefusal
+    ensures { TellsFault folder.now fault.now result }
+{
+    match fault.lines(alloc, folder) {
+        Ok(lines) => StartRefusal::Unfit(lines),
+        Err(_) => StartRefusal::Memory,
     }
 }
