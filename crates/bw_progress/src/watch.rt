@@ -13,6 +13,7 @@ use bw_upload::{LinkEvent, Observer};
 use std::alloc::Global;
 
 /// Headerless samples in a file, which are sent.
+#[derive(Clone, Copy)]
 pub struct SamplesSent<'a> {
     /// The file, and what is asked of its recording.
     pub file: &'a RecordingFile<'a>,
