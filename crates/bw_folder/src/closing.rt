@@ -62,13 +62,21 @@ impl<D: Volume> FolderJournal<D> {
         read_file(&mut self.disk, self.alloc, path).map_err(|_| StoreFault)
     }
 
-    /// Moves a file of the folder, and returns true; false if something stands in its way.
+    /// Moves a file of the folder, and returns true; false if something stands in its way. With `sync` the
+    /// folder is synced then: what is written to the file from now on is found at its new path, even after a
+    /// loss of power.
     pub(crate) fn move_file(&mut self, from: &str, to: &str) -> Result<bool, StoreFault>
         ensures moves { MovesFile D.Disk from.now to.now result self.old self.new }
         ensures others { IsTrue (D.honest self.old.disk) → KeepsAllBut from.now to.now
             (D.contents self.old.disk) (D.contents self.new.disk) }
     {
-        self.disk.rename(from, to).map_err(|_| StoreFault)
+        let moved = self.disk.rename(from, to).map_err(|_| StoreFault)?;
+        if moved && self.sync {
+            self.disk
+                .sync_folder(&self.folder)
+                .map_err(|_| StoreFault)?;
+        }
+        Ok(moved)
     }
 
     /// Counts a call that failed.
