@@ -72,9 +72,7 @@ impl<D: Volume> FolderJournal<D> {
     {
         let moved = self.disk.rename(from, to).map_err(|_| StoreFault)?;
         if moved && self.sync {
-            self.disk
-                .sync_folder(&self.folder)
-                .map_err(|_| StoreFault)?;
+            self.disk.sync_folder(&self.folder).map_err(|_| StoreFault)?;
         }
         Ok(moved)
     }
