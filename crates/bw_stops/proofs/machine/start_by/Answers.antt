@@ -26,7 +26,7 @@ returns-in-Ok c = λ book shown.
     }) in
     c.after_start.ensures c.args.limit book (record { limited = s.settings.limit_is; holds = started })
 
-pub returns-in-Err : goal.returns-in-Err
-returns-in-Err c = λ book shown.
+pub returns : goal.returns
+returns c = λ book shown.
     let there = shown_by c.args.limit book _ _ _ _ c.new-notes.ensures.inner c.new-takes.ensures.inner shown in
     c.after_failure.ensures c.args.limit book (c.in-Err.ensures.left_back refl refl no_contents book there.left)

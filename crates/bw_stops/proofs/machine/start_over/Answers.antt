@@ -6,4 +6,4 @@ use Rattle.bw_stops.proofs.machine.start_over.Goals as goal
 pub returns-in-Runs : goal.returns-in-Runs
 returns-in-Runs c = λ book left.
     subst (λ (m : Machine). StartsMachine c.args.limit book m) c.in-Runs.is
-    (c.in_ok-start_by.ensures book (c.in_ok-folder.ensures c.args.limit book left))
+    (c.in_ok-life.ensures book (c.in_ok-folder.ensures c.args.limit book left))
