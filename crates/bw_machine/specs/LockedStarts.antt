@@ -42,7 +42,7 @@ IsFolderRefusal folder (Start (TooMany count)) refusal =
 IsFolderRefusal folder (Rests names) refusal = TellsFault folder (Rests names) refusal
 IsFolderRefusal folder (Twice names) refusal = TellsFault folder (Twice names) refusal
 
-module _ {D E F H L : Type 0} (G : DiskGhosts D F) (K : DiskGhosts E H) where
+module _ {D E F H : Type 0} (G : DiskGhosts D F) (K : DiskGhosts E H) where
   -- honest disks show why no server starts over the folder with these settings
   abbrev pub IsRefusalBy : Settings → List ℕ → D → E → StartRefusal → Type 0
   IsRefusalBy settings folder takes notes refusal = IsTrue (G.honest takes) → IsTrue (K.honest notes) →
@@ -50,7 +50,8 @@ module _ {D E F H L : Type 0} (G : DiskGhosts D F) (K : DiskGhosts E H) where
       × IsFolderRefusal folder fault refusal
 
   -- none is started; without the folder's lock the disks are left as they were
-  abbrev pub RefusesUnder : Result L LockRefusal → Settings → List ℕ → D → E → StartRefusal → D → E → Type 0
+  abbrev pub RefusesUnder : {L : Type 0} → Result L LockRefusal → Settings → List ℕ → D → E →
+      StartRefusal → D → E → Type 0
   RefusesUnder (Ok lock) settings folder takes notes refusal takes_back notes_back =
       IsRefusalBy settings folder takes notes refusal
   RefusesUnder (Err why) settings folder takes notes refusal takes_back notes_back =
@@ -58,7 +59,7 @@ module _ {D E F H L : Type 0} (G : DiskGhosts D F) (K : DiskGhosts E H) where
 
   module _ {S : StoreGhosts (FolderStore D F G)} {J : JournalGhosts (FolderJournal E H K)} where
     -- one is started with these settings, over what honest disks show, and it has the folder's lock
-    abbrev pub StartsUnder : Result L LockRefusal → Settings → List ℕ → D → E →
+    abbrev pub StartsUnder : {L : Type 0} → Result L LockRefusal → Settings → List ℕ → D → E →
         Server (FolderStore D F G) (FolderJournal E H K) S J → L → Type 0
     StartsUnder (Ok given) settings folder takes notes server lock = (lock ≡ given)
         × (IsTrue (G.honest takes) → IsTrue (K.honest notes) →
