@@ -14,5 +14,5 @@ returns-in-Ok-clause-here g c =
       set = c.in-Ok.ensures.set;
       locked = refl;
       answer = met.0;
-      met = (c.of_machine-takes.result, c.of_machine-notes.result, c.in-Ok.lock, met.2);
+      met = (c.of_machine-takes.result, c.of_machine-notes.result, c.in-Ok.field-0.lock, met.2);
     }
