@@ -19,6 +19,14 @@ use Rattle.bw_store.specs.declared.store.TakeStore.{Ghosts as StoreGhosts}
 abbrev pub asked_for : ℕ → Bool → Bool → Settings
 asked_for limit sync rest = record { limit = limit; sync = sync; rest = rest }
 
+-- A server over the folder with this limit and this choice of syncs is started, and a lock is kept
+-- from then on; or none is started, and no lock more is kept.
+abbrev pub StartsLocked : {D F : Type 0} {G : DiskGhosts D F} {S : StoreGhosts (FolderStore D F G)}
+    {J : JournalGhosts (FolderJournal D F G)} → TcpNetwork → List ℕ → ℕ → Bool →
+    Result (Server (FolderStore D F G) (FolderJournal D F G) S J) StartRefusal → TcpNetwork → Type 0
+StartsLocked n folder limit sync result n' = IfOk result (IsSetTo limit folder sync)
+    × MatchResult result (λ _. IsTrue (holds_lock n')) (λ _. holds_lock n' ≡ holds_lock n)
+
 module _ {D F : Type 0} (G : DiskGhosts D F) where
   -- none is started: the folder isn't locked, or two disks of this machine show why
   abbrev pub IsRefusedHere : Result FolderLock LockRefusal → Settings → List ℕ → StartRefusal → Type 0

@@ -1,6 +1,6 @@
 //! The start of a server with journals over a folder of this machine.
-ghost use Rattle.std.specs.Prelude.{◌≡◌};
-ghost use Rattle.bw_machine.specs.StartsHere.{StartsHere};
+ghost use Rattle.std.specs.Prelude.{◌≡◌, true, false};
+ghost use Rattle.bw_machine.specs.StartsHere.{StartsHere, asked_for};
 ghost use Rattle.bw_stream.specs.Moves.{failures_after};
 
 use crate::locked::{Locked, start_locked};
@@ -30,20 +30,18 @@ impl<'a> MachineDisk<'a> for SystemDisk<&'a HostRuntime> {
 }
 
 /// A server over a folder of such disks, with journals beside the takes.
-///
-/// No clause says what a `SystemDisk` holds, so it is any disk of this machine on which a server
-/// starts: what is proved of the start speaks of what the disks hold.
-pub type FolderServer<D> = Server<FolderStore<D>, FolderJournal<D>>;
+type ServerOver<D> = Server<FolderStore<D>, FolderJournal<D>>;
 
-impl<'a, D: MachineDisk<'a>> Starts<FolderServer<D>> for TcpNetwork<'a> {
-    ghost use Rattle.std.specs.Prelude.{true, false};
+/// A server over a folder of this machine, with journals beside the takes.
+pub type FolderServer<'a> = ServerOver<SystemDisk<&'a HostRuntime>>;
+
+impl<'a> Starts<FolderServer<'a>> for TcpNetwork<'a> {
     ghost use Rattle.bw_machine.specs.SeenMachine.{network_failures};
-    ghost use Rattle.bw_machine.specs.StartsHere.{StartsHere, asked_for};
+    ghost use Rattle.bw_machine.specs.StartsHere.{StartsLocked};
 
     ghost failures = { network_failures };
 
-    ghost starts = { λ n folder limit sync result n'.
-        StartsHere D.Disk (asked_for limit sync false) folder result n n' };
+    ghost starts = { StartsLocked };
 
     /// Refuses a folder in which names rest.
     fn start(
@@ -51,31 +49,61 @@ impl<'a, D: MachineDisk<'a>> Starts<FolderServer<D>> for TcpNetwork<'a> {
         folder: &str,
         limit: Limit,
         sync: bool,
-    ) -> Result<FolderServer<D>, StartRefusal> {
-        let rest = false;
-        start_in(self, folder, Settings { limit, sync, rest })
+    ) -> Result<FolderServer<'a>, StartRefusal> {
+        start_without_rest(self, folder, limit, sync)
     }
 }
 
-impl<'a, D: MachineDisk<'a>> StartsResting<FolderServer<D>> for TcpNetwork<'a> {
-    ghost use Rattle.std.specs.Prelude.{true, false};
+impl<'a> StartsResting<FolderServer<'a>> for TcpNetwork<'a> {
     ghost use Rattle.bw_machine.specs.SeenMachine.{network_failures};
-    ghost use Rattle.bw_machine.specs.StartsHere.{StartsHere, asked_for};
+    ghost use Rattle.bw_machine.specs.StartsHere.{StartsLocked};
 
     ghost rest_failures = { network_failures };
 
-    ghost starts_resting = { λ n folder limit sync result n'.
-        StartsHere D.Disk (asked_for limit sync true) folder result n n' };
+    ghost starts_resting = { StartsLocked };
 
     fn start_resting(
         &mut self,
         folder: &str,
         limit: Limit,
         sync: bool,
-    ) -> Result<FolderServer<D>, StartRefusal> {
-        let rest = true;
-        start_in(self, folder, Settings { limit, sync, rest })
+    ) -> Result<FolderServer<'a>, StartRefusal> {
+        start_with_rest(self, folder, limit, sync)
     }
+}
+
+// No clause says what a `SystemDisk` holds, so these start over any disk of this machine: what is
+// proved of a start speaks of what the disks hold.
+
+/// A server over a folder of this machine, which stays locked then; a folder in which names rest is
+/// refused.
+fn start_without_rest<'a, D: MachineDisk<'a>>(
+    network: &mut TcpNetwork<'a>,
+    folder: &str,
+    limit: Limit,
+    sync: bool,
+) -> Result<ServerOver<D>, StartRefusal>
+    ensures here { StartsHere D.Disk (asked_for limit sync false) folder.now result
+        network.old network.new }
+    ensures count { network.new.failures ≡ failures_after result network.old.failures }
+{
+    let rest = false;
+    start_in(network, folder, Settings { limit, sync, rest })
+}
+
+/// A server over a folder of this machine, which stays locked then, whose names may rest.
+fn start_with_rest<'a, D: MachineDisk<'a>>(
+    network: &mut TcpNetwork<'a>,
+    folder: &str,
+    limit: Limit,
+    sync: bool,
+) -> Result<ServerOver<D>, StartRefusal>
+    ensures here { StartsHere D.Disk (asked_for limit sync true) folder.now result
+        network.old network.new }
+    ensures count { network.new.failures ≡ failures_after result network.old.failures }
+{
+    let rest = true;
+    start_in(network, folder, Settings { limit, sync, rest })
 }
 
 /// A server over a folder of this machine, which stays locked then.
@@ -83,7 +111,7 @@ fn start_in<'a, D: MachineDisk<'a>>(
     network: &mut TcpNetwork<'a>,
     folder: &str,
     settings: Settings,
-) -> Result<FolderServer<D>, StartRefusal>
+) -> Result<ServerOver<D>, StartRefusal>
     ensures here { StartsHere D.Disk settings folder.now result network.old network.new }
     ensures count { network.new.failures ≡ failures_after result network.old.failures }
 {
