@@ -14,3 +14,4 @@ pub mod DeliveredFiles
 pub mod ExamplesOfDeliveries
 pub mod RestingDeliveries
 pub mod RestingFiles
+pub mod KeptLives

@@ -189,18 +189,22 @@ folder_sound existed requests name before after b later (a ∷ rest) (count, mid
         (subst (IsSoundStep (existed name) requests name (log_of b name) (log_of b name)) (sym put_off)
         (delay_sound (existed name) requests name (log_of b name) a.frame sound))
 
+-- what the name had at first
+pub resting_sound : (existed : List ℕ → Bool) (name : List ℕ) (requests : List Request)
+    (links : List (ℕ × LinkBytes)) (book later : Book) → IsRestingDelivery existed name requests links book later →
+    IsSound requests (log_of book name)
+resting_sound existed name requests links book later d = record {
+  admitted = d.had;
+  filled = λ k below. let all = d.all_done in at-first_free (log_of book name).admitted k (omega (arith, all, below));
+}
+
 pub resting_step : (existed : List ℕ → Bool) (name : List ℕ) (requests : List Request)
     (links : List (ℕ × LinkBytes)) (book later : Book) →
     (d : IsRestingDelivery existed name requests links book later) →
     IsSoundStep (existed name) requests name (log_of book name) (log_of later name) (replies_of (all_answered d.trace))
 resting_step existed name requests links book later d =
     folder_sound existed requests name d.before d.after book later (all_answered d.trace) d.went
-    (record {
-      admitted = d.had;
-      filled = λ k below. let all = d.all_done in
-          at-first_free (log_of book name).admitted k (omega (arith, all, below));
-    })
-    (joined_frames name requests links d.trace d.joined)
+    (resting_sound existed name requests links book later d) (joined_frames name requests links d.trace d.joined)
 
 pub resting_deliveries_true : RestingDeliveriesAreTrue
 resting_deliveries_true existed name requests links book later d =

@@ -15,7 +15,7 @@ pub record Mortal (X : Type 0) : Type 0 where
   pub failures : ℕ
 
 -- One call is counted, and all else stays.
-pub record IsCounted {D : Type 0} (old new : Mortal D) (fails : Bool) : Type 0 where
+pub record IsCallCounted {D : Type 0} (old new : Mortal D) (fails : Bool) : Type 0 where
   pub inner : new.inner ≡ old.inner
   pub life : new.life ≡ old.life
   pub reached : new.reached ≡ old.reached

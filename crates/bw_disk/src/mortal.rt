@@ -4,7 +4,7 @@ ghost use Rattle.std.specs.Prelude.{is_err, length};
 ghost use Rattle.bw_store.specs.Stores.{MayTear};
 ghost use Rattle.bw_disk.specs.Disks.{Makes};
 ghost use Rattle.bw_disk.specs.DiskSteps.{ChangesAt, SyncsOne};
-ghost use Rattle.bw_disk.specs.MortalDisks.{IsCounted, IsMortalCall, IsMortalWrite};
+ghost use Rattle.bw_disk.specs.MortalDisks.{IsCallCounted, IsMortalCall, IsMortalWrite};
 
 use crate::disk::{Disk, DiskFault};
 use crate::volume::Volume;
@@ -99,7 +99,7 @@ impl<D: Volume> MortalDisk<D> {
     pub(crate) fn live(&mut self) -> Result<(), DiskFault>
         ensures alive { OnOk result ((self.new ≡ self.old) × (self.old.calls < self.old.life)) }
         ensures over { OnErr result (self.old.life ≤ self.old.calls) }
-        ensures failed { OnErr result (IsCounted self.old self.new true) }
+        ensures failed { OnErr result (IsCallCounted self.old self.new true) }
     {
         if self.call_counter.calls() < self.life {
             return Ok(());
@@ -110,7 +110,7 @@ impl<D: Volume> MortalDisk<D> {
     /// Counts a call with its answer, and returns the answer.
     pub(crate) fn counted<T>(&mut self, answer: Result<T, DiskFault>) -> Result<T, DiskFault>
         ensures answer { result ≡ answer }
-        ensures counted { IsCounted self.old self.new (is_err answer) }
+        ensures counted { IsCallCounted self.old self.new (is_err answer) }
     {
         self.call_counter.count(answer.is_err());
         answer

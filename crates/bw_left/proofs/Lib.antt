@@ -26,3 +26,10 @@ pub mod StoppedWorlds
 pub mod ServedWorlds
 pub mod FailedStarts
 pub mod ExamplesOfStops
+pub mod HeldLogs
+pub mod RestPlaces
+pub mod AnsweredTurns
+pub mod OverFolders
+pub mod FailedRests
+pub mod RestingSenders
+pub mod RestingFiles

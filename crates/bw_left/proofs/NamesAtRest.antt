@@ -28,7 +28,7 @@ use Rattle.bw_start.specs.Left.{IsLeftOpen}
 use Rattle.bw_start.specs.LeftNames.{IsLeftBegun, IsLeftTorn, IsLeftName}
 
 -- what is closed has its whole file
-closed_file : (b : Bool) (A B : Type 0) → b ≡ true → MatchBool b A B → A
+pub closed_file : (b : Bool) (A B : Type 0) → b ≡ true → MatchBool b A B → A
 closed_file true A B e h = h
 closed_file false A B e h = absurd (false≢true e)
 

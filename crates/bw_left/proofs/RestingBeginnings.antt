@@ -1,5 +1,5 @@
 -- A server whose names rest begins as its calls keep it.
-use Rattle.std.proofs.Common.{◌≡◌, inl, inr, ℕ, Bool, true, false, ◌||◌, List}
+use Rattle.std.proofs.Common.{◌≡◌, ℕ, ◌<◌, ◌^◌, Bool, true, false, ◌||◌, List}
 use Rattle.std.proofs.Common.{Option, None, is_some, IsSome, refl, sym, ◌∙◌, ap, subst}
 use Rattle.std.specs.Prelude.{IsTrue, string_bytes}
 use Rattle.std.proofs.lemmas.Bool.{false≢true}
@@ -10,12 +10,14 @@ use Rattle.bw_model.proofs.BookLemmas.{unknown_log}
 use Rattle.bw_store.specs.declared.store.TakeStore.{Ghosts as StoreGhosts}
 use Rattle.bw_disk.specs.declared.disk.Disk.{Ghosts as DiskGhosts}
 use Rattle.bw_journal.specs.JournalHeaders.{Header}
+use Rattle.bw_journal.specs.Standing.{Apart, AtRest, AtBoth}
 use Rattle.bw_journal.specs.Stops.{cut_book}
 use Rattle.bw_journal.proofs.CutLaws.{logs_cut}
 use Rattle.bw_journal.specs.declared.journal.Journal.{Ghosts as JournalGhosts}
 use Rattle.bw_folder.specs.JournalFolders.{header_in_folder}
 use Rattle.bw_folder.specs.Journals.{journal_path}
 use Rattle.bw_folder.specs.RestingJournals.{closed_path, is_loose, noted_at, resting_at, resting_header}
+use Rattle.bw_folder.specs.RestingJournals.{standing_at}
 use Rattle.bw_folder.specs.declared.folder.FolderStore.{FolderStore}
 use Rattle.bw_folder.specs.declared.journal.FolderJournal.{FolderJournal}
 use Rattle.bw_folder.specs.declared.resting.RestingFolderJournal.{RestingFolderJournal}
@@ -26,27 +28,25 @@ use Rattle.bw_rest.specs.Folders.{HoldsFolder}
 use Rattle.bw_start.specs.Paths.{path_with, notes_path, rest_path}
 use Rattle.bw_start.specs.Restored.{KeepsJournals}
 use Rattle.bw_start.specs.declared.resting.Settings.{Settings}
-use Rattle.bw_start.proofs.PathLemmas.{path_name}
 use Rattle.bw_left.specs.RestingBeginnings.{RestingStartsAreHonest}
 use Rattle.bw_left.specs.RestingFolders.{RestingStartsHoldFolders, WasStartedResting, IsLeftResting}
 use Rattle.bw_left.specs.RestingStops.{RestsApart}
 use Rattle.bw_left.proofs.LeftBooks.{cut_books_are_quiet}
 use Rattle.bw_left.proofs.RestingCalls.{known_here, none_kept, OrdersName}
-use Rattle.bw_left.proofs.RestingStarts.{rest_stays}
+use Rattle.bw_left.proofs.RestingStarts.{rest_stays, none_stays}
 use Rattle.bw_left.proofs.ServedWorlds.{named}
 
 -- no journal stands after a start that wasn't there
 none_noted : (folder : List ℕ) (before after : List ℕ → Option (List ℕ)) → KeepsJournals folder before after →
     (name : List ℕ) → before (notes_path folder name) ≡ None → after (journal_path folder name) ≡ None
 unfolding journal_path path_with
-none_noted folder before after kept name none = elim (kept (notes_path folder name)) [
-  | inl same ↦ same ∙ none
-  | inr x ↦ absurd (other x.0 (path_name folder _ name x.0 x.3) x.2)
-]
-  where
-    other : (n : List ℕ) → name ≡ n → IsSome (before (notes_path folder n)) → ⊥
-    other n same some =
-        false≢true (sym (ap is_some (ap (λ (k : List ℕ). before (notes_path folder k)) (sym same) ∙ none)) ∙ some)
+none_noted folder before after kept name none = none_stays folder before after kept name none
+
+apart_not_both : Apart ≡ AtBoth → ⊥
+apart_not_both e = cc
+
+apart_not_rest : Apart ≡ AtRest → ⊥
+apart_not_rest e = cc
 
 either : (a b : Bool) → b ≡ true → a || b ≡ true
 either true b e = refl
@@ -68,6 +68,8 @@ module _ {D E F H : Type 0} (G : DiskGhosts D F) (K : DiskGhosts E H)
     (headers : (x : RestingFolderJournal E H K) (name : List ℕ) → R.header x name
     ≡ resting_header (is_loose x.loose name) (K.contents x.inner.disk (closed_path (string_bytes x.inner.folder) name))
     (header_in_folder x.inner name))
+    (standings : (x : RestingFolderJournal E H K) (name : List ℕ) → R.stands x name
+    ≡ standing_at (is_loose x.loose name) (K.contents x.inner.disk) (string_bytes x.inner.folder) name)
     (settings : Settings) (folder : List ℕ) (first : List ℕ → Option (List ℕ)) (book : Book)
     (notes takes : List ℕ → Option (List ℕ))
     (s : Server (FolderStore D F G) (RestingFolderJournal E H K) S R)
@@ -138,6 +140,13 @@ module _ {D E F H : Type 0} (G : DiskGhosts D F) (K : DiskGhosts E H)
           ∙ sym (held.noted.existed name) ∙ existed))
       unknown false e new = refl
 
+  -- none is loose
+  pub begins_apart_all : (name : List ℕ) → R.stands s.stores.journal name ≡ Apart
+  begins_apart_all name =
+      standings s.stores.journal name
+      ∙ ap (λ (v : Bool). standing_at v (K.contents s.stores.journal.inner.disk)
+      (string_bytes s.stores.journal.inner.folder) name) (was.journal.tied name)
+
 -- where starts hold what is left
 pub resting_beginnings : {D E F H : Type 0} (G : DiskGhosts D F) (K : DiskGhosts E H)
     (S : StoreGhosts (FolderStore D F G)) (J : JournalGhosts (FolderJournal E H K))
@@ -149,8 +158,10 @@ pub resting_beginnings : {D E F H : Type 0} (G : DiskGhosts D F) (K : DiskGhosts
     ((x : RestingFolderJournal E H K) (name : List ℕ) → R.header x name
     ≡ resting_header (is_loose x.loose name) (K.contents x.inner.disk (closed_path (string_bytes x.inner.folder) name))
     (header_in_folder x.inner name)) →
+    ((x : RestingFolderJournal E H K) (name : List ℕ) → R.stands x name
+    ≡ standing_at (is_loose x.loose name) (K.contents x.inner.disk) (string_bytes x.inner.folder) name) →
     RestingStartsAreHonest G K S J R
-resting_beginnings G K S J R starts noteds restings headers settings folder first book notes takes s small was left
+resting_beginnings G K S J R starts noteds restings headers standings settings folder first book notes takes s small was left
     honest honest_notes foreign =
     let held : HoldsFolder S R first s (cut_book book) =
     starts settings folder first book notes takes s small was left in
@@ -158,12 +169,20 @@ resting_beginnings G K S J R starts noteds restings headers settings folder firs
       honest = honest;
       honest_notes = honest_notes;
       held = held;
-      order = begins_in_order G K S J R noteds restings headers settings folder first book notes takes s was left honest
-          held;
-      names = begins_named G K S J R noteds restings headers settings folder first book notes takes s was left honest
-          held;
+      order = begins_in_order G K S J R noteds restings headers standings settings folder first book notes takes s was left
+          honest held;
+      names = begins_named G K S J R noteds restings headers standings settings folder first book notes takes s was left
+          honest held;
       foreign = λ name bytes none stood. foreign name bytes
           (sym (ap (λ (l : Log). l.done) (logs_cut book name)) ∙ none) stood;
-      apart = begins_apart G K S J R noteds restings headers settings folder first book notes takes s was left honest
-          held;
+      apart = begins_apart G K S J R noteds restings headers standings settings folder first book notes takes s was left
+          honest held;
+      small = subst (λ (l : ℕ). l < 2 ^ 32) (sym (was.same.limit ∙ was.set.limit_is)) small;
+      places = λ name.
+          let apart = begins_apart_all G K S J R noteds restings headers standings settings folder first book notes takes
+          s was left honest held name in
+          record {
+            alone = λ both. apart_not_both (sym apart ∙ both);
+            fit = λ at some. absurd (apart_not_rest (sym apart ∙ at));
+          };
     }

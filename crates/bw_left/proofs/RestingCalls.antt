@@ -1,5 +1,5 @@
 -- What the calls of a server whose names rest keep of what a stop asks for.
-use Rattle.std.proofs.Common.{◌≡◌, inl, inr, ℕ, zero, suc, ◌<◌, ◌≤◌}
+use Rattle.std.proofs.Common.{◌≡◌, inl, inr, ℕ, zero, suc, ◌<◌, ◌≤◌, ◌^◌}
 use Rattle.std.proofs.Common.{Bool, true, false, List, [], ◌∷◌}
 use Rattle.std.proofs.Common.{length, Option, Some, None, is_some, IsSome, refl, sym, ◌∙◌, ap, subst, arith}
 use Rattle.std.specs.Prelude.{IsTrue, MatchBool, option_map}
@@ -17,7 +17,9 @@ use Rattle.bw_journal.specs.Resting.{KeepsOtherJournals, WakesJournal}
 use Rattle.bw_journal.specs.declared.journal.Journal.{Ghosts as JournalGhosts}
 use Rattle.bw_session.specs.Books.{OrdersBook}
 use Rattle.bw_session.specs.Ordering.{FileComesFirst, NextIsCarriedOut}
+use Rattle.bw_session.specs.RestFaults.{may_wake}
 use Rattle.bw_session.specs.RestingNames.{KeepsOtherNames, KeepsNames, RestsNow, WakesNow, journals_of}
+use Rattle.bw_session.specs.RestingNames.{is_restable_in}
 use Rattle.bw_session.specs.Servers.{kept_by}
 use Rattle.bw_session.specs.Sessions.{part_of}
 use Rattle.bw_session.specs.Tables.{session_in}
@@ -29,13 +31,14 @@ use Rattle.bw_session.proofs.OrderLaws.{waiting_in_order}
 use Rattle.bw_session.proofs.OrderSteps.{quiet_ends}
 use Rattle.bw_session.proofs.ServerForms.{apart_names}
 use Rattle.bw_rest.specs.Folders.{HoldsFolder, RestsOutside, IsUnknown}
+use Rattle.bw_rest.specs.RestCalls.{WasCalled, WereCalled, OnlyMovesToRest}
 use Rattle.bw_rest.proofs.FolderForms.{folder_kept, rests_outside, unknown_outside}
 use Rattle.bw_rest.proofs.FolderRests.{folder_rests}
 use Rattle.bw_rest.proofs.FolderWakes.{folder_woke}
 use Rattle.bw_left.specs.LeftFolders.{EachIsInOrder, IsOwnFolder, IsWrittenInOrder}
-use Rattle.bw_left.specs.RestingCalls.{RestsHonestly, HonestServersAreInOrder}
-use Rattle.bw_left.specs.RestingCalls.{RestsKeepOrder, WakesKeepOrder, FailuresKeepOrder}
+use Rattle.bw_left.specs.RestingCalls.{RestsHonestly, HonestServersAreInOrder, MayStandThere, CallsKeepOrder}
 use Rattle.bw_left.proofs.LeftServers.{Stands, header_is}
+use Rattle.bw_left.proofs.RestPlaces.{restable_fits, places_kept, places_but}
 use Rattle.bw_left.proofs.StoppedServers.{begun_long, in_order}
 
 pub no_session : (o : Option Session) → is_some (option_map kept_by o) ≡ false → o ≡ None
@@ -178,8 +181,9 @@ module _ {X Y : Type 0} (S : StoreGhosts X) (J : JournalGhosts Y) (first : List 
         (IsSome (J.notes new.stores.journal name) → IsTrue (is_name name)) →
         (IsSome (J.resting new.stores.journal name) →
         (session_in new.sessions name ≡ None) × (J.notes new.stores.journal name ≡ None)) →
+        ((n : List ℕ) → MayStandThere new.limit n (J.stands new.stores.journal n) (J.notes new.stores.journal n)) →
         RestsHonestly S J first new book
-    honest_then held same order names apart = record {
+    honest_then held same order names apart places = record {
       honest = ap S.honest keeps.store ∙ r.honest;
       honest_notes = same ∙ r.honest_notes;
       held = held;
@@ -187,6 +191,8 @@ module _ {X Y : Type 0} (S : StoreGhosts X) (J : JournalGhosts Y) (first : List 
       names = λ n some. names_by n some (bytes_eq name n) refl;
       foreign = r.foreign;
       apart = λ n some. apart_by n some (bytes_eq name n) refl;
+      small = subst (λ (l : ℕ). l < 2 ^ 32) (sym keeps.limit) r.small;
+      places = places;
     }
       where
         order_by : (n : List ℕ) (x : Session) → session_in new.sessions n ≡ Some x → (v : Bool) → bytes_eq name n ≡ v →
@@ -211,10 +217,10 @@ module _ {X Y : Type 0} (S : StoreGhosts X) (J : JournalGhosts Y) (first : List 
             (apart (subst (λ (k : List ℕ). IsSome (J.resting new.stores.journal k)) (sym (same_name name n b)) some))
         apart_by n some false b = apart_other n b some
 
-  pub rest_kept : (old new : Server X Y S J) (book : Book) (name : List ℕ) → RestsHonestly S J first old book →
+  rest_kept : (old new : Server X Y S J) (book : Book) (name : List ℕ) → RestsHonestly S J first old book →
       RestsNow S J name old new → J.honest new.stores.journal ≡ J.honest old.stores.journal →
-      RestsHonestly S J first new book
-  rest_kept old new book name r now same =
+      OnlyMovesToRest S J name old new → RestsHonestly S J first new book
+  rest_kept old new book name r now same places =
       let put = now.journal r.honest_notes in
       honest_then old new book name r now.others put.others
       (folder_rests S J old new name now.others put first book r.held
@@ -223,16 +229,25 @@ module _ {X Y : Type 0} (S : StoreGhosts X) (J : JournalGhosts Y) (first : List 
       (λ x e. absurd (false≢true (sym (ap is_some now.gone) ∙ ap is_some e)))
       (λ some. absurd (false≢true (sym (ap is_some put.gone) ∙ some)))
       (λ some. (now.gone, put.gone))
+      (places_but S J first old new book r now.others.limit name (places r.honest_notes)
+      (λ some. absurd (false≢true (sym (ap is_some put.gone) ∙ some))))
 
-  pub wake_kept : (old new : Server X Y S J) (book : Book) (name : List ℕ) → RestsHonestly S J first old book →
+  wake_kept : (old new : Server X Y S J) (book : Book) (name : List ℕ) → RestsHonestly S J first old book →
       IsTrue (is_name name) → session_in old.sessions name ≡ None → WakesNow S J name old new →
-      J.honest new.stores.journal ≡ J.honest old.stores.journal → RestsHonestly S J first new book
-  wake_kept old new book name r named none now same =
+      J.honest new.stores.journal ≡ J.honest old.stores.journal → OnlyMovesToRest S J name old new →
+      RestsHonestly S J first new book
+  wake_kept old new book name r named none now same places =
       honest_then old new book name r now.others woke.others held same order (λ some. named)
       (λ some. absurd (false≢true (sym (ap is_some woke.gone) ∙ some)))
+      (places_but S J first old new book r now.others.limit name (places r.honest_notes) (λ some. fits))
     where
       woke : WakesJournal name (journals_of S J old) (journals_of S J new)
       woke = now.journal r.honest_notes
+
+      fits : IsTrue (may_wake new.limit name (J.notes new.stores.journal name))
+      fits =
+          subst (λ (l : ℕ). IsTrue (may_wake l name (J.notes new.stores.journal name))) (sym now.others.limit)
+          (subst (λ (o : Option (List ℕ)). IsTrue (may_wake old.limit name o)) (sym woke.noted) (now.fit r.honest_notes))
 
       unknown : is_known r.held.table name ≡ false
       unknown = unknown_here old book r.held name none
@@ -265,10 +280,12 @@ module _ {X Y : Type 0} (S : StoreGhosts X) (J : JournalGhosts Y) (first : List 
                 ∙ ap is_some (at_past (log_of book name).admitted (log_of book name).done rested.1.at_rest.all)));
           }
 
-  pub failure_kept : (old new : Server X Y S J) (book : Book) → RestsHonestly S J first old book →
+  names_kept : (old new : Server X Y S J) (book : Book) → RestsHonestly S J first old book →
       KeepsNames S J old new → new.stores.store ≡ old.stores.store → new.limit ≡ old.limit →
-      J.honest new.stores.journal ≡ J.honest old.stores.journal → RestsHonestly S J first new book
-  failure_kept old new book r kept store limit same =
+      J.honest new.stores.journal ≡ J.honest old.stores.journal →
+      ((n : List ℕ) → MayStandThere new.limit n (J.stands new.stores.journal n) (J.notes new.stores.journal n)) →
+      RestsHonestly S J first new book
+  names_kept old new book r kept store limit same places =
       let alike = kept.same r.honest_notes in
       record {
         honest = ap S.honest store ∙ r.honest;
@@ -288,18 +305,45 @@ module _ {X Y : Type 0} (S : StoreGhosts X) (J : JournalGhosts Y) (first : List 
         apart = λ n some.
             let was = r.apart n (subst IsSome (alike.resting n) some) in
             (kept.sessions n ∙ was.0, alike.noted n ∙ was.1);
+        small = subst (λ (l : ℕ). l < 2 ^ 32) (sym limit) r.small;
+        places = places;
       }
+
+  -- a name that may rest kept its journal, wherever it stands
+  restable_then : (old new : Server X Y S J) (book : Book) (name : List ℕ) (r : RestsHonestly S J first old book) →
+      is_restable_in old.sessions name ≡ true → KeepsNames S J old new → new.limit ≡ old.limit →
+      IsTrue (may_wake new.limit name (J.notes new.stores.journal name))
+  restable_then old new book name r ready kept limit =
+      subst (λ (l : ℕ). IsTrue (may_wake l name (J.notes new.stores.journal name))) (sym limit)
+      (subst (λ (o : Option (List ℕ)). IsTrue (may_wake old.limit name o)) (sym ((kept.same r.honest_notes).noted name))
+      (restable_fits S J first old book r name ready))
+
+  -- each call by which names rest and wake
+  pub call_kept : (old new : Server X Y S J) (book : Book) → RestsHonestly S J first old book → WasCalled S J old new →
+      RestsHonestly S J first new book
+  call_kept old new book r c = elim (c.did) [
+    | inl rest ↦ elim (rest.1.rested) [
+      | inl now ↦ rest_kept old new book rest.0 r now c.keeps.honest rest.1.places
+      | inr kept ↦ names_kept old new book r kept c.keeps.store c.keeps.limit c.keeps.honest
+          (places_but S J first old new book r c.keeps.limit rest.0 (rest.1.places r.honest_notes)
+          (λ some. restable_then old new book rest.0 r rest.1.ready kept c.keeps.limit))
+    ]
+    | inr more ↦ elim more [
+      | inl wake ↦ wake_kept old new book wake.0 r wake.1.named wake.1.fresh wake.1.woke c.keeps.honest wake.1.places
+      | inr left ↦ names_kept old new book r left.names c.keeps.store c.keeps.limit c.keeps.honest
+          (places_kept S J first old new book r c.keeps.limit (left.places r.honest_notes))
+    ]
+  ]
+
+  -- all of them, one after another
+  pub calls_kept : (old : Server X Y S J) (between : List (Server X Y S J)) (new : Server X Y S J) (book : Book) →
+      RestsHonestly S J first old book → WereCalled S J old between new → RestsHonestly S J first new book
+  calls_kept old [] new book r same = subst (λ (s : Server X Y S J). RestsHonestly S J first s book) (sym same) r
+  calls_kept old (mid ∷ more) new book r calls =
+      calls_kept mid more new book (call_kept old mid book r calls.0) calls.1
 
 pub honest_in_order : {X Y : Type 0} (S : StoreGhosts X) (J : JournalGhosts Y) → HonestServersAreInOrder S J
 honest_in_order S J first s book r = in_order_then S J first s book r
 
-pub rests_keep_order : {X Y : Type 0} (S : StoreGhosts X) (J : JournalGhosts Y) → RestsKeepOrder S J
-rests_keep_order S J first old new book name r now same = rest_kept S J first old new book name r now same
-
-pub wakes_keep_order : {X Y : Type 0} (S : StoreGhosts X) (J : JournalGhosts Y) → WakesKeepOrder S J
-wakes_keep_order S J first old new book name r named none now same =
-    wake_kept S J first old new book name r named none now same
-
-pub failures_keep_order : {X Y : Type 0} (S : StoreGhosts X) (J : JournalGhosts Y) → FailuresKeepOrder S J
-failures_keep_order S J first old new book r kept store limit same =
-    failure_kept S J first old new book r kept store limit same
+pub calls_keep_order : {X Y : Type 0} (S : StoreGhosts X) (J : JournalGhosts Y) → CallsKeepOrder S J
+calls_keep_order S J first old new book r c = call_kept S J first old new book r c

@@ -1,6 +1,7 @@
 -- The paths of a name whose journal may rest, in the words of a start.
 use Rattle.std.proofs.Common.{◌≡◌, ℕ, Bool, true, false, cond, List}
 use Rattle.std.proofs.Common.{Option, Some, None, is_some, IsSome, refl, sym, ◌∙◌, ap}
+use Rattle.std.specs.Prelude.{not, ◌&&◌}
 use Rattle.std.specs.Option.{option_or}
 use Rattle.std.proofs.lemmas.Bool.{false≢true}
 use Rattle.bw_model.specs.Book.{Log, no_log}
@@ -8,7 +9,8 @@ use Rattle.bw_model.specs.CountedTurn.{is_pending}
 use Rattle.bw_journal.specs.JournalHeaders.{Header}
 use Rattle.bw_folder.specs.Folders.{take_path}
 use Rattle.bw_folder.specs.Journals.{journal_path}
-use Rattle.bw_folder.specs.RestingJournals.{closed_path, noted_at, resting_at, resting_header}
+use Rattle.bw_folder.specs.RestingJournals.{closed_path, noted_at, resting_at, resting_header, standing_at}
+use Rattle.bw_journal.specs.Standing.{Apart, AtRest, AtBoth}
 use Rattle.bw_start.specs.Paths.{path_with, wave_path, notes_path, rest_path}
 
 pub take_there : (contents : List ℕ → Option (List ℕ)) (folder name : List ℕ) →
@@ -27,6 +29,13 @@ pub rests_there : (loose : Bool) (contents : List ℕ → Option (List ℕ)) (fo
     resting_at loose contents folder name ≡ cond loose None (contents (rest_path folder name))
 unfolding closed_path path_with
 rests_there loose contents folder name = refl
+
+pub standing_there : (loose : Bool) (contents : List ℕ → Option (List ℕ)) (folder name : List ℕ) →
+    standing_at loose contents folder name
+    ≡ cond (not (loose && is_some (contents (rest_path folder name)))) Apart
+    (cond (is_some (contents (notes_path folder name))) AtBoth AtRest)
+unfolding journal_path closed_path path_with
+standing_there loose contents folder name = refl
 
 pub or_none : (o : Option (List ℕ)) → option_or o None ≡ o
 or_none None = refl

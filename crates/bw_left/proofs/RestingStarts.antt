@@ -53,16 +53,32 @@ cut_same log all = ap (λ (xs : List (Option Request)). record { admitted = xs; 
     (take_all log.done log.admitted all)
 
 -- what rests stays where it is
-pub rest_stays : (folder : List ℕ) (before after : List ℕ → Option (List ℕ)) → KeepsJournals folder before after →
-    (name : List ℕ) → after (closed_path folder name) ≡ before (rest_path folder name)
-unfolding closed_path path_with
-rest_stays folder before after kept name = elim (kept (rest_path folder name)) [
+pub closed_stays : (folder : List ℕ) (before after : List ℕ → Option (List ℕ)) → KeepsJournals folder before after →
+    (name : List ℕ) → after (rest_path folder name) ≡ before (rest_path folder name)
+closed_stays folder before after kept name = elim (kept (rest_path folder name)) [
   | inl same ↦ same
   | inr x ↦ absurd (rest_no_notes folder name x.0 x.3)
 ]
 
+pub rest_stays : (folder : List ℕ) (before after : List ℕ → Option (List ℕ)) → KeepsJournals folder before after →
+    (name : List ℕ) → after (closed_path folder name) ≡ before (rest_path folder name)
+unfolding closed_path path_with
+rest_stays folder before after kept name = closed_stays folder before after kept name
+
+-- no journal stands afterwards that wasn't there
+pub none_stays : (folder : List ℕ) (before after : List ℕ → Option (List ℕ)) → KeepsJournals folder before after →
+    (name : List ℕ) → before (notes_path folder name) ≡ None → after (notes_path folder name) ≡ None
+none_stays folder before after kept name none = elim (kept (notes_path folder name)) [
+  | inl same ↦ same ∙ none
+  | inr x ↦ absurd (other x.0 (path_name folder (codes ".journal") name x.0 x.3) x.2)
+]
+  where
+    other : (n : List ℕ) → name ≡ n → IsSome (before (notes_path folder n)) → ⊥
+    other n same some =
+        false≢true (sym (ap is_some (ap (λ (k : List ℕ). before (notes_path folder k)) (sym same) ∙ none)) ∙ some)
+
 -- the file of a name without a journal stays
-file_stays : (limit : ℕ) (folder : List ℕ) (notes before after : List ℕ → Option (List ℕ)) →
+pub file_stays : (limit : ℕ) (folder : List ℕ) (notes before after : List ℕ → Option (List ℕ)) →
     KeepsTakes limit folder notes before after → (name : List ℕ) → notes (notes_path folder name) ≡ None →
     after (take_path folder name) ≡ before (wave_path folder name)
 unfolding take_path path_with

@@ -15,3 +15,5 @@ pub mod ServedWorlds
 pub mod FailedStarts
 pub mod ExamplesOfStops
 pub mod RestingFolders
+pub mod FailedRests
+pub mod RestingSenders

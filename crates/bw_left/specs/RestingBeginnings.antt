@@ -1,6 +1,6 @@
 -- Servers whose names rest, as they begin.
-use Rattle.std.specs.Prelude.{◌≡◌, ℕ, false, Option, Some, IsTrue, List, ◌<◌, ◌^◌}
-use Rattle.bw_model.specs.Book.{Book, log_of}
+use Rattle.std.specs.Prelude.{ℕ, Option, IsTrue, List, ◌<◌, ◌^◌}
+use Rattle.bw_model.specs.Book.{Book}
 use Rattle.bw_store.specs.declared.store.TakeStore.{Ghosts as StoreGhosts}
 use Rattle.bw_disk.specs.declared.disk.Disk.{Ghosts as DiskGhosts}
 use Rattle.bw_journal.specs.Stops.{cut_book}
@@ -10,9 +10,8 @@ use Rattle.bw_folder.specs.declared.journal.FolderJournal.{FolderJournal}
 use Rattle.bw_folder.specs.declared.resting.RestingFolderJournal.{RestingFolderJournal}
 use Rattle.bw_session.specs.declared.server.Server.{Server}
 use Rattle.bw_session.specs.SeenServers.{server_store, server_journal}
-use Rattle.bw_start.specs.Names.{begins_take}
 use Rattle.bw_start.specs.declared.resting.Settings.{Settings}
-use Rattle.bw_left.specs.RestingCalls.{RestsHonestly}
+use Rattle.bw_left.specs.RestingCalls.{RestsHonestly, HasNoForeignFile}
 use Rattle.bw_left.specs.RestingFolders.{WasStartedResting, IsLeftResting}
 
 module _ {D E F H : Type 0} (G : DiskGhosts D F) (K : DiskGhosts E H)
@@ -27,6 +26,5 @@ module _ {D E F H : Type 0} (G : DiskGhosts D F) (K : DiskGhosts E H)
       WasStartedResting G K S J R settings folder notes takes s →
       IsLeftResting settings.limit folder first book notes takes →
       IsTrue (S.honest (server_store s)) → IsTrue (R.honest (server_journal s)) →
-      ((name bytes : List ℕ) → (log_of book name).done ≡ 0 → first name ≡ Some bytes →
-      begins_take bytes ≡ false) →
+      HasNoForeignFile first book →
       RestsHonestly S R first s (cut_book book)

@@ -1,27 +1,39 @@
 -- What a stop asks of a server whose names rest, between the calls that it makes of bw_session.
-use Rattle.std.specs.Prelude.{◌≡◌, ◌⊎◌, ℕ, true, false, Option, None, Some, IsSome, IsTrue, List, map}
-use Rattle.bw_model.specs.Wire.{Message, Says, is_name}
+use Rattle.std.specs.Prelude.{◌≡◌, ◌⊎◌, ◌<◌, ◌^◌, ℕ, true, false, Option, None, Some, IsSome, IsTrue, List}
+use Rattle.bw_model.specs.Wire.{Frame, Message, Says, is_name}
+use Rattle.bw_model.specs.Replies.{Reply}
 use Rattle.bw_model.specs.Book.{Book, log_of}
 use Rattle.bw_store.specs.declared.store.TakeStore.{Ghosts as StoreGhosts}
+use Rattle.bw_journal.specs.Standing.{Standing, AtRest, AtBoth}
 use Rattle.bw_journal.specs.declared.journal.Journal.{Ghosts as JournalGhosts}
-use Rattle.bw_wire.specs.declared.reply.Reply.{Reply}
-use Rattle.bw_wire.specs.Replies.{reply_of}
 use Rattle.bw_session.specs.Books.{OrdersBook}
-use Rattle.bw_session.specs.RestingNames.{RestsNow, WakesNow, KeepsNames}
+use Rattle.bw_session.specs.RestFaults.{may_wake}
 use Rattle.bw_session.specs.ServerTurns.{ServerTurn}
 use Rattle.bw_session.specs.declared.server.Server.{Server}
 use Rattle.bw_session.specs.SeenServers.{server_store, server_journal, server_limit, session_kept}
 use Rattle.bw_rest.specs.Folders.{HoldsFolder}
-use Rattle.bw_rest.specs.Resting.{FolderTurn, HasPlace, NoneMayRest}
+use Rattle.bw_rest.specs.RestCalls.{WasCalled}
+use Rattle.bw_rest.specs.Resting.{FolderTurn, RestingTurn, HasPlace, NoneMayRest}
 use Rattle.bw_start.specs.Names.{begins_take}
 use Rattle.bw_left.specs.LeftFolders.{EachIsInOrder, IsOwnFolder}
 use Rattle.bw_left.specs.RestingStops.{RestsApart}
-use Rattle.bw_left.specs.StoppedTurns.{HadTurn}
+
+-- no file that begins as a server's existed at first under a name of which no number is done
+abbrev pub HasNoForeignFile : (List ℕ → Option (List ℕ)) → Book → Type 0
+HasNoForeignFile first book = (name bytes : List ℕ) → (log_of book name).done ≡ 0 →
+    first name ≡ Some bytes → begins_take bytes ≡ false
+
+-- A journal that stands at its place of rest stands there alone, and its name may wake by it.
+pub record MayStandThere (limit : ℕ) (name : List ℕ) (standing : Standing) (noted : Option (List ℕ)) :
+    Type 0 where
+  pub alone : standing ≡ AtBoth → ⊥
+  pub fit : standing ≡ AtRest → IsSome noted → IsTrue (may_wake limit name noted)
 
 module _ {X Y : Type 0} (S : StoreGhosts X) (J : JournalGhosts Y) where
   -- The server holds a book of its folder over an honest store, and an honest journal has what the book
   -- says, in the order that each call keeps; what is noted is of names, and what rests is apart. No file
-  -- that begins as this server's existed under a name of which nothing is done.
+  -- that begins as this server's existed under a name of which nothing is done. What stands at its place
+  -- of rest may wake.
   pub record RestsHonestly (first : List ℕ → Option (List ℕ)) (s : Server X Y S J) (book : Book) :
       Type 0 where
     pub honest : IsTrue (S.honest (server_store s))
@@ -29,9 +41,11 @@ module _ {X Y : Type 0} (S : StoreGhosts X) (J : JournalGhosts Y) where
     pub held : HoldsFolder S J first s book
     pub order : OrdersBook S J first s
     pub names : (name : List ℕ) → IsSome (J.notes (server_journal s) name) → IsTrue (is_name name)
-    pub foreign : (name bytes : List ℕ) → (log_of book name).done ≡ 0 → first name ≡ Some bytes →
-        begins_take bytes ≡ false
+    pub foreign : HasNoForeignFile first book
     pub apart : RestsApart S J s
+    pub small : server_limit s < 2 ^ 32
+    pub places : (name : List ℕ) → MayStandThere (server_limit s) name
+        (J.stands (server_journal s) name) (J.notes (server_journal s) name)
 
   -- Then it is as `StopsResting` asks, but for the folder.
   abbrev pub HonestServersAreInOrder : Type 0
@@ -39,11 +53,10 @@ module _ {X Y : Type 0} (S : StoreGhosts X) (J : JournalGhosts Y) where
       RestsHonestly first s book → EachIsInOrder S J first s book
       × IsOwnFolder (server_limit s) first (J.header (server_journal s)) (J.notes (server_journal s))
 
-  -- A message of a name under which nothing rests had its turn: what `turn` of bw_session states of it.
-  -- There is a place for its name, or none of the table's may rest.
+  -- A message of a name under which nothing rests had its turn. There is a place for its name, or none
+  -- of the table's may rest.
   pub record TurnsAwake (old new : Server X Y S J) (m : Message) (replies : List Reply) : Type 0 where
-    pub had : HadTurn S J old new m replies
-    pub turned : ServerTurn S J old (Says m) (map reply_of replies) new
+    pub turned : ServerTurn S J old (Says m) replies new
     pub awake : J.resting (server_journal old) m.name ≡ None
     pub place : session_kept old m.name ≡ None → HasPlace S J true old ⊎ NoneMayRest S J old
 
@@ -52,24 +65,26 @@ module _ {X Y : Type 0} (S : StoreGhosts X) (J : JournalGhosts Y) where
   TurnsKeepOrder = (first : List ℕ → Option (List ℕ)) (old new : Server X Y S J) (book : Book)
       (m : Message) (replies : List Reply) → RestsHonestly first old book →
       TurnsAwake old new m replies →
-      (t : FolderTurn S J first old new book (Says m) (map reply_of replies)) × RestsHonestly first new t.later
+      (t : FolderTurn S J first old new book (Says m) replies) × RestsHonestly first new t.later
 
-  -- so does `rest` of a name
-  abbrev pub RestsKeepOrder : Type 0
-  RestsKeepOrder = (first : List ℕ → Option (List ℕ)) (old new : Server X Y S J) (book : Book)
-      (name : List ℕ) → RestsHonestly first old book → RestsNow S J name old new →
-      J.honest (server_journal new) ≡ J.honest (server_journal old) → RestsHonestly first new book
+  -- so does each call by which names rest and wake
+  abbrev pub CallsKeepOrder : Type 0
+  CallsKeepOrder = (first : List ℕ → Option (List ℕ)) (old new : Server X Y S J) (book : Book) →
+      RestsHonestly first old book → WasCalled S J old new → RestsHonestly first new book
 
-  -- and `wake` of one that isn't in the table
-  abbrev pub WakesKeepOrder : Type 0
-  WakesKeepOrder = (first : List ℕ → Option (List ℕ)) (old new : Server X Y S J) (book : Book)
-      (name : List ℕ) → RestsHonestly first old book → IsTrue (is_name name) →
-      session_kept old name ≡ None → WakesNow S J name old new →
-      J.honest (server_journal new) ≡ J.honest (server_journal old) → RestsHonestly first new book
+  -- and so does a server whose names rest, of whatever frame
+  abbrev pub AnswersKeepOrder : Type 0
+  AnswersKeepOrder = (first : List ℕ → Option (List ℕ)) (old new : Server X Y S J) (book : Book)
+      (f : Frame) (replies : List Reply) → RestsHonestly first old book →
+      RestingTurn S J old f replies new →
+      (t : FolderTurn S J first old new book f replies) × RestsHonestly first new t.later
 
-  -- and either of them where nothing was put to rest, or woken
-  abbrev pub FailuresKeepOrder : Type 0
-  FailuresKeepOrder = (first : List ℕ → Option (List ℕ)) (old new : Server X Y S J) (book : Book) →
-      RestsHonestly first old book → KeepsNames S J old new → server_store new ≡ server_store old →
-      server_limit new ≡ server_limit old →
-      J.honest (server_journal new) ≡ J.honest (server_journal old) → RestsHonestly first new book
+  -- It stays where it is.
+  pub record StaysInFolder (old new : Server X Y S J) : Type 0 where
+    pub limit : server_limit new ≡ server_limit old
+    pub store : S.folder (server_store new) ≡ S.folder (server_store old)
+    pub journal : J.folder (server_journal new) ≡ J.folder (server_journal old)
+
+  abbrev pub AnswersStayInFolder : Type 0
+  AnswersStayInFolder = (old new : Server X Y S J) (f : Frame) (replies : List Reply) →
+      RestingTurn S J old f replies new → StaysInFolder old new

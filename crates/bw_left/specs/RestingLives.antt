@@ -16,12 +16,12 @@ use Rattle.bw_folder.specs.declared.journal.FolderJournal.{FolderJournal}
 use Rattle.bw_folder.specs.declared.resting.RestingFolderJournal.{RestingFolderJournal}
 use Rattle.bw_session.specs.declared.server.Server.{Server}
 use Rattle.bw_session.specs.SeenServers.{server_store, server_journal}
-use Rattle.bw_rest.specs.Folders.{HoldsFolder}
 use Rattle.bw_rest.specs.Resting.{RestingTurn}
 use Rattle.bw_start.specs.declared.resting.Settings.{Settings}
 use Rattle.bw_left.specs.RestingFolders.{WasStartedResting, IsLeftResting}
 use Rattle.bw_left.specs.RestingStops.{StopsResting}
-use Rattle.bw_left.specs.ShownFolders.{ShowsRestingFolder}
+use Rattle.bw_left.specs.FailedRests.{FailedRestingStart, RestingStartsFail}
+use Rattle.bw_left.specs.RestingCalls.{HasNoForeignFile}
 
 -- the number is done in the book, with this verdict
 abbrev pub IsDoneWith : (List ℕ → Option (List ℕ)) → Book → List ℕ → ℕ → Verdict → Type 0
@@ -50,18 +50,18 @@ module _ {D E F H : Type 0} (G : DiskGhosts D F) (K : DiskGhosts E H)
     pub notes : List ℕ → Option (List ℕ)
     pub takes : List ℕ → Option (List ℕ)
 
-  -- It was started with this limit over a folder, let its names rest, had turns over honest store and
-  -- journals, and stopped as `StopsResting` says, from each book that it held then.
-  pub record RanResting (limit : ℕ) (folder : List ℕ) (first notes takes : List ℕ → Option (List ℕ))
+  -- It was started with this limit over a folder, let its names rest, and had turns over honest store and
+  -- journals, after which it stopped. Starts may have failed then, one after the other, before the next.
+  pub record RanResting (limit : ℕ) (folder : List ℕ) (notes takes : List ℕ → Option (List ℕ))
       (run : RestingRun) : Type 0 where
     pub limit_is : run.settings.limit ≡ limit
     pub started : WasStartedResting G K S J R run.settings folder notes takes run.began
     pub honest : IsTrue (S.honest (server_store run.began))
     pub honest_notes : IsTrue (R.honest (server_journal run.began))
     pub went : AnswersAll (RestingTurn S R) run.began run.answered run.ended
-    pub stops : (book : Book) → HoldsFolder S R first run.ended book →
-        StopsResting G K S R first book folder run.ended
-    pub shows : ShowsRestingFolder folder (K.contents (disk_of_all (server_journal run.ended)))
+    pub failing : List (FailedRestingStart G K limit folder)
+    pub shows : RestingStartsFail G K limit folder failing
+        (K.contents (disk_of_all (server_journal run.ended)))
         (G.contents (takes_disk (server_store run.ended))) run.notes run.takes
 
   -- what is there after some runs
@@ -74,11 +74,11 @@ module _ {D E F H : Type 0} (G : DiskGhosts D F) (K : DiskGhosts E H)
   takes_after takes (run ∷ runs) = takes_after run.takes runs
 
   -- each was started over what the one before left
-  abbrev pub FollowResting : ℕ → List ℕ → (first notes takes : List ℕ → Option (List ℕ)) →
+  abbrev pub FollowResting : ℕ → List ℕ → (notes takes : List ℕ → Option (List ℕ)) →
       List RestingRun → Type 0
-  FollowResting limit folder first notes takes [] = Unit {0}
-  FollowResting limit folder first notes takes (run ∷ runs) = RanResting limit folder first notes takes run
-      × FollowResting limit folder first run.notes run.takes runs
+  FollowResting limit folder notes takes [] = Unit {0}
+  FollowResting limit folder notes takes (run ∷ runs) = RanResting limit folder notes takes run
+      × FollowResting limit folder run.notes run.takes runs
 
   -- one of them gave this verdict
   abbrev pub GaveInRuns : List RestingRun → List ℕ → ℕ → Verdict → Type 0
@@ -98,10 +98,19 @@ module _ {D E F H : Type 0} (G : DiskGhosts D F) (K : DiskGhosts E H)
     pub given : (name : List ℕ) (n : ℕ) (v : Verdict) → GaveInRuns runs name n v →
         IsDoneWith first after name n v
 
-  -- So do all, however many and wherever each is stopped.
+  -- So do all, however many and wherever each is stopped, if no file that begins as a server's existed at
+  -- first under a name of which no number is done.
   abbrev pub RestingVerdictsOutliveStops : Type 0
   RestingVerdictsOutliveStops = (limit : ℕ) (folder : List ℕ)
       (first notes takes : List ℕ → Option (List ℕ)) (book : Book) (runs : List RestingRun) →
-      limit < 2 ^ 32 → IsLeftResting limit folder first book notes takes →
-      FollowResting limit folder first notes takes runs →
+      limit < 2 ^ 32 → IsLeftResting limit folder first book notes takes → HasNoForeignFile first book →
+      FollowResting limit folder notes takes runs →
       LeavesVerdicts limit folder first notes takes book runs
+
+  -- And each stops as `StopsResting` says.
+  abbrev pub RestingRunsStopSo : Type 0
+  RestingRunsStopSo = (limit : ℕ) (folder : List ℕ) (first notes takes : List ℕ → Option (List ℕ))
+      (book : Book) (run : RestingRun) → limit < 2 ^ 32 →
+      IsLeftResting limit folder first book notes takes → HasNoForeignFile first book →
+      RanResting limit folder notes takes run →
+      (later : Book) × StopsResting G K S R first later folder run.ended

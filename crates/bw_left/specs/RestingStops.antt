@@ -48,8 +48,8 @@ module _ {X Y : Type 0} (S : StoreGhosts X) (J : JournalGhosts Y) where
 
 module _ {D E F H : Type 0} (G : DiskGhosts D F) (K : DiskGhosts E H)
     (S : StoreGhosts (FolderStore D F G)) (R : JournalGhosts (RestingFolderJournal E H K)) where
-  -- The server's store and journals are of one folder. The journal of a loose name that stands where it
-  -- rested is as it was there.
+  -- The server's store and journals are of one folder. The journal of a loose name that stands at its place
+  -- of rest is alone, and its name may wake by it.
   pub record IsOverRestingFolder (s : Server (FolderStore D F G) (RestingFolderJournal E H K) S R)
       (folder : List ℕ) : Type 0 where
     pub store : takes_folder (server_store s) ≡ folder
@@ -60,15 +60,8 @@ module _ {D E F H : Type 0} (G : DiskGhosts D F) (K : DiskGhosts E H)
         (K.contents (disk_of_all (server_journal s)) (rest_path folder name))
         (K.contents (disk_of_all (server_journal s)) (notes_path folder name))
 
-  -- A server stopped over a folder in which names rest. Who says so of one that ran:
-  -- - `honest`: each turn, by `RestingTurn` of bw_rest; `held`: a run from a book of the folder, by
-  --   `LeavesRestsFrom` there.
-  -- - `order`, `own`, `apart`: its start, by `law_resting_begins`, and each call that it makes of
-  --   bw_session, of `turn`, `rest` and `wake`, by `law_resting_calls`. `RestingTurn` of bw_rest doesn't
-  --   say which calls a turn makes.
-  -- - `over`: store and journal, which a server keeps; of loose names the journal's own calls: a name is
-  --   loose after `wake`, by which it was fit and had no other journal, or after a `rest` that failed,
-  --   until something is noted under it or it is put to rest. No relation of a server's calls says so.
+  -- A server stopped over a folder in which names rest. All of it holds of one that was started over what
+  -- an earlier one left, whatever frames it answered since: `law_resting_lives`, clause `stops`.
   pub record StopsResting (first : List ℕ → Option (List ℕ)) (book : Book) (folder : List ℕ)
       (s : Server (FolderStore D F G) (RestingFolderJournal E H K) S R) : Type 0 where
     pub honest : IsTrue (S.honest (server_store s))

@@ -3,32 +3,29 @@
 #![tactic(auto)]
 
 ghost use Rattle.bw_left.specs.ExamplesOfLeft.{CutNoteExample, WholeNoteExample};
-ghost use Rattle.bw_left.specs.ExamplesOfRest.{RestingFolderExample};
 ghost use Rattle.bw_left.specs.ExamplesOfStops.{StoppedTurnExample};
+ghost use Rattle.bw_left.specs.FailedRests.{FailedRestingStartsLeaveBooks};
 ghost use Rattle.bw_left.specs.FailedStarts.{FailedStartsLeaveBooks, FailedStartsLoseNothing};
 ghost use Rattle.bw_left.specs.KilledFolders.{KilledFoldersAreLeft};
 ghost use Rattle.bw_left.specs.LeftFolders.{CutAnswersAreNotLeft, CutBooksAreQuiet};
-ghost use Rattle.bw_left.specs.LeftFolders.{LaterBooksForgetNothing};
-ghost use Rattle.bw_left.specs.LeftFolders.{LeftNamesAreInFolders, OrderedServersAreLeft};
-ghost use Rattle.bw_left.specs.LeftFolders.{QuietServersAreLeft};
-ghost use Rattle.bw_left.specs.NewFolders.{EmptyFoldersAreNew, NewFoldersAreLeft};
-ghost use Rattle.bw_left.specs.NewFolders.{FoldersWithoutRestAreLeft};
-ghost use Rattle.bw_left.specs.RestingBeginnings.{RestingStartsAreHonest};
-ghost use Rattle.bw_left.specs.RestingCalls.{FailuresKeepOrder, HonestServersAreInOrder};
-ghost use Rattle.bw_left.specs.RestingCalls.{RestsKeepOrder, TurnsKeepOrder, WakesKeepOrder};
-ghost use Rattle.bw_left.specs.RestingFolders.{RestingStartsHoldFolders};
-ghost use Rattle.bw_left.specs.RestingLives.{RestingVerdictsOutliveStops};
-ghost use Rattle.bw_left.specs.RestingStops.{LeftNamesMayWake, RestingServersAreLeft};
-ghost use Rattle.bw_left.specs.ServedWorlds.{TurnsAreOfWorlds, DeathsAreSteps, StopsAreSteps};
-ghost use Rattle.bw_left.specs.ServedWorlds.{StartsAreSteps};
+ghost use Rattle.bw_left.specs.LeftFolders.{LaterBooksForgetNothing, LeftNamesAreInFolders};
+ghost use Rattle.bw_left.specs.LeftFolders.{OrderedServersAreLeft, QuietServersAreLeft};
+ghost use Rattle.bw_left.specs.ServedWorlds.{DeathsAreSteps, StartsAreSteps, StopsAreSteps};
+ghost use Rattle.bw_left.specs.ServedWorlds.{TurnsAreOfWorlds};
 ghost use Rattle.bw_left.specs.StoppedLives.{VerdictsOutliveStops};
 ghost use Rattle.bw_left.specs.StoppedTurns.{KilledServersAreLeft, StoppedTurnsAreLeft};
 ghost use Rattle.bw_left.specs.StoppedWorlds.{StoppedWorldsAreFaithful};
 
+mod resting;
+
 use bw_disk::Volume;
-use bw_folder::{FolderJournal, FolderStore, RestingFolderJournal};
+use bw_folder::{FolderJournal, FolderStore};
 use bw_journal::Journal;
 use bw_store::TakeStore;
+pub use resting::{
+    examples_of_rest, law_new_folders, law_resting_begins, law_resting_calls, law_resting_lives,
+    law_resting_starts, law_resting_stops,
+};
 
 /// Wherever a server is stopped, what its relations say of its store and its journal is what `start`
 /// of `bw_start` takes as its premise: between turns that met no failure of its very book; within a
@@ -69,8 +66,8 @@ pub fn law_lives()
 {}
 
 /// Whatever is lost, repeated or reordered between a sender and servers that follow one another, and
-/// whenever a server stops, within a turn too, however often: the sender counts only what the take has, and each
-/// verdict that was ever written stays that of a done number.
+/// whenever a server stops, within a turn too, however often: the sender counts only what the take has,
+/// and each verdict that was ever written stays that of a done number.
 pub fn law_stopped_worlds()
     ensures { StoppedWorldsAreFaithful }
 {}
@@ -91,64 +88,13 @@ pub fn law_served_worlds<D: Volume, E: Volume>()
 
 /// A start that fails, in whichever call, leaves the very book that the last server left: so however
 /// many starts fail one after the other over a folder, the next one takes that book over, and the
-/// server that starts in the end holds each of its done numbers, with its verdict.
+/// server that starts in the end holds each of its done numbers, with its verdict. So it is of a folder in
+/// which names rest.
 pub fn law_failed_starts<D: Volume, E: Volume>()
     ensures books { FailedStartsLeaveBooks D.Disk E.Disk }
     ensures server { FailedStartsLoseNothing D.Disk E.Disk ⟦<FolderStore<D> as TakeStore>⟧
         ⟦<FolderJournal<E> as Journal>⟧ }
-{}
-
-/// A server that is started over a folder in which names rest, and lets them rest, over honest disks,
-/// holds with what rests the book of the folder: from every book that an earlier one may have left
-/// there.
-pub fn law_resting_starts<D: Volume, E: Volume>()
-    ensures { RestingStartsHoldFolders D.Disk E.Disk ⟦<FolderStore<D> as TakeStore>⟧
-        ⟦<FolderJournal<E> as Journal>⟧ ⟦<RestingFolderJournal<E> as Journal>⟧ }
-{}
-
-/// A server whose names rest leaves, wherever it is stopped, a folder that the next one takes over, by
-/// `law_resting_starts`: from its book, or from one in which numbers that waited are done. What is asked
-/// of the server is in `StopsResting`, with who says it. In such a folder each name that rests has no
-/// other journal, so that none stands in the next server's way, and may wake.
-pub fn law_resting_stops<D: Volume, E: Volume>()
-    ensures left { RestingServersAreLeft D.Disk E.Disk ⟦<FolderStore<D> as TakeStore>⟧
-        ⟦<RestingFolderJournal<E> as Journal>⟧ }
-    ensures wake { LeftNamesMayWake }
-{}
-
-/// What is asked of it, but for its folder, holds when it begins over what an earlier one left, with
-/// honest disks, if no file that begins as this server's existed at first under a name of which no
-/// number is done.
-pub fn law_resting_begins<D: Volume, E: Volume>()
-    ensures { RestingStartsAreHonest D.Disk E.Disk ⟦<FolderStore<D> as TakeStore>⟧
-        ⟦<FolderJournal<E> as Journal>⟧ ⟦<RestingFolderJournal<E> as Journal>⟧ }
-{}
-
-/// And each call that it makes keeps it: the turn of a message under whose name nothing rests, and the
-/// rest and the waking of a name, done or not.
-pub fn law_resting_calls<S: TakeStore, J: Journal>()
-    ensures asked { HonestServersAreInOrder S.TakeStore J.Journal }
-    ensures turn { TurnsKeepOrder S.TakeStore J.Journal }
-    ensures rest { RestsKeepOrder S.TakeStore J.Journal }
-    ensures wake { WakesKeepOrder S.TakeStore J.Journal }
-    ensures failed { FailuresKeepOrder S.TakeStore J.Journal }
-{}
-
-/// A folder in which no server has run is as one left it to which no message came, whether names may
-/// rest or not: so a first start asks for no earlier server. And what a server left that let no names
-/// rest is what one takes over that lets them rest.
-pub fn law_new_folders()
-    ensures new { NewFoldersAreLeft }
-    ensures empty { EmptyFoldersAreNew }
-    ensures without_rest { FoldersWithoutRestAreLeft }
-{}
-
-/// Servers whose names rest follow one another over a folder, each stopped wherever it was, over honest
-/// stores and journals: every verdict that any of them gave is that of a number that is done in the
-/// last book.
-pub fn law_resting_lives<D: Volume, E: Volume>()
-    ensures { RestingVerdictsOutliveStops D.Disk E.Disk ⟦<FolderStore<D> as TakeStore>⟧
-        ⟦<FolderJournal<E> as Journal>⟧ ⟦<RestingFolderJournal<E> as Journal>⟧ }
+    ensures resting { FailedRestingStartsLeaveBooks D.Disk E.Disk }
 {}
 
 /// Worked rows: a server that is killed while it notes a BLOCK, in the middle of the entry and at its
@@ -161,9 +107,4 @@ pub fn examples_of_left()
 /// A worked row: a server that stops in the turn of an OPEN, and the next one.
 pub fn examples_of_stops()
     ensures { StoppedTurnExample }
-{}
-
-/// A worked row: what is left of a folder in which one name rests and one take is open.
-pub fn examples_of_rest()
-    ensures { RestingFolderExample }
 {}

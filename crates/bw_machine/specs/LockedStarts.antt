@@ -23,24 +23,24 @@ refusal_by locks.Running = refusals.Running
 refusal_by (locks.Unusable error) = refusals.Unusable error
 refusal_by locks.Memory = refusals.Memory
 
--- the lines of a folder's fault are told, or that memory was refused for them
-abbrev pub TellsFault : List ℕ → FolderFault → StartRefusal → Type 0
-TellsFault folder fault (refusals.Unfit lines) = lines.items ≡ folder_fault_lines folder fault
-TellsFault folder fault refusals.Running = ⊥
-TellsFault folder fault (refusals.Unusable error) = ⊥
-TellsFault folder fault refusals.Device = ⊥
-TellsFault folder fault refusals.Memory = Unit {0}
+-- the lines of a folder's fault, or that memory was refused for them
+abbrev pub IsFaultText : List ℕ → FolderFault → StartRefusal → Type 0
+IsFaultText folder fault (refusals.Unfit lines) = lines.items ≡ folder_fault_lines folder fault
+IsFaultText folder fault refusals.Running = ⊥
+IsFaultText folder fault (refusals.Unusable error) = ⊥
+IsFaultText folder fault refusals.Device = ⊥
+IsFaultText folder fault refusals.Memory = Unit {0}
 
 -- why a server isn't started over a folder that has this fault
 abbrev pub IsFolderRefusal : List ℕ → FolderFault → StartRefusal → Type 0
 IsFolderRefusal folder (Start Disk) refusal = refusal ≡ refusals.Device
 IsFolderRefusal folder (Start Memory) refusal = refusal ≡ refusals.Memory
 IsFolderRefusal folder (Start (Refused names)) refusal =
-    TellsFault folder (Start (Refused names)) refusal
+    IsFaultText folder (Start (Refused names)) refusal
 IsFolderRefusal folder (Start (TooMany count)) refusal =
-    TellsFault folder (Start (TooMany count)) refusal
-IsFolderRefusal folder (Rests names) refusal = TellsFault folder (Rests names) refusal
-IsFolderRefusal folder (Twice names) refusal = TellsFault folder (Twice names) refusal
+    IsFaultText folder (Start (TooMany count)) refusal
+IsFolderRefusal folder (Rests names) refusal = IsFaultText folder (Rests names) refusal
+IsFolderRefusal folder (Twice names) refusal = IsFaultText folder (Twice names) refusal
 
 module _ {D E F H : Type 0} (G : DiskGhosts D F) (K : DiskGhosts E H) where
   -- honest disks show why no server starts over the folder with these settings

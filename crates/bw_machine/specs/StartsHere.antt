@@ -34,8 +34,9 @@ module _ {D F : Type 0} (G : DiskGhosts D F) where
       (takes : D) × (notes : D) × IsRefusalBy G G settings folder takes notes refusal
   IsRefusedHere (Err why) settings folder refusal = refusal ≡ refusal_by why
 
-  -- A server with these settings is started over a folder as two disks of this machine show it, and
-  -- the folder is locked from then on; or none is, and no folder more is locked.
+  -- A server with these settings is started over a folder as two disks of this machine show it, and a
+  -- lock is kept from then on (that it is the folder's, `start_locked` says); or none is started, and no
+  -- lock more is kept.
   pub record StartsHere {S : StoreGhosts (FolderStore D F G)} {J : JournalGhosts (FolderJournal D F G)}
       (settings : Settings) (folder : List ℕ)
       (result : Result (Server (FolderStore D F G) (FolderJournal D F G) S J) StartRefusal)

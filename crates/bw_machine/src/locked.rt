@@ -2,7 +2,7 @@
 ghost use Rattle.std.specs.Prelude.{◌≡◌, IfOk, MatchResult, Result};
 ghost use Rattle.bw_lock.specs.declared.folder_locks.LockRefusal.{LockRefusal as Refusal};
 ghost use Rattle.bw_machine.specs.LockedStarts.{IsFolderRefusal, RefusesUnder, StartsUnder};
-ghost use Rattle.bw_machine.specs.LockedStarts.{TellsFault, refusal_by};
+ghost use Rattle.bw_machine.specs.LockedStarts.{IsFaultText, refusal_by};
 ghost use Rattle.bw_start.specs.Started.{IsSetTo};
 
 use bw_disk::Volume;
@@ -82,7 +82,7 @@ fn refusal_of(alloc: Global, folder: &str, fault: &FolderFault) -> StartRefusal
 
 /// The lines of a fault, or that memory was refused for them.
 fn unfit(alloc: Global, folder: &str, fault: &FolderFault) -> StartRefusal
-    ensures { TellsFault folder.now fault.now result }
+    ensures { IsFaultText folder.now fault.now result }
 {
     match fault.lines(alloc, folder) {
         Ok(lines) => StartRefusal::Unfit(lines),

@@ -29,22 +29,10 @@ pub reported-memory : (kind : TextKind) (reported : Print) →
     IsReportedBy (Err faults.Memory) reported →
     IsReporting kind
     (record { reads_all = true; out = Nothing; faults = reported; exit = exits.Memory })
-reported-memory texts.DisplayHelp reported t = record {
-  outcome = Err faults.Memory;
-  exit_is = refl;
-  reads = refl;
-  text = [];
-  prints = refl;
-  reports = t;
-}
-reported-memory texts.DisplayVersion reported t = record {
-  outcome = Err faults.Memory;
-  exit_is = refl;
-  reads = refl;
-  text = [];
-  prints = refl;
-  reports = t;
-}
+reported-memory texts.DisplayHelp reported t =
+    record { outcome = Err faults.Memory; exit_is = refl; reads = refl; text = []; prints = refl; reports = t }
+reported-memory texts.DisplayVersion reported t =
+    record { outcome = Err faults.Memory; exit_is = refl; reads = refl; text = []; prints = refl; reports = t }
 reported-memory _ reported t =
     inr (record { exit_is = refl; reads = refl; prints = refl; reports = t })
 
@@ -129,13 +117,8 @@ module _ {S T F H G M SB SL Ed LK DK DF N X Y Z P R W L K SP SK D A B U J Q I O 
           is_asked exit failed (record x { system = system }) x' →
           DoesAlone host server_side sender_side upload_side network listener_setup starts
           is_asked exit failed x x'
-      alone done = record {
-        does = done.does;
-        unused = done.unused;
-        unread = done.unread;
-        unpaused = done.unpaused;
-        kept = done.kept;
-      }
+      alone done =
+          record { does = done.does; unused = done.unused; unread = done.unread; unpaused = done.unpaused; kept = done.kept }
 
       done_for : (line : CommandLine) →
           IsDoneFor host server_side sender_side upload_side network listener_setup starts

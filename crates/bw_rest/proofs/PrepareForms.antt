@@ -24,7 +24,7 @@ use Rattle.bw_session.specs.declared.server.Server.{Server}
 use Rattle.bw_session.proofs.ServerForms.{apart_names, unknown_here}
 use Rattle.bw_rest.specs.Folders.{HoldsFolder}
 use Rattle.bw_rest.specs.Folding.{name_of_frame, delay_of, ServesFrame}
-use Rattle.bw_rest.specs.RestCalls.{KeepsStore, KeepsPlaces, KeepsOtherPlaces, WasToRest, WasWoken, WasLeft, WasCalled}
+use Rattle.bw_rest.specs.RestCalls.{KeepsStore, NoneMovesToRest, OnlyMovesToRest, WasToRest, WasWoken, WasLeft, WasCalled}
 use Rattle.bw_rest.specs.RestCalls.{WereCalled}
 use Rattle.bw_rest.specs.Resting.{KeepsFolders, StaysOutside, NoneMayRest, HasPlace, IsAwake, FolderTurn, PutsOff, RestingTurn}
 use Rattle.bw_rest.proofs.FolderForms.{never, folder_kept, rests_outside}
@@ -105,7 +105,7 @@ module _ {X Y : Type 0} (S : StoreGhosts X) (J : JournalGhosts Y) where
   }
 
   -- a call by which each name kept what it had: nothing was to rest
-  pub keeps_names : (failed : Bool) (old new : Server X Y S J) → KeepsStore S J old new → KeepsPlaces S J old new →
+  pub keeps_names : (failed : Bool) (old new : Server X Y S J) → KeepsStore S J old new → NoneMovesToRest S J old new →
       Counts (J.failures old.stores.journal) (J.failures new.stores.journal) failed → KeepsNames S J old new →
       KeepsFolders S J failed old new
   keeps_names failed old new keeps places count kept =
@@ -114,7 +114,7 @@ module _ {X Y : Type 0} (S : StoreGhosts X) (J : JournalGhosts Y) where
 
   -- or a name was that may rest
   pub keeps_awake : (failed : Bool) (old new : Server X Y S J) (name : List ℕ) → IsTrue (is_restable_in old.sessions name) →
-      KeepsStore S J old new → KeepsOtherPlaces S J name old new →
+      KeepsStore S J old new → OnlyMovesToRest S J name old new →
       Counts (J.failures old.stores.journal) (J.failures new.stores.journal) failed → KeepsNames S J old new →
       KeepsFolders S J failed old new
   keeps_awake failed old new name ready keeps places count kept =
@@ -122,7 +122,7 @@ module _ {X Y : Type 0} (S : StoreGhosts X) (J : JournalGhosts Y) where
       (one_call old new keeps (inl (name, record { ready = ready; places = places; rested = inr kept })))
 
   pub keeps_rest : (failed : Bool) (old new : Server X Y S J) (name : List ℕ) → KeepsStore S J old new →
-      KeepsOtherPlaces S J name old new →
+      OnlyMovesToRest S J name old new →
       Counts (J.failures old.stores.journal) (J.failures new.stores.journal) failed → RestsNow S J name old new →
       KeepsFolders S J failed old new
   keeps_rest failed old new name keeps places count r = record {
@@ -138,7 +138,7 @@ module _ {X Y : Type 0} (S : StoreGhosts X) (J : JournalGhosts Y) where
   }
 
   pub keeps_wake : (failed : Bool) (old new : Server X Y S J) (name : List ℕ) → IsTrue (is_name name) →
-      session_in old.sessions name ≡ None → KeepsStore S J old new → KeepsOtherPlaces S J name old new →
+      session_in old.sessions name ≡ None → KeepsStore S J old new → OnlyMovesToRest S J name old new →
       Counts (J.failures old.stores.journal) (J.failures new.stores.journal) failed → WakesNow S J name old new →
       KeepsFolders S J failed old new
   keeps_wake failed old new name named fresh keeps places count w = record {

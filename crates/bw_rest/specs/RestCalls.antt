@@ -17,33 +17,33 @@ module _ {X Y : Type 0} (S : StoreGhosts X) (J : JournalGhosts Y) where
     pub folder : J.folder (server_journal new) ≡ J.folder (server_journal old)
 
   -- no journal stands at its place of rest that didn't before
-  abbrev pub KeepsPlaces : Server X Y S J → Server X Y S J → Type 0
-  KeepsPlaces old new = IsTrue (J.honest (server_journal old)) → KeepsStanding
+  abbrev pub NoneMovesToRest : Server X Y S J → Server X Y S J → Type 0
+  NoneMovesToRest old new = IsTrue (J.honest (server_journal old)) → KeepsStanding
       (J.stands (server_journal old)) (J.stands (server_journal new))
       (J.notes (server_journal old)) (J.notes (server_journal new))
 
   -- none but this name's
-  abbrev pub KeepsOtherPlaces : List ℕ → Server X Y S J → Server X Y S J → Type 0
-  KeepsOtherPlaces name old new = IsTrue (J.honest (server_journal old)) → MayStandAtRest name
+  abbrev pub OnlyMovesToRest : List ℕ → Server X Y S J → Server X Y S J → Type 0
+  OnlyMovesToRest name old new = IsTrue (J.honest (server_journal old)) → MayStandAtRest name
       (J.stands (server_journal old)) (J.stands (server_journal new))
       (J.notes (server_journal old)) (J.notes (server_journal new))
 
   -- `rest` of a name that may rest: it does, or each name has what it had.
   pub record WasToRest (name : List ℕ) (old new : Server X Y S J) : Type 0 where
     pub ready : IsTrue (restable_kept old name)
-    pub places : KeepsOtherPlaces name old new
+    pub places : OnlyMovesToRest name old new
     pub rested : RestsNow S J name old new ⊎ KeepsNames S J old new
 
   -- `wake` of a name that wasn't in the table: it is now.
   pub record WasWoken (name : List ℕ) (old new : Server X Y S J) : Type 0 where
     pub named : IsTrue (is_name name)
     pub fresh : session_kept old name ≡ None
-    pub places : KeepsOtherPlaces name old new
+    pub places : OnlyMovesToRest name old new
     pub woke : WakesNow S J name old new
 
   -- `rests`, or `wake` of a name that didn't wake: each name has what it had.
   pub record WasLeft (old new : Server X Y S J) : Type 0 where
-    pub places : KeepsPlaces old new
+    pub places : NoneMovesToRest old new
     pub names : KeepsNames S J old new
 
   -- one of these calls

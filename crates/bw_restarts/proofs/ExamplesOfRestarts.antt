@@ -1,7 +1,7 @@
 -- The worked row computes.
-use Rattle.std.proofs.Common.{◌≡◌, ℕ, suc, zero, ◌<◌, Bool, false, cond, List, [], ◌∷◌, ◌++◌, Some, None, refl}
-use Rattle.std.proofs.Common.{sym, ◌∙◌, ap, subst, arith, ◌⊎◌, inl, inr}
-use Rattle.std.specs.Prelude.{◌==◌, map, filter}
+use Rattle.std.proofs.Common.{◌≡◌, ℕ, suc, zero, ◌<◌, false, List, [], ◌∷◌, ◌++◌, Some, None, refl}
+use Rattle.std.proofs.Common.{sym, subst, arith, ◌⊎◌, inl, inr}
+use Rattle.std.specs.Prelude.{◌==◌}
 use Rattle.std.specs.List.{AllByRecursion, Contains}
 use Rattle.std.proofs.lemmas.Bool.{cases_eq, ne_eqb}
 use Rattle.bw_model.proofs.Computing.{computing}
@@ -168,7 +168,7 @@ heard (suc (suc zero)) below =
 heard (suc (suc (suc n))) below = absurd (omega arith)
 
 begins : GoesOnFrom a1 [] []
-begins = record { done = refl; admitted = λ n r e. e }
+begins = record { done = omega arith; admitted = λ n r e. e }
 
 pub stopped : StoppedServerExample
 unfolding computing

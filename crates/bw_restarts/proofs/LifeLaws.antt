@@ -1,25 +1,24 @@
 -- What servers that follow one another leave of a name.
-use Rattle.std.proofs.Common.{◌≡◌, ℕ, suc, zero, ◌<◌, ◌≤◌, ◌⊎◌, Bool, List, [], ◌∷◌, length, take, Option, Some, None, refl}
+use Rattle.std.proofs.Common.{◌≡◌, ℕ, suc, zero, ◌<◌, ◌⊎◌, Bool, List, [], ◌∷◌, length, Some, None, refl}
 use Rattle.std.proofs.Common.{sym, ◌∙◌, ap, subst, arith, inl, inr}
-use Rattle.std.specs.Prelude.{fold}
 use Rattle.std.specs.List.{Contains}
-use Rattle.std.proofs.lemmas.List.{take_all}
 use Rattle.std.proofs.lemmas.List.Elements.{Contains-append_cases}
 use Rattle.bw_model.specs.Bytes.{at}
-use Rattle.bw_model.specs.Take.{Request, Verdict, Stored, new_take}
-use Rattle.bw_model.specs.Book.{Log, Book, log_of, made, made_by, step, verdict_at, verdict_by}
+use Rattle.bw_model.specs.Take.{Request, Verdict, Stored}
+use Rattle.bw_model.specs.Book.{Log, Book, log_of, made_by, verdict_at}
+use Rattle.bw_model.specs.Exchange.{take_in}
 use Rattle.bw_model.proofs.TrueReplies.{IsSound, Grows}
-use Rattle.bw_model.specs.BookRules.{IsBook}
-use Rattle.bw_model.proofs.BookLaws.{is_servable}
-use Rattle.bw_model.proofs.MapLemmas.{at-first_free}
-use Rattle.bw_journal.proofs.CutLaws.{logs_cut}
-use Rattle.bw_delivery.specs.Deliveries.{HasOnly, HeardOverLinks}
-use Rattle.bw_delivery.proofs.DeliveryLaws.{delivery_step, deliveries_true, grows_on, had_sound}
+use Rattle.bw_journal.proofs.CutLaws.{at-take_some, logs_cut}
+use Rattle.bw_delivery.specs.Deliveries.{LinkBytes, IsDelivered, IsDelivery, HeardOverLinks}
+use Rattle.bw_delivery.specs.RestingDeliveries.{IsRestingDelivery}
+use Rattle.bw_delivery.proofs.DeliveryLaws.{grows_on}
+use Rattle.bw_delivery.proofs.KeptLives.{KeepsLife, goes_on, life_kept, resting_life_kept}
 use Rattle.bw_delivery.proofs.WholeTakes.{all_made}
-use Rattle.bw_delivery.proofs.DoneRequests.{AreFirst, first_prefix, sound_first, within_requests, prefix_of_requests}
+use Rattle.bw_delivery.proofs.DoneRequests.{within_requests, prefix_of_requests}
 use Rattle.bw_delivery.proofs.DoneRequests.{made_of_requests}
-use Rattle.bw_restarts.specs.Restarts.{ServerLife, GoesOnFrom, AreLives, HeardInLives, LivesDeliver}
-use Rattle.bw_restarts.specs.Restarts.{CutBooksGoOn, StoredLivesAreWhole}
+use Rattle.bw_restarts.specs.Restarts.{ServerLife, AreLivesBy, AreLives, AreRestingLives, HeardInLives}
+use Rattle.bw_restarts.specs.Restarts.{LivesDeliver, RestingLivesDeliver, CutBooksGoOn, EachStoredInLives}
+use Rattle.bw_restarts.specs.Restarts.{StoredLivesAreWhole, StoredRestingLivesAreWhole}
 
 -- what lives leave of a sound log
 pub record KeepsLog (taken : Bool) (name : List ℕ) (requests : List Request) (lives : List ServerLife)
@@ -29,41 +28,14 @@ pub record KeepsLog (taken : Bool) (name : List ℕ) (requests : List Request) (
   pub heard : (n : ℕ) (v : Verdict) → HeardInLives lives name n v →
       (n < new.done) × (v ≡ verdict_at taken new.admitted n)
 
--- logs whose first requests are the same give the same verdicts
-same_verdict : (taken : Bool) (requests : List Request) (s t : List (Option Request)) (done : ℕ) →
-    AreFirst requests s done → AreFirst requests t done → (n : ℕ) → n < done →
-    verdict_at taken s n ≡ verdict_at taken t n
-unfolding made
-same_verdict taken requests s t done first second n below =
-    let x = first n below in
-    let y = second n below in
-    let upto : take n s ≡ take n t =
-    first_prefix requests s n (λ k b. first k (omega (arith, b, below)))
-    ∙ sym (first_prefix requests t n (λ k b. second k (omega (arith, b, below)))) in
-    ap (λ (os : List (Option Request)). verdict_by (fold step (new_take taken) os) (at s n)) upto
-    ∙ ap (verdict_by (fold step (new_take taken) (take n t))) (x.1 ∙ ap Some (some_inj (sym x.2 ∙ y.2)) ∙ sym y.1)
-  where
-    some_inj : {X : Type 0} {x y : X} → Some x ≡ Some y → x ≡ y
-    some_inj e = cc
-
--- the next server's log is as sound, and has the same verdicts
-goes_on_grows : (taken : Bool) (requests : List Request) (name : List ℕ) (left began : Book) → GoesOnFrom name left began →
-    IsSound requests (log_of left name) → IsSound requests (log_of began name) →
-    Grows taken (log_of left name) (log_of began name)
-goes_on_grows taken requests name left began g sound next =
-    let d = g.done in
-    record {
-      done = omega (arith, d);
-      verdicts = λ n below. same_verdict taken requests (log_of began name).admitted (log_of left name).admitted
-          (log_of left name).done
-          (λ k b. sound_first requests (log_of began name) next k (omega (arith, b, d)))
-          (sound_first requests (log_of left name) sound) n below;
-    }
-
-pub lives_keep : (existed : List ℕ → Bool) (name : List ℕ) (requests : List Request) (lives : List ServerLife)
-    (before after : Book) → AreLives existed name requests before lives after → IsSound requests (log_of before name) →
+pub lives_keep : (existed : List ℕ → Bool) (name : List ℕ) (requests : List Request)
+    (Delivers : List (ℕ × LinkBytes) → Book → Book → Type 0) →
+    ((links : List (ℕ × LinkBytes)) (began left : Book) → Delivers links began left →
+    KeepsLife existed name requests links (log_of began name) (log_of left name)) →
+    (lives : List ServerLife) (before after : Book) → AreLivesBy Delivers name before lives after →
+    IsSound requests (log_of before name) →
     KeepsLog (existed name) name requests lives (log_of before name) (log_of after name)
-lives_keep existed name requests [] before after went sound =
+lives_keep existed name requests Delivers keeps [] before after went sound =
     subst (λ (z : Book). KeepsLog (existed name) name requests [] (log_of before name) (log_of z name)) (sym went) (record {
       sound = sound;
       grows = record { done = omega arith; verdicts = λ n h. refl };
@@ -72,21 +44,18 @@ lives_keep existed name requests [] before after went sound =
   where
     none : {X : Type 0} {x : X} → Contains [] x → ⊥
     none (k, below, e) = omega arith
-lives_keep existed name requests (life ∷ lives) before after went sound =
+lives_keep existed name requests Delivers keeps (life ∷ lives) before after went sound =
     let taken : Bool = existed name in
     let old : Log = log_of before name in
     let began : Log = log_of life.began name in
     let left : Log = log_of life.left name in
     let new : Log = log_of after name in
-    let next = had_sound requests life.began name went.1.is_book went.1.had in
-    let kept = delivery_step existed name requests life.links life.began life.left went.1 in
-    let told = deliveries_true existed name requests life.links life.began life.left went.1 in
-    let more = lives_keep existed name requests lives life.left after went.2 kept.sound in
+    let kept = keeps life.links life.began life.left went.1 in
+    let more = lives_keep existed name requests Delivers keeps lives life.left after went.2 kept.sound in
     record {
       sound = more.sound;
-      grows = grows_on taken old began new (goes_on_grows taken requests name before life.began went.0 sound next)
-          (grows_on taken began left new kept.grows more.grows);
-      heard = λ n v (l, has, h). by_life told.verdicts more.grows more.heard n v l
+      grows = grows_on taken old began new (goes_on taken requests old began went.0.done sound kept.began_sound) (grows_on taken began left new kept.grows more.grows);
+      heard = λ n v (l, has, h). by_life kept.heard more.grows more.heard n v l
           (Contains-append_cases (life ∷ []) lives l has) h;
     }
   where
@@ -121,11 +90,21 @@ pub lives_from_nothing : (existed : List ℕ → Bool) (name : List ℕ) (reques
     (after : Book) → AreLives existed name requests [] lives after →
     KeepsLog (existed name) name requests lives (log_of [] name) (log_of after name)
 lives_from_nothing existed name requests lives after went =
-    lives_keep existed name requests lives [] after went (empty_sound requests name)
+    lives_keep existed name requests (IsDelivery existed name requests) (life_kept existed name requests) lives [] after
+    went (empty_sound requests name)
 
-pub lives_deliver : LivesDeliver
-lives_deliver existed name requests lives after went =
-    let k = lives_from_nothing existed name requests lives after went in
+resting_from_nothing : (existed : List ℕ → Bool) (name : List ℕ) (requests : List Request) (lives : List ServerLife)
+    (after : Book) → AreRestingLives existed name requests [] lives after →
+    KeepsLog (existed name) name requests lives (log_of [] name) (log_of after name)
+resting_from_nothing existed name requests lives after went =
+    lives_keep existed name requests (IsRestingDelivery existed name requests) (resting_life_kept existed name requests)
+    lives [] after went (empty_sound requests name)
+
+-- what is kept is delivered
+kept_delivered : (existed : List ℕ → Bool) (name : List ℕ) (requests : List Request) (lives : List ServerLife)
+    (after : Book) → KeepsLog (existed name) name requests lives (log_of [] name) (log_of after name) →
+    IsDelivered existed name requests (HeardInLives lives name) (log_of after name) after
+kept_delivered existed name requests lives after k =
     let log : Log = log_of after name in
     record {
       within = within_requests requests log k.sound;
@@ -134,26 +113,35 @@ lives_deliver existed name requests lives after went =
       verdicts = k.heard;
     }
 
-pub stored_lives : StoredLivesAreWhole
-stored_lives existed name requests lives after went stored =
-    let h = lives_deliver existed name requests lives after went in
+pub lives_deliver : LivesDeliver
+lives_deliver existed name requests lives after went =
+    kept_delivered existed name requests lives after (lives_from_nothing existed name requests lives after went)
+
+pub resting_lives_deliver : RestingLivesDeliver
+resting_lives_deliver existed name requests lives after went =
+    kept_delivered existed name requests lives after (resting_from_nothing existed name requests lives after went)
+
+-- once each is heard to be stored
+delivered_whole : (existed : List ℕ → Bool) (name : List ℕ) (requests : List Request) (lives : List ServerLife)
+    (after : Book) → IsDelivered existed name requests (HeardInLives lives name) (log_of after name) after →
+    EachStoredInLives lives name requests → ((log_of after name).done ≡ length requests)
+    × (take_in (existed name) after name ≡ made_by (existed name) requests)
+delivered_whole existed name requests lives after h stored =
     all_made (existed name) name requests after h.within h.made (λ n below. (h.verdicts n Stored (stored n below)).0)
 
-at_take : (s : List (Option Request)) (k n : ℕ) (r : Request) → at (take k s) n ≡ Some r → at s n ≡ Some r
-at_take [] zero n r e = e
-at_take [] (suc k) n r e = e
-at_take (o ∷ s) zero n r e = absurd (none e)
-  where
-    none : None ≡ Some r → ⊥
-    none e = cc
-at_take (o ∷ s) (suc k) zero r e = e
-at_take (o ∷ s) (suc k) (suc n) r e = at_take s k n r e
+pub stored_lives : StoredLivesAreWhole
+stored_lives existed name requests lives after went stored =
+    delivered_whole existed name requests lives after (lives_deliver existed name requests lives after went) stored
+
+pub stored_resting_lives : StoredRestingLivesAreWhole
+stored_resting_lives existed name requests lives after went stored =
+    delivered_whole existed name requests lives after (resting_lives_deliver existed name requests lives after went) stored
 
 pub cuts_go_on : CutBooksGoOn
 cuts_go_on book name =
     let cut = logs_cut book name in
     record {
-      done = ap (λ (l : Log). l.done) cut;
-      admitted = λ n r e. at_take (log_of book name).admitted (log_of book name).done n r
+      done = (let same = ap (λ (l : Log). l.done) cut in omega (arith, same));
+      admitted = λ n r e. at-take_some (log_of book name).done n (log_of book name).admitted r
           (sym (ap (λ (l : Log). at l.admitted n) cut) ∙ e);
     }

@@ -1,5 +1,5 @@
 -- A sender's links to servers that follow one another over one folder.
-use Rattle.std.specs.Prelude.{◌≡◌, ◌<◌, ℕ, Bool, false, Option, Some, IsTrue, List, [], ◌∷◌, length}
+use Rattle.std.specs.Prelude.{◌≡◌, ◌<◌, ◌≤◌, ℕ, Bool, false, Option, Some, IsTrue, List, [], ◌∷◌, length}
 use Rattle.std.specs.List.{Contains, list_any}
 use Rattle.bw_model.specs.Bytes.{at}
 use Rattle.bw_model.specs.Take.{Request, Verdict, Stored}
@@ -12,6 +12,7 @@ use Rattle.bw_model.specs.Holds.{Store, Kept, Holds}
 use Rattle.bw_model.specs.World.{is_close}
 use Rattle.bw_journal.specs.Stops.{cut_book}
 use Rattle.bw_delivery.specs.Deliveries.{LinkBytes, IsDelivered, IsDelivery, HeardOverLinks, stands_in}
+use Rattle.bw_delivery.specs.RestingDeliveries.{IsRestingDelivery}
 
 -- A server: the book that it began from, the one that it left, and the sender's links to it.
 pub record ServerLife : Type 0 where
@@ -19,10 +20,10 @@ pub record ServerLife : Type 0 where
   pub left : Book
   pub links : List (ℕ × LinkBytes)
 
--- A server began from what an earlier one left of a name: the same numbers are done, and nothing was
--- admitted that wasn't before. What waited for its verdict may be gone.
+-- A server began from what an earlier one left of a name: what was done is done, and nothing was
+-- admitted that wasn't before. What waited for its verdict may be gone, or be done.
 pub record GoesOnFrom (name : List ℕ) (left began : Book) : Type 0 where
-  pub done : (log_of began name).done ≡ (log_of left name).done
+  pub done : (log_of left name).done ≤ (log_of began name).done
   pub admitted : (n : ℕ) (r : Request) → at (log_of began name).admitted n ≡ Some r →
       at (log_of left name).admitted n ≡ Some r
 
@@ -30,13 +31,22 @@ pub record GoesOnFrom (name : List ℕ) (left began : Book) : Type 0 where
 abbrev pub CutBooksGoOn : Type 0
 CutBooksGoOn = (book : Book) (name : List ℕ) → GoesOnFrom name book (cut_book book)
 
--- servers, one after another, to each of which the sender said its requests
+-- servers, one after another, each of which goes from one book to another over a sender's links so
+abbrev pub AreLivesBy : (List (ℕ × LinkBytes) → Book → Book → Type 0) → List ℕ → Book →
+    List ServerLife → Book → Type 0
+AreLivesBy Delivers name before [] after = after ≡ before
+AreLivesBy Delivers name before (life ∷ lives) after =
+    GoesOnFrom name before life.began × Delivers life.links life.began life.left
+    × AreLivesBy Delivers name life.left lives after
+
+-- to each of which the sender said its requests
 abbrev pub AreLives : (List ℕ → Bool) → List ℕ → List Request → Book → List ServerLife → Book → Type 0
-AreLives existed name requests before [] after = after ≡ before
-AreLives existed name requests before (life ∷ lives) after =
-    GoesOnFrom name before life.began
-    × IsDelivery existed name requests life.links life.began life.left
-    × AreLives existed name requests life.left lives after
+AreLives existed name requests = AreLivesBy (IsDelivery existed name requests) name
+
+-- the same of servers whose names rest
+abbrev pub AreRestingLives : (List ℕ → Bool) → List ℕ → List Request → Book → List ServerLife → Book →
+    Type 0
+AreRestingLives existed name requests = AreLivesBy (IsRestingDelivery existed name requests) name
 
 -- over one of the sender's links to one of them this verdict came
 abbrev pub HeardInLives : List ServerLife → List ℕ → ℕ → Verdict → Type 0
@@ -45,10 +55,18 @@ HeardInLives lives name n v =
 
 -- Under the name the done numbers are the first of the requests, the take is what they make, and
 -- each verdict that came, from whichever server, is that of a done number.
-abbrev pub LivesDeliver : Type 0
-LivesDeliver = (existed : List ℕ → Bool) (name : List ℕ) (requests : List Request)
-    (lives : List ServerLife) (after : Book) → AreLives existed name requests [] lives after →
+abbrev pub LivesDeliverBy : ((List ℕ → Bool) → List ℕ → List Request → Book → List ServerLife → Book →
+    Type 0) → Type 0
+LivesDeliverBy Lives = (existed : List ℕ → Bool) (name : List ℕ) (requests : List Request)
+    (lives : List ServerLife) (after : Book) → Lives existed name requests [] lives after →
     IsDelivered existed name requests (HeardInLives lives name) (log_of after name) after
+
+-- whether their names rest or not
+abbrev pub LivesDeliver : Type 0
+LivesDeliver = LivesDeliverBy AreLives
+
+abbrev pub RestingLivesDeliver : Type 0
+RestingLivesDeliver = LivesDeliverBy AreRestingLives
 
 -- each of these requests was heard to be stored, from whichever server
 abbrev pub EachStoredInLives : List ServerLife → List ℕ → List Request → Type 0
@@ -56,12 +74,20 @@ EachStoredInLives lives name requests = (n : ℕ) → n < length requests →
     HeardInLives lives name n Stored
 
 -- Then the take is what all of them make, each applied once in their order.
-abbrev pub StoredLivesAreWhole : Type 0
-StoredLivesAreWhole = (existed : List ℕ → Bool) (name : List ℕ) (requests : List Request)
-    (lives : List ServerLife) (after : Book) → AreLives existed name requests [] lives after →
+abbrev pub StoredLivesAreWholeBy : ((List ℕ → Bool) → List ℕ → List Request → Book → List ServerLife →
+    Book → Type 0) → Type 0
+StoredLivesAreWholeBy Lives = (existed : List ℕ → Bool) (name : List ℕ) (requests : List Request)
+    (lives : List ServerLife) (after : Book) → Lives existed name requests [] lives after →
     EachStoredInLives lives name requests →
     ((log_of after name).done ≡ length requests)
     × (take_in (existed name) after name ≡ made_by (existed name) requests)
+
+-- whether their names rest or not
+abbrev pub StoredLivesAreWhole : Type 0
+StoredLivesAreWhole = StoredLivesAreWholeBy AreLives
+
+abbrev pub StoredRestingLivesAreWhole : Type 0
+StoredRestingLivesAreWhole = StoredLivesAreWholeBy AreRestingLives
 
 -- If one of them is a CLOSE, the honest store of the last server has the file of that take, whatever
 -- turns follow.

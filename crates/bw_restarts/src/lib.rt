@@ -4,7 +4,8 @@
 
 ghost use Rattle.bw_restarts.specs.ExamplesOfRestarts.{StoppedServerExample};
 ghost use Rattle.bw_restarts.specs.Restarts.{ClosedLivesStay, CutBooksGoOn, LivesDeliver};
-ghost use Rattle.bw_restarts.specs.Restarts.{StoredLivesAreWhole};
+ghost use Rattle.bw_restarts.specs.Restarts.{RestingLivesDeliver, StoredLivesAreWhole};
+ghost use Rattle.bw_restarts.specs.Restarts.{StoredRestingLivesAreWhole};
 
 /// Servers follow one another over one folder, each from the done numbers that the one before left:
 /// whichever of them a verdict comes from, it is that of the one done number. Once each request is
@@ -15,6 +16,12 @@ pub fn law_restarts()
     ensures heard { LivesDeliver }
     ensures whole { StoredLivesAreWhole }
     ensures closed { ClosedLivesStay }
+{}
+
+/// So it is of servers whose names rest: whatever was put off, the sender counts only what the take has.
+pub fn law_restarts_at_rest()
+    ensures heard { RestingLivesDeliver }
+    ensures whole { StoredRestingLivesAreWhole }
 {}
 
 /// A worked row: a server that is stopped after two numbers, and the next one.

@@ -48,16 +48,16 @@ module _ {X Y : Type 0} (S : StoreGhosts X) (J : JournalGhosts Y) where
           let after : Journals = journals_of S J new in
           record {
             new_name = first_none old.limit store (session_in old.sessions) (session_in new.sessions) book h honest before
-                after n name s found put both.0 quiet;
+                n name s found put.new both.0 quiet;
             quiet = waits_not old.limit store (session_in old.sessions) (session_in new.sessions) book h honest before
-                after n name s found put both.0 quiet;
+                n name s found put.new both.0 quiet;
             at_rest = at_rest old.limit store (session_in old.sessions) (session_in new.sessions) book h honest before
-                after n name s found put both.0 quiet limited;
+                n name s found put.new both.0 quiet after put limited;
             held = subst (λ (l : ℕ). HoldsIn l store' (session_in new.sessions) (without name book)) (sym keeps.limit)
                 (rests_held old.limit store (session_in old.sessions) (session_in new.sessions) book h honest before
-                after n name s found put both.0 quiet store' gone keeps.others (ap S.contents keeps.store) refl);
+                n name s found put.new both.0 quiet after put store' gone keeps.others (ap S.contents keeps.store) refl);
             noted = rests_noted old.limit store (session_in old.sessions) (session_in new.sessions) book h honest before
-                after n name s found put both.0 quiet store' gone keeps.others (ap S.contents keeps.store) refl;
+                n name s found put.new both.0 quiet after put store' gone keeps.others (ap S.contents keeps.store) refl;
           }
 
       go : (o : Option Session) → session_in old.sessions name ≡ o → option_map_or is_restable o false ≡ true →

@@ -82,14 +82,14 @@ has_file t limit e = mapped t.format e
 -- A name whose take is closed, and of which nothing waits, is put to rest.
 module _ (limit : ℕ) (store : Store) (sessions sessions' : List ℕ → Option Session) (book : Book)
     (h : HoldsIn limit store sessions book) (honest : IsTrue store.honest)
-    (before after : Journals) (n : NotesNames before.header before.noted store.first sessions book)
-    (name : List ℕ) (s : Session) (found : sessions name ≡ Some s) (put : PutsToRest name before after)
+    (before : Journals) (n : NotesNames before.header before.noted store.first sessions book)
+    (name : List ℕ) (s : Session) (found : sessions name ≡ Some s) (new : (before.header name).existed ≡ false)
     (closed : s.progress.state.parts.closed ≡ true) (quiet : count_held s.window ≡ 0) where
   abbrev log : Log
   log = log_of book name
 
   pub first_none : store.first name ≡ None
-  first_none = none_there (store.first name) (sym (n.existed name) ∙ put.new)
+  first_none = none_there (store.first name) (sym (n.existed name) ∙ new)
 
   kept_here : option_map kept_by (sessions name) ≡ Some (kept_by s)
   kept_here = ap (option_map kept_by) found
@@ -153,22 +153,29 @@ module _ (limit : ℕ) (store : Store) (sessions sessions' : List ℕ → Option
         ∙ ap Some (append-nil (journal_of (before.header name) name log))
   ]
 
-  pub at_rest : (before.header name).limit ≡ limit →
-      IsAtRest limit name (cut_log log) (after.resting name) (store.contents name)
-  at_rest limited = record {
+  -- what is noted of it is what may rest
+  pub is_whole : (before.header name).limit ≡ limit →
+      IsAtRest limit name (cut_log log) (before.noted name) (store.contents name)
+  is_whole limited = record {
     is_log = log_left log (h.holds.is_book.logs name (known_here limit store sessions book h honest name s found))
         (omega (arith, some_done));
     all = take-short log.done log.admitted;
     numbers = (let few = s.progress.measured.numbers in let same = named.done in omega (arith, few, same));
     closed = ap (λ (t : Take). t.closed) cut_whole ∙ whole_closed;
-    notes = put.rests ∙ journal_whole
+    notes = journal_whole
         ∙ ap (λ (x : Header). Some (journal_of x name log))
-        (header_is (before.header name) limit false limited put.new)
+        (header_is (before.header name) limit false limited new)
         ∙ ap Some (sym (journal_cut (record { limit = limit; existed = false }) name log));
     file_is = file_whole ∙ ap (λ (t : Take). file_of t limit) (sym cut_whole);
   }
 
-  module _ (store' : Store) (gone : sessions' name ≡ None)
+  pub at_rest : (after : Journals) → PutsToRest name before after → (before.header name).limit ≡ limit →
+      IsAtRest limit name (cut_log log) (after.resting name) (store.contents name)
+  at_rest after put limited =
+      subst (λ (o : Option (List ℕ)). IsAtRest limit name (cut_log log) o (store.contents name)) (sym put.rests)
+      (is_whole limited)
+
+  module _ (after : Journals) (put : PutsToRest name before after) (store' : Store) (gone : sessions' name ≡ None)
       (others : (m : List ℕ) → bytes_eq name m ≡ false → sessions' m ≡ sessions m)
       (contents : store'.contents ≡ store.contents)
       (firsts : store'.first ≡ with_first store.first name (store.contents name)) where

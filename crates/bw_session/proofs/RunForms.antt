@@ -18,7 +18,7 @@ use Rattle.bw_store.specs.declared.store.TakeStore.{Ghosts as StoreGhosts}
 use Rattle.bw_journal.specs.JournalHeaders.{Header}
 use Rattle.bw_journal.specs.declared.journal.Journal.{Ghosts as JournalGhosts}
 use Rattle.bw_journal.proofs.StandingForms.{standing_then}
-use Rattle.bw_session.specs.Numbered.{with_done, KeepsBoth, KeepsPlaces}
+use Rattle.bw_session.specs.Numbered.{with_done, KeepsBoth, StaysInPlace}
 use Rattle.bw_session.specs.Noting.{IsNoted}
 use Rattle.bw_session.specs.Sessions.{Part, HoldsLog}
 use Rattle.bw_session.specs.Runs.{with_more_done, HasDrained}
@@ -30,8 +30,8 @@ count_then a b c fails quiet more = subst (λ (n : ℕ). Counts n c fails) (quie
 
 module _ {X Y : Type 0} (S : StoreGhosts X) (J : JournalGhosts Y) where
   -- where both are, and where journals stand
-  pub places_then : (s s' s'' : X) (j j' j'' : Y) → J.honest j' ≡ J.honest j → KeepsPlaces S J s s' j j' →
-      KeepsPlaces S J s' s'' j' j'' → KeepsPlaces S J s s'' j j''
+  pub places_then : (s s' s'' : X) (j j' j'' : Y) → J.honest j' ≡ J.honest j → StaysInPlace S J s s' j j' →
+      StaysInPlace S J s' s'' j' j'' → StaysInPlace S J s s'' j j''
   places_then s s' s'' j j' j'' honest a b = record {
     of_store = b.of_store ∙ a.of_store;
     of_journal = b.of_journal ∙ a.of_journal;

@@ -30,7 +30,7 @@ failed_calls of_store of_journal = min (of_store + of_journal) last_count
 
 -- Store and journal are of the folders that they were of, and each journal stands where it stood, or
 -- apart from those that rest.
-pub record KeepsPlaces {X Y : Type 0} (S : StoreGhosts X) (J : JournalGhosts Y) (store store' : X)
+pub record StaysInPlace {X Y : Type 0} (S : StoreGhosts X) (J : JournalGhosts Y) (store store' : X)
     (journal journal' : Y) : Type 0 where
   pub of_store : S.folder store' ≡ S.folder store
   pub of_journal : J.folder journal' ≡ J.folder journal
@@ -60,7 +60,7 @@ pub record KeepsBoth {X Y : Type 0} (S : StoreGhosts X) (J : JournalGhosts Y) (f
   pub honest : S.honest store' ≡ S.honest store
   pub others : IsTrue (S.honest store) → KeepsOthers (S.contents store) (S.contents store') name
   pub honest_notes : J.honest journal' ≡ J.honest journal
-  pub places : KeepsPlaces S J store store' journal journal'
+  pub places : StaysInPlace S J store store' journal journal'
   pub headers : IsTrue (J.honest journal) → KeepsHeaders (J.header journal) (J.header journal')
   pub resting : IsTrue (J.honest journal) → KeepsResting (J.resting journal) (J.resting journal')
   pub other_notes : IsTrue (J.honest journal) →

@@ -79,8 +79,8 @@ impl Folder {
 /// Starts a server over what was left, if none runs.
 ///
 /// # Errors
-/// `Memory` if memory was refused, `Start` if the start failed, as memory was refused in it: the
-/// rehearsal ends then.
+/// `Memory` if memory was refused, `Start` if the start failed, in which no disk died: the rehearsal ends
+/// then.
 ///
 /// # Not specified
 /// When memory is refused.
@@ -253,8 +253,8 @@ fn has_died(server: &MachineServer) -> bool
 /// machine has stopped, and no reply is there: replies are sent after their turn.
 ///
 /// # Errors
-/// `AllocError` if the server's folder isn't the one that it started over, which no clause of a
-/// server excludes.
+/// `AllocError` if the server's folder isn't the one that it started over: its turns keep it, which
+/// `IsRunning` doesn't carry.
 pub(crate) fn turn(
     life: Life,
     message: &Message<'_>,

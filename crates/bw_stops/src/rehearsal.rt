@@ -25,7 +25,7 @@ const REPLIES: usize = 17;
 pub enum StopsFault {
     /// Memory was refused.
     Memory,
-    /// A start failed, as memory was refused in it.
+    /// A start failed, in which no disk died.
     Start,
 }
 
@@ -51,7 +51,7 @@ pub struct Rehearsed {
 /// All that was ever sent and written stays: what isn't delivered or brought is lost, and the rest
 /// may come again, in any order. A server is stopped in a turn in which a disk dies; none of the
 /// replies of a turn in which one stops is written. A start in which a disk dies leaves no server, and
-/// the very book that was left.
+/// the very book that was left; or, if it succeeded all the same, what a server leaves that stops at once.
 ///
 /// # Errors
 /// `Memory` if memory was refused to the sender, for the messages and replies or for a folder's copy;

@@ -1,7 +1,7 @@
 use Rattle.std.proofs.Common.{refl}
 use Rattle.bw_left.proofs.LeftRests.{left_names_may_wake}
 use Rattle.bw_left.proofs.RestingStops.{resting_servers}
-use Rattle.bw_left.proofs.law_resting_stops.Goals as goal
+use Rattle.bw_left.proofs.resting.law_resting_stops.Goals as goal
 
 pub returns : goal.returns
 returns g c = record {

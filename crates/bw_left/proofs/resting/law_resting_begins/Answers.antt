@@ -1,10 +1,10 @@
 use Rattle.std.proofs.Common.{refl}
 use Rattle.bw_left.proofs.RestingBeginnings.{resting_beginnings}
 use Rattle.bw_left.proofs.RestingStarts.{resting_starts}
-use Rattle.bw_left.proofs.law_resting_begins.Goals as goal
+use Rattle.bw_left.proofs.resting.law_resting_begins.Goals as goal
 
 pub returns : goal.returns
 returns g c =
     resting_beginnings _ _ _ _ _
     (resting_starts _ _ _ _ _ (λ x. refl) (λ x name. refl) (λ x name. refl))
-    (λ x name. refl) (λ x name. refl) (λ x name. refl)
+    (λ x name. refl) (λ x name. refl) (λ x name. refl) (λ x name. refl)
