@@ -15,9 +15,9 @@ pub struct DiskFault;
 
 /// Files by path, which grow by writes.
 ///
-/// A file is written by the one who made it: no call opens a file that is there already. The
-/// clauses on contents speak of an honest disk: one that keeps the writes that it reported as
-/// successful, and whose files nobody else changes.
+/// A file is written by the one who made it: no call of this trait opens a file that is there
+/// already. The clauses on contents speak of an honest disk: one that keeps the writes that it
+/// reported as successful, and whose files nobody else changes.
 pub trait Disk: Drop {
     /// An open file.
     type File: Drop;

@@ -8,8 +8,8 @@ use crate::memory_disk::{MemoryDisk, StoredFile, find};
 use std::alloc::{AllocError, Global};
 
 impl MemoryDisk {
-    /// Copies the files of another disk whose paths end so, unless something is at their paths. It
-    /// is no call of either disk.
+    /// Copies the files of another disk whose paths have this ending, unless something is at their
+    /// paths. It is no call of either disk.
     ///
     /// # Errors
     /// `AllocError` if memory was refused: some of them may have been copied.
@@ -30,7 +30,7 @@ impl MemoryDisk {
     }
 }
 
-/// Adds a copy of a file after the others, if its path ends so and nothing is there.
+/// Adds a copy of a file after the others, if its path has this ending and nothing is there.
 fn add_copy(
     files: &mut Vec<StoredFile>,
     alloc: Global,
@@ -58,7 +58,7 @@ fn add_copy(
     Ok(())
 }
 
-/// Whether a path ends so.
+/// Whether a path has this ending.
 fn has_ending(path: &str, ending: &str) -> bool
     ensures { result ≡ ends_with ◌==◌ path.now ending.now }
 {

@@ -25,8 +25,8 @@ pub struct MemoryFile {
     pub(crate) path: String,
 }
 
-/// Files in memory, by path. A call fails if memory is refused, and for a file that another disk
-/// made, unless its path is on this one too.
+/// Files in memory, by path. A call fails if memory is refused, if bytes would end at 2^64 or
+/// later, and if nothing is at the path of its file, or at the one that it renames.
 ///
 /// It is an honest disk, which shows that the promises of `Disk` and `Volume` can be kept.
 #[derive(Drop)]
@@ -112,8 +112,8 @@ impl Disk for MemoryDisk {
     /// Writes the bytes into the content of the file's path.
     ///
     /// # Errors
-    /// `DiskFault` if nothing is there, or memory was refused, never if the bytes only overwrite
-    /// others: all files are as they were, not torn.
+    /// `DiskFault` if nothing is there, the bytes would end at 2^64 or later, or memory was
+    /// refused, never if the bytes only overwrite others: all files are as they were, not torn.
     ///
     /// # Not specified
     /// When memory is refused.

@@ -11,14 +11,13 @@ use crate::volume::Volume;
 use bw_store::CallCounter;
 use std::marker::Model;
 
-/// A disk that is as the inner one up to the call of a chosen number, counted from 0, in which it
-/// dies: that call and each later one fails, and the later ones change nothing.
+/// A disk that behaves like the inner one up to the call of a chosen number, counted from 0. In
+/// that call it dies: that call and each later one fails, and the later ones change nothing.
 ///
-/// So it leaves what a process that is killed leaves, whichever call it is killed in, and whatever
-/// part of that call was done: of a `write_at` or an `append` the first bytes, as many as were
-/// chosen; a `cut` or a `rename` is done if any bytes were chosen, and so succeeds unseen; any other
-/// call does nothing. What a `create_new` would leave that succeeds unseen is what a death in the
-/// next call leaves.
+/// So it leaves what a process leaves that is killed within that call, whichever part of the call
+/// was done: of a `write_at` or an `append` the first bytes, as many as were chosen; a `cut` or a
+/// `rename` is done if that number isn't 0, although it fails; any other call does nothing. A
+/// `create_new` that is done although it fails would leave what a death in the next call leaves.
 #[derive(Drop)]
 pub struct MortalDisk<D: Volume> {
     pub(crate) inner: D,
@@ -42,7 +41,8 @@ impl<D: Volume> Model for MortalDisk<D> {
 }
 
 impl<D: Volume> MortalDisk<D> {
-    /// A disk that dies in the call after `life` others, of which `reached` bytes are written.
+    /// A disk that dies in the call after `life` others; of that call's bytes the first `reached`
+    /// ones are written.
     pub fn new(inner: D, life: u64, reached: usize) -> MortalDisk<D>
         ensures inner { result.inner ≡ inner }
         ensures life { result.life ≡ life }
@@ -92,7 +92,7 @@ impl<D: Volume> MortalDisk<D> {
         inner
     }
 
-    /// Goes on to a call of the inner disk, as long as this one lives; else the call fails.
+    /// Lets a call go on to the inner disk, as long as this one lives; else the call fails.
     ///
     /// # Errors
     /// `DiskFault` if the disk dies in this call or is dead: the failed call is counted.
@@ -116,7 +116,7 @@ impl<D: Volume> MortalDisk<D> {
         answer
     }
 
-    /// Whether it dies in the next call, and that call is done if it can't be done in part.
+    /// Whether it dies in the next call, and does it all the same if it can't be done in part.
     pub(crate) fn succeeds_unseen(&self) -> bool
         ensures { IsTrue result ↔
             ((self.now.calls ≡ self.now.life) × (0 < self.now.reached)) }

@@ -10,7 +10,7 @@ use crate::disk::{Disk, DiskFault};
 
 /// A disk whose files can be found, read, cut and renamed, too.
 ///
-/// As those of `Disk`, the clauses on contents speak of an honest disk, and each call counts as
+/// Like those of `Disk`, the clauses on contents speak of an honest disk, and each call counts as
 /// one of it. A call that fails may have done part of its work, never more: so a process that is
 /// killed within a call leaves what a call that fails may leave.
 pub trait Volume: Disk {
@@ -129,7 +129,7 @@ pub trait Volume: Disk {
     /// its path.
     ///
     /// # Errors
-    /// `DiskFault` if the disk failed, or nothing stands at the first path: it has moved, or
+    /// `DiskFault` if the disk failed, or nothing stands at the first path: the file has moved, or
     /// nothing changed.
     ///
     /// # Not specified
@@ -146,8 +146,8 @@ pub trait Volume: Disk {
         ensures synced { IsTrue (Self.honest self.old) →
             KeepsAllBut from.now to.now (Self.synced self.old) (Self.synced self.new) };
 
-    /// The names in a folder, each once. A name that isn't UTF-8, or begins with a dot, is passed
-    /// over.
+    /// The names in a folder, each once. A name that isn't UTF-8, or begins with a dot, is left
+    /// out.
     ///
     /// # Errors
     /// `DiskFault` if the disk failed, or there is no folder at the path.

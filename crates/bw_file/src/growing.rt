@@ -282,8 +282,8 @@ impl GrowingFile {
         Ok(())
     }
 
-    /// Writes the cue points of the markers after the data, and says that the file is complete. It
-    /// requires that the CLOSE with the take's own frames is judged Stored.
+    /// Writes the cue points of the markers after the data, and tells the store that the file is
+    /// complete. It requires that the CLOSE with the take's own frames is judged Stored.
     ///
     /// # Errors
     /// `StoreFault` if a call of the store failed. The file is dirty then, and the same call may

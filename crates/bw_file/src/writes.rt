@@ -104,7 +104,7 @@ pub(crate) fn put_header<S: TakeStore>(
 
 /// Updates the header of a file without cue points from one length of its data to a longer one.
 ///
-/// For a clean file of the same kind only the sizes are written.
+/// For a clean file that stays RIFF, or BW64, only the sizes are written.
 pub(crate) fn put_grown_header<S: TakeStore>(
     condition: Condition,
     store: &mut S,
@@ -138,7 +138,8 @@ pub(crate) fn put_grown_header<S: TakeStore>(
 
 /// Updates the header of a file for the cue points after its data.
 ///
-/// For a clean file of the same kind only the form size is written, and nothing without cue points.
+/// For a clean file that stays RIFF, or BW64, only the form size is written, and nothing without
+/// cue points.
 pub(crate) fn put_closed_header<S: TakeStore>(
     condition: Condition,
     store: &mut S,
@@ -214,7 +215,7 @@ pub(crate) fn put_retouched_header<S: TakeStore>(
     Ok(())
 }
 
-/// Writes the sizes of longer data into a header that stays of its kind.
+/// Writes the sizes of longer data into a header that stays one of RIFF, or of BW64.
 fn put_grown_sizes<S: TakeStore>(
     store: &mut S,
     name: &Name,
@@ -251,7 +252,7 @@ fn put_grown_sizes<S: TakeStore>(
     Ok(())
 }
 
-/// Writes the form size with cue points into a header that stays of its kind.
+/// Writes the form size with cue points into a header that stays one of RIFF, or of BW64.
 fn put_closed_size<S: TakeStore>(
     store: &mut S,
     name: &Name,

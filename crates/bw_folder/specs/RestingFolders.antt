@@ -94,7 +94,7 @@ module _ {D F : Type 0} {G : Ghosts D F} where
   KeepsStandings old new = KeepsStanding (stands_in_all old) (stands_in_all new)
       (all_journals G old).noted (all_journals G new).noted
 
-  -- so it is of each other name; this one's may be where it rests
+  -- this holds of each other name; this name's journal may be where it rests now
   abbrev pub MayMoveToRest : List ℕ → RestingFolderJournal D F G → RestingFolderJournal D F G → Type 0
   MayMoveToRest name old new = MayStandAtRest name (stands_in_all old) (stands_in_all new)
       (all_journals G old).noted (all_journals G new).noted

@@ -27,9 +27,9 @@ struct OpenTake<F: Drop> {
 
 /// The files `NAME.wav` of one folder.
 ///
-/// Only files that this store made are written: a file that is there already is never opened. Over
-/// an honest disk it is an honest store. A call fails if the disk does; `create` also if memory is
-/// refused, and the others for a name that this store did not make.
+/// Only files that this store made or adopted are written: `create` never opens a file that is
+/// there already. Over an honest disk it is an honest store. A call fails if the disk does;
+/// `create` also if memory is refused, and the others for a name whose file isn't open.
 #[derive(Drop)]
 pub struct FolderStore<D: Disk> {
     disk: D,
@@ -286,11 +286,11 @@ impl<D: Disk> TakeStore for FolderStore<D> {
         answer
     }
 
-    /// Writes to a file that this store made, by one call of the disk.
+    /// Writes to a file that this store made or adopted, by one call of the disk.
     ///
     /// # Errors
-    /// `StoreFault` if that call failed, and for a name that this store didn't make: the disk
-    /// isn't called then.
+    /// `StoreFault` if that call failed, and for a name that this store neither made nor adopted,
+    /// or has finished: the disk isn't called then.
     #[tactic(auto, using(crate::proofs::TakePaths::take_path_injective))]
     fn write_at(&mut self, name: &Name, offset: u64, bytes: &[u8]) -> Result<(), StoreFault>
         ensures failures { Counts (takes_failures self.old) (takes_failures self.new)
@@ -329,12 +329,12 @@ impl<D: Disk> TakeStore for FolderStore<D> {
         answer
     }
 
-    /// Syncs a file that this store made, by one call of the disk, and closes it: nothing is written to
-    /// it any more.
+    /// Syncs a file that this store made or adopted, by one call of the disk, and closes it:
+    /// nothing is written to it any more.
     ///
     /// # Errors
-    /// `StoreFault` if that call failed, and for a name that this store didn't make or has finished:
-    /// the disk isn't called then.
+    /// `StoreFault` if that call failed: the file stays open then. Also for a name that this store
+    /// neither made nor adopted, or has finished: the disk isn't called then.
     fn finish(&mut self, name: &Name) -> Result<(), StoreFault>
         ensures failures { Counts (takes_failures self.old) (takes_failures self.new)
             (is_err result) }

@@ -21,7 +21,7 @@ impl<D: Volume> RestingFolderJournal<D> {
     ghost use Rattle.bw_folder.specs.RestingFolders.{all_journals, OnlyReads, StaysOpen, KeepsSettings};
     ghost use Rattle.bw_folder.specs.RestingFolders.{KeepsStandings, MayMoveToRest, StandingsIf};
 
-    /// Whether something is where the journal of a name rests.
+    /// Whether something stands at the `NAME.closed` of a name.
     fn stands_closed(&mut self, name: &Name) -> Result<bool, StoreFault>
         ensures value { IsTrue (D.honest self.old.inner.disk) → IfOk result (λ found.
             found ≡ is_some (D.contents self.old.inner.disk
@@ -33,7 +33,7 @@ impl<D: Volume> RestingFolderJournal<D> {
         self.inner.stands(&path)
     }
 
-    /// Whether something is where the journal of a name is noted in.
+    /// Whether something stands at the `NAME.journal` of a name.
     fn stands_noted(&mut self, name: &Name) -> Result<bool, StoreFault>
         ensures value { IsTrue (D.honest self.old.inner.disk) → IfOk result (λ found.
             found ≡ is_some (D.contents self.old.inner.disk
@@ -167,7 +167,7 @@ impl<D: Volume> RestingFolderJournal<D> {
         Ok(true)
     }
 
-    /// Begins the journal of a name of which none rests, and none is loose.
+    /// Begins the journal of a name; fails if one rests under it or is loose.
     pub(crate) fn begin_free(&mut self, name: &Name) -> Result<(), StoreFault>
         ensures settings { KeepsSettings D.Disk self.old self.new }
         ensures standing { IsTrue (D.honest self.old.inner.disk) → KeepsStandings self.old self.new }
@@ -249,7 +249,7 @@ impl<D: Volume> RestingFolderJournal<D> {
         Ok(())
     }
 
-    /// Moves a loose journal to where it is noted in, unless it is there.
+    /// Moves a loose journal back to `NAME.journal`, unless it is there.
     fn move_back(&mut self, name: &Name) -> Result<(), StoreFault>
         requires { IsTrue (is_loose self.old.loose name.now) }
         ensures stays { StaysOpen D.Disk self.old.inner self.new.inner }

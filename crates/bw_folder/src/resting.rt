@@ -25,11 +25,12 @@ use std::collections::HashSet;
 /// The journals of a folder, `NAME.journal`, of which some rest: `NAME.closed`.
 ///
 /// A journal that woke stays where it rested until something is noted under its name, so that a
-/// repeat writes nothing. Until then it is loose: it isn't open, and stands at one of its two paths.
-/// So is one that a call of the disk was to move which failed: that may have moved it. Only the
-/// names of loose ones are kept in memory; what rests is looked for on the disk.
+/// repeat writes nothing. Until then it is loose: it isn't open, and stands at one of its two
+/// paths. A journal is also loose after a call of the disk that was to move it failed: it may have
+/// been moved. Only the names of loose ones are kept in memory; what rests is looked for on the
+/// disk.
 ///
-/// As a `FolderJournal` it has a disk of its own, and changes no other file of the folder. A call
+/// Like a `FolderJournal` it has a disk of its own, and changes no other file of the folder. A call
 /// fails if a call of the disk does, or memory is refused.
 #[derive(Drop)]
 pub struct RestingFolderJournal<D: Volume> {
@@ -192,10 +193,11 @@ impl<D: Volume> RestingJournal for RestingFolderJournal<D> {
     /// Moves the journal to `NAME.closed`, unless it is there already; it isn't open afterwards.
     ///
     /// It returns false if the journal is neither open nor loose, a file of the name existed before
-    /// it, one rests under the name, or a sync failed for it.
+    /// it, one rests under the name, a sync failed for it, or files stand at both of its paths.
     ///
     /// # Errors
-    /// `StoreFault` if a call of the disk failed, or memory was refused.
+    /// `StoreFault` if a call of the disk failed, or memory was refused: the file may have been
+    /// moved by then.
     ///
     /// # Not specified
     /// When memory is refused.

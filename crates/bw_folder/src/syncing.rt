@@ -11,7 +11,7 @@ use bw_disk::Volume;
 use bw_store::StoreFault;
 
 /// Syncs a take's file, if there is one, appends to its name's journal, and syncs that, and the
-/// folder if one of the two is new in it.
+/// folder, unless it was synced since the journal was opened and the take's file found.
 ///
 /// # Errors
 /// `StoreFault` if a call of the disk failed. If that was a sync the journal is marked, so that

@@ -54,7 +54,7 @@ may_have_length kind n =
     if kind == 2 then n == 38 else if (kind == 3) || (kind == 5) then n == 42 else true
 
 -- What a stop leaves of an entry that was being written: it is cut short, its length is no more
--- than an entry's, and the one of its kind, which the byte after length, verdict and digest tells.
+-- than the longest entry's, and its kind, the byte after length, verdict and digest, may have it.
 unfoldable pub is_torn_entry : List ℕ → Bool
 is_torn_entry bytes =
     is_cut_short bytes

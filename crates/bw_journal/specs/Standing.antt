@@ -19,14 +19,14 @@ abbrev pub StaysIfClosed : Standing → Standing → Option (List ℕ) → Optio
 StaysIfClosed before after noted noted_now =
     is_apart after ≡ false → (after ≡ before) × (noted_now ≡ noted)
 
--- so it is of each name
+-- this holds of each name
 abbrev pub KeepsStanding : (List ℕ → Standing) → (List ℕ → Standing) →
     (List ℕ → Option (List ℕ)) → (List ℕ → Option (List ℕ)) → Type 0
 KeepsStanding before after noted noted_now =
     (name : List ℕ) → StaysIfClosed (before name) (after name) (noted name) (noted_now name)
 
--- So it is of each other name. This one's journal may stand at its place of rest now, but at both only
--- if it did before.
+-- This holds of each other name. This name's journal may stand at its place of rest now, but at
+-- both only if it did before.
 pub record MayStandAtRest (name : List ℕ) (before after : List ℕ → Standing)
     (noted noted_now : List ℕ → Option (List ℕ)) : Type 0 where
   pub others : (other : List ℕ) → other ≢ name →

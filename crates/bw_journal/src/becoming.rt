@@ -6,15 +6,15 @@ use crate::journal::Journal;
 use crate::resting::RestingJournal;
 use std::alloc::Global;
 
-/// Journals none of which rests to a server, and that can become ones of which some rest.
+/// Journals that can't rest, and that can become ones that can.
 pub trait BecomesResting: Journal {
     /// The same journals, of which some rest.
     type Resting: RestingJournal;
 
-    /// What may become of a journal.
+    /// Which resting journals a journal may become.
     ghost becomes: { Self → Self.Resting → Type 0 };
 
-    /// The same journals, of which some rest: what is noted stays. Nothing is asked of a disk.
+    /// The same journals, of which some rest: what is noted stays. No disk is called.
     fn becomes_resting(self, alloc: Global) -> Self::Resting
         ensures becomes { becomes self result }
         ensures failures { Self.Resting.failures result ≡ Self.failures self }

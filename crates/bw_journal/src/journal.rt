@@ -32,10 +32,12 @@ pub trait Journal: Drop {
     /// Whether the journal does what the clauses on notes, headers and what rests say.
     ghost honest: { Self → Bool };
 
-    /// The path of the folder that the journals are kept in, if there is one: no call changes it.
+    /// The path of the folder that the journals are kept in, which no call changes; empty where an
+    /// implementation doesn't define it.
     ghost folder: { Self → List ℕ } = { λ _. [] };
 
-    /// Where the journal of each name stands that doesn't rest.
+    /// Where the journal of each name stands that doesn't rest; apart from those that rest where
+    /// an implementation doesn't define it.
     ghost stands: { Self → List ℕ → Standing } = { λ _ _. Apart };
 
     /// Writes the header of a name's journal, unless it is there whole.
@@ -68,8 +70,8 @@ pub trait Journal: Drop {
         ensures others { IsTrue (honest self.old) →
             KeepsOthers (notes self.old) (notes self.new) name.now };
 
-    /// Notes bytes under a name after its first ones, in place of what a call that failed may have
-    /// left there: a prefix of the same bytes.
+    /// Notes bytes under a name after its first `offset` ones, in place of what a call that failed
+    /// may have left there: a prefix of the same bytes.
     ///
     /// # Errors
     /// `StoreFault` if the journal failed: a prefix of the bytes may be there then, and the

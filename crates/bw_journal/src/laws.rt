@@ -37,8 +37,8 @@ pub fn law_stops()
 {}
 
 /// After each turn a server's files are those of its done numbers, or between them and the next;
-/// after their repair a server with what the journals say holds the book that the stop left; and
-/// files of closed takes need no repair.
+/// after their repair a server that keeps what the journals say holds the book that the stop left;
+/// and files of closed takes need no repair.
 pub fn law_recovery()
     ensures survive { HeldFilesSurvive }
     ensures repaired { FilesAreRepaired }

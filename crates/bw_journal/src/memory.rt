@@ -215,7 +215,7 @@ fn put(
     }
 }
 
-/// What a name has of a header.
+/// How much of a header a content begins with.
 #[derive(Clone, Copy, Debug, PartialEq, Eq)]
 enum Standing {
     /// All of it, whatever follows.
@@ -226,7 +226,7 @@ enum Standing {
     Other,
 }
 
-/// What a content has of a header.
+/// How much of a header a content begins with; no content counts as an empty one.
 #[tactic(auto, using(crate::proofs::Starts::prefix_begins, crate::proofs::Starts::torn_short))]
 fn compare(found: Option<&[u8]>, header: &[u8]) -> Standing
     ensures whole { result ≡ Standing.Whole → BeginsWith header.now (option_copied found.entry) }

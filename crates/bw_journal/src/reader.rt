@@ -30,8 +30,8 @@ use std::alloc::{AllocError, Global};
 
 /// What the journal of a name says to a server of this limit.
 ///
-/// An entry that is torn at the end, so that fewer bytes of it are there than its length says, is
-/// not replayed; only its length is returned. All else at the end is a fault.
+/// An entry that is torn at the end, so that only a prefix of it is there, is not replayed: `torn`
+/// is how many bytes that prefix has. Anything else after the last entry is a fault.
 ///
 /// The journal has at most 2^40 bytes.
 ///

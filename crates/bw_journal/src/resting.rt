@@ -10,13 +10,15 @@ use bw_store::StoreFault;
 
 /// Journals that can rest, each by itself: nothing is noted under its name until it wakes.
 ///
-/// As those of `Journal`, the clauses on what rests speak of an honest journal.
+/// Like those of `Journal`, the clauses on what rests speak of an honest journal.
 pub trait RestingJournal: Journal {
     /// Puts the journal of a name to rest, and returns true; false if nothing is noted under the
-    /// name, a file of it existed before, or one rests under it already: nothing changes then.
+    /// name, a file of it existed before, or one rests under it already: what is noted and what
+    /// rests is the same then.
     ///
     /// # Errors
-    /// `StoreFault` if the journal failed: nothing has changed.
+    /// `StoreFault` if the journal failed: what is noted and what rests is the same, but the
+    /// journal of the name may stand at its place of rest by then, as `stands` says.
     ///
     /// # Not specified
     /// - When the journal fails.
@@ -58,8 +60,8 @@ pub trait RestingJournal: Journal {
     /// Wakes the journal of a name, and returns true; false if none rests under it.
     ///
     /// # Errors
-    /// `StoreFault` if the journal failed, memory was refused, or something is noted under the name:
-    /// nothing has changed.
+    /// `StoreFault` if the journal failed, memory was refused, or something is noted under the
+    /// name: what is noted and what rests is the same.
     ///
     /// # Not specified
     /// When the journal fails, and when memory is refused.

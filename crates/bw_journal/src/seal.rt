@@ -40,7 +40,8 @@ pub(crate) fn opened_with_digest(bytes: &[u8], digest: Option<[u8; 32]>) -> Opti
     }
 }
 
-/// Whether a length with its complement is at the start, and all bytes that it says.
+/// Whether a length with its complement is at the start, and as many bytes as it says and a check
+/// follow.
 #[tactic(auto, unfolding(crate::specs::SealDigests::is_whole))]
 pub(crate) fn is_whole(bytes: &[u8]) -> bool
     ensures { result ≡ is_whole_of bytes.now }
@@ -59,7 +60,7 @@ pub(crate) fn content_of(bytes: &[u8]) -> &[u8]
     &bytes[4..4 + len]
 }
 
-/// Whether the complement of their length follows it at the start of four bytes or more.
+/// Whether four bytes or more begin with a length and its complement.
 fn has_length(bytes: &[u8]) -> bool
     requires { 4 ≤ length bytes.now }
     ensures { result ≡ is_length_sound bytes.now }

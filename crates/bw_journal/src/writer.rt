@@ -15,7 +15,7 @@ use std::alloc::{AllocError, Global};
 
 /// Appends the entry of a done number: for a block its length, and not its samples.
 ///
-/// The request fits, and the entry has at most 4,152 bytes.
+/// The request must be one that a message may carry; the entry has at most 4,152 bytes.
 ///
 /// # Errors
 /// `AllocError` if memory was refused, never if there is room: the bytes are as they were.

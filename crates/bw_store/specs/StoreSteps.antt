@@ -5,8 +5,8 @@ use Rattle.bw_store.specs.Calls.{StoreCall, Gets, GetsFirst}
 use Rattle.bw_store.specs.declared.store.TakeStore.{Ghosts}
 use Rattle.bw_store.specs.Stores.{MayTear}
 
--- A failure is counted, the store is as honest as it was and of the same folder, and each other name
--- has what it had.
+-- A failure is counted, the store is as honest as it was and in the same folder, and each other
+-- name has what it had.
 pub record Shared {X : Type 0} (S : Ghosts X) (fails : Bool) (name : List ℕ) (old new : X) :
     Type 0 where
   pub failures : Counts (S.failures old) (S.failures new) fails

@@ -12,7 +12,8 @@ use bw_request::Name;
 use std::alloc::{AllocError, Global};
 use std::collections::BTreeMap;
 
-/// Takes in memory. A call fails if memory is refused, and for a name that was never made.
+/// Takes in memory. A call fails if memory is refused, for a name that was never made, and if
+/// bytes would end at 2^64 or later.
 #[derive(Drop)]
 pub struct MemoryStore {
     alloc: Global,
@@ -128,8 +129,8 @@ impl TakeStore for MemoryStore {
     /// Writes the bytes into the content of a name that is there.
     ///
     /// # Errors
-    /// `StoreFault` if the name isn't there, or memory was refused, never if the bytes only
-    /// overwrite others: contents are as they were, not torn.
+    /// `StoreFault` if the name isn't there, the bytes would end at 2^64 or later, or memory was
+    /// refused, never if the bytes only overwrite others: contents are as they were, not torn.
     ///
     /// # Not specified
     /// When memory is refused.

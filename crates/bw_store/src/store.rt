@@ -43,7 +43,8 @@ pub trait TakeStore: Drop {
     /// Whether the store does what the clauses on contents say.
     ghost honest: { Self → Bool };
 
-    /// The path of the folder that contents are kept in, if there is one: no call changes it.
+    /// The path of the folder that contents are kept in, which no call changes; empty where an
+    /// implementation doesn't define it.
     ghost folder: { Self → List ℕ } = { λ _. [] };
 
     /// Makes a name with empty contents, unless it is there already.
@@ -70,8 +71,7 @@ pub trait TakeStore: Drop {
     /// Overwrites bytes from an offset on, and appends past the end; a gap reads as zeros.
     ///
     /// # Errors
-    /// `StoreFault` if the store failed: the range may hold any bytes then. No name is made
-    /// then.
+    /// `StoreFault` if the store failed: the range may hold any bytes then, but no name is made.
     ///
     /// # Not specified
     /// When the store fails, and why: the error doesn't distinguish lack of memory, the name and
