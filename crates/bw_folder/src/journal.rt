@@ -59,9 +59,9 @@ impl<F: Drop> OpenJournal<F> {
 ///
 /// Its disk is its own: it changes no other file, and a store of the same folder changes none of
 /// these. Over an honest disk it is an honest journal. A call fails if a call of the disk does, or
-/// memory is refused; `begin` also if other bytes than a header are there, and `note` for a name
-/// that was neither begun nor adopted. A note that fails leaves a prefix of its bytes, which the
-/// next note of the same bytes writes over.
+/// memory is refused; `begin` also if the file begins with other bytes than those of its header,
+/// and `note` for a name that was neither begun nor adopted. A note that fails leaves a prefix of
+/// its bytes, which the next note of the same bytes writes over.
 ///
 /// With `sync` a note is made in steps: the take's file is synced, the bytes are appended, and the
 /// journal is synced. The folder is synced too after the first note since the journal was opened,

@@ -12,7 +12,7 @@ use bw_layout::ChunkId;
 /// The largest form or chunk that is read, in bytes.
 pub(crate) const LARGEST: u64 = 1 << 62;
 
-/// What kind of chunk it is to the reading of a file.
+/// The kinds of chunks that are read differently.
 #[derive(Clone, Copy, Debug, PartialEq, Eq)]
 pub(crate) enum ChunkKind {
     Fmt,

@@ -106,6 +106,6 @@ pub struct Report {
     /// How many bytes of samples there are.
     pub data_size: u64,
     pub bext: Option<BextChunk>,
-    /// None of them if there is no `cue ` chunk.
+    /// Empty if there is no `cue ` chunk.
     pub cues: Cues,
 }

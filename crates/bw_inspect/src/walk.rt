@@ -49,7 +49,7 @@ pub(crate) struct Known {
     pub(crate) cues: Option<Cues>,
 }
 
-/// The chunks so far, what they say, and where the next head is wanted.
+/// The chunks so far, what they say, and where the next head would be.
 #[derive(Drop)]
 pub(crate) struct Walk {
     pub(crate) place: u64,
@@ -76,7 +76,7 @@ pub(crate) fn begin(alloc: Global) -> Walk
     }
 }
 
-/// Reads one more chunk, if one is wanted.
+/// Reads one more chunk, if the form has room for its head, and returns whether it did.
 ///
 /// # Errors
 /// The first fault of the chunk, at its place; Read; Memory.
@@ -145,8 +145,8 @@ pub(crate) fn read_head_at<R: Source>(
     Ok(head)
 }
 
-/// Lists a chunk whose content was read; if a further head is wanted, its pad byte is passed
-/// over.
+/// Lists a chunk whose content was read; if the form has room for a further head, its pad byte
+/// is passed over.
 ///
 /// # Errors
 /// Read; Memory.

@@ -1,4 +1,4 @@
--- What the levels of some frames of a file come to.
+-- The least and the greatest levels in some frames of a file.
 use Rattle.std.specs.Prelude.{◌≡◌, ℕ, ◌+◌, ◌*◌, ◌<◌, IsTrue, List, length, slice_index, drop}
 use Rattle.std.specs.Prelude.{Option, Some}
 use Rattle.bw_inspect.specs.Faults.{is_of_bytes}
@@ -20,6 +20,6 @@ pub record HasWidened (b : List ℕ) (place frames : ℕ) (w : SampleWidth) (ali
       greatest_of (file_level w b place align c) (slice_index highs c) frames
   pub rest : left ≡ Some (drop (place + frames * align) b)
 
--- bytes are reported to be missing only where b ends before
+-- bytes are reported to be missing only where b ends too early
 abbrev pub LacksBytes : List ℕ → ℕ → ℕ → InspectFault → Type 0
 LacksBytes b place size f = IsTrue (is_of_bytes f.kind) → length b < place + size

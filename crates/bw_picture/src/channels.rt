@@ -6,8 +6,8 @@ ghost use Rattle.bw_picture.specs.Peaks.{frame_level, greatest_of, least_of};
 use crate::level::SampleWidth;
 use crate::peak::Peak;
 
-/// Takes the levels of all channels in whole frames of `align` bytes: of each channel its least and
-/// its greatest level so far.
+/// Extends the least and the greatest level so far of each channel by the levels in `count` whole
+/// frames of `align` bytes.
 pub fn widen_all(
     lows: &mut [u32],
     highs: &mut [u32],

@@ -21,7 +21,7 @@ pub struct Shape {
     /// Where the first frame is, in bytes from the file's start.
     pub place: u64,
     pub frames: u64,
-    /// Frames of a column, of which the last one may have fewer.
+    /// How many frames a column has; the last one may have fewer.
     pub wide: u64,
     pub columns: u32,
 }
@@ -29,7 +29,7 @@ pub struct Shape {
 /// The strokes of all columns, in one pass over the samples.
 ///
 /// # Errors
-/// Truncated where the input ends before; Read; Memory, at the first frame.
+/// Truncated where the input ends before the last frame does; Read; Memory, at the first frame.
 pub fn draw<R: Source>(
     alloc: Global,
     reader: &mut R,

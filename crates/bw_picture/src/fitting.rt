@@ -7,9 +7,10 @@ use crate::drawing::Shape;
 use crate::level::SampleWidth;
 use bw_inspect::Report;
 
-/// How the samples of a file with this report are drawn: in at most 1,200 columns of as many frames
-/// each. None for samples of other than 2, 3 or 4 bytes each, for 2^43 frames or more, and for 2^60
-/// bytes or more before them. Whether they are PCM is for the caller to know.
+/// How the samples of a file with this report are drawn: in at most 1,200 columns, each of as many
+/// frames, except the last one. None for samples of other than 16, 24 or 32 bits, for no channel,
+/// for a block align that isn't the size of a sample of each channel, for 2^43 frames or more, and
+/// for 2^60 bytes or more before them. The caller has to know whether they are PCM.
 pub fn fit(report: &Report) -> Option<Shape>
     ensures value { result ≡ fitting_shape (reported_by report.now) }
     ensures drawable { IfSome result IsDrawable }

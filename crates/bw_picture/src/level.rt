@@ -5,8 +5,11 @@ ghost use Rattle.bw_picture.specs.Levels.{bytes_of, level_at as level_of, levels
 /// How many bytes a sample of PCM has.
 #[derive(Clone, Copy, Debug, PartialEq, Eq)]
 pub enum SampleWidth {
+    /// 16 bits.
     Two,
+    /// 24 bits.
     Three,
+    /// 32 bits.
     Four,
 }
 

@@ -15,11 +15,11 @@ use bw_layout::RawCue;
 use bw_stream::Source;
 use std::alloc::{AllocError, Global};
 
-/// The picture of a file's samples, in one pass over them: a reader that stands at the first frame,
-/// how it is drawn, its frames per second and its markers.
+/// The picture of a file's samples with its markers, in one pass over the samples. The reader has
+/// to be at the first frame; `rate` is in frames per second.
 ///
 /// # Errors
-/// Truncated where the input ends before; Read; Memory, at the first frame.
+/// Truncated where the input ends before the last frame does; Read; Memory, at the first frame.
 ///
 /// # Not specified
 /// When memory is refused.

@@ -13,14 +13,14 @@ pub struct Peak {
 }
 
 impl Peak {
-    /// Of no level.
+    /// The peak of no level.
     pub const NONE: Peak = Peak {
         low: u32::MAX,
         high: 0,
     };
 
-    /// Takes the levels of one channel in whole frames, where the channel's bytes begin `at` bytes
-    /// into each frame of `align` bytes.
+    /// Extends it by the levels of one channel in `count` whole frames, where the channel's bytes
+    /// begin `at` bytes into each frame of `align` bytes.
     pub fn widen(
         &mut self,
         width: SampleWidth,

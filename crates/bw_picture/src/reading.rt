@@ -14,7 +14,7 @@ use bw_stream::Source;
 /// one, and takes their levels.
 ///
 /// # Errors
-/// Truncated where the input ends before; Read.
+/// Truncated where the input ends before the last of them does; Read.
 pub fn read_frames<R: Source>(
     reader: &mut R,
     place: u64,

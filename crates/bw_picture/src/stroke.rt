@@ -11,8 +11,8 @@ use std::alloc::AllocError;
 /// How high a channel is drawn.
 const HEIGHT: u64 = 200;
 
-/// The stroke of a column, from its greatest level down to its least, in a channel whose top is so
-/// far from the picture's.
+/// The stroke of a column, from its greatest level down to its least, in a channel whose top is
+/// `top` units below the picture's.
 pub fn column_stroke(width: SampleWidth, column: u32, top: u32, peak: Peak) -> ArrayString<64>
     ensures { result.bytes ≡ stroke_of width column top peak }
 {

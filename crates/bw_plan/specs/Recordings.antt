@@ -61,7 +61,7 @@ pub data RecordingFault : Type 0 where
   NotPcm : RecordingFault
   -- not 16, 24 or 32 bits a sample
   Bits : RecordingFault
-  -- fewer bits are valid than a sample has
+  -- not as many bits are valid as a sample has
   ValidBits : RecordingFault
   -- a frame has more or fewer bytes than its samples
   Align : RecordingFault

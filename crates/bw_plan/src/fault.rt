@@ -15,7 +15,7 @@ pub enum RecordingKind {
     NotPcm,
     /// Not 16, 24 or 32 bits a sample.
     Bits,
-    /// Fewer bits are valid than a sample has.
+    /// Not as many bits are valid as a sample has.
     ValidBits,
     /// A frame has more or fewer bytes than its samples.
     Align,
@@ -35,7 +35,8 @@ pub enum RecordingKind {
 #[derive(Clone, Copy, Debug, PartialEq, Eq, Hash)]
 pub struct RecordingFault {
     pub kind: RecordingKind,
-    /// In bytes from the file's start: the head of the chunk that is wrong.
+    /// In bytes from the file's start: the head of the chunk that is wrong; for Unread the place of
+    /// that fault; for headerless samples the place that `Pcm::outline` says.
     pub offset: u64,
 }
 

@@ -47,7 +47,7 @@ fn is_pcm(fmt: RawFmt, extension: &[u8]) -> bool
     fmt.tag == 1 || (fmt.tag == EXTENSIBLE && has_pcm_subformat(extension))
 }
 
-/// Whether fewer bits are valid than a sample has, of PCM.
+/// Whether not as many bits are valid as a sample of PCM has.
 fn has_idle_bits(fmt: RawFmt, extension: &[u8]) -> bool
     requires { IsTrue (is_pcm_format fmt extension.now) }
     ensures { result ≡ ((fmt.tag == extensible) && not (u16_at extension.now 2 == fmt.bits)) }

@@ -1,5 +1,4 @@
-//! The requests of a recording, as a function of a file's bytes and of what is asked for beside
-//! them.
+//! The requests of a recording, as a function of a file's bytes and of options.
 #![tactic(auto)]
 
 mod block_reader;
@@ -40,9 +39,9 @@ pub use values::Values;
 pub use warning::{Warning, warnings};
 
 /// Whatever the size of the blocks, each request of a recording's plan is stored, and together they
-/// make the recording's take. A plan has as many requests as `outline_of` counts. Each recording of
-/// a file is one of these, whatever the file's bytes, where what is set is allowed, and so is each of
-/// headerless samples. What `Plan` gives from its start to its end is the plan.
+/// make the recording's take. A plan has as many requests as `outline_of` counts. This holds of
+/// each recording of a file or of headerless samples, whatever their bytes, if what is set is
+/// allowed. What `Plan` gives from its start to its end is the plan.
 pub fn law_plan()
     ensures takes { PlansMakeTakes }
     ensures count { PlansHaveTheirCount }

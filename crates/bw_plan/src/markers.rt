@@ -9,8 +9,8 @@ use std::alloc::{AllocError, Global};
 /// A take has at most so many markers.
 const MARKERS_MAX: usize = 1024;
 
-/// The markers of a take of so many frames: of the cue points in their order those that have a
-/// frame of it, a new identifier and a place.
+/// The markers of a take of so many frames: those of the cue points, in their order, that aren't
+/// past its end and have a new identifier, up to 1,024.
 ///
 /// # Errors
 /// `AllocError` where memory was refused.

@@ -1,10 +1,10 @@
-//! What is asked for beside a file.
+//! Options for the recording of a file.
 ghost use Rattle.std.specs.Prelude.{◌≡◌};
 
 use crate::setting::Setting;
 use std::marker::Model;
 
-/// What is asked for beside a file.
+/// What is set in place of what a file has, and how its recording is made.
 #[derive(Debug, Drop)]
 pub struct Options {
     settings: Vec<Setting>,

@@ -1,4 +1,4 @@
-//! A recording but for its samples.
+//! A recording without its samples.
 ghost use Rattle.std.specs.Prelude.{◌≡◌, ◌/◌, List, ℕ, fold, option_map, IfOk, OnOk};
 ghost use Rattle.bw_model.specs.Take.{shapes, block_align};
 ghost use Rattle.bw_inspect.specs.Reports.{bext_by};
@@ -17,7 +17,7 @@ use bw_layout::{CuePoint, Fmt};
 use std::alloc::{AllocError, Global};
 use std::marker::Model;
 
-/// What a recording has beside its samples.
+/// What a recording has besides its samples.
 #[derive(Debug, Drop)]
 pub struct Outline {
     format: Fmt,

@@ -28,12 +28,12 @@ pub struct Pcm {
 }
 
 impl Pcm {
-    /// The recording of the samples in a file of so many bytes, but for the samples.
+    /// The recording of the samples in a file of so many bytes, without the samples.
     ///
     /// # Errors
-    /// The first fault: Bits, Rate, Channels, at 0; Unread of Truncated where the file ends before
-    /// the first sample; PartFrame, at the frame inside which the file ends; TooLong, at the first
-    /// sample; Unread of Memory where memory was refused.
+    /// The first fault: Bits, Rate, Channels, at 0; Unread(Truncated), at the first sample, where
+    /// the file ends before it; PartFrame, at the frame inside which the file ends; TooLong, at
+    /// the first sample; Unread(Memory), at 0, where memory was refused.
     ///
     /// # Not specified
     /// When memory is refused.

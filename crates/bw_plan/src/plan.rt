@@ -1,4 +1,4 @@
-//! The requests that bring a recording, given one after the other.
+//! The requests that carry a recording, given one after the other.
 ghost use Rattle.std.specs.Prelude.{◌≡◌, ℕ, ◌+◌, ◌*◌, ◌^◌, ◌≤◌, List, IsTrue, length, slice_range, Some};
 ghost use Rattle.std.specs.Prelude.{◌<◌, ◌⊎◌, drop};
 ghost use Rattle.std.specs.Prelude.{[], ◌∷◌, option_map, IfOk, IfErr, OnOk, MatchOption};
@@ -25,8 +25,8 @@ use std::alloc::Global;
 use std::marker::Model;
 
 /// Gives the requests of a recording's plan in their order: OPEN, the fields of `bext` by tag, the
-/// samples in blocks, the markers, CLOSE. It holds the recording's outline and one block, and takes
-/// no memory after `new`.
+/// samples in blocks, the markers, CLOSE. It holds the recording's outline and one block, and
+/// allocates no memory after `new`.
 #[derive(Debug, Drop)]
 pub struct Plan {
     outline: Outline,
@@ -34,7 +34,7 @@ pub struct Plan {
     step: Step,
 }
 
-/// The request that is the next.
+/// Which request is the next one.
 #[derive(Clone, Copy, Debug)]
 enum Step {
     Open,
@@ -102,7 +102,7 @@ impl Plan {
     }
 
     /// The plan of a recording whose samples begin at a place of its file, as `new` makes it. The
-    /// reader stands at the file's start, and goes on to that place.
+    /// reader has to be at the file's start, and is at that place afterwards.
     ///
     /// # Errors
     /// Memory; TooLarge where the samples would end past 2^64 - 1; Truncated, with the place, where
@@ -174,12 +174,12 @@ impl Plan {
         }
     }
 
-    /// Goes on to the request after the next one. The reader stands where the next block does, and
-    /// at most one block is read of it.
+    /// Goes on from the request that `request` returns to the one after it. The reader has to be at
+    /// the next block, of which at most one is read.
     ///
     /// # Errors
     /// Truncated, with the block's place, where the input ends before its end; Read. From then on
-    /// the same error is answered, without a call of the reader.
+    /// the same error is returned, without a call of the reader.
     pub fn advance<R: Source>(&mut self, reader: &mut R) -> Result<(), InspectFault>
         ensures consumed { IsSoundPlan self.old.stage →
             Consumes R.Source self.old.samples.size result reader.old reader.new }

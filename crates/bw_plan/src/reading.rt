@@ -22,7 +22,7 @@ const LARGEST: u64 = 1 << 62;
 /// subformat: 24 bytes, or none where the chunk is shorter. The reader stands at the file's start.
 ///
 /// # Errors
-/// Truncated where the input ends before; Read; Memory.
+/// Truncated where the input ends before these bytes do; Read; Memory.
 pub fn read_extension<R: Source>(
     alloc: Global,
     reader: &mut R,
@@ -47,7 +47,8 @@ pub fn read_extension<R: Source>(
 /// which show whether it is too long. The reader stands at the file's start.
 ///
 /// # Errors
-/// Truncated where the input ends before; Read; Memory.
+/// Truncated where the input ends before these bytes do, or the chunk has fewer than 602 bytes;
+/// Read; Memory.
 pub fn read_history<R: Source>(
     alloc: Global,
     reader: &mut R,
@@ -78,10 +79,11 @@ fn cut(chunk: ListedChunk) -> InspectFault
     }
 }
 
-/// Reads `len` bytes of a chunk's content from a place on, at the file's start.
+/// Reads `len` bytes of a chunk's content from a place in it on. The reader stands at the file's
+/// start.
 ///
 /// # Errors
-/// Truncated where the input ends before; Read; Memory.
+/// Truncated where the input ends before these bytes do; Read; Memory.
 fn read_part<R: Source>(
     alloc: Global,
     reader: &mut R,

@@ -1,4 +1,4 @@
-//! The recording of a file but for its samples, or its first fault.
+//! The recording of a file without its samples, or its first fault.
 ghost use Rattle.std.specs.Prelude.{◌≡◌, ℕ, List, ◌*◌, ◌+◌, ◌%◌, ◌==◌, ◌≤◌, nat_lt, None, Ok};
 ghost use Rattle.std.specs.Prelude.{IfOk, IfErr};
 ghost use Rattle.bw_model.specs.Limits.{longest_block};
@@ -26,11 +26,11 @@ use std::alloc::{AllocError, Global};
 /// A sender has the numbers 0 to 16,777,215.
 const REQUESTS_MAX: u64 = 16_777_216;
 
-/// The recording that a report gives but for its samples, with `extension` of `fmt ` and `history`
+/// The recording that a report gives without its samples, with `extension` of `fmt ` and `history`
 /// of `bext`, as they stand in the file.
 ///
 /// # Errors
-/// The first fault of the recording, at the place of its chunk; Unread of Memory where memory was
+/// The first fault of the recording, at the place of its chunk; Unread(Memory) where memory was
 /// refused.
 ///
 /// # Not specified

@@ -54,7 +54,7 @@ impl Setting {
         }
     }
 
-    /// The same setting, lent.
+    /// The same setting, borrowed.
     pub fn as_ref(&self) -> SettingRef<'_>
         ensures { setting_meaning result ≡ self.now }
     {

@@ -34,8 +34,8 @@ pub enum Warning {
 }
 
 /// What a recording with this outline loses of the file with this report and this coding history,
-/// as it stands there: first the texts of `bext` by tag, at last the chunks. What is set in their
-/// place changes nothing of it.
+/// as it stands there: first the texts of `bext` by tag, last the chunks. A setting in place of a
+/// text or of the history doesn't change the warnings.
 ///
 /// # Errors
 /// `AllocError` where memory was refused.

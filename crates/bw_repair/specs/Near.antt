@@ -1,4 +1,4 @@
--- Places that can be reckoned with.
+-- Places and sizes whose sums don't overflow.
 use Rattle.std.specs.Prelude.{◌^◌, ◌≤◌, ◌<◌, Option, Some, None}
 use Rattle.bw_repair.specs.declared.search.DataHead.{DataHead}
 

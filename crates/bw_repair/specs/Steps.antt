@@ -31,7 +31,7 @@ abbrev pub StepsTo : List ℕ → Reached → Step → Option (List ℕ) → Typ
 StepsTo b r (Data size) left = IsDataAt b r.place size left
 StepsTo b r (On next) left = IsOtherAt b r.place r.align next.place next.align left
 
--- .. which goes on by no more than the longest chunk
+-- it goes on by no more than the longest chunk
 abbrev pub IsOneChunkOn : Reached → Step → Type 0
 IsOneChunkOn r (Data size) = Unit {0}
 IsOneChunkOn r (On next) = (r.place ≤ next.place) × (next.place ≤ r.place + 2 ^ 32 + 8)
@@ -47,7 +47,7 @@ pub record WalksTo (b : List ℕ) (p align size : ℕ) (left : Option (List ℕ)
   pub before : StandBefore b count p align
   pub found : IsDataAt b p size left
 
--- the walk stops with a fault, but for that of too many samples
+-- the walk stops with a fault other than that of too many samples
 pub record HaltsAt (b : List ℕ) (g : Fault) : Type 0 where
   pub count : ℕ
   pub place : ℕ

@@ -17,13 +17,13 @@ pub struct Sizes {
     pub data: u32,
 }
 
-/// The sizes that a file is to have, of which those that are certain already are what they were. A
-/// size that a killed writer left becomes that of all whole frames of the file.
+/// The sizes that a file is to have. Those that are certain already stay. If a killed writer never
+/// gave the samples' size, it becomes that of all whole frames of the file.
 ///
 /// # Errors
 /// At the head of the samples: NotLast where other chunks may follow them, Overlap where they end
-/// after a form that was closed, Unread of NoFmt without a block align, Unread of TooLarge where the
-/// form has 2^32 - 1 bytes or more.
+/// after a form that was closed, Unread(NoFmt) without a block align that is needed,
+/// Unread(TooLarge) where the form has 2^32 - 1 bytes or more.
 pub fn decide(head: &DataHead) -> Result<Sizes, RepairFault>
     requires { IsNear head.now }
     ensures { result ≡ decided head.now }

@@ -4,7 +4,7 @@ ghost use Rattle.bw_repair.specs.Overlays.{overlaid};
 
 use bw_stream::{IoFailed, Source};
 
-/// A reader whose bytes at one place are others.
+/// A reader some of whose bytes, from one place on, are replaced by others.
 #[derive(Drop)]
 pub struct Overlay<'a, R> {
     inner: R,
@@ -31,7 +31,7 @@ impl<'a, R> Overlay<'a, R> {
         }
     }
 
-    /// Puts the other bytes into a piece that comes next.
+    /// Puts the other bytes into the next piece, where they belong.
     fn replace_in(&mut self, piece: &mut [u8])
         ensures piece { piece.new ≡ overlaid self.old.ahead self.old.others.now piece.old }
         ensures inner { self.new.inner ≡ self.old.inner }
@@ -47,7 +47,7 @@ impl<'a, R> Overlay<'a, R> {
         self.ahead -= start as u64;
     }
 
-    /// Goes on after so many bytes.
+    /// Counts so many bytes as passed over.
     fn pass(&mut self, count: u64)
         ensures inner { self.new.inner ≡ self.old.inner }
         ensures ahead { self.new.ahead ≡ self.old.ahead - count }

@@ -18,7 +18,7 @@ use bw_stream::{IoFailed, Source};
 /// The most chunks that are read before the samples.
 const MOST_CHUNKS: u32 = 4_096;
 
-/// No file is read whose samples have as many bytes.
+/// A file with this many bytes or more after the head of its samples is refused.
 const LARGEST: u64 = 1 << 62;
 
 /// What the bytes before a file's samples say, and how many bytes follow them.
@@ -36,7 +36,7 @@ pub struct DataHead {
     pub rest: u64,
 }
 
-/// Where the next head is wanted, and the block align so far.
+/// Where the next head would be, and the block align so far.
 #[derive(Clone, Copy)]
 pub(crate) struct Reached {
     place: u64,
@@ -64,7 +64,7 @@ pub(crate) enum Step {
 ///
 /// # Errors
 /// TooMany, NoData, NoSize, BadFmt, Truncated: of the chunks before the samples; TooLarge for 2^62
-/// bytes after that head; Read.
+/// bytes or more after that head; Read.
 pub fn find_data<R: Source>(reader: &mut R) -> Result<Option<DataHead>, InspectFault>
     ensures ok { IfOk result (λ found. Of (R.left reader.old) (λ b. FindsData b found)) }
     ensures err { IfErr result (λ f. Of (R.left reader.old) (λ b.
@@ -117,7 +117,7 @@ fn form_in(bytes: &[u8]) -> Option<u32>
     }
 }
 
-/// What a file is whose first bytes have this fault: one that lacks them is no RIFF file.
+/// The answer where reading the first 12 bytes failed: a file that lacks them is no RIFF file.
 fn without_form(fault: InspectFault) -> Result<Option<u32>, InspectFault>
     ensures { result ≡ (if is_failed_read fault.kind then Err fault else Ok None) }
 {
@@ -223,7 +223,7 @@ fn pass_chunk<R: Source>(reader: &mut R, chunk: ChunkAt, align: u16) -> Result<u
 /// How many bytes the reader still has, after the head of `data` at a place.
 ///
 /// # Errors
-/// TooLarge for 2^62 bytes, at the head; Read.
+/// TooLarge for 2^62 bytes or more, at the head; Read.
 fn count_rest<R: Source>(reader: &mut R, place: u64) -> Result<u64, InspectFault>
     requires { place < 2 ^ 62 }
     ensures ok { IfOk result (λ n. AtPlace (R.left reader.old) (place + 8) (λ b.
