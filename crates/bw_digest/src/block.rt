@@ -19,7 +19,7 @@ pub(crate) const BLOCK: usize = 64;
 /// A block of each message.
 pub(crate) type Blocks = [[u8; BLOCK]; LANES];
 
-/// Hashes a block of each message, which brings each hash value up to it.
+/// Updates the hash value of each message by one block of it.
 pub(crate) fn compress(state: &mut [u32x8; 8], blocks: &Blocks)
     ensures { InEachLane (λ j. lane j state.new
         ≡ compress (lane j state.old) (slice_index_or blocks.now j [])) }
@@ -133,7 +133,7 @@ fn sixteen_rounds(window: &mut [u32x8; 16], v: [u32x8; 8], turn: usize) -> [u32x
     four_rounds(window, v, turn, 12)
 }
 
-/// Round `16 * turn + place`, from the sixteenth on, which makes its word.
+/// Round `16 * turn + place`, from the sixteenth on, which also computes its word of the schedule.
 #[inline(always)]
 fn next_round(window: &mut [u32x8; 16], v: [u32x8; 8], turn: usize, place: usize) -> [u32x8; 8]
     requires low { 1 ≤ turn }

@@ -58,7 +58,8 @@ pub(crate) fn tail_of(body: &[u8]) -> Tail
     tail
 }
 
-/// What stands between the end of a message, so many bytes into a block, and its length.
+/// What is between a message that ends so many bytes into a block and its length: a bit 1, then
+/// zeros.
 fn padding(used: usize) -> &'static [u8]
     requires { used < 64 }
     ensures { result.now ≡ 0x80 ∷ replicate ((119 - used) % 64) 0 }

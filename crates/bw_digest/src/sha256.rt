@@ -13,8 +13,8 @@ use std::simd::u32x8;
 
 /// The SHA-256 digests (FIPS 180-4) of eight messages of any lengths.
 ///
-/// It takes about as long as the longest of them, so they should be of like lengths; where there
-/// are fewer, the others may be empty.
+/// The time that it takes depends on the longest of them alone, so they should have similar
+/// lengths; if there are fewer messages, the others may be empty.
 pub fn digests(messages: &[&[u8]; LANES]) -> [[u8; 32]; LANES]
     ensures { InEachLane (λ j. slice_index_or result j [] ≡ sha256 (lent_at messages.now j)) }
 {
@@ -94,7 +94,7 @@ fn most_blocks(messages: &[&[u8]; LANES]) -> usize
     most
 }
 
-/// Keeps the hash value of each message that has so many blocks.
+/// Keeps the hash value of each message that has exactly `done` blocks.
 fn keep_ended(
     hashes: &mut [[u32; 8]; LANES],
     state: &[u32x8; 8],
@@ -148,7 +148,7 @@ fn hash_at_end(
     }
 }
 
-/// The words of a message.
+/// The hash value of the message at a place.
 fn hash_in(state: &[u32x8; 8], place: usize) -> [u32; 8]
     requires { place < 8 }
     ensures { result ≡ lane place state.now }
@@ -165,7 +165,7 @@ fn hash_in(state: &[u32x8; 8], place: usize) -> [u32; 8]
     ]
 }
 
-/// The word of a message.
+/// The word of the message at a place.
 fn word_in(words: u32x8, place: usize) -> u32
     requires { place < 8 }
     ensures { result ≡ slice_index words place }

@@ -19,7 +19,9 @@ pub enum Notice {
     TableFull = 35,
     /// The server had no memory for it.
     NoRoom = 36,
-    /// The store failed: the message is kept, and tried again when the next one of its name comes.
+    /// The store or the journal failed: the message is kept, and tried again when the next one of
+    /// its name comes. If takes can rest, with `next` 0 also: the name couldn't be woken, or had no
+    /// place, and nothing of it has changed.
     DelayedStore = 37,
     /// The answer to an ask.
     Next = 39,
