@@ -116,7 +116,8 @@ impl<D: Volume> MortalDisk<D> {
         answer
     }
 
-    /// Whether it dies in the next call, and does it all the same if it can't be done in part.
+    /// Whether it dies in the next call, and yet does that call if it is one that can't be done in
+    /// part.
     pub(crate) fn succeeds_unseen(&self) -> bool
         ensures { IsTrue result ↔
             ((self.now.calls ≡ self.now.life) × (0 < self.now.reached)) }

@@ -215,7 +215,7 @@ pub(crate) fn put_retouched_header<S: TakeStore>(
     Ok(())
 }
 
-/// Writes the sizes of longer data into a header that stays one of RIFF, or of BW64.
+/// Writes the sizes of longer data into a header that stays RIFF, or BW64.
 fn put_grown_sizes<S: TakeStore>(
     store: &mut S,
     name: &Name,
@@ -252,7 +252,7 @@ fn put_grown_sizes<S: TakeStore>(
     Ok(())
 }
 
-/// Writes the form size with cue points into a header that stays one of RIFF, or of BW64.
+/// Writes the form size with cue points into a header that stays RIFF, or BW64.
 fn put_closed_size<S: TakeStore>(
     store: &mut S,
     name: &Name,

@@ -1,4 +1,4 @@
--- The faults of recordings as they are answered and printed.
+-- The faults of recordings as they are returned and printed.
 use Rattle.std.specs.Prelude.{List, ◌++◌, Option, Some, None, option_map, codes, decimal, ℕ}
 use Rattle.bw_inspect.specs.Faults.{kind_of, name_of}
 use Rattle.bw_plan.specs.Recordings as recording

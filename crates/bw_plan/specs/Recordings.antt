@@ -158,7 +158,7 @@ abbrev pub raw_fields : Option (RawBext × ℕ) → List (List ℕ)
 raw_fields None = []
 raw_fields (Some b) = bext_fields b.0
 
--- the recording that the notes tell, where none of the lines below holds
+-- the recording that the notes give, where none of the lines below holds
 abbrev pub outline : FileNotes → Outline
 outline n =
     let format = recorded_format n.report.fmt in
@@ -236,7 +236,7 @@ recording_faults o n =
     format_faults n.report.fmt n.extension (head_place (codes "fmt ") n.report.chunks)
     ++ faults_of_content o n (set_outline o n)
 
--- the recording that the notes tell, but for the samples, or its first fault
+-- the recording that the notes give, without the samples, or its first fault
 unfoldable pub outline_of : Options → FileNotes → Result Outline FaultAt
 outline_of o n = unless (first_that_holds (recording_faults o n)) (set_outline o n)
 

@@ -99,7 +99,9 @@ impl Ask<'_> {
 /// What a body spells.
 #[derive(Clone, Copy, Debug)]
 pub enum Frame<'a> {
+    /// A message.
     Message(Message<'a>),
+    /// An ask.
     Ask(Ask<'a>),
     /// The end of the exchange.
     Bye,
