@@ -49,7 +49,7 @@ fn main(rt: HostRuntime) -> ExitCode {
     start(rt.alloc(), &mut outside)
 }
 
-/// What standard output shows screens on.
+/// How screens are shown on standard output: on a terminal in place, else as lines.
 fn screen_style(rt: &HostRuntime) -> ScreenStyle {
     if rt.stdout().is_terminal() {
         ScreenStyle::Terminal

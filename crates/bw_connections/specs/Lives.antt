@@ -162,13 +162,13 @@ EndsWithFault (Over ends.ReadFault) broken = broken
 EndsWithFault (Over ends.WriteFault) broken = broken
 EndsWithFault _ broken = Unit {0}
 
--- it isn't an end for silence
+-- the connection wasn't ended as silent
 abbrev pub IsNoSilence : ConnectionEnd → Type 0
 IsNoSilence Idle = ⊥
 IsNoSilence (Over end) = Unit {0}
 
--- How a quantum ends a connection that is served: not for silence, and at a bad frame only if that
--- was cut off, since after every other one it is drained first.
+-- How a quantum ends a connection that is served: not as silent, and at a bad frame only if that
+-- was cut off, since after every other bad frame the connection is drained first.
 abbrev pub EndsServed : ConnectionEnd → Type 0
 EndsServed (Over (ends.BadFrame fault)) = reason_meaning fault.reason ≡ Cut
 EndsServed end = IsNoSilence end

@@ -73,9 +73,9 @@ abbrev pub WakesAt : {L : Type 0} → ℕ → Bool → Bool → Connections L �
 WakesAt {L} place bytes room m m' = (c : Connection L) → HoldsConnectionAt m place c →
     (c' : Connection L) × HoldsConnectionAt m' place c' × Wakes bytes room c c'
 
--- The connection that is over, if one is, is no longer at this place. It didn't end for silence; one
--- that was served, at a bad frame only if it was cut off, since after every other one it is drained
--- first; and one that was drained, once nothing more came.
+-- The connection that is over, if one is, is no longer at this place. It wasn't ended as silent.
+-- One that was served ended at a bad frame only if that was cut off, since after every other bad
+-- frame it is drained first; and one that was drained ended once nothing more came.
 pub record ClosesAt {L : Type 0} (G : LinkGhosts L) (place : ℕ) (closed : Option (Closed L))
     (m m' : Connections L) : Type 0 where
   pub left : IfSome closed (λ x. IsEmpty place m')

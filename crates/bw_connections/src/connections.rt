@@ -109,8 +109,8 @@ impl<L: Link + Drop> Connections<L> {
         self.next
     }
 
-    /// How many links were refused because no connection could be begun over them. Stays at 2^64 -
-    /// 1.
+    /// How many links were refused because no connection could be begun over them; at most 2^64 - 1
+    /// are counted.
     pub fn refused(&self) -> u64
         ensures { result ≡ refused_of self.now }
     {

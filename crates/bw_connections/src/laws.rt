@@ -3,9 +3,10 @@ ghost use Rattle.bw_connections.specs.Served.{EachIsServed};
 
 use bw_ports::Link;
 
-/// Whatever came between its turns, each connection's frames are the first of the bytes that its
-/// own link gave, and what the link took is a prefix of their replies: followed by what is still
-/// unsent, exactly these. When it is over its end says how far it got, unless it ended for silence.
+/// Whatever came between its turns, each connection's answered frames are the first of the bytes
+/// that its own link gave, and what the link took, followed by what is still unsent, is exactly
+/// their replies, and the one to a bad frame after them. When the connection is over its end says
+/// how far it got, unless it was ended as silent.
 pub fn law_connections<L: Link>()
     ensures { EachIsServed L.Link }
 {

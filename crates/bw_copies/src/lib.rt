@@ -1,4 +1,5 @@
-//! What the file of a recording is at the server, when it is read again: laws, which nothing runs.
+//! What the server's file of a recording is read as. Each function's contract is a law; nothing
+//! runs.
 #![tactic(auto)]
 
 ghost use Rattle.bw_copies.specs.Copies.{CleansOnce, CopiesAreEqual, PcmCopiesAreEqual};

@@ -90,7 +90,7 @@ IsOfAnother name (Asks x n) = Unit {0}
 IsOfAnother name Bye = Unit {0}
 
 -- A server answered these frames, over many links. Those with these numbers are the sender's, over
--- which it said its requests; over each other one, whatever came, no message of its name did.
+-- which it sent its requests; over no other one came a message of its name.
 pub record IsJoined (name : List ℕ) (requests : List Request) (links : List (ℕ × LinkBytes))
     (trace : List Tagged) : Type 0 where
   pub own_links : (n : ℕ) (l : LinkBytes) → Contains links (n, l) →

@@ -42,7 +42,7 @@ SecondRunExample =
     × (map stored (reran second_run).runs ≡ 1 ∷ 3 ∷ [])
     × (file_in (reran second_run).book ≡ Some small_file)
 
--- the first message comes once more, and the replies to the second run come to the first and to a
+-- the first message is delivered once more, and the replies to the second run reach the first and a
 -- third, which began where the first was
 abbrev pub late_replies : List RerunEvent
 late_replies = second_run

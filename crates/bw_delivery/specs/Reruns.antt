@@ -13,8 +13,8 @@ use Rattle.bw_model.specs.Exchange.{take_in}
 use Rattle.bw_model.specs.World.{Sender, World, IsFaithful, settled, offer, hear, new_world}
 
 -- The runs of a sender, each with what was offered to it and the verdicts that it heard. Everything
--- ever sent and ever written stays, and any of it may come to the server, or to any run, again and
--- in any order.
+-- ever sent and ever written stays, and any of it may reach the server, or any run, again and in
+-- any order.
 pub record Reruns : Type 0 where
   pub name : List ℕ
   -- what each run is to send, from number 0 on
@@ -35,8 +35,8 @@ new_reruns name requests = record {
   replies = [];
 }
 
--- What may happen next. A run that is killed is one to which nothing happens any more; runs may
--- also go on beside each other.
+-- What may happen next. A run that is killed is one to which nothing happens any more; several runs
+-- may also be active at once.
 pub data RerunEvent : Type 0 where
   -- a run starts, from number 0
   Starts : RerunEvent
@@ -46,13 +46,13 @@ pub data RerunEvent : Type 0 where
   Offers : ℕ → RerunEvent
   -- the i-th run sends the request that was offered to it under the number n
   Sends : ℕ → ℕ → RerunEvent
-  -- the k-th message that was sent comes to the server
+  -- the k-th message that was sent reaches the server
   Delivers : ℕ → RerunEvent
-  -- the k-th reply that was written comes to the i-th run
+  -- the k-th reply that was written reaches the i-th run
   Brings : ℕ → ℕ → RerunEvent
   -- the server is asked for the sender's name
   AskedFor : RerunEvent
-  -- a message or an ask of another recorder comes to the server
+  -- a message or an ask of another recorder reaches the server
   Others : Frame → RerunEvent
 
 -- one more run
@@ -87,12 +87,12 @@ abbrev pub sent_by : Reruns → Option Sender → ℕ → Reruns
 sent_by x None n = x
 sent_by x (Some s) n = sent_under x n (slice_get s.offered n)
 
--- a frame comes to the server, and its replies are written
+-- a frame reaches the server, and its replies are written
 abbrev pub met : (List ℕ → Bool) → Reruns → Frame → Faults → Reruns
 met existed x f faults =
     let t = turn existed x.book f faults in record x { book = t.1; replies = x.replies ++ t.0 }
 
--- a message comes to the server, if there is one
+-- a message reaches the server, if there is one
 abbrev pub delivered_to : (List ℕ → Bool) → Reruns → Option Message → Faults → Reruns
 delivered_to existed x None faults = x
 delivered_to existed x (Some m) faults = met existed x (Says m) faults
@@ -103,7 +103,7 @@ heard_by None r = None
 heard_by (Some s) None = Some s
 heard_by (Some s) (Some r) = Some (hear s r)
 
--- all of it after an event
+-- the runs, the server and the network after an event
 unfoldable pub rerun_step : (List ℕ → Bool) → Reruns → RerunEvent → Faults → Reruns
 rerun_step existed x Starts faults = begun x (Some (new_world x.name).sender)
 rerun_step existed x (Resumes i) faults = begun x (slice_get x.runs i)
@@ -115,7 +115,7 @@ rerun_step existed x (Brings i k) faults =
 rerun_step existed x AskedFor faults = met existed x (Asks x.name 0) faults
 rerun_step existed x (Others f) faults = if is_of x.name f then x else met existed x f faults
 
--- all of it after a schedule
+-- the same after a schedule
 abbrev pub reruns_after : (List ℕ → Bool) → Reruns → List (RerunEvent × Faults) → Reruns
 reruns_after existed x [] = x
 reruns_after existed x (e ∷ es) = reruns_after existed (rerun_step existed x e.0 e.1) es

@@ -1,4 +1,4 @@
-//! What senders and a server come to together: laws of the definitions. No function runs.
+//! What senders and a server achieve together: laws of the definitions. No function runs.
 #![tactic(auto)]
 
 ghost use Rattle.bw_delivery.specs.Reruns.{EachRunIsFaithful, RunsHearOneVerdict, SettledRunsAreWhole};
@@ -13,19 +13,21 @@ use bw_journal::Journal;
 use bw_store::TakeStore;
 
 /// A sender may be started again, from number 0 or from where it was, any number of times, with the
-/// same requests: each run counts only what the server's take has, and once one of them has all
-/// verdicts, that take is what the requests make.
+/// same requests: each run counts only what the server's take has, no two runs have different
+/// verdicts on one number, and once one of them has all verdicts, that take is what the requests
+/// make.
 pub fn law_reruns()
     ensures faithful { EachRunIsFaithful }
     ensures one_verdict { RunsHearOneVerdict }
     ensures whole { SettledRunsAreWhole }
 {}
 
-/// A sender's requests come to a server over links that give each end a prefix of what the other
-/// end wrote: whoever else sends, under other names, what is done under the sender's name are the
-/// first of its requests, and each verdict that it hears is theirs. Once it has heard that each is
-/// stored, the server's take is what they make, each applied once in their order; and if one of
-/// them is a CLOSE, an honest store has that take's file from then on.
+/// A sender's requests reach a server over links that give each end a prefix of what the other end
+/// wrote, and nothing else was admitted under its name before. Whoever else sends, under other
+/// names: the requests that are done under the sender's name are the first of its own, and each
+/// verdict that it hears is on one of these. Once it has heard that each is stored, the server's
+/// take is what they make, each applied once in their order; and if one of them is a CLOSE, an
+/// honest store has that take's file from then on.
 pub fn law_delivered()
     ensures heard { DeliveriesAreTrue }
     ensures whole { StoredDeliveriesAreWhole }
@@ -42,7 +44,7 @@ pub fn law_delivered_at_rest<S: TakeStore, J: Journal>()
     ensures closed { ClosedTakesAtRestStay S.TakeStore J.Journal }
 {}
 
-/// Worked rows: a run that is killed, the next one, and replies to the first that come late.
+/// Worked rows: a run that is killed, the next one, and replies that reach other runs late.
 pub fn examples_of_reruns()
     ensures killed { KilledRunExample }
     ensures second { SecondRunExample }

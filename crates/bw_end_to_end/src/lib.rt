@@ -1,5 +1,5 @@
-//! What the program's commands come to together, each by the relation that its contract states: laws,
-//! which nothing runs.
+//! What the program's commands achieve together, each by the relation that its contract states.
+//! Each function's contract is a law; nothing runs.
 #![tactic(auto)]
 
 ghost use Rattle.bw_end_to_end.specs.Promises.{ClosedTakesHaveFiles, SendersCountTakes};
@@ -20,7 +20,7 @@ use bw_stream::Sink;
 use bw_upload::Feed;
 
 /// A sender that has the verdict Stored for each of its requests may rely on the server's file:
-/// whatever else came to the server under other names, its take is what these requests make, each
+/// whatever else reached the server under other names, its take is what these requests make, each
 /// applied once in their order, and if one of them is a CLOSE, an honest store has that take's file,
 /// byte for byte, from then on.
 pub fn law_promise<S: TakeStore, J: Journal>()
@@ -58,7 +58,7 @@ pub fn law_served<L: Link>()
 {}
 
 /// The same of a server that serves one exchange after another: it answered the frames of all its
-/// exchanges, and each over the link of its own peer. So it is where closed takes rest.
+/// exchanges, each over the link of its own peer. This holds also where closed takes rest.
 pub fn law_served_in_turn<S: TakeStore, J: Journal, P: Peers, O: Sink, E: Sink>()
     ensures table { (log : Bool) → RunsAnswerInTurn (ServerTurn S.TakeStore J.Journal) P.Peers
         P.Reader.Source P.Writer.Sink O.Sink E.Sink log }

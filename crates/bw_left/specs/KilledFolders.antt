@@ -1,4 +1,4 @@
--- What a server over a folder leaves on its disks that is killed.
+-- What a server over a folder leaves on its disks when it is killed.
 use Rattle.std.specs.Prelude.{◌≡◌, ℕ, Option, is_some, List, map}
 use Rattle.bw_model.specs.Wire.{Message, Says}
 use Rattle.bw_model.specs.Book.{Book}
@@ -22,7 +22,7 @@ use Rattle.bw_left.specs.StoppedTurns.{RunsHonestly, HadTurns}
 module _ {D E F H : Type 0} (G : DiskGhosts D F) (K : DiskGhosts E H)
     (S : StoreGhosts (FolderStore D F G)) (J : JournalGhosts (FolderJournal E H K)) where
   -- A server was killed: these messages had their turns, from this book, and two disks have what
-  -- `start` takes as its premise, from the book that the life left.
+  -- `start` takes as its premise, from the book that the server left.
   pub record IsKilledOver (first : List ℕ → Option (List ℕ)) (book : Book) (messages : List Message)
       (new : Server (FolderStore D F G) (FolderJournal E H K) S J)
       (notes takes : List ℕ → Option (List ℕ)) (life : StoppedLife) : Type 0 where
@@ -31,9 +31,9 @@ module _ {D E F H : Type 0} (G : DiskGhosts D F) (K : DiskGhosts E H)
     pub ahead : GoesAhead (book_after (λ name. is_some (first name)) book life.turns) life.left
     pub left : IsLeftIn (server_limit new) (takes_folder (server_store new)) first life.left notes takes
 
-  -- Whatever its disks are, as those that die in a call, if they are honest: a server over one folder
-  -- that is stopped after any turns, or in the last of them, leaves that, whichever calls failed in any
-  -- of them. The two disks are those that the next start is given, which show the folder as it was left.
+  -- A server over one folder, on any honest disks, such as those that die in a call, leaves that if
+  -- it is stopped after any turns, or in the last of them, whichever calls failed in any of them.
+  -- The two disks are those that the next start is given, which show the folder as it was left.
   abbrev pub KilledFoldersAreLeft : Type 0
   KilledFoldersAreLeft = (first : List ℕ → Option (List ℕ))
       (old new : Server (FolderStore D F G) (FolderJournal E H K) S J) (book : Book)

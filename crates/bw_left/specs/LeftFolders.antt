@@ -22,7 +22,7 @@ use Rattle.bw_start.specs.Names.{begins_take}
 use Rattle.bw_start.specs.LeftNames.{header_beside, IsLeftName, IsLeft}
 use Rattle.bw_start.specs.Started.{IsLeftIn}
 
--- What a start asks of a folder that isn't up to its server: the journals are for its limit, only
+-- What a start requires of a folder that no server ensures: the journals are for its limit, only
 -- names have one, and beside one that isn't begun no file existed that begins as this server's do.
 pub record IsOwnFolder (limit : ℕ) (first : List ℕ → Option (List ℕ)) (header : List ℕ → Header)
     (notes : List ℕ → Option (List ℕ)) : Type 0 where
@@ -54,7 +54,7 @@ pub record LeavesLater (limit : ℕ) (first : List ℕ → Option (List ℕ)) (b
   pub ahead : GoesAhead book later
   pub left : IsLeft limit first later journals files
 
--- What such a book leaves when it is cut has each done number, with its verdict.
+-- Such a book, cut to its done numbers, has each done number of the first one, with its verdict.
 abbrev pub LaterBooksForgetNothing : Type 0
 LaterBooksForgetNothing = (existed : Bool) (book later : Book) (name : List ℕ) (n : ℕ) →
     GoesAhead book later → n < (log_of book name).done →
@@ -100,8 +100,8 @@ module _ {X Y : Type 0} (S : StoreGhosts X) (J : JournalGhosts Y) where
       IsWrittenInOrder (server_limit s) (first name) name (log_of book name) (J.notes (server_journal s) name)
       (S.contents (server_store s) name)
 
-  -- A server under none of whose names a number waits, as after turns in which no call failed,
-  -- leaves what a start takes over from the very book.
+  -- A server of which no number waits, as after turns in which no call failed, leaves what a start
+  -- takes over, from its own book.
   abbrev pub QuietServersAreLeft : Type 0
   QuietServersAreLeft = (first : List ℕ → Option (List ℕ)) (s : Server X Y S J) (book : Book) →
       RunsOver first s book → ((name : List ℕ) → is_pending (log_of book name) ≡ false) →

@@ -5,8 +5,8 @@ use Rattle.bw_start.specs.Paths.{wave_path, notes_path, rest_path}
 use Rattle.bw_start.specs.Started.{IsLeftIn}
 use Rattle.bw_left.specs.RestingFolders.{IsLeftResting}
 
--- Nothing is noted in a folder, under any name, and none rests; these are its files, of which its two
--- disks show alike whether they are there.
+-- Nothing is noted in a folder, under any name, and no name rests; these are its files, and its two
+-- disks agree on which of them exist.
 pub record IsNewFolder (folder : List ℕ) (first notes takes : List ℕ → Option (List ℕ)) : Type 0 where
   pub files : (name : List ℕ) → takes (wave_path folder name) ≡ first name
   pub no_notes : (name : List ℕ) → notes (notes_path folder name) ≡ None
@@ -30,7 +30,7 @@ EmptyFoldersAreNew = (folder : List ℕ) (notes takes : List ℕ → Option (Lis
     ((name : List ℕ) → takes (wave_path folder name) ≡ None) →
     IsNewFolder folder (λ name. None) notes takes
 
--- A folder that a server left which let no names rest is one for a server that lets them rest.
+-- A server that lets names rest takes over a folder that was left by one that let none rest.
 abbrev pub FoldersWithoutRestAreLeft : Type 0
 FoldersWithoutRestAreLeft = (limit : ℕ) (folder : List ℕ) (first : List ℕ → Option (List ℕ)) (book : Book)
     (notes takes : List ℕ → Option (List ℕ)) → IsLeftIn limit folder first book notes takes →

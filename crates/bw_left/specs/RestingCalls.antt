@@ -79,7 +79,8 @@ module _ {X Y : Type 0} (S : StoreGhosts X) (J : JournalGhosts Y) where
       RestingTurn S J old f replies new →
       (t : FolderTurn S J first old new book f replies) × RestsHonestly first new t.later
 
-  -- It stays where it is.
+  -- The server's limit and folder stay the same, as far as its store and its journal report a
+  -- folder.
   pub record StaysInFolder (old new : Server X Y S J) : Type 0 where
     pub limit : server_limit new ≡ server_limit old
     pub store : S.folder (server_store new) ≡ S.folder (server_store old)

@@ -20,8 +20,9 @@ use Rattle.bw_start.specs.RestingStarts.{StartsOver}
 use Rattle.bw_start.specs.Started.{IsLeftIn, IsSetTo}
 use Rattle.bw_start.specs.declared.resting.Settings.{Settings}
 
--- A name rests in a folder: NAME.closed is the journal of its closed take, with each done number, whose
--- file is there, and it has no other journal. So it is too of one that woke, while nothing is noted.
+-- A name rests in a folder: NAME.closed is the journal of its closed take, with each done number;
+-- the take's file is there, and the name has no other journal. The same holds of a name that woke,
+-- until something is noted under it.
 pub record IsLeftAtRest (limit : ℕ) (name : List ℕ) (known : Bool) (log : Log)
     (first closed journal file : Option (List ℕ)) : Type 0 where
   pub is_known : known ≡ true

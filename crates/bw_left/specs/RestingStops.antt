@@ -31,7 +31,7 @@ pub record LeavesRestingLater (limit : ℕ) (folder : List ℕ) (first : List �
   pub left : IsLeftResting limit folder first later notes takes
 
 -- In a folder that is left so each name that rests has no other journal and may wake, so that none
--- stands in a server's way that lets names rest.
+-- is in the way of a server that lets names rest.
 abbrev pub LeftNamesMayWake : Type 0
 LeftNamesMayWake = (limit : ℕ) (folder : List ℕ) (first : List ℕ → Option (List ℕ)) (book : Book)
     (notes takes : List ℕ → Option (List ℕ)) → limit < 2 ^ 32 →

@@ -38,7 +38,7 @@ GaveVerdict existed book (t ∷ ts) name n v =
     Contains (turn existed book t.0 t.1).0 (Judged name n v)
     ⊎ GaveVerdict existed (turn existed book t.0 t.1).1 ts name n v
 
--- in one of these lives it was
+-- one of these servers gave it
 abbrev pub GaveInLives : (List ℕ → Bool) → List StoppedLife → List ℕ → ℕ → Verdict → Type 0
 GaveInLives existed [] name n v = ⊥
 GaveInLives existed (life ∷ lives) name n v =

@@ -1,4 +1,4 @@
--- What a server leaves in its folder that is stopped within a turn, by what `turn` of bw_session
+-- What a server leaves in its folder when it is stopped within a turn, by what `turn` of bw_session
 -- states.
 use Rattle.std.specs.Prelude.{◌≡◌, ℕ, false, Option, Some, is_some, IsTrue, List, [], ◌∷◌, map}
 use Rattle.bw_model.specs.Wire.{Message, Says, Second, is_frame}
@@ -18,8 +18,9 @@ use Rattle.bw_left.specs.LeftFolders.{RunsOver, LeavesLater, GoesAhead}
 use Rattle.bw_left.specs.StoppedLives.{StoppedLife}
 
 module _ {X Y : Type 0} (S : StoreGhosts X) (J : JournalGhosts Y) where
-  -- The server holds the book over an honest store, and an honest journal has what the book says, in
-  -- the order that each turn keeps. No file that begins as this server's existed under a name of which nothing is done.
+  -- The server holds the book over an honest store, and an honest journal has what the book says,
+  -- in the order that each turn keeps. No file that begins as this server's existed under a name of
+  -- which nothing is done.
   pub record RunsHonestly (first : List ℕ → Option (List ℕ)) (s : Server X Y S J) (book : Book) :
       Type 0 where
     pub runs : RunsOver S J first s book
@@ -56,7 +57,7 @@ module _ {X Y : Type 0} (S : StoreGhosts X) (J : JournalGhosts Y) where
       × LeavesLater (server_limit new) first later (J.notes (server_journal new)) (S.contents (server_store new))
 
   -- A server was killed, and left this: these messages had their turns, from this book, and the
-  -- folder is one that a start takes over from the book that the life left.
+  -- folder is one that a start takes over from the book that the server left.
   pub record IsKilled (first : List ℕ → Option (List ℕ)) (book : Book) (messages : List Message)
       (new : Server X Y S J) (life : StoppedLife) : Type 0 where
     pub began : life.began ≡ book

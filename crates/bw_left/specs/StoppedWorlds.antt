@@ -25,7 +25,7 @@ after_world_step existed w (Dies m faults left) = record w { book = left }
 after_world_step existed w (Stops left) = record w { book = left }
 after_world_step existed w Starts = record w { book = cut_book w.book }
 
--- the message may come to the server: the sender sent it, or it is another recorder's
+-- the message may reach the server: the sender sent it, or it is another recorder's
 abbrev pub MayCome : World → Message → Type 0
 MayCome w m =
     ((k : ℕ) × (slice_get w.sent k ≡ Some m)) ⊎ (is_of w.sender.name (Says m) ≡ false)

@@ -27,11 +27,12 @@ pub use resting::{
     law_resting_starts, law_resting_stops,
 };
 
-/// Wherever a server is stopped, what its relations say of its store and its journal is what `start`
-/// of `bw_start` takes as its premise: between turns that met no failure of its very book; within a
-/// turn, or after a failure, of that book or of one in which numbers that waited are done, if each
-/// was written in order. Such a book has every done number, with its verdict; and no server leaves a
-/// journal in which an entry that was answered is cut.
+/// Wherever a server is stopped, what its relations say of its store and its journal is what
+/// `start` of `bw_start` takes as its premise. If no number waits, as after turns in which no call
+/// failed, it holds of the server's own book; within a turn, or after a failure, of that book or of
+/// one in which numbers that waited are done, if each of these was written in order. Such a book
+/// has every done number, with its verdict; and no server leaves a journal in which an entry that
+/// was answered is cut.
 pub fn law_left<S: TakeStore, J: Journal>()
     ensures quiet { QuietServersAreLeft S.TakeStore J.Journal }
     ensures ordered { OrderedServersAreLeft S.TakeStore J.Journal }
@@ -41,18 +42,18 @@ pub fn law_left<S: TakeStore, J: Journal>()
     ensures folder { LeftNamesAreInFolders }
 {}
 
-/// Whichever calls of store or journal fail, as in a disk that dies in one or is full for a while, the
-/// folder is one that a start takes over after each turn and in it: also while a number waits whose
-/// note failed. The order of file and entry, which is asked at the start, holds where no number waits,
-/// as in a server that was started (`bw_session::law_order`).
+/// Whichever calls of store or journal fail, as in a disk that dies in one or is full for a while,
+/// the folder is one that a start takes over, after each turn and within it: also while a number
+/// waits whose note failed. The premise on the order of file and entry holds where no number waits,
+/// as in a server that was just started (`bw_session::law_order`).
 pub fn law_stopped<S: TakeStore, J: Journal>()
     ensures turn { StoppedTurnsAreLeft S.TakeStore J.Journal }
     ensures killed { KilledServersAreLeft S.TakeStore J.Journal }
 {}
 
-/// The same by the disks of a folder, as those that die in a chosen call (`MortalDisk` of `bw_disk`):
-/// on any two that show the folder as a stopped server left it, `start` finds what it takes as its
-/// premise.
+/// The same of the disks of a folder, such as those that die in a chosen call (`MortalDisk` of
+/// `bw_disk`): on any two that show the folder as a stopped server left it, `start` finds what it
+/// takes as its premise.
 pub fn law_killed<D: Volume, E: Volume>()
     ensures { KilledFoldersAreLeft D.Disk E.Disk ⟦<FolderStore<D> as TakeStore>⟧
         ⟦<FolderJournal<E> as Journal>⟧ }
@@ -86,10 +87,10 @@ pub fn law_served_worlds<D: Volume, E: Volume>()
         ⟦<FolderJournal<E> as Journal>⟧ }
 {}
 
-/// A start that fails, in whichever call, leaves the very book that the last server left: so however
-/// many starts fail one after the other over a folder, the next one takes that book over, and the
-/// server that starts in the end holds each of its done numbers, with its verdict. So it is of a folder in
-/// which names rest.
+/// A start that fails over honest disks, in whichever call, leaves the very book that the last
+/// server left: so however many starts fail one after the other over a folder, the next one takes
+/// that book over. The server that starts in the end holds each of the book's done numbers, with
+/// its verdict; of a folder in which names rest this law says only that the book is left.
 pub fn law_failed_starts<D: Volume, E: Volume>()
     ensures books { FailedStartsLeaveBooks D.Disk E.Disk }
     ensures server { FailedStartsLoseNothing D.Disk E.Disk ⟦<FolderStore<D> as TakeStore>⟧

@@ -1,4 +1,4 @@
-//! What a server whose names rest leaves in its folder, and the next start takes over: laws of the
+//! What a server whose names rest leaves in its folder and the next start takes over: laws of the
 //! relations that its contracts state. Each function's contract is one; nothing runs.
 ghost use Rattle.bw_left.specs.ExamplesOfRest.{RestingFolderExample};
 ghost use Rattle.bw_left.specs.NewFolders.{EmptyFoldersAreNew, FoldersWithoutRestAreLeft};
@@ -27,8 +27,8 @@ pub fn law_resting_starts<D: Volume, E: Volume>()
 /// A server whose names rest leaves, wherever it is stopped, a folder that the next one takes over, by
 /// `law_resting_starts`: from its book, or from one in which numbers that waited are done. What is asked
 /// of the server is in `StopsResting`, and holds of every one that ran: `law_resting_lives`. In such a
-/// folder each name that rests has no other journal, so that none stands in the next server's way, and may
-/// wake.
+/// folder each name that rests has no other journal, so that none is in the next server's way, and
+/// each may wake.
 pub fn law_resting_stops<D: Volume, E: Volume>()
     ensures left { RestingServersAreLeft D.Disk E.Disk ⟦<FolderStore<D> as TakeStore>⟧
         ⟦<RestingFolderJournal<E> as Journal>⟧ }
@@ -42,9 +42,10 @@ pub fn law_resting_begins<D: Volume, E: Volume>()
         ⟦<FolderJournal<E> as Journal>⟧ ⟦<RestingFolderJournal<E> as Journal>⟧ }
 {}
 
-/// Each frame that a server whose names rest answers keeps `RestsHonestly`, by the calls that its answer is
-/// made of: the turn of a message under whose name nothing rests, and the rest and the waking of a name,
-/// done or not. Its limit and its folder stay, if store and journal tell them.
+/// Each frame that a server whose names rest answers keeps `RestsHonestly`, by the calls that its
+/// answer is made of: the turn of a message under whose name nothing rests, and the rest and the
+/// waking of a name, whether they succeed or fail. Its limit stays, and so does its folder, as far
+/// as store and journal report one.
 pub fn law_resting_calls<S: TakeStore, J: Journal>()
     ensures asked { HonestServersAreInOrder S.TakeStore J.Journal }
     ensures turn { TurnsKeepOrder S.TakeStore J.Journal }
@@ -53,24 +54,25 @@ pub fn law_resting_calls<S: TakeStore, J: Journal>()
     ensures folder { AnswersStayInFolder S.TakeStore J.Journal }
 {}
 
-/// A folder in which no server has run is as one left it to which no message came, whether names may
-/// rest or not: so a first start asks for no earlier server. And what a server left that let no names
-/// rest is what one takes over that lets them rest.
+/// A folder in which no server has run is like one that a server left to which no message came,
+/// whether names may rest or not: so a first start needs no earlier server. And a server that lets
+/// names rest takes over what a server left that let none rest.
 pub fn law_new_folders()
     ensures new { NewFoldersAreLeft }
     ensures empty { EmptyFoldersAreNew }
     ensures without_rest { FoldersWithoutRestAreLeft }
 {}
 
-/// Servers whose names rest follow one another over a folder, over honest stores and journals, each stopped
-/// after whatever frames it answered, of which any calls may have failed, as in a disk that died in one;
-/// starts that fail may come between. If no file that begins as a server's existed at first under a name of
-/// which no number is done, every verdict that any of them gave is that of a number that is done in the
-/// last book. So a sender that said its requests to them, over links that give each end a prefix of what the
-/// other wrote, counts only what the last of them leaves, if no message of its name came over any other link
-/// and the folder had nothing else of the name at first: under its name the first of its requests are done,
-/// and the take is what they make. Once it has heard that all are stored, one of them a CLOSE, the folder
-/// has that take's file. Each server stops as `StopsResting` says.
+/// Servers whose names rest follow one another over a folder, over honest stores and journals, each
+/// stopped after whatever frames it answered, of which any calls may have failed, as in a disk that
+/// died in one; starts that fail may come between. If no file that begins as a server's existed at
+/// first under a name of which no number is done, every verdict that any of them gave is that of a
+/// number that is done in the last book. So a sender that sent its requests to them, over links
+/// that give each end a prefix of what the other wrote, counts only what the last of them leaves,
+/// if no message of its name came over any other link and the folder had nothing else of the name
+/// at first: under its name the first of its requests are done, and the take is what they make.
+/// Once it has heard that all are stored, the take is what all of them make, and if one of them is
+/// a CLOSE, the folder has that take's file. Each server stops as `StopsResting` says.
 pub fn law_resting_lives<D: Volume, E: Volume>()
     ensures verdicts { RestingVerdictsOutliveStops D.Disk E.Disk ⟦<FolderStore<D> as TakeStore>⟧
         ⟦<FolderJournal<E> as Journal>⟧ ⟦<RestingFolderJournal<E> as Journal>⟧ }

@@ -1,4 +1,4 @@
--- What the start of a server comes to, once its folder is to be locked.
+-- What the start of a server results in, where its folder is locked first.
 use Rattle.std.specs.Prelude.{◌≡◌, ℕ, List, IsTrue, Result, Ok, Err}
 use Rattle.bw_disk.specs.declared.disk.Disk.{Ghosts as DiskGhosts}
 use Rattle.bw_folder.specs.declared.folder.FolderStore.{FolderStore}

@@ -1,4 +1,4 @@
--- What the start of a server over a folder of this machine comes to.
+-- What the start of a server over a folder of this machine results in.
 use Rattle.std.specs.Prelude.{◌≡◌, ℕ, Bool, List, IsTrue, Result, Ok, Err, IfOk, MatchResult}
 use Rattle.bw_disk.specs.declared.disk.Disk.{Ghosts as DiskGhosts}
 use Rattle.bw_folder.specs.declared.folder.FolderStore.{FolderStore}

@@ -7,8 +7,9 @@ use std::alloc::{AllocError, Global};
 use std::fs;
 use std::io::ErrorKind;
 
-/// Refuses a folder in which takes have journals, or names rest: a server without them would answer for none of
-/// these takes. Who may not list the folder could keep no journals there, so such a folder passes.
+/// Refuses a folder in which takes have journals, or names rest: a server without journals wouldn't
+/// know these takes' verdicts. A process that may not list the folder can keep no journals there,
+/// so such a folder passes.
 ///
 /// # Errors
 /// `Unfit` with a line for each journal; `Device` if the folder can't be listed; `Memory` if memory

@@ -19,7 +19,7 @@ use std::time::Duration;
 #[derive(Drop)]
 pub struct TcpNetwork<'a> {
     pub(crate) rt: &'a HostRuntime,
-    /// Is filled while a link's calls wait, if there is one.
+    /// The spool, if there is one, is filled while a link's calls wait.
     pub(crate) spool: &'a SpoolCell,
     pub(crate) failures: u64,
     /// The lock of the folder over which a server with journals was started.

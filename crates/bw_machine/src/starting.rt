@@ -75,8 +75,8 @@ impl<'a> StartsResting<FolderServer<'a>> for TcpNetwork<'a> {
 // No clause says what a `SystemDisk` holds, so these start over any disk of this machine: what is
 // proved of a start speaks of what the disks hold.
 
-/// A server over a folder of this machine, which stays locked then; a folder in which names rest is
-/// refused.
+/// A server over a folder of this machine, which stays locked from then on; a folder in which names
+/// rest is refused.
 fn start_without_rest<'a, D: MachineDisk<'a>>(
     network: &mut TcpNetwork<'a>,
     folder: &str,
@@ -91,7 +91,7 @@ fn start_without_rest<'a, D: MachineDisk<'a>>(
     start_in(network, folder, Settings { limit, sync, rest })
 }
 
-/// A server over a folder of this machine, which stays locked then, whose names may rest.
+/// A server whose names may rest, over a folder of this machine, which stays locked from then on.
 fn start_with_rest<'a, D: MachineDisk<'a>>(
     network: &mut TcpNetwork<'a>,
     folder: &str,
@@ -106,7 +106,7 @@ fn start_with_rest<'a, D: MachineDisk<'a>>(
     start_in(network, folder, Settings { limit, sync, rest })
 }
 
-/// A server over a folder of this machine, which stays locked then.
+/// A server over a folder of this machine, which stays locked from then on.
 fn start_in<'a, D: MachineDisk<'a>>(
     network: &mut TcpNetwork<'a>,
     folder: &str,

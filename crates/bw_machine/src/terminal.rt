@@ -50,7 +50,7 @@ impl Terminal {
 }
 
 impl Terminal {
-    /// The same terminal once more.
+    /// Another handle of the same terminal.
     ///
     /// # Not specified
     /// Anything: it has no contract.

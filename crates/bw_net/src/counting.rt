@@ -1,4 +1,4 @@
-//! Calls of the system that fail are counted.
+//! The count of the calls of the system that failed.
 ghost use Rattle.std.specs.Prelude.{◌≡◌};
 ghost use Rattle.bw_stream.specs.Moves.{failures_after};
 

@@ -90,7 +90,7 @@ impl<'a> FollowedFile<'a> {
         }
     }
 
-    /// Whether what is still to come can't be had any more.
+    /// Whether what is still to come is lost, since the spool failed.
     fn is_broken(&self) -> bool {
         match &self.ending {
             Ending::Path(_until) => false,

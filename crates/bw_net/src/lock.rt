@@ -15,7 +15,7 @@ pub struct FolderLock {
 }
 
 impl FolderLock {
-    /// Takes the lock of a folder, as long as the result lives.
+    /// Takes the lock of a folder, which is held until the result is dropped.
     ///
     /// # Errors
     /// `Running` if another process has it; `Unusable` if its file can't be opened, made or locked;

@@ -33,7 +33,7 @@ pub struct TcpReactor<'a> {
     /// How many of these were looked at.
     seen: usize,
     start: Instant,
-    /// The time when it could last be read, in milliseconds since the start.
+    /// The time at the last look at the clock that succeeded, in milliseconds since the start.
     now: u64,
     /// The longest time of the last wait, in milliseconds.
     patience: u64,
@@ -56,8 +56,7 @@ impl<'a> TcpReactor<'a> {
     /// - When it fails, and the kind of the error.
     /// - That its runtime is the one that was given.
     /// - When a wait ends, who is accepted, when `Gone`, `Nobody` and `Closed` are returned, and
-    ///   what
-    ///   time it is.
+    ///   what time it is.
     pub fn listen(
         rt: &'a HostRuntime,
         address: SocketAddr,
@@ -175,7 +174,7 @@ impl Reactor for TcpReactor<'_> {
 }
 
 impl TcpReactor<'_> {
-    /// What registers more sockets that end its waits.
+    /// A registry for more sockets whose events end its waits.
     pub(crate) fn registry(&self) -> io::Result<Registry> {
         self.poll.registry().try_clone()
     }

@@ -6,8 +6,8 @@ use mio::net::TcpStream;
 use std::io::{ErrorKind, Read, Write};
 use std::net::Shutdown;
 
-/// How often a call that signals interrupt is made. A socket's readiness is reported only once, so
-/// the call can't wait for another report.
+/// How often a call that is interrupted by signals is made. A socket's readiness is reported only
+/// once, so the call can't wait for another report.
 const MOST_TRIES: u32 = 16;
 
 /// The link over a recorder's stream. No clause says which bytes it gives and takes.

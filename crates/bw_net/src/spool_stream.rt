@@ -6,8 +6,8 @@ use std::net::SocketAddr;
 use std::os::fd::OwnedFd;
 use std::time::Duration;
 
-/// The seconds that a call waits where no limit is given: the longest time that a poll takes, some 24
-/// days.
+/// The seconds that a call waits where no limit is given: some 23 days, since a poll takes at most
+/// 2^31 - 1 milliseconds.
 const FOR_GOOD: u64 = 2_000_000;
 
 /// A stream whose calls wait as those of a blocking one do, and fill the spool while they wait.

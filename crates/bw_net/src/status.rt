@@ -26,7 +26,7 @@ pub struct TcpStatusPort<'a> {
     registry: Registry,
     waker: Waker,
     start: Instant,
-    /// The time when it could last be read, in milliseconds since the start.
+    /// The time at the last look at the clock that succeeded, in milliseconds since the start.
     now: u64,
     /// When it was started, in seconds since 1970; 0 if that can't be read.
     since: u64,

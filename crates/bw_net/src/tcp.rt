@@ -21,7 +21,7 @@ use std::time::Duration;
 #[derive(Drop)]
 pub struct TcpDial<'a> {
     rt: &'a HostRuntime,
-    /// Is filled while a call waits, if there is one.
+    /// The spool, if there is one, is filled while a call waits.
     spool: &'a SpoolCell,
     address: SocketAddr,
     /// How long a call may wait, if there is a limit.
@@ -63,7 +63,7 @@ impl<'a> TcpDial<'a> {
     }
 }
 
-/// Writes to a server, no faster than it is asked for.
+/// Writes to a server, no faster than the rate that is asked for, if there is one.
 type PacedStream<'a> = PacedSink<
     StdIo<LinkStream<'a>>,
     SpoolPause<'a>,

@@ -34,7 +34,7 @@ pub record LeavesOneName (fs : List Frame) (end : End) (fs' : List Frame) (end' 
   pub frames : fs' ≡ under_one_name fs
   -- the first frame under another name is bad, at its place
   pub other : fs' ≢ fs → end' ≡ BadFrame Name (length (frames_bytes fs'))
-  -- without one it ends alike
+  -- without one it ends as before, or at the same bad frame, which is then bad for its name
   pub alike : fs' ≡ fs → EndsAlike (length (frames_bytes fs)) end end'
 
 -- of each exchange the frames are left up to the first under another name, and none after it

@@ -7,14 +7,15 @@ use arrayvec::ArrayVec;
 use bw_bytes::read_u32;
 use std::marker::Model;
 
-/// The most bytes of a frame up to the end of its name, if that is as long as its byte can say.
+/// The most bytes of a frame up to the end of its name, if that is as long as its length byte
+/// allows.
 const LONGEST_HEAD: usize = 261;
 
 /// The most bytes of such a name.
 const LONGEST_NAME: usize = 255;
 
-/// What is known of an exchange's bytes so far: the first frame's name, and where in a frame they
-/// are.
+/// What is known of an exchange's bytes so far: the first frame's name, and where in a frame the
+/// next byte is.
 #[derive(Drop)]
 pub struct NameFilter {
     first: ArrayVec<u8, LONGEST_NAME>,
@@ -40,7 +41,7 @@ impl Model for NameFilter {
 }
 
 impl NameFilter {
-    /// Before the first byte of an exchange, of which one name alone is given, or any.
+    /// The filter before the first byte of an exchange: it lets one name alone through, or any.
     pub fn new(one_name: bool) -> NameFilter
         ensures { result ≡ starting one_name }
     {
@@ -52,7 +53,7 @@ impl NameFilter {
         }
     }
 
-    /// Puts what is given for the first `count` bytes in their place.
+    /// Replaces the first `count` bytes by those that the filter gives for them.
     pub fn pass(&mut self, bytes: &mut [u8], count: usize)
         requires { count ≤ length bytes.old }
         ensures after { self.new ≡ after_bytes self.old (take count bytes.old) }
@@ -67,7 +68,7 @@ impl NameFilter {
         }
     }
 
-    /// Passes over the next bytes, at most `most`, that are given as they come. Returns how many.
+    /// Passes over the next bytes, at most `most`, that are given unchanged. Returns how many.
     fn pass_over(&mut self, most: usize) -> usize
         ensures most { result ≤ most }
         ensures same { (bytes : List ℕ) → length bytes ≡ result →

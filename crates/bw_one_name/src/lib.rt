@@ -1,5 +1,5 @@
 //! Connections that may have one name alone: a filter of what comes over a link, byte by byte, which
-//! leaves no frame whole under another name than the first's.
+//! makes the first frame whose name isn't the first frame's a bad one.
 #![tactic(auto)]
 
 mod filter;

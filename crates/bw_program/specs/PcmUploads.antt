@@ -34,8 +34,8 @@ pub record IsPcmFileOf (sender : PcmSender) (file : PcmFile) : Type 0 where
   pub bits : file.pcm.bits ≡ min sender.pcm.bits most_in_field
   pub begins : file.pcm.skip ≡ sender.pcm.skip
 
--- whether a path says that a recording that is still made has ended, or the end of standard input does;
--- none where it has ended
+-- by what the end of a recording that is still made is known: a path (true) or the end of standard
+-- input (false); None if it has ended already
 abbrev pub awaited_end : {T : Type 0} → Bool → Option T → Option Bool
 awaited_end true until = Some false
 awaited_end false (Some until) = Some true

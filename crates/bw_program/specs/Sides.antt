@@ -63,8 +63,8 @@ host_side system files states edits locks disk input out reported = record {
   reported = reported;
 }
 
--- what a server keeps files and journals in, those of a server without journals too, and what it
--- hears recorders by
+-- what a server keeps files and journals in, those of a server without journals too, and through
+-- what recorders reach it
 pub record ServerSide (X Y Z P R W L K N SP SK : Type 0) : Type 1 where
   pub store : StoreGhosts X
   pub journal : JournalGhosts Y
@@ -76,7 +76,7 @@ pub record ServerSide (X Y Z P R W L K N SP SK : Type 0) : Type 1 where
   pub link : LinkGhosts K
   -- and how it chooses whether a link may have one name alone
   pub rule : RuleGhosts N
-  -- and by what it hears operators
+  -- and through what operators reach it
   pub status : StatusSide N L SP SK
 
 abbrev pub server_side : {X Y Z P R W L K N SP SK : Type 0} → StoreGhosts X → JournalGhosts Y →

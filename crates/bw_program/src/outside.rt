@@ -20,10 +20,10 @@ pub struct Outside<S, F, D, N, P, R, W, E, V, G> {
     pub out: W,
     /// Standard error.
     pub faults: E,
-    /// Whoever follows a sender's progress, in rounds or of an upload.
+    /// Is shown a sender's progress, of its rounds or of an upload.
     pub watch: V,
-    /// Whoever follows the links of a sender of recordings, where that is asked for.
+    /// Is shown the links of a sender of recordings, where a log is asked for.
     pub log: G,
-    /// What standard output shows screens on.
+    /// How screens are shown on standard output.
     pub screens: ScreenStyle,
 }

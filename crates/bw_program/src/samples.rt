@@ -98,8 +98,8 @@ pub(crate) fn send_pcm_watched<
     exit
 }
 
-/// What says that the recording has ended: the path, or none for the end of standard input; None of
-/// the whole where it has ended.
+/// What says that the recording has ended: `Some(Some(path))` if a file at that path does,
+/// `Some(None)` if the end of standard input does; `None` if it has ended already.
 fn ending_of(sender: &PcmSender) -> Option<Option<&str>>
     ensures { option_map (λ until. is_some until) result
         ≡ awaited_end sender.now.pcm.is_spooled sender.now.pcm.until }

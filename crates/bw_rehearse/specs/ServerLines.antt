@@ -14,7 +14,7 @@ use Rattle.bw_stops.specs.declared.event.StopEvent.TheVariants as events
 abbrev pub IsIndexAfter : List ℕ → List ℕ → ℕ → Type 0
 IsIndexAfter word line index = (text : List ℕ) × (line ≡ word ++ text) × IsIndex text index
 
--- more calls than a disk gets
+-- more calls than are made of a disk
 abbrev pub endless : ℕ
 endless = 2 ^ 64 - 1
 
@@ -61,11 +61,11 @@ IsStopEventFault (NotEvent number) lines = FirstWithout SaysStopEvent 1 lines nu
 IsStopEventFault Memory lines = Unit {0}
 IsStopEventFault _ lines = ⊥
 
--- whether a line is of a server that starts or stops
+-- whether a line begins with `start` or `stop`
 abbrev pub is_of_server : List ℕ → Bool
 is_of_server line =
     starts_with ◌==◌ line (codes "start") || starts_with ◌==◌ line (codes "stop")
 
--- whether some line of an input is
+-- whether some line of an input does
 abbrev pub has_servers : List ℕ → Bool
 has_servers input = list_any is_of_server (lines_of input)

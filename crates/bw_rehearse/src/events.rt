@@ -35,7 +35,7 @@ pub(crate) fn stop_events(alloc: Global, input: &[u8]) -> Result<Vec<StopEvent>,
     Ok(found)
 }
 
-/// Whether a line of an input is of a server that starts or stops.
+/// Whether a line of an input begins with `start` or `stop`.
 pub(crate) fn has_server_line(input: &[u8]) -> bool
     ensures { result ≡ has_servers input.now }
 {

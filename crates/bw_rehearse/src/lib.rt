@@ -1,4 +1,4 @@
-//! The command `rehearse`: by hand, a sender and a server, or servers that stop and start.
+//! The command `rehearse`: runs by hand a sender and a server, or servers that stop and start.
 #![tactic(auto)]
 
 mod command;

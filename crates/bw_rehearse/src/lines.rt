@@ -66,7 +66,7 @@ fn lives(takes: u64, notes: u64) -> Lives
     }
 }
 
-/// The index after a word, if the line is both.
+/// The index after a word, if the line is that word and an index.
 fn index_after(word: &[u8], line: &[u8]) -> Option<usize>
     ensures { MatchOption result ((k : ℕ) → ¬ IsIndexAfter word.now line.now k)
         (λ k. IsIndexAfter word.now line.now k) }
@@ -77,7 +77,7 @@ fn index_after(word: &[u8], line: &[u8]) -> Option<usize>
     index(text)
 }
 
-/// Whether a line is of a server that starts or stops.
+/// Whether a line begins with `start` or `stop`.
 pub(crate) fn is_of_server(line: &[u8]) -> bool
     ensures { result ≡ is_server_line line.now }
 {

@@ -31,7 +31,7 @@ pub record GoesOnFrom (name : List ℕ) (left began : Book) : Type 0 where
 abbrev pub CutBooksGoOn : Type 0
 CutBooksGoOn = (book : Book) (name : List ℕ) → GoesOnFrom name book (cut_book book)
 
--- servers, one after another, each of which goes from one book to another over a sender's links so
+-- servers, one after another, each of which gets from one book to another over a sender's links so
 abbrev pub AreLivesBy : (List (ℕ × LinkBytes) → Book → Book → Type 0) → List ℕ → Book →
     List ServerLife → Book → Type 0
 AreLivesBy Delivers name before [] after = after ≡ before
@@ -39,7 +39,7 @@ AreLivesBy Delivers name before (life ∷ lives) after =
     GoesOnFrom name before life.began × Delivers life.links life.began life.left
     × AreLivesBy Delivers name life.left lives after
 
--- to each of which the sender said its requests
+-- to each of which the sender sent its requests
 abbrev pub AreLives : (List ℕ → Bool) → List ℕ → List Request → Book → List ServerLife → Book → Type 0
 AreLives existed name requests = AreLivesBy (IsDelivery existed name requests) name
 

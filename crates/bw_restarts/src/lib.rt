@@ -1,5 +1,5 @@
-//! What a sender's requests come to where servers follow one another: laws of the definitions, which
-//! nothing runs.
+//! What becomes of a sender's requests where servers follow one another: laws of the definitions.
+//! No function runs.
 #![tactic(auto)]
 
 ghost use Rattle.bw_restarts.specs.ExamplesOfRestarts.{StoppedServerExample};
@@ -18,7 +18,8 @@ pub fn law_restarts()
     ensures closed { ClosedLivesStay }
 {}
 
-/// So it is of servers whose names rest: whatever was put off, the sender counts only what the take has.
+/// The same of servers whose names rest: whatever was put off, the sender counts only what the take
+/// has.
 pub fn law_restarts_at_rest()
     ensures heard { RestingLivesDeliver }
     ensures whole { StoredRestingLivesAreWhole }

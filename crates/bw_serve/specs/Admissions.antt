@@ -55,7 +55,7 @@ module _ {L : Type 0} (G : LinkGhosts L) where
   abbrev pub HostsAll : Connections L → List (Closed L) → List (Admission L) → Type 0
   HostsAll m over links = HostsLinks m over 0 0 links (begun_of m) (refused_of m)
 
-  -- links more come, and connections more are over
+  -- more links come, and more connections are over
   abbrev pub HostsMore : Connections L → List (Admission L) → List (Closed L) → Connections L → Type 0
   HostsMore m more closed m' = (over : List (Closed L)) (trace : List Tagged)
       (links : List (Admission L)) → KeepsConnections G m over trace → HostsAll m over links →

@@ -93,8 +93,8 @@ pub record LetsIn {L : Type 0} (now : ℕ) (c c' : EventLoop L) : Type 0 where
   pub received : (i : ℕ) (d : Connection L) → HoldsConnectionAt c'.connections i d →
       HoldsConnectionAt c.connections i d ⊎ AcceptsPeer now d
 
--- What is done after the quantum at a place: nothing if its connection ended in it; else that is
--- ended if, after its quantum, it was quiet, or drained, for too long.
+-- What is done after the quantum at a place: nothing if its connection ended in it; else the
+-- connection is ended if by then it was quiet, or drained, for too long.
 abbrev pub LooksAfter : {L : Type 0} → ℕ → ℕ → ℕ → Option (Closed L) → Connections L →
     List (Closed L) → Connections L → Type 0
 LooksAfter now idle place (Some x) m closed m' = (closed ≡ x ∷ []) × (m' ≡ m)
@@ -149,10 +149,11 @@ module _ {L S O E : Type 0} (G : LinkGhosts L) (answers : S → Frame → List R
     pub existed : ExistedUnder G place c.connections c'.connections
     pub whose : (d : Connection L) → HoldsConnectionAt c.connections place d → AreOf G d closed
     pub peer_slots_are : vec_len c'.peer_slots ≡ vec_len c.peer_slots
-    -- it ended for its silence only if it answered nothing, for longer than this many milliseconds
+    -- it ended as silent only if no frame of it was answered, for longer than this many
+    -- milliseconds
     pub silent : (d : Connection L) → HoldsConnectionAt c.connections place d → AllByRecursion
         (λ x. x.end ≡ ends.Idle → (works.answered ≡ []) × (idle < now - d.since)) closed
-    -- and continues only if it was not quiet, or drained, for too long
+    -- and continues only if it was neither quiet nor drained for too long
     pub in_time : (d : Connection L) → HoldsConnectionAt c'.connections place d → expired_at now idle d ≡ None
     pub prints : CountsEnds out c c' closed o o'
     pub reports : ReportsRound G reported log c (tagged works.number works.answered) closed c' e e'

@@ -47,7 +47,7 @@ pub record Notices {B K L : Type 0} (reactor : ReactorGhosts B K) (b b' : B) (c 
   pub more : (rs : List Ready) → reactor.reported b rs → reactor.reported b' (rs ++ reported)
   pub each : WakesEach reported c c'
 
--- it has reported each link that was ready, or one more than there are places
+-- it has reported each link that was ready, or as many as one more than there are places
 abbrev pub IsAll : {L : Type 0} → EventLoop L → List Ready → Type 0 → Type 0
 IsAll c reported all_reported = all_reported ⊎ (length reported ≡ suc (connection_count c.connections))
 
@@ -152,7 +152,8 @@ module _ {B L S O E : Type 0} (reactor : ReactorGhosts B L) (G : LinkGhosts L)
       ++ ended_in_round idle exchanges rounds.0 c' rounds.1 s' rounds.2 b' rounds.3 o' rounds.4 e'
       rounds.7
 
-  -- rounds from an empty event loop, in which a silent one is ended after this many milliseconds
+  -- rounds from an empty event loop, in which a silent connection is ended after this many
+  -- milliseconds
   pub record ServesInRounds (places idle exchanges : ℕ) (c : EventLoop L) (s s' : S) (b b' : B)
       (o o' : O) (e e' : E) : Type 0 where
     pub empty : EventLoop L

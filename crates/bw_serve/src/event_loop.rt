@@ -203,7 +203,8 @@ impl<L: Link + Drop> EventLoop<L> {
         }
     }
 
-    /// One quantum of the connection at a place, which may end in it, or for its silence.
+    /// One quantum of the connection at a place, which may end in it, or because it was silent too
+    /// long.
     fn serve_place<T: Turns, O: Sink, E: Sink>(
         &mut self,
         alloc: Global,

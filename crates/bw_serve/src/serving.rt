@@ -121,7 +121,7 @@ fn patience(can_go_on: bool) -> u64
     if can_go_on { 0 } else { LONGEST_WAIT }
 }
 
-/// Waits until someone comes or a connection is ready, and gives each a quantum.
+/// Waits until a peer connects or a connection is ready, and gives each connection a quantum.
 ///
 /// # Errors
 /// `Shut` if no more peers are accepted, or waiting is impossible.

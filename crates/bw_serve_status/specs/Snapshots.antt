@@ -11,8 +11,8 @@ use Rattle.bw_serve_status.specs.Tallies.{Tally}
 use Rattle.bw_serve_status.specs.declared.name_tally.NameTally.{NameTally}
 use Rattle.bw_serve_status.specs.declared.snapshots.Surroundings.{Surroundings}
 
--- whether a server is well: its folder can be used, and of no name the last reply says that the store
--- failed
+-- whether a server is well: its folder can be used, and for none of the names that are counted did
+-- the store fail after the last verdict
 abbrev pub health_of : List NameTally → Bool → Health
 health_of names has_folder =
     if has_folder then (if list_any (λ t. t.is_delayed) names then Store else Ready) else Folder

@@ -26,7 +26,7 @@ use Rattle.bw_serve_status.specs.declared.snapshots.Surroundings.{Surroundings}
 abbrev pub sound_of : Format → SoundFormat
 sound_of f = record { rate = f.rate; channels = f.channels; bits = f.bits }
 
--- how far a take is
+-- the state of a take as it is shown
 abbrev pub state_for : Bool → Bool → Bool → ShownState
 state_for stood closed has_format =
     if stood then Stood else (if closed then Closed else (if has_format then Open else Unopened))

@@ -10,7 +10,7 @@ use bw_request::Name;
 pub(crate) struct Growth {
     /// How many of its messages were stored then.
     pub(crate) stored: u64,
-    /// When, in milliseconds; None if none was.
+    /// When, in milliseconds; None if it has not grown yet.
     pub(crate) at: Option<u64>,
 }
 

@@ -21,7 +21,8 @@ pub(crate) struct NameTally {
     pub(crate) refused: u64,
     /// Notices that the store failed.
     pub(crate) delayed: u64,
-    /// Whether the last of these says so.
+    /// Whether such a notice is the last reply that was counted of the name: others than these
+    /// notices and verdicts aren't.
     pub(crate) is_delayed: bool,
 }
 

@@ -19,7 +19,7 @@ pub(crate) struct StatusObserver<P: StatusPort> {
     alloc: Global,
     port: P,
     operators: Operators<P::Link>,
-    /// Each name's, at the place of its counts.
+    /// When each name grew last, at the place of its counts.
     growth: Vec<Growth>,
     /// How many takes the server resumed.
     resumed: u64,

@@ -73,8 +73,8 @@ pub(crate) fn snapshot_of<S: TakeStore, J: Journal>(
     })
 }
 
-/// Whether a server is well: its folder can be used, and of no name the last reply says that the
-/// store failed.
+/// Whether a server is well: its folder can be used, and for none of the names that are counted did
+/// the store fail after the last verdict.
 pub(crate) fn health_of(names: &[NameTally], has_folder: bool) -> Health
     ensures { result ≡ health_of names.now has_folder }
 {

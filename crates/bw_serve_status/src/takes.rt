@@ -142,7 +142,7 @@ fn format_of<S: TakeStore, J: Journal>(server: &Server<S, J>, name: &Name) -> Op
     })
 }
 
-/// How far a take is.
+/// The state of a take as it is shown.
 fn state_for(is_taken: bool, is_closed: bool, format: &Option<SoundFormat>) -> ShownState
     ensures { result ≡ state_for is_taken is_closed (is_some format.now) }
 {
@@ -201,7 +201,7 @@ fn replied_of(tallies: &[NameTally], name: &Name) -> (u64, u64)
     (0, 0)
 }
 
-/// How many milliseconds ago that was.
+/// How many milliseconds ago a name grew last, if it did.
 fn quiet_for(grown: Option<u64>, now: u64) -> Option<u64>
     ensures { result ≡ option_map (λ at. now - at) grown }
 {

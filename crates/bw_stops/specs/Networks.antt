@@ -6,7 +6,7 @@ use Rattle.bw_sender.specs.Senders.{IsSender}
 use Rattle.bw_rehearsal.specs.Simulated.{AreFrames}
 use Rattle.bw_stops.specs.declared.network.Network.{Network}
 
--- The sender is the world's, and so is all that was sent and written.
+-- The sender is that of the world, and so is all that was sent and written.
 pub record IsNetwork (w : World) (n : Network) : Type 0 where
   pub sender : IsSender w.sender n.sender
   pub offered : n.offered ≡ length w.sender.offered

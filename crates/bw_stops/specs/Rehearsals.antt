@@ -34,5 +34,5 @@ pub record WasRehearsedWithStops (name : List ℕ) (limit : ℕ) (events : List 
   pub sent : it.sent ≡ length world.sent
   pub replies : it.replies ≡ length world.replies
   pub sender : IsSender world.sender it.sender
-  -- its server holds the world's book, and its disks live; or that book was left
+  -- its server holds the world's book, and its disks haven't died; or that book was left
   pub machine : IsMachine limit world.book it.machine

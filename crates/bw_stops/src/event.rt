@@ -1,24 +1,24 @@
 //! What may happen in a rehearsal in which servers stop.
 use bw_rehearsal::Event;
 
-/// When the disks of a server die: each in its call after so many others.
+/// When the disks of a server die: each in the call that follows this many others.
 ///
-/// Of the call in which a disk dies that writes bytes, the first `reached` are written; a cut or a
-/// rename is done if `reached` isn't 0.
+/// If the call in which a disk dies writes bytes, the first `reached` of them are written; if it is
+/// a cut or a rename, it is done unless `reached` is 0.
 #[derive(Clone, Copy, Debug)]
 pub struct Lives {
-    /// How many calls the disk of the takes lives.
+    /// How many calls of the disk of the takes precede the one in which it dies.
     pub takes: u64,
-    /// How many calls the disk of the journals lives.
+    /// How many calls of the disk of the journals precede the one in which it dies.
     pub notes: u64,
-    /// How many bytes are written of the call in which a disk dies.
+    /// How many bytes the call in which a disk dies still writes.
     pub reached: usize,
 }
 
 /// What may happen in a rehearsal in which servers stop. No server runs at first.
 #[derive(Debug, Drop)]
 pub enum StopEvent {
-    /// An event of a rehearsal. While no server runs, a message or an ask that comes to it is lost.
+    /// An event of a rehearsal. A message or an ask is lost while no server runs.
     Happens(Event),
     /// The server stops between turns, if one runs.
     Stop,

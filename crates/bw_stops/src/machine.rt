@@ -102,7 +102,7 @@ pub(crate) fn start_again(
     }
 }
 
-/// Starts a server over what was left, by disks that live so long after the start.
+/// Starts a server over what was left, on disks that die this many calls after the start.
 fn start_over(
     alloc: Global,
     folder: Folder,
@@ -249,12 +249,12 @@ fn has_died(server: &MachineServer) -> bool
     server.journal().disk().is_dead()
 }
 
-/// A message comes to a server, and its replies are put into `out`. If a disk died in this turn, the
-/// machine has stopped, and no reply is there: replies are sent after their turn.
+/// A message reaches a server, and its replies are put into `out`. If a disk died in this turn, the
+/// machine has stopped, and `out` has no reply: replies are sent after their turn.
 ///
 /// # Errors
-/// `AllocError` if the server's folder isn't the one that it started over: its turns keep it, which
-/// `IsRunning` doesn't carry.
+/// `AllocError` if the server's folder isn't the one that it started over. That doesn't happen,
+/// since its turns keep the folder, but `IsRunning` doesn't say so.
 pub(crate) fn turn(
     life: Life,
     message: &Message<'_>,

@@ -49,9 +49,9 @@ pub struct Rehearsed {
 /// there, by disks that die in a chosen call.
 ///
 /// All that was ever sent and written stays: what isn't delivered or brought is lost, and the rest
-/// may come again, in any order. A server is stopped in a turn in which a disk dies; none of the
-/// replies of a turn in which one stops is written. A start in which a disk dies leaves no server, and
-/// the very book that was left; or, if it succeeded all the same, what a server leaves that stops at once.
+/// may come again, in any order. A server stops in a turn in which a disk dies, and none of that
+/// turn's replies is written. A start in which a disk dies leaves no server, and the very book that
+/// was left; or, if it succeeded all the same, what a server leaves that stops at once.
 ///
 /// # Errors
 /// `Memory` if memory was refused to the sender, for the messages and replies or for a folder's copy;
@@ -59,9 +59,10 @@ pub struct Rehearsed {
 ///
 /// # Not specified
 /// - When memory is refused, and which events were played before.
-/// - In which call a disk dies: contracts count only calls, and don't say how many a turn or a start
-///   makes. So also that a server stops in each turn, and a `StartCounting` leaves none by each start,
-///   in which a disk died, and in no other.
+/// - In which call a disk dies: contracts count only calls, and don't say how many a turn or a
+///   start makes. So neither is it specified that a server stops in each turn in which a disk died,
+///   and in no other, nor that a `StartCounting` leaves no server if a disk died in it, and only
+///   then.
 /// - That only lack of memory makes a start fail in which no disk died.
 pub fn rehearse_stops(
     alloc: Global,
