@@ -5,7 +5,7 @@ ghost use Rattle.bw_draw.specs.Pictures.{too_long as too_long_at};
 use bw_plan::{RecordingFault, RecordingKind};
 use bw_recorder::OpenFault;
 
-/// The samples that begin here can't be drawn.
+/// The fault of samples that begin here and can't be drawn.
 pub(crate) fn too_long(data_at: u64) -> OpenFault
     ensures { result ≡ too_long_at data_at }
 {

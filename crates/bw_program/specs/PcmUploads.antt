@@ -45,7 +45,7 @@ module _ {U J F H G M Q N X P R W D A B O E : Type 0} (upload : UploadSide U J Q
     (side : SenderSide D A B) (network : NetworkGhosts N X P D R W A B) (files : FileGhosts F H G M) (out : Writer O)
     (reported : Writer E) where
   -- the samples were sent: of a file as it is; or, of a recording that is still made, of one that is
-  -- still written, by another program or from standard input
+  -- still being written, by another program or from standard input
   abbrev pub SendsSamples : Option Bool → Recorder → PcmFile → F → Ways Q D → Ways Q D → Packing →
       Type 0
   SendsSamples None recorder file f old new did =

@@ -24,7 +24,7 @@ begun_progress name measure now = record {
   speed = None;
 }
 
--- the link after an event at this millisecond; it isn't down because all is done
+-- the link after an event at this millisecond; one that is left because all is done isn't down
 abbrev pub link_after : ℕ → LinkEvent → LinkState → LinkState
 link_after now events.Made link = Up
 link_after now (events.Left ends.Done) link = link

@@ -10,7 +10,7 @@ use bw_plan::{Options, Outline, block_frames};
 pub enum Extent {
     /// It has ended.
     Whole,
-    /// It is still written.
+    /// It is still being written.
     Growing,
 }
 
@@ -21,7 +21,7 @@ pub struct TakeMeasure {
     pub rate: u32,
     /// Bytes of a frame.
     pub align: u16,
-    /// How many frames there are; None where the recording is still written.
+    /// How many frames there are; None if the recording is still being written.
     pub frames: Option<u64>,
     /// The number of the first BLOCK.
     pub first_block: u32,

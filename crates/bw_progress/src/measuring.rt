@@ -14,8 +14,8 @@ use bw_ports::RecordingFiles;
 use bw_recorder::{RecordingFile, options_of};
 use std::alloc::Global;
 
-/// The measure of the recording in a file, which is opened three times; None where it can't be
-/// measured, as if it has no recording.
+/// The measure of the recording in a file, which is opened three times; None if it can't be
+/// measured, as where it has no recording.
 ///
 /// # Not specified
 /// - When there is none: whoever sends the file reports why it can't be sent.
@@ -37,8 +37,8 @@ pub fn measure_file<F: RecordingFiles>(
     }
 }
 
-/// The measure of the headerless samples in a file; None where they can't be measured. While they
-/// are still written, their number isn't known.
+/// The measure of the headerless samples in a file; None if they can't be measured. While they are
+/// still being written, their number isn't known.
 ///
 /// # Not specified
 /// - When there is none: whoever sends the file reports why it can't be sent.
@@ -62,7 +62,7 @@ pub fn measure_samples<F: RecordingFiles>(
     }
 }
 
-/// How many bytes a file of samples has; while it is still written, those before the samples.
+/// How many bytes a file of samples has; while it is still being written, those before the samples.
 fn len_of<F: RecordingFiles>(files: &mut F, path: &str, pcm: Pcm, extent: Extent) -> Option<u64> {
     match extent {
         Extent::Growing => Some(pcm.skip),

@@ -1,4 +1,4 @@
-//! Pauses during which the line of an upload goes on.
+//! Pauses during which the line of an upload is renewed.
 ghost use Rattle.bw_progress.specs.Pauses.{PausesInPieces};
 
 use crate::screen::ProgressLine;
@@ -7,8 +7,8 @@ use bw_ports::Pause;
 /// The most milliseconds between two looks at the line.
 const PIECE: u32 = 200;
 
-/// Waits by another pause, in pieces that are as long together, and renews a line between them, if
-/// there is one.
+/// Waits by another pause, in pieces that add up to the same time, and renews a line between them,
+/// if there is one.
 #[derive(Drop)]
 pub struct RenewingPause<P, L> {
     /// Waits.

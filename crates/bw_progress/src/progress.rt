@@ -59,8 +59,8 @@ impl UploadProgress {
         }
     }
 
-    /// Follows a change of the link at this millisecond. It isn't down because all is done; and a link
-    /// that isn't made, and a wait, change nothing where there is none.
+    /// Follows a change of the link at this millisecond. A link that is left because all is done
+    /// isn't shown as down; a link that can't be made, and a wait, change nothing.
     pub fn follow_link(&mut self, now: u64, event: LinkEvent)
         ensures { self.new ≡ record self.old { link = link_after now event self.old.link } }
     {

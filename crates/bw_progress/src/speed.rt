@@ -2,7 +2,7 @@
 ghost use Rattle.std.specs.Prelude.{◌≡◌};
 ghost use Rattle.bw_progress.specs.Speeds.{bytes_a_second as speed_between, speed_noted};
 
-/// How many milliseconds pass between two marks at least.
+/// The fewest milliseconds between two marks.
 const SPAN: u64 = 2_000;
 
 /// How many bytes were done at a time.

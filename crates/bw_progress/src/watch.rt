@@ -1,4 +1,4 @@
-//! Whoever watches senders on a terminal.
+//! Watchers of senders, for a terminal.
 use crate::measure::Extent;
 use crate::measuring::{measure_file, measure_samples};
 use crate::screen::Screen;

@@ -28,7 +28,7 @@ use Rattle.bw_recorder.specs.declared.fault.OpenFault.TheVariants.{Unopened, Ref
 abbrev pub recording_line : List ℕ → RecordingFault → List ℕ
 recording_line command f = as_line (command ++ codes ": " ++ recording_fault_text f)
 
--- the line of a file that isn't any more what it was
+-- the line of a file that has changed
 abbrev pub changed_line : List ℕ → List ℕ
 changed_line command = as_line (command ++ codes ": Changed")
 

@@ -22,11 +22,11 @@ pub enum OptionsFault {
 /// Why a recording's file isn't opened.
 #[derive(Drop)]
 pub enum OpenFault {
-    /// The system can't open it, or say how it stands.
+    /// The system can't open it, or report its length and its time of change.
     Unopened(io::Error),
     /// It has this fault, or it isn't read to its end.
     Refused(RecordingFault),
-    /// It isn't the file any more that it was.
+    /// It has changed since it was first read.
     Changed,
 }
 
@@ -85,8 +85,8 @@ pub(crate) fn exit_on(kind: RecordingKind) -> Exit
     }
 }
 
-/// What a fault means in a file that was read already: where it is one of its bytes, these have
-/// changed.
+/// What a fault means in a file that was read already: if it is a fault of the file's bytes, these
+/// have changed.
 pub fn read_again(fault: InspectFault) -> OpenFault
     ensures { result ≡ fault_again fault }
 {

@@ -25,7 +25,7 @@ use std::alloc::{AllocError, Global};
 pub struct Opened<R> {
     /// Gives the requests of the recording.
     pub plan: Plan,
-    /// Stands where the next block does.
+    /// Is at the place of the next block.
     pub reader: R,
     /// A line for each thing that the recording loses of its file.
     pub warnings: Vec<u8>,

@@ -37,9 +37,9 @@ const BAD_SETTING: &str = "a value of '--set' isn't KEY=VALUE, or isn't allowed\
 pub(crate) enum PackFault {
     /// A read of the file failed.
     Unread(InspectFault),
-    /// The file isn't any more what it was.
+    /// The file has changed since it was opened.
     Altered,
-    /// No message carries one of the requests, or a sender has too few numbers for them.
+    /// One of the requests doesn't fit in a message, or a sender has too few numbers for them.
     Unsendable,
     /// The writer failed.
     Unwritable,

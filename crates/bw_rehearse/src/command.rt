@@ -34,8 +34,8 @@ use std::alloc::Global;
 /// # Not specified
 /// - When memory is refused.
 /// - Whether a server stops in a turn or a start, and in which call of it: neither that a server
-///   that was started by `start` doesn't, nor that one that was started by `start store K`, `start
-///   journal K`, `start counting store K` or `start counting journal K` stops in call K.
+///   that was started by `start` doesn't, nor that one that was started by `start store K`,
+///   `start journal K`, `start counting store K` or `start counting journal K` stops in call K.
 /// - What `text_of_rehearsal` leaves open.
 /// - Of a reader that doesn't report its bytes: what is refused, and what the text is of.
 pub fn rehearse_with_stops_run<R: Source, W: Sink, E: Sink>(

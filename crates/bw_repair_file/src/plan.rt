@@ -24,7 +24,7 @@ pub struct SizePlan {
     pub frames: u64,
 }
 
-/// How a file stands.
+/// Whether a file has its sizes.
 #[derive(Clone, Copy, Debug, PartialEq, Eq)]
 pub enum Soundness {
     /// It is sound, and has so many frames.

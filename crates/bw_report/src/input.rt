@@ -1,4 +1,4 @@
-//! A reader that can't be opened again, as standard input.
+//! A reader that can't be opened again, such as standard input.
 ghost use Rattle.std.specs.Prelude.{◌≡◌, false};
 ghost use Rattle.bw_stream.specs.Readers.{Of};
 ghost use Rattle.bw_console.specs.Outcomes.{HasWritten, Outcome};

@@ -8,14 +8,13 @@ use std::io;
 pub enum FeedFault {
     /// A read of it failed.
     Unread(InspectFault),
-    /// The system can't say how it stands.
+    /// The system can't report its length and its time of change.
     Unstamped(io::Error),
-    /// It isn't any more what it was: it ends too early, or its length or its time of change is
-    /// another one.
+    /// It has changed: it ends too early, or its length or its time of change is another one.
     Changed,
     /// It isn't a recording: this fault came only when its requests were given.
     Refused(RecordingFault),
-    /// No message carries the next request.
+    /// The next request doesn't fit in a message.
     Unsendable,
     /// Memory was refused.
     Memory,

@@ -22,10 +22,10 @@ use std::alloc::Global;
 pub struct PlanFeed<R, S> {
     pub(crate) alloc: Global,
     pub(crate) plan: Plan,
-    /// Stands where the next block does.
+    /// Is at the place of the next block.
     pub(crate) reader: R,
     pub(crate) stamped: S,
-    /// How the file stood before it was opened.
+    /// The stamp that the file had before it was opened.
     pub(crate) stamp: FileStamp,
 }
 
@@ -51,7 +51,7 @@ impl<R: Source + Drop, S: Stamped + Drop> PlanFeed<R, S> {
         }
     }
 
-    /// How the file stood before it was opened.
+    /// The stamp that the file had before it was opened.
     pub fn stamp(&self) -> FileStamp
         ensures { result ≡ feed_stamp self.now }
     {
@@ -87,7 +87,7 @@ impl<R: Source + Drop, S: Stamped + Drop> Feed for PlanFeed<R, S> {
 /// An owned copy of a request.
 ///
 /// # Errors
-/// Unsendable where no message carries it; Memory.
+/// Unsendable if it doesn't fit in a message; Memory.
 fn copy_of(alloc: Global, request: &RequestRef<'_>) -> Result<Request, FeedFault>
     ensures ok { IfOk result (λ r. r ≡ meaning request.now) }
     ensures err { IfErr result (λ f. RefusesCopy (meaning request.now) f) }
@@ -117,7 +117,7 @@ pub fn is_close(request: &Request) -> bool
 /// Looks at a file again.
 ///
 /// # Errors
-/// Changed if it isn't as it was first; Unstamped if the system can't say it.
+/// Changed if its stamp isn't the first one; Unstamped if the system can't report it.
 fn look_again<S: Stamped>(stamped: &mut S, first: &FileStamp) -> Result<(), FeedFault>
     ensures kept { S.stamp_of stamped.new ≡ S.stamp_of stamped.old }
     ensures ok { OnOk result ((now : StampValue) → S.stamp_of stamped.old ≡ Some now → now ≡ first.now) }

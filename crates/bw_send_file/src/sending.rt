@@ -21,7 +21,7 @@ use std::alloc::{AllocError, Global};
 /// `faults` begins with the cause: Conflict, TooFar, NotOffered, Fruitless, Limit, Changed,
 /// Unsendable, or what the file lacks. A failure to write it is ignored.
 ///
-/// `Done` exactly if the feed has ended, and each of its requests was offered, and is stored.
+/// `Done` only if the feed has ended, and each of its requests was offered and is stored.
 /// `Refused` for a refused request, Conflict, TooFar, NotOffered, Changed and Unsendable; `Device`
 /// for Fruitless and Limit, and if a read of the file, or a write of the text, failed; `Memory` if
 /// memory was refused.

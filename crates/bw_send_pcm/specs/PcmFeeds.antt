@@ -1,4 +1,4 @@
--- What the feed of headerless samples that are still written gives.
+-- What the feed of headerless samples that are still being written gives.
 use Rattle.std.specs.Prelude.{◌≡◌, Result, Ok, Err}
 use Rattle.bw_inspect.specs.declared.fault.InspectKind.TheVariants.{Read}
 use Rattle.bw_plan.specs.declared.fault.RecordingKind.TheVariants as kinds

@@ -1,4 +1,4 @@
-//! The requests of headerless samples that are still written, as a feed.
+//! The requests of headerless samples that are still being written, as a feed.
 ghost use Rattle.std.specs.Prelude.{◌≡◌};
 ghost use Rattle.bw_follow.specs.Following.{RequestsLeft};
 ghost use Rattle.bw_send_pcm.specs.PcmFeeds.{GivesOfSamples, feed_given};
@@ -10,7 +10,7 @@ use bw_ports::Followed;
 use bw_send_file::FeedFault;
 use bw_upload::{Feed, Given};
 
-/// Gives the requests of headerless samples while these are written. It holds one block.
+/// Gives the requests of headerless samples while these are being written. It holds one block.
 #[derive(Drop)]
 pub struct PcmFeed<F> {
     pub(crate) requests: PcmRequests<F>,

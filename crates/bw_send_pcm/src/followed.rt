@@ -21,9 +21,9 @@ use std::alloc::Global;
 use std::io;
 
 /// Sends the headerless samples in a file as a recorder, as `send_feed` does, while they are still
-/// written: each block once it is written, and the rest and CLOSE once the path `until` exists, or
-/// where that is None, once standard input, which is appended to the file, has ended. What is written
-/// before that is found is sent.
+/// being written: each block once it is written, and the rest and CLOSE once the path `until`
+/// exists; or if that is None, once standard input, which is appended to the file, has ended. What
+/// is written before this is noticed is sent.
 ///
 /// Before any link is made: `Refused` for a fault of the format, whose line is
 /// `send: KIND at OFFSET`, and for a file that standard input would be appended to inside a frame, or

@@ -1,5 +1,5 @@
 //! The command `send --file --pcm`: headerless samples are sent, of a file as it is, or of one that
-//! is still written.
+//! is still being written.
 #![tactic(auto)]
 
 mod feed;

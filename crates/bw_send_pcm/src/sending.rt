@@ -1,4 +1,4 @@
-//! What was opened is sent, or it is reported why it isn't.
+//! What was opened is sent, or the reason why it can't be is reported.
 ghost use Rattle.std.specs.Prelude.{◌≡◌};
 ghost use Rattle.bw_recorder.specs.Openings.{is_system_well};
 ghost use Rattle.bw_recorder.specs.Packs.{HasPacked, Packing};

@@ -46,7 +46,7 @@ module _ {L T : Type 0} (log : LogGhosts L) where
     pub count : NotesCount s (log.written old.log) (log.written new.log)
     pub fault : KeepsFault old new
 
-  -- what was wrong is told, and nothing else: a call before, or the last one
+  -- a failure is reported if there was one, and only then: of an earlier call, or of the last one
   pub record TellsFault {E : Type 0} (keeper : StateKeeper L T) (told : Option E) : Type 0 where
     pub heard : is_none keeper.fault ≡ false → is_none told ≡ false
     pub rightly : is_none told ≡ false → (is_none keeper.fault ≡ false)

@@ -24,7 +24,7 @@ const LONGEST_REPLY: u32 = 43;
 /// Why a server has not said which number it expects.
 #[derive(Clone, Copy, Debug, PartialEq, Eq)]
 pub enum NotAsked {
-    /// So many links in a row as are allowed brought no answer.
+    /// As many links in a row as are allowed brought no answer.
     Fruitless,
     /// Memory was refused.
     Memory,
@@ -139,7 +139,7 @@ fn read_reply<R: Source>(alloc: Global, reader: &mut R) -> Option<Reply>
     }
 }
 
-/// The next bytes, so many; None if there are fewer, a read fails, or memory is refused.
+/// The next `count` bytes; None if there are fewer, a read fails, or memory is refused.
 fn read_bytes<R: Source>(alloc: Global, reader: &mut R, count: u32) -> Option<Vec<u8>>
     ensures given { IfSome result (λ bytes.
         HasGiven (R.left reader.old) bytes.items (R.left reader.new)) }

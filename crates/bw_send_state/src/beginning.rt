@@ -35,7 +35,7 @@ pub(crate) struct Beginning<L> {
     pub(crate) log: L,
     /// How many requests are passed over.
     pub(crate) count: u32,
-    /// How the recording's file stood when its header was read.
+    /// The stamp that the recording's file had when its header was read.
     pub(crate) stamp: FileStamp,
 }
 

@@ -27,9 +27,9 @@ use std::alloc::Global;
 /// The server is asked first which number it expects next: if that is less, or the state is another
 /// one, all is sent again. Where it begins is reported first, unless there was no state.
 ///
-/// `Done` exactly if the feed has ended, each of its requests was offered, those after the first
-/// ones are stored, and the state was kept. Otherwise as `send_file`; besides, `Device` if the
-/// state can't be read or written, which is reported last, and if the server doesn't answer.
+/// `Done` only if the feed has ended, each of its requests was offered, those after the first ones
+/// are stored, and the state was kept. Otherwise as `send_file`; besides, `Device` if the state
+/// can't be read or written, which is reported last, and if the server doesn't answer.
 ///
 /// # Not specified
 /// - What `send_file` leaves open.

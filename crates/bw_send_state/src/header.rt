@@ -29,7 +29,7 @@ use std::alloc::Global;
 pub(crate) struct FileHeader {
     /// Without the line feed that ends it.
     pub(crate) text: Vec<u8>,
-    /// How the file stood before it was opened.
+    /// The stamp that the file had before it was opened.
     pub(crate) stamp: FileStamp,
 }
 

@@ -15,7 +15,7 @@ use bw_wire::encode;
 use sha2::{Digest, Sha256};
 use std::alloc::{AllocError, Global};
 
-/// A sender has numbers for so many requests.
+/// How many requests a sender has numbers for.
 const MOST_REQUESTS: u32 = 16_777_216;
 
 /// What comes before the first block of a take.

@@ -33,7 +33,7 @@ pub(crate) struct Found {
     /// It is of this take, ends with a whole line, and isn't too long: counts can be written after
     /// it.
     pub(crate) is_whole: bool,
-    /// There is another state.
+    /// The file has bytes, but not the state of this take.
     pub(crate) is_other: bool,
 }
 

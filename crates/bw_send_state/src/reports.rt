@@ -11,8 +11,8 @@ use bw_stream::Sink;
 use std::alloc::{AllocError, Global};
 use std::io;
 
-/// Reports that a state isn't kept, if it isn't. Returns how the command ends that would end by
-/// `exit` else.
+/// Reports that a state isn't kept, if it isn't. Returns how the command ends: by `exit` if the
+/// state is kept.
 pub(crate) fn report_end<E: Sink>(
     alloc: Global,
     path: &str,

@@ -1,4 +1,4 @@
-//! What comes after the first requests of a recording is sent.
+//! The requests of a recording after the first ones are sent.
 ghost use Rattle.std.specs.Prelude.{◌≡◌, ◌≤◌, ◌+◌, List, Some, ℕ};
 ghost use Rattle.bw_console.specs.Printing.{failures_if};
 ghost use Rattle.bw_model.specs.Wire.{Second, last_number};
@@ -19,8 +19,8 @@ use bw_stream::Sink;
 use bw_upload::{Feed, Observer};
 use std::alloc::Global;
 
-/// Sends what comes after the first requests of a file's recording, so many. The file must stand as
-/// it did when its state was read.
+/// Sends the requests of a file's recording after the first `count`. The file must have the stamp
+/// that it had when its state was read.
 pub(crate) fn send_rest<F: RecordingFiles, P: Pause, D: Dial, V: Observer, W: Sink, E: Sink>(
     alloc: Global,
     job: &Job<'_>,

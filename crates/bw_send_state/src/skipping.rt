@@ -9,7 +9,7 @@ use bw_send_file::{FeedFault, PlanFeed, is_close};
 use bw_stream::Source;
 use bw_upload::{Feed, Given};
 
-/// Passes over the first requests of a feed, so many. Returns whether it gave that many, and no
+/// Passes over the first `count` requests of a feed. Returns whether it gave that many, and no
 /// CLOSE among them.
 ///
 /// # Errors
@@ -37,8 +37,8 @@ pub fn skip<X: Feed>(feed: &mut X, count: u32) -> Result<bool, X::Fault>
     Ok(true)
 }
 
-/// Passes over the first requests of a file's recording, so many. Returns whether the file still
-/// stands as it did first, and gave that many, with no CLOSE among them.
+/// Passes over the first `count` requests of a file's recording. Returns whether the file still has
+/// its first stamp, and gave that many, with no CLOSE among them.
 ///
 /// # Errors
 /// The feed's fault.

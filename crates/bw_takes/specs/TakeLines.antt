@@ -68,7 +68,7 @@ unfoldable pub numbered_line : List ℕ → List ℕ → ℕ → List ℕ
 numbered_line name word number =
     name ++ codes " " ++ word ++ codes " number " ++ decimal number ++ codes "\n"
 
--- whether a take is closed
+-- the word for whether a take is closed
 abbrev pub state_word : Bool → List ℕ
 state_word closed = if closed then codes "closed" else codes "open"
 

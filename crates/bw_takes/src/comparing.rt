@@ -28,8 +28,8 @@ pub enum Depth {
 /// What is found of a take in a folder, by the limit that its journal begins with. Nothing is
 /// changed.
 ///
-/// If the samples are compared, the journal is read again: a number that a server notes meanwhile has
-/// its samples in the file before.
+/// If the samples are compared, the journal is read again: if a server notes a number meanwhile,
+/// the number's samples are in the file before.
 ///
 /// # Errors
 /// `Disk` if a call of the disk failed; `Memory` if memory was refused, or the journal has more than
@@ -56,7 +56,7 @@ pub fn examine_take<D: Volume>(
     }
 }
 
-/// What is found of a take of which this was found without its samples.
+/// What is found of a take with its samples, after this was found without them.
 fn compare<D: Volume>(
     alloc: Global,
     disk: &mut D,

@@ -152,7 +152,7 @@ fn put_end(alloc: Global, part: u64, next: usize, lines: &mut Vec<u8>) -> Result
     lines.extend_from_slice(line.as_bytes())
 }
 
-/// Whether a take is closed.
+/// The word for whether a take is closed.
 pub(crate) fn state_word(closed: bool) -> &'static str
     ensures { result.now ≡ word_of closed }
 {

@@ -146,7 +146,7 @@ fn begun_progress(name: Name, replayed: &Replayed) -> TakeProgress
     }
 }
 
-/// The state of a take that is opened.
+/// The state of a take that is opened, by whether it is closed.
 fn opened_state(closed: bool) -> ProgressState
     ensures { result ≡ if closed then ProgressState.Closed else ProgressState.Open }
 {

@@ -1,4 +1,4 @@
-//! What journals in a folder note, and that a full memory is the only thing that stops them.
+//! What journals in a folder note, and that only lack of memory stops them.
 use bw_disk::{Disk, MemoryDisk};
 use bw_folder::FolderJournal;
 use bw_journal::{Journal, JournalHeader};

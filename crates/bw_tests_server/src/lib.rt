@@ -1,4 +1,4 @@
-//! Worked journals, byte by byte, and servers that note in them: no command keeps a journal.
+//! Worked journals, byte by byte, and servers in memory that note in them.
 #![tactic(auto)]
 
 #[cfg(test)]

@@ -1,4 +1,4 @@
-//! The tests, and the lives of servers that they are about.
+//! The tests, and the runs of servers that they are about.
 
 mod lives;
 mod rests;

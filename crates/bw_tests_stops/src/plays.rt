@@ -6,7 +6,7 @@ use bw_stops::{Lives, Machine, Rehearsed, StopEvent, StopsFault, rehearse_stops}
 use std::alloc::Global;
 use std::test::Fail;
 
-/// An OPEN, a BLOCK of two frames and a CLOSE are offered and sent, and each comes to the server.
+/// An OPEN, a BLOCK of two frames and a CLOSE are offered and sent, and each reaches the server.
 pub(crate) const FIRST: [&str; 9] = [
     "offer 0180bb0000010010000000",
     "offer 0201000200",

@@ -5,10 +5,10 @@ use bw_stops::{Lives, Machine, Rehearsed, StopEvent};
 use std::alloc::Global;
 use std::test::Fail;
 
-/// The verdicts of the first server come to the sender.
+/// The verdicts of the first server reach the sender.
 const HEARD: [&str; 3] = ["bring 0", "bring 1", "bring 2"];
 
-/// Each message comes again, and every reply.
+/// Each message is delivered again, and every reply reaches the sender.
 const AGAIN: [&str; 10] = [
     "deliver 0",
     "deliver 1",
@@ -25,7 +25,7 @@ const AGAIN: [&str; 10] = [
 /// The length of the take's file: a header of 690 bytes, and two frames.
 const LENGTH: usize = 694;
 
-/// What became of a take whose server died, by starts in which a disk was to die.
+/// What became of a take whose server's disk died, by starts in which a disk was to die.
 #[derive(Clone, Copy, PartialEq, Eq)]
 enum Fate {
     /// A verdict that was answered doesn't stand.
@@ -36,7 +36,7 @@ enum Fate {
     Started,
 }
 
-/// Whether a server runs, and has each number whose verdict came to the sender.
+/// Whether a server runs, and has each number whose verdict reached the sender.
 fn stands(it: &Rehearsed) -> bool {
     let Machine::Runs(life) = &it.machine else {
         return false;
@@ -99,8 +99,8 @@ fn is_finished(alloc: Global, first: Lives, starts: &[Lives]) -> Result<bool, Fa
     Ok(has_done(&it, 3) && is_whole(alloc, &it)?)
 }
 
-/// In how many calls of a disk a start may die over what this first life leaves; none if something is
-/// lost then.
+/// In how many of its calls a disk may die in a start over what the first server leaves; none if
+/// something is lost then.
 fn deaths(
     alloc: Global,
     first: Lives,
@@ -121,9 +121,9 @@ fn deaths(
     Ok(None)
 }
 
-/// How many starts fail in a row over what this first life leaves, of which each dies a call later than
-/// the one before: first those whose journals' disk dies, then those whose takes' disk does. None if
-/// something is lost.
+/// How many starts fail in a row over what the first server leaves, in each of which a disk dies a
+/// call later than in the one before: first the disk of the journals, then that of the takes. None
+/// if something is lost.
 fn failures(alloc: Global, first: Lives, reached: usize) -> Result<Option<usize>, Fail> {
     let mut starts = Vec::new(alloc);
     for of_takes in [false, true] {
@@ -145,8 +145,8 @@ fn failures(alloc: Global, first: Lives, reached: usize) -> Result<Option<usize>
     Ok(Some(starts.len()))
 }
 
-/// Whether the take outlives starts that die over what the first life leaves. Each start lists the
-/// journals, so that it makes a call in which it may die.
+/// Whether the take survives starts in which a disk dies, over what the first server leaves. Each
+/// start lists the journals, so that it makes a call in which their disk may die.
 fn outlives_starts(alloc: Global, first: Lives, reached: usize) -> Result<bool, Fail> {
     let of_takes = deaths(alloc, first, true, reached)?;
     let of_notes = deaths(alloc, first, false, reached)?;
@@ -158,7 +158,7 @@ fn outlives_starts(alloc: Global, first: Lives, reached: usize) -> Result<bool, 
     )
 }
 
-/// How many verdicts come to the sender of a first life.
+/// How many verdicts of the first server reach the sender.
 fn heard(alloc: Global, first: Lives) -> Result<u32, Fail> {
     let events = starts_after(alloc, first, &[])?;
     match play(alloc, events.as_slice())? {
@@ -167,7 +167,7 @@ fn heard(alloc: Global, first: Lives) -> Result<u32, Fail> {
     }
 }
 
-/// Whether the take outlives starts that die, whenever a disk of the first server dies.
+/// Whether the take survives starts in which a disk dies, whenever a disk of the first server died.
 fn outlives(alloc: Global, of_takes: bool, reached: usize) -> Result<bool, Fail> {
     for life in 0..CALLS {
         let first = lives_of(of_takes, life, reached);

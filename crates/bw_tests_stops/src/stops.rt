@@ -6,7 +6,7 @@ use std::alloc::Global;
 use std::process::Abort;
 use std::test::Fail;
 
-/// Each comes again, and every reply to the sender.
+/// Each message is delivered again, and every reply reaches the sender.
 const SECOND: [&str; 9] = [
     "deliver 0",
     "deliver 1",
@@ -19,7 +19,7 @@ const SECOND: [&str; 9] = [
     "bring 5",
 ];
 
-/// The OPEN alone comes before the stop, and the BLOCK while no server runs.
+/// The OPEN alone is delivered before the stop, and the BLOCK while no server runs.
 const SPLIT: [&str; 6] = [
     "offer 0180bb0000010010000000",
     "offer 0201000200",
@@ -29,7 +29,7 @@ const SPLIT: [&str; 6] = [
     "bring 0",
 ];
 
-/// Two servers, of which the first has disks that live so long.
+/// Two servers, of which the first has disks that die so.
 fn two_lives(alloc: Global, first: Lives) -> Result<Result<Rehearsed, StopsFault>, Fail> {
     let mut events = Vec::new(alloc);
     events.push(StopEvent::Start(first))?;
@@ -40,8 +40,8 @@ fn two_lives(alloc: Global, first: Lives) -> Result<Result<Rehearsed, StopsFault
     play(alloc, events.as_slice())
 }
 
-/// Whether the take is finished whenever the first server's disks live that much longer, until
-/// neither dies: then each verdict is written twice.
+/// Whether the take is finished in whichever call a disk of the first server dies, up to a run in
+/// which none dies: then each verdict is written twice.
 fn is_always_finished(alloc: Global, reached: usize, of_takes: bool) -> Result<bool, Fail> {
     for life in 0..CALLS {
         let lives = lives_of(of_takes, life, reached);

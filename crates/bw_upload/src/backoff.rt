@@ -2,14 +2,14 @@
 ghost use Rattle.std.specs.Prelude.{◌≡◌};
 ghost use Rattle.bw_upload.specs.Backoff.{backoff, is_spent as is_limit_spent};
 
-/// The milliseconds before the next link, where so many of the last links in a row settled nothing:
-/// half a second after one that did or after the first that didn't, then twice as long each time.
+/// The milliseconds before the next link, by how many of the last links in a row settled nothing:
+/// half a second for none or one, then twice as long each time.
 const BACKOFFS: [u32; 7] = [500, 500, 1_000, 2_000, 4_000, 8_000, 16_000];
 
-/// The milliseconds after more of them.
+/// The milliseconds where still more of them settled nothing.
 const LONGEST: u32 = 30_000;
 
-/// The milliseconds before the next link, where so many of the last links in a row settled nothing.
+/// The milliseconds before the next link, by how many of the last links in a row settled nothing.
 pub fn backoff(fruitless: u64) -> u32
     ensures { result ≡ backoff fruitless }
 {
@@ -19,7 +19,7 @@ pub fn backoff(fruitless: u64) -> u32
     }
 }
 
-/// Whether no link more is made: so many in a row settled nothing as are allowed.
+/// Whether no more links are made: as many in a row as are allowed settled nothing.
 pub fn is_spent(most: Option<u32>, fruitless: u64) -> bool
     ensures { result ≡ is_limit_spent most fruitless }
 {

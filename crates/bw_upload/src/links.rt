@@ -22,12 +22,12 @@ use std::alloc::Global;
 /// Sends what a feed gives as the requests of a sender, over one link as long as it lasts, and then
 /// over the next.
 ///
-/// Requests are offered as long as the window has room, and each is said once over a link, before
-/// anything is awaited. Before a further link is made, half a second passes, after links that settle
-/// nothing up to half a minute. So many of these in a row as `fruitless` says end the upload, if it
-/// is given. It also ends at the first refused request, and at Conflict and TooFar: after one of
-/// these it isn't `Done`, though all may have the verdict Stored, as of another sender's requests
-/// under these numbers.
+/// Requests are offered as long as the window has room, and each is sent once over a link, before
+/// anything is awaited. Before a further link is made, half a second passes, or up to half a minute
+/// after links that settle nothing. As many of these in a row as `fruitless` says end the upload,
+/// if it is given. It also ends at the first refused request, and at Conflict and TooFar: after one
+/// of these it isn't `Done`, though all may have the verdict Stored, as if another sender's
+/// requests have these numbers.
 ///
 /// At most sixteen requests are held.
 ///

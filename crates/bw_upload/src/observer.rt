@@ -1,4 +1,4 @@
-//! Whoever follows an upload.
+//! Observers of an upload.
 use bw_engine::{SendFault, Stop};
 use bw_sender::Sender;
 
@@ -31,16 +31,16 @@ pub enum LinkEvent {
 }
 
 /// Observes an upload. No clause says what it does with the reports; it changes nothing of what is
-/// sent. What goes wrong with its own work it keeps, for whoever asks it afterwards.
+/// sent. It keeps failures of its own work, which can be asked for afterwards.
 pub trait Observer {
-    /// The link changed; so far is the sender.
+    /// The link changed; `sender` is as it is then.
     ///
     /// # Not specified
     /// What it does.
     fn link(&mut self, event: LinkEvent, sender: &Sender);
 
-    /// A turn over the link is over; so far is the sender. It may have no more settled numbers than
-    /// before.
+    /// A turn over the link is over; `sender` is as it is then. It may have no more settled numbers
+    /// than before.
     ///
     /// # Not specified
     /// What it does.

@@ -17,7 +17,7 @@ pub enum Outcome<X> {
     /// The feed gave a request that can't follow those before it: one before OPEN or after CLOSE, or
     /// more than 16,777,216.
     NotOffered(OfferError),
-    /// So many links in a row settled nothing as the caller allows.
+    /// As many links in a row as the caller allows settled nothing.
     Fruitless,
     /// The feed failed.
     Feed(X),

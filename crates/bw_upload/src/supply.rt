@@ -88,7 +88,8 @@ fn fill_once<F: Feed, P: Pause>(
     Ok(true)
 }
 
-/// Follows what the feed gave: offers a request. Returns whether it had something to say.
+/// Follows what the feed gave: offers a request, or notes the feed's end. Returns whether it gave
+/// either.
 ///
 /// # Errors
 /// How the upload ends.

@@ -1,4 +1,4 @@
-//! Turns over a link: what is pending is said, and a piece is heard.
+//! Turns over a link: what is pending is sent, and a piece of the replies is read.
 ghost use Rattle.std.specs.Prelude.{◌≡◌, ◌≢◌, true, false, None};
 ghost use Rattle.bw_model.specs.World.{pending};
 ghost use Rattle.bw_upload.specs.Conversing.{Conversing, MayHear};
@@ -13,9 +13,10 @@ use bw_sender::Sender;
 use bw_stream::{Sink, Source};
 use std::alloc::Global;
 
-/// Says what is pending and wasn't said, and hears a piece. If the writer fails, hears what
-/// still comes: what came through before has its verdicts, or a reply that stops the talk. Returns
-/// why the link isn't used any more, if it isn't: `Memory` if memory was refused.
+/// Sends what is pending and wasn't sent over the link, and reads a piece of the replies. If the
+/// writer fails, reads what still comes: what reached the server before has its verdicts, or a
+/// reply that stops the talk. Returns why the link isn't used any more, if it isn't: `Memory` if
+/// memory was refused.
 pub(crate) fn take_turn<R: Source, W: Sink>(
     alloc: Global,
     sender: &mut Sender,
@@ -33,8 +34,8 @@ pub(crate) fn take_turn<R: Source, W: Sink>(
     }
 }
 
-/// Hears a piece. Returns why the link isn't used any more, if it isn't: `Memory` if memory was
-/// refused.
+/// Reads a piece of the replies. Returns why the link isn't used any more, if it isn't: `Memory` if
+/// memory was refused.
 fn hear<R: Source, W: Sink>(
     sender: &mut Sender,
     talk: &mut Talk,
@@ -58,7 +59,7 @@ fn turn_end(listened: Result<Listened, SendFault>) -> Option<LinkEnd>
     }
 }
 
-/// Hears what still comes after the writer has failed, up to a reply that stops the talk. Returns
+/// Reads what still comes after the writer has failed, up to a reply that stops the talk. Returns
 /// why the link isn't used any more.
 fn hear_out<R: Source, W: Sink>(
     sender: &mut Sender,
@@ -77,8 +78,8 @@ fn hear_out<R: Source, W: Sink>(
     LinkEnd::Broken(SendFault::Write)
 }
 
-/// Why a link isn't used any more whose writer has failed, and that was then heard up to this end: a
-/// reply that stops the talk, or bytes that are none, say more than the failure does.
+/// Why a link isn't used any more whose writer has failed, and that was then read up to this end: a
+/// reply that stops the talk, or bytes that are no reply, say more than the failure does.
 fn break_end(end: LinkEnd) -> LinkEnd
     ensures { result ≡ end_of_break end }
 {

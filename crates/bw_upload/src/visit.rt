@@ -16,8 +16,8 @@ use bw_ports::{Dial, Duplex, Pause};
 use bw_sender::Sender;
 use std::alloc::Global;
 
-/// Uses a link as long as it can be: says what is pending, hears a piece, and fills the window, in
-/// turns. Once all is settled and the feed has ended, it parts.
+/// Uses a link as long as it can be: sends what is pending, reads a piece of the replies, and fills
+/// the window, in turns. Once all is settled and the feed has ended, it leaves the link.
 ///
 /// # Errors
 /// How the upload ends.

@@ -32,7 +32,7 @@ pub(crate) struct Script {
     pub(crate) takes: &'static [Take],
 }
 
-/// What a test reads of a link, also when it is closed.
+/// What a test reads of a link, even after it is closed.
 #[derive(Drop)]
 pub(crate) struct Record {
     /// In which round it was accepted.

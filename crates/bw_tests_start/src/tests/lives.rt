@@ -1,4 +1,5 @@
-//! One life of a server: its start over what stands on a disk, a take's messages, and its death.
+//! One run of a server: its start over what is on a disk, a take's messages, and the call in which
+//! the disk dies.
 use crate::tests::script::{COUNT, body};
 use crate::tests::shared::SharedDisk;
 use arrayvec::ArrayVec;
@@ -29,18 +30,18 @@ pub(crate) struct Death {
     pub(crate) reached: usize,
 }
 
-/// What a life leaves.
+/// What a run leaves.
 #[derive(Drop)]
 pub(crate) struct Left {
     /// What the next process finds.
     pub(crate) disk: MemoryDisk,
-    /// Whether it died.
+    /// Whether the disk died.
     pub(crate) died: bool,
     /// What was answered, and how far the take was at the start.
     pub(crate) answers: Answers,
 }
 
-/// What a server answered in its life.
+/// What a server answered in its run.
 #[derive(Clone, Copy)]
 pub(crate) struct Answers {
     /// How many numbers were done after its start; none if the disk died in it.
@@ -56,7 +57,7 @@ type Shared = SharedDisk<Mortal>;
 
 type Under = Server<FolderStore<Shared>, FolderJournal<Shared>>;
 
-/// Starts a server, gives it the take's messages once, and returns what stands on the disk then.
+/// Starts a server, gives it the take's messages once, and returns what is on the disk then.
 pub(crate) fn live(
     alloc: Global,
     disk: MemoryDisk,
@@ -77,7 +78,7 @@ pub(crate) fn live(
     })
 }
 
-/// What is answered in a life. A start fails only because the disk died.
+/// What is answered in a run. A start fails only because the disk died.
 fn answered(alloc: Global, shared: &Rc<RefCell<Mortal>>, sync: bool) -> Result<Answers, Fail> {
     let takes = SharedDisk::new(shared.clone()?);
     let notes = SharedDisk::new(shared.clone()?);

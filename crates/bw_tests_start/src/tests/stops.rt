@@ -20,13 +20,13 @@ const WAVE: &str = "takes/a1.wav";
 /// byte, 7,512 bytes of samples, and a `cue ` chunk of one point, 36 bytes.
 const LENGTH: usize = 8_242;
 
-/// A life without a death.
+/// A disk that doesn't die.
 const IMMORTAL: Death = Death {
     life: u64::MAX,
     reached: 0,
 };
 
-/// More calls than a life has.
+/// More calls than a run makes.
 const CALLS: u64 = 120;
 
 /// Whether the verdicts that were answered are those of the take.
@@ -42,7 +42,7 @@ fn count(verdicts: &Verdicts) -> usize {
     verdicts.iter().filter(|it| it.is_some()).count()
 }
 
-/// Whether a life answered nothing but right verdicts, and began with all that was answered before.
+/// Whether a run answered nothing but right verdicts, and began with all that was answered before.
 fn goes_on(answers: &Answers, before: usize) -> bool {
     are_right(&answers.verdicts) && answers.resumed.is_none_or(|done| done as usize >= before)
 }
@@ -63,7 +63,8 @@ fn is_finished(alloc: Global, disk: MemoryDisk, before: usize, sync: bool) -> Re
     Ok(is_done && last.disk.content(WAVE).is_some_and(is_whole))
 }
 
-/// Whether a take survives a death in its first life, and another in each call of the next start.
+/// Whether a take survives a disk that dies in the first run, and again in each call of the next
+/// start.
 fn survives_both(alloc: Global, first: Death, sync: bool) -> Result<bool, Fail> {
     for life in 0..CALLS {
         let one = live(alloc, MemoryDisk::new(alloc), first, sync)?;
@@ -85,8 +86,8 @@ fn survives_both(alloc: Global, first: Death, sync: bool) -> Result<bool, Fail> 
     Ok(false)
 }
 
-/// Whether a take survives two deaths, the first in each call of its first life, the second in each
-/// of the next start.
+/// Whether a take survives a disk that dies twice, first in each call of the first run, then in
+/// each of the next start.
 fn survives_each(alloc: Global, reached: usize, sync: bool) -> Result<bool, Fail> {
     for life in 0..CALLS {
         let first = Death { life, reached };
@@ -100,7 +101,8 @@ fn survives_each(alloc: Global, reached: usize, sync: bool) -> Result<bool, Fail
     Ok(false)
 }
 
-/// Fails the test unless a take survives two deaths, with so many bytes of each call written.
+/// Fails the test unless a take survives a disk that dies twice, with so many bytes written of the
+/// call in which it dies.
 fn survives(rt: &impl Abort, alloc: Global, reached: usize, sync: bool) -> Result<(), Fail> {
     assert!(rt;
         survives_each(alloc, reached, sync)?,
