@@ -34,8 +34,9 @@ pub fn law_copied()
 
 /// Where an upload stored each request of a recording, of a file or of headerless samples, the
 /// server has a file that reads as that recording: over links that give each end a prefix of what
-/// the other wrote, and an honest store; then, and after whatever comes later. If `send --file`
-/// ended with status 0, its upload is such a one.
+/// the other wrote, and an honest store, if nothing else was admitted under its name until then;
+/// and it keeps it, whatever comes later. If `send --file` ended with status 0, its upload is such
+/// a one.
 pub fn law_copied_sent<F: Feed<Fault = FeedFault>, P: Pause, D: Dial, S: TakeStore, J: Journal>()
     ensures uploads { FileUploadsAreCopied F.Feed P.Pause D.Dial D.Reader.Source D.Writer.Sink
         S.TakeStore J.Journal }

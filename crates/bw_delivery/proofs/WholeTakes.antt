@@ -1,4 +1,4 @@
--- The file of a take whose requests are all stored, one of them a CLOSE, whoever told that they are.
+-- The file of a take whose requests are all stored, one of them a CLOSE, however that is known.
 use Rattle.std.proofs.Common.{◌≡◌, ℕ, suc, ◌<◌, ◌≤◌, Bool, true, false, List, [], ◌∷◌, length, take, Option, Some}
 use Rattle.std.proofs.Common.{None, refl, sym, ◌∙◌, ap, subst, arith, inr, zero, IsTrue}
 use Rattle.std.specs.Prelude.{slice_get, fold, is_some}

@@ -19,10 +19,10 @@ use bw_store::TakeStore;
 use bw_stream::Sink;
 use bw_upload::Feed;
 
-/// A sender that has the verdict Stored for each of its requests may rely on the server's file:
-/// whatever else reached the server under other names, its take is what these requests make, each
-/// applied once in their order, and if one of them is a CLOSE, an honest store has that take's file,
-/// byte for byte, from then on.
+/// A sender that has the verdict Stored for each of its requests may rely on the server's file, if
+/// nothing else was admitted under its name until then: whatever reached the server under other
+/// names, its take is what these requests make, each applied once in their order, and if one of
+/// them is a CLOSE, an honest store has that take's file, byte for byte, from then on.
 pub fn law_promise<S: TakeStore, J: Journal>()
     ensures counts { SendersCountTakes S.TakeStore J.Journal }
     ensures files { ClosedTakesHaveFiles S.TakeStore J.Journal }
