@@ -1,4 +1,4 @@
--- What a command did that resulted in this.
+-- What a command that resulted in this did.
 use Rattle.std.proofs.Common.{◌≡◌, ℕ, true, refl, sym}
 use Rattle.std.specs.Prelude.{Result, Ok, Err}
 use Rattle.bw_stream.specs.declared.sink.Sink.{Ghosts as Writer}

@@ -16,7 +16,7 @@ pub enum Stop {
     /// This number is 16 or more past the least one without a verdict: the server has lost the
     /// take. It is final.
     TooFar(u32),
-    /// The server knows as many names as it can.
+    /// The server knows as many names as it takes.
     TableFull,
     /// The server had no memory for a message.
     NoRoom,

@@ -78,7 +78,7 @@ impl Talk {
     ///
     /// # Errors
     /// `Write`: a prefix of the frames was written. `Memory`: whole frames of the first messages.
-    /// The link can't be used any more to say something.
+    /// Nothing more can be said over this link.
     ///
     /// # Not specified
     /// When memory is refused, and after how many messages.
@@ -111,8 +111,8 @@ impl Talk {
     /// # Errors
     /// `Read` if the reader failed; `BadReply` if bytes are no reply's frame, or the input ended
     /// inside one; `Memory` if memory was refused, and the piece is lost; `TurnLimit` if so many
-    /// bytes were read that the next piece could end past 2^62. The link can't be used any more to
-    /// hear something.
+    /// bytes were read that the next piece could end past 2^62. Nothing more can be heard over this
+    /// link.
     pub fn listen<R: Source>(
         &mut self,
         sender: &mut Sender,

@@ -10,7 +10,7 @@ end_name EndOfInput = codes "EndOfInput"
 end_name SaidBye = codes "Bye"
 end_name (BadFrame reason place) = codes "BadFrame"
 
--- the name of an end, one that breaks the exchange off too
+-- the name of an end, also of one that breaks the exchange off
 abbrev pub name_of_end : ExchangeEnd → List ℕ
 name_of_end ends.Bye = codes "Bye"
 name_of_end ends.EndOfInput = codes "EndOfInput"

@@ -17,7 +17,7 @@ use Rattle.bw_exchange.specs.Answering.{Answered, answered_frames, replies_of, A
 use Rattle.bw_exchange.specs.Ends.{IsFinal}
 use Rattle.bw_exchange.specs.Done.{last_of, AreFirstOf}
 
--- an exchange reads at most so often
+-- the most reads of an exchange
 abbrev pub most_reads : ℕ
 most_reads = 2 ^ 32
 

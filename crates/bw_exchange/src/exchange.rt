@@ -1,4 +1,4 @@
-//! An exchange as a machine: bytes go in, frames are answered, bytes come out. No input or output.
+//! An exchange as a state machine without I/O: bytes go in, frames are answered, bytes come out.
 ghost use Rattle.std.specs.Prelude.{◌≡◌, ◌+◌, ◌≤◌, [], length, take, drop, true, false, IfOk, OnOk};
 ghost use Rattle.std.specs.Prelude.{OnErr, None, vec_len, vec_capacity, is_some, if◌then◌else◌};
 ghost use Rattle.bw_wire.specs.Codecs.{message_codec};

@@ -61,7 +61,7 @@ pub record IsCrowded (existed : List ℕ → Bool) (table : Book) : Type 0 where
   pub none : (name : List ℕ) → IsTrue (is_known table name) →
       IsFalse (may_rest (existed name) (log_of table name))
 
--- the last place has a request: no log of a server goes on behind it
+-- the last place has a request: no log of a server has places after it
 abbrev pub ends_with_request : Log → Bool
 ends_with_request log = fold (λ so_far place. is_some place) true log.admitted
 

@@ -12,7 +12,7 @@ module _ {X Y : Type 0} {S : StoreGhosts X} {J : JournalGhosts Y} where
   abbrev pub table_server : RestingServer X Y S J → Server X Y S J
   table_server r = r.server
 
-  -- the names whose uses are noted, the one used the longest time ago first
+  -- the names whose uses are noted, the least recently used first
   abbrev pub names_used : RestingServer X Y S J → List (List ℕ)
   names_used r = r.uses.names.items
 

@@ -5,7 +5,7 @@ use Rattle.std.specs.List.{filter, HoldsAt}
 use Rattle.std.specs.Str.{bytes_eq}
 use Rattle.bw_session.specs.declared.session.Session.{Session}
 
--- the names but for the one used the longest time ago, if they are too many
+-- the names but for the least recently used, if they are too many
 abbrev pub with_place : List (List ℕ) → List (List ℕ)
 with_place names = if length names == 512 then drop 1 names else names
 

@@ -18,7 +18,7 @@ use bw_store::TakeStore;
 pub(crate) enum Found {
     /// In the table.
     Known,
-    /// Nowhere: none rests under it either.
+    /// Nowhere: nothing rests under it either.
     New,
     /// It rests, and can't be woken; or it is new, and no room can be made for it.
     PutOff,
@@ -27,8 +27,8 @@ pub(crate) enum Found {
 }
 
 impl<S: TakeStore, J: RestingJournal> RestingServer<S, J> {
-    /// Makes a place free in a full table, if a name can rest: the one used the longest time ago, or
-    /// another if that one can't.
+    /// Makes a place free in a full table, if a name can rest: the least recently used, or another if
+    /// that one can't.
     pub(crate) fn make_room(&mut self) -> Room
         ensures kept { KeepsFolders S.TakeStore J.Journal (room_failed result)
             self.old.server self.new.server }
@@ -63,7 +63,7 @@ impl<S: TakeStore, J: RestingJournal> RestingServer<S, J> {
         }
     }
 
-    /// Puts a name to rest where the one used the longest time ago can't: the next one that can.
+    /// Puts a name to rest where the least recently used can't: the next one that can.
     fn rest_another(&mut self) -> Rest
         ensures kept { KeepsFolders S.TakeStore J.Journal (is_failed result)
             self.old.server self.new.server }
@@ -162,7 +162,7 @@ fn wake_name<S: TakeStore, J: RestingJournal>(server: &mut Server<S, J>, name: &
     ensures kept { KeepsFolders S.TakeStore J.Journal (find_failed result) server.old server.new }
     ensures found { IsWhere S.TakeStore J.Journal name.now result server.new }
 {
-    // Its clause says that these are the bytes of a name.
+    // The clause of `as_bytes` says that these are the bytes of a name.
     let _bytes = name.as_bytes();
     match server.wake(name) {
         Ok(true) => Found::Known,

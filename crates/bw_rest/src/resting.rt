@@ -22,10 +22,10 @@ use bw_store::TakeStore;
 use bw_wire::{Ask, Message, Notice, Reply};
 use std::alloc::{AllocError, Global};
 
-/// A server, in whose table a name that rests has no place: it wakes at its next message or ask. If
-/// the table is full then, or when a new name comes, a name rests whose take is closed: the one used
-/// the longest time ago, or another if that one can't. Names that were in the table at the start count
-/// as used before all others, in any order.
+/// A server in whose table a name that rests has no place; the name wakes at its next message or ask.
+/// If the table is full then, or when a new name comes, a name whose take is closed is put to rest:
+/// the least recently used, or another if that one can't rest. Names that were in the table at the
+/// start count as used before all others, in any order.
 ///
 /// A frame of a name that can't be woken, or for which no room can be made for lack of memory or by
 /// a fault of the journal, is answered DelayedStore with next 0: nothing of its name has changed, and
@@ -110,8 +110,8 @@ impl<S: TakeStore, J: RestingJournal> RestingServer<S, J> {
         reply
     }
 
-    /// Notes that a name was used, if it may rest. Of one that may not, a later message is noted: the
-    /// one by which it may.
+    /// Notes that a name was used, if it may rest. One that may not yet is noted at the message after
+    /// which it may.
     fn note_use(&mut self, name: &Name)
         ensures server { self.new.server ≡ self.old.server }
         ensures names { self.new.uses.names.items
@@ -123,7 +123,7 @@ impl<S: TakeStore, J: RestingJournal> RestingServer<S, J> {
     }
 }
 
-/// The uses from which a server goes on: each name of its table was used before its next message.
+/// The uses with which a server starts: each name of its table counts as used.
 fn first_uses<S: TakeStore, J: RestingJournal>(
     alloc: Global,
     server: &Server<S, J>,

@@ -61,7 +61,7 @@ fn rest_name<S: TakeStore, J: RestingJournal>(server: &mut Server<S, J>, name: &
     }
 }
 
-/// Puts the first of these names to rest that may. No other is tried.
+/// Puts to rest the first of these names that may rest. No other is tried.
 pub(crate) fn rest_oldest<S: TakeStore, J: RestingJournal>(
     server: &mut Server<S, J>,
     names: &[Name],
@@ -90,7 +90,7 @@ fn first_that_may<S: TakeStore, J: RestingJournal>(
     names.iter().position(|name| server.may_rest(name))
 }
 
-/// Puts the first of these names to rest that can.
+/// Puts to rest the first of these names that can rest.
 pub(crate) fn rest_first<S: TakeStore, J: RestingJournal>(
     server: &mut Server<S, J>,
     names: &[Name],
@@ -124,14 +124,14 @@ fn is_over(rest: Rest) -> bool
     matches!(rest, Rest::Done | Rest::Failed)
 }
 
-/// Whether a name may rest that can't: this one, or one before.
+/// Whether a name that may rest can't: this one, or one before.
 fn is_refused(before: bool, rest: Rest) -> bool
     ensures { result ≡ before || is_declined rest }
 {
     before || matches!(rest, Rest::Refused)
 }
 
-/// Puts any name of the table to rest that can.
+/// Puts to rest any name of the table that can rest.
 pub(crate) fn rest_any<S: TakeStore, J: RestingJournal>(
     alloc: Global,
     server: &mut Server<S, J>,

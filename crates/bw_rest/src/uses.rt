@@ -10,7 +10,7 @@ use std::alloc::AllocError;
 /// How many names are kept: twice as many as a server takes, since some of them may rest.
 const MOST_USED: usize = 512;
 
-/// The names that were used last, the one used the longest time ago first.
+/// The names that were used last, the least recently used first.
 ///
 /// Each message and each ask uses its name. Only the uses of names that may rest are noted: one that
 /// may not is used again before it may. So messages of an open take change nothing here.
@@ -22,7 +22,7 @@ pub(crate) struct Uses {
 }
 
 impl Uses {
-    /// These names were used, in this order.
+    /// The uses of these names, in this order.
     ///
     /// # Errors
     /// `AllocError` if memory was refused.
@@ -35,14 +35,14 @@ impl Uses {
         Ok(Uses { names })
     }
 
-    /// The names, the one used the longest time ago first.
+    /// The names, the least recently used first.
     pub(crate) fn names(&self) -> &[Name]
         ensures { result.now ≡ self.now.names.items }
     {
         self.names.as_slice()
     }
 
-    /// A name is used now. Of too many the one used the longest time ago is forgotten.
+    /// Notes that a name is used now. If there are too many, the least recently used is forgotten.
     pub(crate) fn touch(&mut self, name: &Name)
         ensures last { self.new.names.items ≡ with_use name.now self.old.names.items }
     {
@@ -51,7 +51,7 @@ impl Uses {
         self.add(name);
     }
 
-    /// Forgets the name used the longest time ago, if there are too many.
+    /// Forgets the least recently used name, if there are too many.
     fn make_place(&mut self)
         ensures place { vec_len self.new.names < 512 }
         ensures names { self.new.names.items ≡ with_place self.old.names.items }

@@ -51,7 +51,7 @@ impl Sender {
         Ok(())
     }
 
-    /// Whether a request comes first and is no OPEN.
+    /// Whether a request would be the first and is no OPEN.
     fn is_early(&self, request: &Request) -> bool
         ensures { result ≡ ((self.now.offered == 0) && not (is_opening_request request.now)) }
     {
@@ -90,7 +90,7 @@ impl Sender {
         Heard::Counted
     }
 
-    /// What a notice is.
+    /// How a notice is taken.
     pub(crate) fn on_notice(&self, name: &Name, number: u32, code: Notice) -> Heard
         ensures heard { (s : Defined) → IsSender s self.now → (next : ℕ) →
             heard_of result ≡ heard s (Noticed name.now number (notice_meaning code) next) }

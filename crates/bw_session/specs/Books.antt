@@ -1,4 +1,4 @@
--- What a server has to do with a book that it may hold.
+-- How a server relates to a book that it may hold.
 use Rattle.std.specs.Prelude.{◌≡◌, ℕ, true, false, Option, Some, None, is_some, IsTrue, List, map}
 use Rattle.std.specs.Prelude.{drop, count_by, if◌then◌else◌}
 use Rattle.bw_model.specs.Wire.{Message, Says}

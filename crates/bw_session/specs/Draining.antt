@@ -21,7 +21,7 @@ use Rattle.bw_session.specs.Numbered.{with_done}
 use Rattle.bw_session.specs.declared.draining.Drained.{Drained}
 use Rattle.bw_session.specs.declared.draining.Drained.TheVariants.{Idle, Done, Stopped}
 
--- What the parts of a name have to do with one another, whatever was sent.
+-- How the parts of a name fit together, whatever was sent.
 pub record Fits (g : Growing) (p : Parts) (done room places : ℕ)
     (window : List (Option (List ℕ))) : Type 0 where
   -- each held request can be stored, and its verdict kept, without memory

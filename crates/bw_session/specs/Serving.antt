@@ -1,4 +1,4 @@
--- A message of a name that a session is kept of.
+-- A message of a name that has a session.
 use Rattle.std.specs.Prelude.{◌≡◌, ℕ, Bool, false, IsTrue, IsFalse, Option, None, is_some}
 use Rattle.std.specs.Prelude.{unwrap_or, List, map, if◌then◌else◌}
 use Rattle.std.specs.Option.{option_map_or}

@@ -1,4 +1,4 @@
--- What a session has to do with its name's log.
+-- How a session relates to its name's log.
 use Rattle.std.specs.Prelude.{◌≡◌, ◌≤◌, ◌+◌, ◌*◌, ℕ, Bool, Option, List, length, if◌then◌else◌}
 use Rattle.bw_model.specs.Book.{Log}
 use Rattle.bw_session.specs.Writing.{IsSameFile}

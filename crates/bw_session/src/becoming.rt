@@ -9,7 +9,7 @@ use bw_store::TakeStore;
 impl<S: TakeStore, J: BecomesResting> Server<S, J> {
     ghost use Rattle.bw_session.specs.SeenServers.{server_journal};
 
-    /// The same server, over the same journals, of which some rest from now on.
+    /// The same server, over the same journals, which may rest from now on.
     pub fn becomes_resting(self) -> Server<S, J::Resting>
         ensures same { ChangesJournal S.TakeStore J.Journal J.Resting.Journal self result }
         ensures journal { J.becomes (server_journal self) (server_journal result) }

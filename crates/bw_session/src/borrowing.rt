@@ -1,4 +1,4 @@
-//! The message of the next number: it is done from its borrowed body.
+//! Doing the next number from a message whose body is borrowed.
 ghost use Rattle.std.specs.Prelude.{◌≡◌, None, Result, IfOk, OnOk, OnErr, length};
 ghost use Rattle.sha2.specs.Sha256.{sha256};
 ghost use Rattle.bw_model.specs.Bytes.{at};

@@ -40,7 +40,7 @@ impl Model for Ledger {
 }
 
 impl Ledger {
-    /// No number is done.
+    /// A ledger without numbers.
     pub(crate) fn new(alloc: Global) -> Ledger
         ensures { result.outcomes ≡ [] }
     {
@@ -49,7 +49,7 @@ impl Ledger {
         }
     }
 
-    /// What is kept of the numbers of a table, 33 bytes for each.
+    /// A ledger of the numbers in a table, 33 bytes for each.
     pub(crate) fn resume(table: Vec<u8>) -> Ledger
         requires whole { length table.items % 33 ≡ 0 }
         requires coded { IsTrue (have_codes (row_count table.items) table.items) }
@@ -73,8 +73,8 @@ impl Ledger {
         self.bytes.len() as u64
     }
 
-    /// Makes room for `count` more. A growth leaves room for at least as many as there are, so that
-    /// long takes are not copied over and over.
+    /// Makes room for `count` more. A growth leaves room for at least as many more as there are, so
+    /// that the ledgers of long takes are not copied over and over.
     ///
     /// # Errors
     /// `AllocError` if the growth was refused.

@@ -46,8 +46,8 @@ pub(crate) struct Stores<S: TakeStore, J: Journal> {
 }
 
 impl<S: TakeStore, J: Journal> Stores<S, J> {
-    /// Notes a done number under a name after the first bytes, and returns the length of its entry
-    /// in bytes.
+    /// Notes a done number under a name at an offset of its journal, and returns the length of the
+    /// entry in bytes.
     ///
     /// # Errors
     /// `StoreFault` if the journal failed: the same call may be tried again.
@@ -178,7 +178,8 @@ impl Progress {
             &mut self.state,
             request,
         )?;
-        // Its clause on widths says that the file with the request is between the old and the new one.
+        // The clause of `bext` on widths is needed: the file with the request is between the old and
+        // the new one.
         let _bext = self.state.bext();
         let Ok(len) = stores.note(&self.name, self.noted, verdict, digest, request) else {
             mark_written(&mut self.growing, verdict, request);

@@ -17,7 +17,7 @@ use bw_request::Name;
 use bw_store::TakeStore;
 use std::alloc::AllocError;
 
-/// Why a name can't be put to rest that may rest.
+/// Why a name that may rest can't be put to rest.
 #[derive(Clone, Copy, Debug, PartialEq, Eq)]
 pub enum RestFault {
     /// The journal failed.
@@ -80,10 +80,12 @@ impl<S: TakeStore, J: RestingJournal> Server<S, J> {
     ghost use Rattle.bw_session.specs.RestingNames.{restable_kept};
 
     /// Puts a name to rest: nothing is kept of it any more but its journal, which rests, and its
-    /// file. It returns false, and nothing changes, if the name may not rest, or its journal can't.
+    /// file. It returns false if the name may not rest, or its journal can't: what is known of each
+    /// name, and what its journal says, stays as it was.
     ///
     /// # Errors
-    /// The fault; nothing has changed, and the name may rest.
+    /// The fault: what is known of each name, and what its journal says, stays as it was, and the name
+    /// may still rest. But the journal's file may by then stand where one that rests does.
     ///
     /// # Not specified
     /// When memory is refused.

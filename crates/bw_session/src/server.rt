@@ -37,7 +37,7 @@ use std::collections::HashMap;
 /// The most names that a server takes.
 pub(crate) const NAMES: usize = 256;
 
-/// Answers messages over a store and, optionally, a journal, which no call lends or returns.
+/// Answers messages over a store and, optionally, a journal.
 #[derive(Drop)]
 pub struct Server<S: TakeStore, J: Journal = NoJournal> {
     pub(crate) sessions: HashMap<Name, Session>,
@@ -122,7 +122,7 @@ impl<S: TakeStore, J: Journal> Server<S, J> {
     }
 
     /// Takes a message, and puts the replies to its sender into `out`, which is emptied first: the
-    /// verdicts of the numbers of its name that are done by it, in order, at most sixteen; then the
+    /// verdicts of the numbers of its name that this turn does, in order, at most sixteen; then the
     /// reply to the message itself, if its verdict isn't among these.
     ///
     /// For each number that is done, any store gets all calls of its judged request, in order; for
@@ -130,8 +130,8 @@ impl<S: TakeStore, J: Journal> Server<S, J> {
     ///
     /// A held message is done when those before it have come; after a failure, when the next message
     /// of its name comes: if only its note failed it is noted alone, and the store is asked for
-    /// nothing. Whichever calls fail, what waits was written in order: nothing to its file before its
-    /// journal is begun, and no byte of its entry before its request is carried out.
+    /// nothing. Whichever calls fail, a message that waits is written in order: nothing to its file
+    /// before its journal is begun, and no byte of its entry before its request is carried out.
     ///
     /// # Not specified
     /// - When a growth is refused, as NoRoom reports it.
@@ -196,7 +196,7 @@ impl<S: TakeStore, J: Journal> Server<S, J> {
         }
     }
 
-    /// Serves the first message of a name, if there is room for both.
+    /// Serves the first message of a name, if there is room for the name and the message.
     ///
     /// # Errors
     /// Why it is turned away; nothing is changed.

@@ -1,5 +1,5 @@
-//! A message of a name that a session is kept of: it is admitted, what is held in a row is done,
-//! and its sender gets the replies.
+//! A message of a name that has a session: it is admitted, the numbers held in a row are done, and
+//! its sender gets the replies.
 ghost use Rattle.std.specs.Prelude.{◌≡◌, ◌≤◌, [], IsTrue, IfOk, OnOk, OnErr};
 ghost use Rattle.std.specs.Prelude.{is_some, length, map, true, false};
 ghost use Rattle.std.specs.List.{All};

@@ -33,7 +33,7 @@ pub enum WakeFault {
     Journal,
     /// Memory was refused, or the journal has more than 2^40 bytes.
     Memory,
-    /// What rests isn't the journal of a closed take, whole, of the server's limit, and with no more
+    /// What rests isn't the whole journal of a closed take of the server's limit, or it has more
     /// numbers than messages have.
     Unfit,
 }
@@ -70,7 +70,7 @@ impl<S: TakeStore, J: RestingJournal> Server<S, J> {
 
     /// Wakes a name: what is kept of it is made anew from its journal, which is as before its rest.
     /// It returns false, and nothing changes, if none rests under the name. The store isn't asked.
-    /// The name must not be known, and the table not be full: `is_known` and `is_full` say whether.
+    /// The name must not be known, and the table must not be full (`is_known`, `is_full`).
     ///
     /// # Errors
     /// The fault; nothing has changed.
@@ -98,7 +98,7 @@ impl<S: TakeStore, J: RestingJournal> Server<S, J> {
             ≡ false }
     {
         let alloc = self.stores.alloc;
-        // Its clause says that no name is in the table twice.
+        // The clause of `len` says that no name is in the table twice.
         let _names = self.sessions.len();
         let Ok(found) = self.stores.journal.read_resting(name) else {
             return Err(WakeFault::Journal);
@@ -154,7 +154,7 @@ fn session_at_rest(
     }
 }
 
-/// What a journal says that has no torn entry.
+/// What a journal without a torn entry says.
 ///
 /// # Errors
 /// `Memory` if memory was refused, or the journal has more than 2^40 bytes; `Unfit` if an entry is
@@ -186,7 +186,7 @@ fn replay_whole(
     }
 }
 
-/// Why a name isn't woken whose journal can't be replayed.
+/// Why a name whose journal can't be replayed isn't woken.
 fn fault_of_replay(fault: ReplayFault) -> WakeFault
     ensures memory { fault_meaning fault ≡ None → result ≡ WakeFault.Memory }
     ensures unfit { IsSome (fault_meaning fault) → result ≡ WakeFault.Unfit }

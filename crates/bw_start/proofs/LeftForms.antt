@@ -1,4 +1,4 @@
--- What calls leave of a folder that may fail: the book that an earlier server left there.
+-- What calls that may fail leave of a folder: the book that an earlier server left there.
 use Rattle.std.proofs.Common.{◌≡◌, inl, inr, ℕ, ◌<◌, ◌^◌, Bool, true, false, List}
 use Rattle.std.proofs.Common.{Option, Some, IsTrue, IsSome, refl, sym, ◌∙◌, subst}
 use Rattle.std.specs.List.{All, Contains}

@@ -1,4 +1,4 @@
--- What calls leave of a take's file that may fail: its samples.
+-- What calls that may fail leave of a take's file: its samples.
 use Rattle.std.proofs.Common.{◌≡◌, ◌⊎◌, inl, inr, ℕ, zero, suc, ◌+◌, ◌-◌, ◌≤◌, Bool, true, false, List, [], ◌∷◌, ◌++◌}
 use Rattle.std.proofs.Common.{length, take, drop, Option, Some, None, refl, sym, ◌∙◌, ap, arith, length-append, length-drop}
 use Rattle.std.specs.Prelude.{option_map, slice_index, min, max}

@@ -1,4 +1,4 @@
--- How the files of a name end that are its journal.
+-- The endings of the files that are a name's journal.
 use Rattle.std.specs.Prelude.{ℕ, List, codes}
 use Rattle.bw_start.specs.declared.ending.Ending.{Ending}
 use Rattle.bw_start.specs.declared.ending.Ending.TheVariants.{Journal, Closed}

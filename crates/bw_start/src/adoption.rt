@@ -61,7 +61,7 @@ pub fn data_place(state: &TakeState) -> u64
     690 + len + len % 2
 }
 
-/// Where they end.
+/// Where the samples of a take's file end, in bytes.
 pub fn data_end(state: &TakeState) -> u64
     ensures value { result ≡ end_of state.now.parts }
     ensures range { result ≤ largest + 4786 }
@@ -81,7 +81,7 @@ fn cue_count(state: &TakeState) -> u64
     }
 }
 
-/// How many bytes the file has.
+/// How many bytes a take's file has.
 pub fn file_len(state: &TakeState) -> u64
     ensures value { result ≡ len_of state.now.parts }
     ensures range { result < 2 ^ 63 + 8 }
@@ -112,8 +112,8 @@ pub fn header_of(alloc: Global, state: &TakeState, limit: Limit) -> Result<Vec<u
     Ok(header)
 }
 
-/// What becomes of a take's file, of which this is read. The header is that of `header_of`, for a
-/// take that is opened.
+/// What becomes of a take's file, by what was read of it (`found`; None if there is no file). For a
+/// take that is opened, `header` is that of `header_of`.
 ///
 /// # Errors
 /// What is wrong with the file.
@@ -222,7 +222,7 @@ fn opened_fault(state: &TakeState, len: u64, unchanged: bool) -> Option<FileFaul
     }
 }
 
-/// What the file of an open take lacks, which has its samples.
+/// What the file of an open take lacks, which has all samples.
 fn least_mending(state: &TakeState, header: &[u8], facts: &FileFacts<'_>) -> Mending
     ensures mended { (limit : ℕ) (f : Format) (file : List ℕ) → IsSeen state.now.parts file facts.now →
         end_of state.now.parts ≤ length file → header.now ≡ header_by limit state.now.parts f →
@@ -248,7 +248,7 @@ fn is_padded(len: u64, after: Option<u8>) -> bool
     len % 2 == 1 && is_zero(after)
 }
 
-/// Whether they need one, and this is none.
+/// Whether so many samples, in bytes, need a pad byte, and this isn't one.
 fn lacks_pad(len: u64, after: Option<u8>) -> bool
     ensures { IsTrue result ↔ ((len % 2 ≡ 1) × (after ≡ Some 0 → ⊥)) }
 {
@@ -265,7 +265,7 @@ fn is_zero(byte: Option<u8>) -> bool
     }
 }
 
-/// How many bytes of a file stay whose samples end there.
+/// How many bytes stay of a file whose samples end there.
 fn kept_len(end: u64, padded: bool) -> u64
     requires { end < 2 ^ 63 }
     ensures { result ≡ end + (if padded then 1 else 0) }

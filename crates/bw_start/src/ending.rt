@@ -13,7 +13,7 @@ use bw_request::Name;
 use std::alloc::{AllocError, Global};
 use std::collections::BTreeSet;
 
-/// How the file of a name ends that is its journal.
+/// The ending of a file that is a name's journal.
 #[derive(Clone, Copy, Debug, PartialEq, Eq)]
 pub enum Ending {
     /// `NAME.journal`: it doesn't rest.
@@ -102,7 +102,7 @@ fn add_name(file: &str, ending: Ending, names: &mut BTreeSet<Name>) -> Result<()
     }
 }
 
-/// Adds a name that isn't there.
+/// Adds a name.
 pub(crate) fn push_name(names: &mut Vec<Name>, name: Name) -> Result<(), ReadFault>
     ensures pushed { OnOk result (names.new.items ≡ names.old.items ++ name ∷ []) }
 {
@@ -119,7 +119,7 @@ pub(crate) fn is_there(names: &[Name], name: &Name) -> bool
     names.contains(name)
 }
 
-/// The name that this file's is with this ending, if it is one.
+/// The name to which this ending was added to make this file name, if it is one.
 pub(crate) fn name_with(file: &str, ending: Ending) -> Option<Name>
     ensures name { IfSome result (λ name. IsTrue (is_take_name name)) }
     ensures some { IfSome result (λ name. file.now ≡ name ++ ending_text ending) }

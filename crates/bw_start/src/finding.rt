@@ -25,7 +25,7 @@ use bw_request::Name;
 use bw_take::TakeState;
 use std::alloc::Global;
 
-/// Journals have at most this many bytes.
+/// The most bytes of a journal that is read.
 const JOURNAL_MAX: usize = 1 << 40;
 
 /// How many bytes show whether a file begins as a take of this server.
@@ -36,7 +36,7 @@ const FRONT_LEN: usize = 20;
 pub enum NameFault {
     /// What is wrong with its journal; memory is never the reason.
     Journal(ReplayFault),
-    /// Its journal is that of a server of this limit.
+    /// Its journal is that of a server of another limit: this one, in bytes.
     OtherLimit(u32),
     /// What is wrong with its file.
     File(FileFault),
@@ -58,7 +58,7 @@ pub struct Begun {
 pub enum Finding {
     /// It can't be resumed.
     Refused(NameFault),
-    /// Its journal isn't begun: it is to be emptied, and the name is free as it was.
+    /// Its journal isn't begun: it is to be emptied, and the name stays free.
     Unbegun,
     /// It is resumed.
     Begun(Begun),

@@ -147,7 +147,7 @@ pub fn start_over<D: Volume, E: Volume, W: StartWatch>(
     }
 }
 
-/// No name that rests stands in a server's way.
+/// Checks that no name that rests stands in a server's way.
 ///
 /// # Errors
 /// `Rests` or `Twice` with each name that does; the disk's fault, or refused memory.

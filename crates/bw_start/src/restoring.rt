@@ -131,7 +131,7 @@ fn find_all<D: Volume, E: Volume, W: StartWatch>(
     look_at_each(alloc, takes, notes, folder, limit, &names, watch)
 }
 
-/// Nothing is wrong with any of these names, and a server can keep them all.
+/// Checks that nothing is wrong with any of these names, and that a server can keep them all.
 ///
 /// # Errors
 /// `Refused` with each name that something is wrong with; `TooMany`; `Memory` if memory was refused.

@@ -1,4 +1,4 @@
-//! Making journal and file of a name again what its done numbers make: the last step before a server
+//! Restoring journal and file of a name to what its done numbers make: the last step before a server
 //! resumes it.
 ghost use Rattle.std.specs.Prelude.{◌≡◌, ℕ, List, Option, Some, IsTrue, IsFalse, IfOk, OnOk, OnErr, take};
 ghost use Rattle.std.specs.Prelude.{option_map, codes, string_bytes, length, ◌+◌, ◌++◌, None, decimal};
@@ -131,7 +131,7 @@ fn cut_torn<E: Volume>(
     cut_journal(notes, alloc, folder, name, replayed.used as u64)
 }
 
-/// Cuts the journal of a name to its first bytes, so many.
+/// Cuts the journal of a name to its first `len` bytes.
 ///
 /// # Errors
 /// `Disk` if a call of the disk failed, or there is no journal; `Memory` if memory was refused.
@@ -159,7 +159,7 @@ pub fn cut_journal<E: Volume>(
     cut_at(notes, path.as_str(), len)
 }
 
-/// Cuts the file at a path to its first bytes, so many.
+/// Cuts the file at a path to its first `len` bytes.
 fn cut_at<E: Volume>(notes: &mut E, path: &str, len: u64) -> Result<(), ReadFault>
     ensures honest { E.honest notes.new ≡ E.honest notes.old }
     ensures ok { IsTrue (E.honest notes.old) → OnOk result (Becomes (take len)

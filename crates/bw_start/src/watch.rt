@@ -1,8 +1,8 @@
 //! Watching a start.
 
-/// Is told how far a start is. By itself it does nothing.
+/// Receives the progress of a start. By default it does nothing with it.
 pub trait StartWatch {
-    /// So many journals of all have been read.
+    /// Reports how many of how many journals have been read.
     fn read_journal(&mut self, _count: usize, _all: usize) {}
 }
 
