@@ -92,7 +92,7 @@ abbrev pub is_read : {X : Type 0} → Result X Fault → Bool
 is_read (Ok x) = true
 is_read (Err fault) = is_readable fault
 
--- the fault's line alone is reported, and of none nothing
+-- the fault's line alone is reported, and nothing if there is none
 abbrev pub IsReportedBy : Result (Unit {0}) Fault → Print → Type 0
 IsReportedBy (Ok x) print = print ≡ Nothing
 IsReportedBy (Err fault) print = IsOf (as_line (input_fault_text fault)) print

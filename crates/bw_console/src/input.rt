@@ -20,6 +20,14 @@ use std::alloc::Global;
 const LONGEST_INPUT: usize = 16_777_216;
 
 /// The bytes of each exchange of an input, which has one line of hex for each.
+///
+/// # Errors
+/// Those of `all_bytes`, and `NotHex` with the number of the first line that isn't hex.
+///
+/// # Not specified
+/// - When memory is refused.
+/// - Of a reader that doesn't report its bytes: that the result is what it gave, and that `TooLong`
+///   and `NotHex` are true.
 pub fn exchanges<R: Source>(alloc: Global, input: &mut R) -> Result<Vec<Vec<u8>>, Fault>
     ensures within { Of (R.left input.old) (λ xs. IsReadAhead xs (R.left input.new)) }
     ensures most { R.moved input.new ≤ R.moved input.old + (longest_input + 1) }

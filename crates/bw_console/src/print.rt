@@ -48,8 +48,8 @@ pub fn give_up<E: Sink>(faults: &mut E, fault: &Fault) -> Exit
     fault.exit()
 }
 
-/// Prints a text that is all of a command. Returns how the command ends: `Done`, or `Device` if the
-/// writer failed, which is reported.
+/// Prints a text that is all a command prints. Returns how the command ends: `Done`, or `Device` if
+/// the writer failed, which is reported.
 ///
 /// # Not specified
 /// What `print` and `give_up` leave open.

@@ -1,4 +1,4 @@
-//! Links over which so many bytes a second go at most.
+//! Links over which at most a given number of bytes a second are sent.
 #![tactic(auto)]
 
 mod network;

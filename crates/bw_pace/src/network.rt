@@ -2,10 +2,10 @@
 use bw_ports::Network;
 use std::net::SocketAddr;
 
-/// A network over whose links to a server a sender may send so many bytes a second at most.
+/// A network that can limit how many bytes a second a sender sends over a link to a server.
 pub trait PacedNetwork: Network {
-    /// Makes links as `dial` does, for which the same holds whatever the rate is: `rate` bytes a
-    /// second at most go to the server over each, if that is given.
+    /// Makes links as `dial` does: what that says of them holds at any rate. Over each link at most
+    /// `rate` bytes a second are sent to the server, if a rate is given.
     ///
     /// # Not specified
     /// - Anything beyond what each network says of itself.

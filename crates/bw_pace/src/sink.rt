@@ -5,9 +5,9 @@ use bw_ports::Pause;
 use bw_resume::Stopwatch;
 use bw_stream::{IoFailed, Sink};
 
-/// A writer that takes so many bytes a second at most, if a rate is given: it takes those of a tenth
-/// of a second at once, and before a write it waits until those that were written before have had
-/// their time. What is written is what its own writer gets, at any rate.
+/// A writer that takes at most a given number of bytes a second, if a rate is given: it takes those
+/// of a tenth of a second at once, and before a write it waits until those that were written before
+/// have had their time. What is written is what its own writer gets, at any rate.
 #[derive(Drop)]
 pub struct PacedSink<W, P, T> {
     inner: W,

@@ -35,7 +35,8 @@ pub trait Followed {
         ensures stays { is_complete self.old ≡ true → is_complete self.new ≡ true }
         ensures ok { IfOk result (λ ended. ended ≡ true → is_complete self.new ≡ true) };
 
-    /// Reads some of the next bytes into the prefix of `buf`: 0 where none is written yet.
+    /// Reads some of the next bytes into the start of `buf`, and returns how many: 0 where none is
+    /// written yet.
     ///
     /// # Errors
     /// `IoFailed` if the reader failed: no byte was used up.

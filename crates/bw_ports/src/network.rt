@@ -40,7 +40,7 @@ pub trait Network {
     /// The store of the folder's files, for a server without journals.
     ///
     /// # Errors
-    /// Why no server can use the folder: among others that an earlier one kept journals there.
+    /// Why no server can use the folder; one reason is that an earlier server kept journals there.
     ///
     /// # Not specified
     /// - When it fails, and why.

@@ -8,7 +8,7 @@ use bw_stream::Source;
 use std::alloc::AllocError;
 use std::io;
 
-/// What shows that a file is as it was: its length in bytes, and when it was changed last, in
+/// What shows that a file is as it was: its length in bytes, and when it was last changed, in
 /// nanoseconds since the start of 1970 (UTC), 0 for a time before.
 #[derive(Clone, Copy, Debug, PartialEq, Eq)]
 pub struct FileStamp {

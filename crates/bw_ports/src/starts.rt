@@ -12,8 +12,8 @@ use thiserror::Error;
 /// It has no number, and no clause describes its text.
 #[derive(Debug, Drop, Error)]
 pub enum StartRefusal {
-    /// What stands in the folder can't be served so: a line for each file that refuses it, each
-    /// ended by a line feed.
+    /// What is in the folder can't be served this way: a line for each file that is the reason,
+    /// each ended by a line feed.
     #[error("the folder can't be served so")]
     Unfit(Vec<u8>),
     /// Another server runs over the folder.

@@ -1,8 +1,8 @@
 //! Whoever follows a sender's progress.
 use bw_stream::Sink;
 
-/// A sender's progress after a round. No clause here says what its numbers are; the sender's own
-/// do.
+/// A sender's progress after a round. No clause here says what its numbers are; those of the
+/// sender's own type do.
 pub trait ProgressReport {
     /// The round's number, counted from 1.
     fn round(&self) -> u32;

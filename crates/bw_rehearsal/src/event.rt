@@ -8,10 +8,10 @@ pub enum Event {
     Offer(Request),
     /// The sender's request at this place among those without a verdict is sent.
     Send(usize),
-    /// The message at this place among those that were sent comes to the server.
+    /// The message at this place among those that were sent reaches the server.
     Deliver(usize),
-    /// The reply at this place among those that were written comes to the sender.
+    /// The reply at this place among those that were written reaches the sender.
     Bring(usize),
-    /// The server is asked for the sender's name.
+    /// The server is asked for the next number of the sender's name.
     Ask,
 }

@@ -11,8 +11,8 @@ pub fn law_world()
     bw_model::law_world();
 }
 
-/// Faults that are reported nowhere are none: a rehearsal in which no call of the store failed, and
-/// no reply reports lack of memory, has just one world.
+/// A fault that is reported nowhere didn't happen: a rehearsal in which no call of the store
+/// failed, and no reply reports lack of memory, has just one world.
 pub fn law_faults()
     ensures unreported { UnreportedFaultsAreNone }
     ensures one { QuietRehearsalsHaveOneWorld }

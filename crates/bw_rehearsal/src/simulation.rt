@@ -38,7 +38,7 @@ pub(crate) struct Simulation {
 }
 
 impl Simulation {
-    /// Before anything happened.
+    /// A simulation in which nothing has happened yet.
     ///
     /// # Errors
     /// `AllocError` if memory was refused.
@@ -151,7 +151,7 @@ impl Simulation {
         }
     }
 
-    /// Asks the server for the sender's name.
+    /// Asks the server for the next number of the sender's name.
     ///
     /// # Errors
     /// `AllocError` if memory was refused.

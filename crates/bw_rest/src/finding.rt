@@ -27,8 +27,8 @@ pub(crate) enum Found {
 }
 
 impl<S: TakeStore, J: RestingJournal> RestingServer<S, J> {
-    /// Makes a place free in a full table, if a name can rest: the least recently used, or another if
-    /// that one can't.
+    /// Makes a place free in a full table, if a name can rest: the least recently used, or another
+    /// if that one can't.
     pub(crate) fn make_room(&mut self) -> Room
         ensures kept { KeepsFolders S.TakeStore J.Journal (room_failed result)
             self.old.server self.new.server }

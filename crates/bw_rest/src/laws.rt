@@ -7,7 +7,8 @@ use bw_journal::Journal;
 use bw_store::TakeStore;
 
 /// Whatever frames come, over an honest store and journal: each is served by the definitions' turn on
-/// the folder's book, or put off, which leaves it; the server, with what rests, holds the last book.
+/// the folder's book, or put off, which leaves it; the server, with what rests, holds the last
+/// book.
 pub fn law_rests_on<S: TakeStore, J: Journal>()
     ensures { RunsRestOn S.TakeStore J.Journal }
 {}

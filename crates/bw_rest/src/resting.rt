@@ -22,10 +22,10 @@ use bw_store::TakeStore;
 use bw_wire::{Ask, Message, Notice, Reply};
 use std::alloc::{AllocError, Global};
 
-/// A server in whose table a name that rests has no place; the name wakes at its next message or ask.
-/// If the table is full then, or when a new name comes, a name whose take is closed is put to rest:
-/// the least recently used, or another if that one can't rest. Names that were in the table at the
-/// start count as used before all others, in any order.
+/// A server in whose table a name that rests has no place; the name wakes at its next message or
+/// ask. If the table is full then, or when a new name comes, a name whose take is closed is put to
+/// rest: the least recently used, or another if that one can't rest. Names that were in the table
+/// at the start count as used before all others, in any order.
 ///
 /// A frame of a name that can't be woken, or for which no room can be made for lack of memory or by
 /// a fault of the journal, is answered DelayedStore with next 0: nothing of its name has changed, and
@@ -110,8 +110,8 @@ impl<S: TakeStore, J: RestingJournal> RestingServer<S, J> {
         reply
     }
 
-    /// Notes that a name was used, if it may rest. One that may not yet is noted at the message after
-    /// which it may.
+    /// Notes that a name was used, if it may rest. One that may not yet is noted at the message
+    /// after which it may.
     fn note_use(&mut self, name: &Name)
         ensures server { self.new.server ≡ self.old.server }
         ensures names { self.new.uses.names.items

@@ -14,7 +14,7 @@ pub struct Subject<'a> {
     pub address: &'a [u8],
     /// The length of the file that it is sent from, in bytes.
     pub len: u64,
-    /// When the file was changed last, in nanoseconds since the start of 1970 (UTC).
+    /// When the file was last changed, in nanoseconds since the start of 1970 (UTC).
     pub changed: u64,
     /// The length of its first block, in bytes; 0 if there is none.
     pub block: u32,

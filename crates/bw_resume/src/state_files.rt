@@ -4,7 +4,7 @@ ghost use Rattle.bw_stream.specs.Moves.{failures_after, Begins, Keeps, Writes};
 
 use std::io;
 
-/// A state's file that is written on.
+/// A state's file, to which bytes are appended.
 pub trait StateLog {
     /// The bytes of the file, if they are reported.
     ghost written: { Self → Option (List ℕ) };
@@ -39,7 +39,7 @@ pub trait StateLog {
 /// The files of states: their bytes at each path, if they are reported, and how often a call
 /// failed.
 pub trait StateFiles {
-    /// Writes on a state's file.
+    /// Appends to a state's file.
     type Log: StateLog + Drop;
 
     /// The bytes of the file at each path, if they are reported; none where there is no file.
@@ -48,7 +48,7 @@ pub trait StateFiles {
     /// How many calls failed; the count stays at 2^64 - 1.
     ghost failures: { Self → ℕ };
 
-    /// The first bytes of the file at a path, at most so many; none where there is no file.
+    /// The first bytes of the file at a path, at most `most`; none where there is no file.
     ///
     /// # Errors
     /// If the system failed.

@@ -6,7 +6,7 @@ pub trait Stopwatch {
     /// The milliseconds at the last look.
     ghost time: { Self → ℕ };
 
-    /// How many milliseconds have passed since the start; if that can't be found out, as many as at
+    /// How many milliseconds have passed since the start; if the time can't be read, as many as at
     /// the last look.
     ///
     /// # Not specified

@@ -65,8 +65,8 @@ impl Sender {
         })
     }
 
-    /// A sender of a name whose first `count` requests, at most 16,777,216, were all stored, none of
-    /// them a CLOSE.
+    /// A sender of a name whose first `count` requests, at most 16,777,216, were all stored, none
+    /// of them a CLOSE.
     ///
     /// # Errors
     /// `AllocError` if memory was refused. The name isn't given back.

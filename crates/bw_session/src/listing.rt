@@ -50,8 +50,8 @@ impl<S: TakeStore, J: Journal> Server<S, J> {
         }
     }
 
-    /// Whether it knows a name: a message of it was served, or it was resumed or woken, and it wasn't
-    /// put to rest since.
+    /// Whether it knows a name: a message of it was served, or it was resumed or woken, and it
+    /// wasn't put to rest since.
     ///
     /// # Not specified
     /// How it follows from the messages, after a turn over a store that isn't honest.

@@ -84,8 +84,8 @@ impl<S: TakeStore, J: RestingJournal> Server<S, J> {
     /// name, and what its journal says, stays as it was.
     ///
     /// # Errors
-    /// The fault: what is known of each name, and what its journal says, stays as it was, and the name
-    /// may still rest. But the journal's file may by then stand where one that rests does.
+    /// The fault: what is known of each name, and what its journal says, stays as it was, and the
+    /// name may still rest. But the journal's file may by then stand where one that rests does.
     ///
     /// # Not specified
     /// When memory is refused.

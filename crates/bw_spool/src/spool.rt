@@ -6,7 +6,7 @@ use bw_ports::{Link, Received};
 use bw_stream::{Sink, write_all};
 use std::alloc::{AllocError, Global};
 
-/// How many bytes are drawn at once: as many as a pipe holds.
+/// The most bytes that are drawn at once: as many as a pipe holds.
 const PIECE: usize = 65_536;
 
 /// Whether more comes.
@@ -35,7 +35,7 @@ pub enum Drawn {
 }
 
 /// Appends to a file what comes over a link. Nothing is drawn after a failure, so that the file never
-/// lacks bytes between others.
+/// has a gap.
 #[derive(Drop)]
 pub struct Spool<L, W> {
     input: L,

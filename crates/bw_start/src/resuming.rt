@@ -1,5 +1,5 @@
-//! Restoring journal and file of a name to what its done numbers make: the last step before a server
-//! resumes it.
+//! Restoring journal and file of a name to what its done numbers make: the last step before a
+//! server resumes it.
 ghost use Rattle.std.specs.Prelude.{◌≡◌, ℕ, List, Option, Some, IsTrue, IsFalse, IfOk, OnOk, OnErr, take};
 ghost use Rattle.std.specs.Prelude.{option_map, codes, string_bytes, length, ◌+◌, ◌++◌, None, decimal};
 ghost use Rattle.bw_store.specs.Stores.{KeepsOthers};

@@ -28,8 +28,8 @@ use std::alloc::{AllocError, Global};
 /// verdicts of that one, and the files of their takes.
 ///
 /// The folder is given twice, as two disks: the first is that of the takes, and only `NAME.wav` and
-/// `NAME.torn` (or `NAME.torn1` and so on) are changed on it; the second is that of the journals, and
-/// only `NAME.journal` is. All names are judged before anything is changed.
+/// `NAME.torn` (or `NAME.torn1` and so on) are changed on it; the second is that of the journals,
+/// and only `NAME.journal` is. All names are judged before anything is changed.
 ///
 /// # Errors
 /// The fault, with both disks. `Refused` if something is wrong with the journal or the file of a

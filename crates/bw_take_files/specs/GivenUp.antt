@@ -15,7 +15,7 @@ pub record TakePaths : Type 0 where
   pub notes_to : List ℕ
   pub wave_to : List ℕ
 
--- how the path of a journal ends that rests or doesn't
+-- how the path of a journal ends, which rests or doesn't
 abbrev pub journal_ending : Bool → List ℕ
 journal_ending false = codes ".journal"
 journal_ending true = codes ".closed"
@@ -70,7 +70,7 @@ pub record PutsTakeAsideAt (p : TakePaths) (before after : List ℕ → Option (
   pub known : IsSome (before p.notes) ⊎ IsSome (before p.wave)
   pub both : PutsBothAside p before after
 
--- what is to be put aside stands, and so does something where it would go
+-- what is to be put aside stands, and something stands where it would go
 abbrev pub IsBarred : List ℕ → List ℕ → (List ℕ → Option (List ℕ)) → Type 0
 IsBarred from to contents = IsSome (contents from) × IsSome (contents to)
 

@@ -83,7 +83,7 @@ impl ReadAhead {
 }
 
 /// Reads the next blocks from an entry on and makes their digests, if this entry wasn't looked at
-/// and that is faster at once.
+/// and hashing them at once is faster.
 pub(crate) fn read_ahead<D: Volume>(
     disk: &mut D,
     file: &mut D::File,

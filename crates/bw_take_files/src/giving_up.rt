@@ -33,21 +33,22 @@ pub enum GiveUpFault {
 }
 
 /// Gives up a take in a folder: its journal becomes `NAME.journal.given-up`, and then its file
-/// `NAME.wav.given-up`. A server that starts afterwards doesn't know the name. Nothing is deleted or
-/// overwritten. The journal of a take that rests becomes `NAME.closed.given-up`; where it has another
-/// one too, that one is put aside first, and this one by a further call.
+/// `NAME.wav.given-up`. Nothing is deleted or overwritten. The journal of a take that rests becomes
+/// `NAME.closed.given-up`; if the take also has a journal that doesn't rest, that one is put aside
+/// first, and the other by a further call. A server that starts afterwards doesn't know the name.
 ///
-/// The journal goes first, so that a kill leaves no journal whose file is gone: a server starts also
-/// over that. After an error the call may be made again.
+/// The journal goes first, so that a kill leaves no journal whose file is gone: a server also
+/// starts over what a kill leaves. After an error the call may be made again.
 ///
 /// # Errors
 /// `Unknown` if neither stands, `Earlier` if something stands where one of them would go: nothing has
-/// changed then. `Disk` if a call of the disk failed: at most the journal, or both, have been put
+/// changed then. `Disk` if a call of the disk failed: none, the journal, or both have been put
 /// aside. `Memory` if memory was refused: nothing has changed.
 ///
 /// # Not specified
 /// - When memory is refused.
-/// - What survives a loss of power: after each of the two it is asked for.
+/// - What survives a loss of power: the disk is asked to keep the names after each of the two
+///   moves.
 pub fn give_up_take<D: Volume>(
     alloc: Global,
     disk: &mut D,
@@ -117,7 +118,7 @@ fn places_of(alloc: Global, folder: &str, name: &Name, rests: bool) -> Result<Pl
     })
 }
 
-/// How a journal's path ends that rests or doesn't, and that to which it is put aside.
+/// How the path of a journal ends, which rests or doesn't, and the path to which it is put aside.
 fn journal_endings(rests: bool) -> (&'static str, &'static str)
     ensures ending { result.0.now ≡ journal_ending rests }
     ensures aside { result.1.now ≡ journal_ending_aside rests }

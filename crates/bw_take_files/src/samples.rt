@@ -20,13 +20,13 @@ use bw_take::TakeState;
 use sha2::{Digest, Sha256};
 use std::alloc::{AllocError, Global};
 
-/// Journals have at most this many bytes.
+/// The most bytes of a journal that is read.
 const JOURNAL_MAX: usize = 1 << 40;
 
-/// The first number of a take whose samples aren't in the file at a path, by its journal: of a stored
-/// BLOCK, at its place, there are other bytes than those of which the journal has the digest, or
-/// fewer. `None` if there is none, or no file. The state is that of the journal's numbers. Nothing is
-/// changed; at most eight blocks are held at a time.
+/// The first number of a take whose samples aren't in the file at a path, by its journal: at the
+/// place of a stored BLOCK are other bytes than those of which the journal has the digest, or
+/// fewer. `None` if there is no such number, or no file. The state is that of the journal's
+/// numbers. Nothing is changed; at most eight blocks are held at a time.
 ///
 /// # Errors
 /// `Disk` if a call of the disk failed; `Memory` if memory was refused, or the journal has more than
@@ -90,7 +90,7 @@ fn compare_file<D: Volume>(
     first_changed(disk, file, &journal, start, &mut room)
 }
 
-/// So many zeros.
+/// This many zeros.
 fn make_zeros(alloc: Global, len: usize) -> Result<Vec<u8>, ReadFault>
     ensures { IfOk result (λ v. v.items ≡ zero_bytes len) }
 {

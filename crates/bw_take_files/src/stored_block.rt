@@ -13,7 +13,7 @@ use bw_digest::LANES;
 use bw_journal::{EntryRef, first_entry};
 use bw_request::{Name, RequestRef};
 
-/// Hashing in lanes takes as long as hashing so many blocks of the longest one's length one after
+/// Hashing in lanes takes as long as hashing this many blocks of the longest one's length one after
 /// another.
 const LANES_TAKE: usize = 5;
 
