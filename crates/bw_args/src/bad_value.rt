@@ -31,7 +31,7 @@ pub enum BadValue {
     Sync,
     /// `--rest` without `--journal`, or with `--status`.
     Rest,
-    /// The address at which a server of many recorders shows its status, or one for another server.
+    /// The address at which a server shows its status, or `--status` without `--recorders`.
     Status,
     /// Other options of `takes` beside `--watch`.
     Watch,
@@ -53,8 +53,9 @@ pub enum BadValue {
     Skip,
     /// How many frames a block of headerless samples has.
     Block,
-    /// An option for headerless samples without `--pcm`, that without `--file` and `--spool`, with
-    /// both or with `--state`, or an end that isn't said in one way.
+    /// An option for headerless samples without `--pcm`; `--pcm` without `--file` and `--spool`,
+    /// with both, or with `--state`; or options that don't say in one way when the recording has
+    /// ended.
     MixedSamples,
     /// `--json` together with `--human`, or standard input (`-`) beside another file or `--digest`.
     Inspection,

@@ -6,7 +6,7 @@ ghost use Rattle.bw_args.specs.Numbers.{IsCountText, IsLimitText, IsNumber, numb
 const LEAST_LIMIT: u64 = 8_192;
 
 /// The limit if none is given, and the greatest: the greatest even size that the size field of a
-/// RIFF file can hold, besides 0xFFFFFFFF, which means a size given elsewhere.
+/// RIFF file can hold. (0xFFFFFFFF there means that the size is given elsewhere.)
 pub(crate) const DEFAULT_LIMIT: u64 = 4_294_967_294;
 
 /// The most exchanges that a server may be asked for.

@@ -8,21 +8,21 @@ pub struct SourceFile {
     /// Its path, as it was given.
     pub path: String,
     /// What is set in place of what the file has, each as it was given, in this order. Whether they
-    /// are settings isn't looked at here.
+    /// are settings isn't checked here.
     pub settings: Vec<String>,
     /// Whether a recording that would be cleaned is refused.
     pub strict: bool,
 }
 
-/// Headerless samples, as a command line describes them. Whether there is such a format isn't looked
-/// at here.
+/// Headerless samples, as a command line describes them. Whether there is such a format isn't
+/// checked here.
 #[derive(Debug, PartialEq, Eq, Drop)]
 pub struct PcmSource {
-    /// In Hz.
+    /// The sample rate, in Hz.
     pub rate: u32,
-    /// Samples of a frame.
+    /// Samples per frame.
     pub channels: u32,
-    /// Of a sample.
+    /// Bits per sample.
     pub bits: u32,
     /// How many bytes of the file stand before the first sample.
     pub skip: u32,

@@ -17,7 +17,7 @@ use Rattle.bw_follow.specs.declared.state.PcmStep.{PcmStep}
 use Rattle.bw_follow.specs.declared.state.PcmStep.TheVariants as steps
 use Rattle.bw_follow.specs.declared.state.PcmRequests.{PcmRequests}
 
--- as far as the requests are given
+-- how far the requests have been given
 pub record PcmProgress : Type 0 where
   -- all but the samples
   pub outline : Outline
@@ -73,7 +73,7 @@ is_unread (Err faults.Unsendable) = false
 is_unread (Err faults.Memory) = false
 
 module _ {F : Type 0} where
-  -- as far as they are given
+  -- how far they have been given
   abbrev pub progress_of : PcmRequests F → PcmProgress
   progress_of x = record { outline = x.outline; frames = x.frames; given = x.given }
 

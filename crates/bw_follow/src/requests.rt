@@ -32,11 +32,11 @@ pub enum NextRequest {
 }
 
 impl<F: Followed + Drop> PcmRequests<F> {
-    /// The requests of the samples in a file, which is read from the first of them on. It is known
-    /// that the whole file has so many bytes: `pcm.skip` of one that may still grow.
+    /// The requests of the samples in `file`, which is read from the first sample on. `file_len` is
+    /// how many bytes the whole file is known to have: `pcm.skip` if it may still grow.
     ///
     /// # Errors
-    /// The first fault of samples in a file of so many bytes, as `Pcm::outline` returns it.
+    /// The first fault of samples in a file of `file_len` bytes, as `Pcm::outline` returns it.
     ///
     /// # Not specified
     /// When memory is refused.
@@ -80,7 +80,7 @@ impl<F: Followed + Drop> PcmRequests<F> {
     /// The next request, if it can be given.
     ///
     /// # Errors
-    /// Why it can't: the same request is the next one.
+    /// Why it can't; the same request is still the next one.
     ///
     /// # Not specified
     /// When memory is refused, and when the system fails.
@@ -148,8 +148,8 @@ impl<F: Followed + Drop> PcmRequests<F> {
     }
 
     /// The next block once it is written; once the file is complete the whole frames that are held,
-    /// or CLOSE after them. It is asked whether the file is complete before it is read: what is
-    /// written in between is read.
+    /// or CLOSE after them. Whether the file is complete is asked before it is read, so that what
+    /// is written in between is read.
     ///
     /// # Errors
     /// Why it can't be given.
@@ -198,7 +198,7 @@ impl<F: Followed + Drop> PcmRequests<F> {
         }
     }
 
-    /// A block of so many bytes of those that are held.
+    /// A block of the first `count` bytes of those that are held.
     ///
     /// # Errors
     /// TooLong, Unsendable, Memory: nothing changed.

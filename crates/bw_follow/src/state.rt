@@ -1,4 +1,4 @@
-//! As far as the requests of headerless samples are given.
+//! How far the requests of headerless samples have been given.
 ghost use Rattle.std.specs.Prelude.{◌≡◌, ◌*◌, ◌≤◌};
 ghost use Rattle.bw_model.specs.Limits.{longest_block};
 ghost use Rattle.bw_model.specs.Take.{block_align};
@@ -33,7 +33,7 @@ pub struct PcmRequests<F> {
 #[derive(Clone, Copy, Debug)]
 pub(crate) enum PcmStep {
     Open,
-    /// That of the first field after this tag, or of the samples.
+    /// The one of the first field after this tag, or the first one of the samples.
     Fields { after: u8 },
     /// The next block, or CLOSE.
     Samples,

@@ -42,7 +42,7 @@ asked_of _ = None
 abbrev pub asked_at : {L : Type 0} → Operators L → ℕ → Option Answer
 asked_at o place = asked_of (slice_get o.places.items place)
 
--- since when the connection at a place lasts, in milliseconds; 0 at a free one
+-- when the connection at a place began, in milliseconds; 0 at a free one
 abbrev pub since_of : {L : Type 0} → Option (Option (Connection L)) → ℕ
 since_of (Some (Some c)) = c.since
 since_of _ = 0
@@ -55,8 +55,8 @@ abbrev pub LastsLongest : {L : Type 0} → Operators L → ℕ → Type 0
 LastsLongest o place =
     (other : ℕ) (a : Answer) → asked_at o other ≡ Some a → since_at o place ≤ since_at o other
 
--- Of the oldest place so far and this one the one whose connection has lasted longer, if a request
--- is to be answered there.
+-- The oldest place so far, or this one if a request is to be answered here and its connection has
+-- lasted longer.
 abbrev pub longer_of : {L : Type 0} → Operators L → ℕ → Option (ℕ × Answer) → Option Answer →
     Option (ℕ × Answer)
 longer_of o place best None = best

@@ -16,14 +16,14 @@ const LONGEST: u64 = 5_000;
 /// The state of an operator's connection.
 #[derive(Clone, Copy, Debug, PartialEq, Eq)]
 pub(crate) enum Phase {
-    /// Its request comes.
+    /// Its request is being read.
     Reading,
     /// Its request has come, and this is to be answered.
     Asking(Answer),
-    /// Its response is sent.
+    /// Its response is being sent.
     Answering,
-    /// Its response is sent whole: what still comes is discarded, so that the response can arrive
-    /// before the link is closed.
+    /// Its whole response has been sent: what still comes is discarded, so that the response can
+    /// arrive before the link is closed.
     Draining,
 }
 
@@ -36,7 +36,7 @@ pub(crate) struct Over;
 pub(crate) struct Connection<L> {
     link: L,
     phase: Phase,
-    /// Since when it lasts, in milliseconds.
+    /// When it began, in milliseconds.
     since: u64,
     /// The request so far.
     held: ArrayVec<u8, LONGEST_REQUEST>,
@@ -83,7 +83,7 @@ impl<L: Link> Connection<L> {
         }
     }
 
-    /// Since when it lasts, in milliseconds.
+    /// When it began, in milliseconds.
     pub(crate) fn since(&self) -> u64
         ensures { result ≡ self.now.since }
     {
@@ -97,7 +97,7 @@ impl<L: Link> Connection<L> {
         now.saturating_sub(self.since) > LONGEST
     }
 
-    /// Gives it the response to its request.
+    /// Gives the connection the response to its request.
     pub(crate) fn answer(&mut self, response: Vec<u8>)
         ensures connection { (a : Answer) (s : Snapshot) → self.old.phase ≡ Phase.Asking a →
             response.items ≡ response_text a s → IsConnection L.Link self.old →
@@ -222,7 +222,7 @@ impl<L: Link> Connection<L> {
     }
 }
 
-/// What isn't sent of a response of which so many bytes are.
+/// What is still to be sent of a response of which this many bytes are sent.
 fn waiting_of(response: &[u8], sent: usize) -> &[u8]
     ensures { result.now ≡ drop sent response.now }
 {

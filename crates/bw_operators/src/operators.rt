@@ -11,7 +11,7 @@ use bw_ports::Link;
 use bw_status::Answer;
 use std::alloc::{AllocError, Global};
 
-/// How many operators are connected at most.
+/// The most operators that are connected at once.
 pub const OPERATORS: usize = 4;
 
 /// The places of operators' connections.
@@ -108,8 +108,8 @@ impl<L: Link + Drop> Operators<L> {
         oldest
     }
 
-    /// Of the oldest place so far and this one the one whose connection has lasted longer, if a
-    /// request is to be answered there.
+    /// The oldest place so far, or this one if a request is to be answered here and its connection
+    /// has lasted longer.
     fn older(&self, oldest: Option<(usize, Answer)>, place: usize) -> Option<(usize, Answer)>
         ensures { result ≡ oldest_of self.now oldest place }
     {

@@ -20,10 +20,10 @@ pub trait StatusPort {
     /// When it was started, in seconds since 1970.
     ghost started: { Self → ℕ };
 
-    /// Whether the server's folder can be used may have been reported so.
+    /// This may have been reported: whether the server's folder can be used.
     ghost usable: { Self → Bool → Type 0 };
 
-    /// The memory that the process uses may have been reported so, in bytes.
+    /// This may have been reported: how many bytes of memory the process uses, if that is known.
     ghost used: { Self → Option ℕ → Type 0 };
 
     /// The next operator who waits to be accepted, if there is one.

@@ -61,7 +61,7 @@ count_data c = object
     (member (codes "count") (unsigned_data c.count)
     (member (codes "kind") (string c.kind.now) no_members))
 
--- a server, with what isn't a number that is always known
+-- a server, with the members that are lists, or aren't always known
 abbrev pub snapshot_object : Snapshot → Data → Data → Data → Data → Data → Data
 snapshot_object s memory messages notices takes verdicts = object
     (member (codes "bytes") (unsigned_data s.bytes)

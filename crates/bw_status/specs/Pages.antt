@@ -24,13 +24,13 @@ abbrev pub places_fact : ℕ → ℕ → List ℕ
 places_fact connections places = fact_start (codes "Connections") ++ decimal connections
     ++ codes " of " ++ decimal places ++ codes "</dd></div>\n"
 
--- whether the server is well, and how long it runs
+-- whether the server is well, and how long it has been running
 unfoldable pub server_facts : Snapshot → List ℕ
 server_facts s = fact_start (codes "Server") ++ html_escaped (health_text s.health)
     ++ codes "</dd></div>\n" ++ fact_start (codes "Up") ++ duration_text s.uptime_ms
     ++ codes "</dd></div>\n"
 
--- what is told of the server
+-- what is reported of the server
 abbrev pub facts : Snapshot → List ℕ
 facts s = server_facts s ++ places_fact s.connections s.places ++ count_fact (codes "Ended") s.ended
     ++ count_fact (codes "Resumed") s.resumed ++ count_fact (codes "Bytes") s.bytes

@@ -62,7 +62,7 @@ response_body BadVersion s = line_text (codes "505 HTTP Version Not Supported")
 unfoldable pub field_text : List ℕ → List ℕ → List ℕ
 field_text start value = start ++ value ++ codes "\r\n"
 
--- the fields that every response has: no guess at its type, no frame around it, nothing kept
+-- the fields that every response has: among others no sniffing of its type, no framing, no caching
 abbrev pub fields_text : List ℕ
 fields_text = field_text (codes "Content-Security-Policy: ") PAGE_POLICY.now
     ++ field_text (codes "X-Content-Type-Options: ") (codes "nosniff")

@@ -21,7 +21,7 @@ pub(crate) fn snapshot_json(alloc: Global, snapshot: &Snapshot) -> Result<String
     value.to_string(alloc)
 }
 
-/// What isn't a number that is always known.
+/// The members that are lists, or aren't always known.
 #[derive(Drop)]
 struct SnapshotValues {
     memory: Value,

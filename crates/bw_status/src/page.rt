@@ -41,7 +41,7 @@ fn put_facts(out: &mut Vec<u8>, snapshot: &Snapshot) -> Result<(), AllocError>
     put_count(out, "Bytes", snapshot.bytes)
 }
 
-/// Appends whether the server is well, and how long it runs.
+/// Appends whether the server is well, and how long it has been running.
 #[tactic(auto, using(std::proofs::lemmas::List::append_assoc), unfolding(crate::specs::Pages::server_facts))]
 fn put_server_facts(out: &mut Vec<u8>, snapshot: &Snapshot) -> Result<(), AllocError>
     ensures { OnOk result (out.new.items ≡ out.old.items ++ server_facts snapshot.now) }

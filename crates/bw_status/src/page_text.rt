@@ -5,7 +5,7 @@
 pub(crate) const PAGE_POLICY: &str =
     "default-src 'none'; style-src 'sha256-IJ3G5VBVdM7TnevedWTJFW2peOZe2FTBvjaqq+BvJ3s='; script-src 'sha256-KKU1cvASbvnM6YBHVEmq2XwGrUj4/FCUb+Ozt0CHupQ='; connect-src 'self'; base-uri 'none'; form-action 'none'; frame-ancestors 'none'";
 
-/// Up to what is reported of the server.
+/// The page up to what is reported of the server.
 pub(crate) const PAGE_START: &str = "<!DOCTYPE html>
 <html lang=\"en\">
 <head>

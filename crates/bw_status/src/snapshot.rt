@@ -17,7 +17,7 @@ pub enum ShownState {
     Stood,
 }
 
-/// What samples are.
+/// The format of samples.
 #[derive(Clone, Copy, Debug, PartialEq, Eq)]
 pub struct SoundFormat {
     /// Frames per second.
@@ -35,7 +35,7 @@ pub struct TakeStatus {
     pub name: String,
     /// How far it is.
     pub state: ShownState,
-    /// What its samples are, once it has a format.
+    /// The format of its samples, once it has one.
     pub format: Option<SoundFormat>,
     /// How many whole frames it has, once it has a format.
     pub frames: Option<u64>,
@@ -81,9 +81,9 @@ pub enum Health {
 pub struct Snapshot {
     /// The takes that are listed, in their order.
     pub takes: Vec<TakeStatus>,
-    /// When the server began, in seconds since 1970.
+    /// When the server began, in seconds since the start of 1970 (UTC); 0 if that couldn't be read.
     pub since: u64,
-    /// How long it runs, in milliseconds.
+    /// How long it has been running, in milliseconds.
     pub uptime_ms: u64,
     /// How many takes it resumed as it began.
     pub resumed: u64,

@@ -32,14 +32,14 @@ pub fn bwingest<'a>(alloc: Global) -> Result<Command<'a>, AllocError>
         .subcommand(send(alloc)?)
 }
 
-/// The program with these, and the command on a folder of takes.
+/// The program of `on_files` with the command on a folder of takes.
 fn on_folders<'a>(alloc: Global) -> Result<Command<'a>, AllocError>
     ensures { IfOk result (λ c. app_of c ≡ on_folders) }
 {
     on_files(alloc)?.subcommand(takes(alloc)?)
 }
 
-/// The program with these, and those that draw a file or change it in place.
+/// The program of `offline` with the commands that draw a file or change it in place.
 fn on_files<'a>(alloc: Global) -> Result<Command<'a>, AllocError>
     ensures { IfOk result (λ c. app_of c ≡ on_files) }
 {
@@ -171,7 +171,7 @@ fn takes<'a>(alloc: Global) -> Result<Command<'a>, AllocError>
     takes_how(alloc)?.arg(give_up_option(alloc))
 }
 
-/// The command, and how its takes are reported.
+/// The command of `takes_where` with the options that say how its takes are reported.
 fn takes_how<'a>(alloc: Global) -> Result<Command<'a>, AllocError>
     ensures { IfOk result (IsCommand takes_how) }
 {
@@ -202,7 +202,7 @@ fn serve<'a>(alloc: Global) -> Result<Command<'a>, AllocError>
         .arg(status_option(alloc))
 }
 
-/// The command with these and the options that say what it keeps beside the takes.
+/// The command of `serve_ends` with the options that say what it keeps beside the takes.
 fn serve_keeps<'a>(alloc: Global) -> Result<Command<'a>, AllocError>
     ensures { IfOk result (IsCommand serve_keeps) }
 {
@@ -212,7 +212,7 @@ fn serve_keeps<'a>(alloc: Global) -> Result<Command<'a>, AllocError>
         .arg(rest_flag(alloc))
 }
 
-/// The command with these and the options that say when it ends, and what it reports.
+/// The command of `serve_many` with the options that say when it ends, and what it reports.
 fn serve_ends<'a>(alloc: Global) -> Result<Command<'a>, AllocError>
     ensures { IfOk result (IsCommand serve_ends) }
 {
@@ -221,7 +221,7 @@ fn serve_ends<'a>(alloc: Global) -> Result<Command<'a>, AllocError>
         .arg(log_flag(alloc))
 }
 
-/// The command with these and the options for many recorders at once.
+/// The command of `serve_how` with the options for many recorders at once.
 fn serve_many<'a>(alloc: Global) -> Result<Command<'a>, AllocError>
     ensures { IfOk result (IsCommand serve_many) }
 {
@@ -230,7 +230,7 @@ fn serve_many<'a>(alloc: Global) -> Result<Command<'a>, AllocError>
         .arg(idle_option(alloc))
 }
 
-/// The command with these and the options that say how peers are treated.
+/// The command of `serve_where` with the options that say how peers are treated.
 fn serve_how<'a>(alloc: Global) -> Result<Command<'a>, AllocError>
     ensures { IfOk result (IsCommand serve_how) }
 {
@@ -265,7 +265,7 @@ fn send<'a>(alloc: Global) -> Result<Command<'a>, AllocError>
         .arg(rate_option(alloc))
 }
 
-/// The command with these and the options that say when it gives up, and what it reports.
+/// The command of `send_followed` with the options that say when it gives up, and what it reports.
 fn send_report<'a>(alloc: Global) -> Result<Command<'a>, AllocError>
     ensures { IfOk result (IsCommand send_report) }
 {
@@ -274,7 +274,7 @@ fn send_report<'a>(alloc: Global) -> Result<Command<'a>, AllocError>
         .arg(link_log_flag(alloc))
 }
 
-/// The command with these and the options that say when a recording has ended.
+/// The command of `send_samples` with the options that say when a recording has ended.
 fn send_followed<'a>(alloc: Global) -> Result<Command<'a>, AllocError>
     ensures { IfOk result (IsCommand send_followed) }
 {
@@ -284,7 +284,7 @@ fn send_followed<'a>(alloc: Global) -> Result<Command<'a>, AllocError>
         .arg(spool_option(alloc))
 }
 
-/// The command with these and the options that describe headerless samples.
+/// The command of `send_source` with the options that describe headerless samples.
 fn send_samples<'a>(alloc: Global) -> Result<Command<'a>, AllocError>
     ensures { IfOk result (IsCommand send_samples) }
 {
@@ -294,7 +294,7 @@ fn send_samples<'a>(alloc: Global) -> Result<Command<'a>, AllocError>
         .arg(block_option(alloc))
 }
 
-/// The command with these and the options that say which recording is sent.
+/// The command of `send_how` with the options that say which recording is sent.
 fn send_source<'a>(alloc: Global) -> Result<Command<'a>, AllocError>
     ensures { IfOk result (IsCommand send_source) }
 {
@@ -304,7 +304,7 @@ fn send_source<'a>(alloc: Global) -> Result<Command<'a>, AllocError>
         .arg(strict_flag(alloc))
 }
 
-/// The command with these and the options that say how the server is reached.
+/// The command of `send_where` with the options that say how the server is reached.
 fn send_how<'a>(alloc: Global) -> Result<Command<'a>, AllocError>
     ensures { IfOk result (IsCommand send_how) }
 {

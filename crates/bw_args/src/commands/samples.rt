@@ -32,7 +32,7 @@ pub(crate) struct Samples<'a> {
     is_spooled: bool,
 }
 
-/// A format as it is written: whether there is such a one isn't looked at.
+/// A format as it is written: whether there is such a format isn't checked.
 #[derive(Clone, Copy)]
 pub(crate) struct WrittenFormat {
     rate: u32,
