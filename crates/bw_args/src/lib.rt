@@ -79,12 +79,12 @@ pub enum CommandLine {
 /// Parses a command line, whose first word is the program's own name.
 ///
 /// Which words run a task, and of what kind an error is, follows from `clap`'s own contract
-/// (`line`). In plain terms the contract says of seventy-three forms that they run (`replay`, `rehearse`,
-/// `inspect`, `pack`, `picture`, `repair`, `serve`, `send`, `send_file`, `send_pcm`, `takes`), of
-/// fifty-three which value is a fault (`values`, `inspect`, `peers`, `files`, `samples`, `takes`) and of
-/// seventeen what they print (`help`, `rehearse`, `inspect`, `pack`, `picture`, `repair`, `wanted`,
-/// `takes`). Examples test that options may be given in all their forms and orders, and that all else
-/// is refused, except `--` at the end or before a file.
+/// (`line`). In plain terms the contract says of seventy-five forms that they run (`replay`,
+/// `rehearse`, `inspect`, `pack`, `picture`, `repair`, `serve`, `send`, `send_file`, `send_pcm`,
+/// `takes`), of fifty-five which value is a fault (`values`, `inspect`, `peers`, `files`,
+/// `samples`, `takes`) and of seventeen what they print (`help`, `rehearse`, `inspect`, `pack`,
+/// `picture`, `repair`, `wanted`, `takes`). Examples test that options may be given in all their
+/// forms and orders, and that all else is refused, except `--` at the end or before a file.
 ///
 /// # Errors
 /// `AllocError` if memory was refused.

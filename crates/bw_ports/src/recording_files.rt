@@ -74,9 +74,9 @@ pub trait RecordingFiles {
         ensures ok { IfOk result (λ file.
             Keeps (file_at self.old path.now) (Self.File.left file)) };
 
-    /// Opens the file at a path after its first bytes, to be followed until its writer has said
-    /// that it is complete: by making the file at `until`, or where that is None, by the end of
-    /// standard input, which is appended to the file.
+    /// Opens the file at a path after its first `skip` bytes, to be followed until its writer has
+    /// said that it is complete: by making the file at `until`, or where that is None, by the end
+    /// of standard input, which is appended to the file.
     ///
     /// # Errors
     /// If the system failed.

@@ -30,8 +30,8 @@ impl<S: TakeStore, J: Journal> Server<S, J> {
 
     /// Creates a server that holds what journals and files say of the done numbers of each name.
     ///
-    /// A name of which no number is done is dropped: it is as free as before its first message. At
-    /// most 256 others may be kept; if a name is given twice, the first counts.
+    /// A name of which no number is done isn't in `kept`: it is as free as before its first
+    /// message. At most 256 names may be in it; if one is there twice, the first counts.
     ///
     /// # Errors
     /// `AllocError`, with the store and the journal, if memory was refused.

@@ -137,8 +137,7 @@ impl<S: TakeStore, J: Journal> Server<S, J> {
     /// - When a growth is refused, as NoRoom reports it.
     /// - Over a store that isn't honest (no contract says that the system's disk is): which replies
     ///   come, except their number, their range and DelayedStore; that `out` was emptied; and what the
-    ///   server then holds, so also what `ask`, `done`, `frames`, `is_closed`, `held` and
-    ///   `kept_bytes` return after it.
+    ///   server then holds, so also what `ask`, `done` and the other methods that report it return.
     /// - Whether the store or the journal failed, and which of them DelayedStore reports.
     pub fn turn(&mut self, message: &Message<'_>, out: &mut ArrayVec<Reply, 17>)
         ensures few { length out.new.items ≤ 17 }
