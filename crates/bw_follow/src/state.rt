@@ -33,7 +33,7 @@ pub struct PcmRequests<F> {
 #[derive(Clone, Copy, Debug)]
 pub(crate) enum PcmStep {
     Open,
-    /// The one of the first field after this tag, or the first one of the samples.
+    /// The request of the first field after this tag, or what follows the fields.
     Fields { after: u8 },
     /// The next block, or CLOSE.
     Samples,

@@ -178,8 +178,8 @@ impl Progress {
             &mut self.state,
             request,
         )?;
-        // The clause of `bext` on widths is needed: the file with the request is between the old
-        // and the new one.
+        // The clause of `bext` on widths says that the file with the request is between the old and
+        // the new one.
         let _bext = self.state.bext();
         let Ok(len) = stores.note(&self.name, self.noted, verdict, digest, request) else {
             mark_written(&mut self.growing, verdict, request);

@@ -1,4 +1,4 @@
--- What a server is given that starts over a folder, and what an earlier one left there.
+-- What a server that starts over a folder is given, and what an earlier one left there.
 use Rattle.std.specs.Prelude.{◌≡◌, ◌&&◌, ℕ, Bool, not, Option, is_some}
 use Rattle.std.specs.Prelude.{List, [], ◌∷◌, ◌++◌, length, nat_lt, if◌then◌else◌}
 use Rattle.bw_model.specs.Take.{Parts}
@@ -63,7 +63,7 @@ abbrev pub begun_names : List FoundName → List (List ℕ × Bool)
 begun_names [] = []
 begun_names (it ∷ rest) = begun_name it.name it.finding ++ begun_names rest
 
--- the journal is of the same folder and limit, and as careful
+-- the journal is of the same folder and limit, and syncs as before
 pub record StaysSet {D F : Type 0} {G : DiskGhosts D F} (old new : FolderJournal D F G) : Type 0 where
   pub folder : journals_folder new ≡ journals_folder old
   pub limit : journals_limit new ≡ journals_limit old

@@ -119,7 +119,8 @@ pub(crate) fn is_there(names: &[Name], name: &Name) -> bool
     names.contains(name)
 }
 
-/// The name to which this ending was added to make this file name, if it is one.
+/// The name before this ending in a file name; None if the file name ends otherwise, or what is
+/// before the ending is no name.
 pub(crate) fn name_with(file: &str, ending: Ending) -> Option<Name>
     ensures name { IfSome result (λ name. IsTrue (is_take_name name)) }
     ensures some { IfSome result (λ name. file.now ≡ name ++ ending_text ending) }

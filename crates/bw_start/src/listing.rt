@@ -42,7 +42,7 @@ pub fn list_names<E: Volume>(
     list_files(alloc, notes, folder, Ending::Journal)
 }
 
-/// The name whose journal has this file name, `NAME.journal`; None if it is another.
+/// The name in the file name of a journal, `NAME.journal`; None for any other file name.
 pub fn journal_name(file: &str) -> Option<Name>
     ensures name { IfSome result (λ name. IsTrue (is_take_name name)) }
     ensures some { IfSome result (λ name. file.now ≡ name ++ codes ".journal") }
@@ -52,7 +52,7 @@ pub fn journal_name(file: &str) -> Option<Name>
     name_with(file, Ending::Journal)
 }
 
-/// The name whose journal at rest has this file name, `NAME.closed`; None if it is another.
+/// The name in the file name of a journal at rest, `NAME.closed`; None for any other file name.
 pub fn closed_name(file: &str) -> Option<Name>
     ensures name { IfSome result (λ name. IsTrue (is_take_name name)) }
     ensures some { IfSome result (λ name. file.now ≡ name ++ codes ".closed") }

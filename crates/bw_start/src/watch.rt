@@ -2,7 +2,7 @@
 
 /// Receives the progress of a start. By default it does nothing with it.
 pub trait StartWatch {
-    /// Reports how many of how many journals have been read.
+    /// Reports that `_count` of `_all` journals have been read.
     fn read_journal(&mut self, _count: usize, _all: usize) {}
 }
 

@@ -15,12 +15,12 @@ pub record TakePaths : Type 0 where
   pub notes_to : List ℕ
   pub wave_to : List ℕ
 
--- how the path of a journal ends, which rests or doesn't
+-- the ending of the path of a journal, at rest or not
 abbrev pub journal_ending : Bool → List ℕ
 journal_ending false = codes ".journal"
 journal_ending true = codes ".closed"
 
--- and where it goes if its take is given up
+-- and that of the path where it goes if its take is given up
 abbrev pub journal_ending_aside : Bool → List ℕ
 journal_ending_aside false = codes ".journal.given-up"
 journal_ending_aside true = codes ".closed.given-up"

@@ -42,7 +42,7 @@ pub enum GiveUpFault {
 ///
 /// # Errors
 /// `Unknown` if neither stands, `Earlier` if something stands where one of them would go: nothing has
-/// changed then. `Disk` if a call of the disk failed: none, the journal, or both have been put
+/// changed then. `Disk` if a call of the disk failed: nothing, the journal, or both have been put
 /// aside. `Memory` if memory was refused: nothing has changed.
 ///
 /// # Not specified
@@ -118,7 +118,7 @@ fn places_of(alloc: Global, folder: &str, name: &Name, rests: bool) -> Result<Pl
     })
 }
 
-/// How the path of a journal ends, which rests or doesn't, and the path to which it is put aside.
+/// The endings of the path of a journal, at rest or not, and of the path to which it is put aside.
 fn journal_endings(rests: bool) -> (&'static str, &'static str)
     ensures ending { result.0.now ≡ journal_ending rests }
     ensures aside { result.1.now ≡ journal_ending_aside rests }
