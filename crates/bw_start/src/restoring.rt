@@ -58,8 +58,8 @@ impl StartFault {
 /// Makes journals and files of a folder what their done numbers make, if nothing is wrong with any
 /// name, and returns what was found of each.
 ///
-/// All names are judged before anything is changed. Only files of takes that are open are mended or
-/// moved, and only journals are cut.
+/// All names are judged before anything is changed. Only files of takes that aren't closed are
+/// mended or moved, and only journals are cut.
 ///
 /// # Errors
 /// `Refused` if a name can't be resumed, with each of those; `TooMany` if more names have done

@@ -19,7 +19,7 @@ const MOST_FIELDS: usize = 64;
 /// What is answered to the bytes that have come so far; `None` while more are waited for.
 ///
 /// # Not specified
-/// Which of `BadRequest` and `BadVersion` bytes get that never become a request.
+/// Which of `BadRequest` and `BadVersion` is answered to bytes that never become a request.
 pub fn answer_to(held: &[u8]) -> Option<Answer>
     ensures answers { AnswersRequest held.now result }
     ensures whole { (h : RequestHead) (rest : List ℕ) → ReadsRequest held.now h rest →
