@@ -86,7 +86,7 @@ impl<R: Files + Drop> Disk for SystemDisk<R> {
     /// `DiskFault` if the seek or the write failed: after a failed seek nothing is written.
     ///
     /// # Not specified
-    /// After a failed write that a seek came before: what the file holds, and its position.
+    /// After a seek that succeeded and a write that failed: what the file holds, and its position.
     fn write_at(&mut self, file: &mut R::File, offset: u64, bytes: &[u8]) -> Result<(), DiskFault>
         ensures call { IsOneCall (λ d. d.calls) (λ d. d.failures) self.old self.new
             (is_err result) }

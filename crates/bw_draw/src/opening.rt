@@ -110,7 +110,7 @@ fn draw_samples<F: RecordingFiles>(
 /// The picture of the samples of a reader at its start.
 ///
 /// # Errors
-/// Truncated where the input ends before; Read; Memory.
+/// Truncated where the input ends before the last frame does; Read; Memory.
 fn picture_over<R: Source>(
     alloc: Global,
     reader: &mut R,

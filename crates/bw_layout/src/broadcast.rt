@@ -122,7 +122,7 @@ impl Bext {
         ensures same { result.now ≡ self.now }
         ensures widths { AreFields result.now }
     {
-        // Without a read of a field its type's facts aren't known.
+        // The checker learns the width of an array only where a field is read.
         let _first = &self.description;
         self
     }

@@ -1,7 +1,7 @@
 -- The worked rows compute: what is stored of a take, and its file at the limit.
 use Rattle.std.proofs.Common.{refl}
 use Rattle.bw_model.proofs.Computing.{computing}
-use Rattle.bw_model.specs.ExamplesOfTakes.{FormatsExample, HistoryBytesExample, BeforeAndBehindExample, ManyMarkersExample}
+use Rattle.bw_model.specs.ExamplesOfTakes.{FormatsExample, HistoryBytesExample, BeforeAndAfterExample, ManyMarkersExample}
 use Rattle.bw_model.specs.ExamplesOfTakes.{AllowedFieldsExample, FieldLengthsExample, FieldBytesExample, LargestRiffExample}
 use Rattle.bw_model.specs.ExamplesOfTakes.{LargestOddRiffExample, SmallestWideExample, AtLimitExample, MarkedExample, OverLimitExample}
 
@@ -13,7 +13,7 @@ pub history_bytes : HistoryBytesExample
 unfolding computing
 history_bytes = refl
 
-pub before_and_after : BeforeAndBehindExample
+pub before_and_after : BeforeAndAfterExample
 unfolding computing
 before_and_after = refl
 

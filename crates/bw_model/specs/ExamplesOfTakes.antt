@@ -41,8 +41,8 @@ abbrev pub requests : List Request
 requests = Block two_frames ∷ Mark 7 0 ∷ SetField 1 [] ∷ Close 0 ∷ []
 
 -- nothing is stored before OPEN, nothing on a closed take, and no second OPEN
-abbrev pub BeforeAndBehindExample : Type 0
-BeforeAndBehindExample =
+abbrev pub BeforeAndAfterExample : Type 0
+BeforeAndAfterExample =
     map (verdict (take_of [])) requests
     ++ map (verdict (take_of (Open mono [] ∷ Close 0 ∷ []))) (Open mono [] ∷ requests)
     ++ verdict (take_of (Open mono [] ∷ [])) (Open mono []) ∷ []

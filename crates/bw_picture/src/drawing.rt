@@ -16,7 +16,7 @@ use std::alloc::{AllocError, Global};
 #[derive(Clone, Copy, Debug, PartialEq, Eq)]
 pub struct Shape {
     pub width: SampleWidth,
-    /// Samples of a frame.
+    /// How many samples a frame has, one a channel.
     pub channels: u16,
     /// Where the first frame is, in bytes from the file's start.
     pub place: u64,

@@ -15,5 +15,5 @@ warning_meaning MaskLeftOut = warnings.MaskLeftOut
 warning_meaning (ChunkLeftOut chunk) = warnings.ChunkLeftOut chunk
 
 -- .. all of them
-abbrev pub told : List Warning → List warnings.Warning
-told ws = map warning_meaning ws
+abbrev pub warning_meanings : List Warning → List warnings.Warning
+warning_meanings ws = map warning_meaning ws

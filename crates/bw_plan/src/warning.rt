@@ -6,7 +6,7 @@ ghost use Rattle.bw_plan.specs.Recordings.{bext_texts};
 ghost use Rattle.bw_plan.specs.Warnings.{warned, loss, field_warned, texts_warned, chunk_warned};
 ghost use Rattle.bw_plan.specs.Warnings.{is_carried as is_carried_id, is_other_form as has_other_form};
 ghost use Rattle.bw_plan.specs.Warnings.{content_warnings, warnings_of};
-ghost use Rattle.bw_plan.specs.ReportedWarnings.{told, warning_meaning};
+ghost use Rattle.bw_plan.specs.ReportedWarnings.{warning_meanings, warning_meaning};
 
 use crate::cleaning::{is_like, text_before_zero};
 use crate::format::EXTENSIBLE;
@@ -46,7 +46,8 @@ pub fn warnings(
     outline: &Outline,
 ) -> Result<Vec<Warning>, AllocError>
     ensures { (extension : List ℕ) → IfOk result (λ v.
-        told v.items ≡ warnings_of (notes_by report.now extension history.now) outline.now) }
+        warning_meanings v.items
+        ≡ warnings_of (notes_by report.now extension history.now) outline.now) }
 {
     let mut out = content_losses(alloc, report, history, outline)?;
     warn_of_chunks(&mut out, report.chunks.as_slice())?;
@@ -64,7 +65,8 @@ fn content_losses(
     outline: &Outline,
 ) -> Result<Vec<Warning>, AllocError>
     ensures { (extension : List ℕ) → IfOk result (λ v.
-        told v.items ≡ content_warnings (notes_by report.now extension history.now) outline.now) }
+        warning_meanings v.items
+        ≡ content_warnings (notes_by report.now extension history.now) outline.now) }
 {
     let mut out = Vec::new(alloc);
     warn_of_bext(&mut out, &report.bext)?;
@@ -84,8 +86,8 @@ fn content_losses(
 /// # Errors
 /// `AllocError` where memory was refused.
 fn warn_if(out: &mut Vec<Warning>, holds: bool, warning: Warning) -> Result<(), AllocError>
-    ensures { OnOk result (told out.new.items
-        ≡ warned (told out.old.items) holds (warning_meaning warning)) }
+    ensures { OnOk result (warning_meanings out.new.items
+        ≡ warned (warning_meanings out.old.items) holds (warning_meaning warning)) }
 {
     if !holds {
         return Ok(());
@@ -95,8 +97,9 @@ fn warn_if(out: &mut Vec<Warning>, holds: bool, warning: Warning) -> Result<(), 
 }
 
 fn warn_of_bext(out: &mut Vec<Warning>, bext: &Option<BextChunk>) -> Result<(), AllocError>
-    ensures { OnOk result (told out.new.items
-        ≡ texts_warned (told out.old.items) 1 (bext_texts (option_map bext_by bext.now))) }
+    ensures { OnOk result (warning_meanings out.new.items
+        ≡ texts_warned (warning_meanings out.old.items) 1
+        (bext_texts (option_map bext_by bext.now))) }
 {
     match bext {
         Some(chunk) => warn_of_texts(out, &chunk.fields),
@@ -105,8 +108,8 @@ fn warn_of_bext(out: &mut Vec<Warning>, bext: &Option<BextChunk>) -> Result<(), 
 }
 
 fn warn_of_texts(out: &mut Vec<Warning>, bext: &RawBext) -> Result<(), AllocError>
-    ensures { OnOk result (told out.new.items
-        ≡ texts_warned (told out.old.items) 1 bext.now.0.texts) }
+    ensures { OnOk result (warning_meanings out.new.items
+        ≡ texts_warned (warning_meanings out.old.items) 1 bext.now.0.texts) }
 {
     warn_of_field(out, 1, &bext.description)?;
     warn_of_field(out, 2, &bext.originator)?;
@@ -116,7 +119,8 @@ fn warn_of_texts(out: &mut Vec<Warning>, bext: &RawBext) -> Result<(), AllocErro
 }
 
 fn warn_of_field(out: &mut Vec<Warning>, tag: u8, bytes: &[u8]) -> Result<(), AllocError>
-    ensures { OnOk result (told out.new.items ≡ field_warned (told out.old.items) tag bytes.now) }
+    ensures { OnOk result (warning_meanings out.new.items
+        ≡ field_warned (warning_meanings out.old.items) tag bytes.now) }
 {
     let text = text_before_zero(bytes);
     warn_if(out, !can_set(tag, text), loss_of(tag, text))
@@ -141,8 +145,8 @@ fn is_other_form(tag: u8, text: &[u8]) -> bool
 }
 
 fn warn_of_chunks(out: &mut Vec<Warning>, chunks: &[ListedChunk]) -> Result<(), AllocError>
-    ensures { OnOk result (told out.new.items
-        ≡ fold chunk_warned (told out.old.items) chunks.now) }
+    ensures { OnOk result (warning_meanings out.new.items
+        ≡ fold chunk_warned (warning_meanings out.old.items) chunks.now) }
 {
     for (_i, chunk) in chunks.iter().enumerate() {
         warn_if(

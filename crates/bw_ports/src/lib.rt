@@ -28,4 +28,4 @@ pub use recording_files::{FileStamp, RecordingFiles, Stamped};
 pub use starts::{StartRefusal, Starts};
 pub use starts_resting::StartsResting;
 pub use system::System;
-pub use watch::{NoWatch, ProgressReport, Watch};
+pub use watch::{ProgressReport, Watch};

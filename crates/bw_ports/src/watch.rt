@@ -29,11 +29,3 @@ pub trait Watch {
     /// What it does.
     fn round<P: ProgressReport>(&mut self, progress: &P);
 }
-
-/// A watcher that does nothing.
-#[derive(Drop)]
-pub struct NoWatch;
-
-impl Watch for NoWatch {
-    fn round<P: ProgressReport>(&mut self, _progress: &P) {}
-}

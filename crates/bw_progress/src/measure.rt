@@ -17,7 +17,7 @@ pub enum Extent {
 /// What is known of a take before it is sent.
 #[derive(Clone, Copy, Debug, PartialEq, Eq)]
 pub struct TakeMeasure {
-    /// In Hz.
+    /// Frames a second, in Hz.
     pub rate: u32,
     /// Bytes of a frame.
     pub align: u16,

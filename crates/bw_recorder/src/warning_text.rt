@@ -2,7 +2,7 @@
 ghost use Rattle.std.specs.Prelude.{◌≡◌, ◌+◌, ◌≤◌, ◌++◌, [], map, length, IfOk, OnOk};
 ghost use Rattle.bw_console.specs.Text.{as_line};
 ghost use Rattle.bw_model.specs.Report.{id_byte};
-ghost use Rattle.bw_plan.specs.ReportedWarnings.{told, warning_meaning};
+ghost use Rattle.bw_plan.specs.ReportedWarnings.{warning_meanings, warning_meaning};
 ghost use Rattle.bw_plan.specs.Warnings.{CuesLeftOut, ChunkLeftOut};
 ghost use Rattle.bw_recorder.specs.WarningTexts.{key_of, warning_line, warning_lines};
 
@@ -17,7 +17,7 @@ use std::alloc::{AllocError, Global};
 /// # Errors
 /// `AllocError` where memory was refused.
 pub(crate) fn warning_text(alloc: Global, warnings: &[Warning]) -> Result<Vec<u8>, AllocError>
-    ensures { IfOk result (λ v. v.items ≡ warning_lines (told warnings.now)) }
+    ensures { IfOk result (λ v. v.items ≡ warning_lines (warning_meanings warnings.now)) }
 {
     let mut text = Vec::new(alloc);
     for (_i, warning) in warnings.iter().enumerate() {

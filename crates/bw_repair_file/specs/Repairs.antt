@@ -44,7 +44,7 @@ abbrev pub IsUnwritten : List ℕ → ErrorKind → Outcome → Type 0
 IsUnwritten path = ReportsFailure (unwritten_text path)
 
 -- the file is sound, and stays as it is
-pub record TellsSound (before after : Contents) (path : List ℕ) (gives_all : Bool) (did : Outcome)
+pub record PrintsSound (before after : Contents) (path : List ℕ) (gives_all : Bool) (did : Outcome)
     : Type 0 where
   pub frames : ℕ
   pub right : Of (before path) (λ b. StandsAsItIs b × HasFrames b frames)
@@ -53,7 +53,7 @@ pub record TellsSound (before after : Contents) (path : List ℕ) (gives_all : B
   pub prints : PrintsText (sound_text frames) did
 
 -- the sizes that it lacks are printed, and it stays as it is
-pub record TellsSizes (before after : Contents) (path : List ℕ) (gives_all : Bool) (did : Outcome)
+pub record PrintsSizes (before after : Contents) (path : List ℕ) (gives_all : Bool) (did : Outcome)
     : Type 0 where
   pub plan : SizePlan
   pub right : Of (before path) (λ b. LacksSizes b plan)
@@ -96,13 +96,13 @@ pub record OpensNothing (before after : Contents) (path : List ℕ) (gives_all :
   pub reports : IsUnopened path kind did ⊎ IsOutOfMemory did
 
 -- what is done where nothing is written, and where it is
-abbrev pub TellsOrWrites : Bool → Contents → Contents → List ℕ → Bool → Outcome → Type 0
-TellsOrWrites false before after path gives_all did = TellsSizes before after path gives_all did
-TellsOrWrites true before after path gives_all did = WritesSizes before after path gives_all did
+abbrev pub PrintsOrWrites : Bool → Contents → Contents → List ℕ → Bool → Outcome → Type 0
+PrintsOrWrites false before after path gives_all did = PrintsSizes before after path gives_all did
+PrintsOrWrites true before after path gives_all did = WritesSizes before after path gives_all did
 
 -- the command did this, with these contents before and after
 abbrev pub IsRepair : Contents → Contents → List ℕ → Bool → Bool → Outcome → Type 0
 IsRepair before after path is_written gives_all did =
-    TellsSound before after path gives_all did
-    ⊎ (TellsOrWrites is_written before after path gives_all did
+    PrintsSound before after path gives_all did
+    ⊎ (PrintsOrWrites is_written before after path gives_all did
     ⊎ (RefusesRepair before after path gives_all did ⊎ OpensNothing before after path gives_all did))

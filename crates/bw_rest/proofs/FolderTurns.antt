@@ -25,7 +25,7 @@ use Rattle.bw_session.specs.declared.session.Session.{Session}
 use Rattle.bw_session.specs.declared.server.Server.{Server}
 use Rattle.bw_session.proofs.RestTables.{restable_reported}
 use Rattle.bw_rest.specs.Folders.{HoldsFolder, RestsOutside, IsUnknown, IsInTable}
-use Rattle.bw_rest.specs.Folding.{name_of_frame, turn_where, stops_where, IsCrowded, ends_with_request, may_rest}
+use Rattle.bw_rest.specs.Folding.{name_of_frame, turn_where, stops_where, HasNoRoom, ends_with_request, may_rest}
 use Rattle.bw_rest.specs.Resting.{FolderTurn, NoneMayRest, HasPlace, IsAwake}
 use Rattle.bw_rest.proofs.FolderForms.{never, no_some, outside_as, unknown_outside}
 use Rattle.bw_rest.proofs.LogEnds.{turn_ends, change_ends}
@@ -234,8 +234,8 @@ module _ {X Y : Type 0} (S : StoreGhosts X) (J : JournalGhosts Y) (ready new : S
   -- the folder's turn, where it is said whether a further name fits
   served_where : (full : Bool) →
       ((m : Message) → f ≡ Says m → (full ≡ is_full h.table) ⊎ (is_known h.table m.name ≡ true)) →
-      (IsTrue full → IsCrowded existed' on.later) → FolderTurn S J first ready new book f replies
-  served_where full fits crowded =
+      (IsTrue full → HasNoRoom existed' on.later) → FolderTurn S J first ready new book f replies
+  served_where full fits no_room =
       let faults : Faults = on.turned.faults in
       let same : turn_where full existed book f faults ≡ turn_where (is_full h.table) existed' h.table f faults =
       same_turn existed existed' book h.table full f faults says.known says.log (ap is_some says.same) fits in
@@ -266,7 +266,7 @@ module _ {X Y : Type 0} (S : StoreGhosts X) (J : JournalGhosts Y) (ready new : S
               (IsUnknown (first n) (h.now n) (J.resting new.stores.journal n))) changed (outside o changed o refl n);
         };
         full = full;
-        crowded = crowded;
+        no_room = no_room;
         turned = inl (record {
           faults = faults;
           answered = ap (λ (x : List Reply × Option Log). x.0) same ∙ replies_where existed' h.table f faults
@@ -294,13 +294,13 @@ module _ {X Y : Type 0} (S : StoreGhosts X) (J : JournalGhosts Y) (ready new : S
         ∙ sym reported
         ∙ sym (ap (λ (o : Option Session). option_map_or is_restable o false) found.1) ∙ none n
 
-    crowds : is_known h.table name ≡ false → is_full h.table ≡ true → IsCrowded existed' on.later
-    crowds unknown full =
+    has_no_room : is_known h.table name ≡ false → is_full h.table ≡ true → HasNoRoom existed' on.later
+    has_no_room unknown full =
         let same : h.table ≡ on.later =
         ap (λ (o : Option Log). with_change h.table name o)
         (sym (full_changes (is_full h.table) existed' h.table f on.turned.faults unknown full))
         ∙ later_where existed' h.table f on.turned.faults ∙ on.turned.left in
-        subst (λ (b : Book). IsCrowded existed' b) same (record { full = full; none = rests_not })
+        subst (λ (b : Book). HasNoRoom existed' b) same (record { full = full; none = rests_not })
 
   -- an ask, or a message for which there is a place if one can be made
   pub folder_turned : ((m : Message) → f ≡ Says m → session_in ready.sessions name ≡ None →
@@ -328,5 +328,5 @@ module _ {X Y : Type 0} (S : StoreGhosts X) (J : JournalGhosts Y) (ready new : S
               served_where (is_full h.table) (λ x s. inl refl)
               (λ full. elim (place m e (outside_table name unknown)) [
                 | inl room ↦ never (sym (room h.now h.table h.held) ∙ full)
-                | inr none ↦ crowds none unknown full
+                | inr none ↦ has_no_room none unknown full
               ])

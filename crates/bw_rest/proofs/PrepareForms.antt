@@ -244,7 +244,7 @@ module _ {X Y : Type 0} (S : StoreGhosts X) (J : JournalGhosts Y) where
     later = t.later;
     held = t.held;
     full = t.full;
-    crowded = t.crowded;
+    no_room = t.no_room;
     turned = subst (λ (n : ℕ). ServesFrame t.full (λ name. is_some (first name)) n (failures_of S J new) book f replies t.later
         ⊎ ((session_in old.sessions (name_of_frame f) ≡ None)
         × PutsOff n (failures_of S J new) t.held.table book f replies t.later)) same
@@ -309,7 +309,7 @@ module _ {X Y : Type 0} (S : StoreGhosts X) (J : JournalGhosts Y) where
             later = book;
             held = h';
             full = false;
-            crowded = never;
+            no_room = never;
             turned = inr (
               fresh,
               record {

@@ -56,7 +56,7 @@ may_rest existed log =
     (made existed log.admitted log.done).closed && (count_waiting log == 0)
 
 -- A table is full, and none of its names may rest.
-pub record IsCrowded (existed : List ℕ → Bool) (table : Book) : Type 0 where
+pub record HasNoRoom (existed : List ℕ → Bool) (table : Book) : Type 0 where
   pub full : IsTrue (is_full table)
   pub none : (name : List ℕ) → IsTrue (is_known table name) →
       IsFalse (may_rest (existed name) (log_of table name))

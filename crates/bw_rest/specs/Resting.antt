@@ -17,7 +17,7 @@ use Rattle.bw_rest.specs.declared.finding.Found.{Found}
 use Rattle.bw_rest.specs.declared.finding.Found.TheVariants.{Known, New, PutOff, Failed}
 use Rattle.bw_rest.specs.Folders.{HoldsFolder}
 use Rattle.bw_rest.specs.RestCalls.{WereCalled}
-use Rattle.bw_rest.specs.Folding.{name_of_frame, delay_of, ServesFrame, IsCrowded}
+use Rattle.bw_rest.specs.Folding.{name_of_frame, delay_of, ServesFrame, HasNoRoom}
 
 -- A frame is put off: the book is as it was, and the name isn't in the table. Either a call failed;
 -- or the name rests, or the table is full.
@@ -38,7 +38,7 @@ module _ {X Y : Type 0} (S : StoreGhosts X) (J : JournalGhosts Y) where
     pub later : Book
     pub held : HoldsFolder S J first new later
     pub full : Bool
-    pub crowded : IsTrue full → IsCrowded (λ name. is_some (held.now name)) held.table
+    pub no_room : IsTrue full → HasNoRoom (λ name. is_some (held.now name)) held.table
     pub turned : ServesFrame full (λ name. is_some (first name)) (failures_of S J old)
         (failures_of S J new) book f replies later
         ⊎ ((session_kept old (name_of_frame f) ≡ None)

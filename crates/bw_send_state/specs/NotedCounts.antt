@@ -47,7 +47,7 @@ module _ {L T : Type 0} (log : LogGhosts L) where
     pub fault : KeepsFault old new
 
   -- a failure is reported if there was one, and only then: of an earlier call, or of the last one
-  pub record TellsFault {E : Type 0} (keeper : StateKeeper L T) (told : Option E) : Type 0 where
-    pub heard : is_none keeper.fault ≡ false → is_none told ≡ false
-    pub rightly : is_none told ≡ false → (is_none keeper.fault ≡ false)
+  pub record ReturnsKeptFault {E : Type 0} (keeper : StateKeeper L T) (returned : Option E) : Type 0 where
+    pub heard : is_none keeper.fault ≡ false → is_none returned ≡ false
+    pub rightly : is_none returned ≡ false → (is_none keeper.fault ≡ false)
         ⊎ ((after : L) × (log.failures after ≡ one_more (log.failures keeper.log)))

@@ -3,7 +3,7 @@ ghost use Rattle.std.specs.Prelude.{◌≡◌, MatchOption};
 ghost use Rattle.bw_model.specs.World.{Sender as Defined};
 ghost use Rattle.bw_sender.specs.Senders.{IsSender};
 ghost use Rattle.bw_send_state.specs.NotedCounts.{CountsNothing, CountsStored, KeepsFault};
-ghost use Rattle.bw_send_state.specs.NotedCounts.{HearsProgress, NotesCount, TellsFault};
+ghost use Rattle.bw_send_state.specs.NotedCounts.{HearsProgress, NotesCount, ReturnsKeptFault};
 
 use bw_resume::{StateLog, Stopwatch, settled_line};
 use bw_sender::Sender;
@@ -53,7 +53,7 @@ impl<'a, L: StateLog + Drop, T: Stopwatch> StateKeeper<'a, L, T> {
     /// # Not specified
     /// Which error.
     pub fn finish(self) -> Option<io::Error>
-        ensures { TellsFault L.StateLog self.entry result }
+        ensures { ReturnsKeptFault L.StateLog self.entry result }
     {
         let mut keeper = self;
         keeper.sync();

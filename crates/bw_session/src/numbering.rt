@@ -178,7 +178,7 @@ impl Progress {
             &mut self.state,
             request,
         )?;
-        // The clause of `bext` on widths says that the file with the request is between the old and
+        // Called for its clause on widths: by it the file with the request is between the old and
         // the new one.
         let _bext = self.state.bext();
         let Ok(len) = stores.note(&self.name, self.noted, verdict, digest, request) else {

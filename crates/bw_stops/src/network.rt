@@ -23,7 +23,7 @@ pub(crate) struct Network {
 }
 
 impl Network {
-    /// Before anything happened.
+    /// A network before anything was sent.
     ///
     /// # Errors
     /// `AllocError` if memory was refused.

@@ -19,7 +19,7 @@ use bw_start::{FileRead, NameFault, data_end, header_if, judge_file, path_in, re
 use bw_take::TakeState;
 use std::alloc::Global;
 
-/// Journals have at most this many bytes.
+/// The most bytes of a journal that are read.
 const JOURNAL_MAX: usize = 1 << 40;
 
 /// How a journal of the largest limit begins, but for its first eight bytes.

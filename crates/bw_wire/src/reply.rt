@@ -15,7 +15,7 @@ pub enum Notice {
     TooFar = 33,
     /// Another body was admitted under its number.
     Conflict = 34,
-    /// The server knows as many names as it can.
+    /// The server already knows as many names as it takes.
     TableFull = 35,
     /// The server had no memory for it.
     NoRoom = 36,

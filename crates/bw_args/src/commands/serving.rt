@@ -175,7 +175,7 @@ fn journaling(is_kept: bool, is_synced: bool) -> Option<Journaling>
     }
 }
 
-/// Whether names may rest; none if they are to where no journals are kept, or a status is shown.
+/// Whether names may rest; none if they are to and no journals are kept, or a status is shown.
 fn rest_given(is_kept: bool, is_asked: bool, is_shown: bool) -> Option<bool>
     ensures { IsRestGiven is_kept is_asked is_shown result }
 {
