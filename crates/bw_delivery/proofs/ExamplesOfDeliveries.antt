@@ -12,7 +12,7 @@ use Rattle.bw_model.specs.Replies.{Reply, Judged}
 use Rattle.bw_model.specs.ExampleWords.{a1, mono, two_frames, says, hex, close_2, judged_example}
 use Rattle.bw_model.specs.ExamplesOfWorlds.{small_take}
 use Rattle.bw_connections.specs.Keeping.{Tagged, own}
-use Rattle.bw_delivery.specs.Deliveries.{LinkBytes, IsOwnLink, IsOfAnother, HearsVerdict, SaysRequests}
+use Rattle.bw_delivery.specs.Deliveries.{LinkBytes, IsJoined, IsOwnLink, IsOfAnother, HearsVerdict, SaysRequests}
 use Rattle.bw_delivery.specs.ExamplesOfDeliveries.{all_said, cut_link, whole_link, worked_trace, worked_links}
 use Rattle.bw_delivery.specs.ExamplesOfDeliveries.{WorkedDeliveryExample}
 use Rattle.bw_delivery.proofs.Elements.{each-contains}
@@ -90,6 +90,14 @@ heard n below =
     among (suc (suc zero)) below = (2, omega arith, refl)
     among (suc (suc (suc n))) below = absurd (omega arith)
 
+-- the links are the sender's, and no other
+pub joined : IsJoined a1 small_take worked_links worked_trace
+joined = record {
+  own_links = λ n l has. each-contains (λ x. IsOwnLink a1 small_take (own x.0 worked_trace) x.1) worked_links (n, l)
+      (cut, (whole, tt)) has;
+  others = others;
+}
+
 pub worked : WorkedDeliveryExample
 unfolding computing
 worked = (
@@ -102,11 +110,7 @@ worked = (
       answers = refl;
       left = refl;
     };
-    joined = record {
-      own_links = λ n l has. each-contains (λ x. IsOwnLink a1 small_take (own x.0 worked_trace) x.1) worked_links (n, l)
-          (cut, (whole, tt)) has;
-      others = others;
-    };
+    joined = joined;
   },
   λ n below. (2, whole_link, (1, omega arith, refl), heard n below),
   refl,

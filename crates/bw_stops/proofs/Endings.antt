@@ -12,7 +12,7 @@ no_bool : true ≡ false → ⊥
 no_bool e = cc
 
 -- what ends so ends so
-ends_so : (xs ending : List ℕ) → ends_with ◌==◌ (xs ++ ending) ending ≡ true
+pub ends_so : (xs ending : List ℕ) → ends_with ◌==◌ (xs ++ ending) ending ≡ true
 ends_so xs ending = go (ends_with ◌==◌ (xs ++ ending) ending) refl
   where
     rest : drop (length (xs ++ ending) - length ending) (xs ++ ending) ≡ ending
@@ -25,7 +25,7 @@ ends_so xs ending = go (ends_with ◌==◌ (xs ++ ending) ending) refl
     go false e = absurd (other_text ending _ (sym e) (sym rest))
 
 -- a text that ends with another byte doesn't end so
-ends_other : (xs a b : List ℕ) (n k x y : ℕ) → get_or (xs ++ a) (length xs + n) 0 ≡ x →
+pub ends_other : (xs a b : List ℕ) (n k x y : ℕ) → get_or (xs ++ a) (length xs + n) 0 ≡ x →
     ((ys : List ℕ) → get_or (ys ++ b) (length ys + k) 0 ≡ y) → length a ≡ n + 1 → length b ≡ k + 1 → (x ≡ y → ⊥) →
     ends_with ◌==◌ (xs ++ a) b ≡ false
 ends_other xs a b n k x y at_a at_b la lb apart = go (ends_with ◌==◌ (xs ++ a) b) refl

@@ -1,4 +1,4 @@
-mod Endings
+pub mod Endings
 mod MachineForms
 mod NetworkForms
 mod PlayForms
