@@ -20,6 +20,7 @@ pub mod RestingCalls
 pub mod AwakeTurns
 pub mod RestingBeginnings
 pub mod ExamplesOfRest
+pub mod ExamplesOfRuns
 pub mod RestingStarts
 pub mod ExamplesOfLeft
 pub mod StoppedWorlds

@@ -9,6 +9,7 @@ pub mod RestingLives
 pub mod RestingCalls
 pub mod RestingBeginnings
 pub mod ExamplesOfRest
+pub mod ExamplesOfRuns
 pub mod ExamplesOfLeft
 pub mod StoppedWorlds
 pub mod ServedWorlds

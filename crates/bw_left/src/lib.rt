@@ -23,8 +23,8 @@ use bw_folder::{FolderJournal, FolderStore};
 use bw_journal::Journal;
 use bw_store::TakeStore;
 pub use resting::{
-    examples_of_rest, law_new_folders, law_resting_begins, law_resting_calls, law_resting_lives,
-    law_resting_starts, law_resting_stops,
+    examples_of_rest, examples_of_runs, law_new_folders, law_resting_begins, law_resting_calls,
+    law_resting_lives, law_resting_starts, law_resting_stops,
 };
 
 /// Wherever a server is stopped, what its relations say of its store and its journal is what

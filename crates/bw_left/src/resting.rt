@@ -1,6 +1,7 @@
 //! What a server whose names rest leaves in its folder and the next start takes over: laws of the
 //! relations that its contracts state. Each function's contract is one; nothing runs.
 ghost use Rattle.bw_left.specs.ExamplesOfRest.{RestingFolderExample};
+ghost use Rattle.bw_left.specs.ExamplesOfRuns.{FolderRunExample, SentRunExample};
 ghost use Rattle.bw_left.specs.NewFolders.{EmptyFoldersAreNew, FoldersWithoutRestAreLeft};
 ghost use Rattle.bw_left.specs.NewFolders.{NewFoldersAreLeft};
 ghost use Rattle.bw_left.specs.RestingBeginnings.{RestingStartsAreHonest};
@@ -85,4 +86,12 @@ pub fn law_resting_lives<D: Volume, E: Volume>()
 /// A worked row: what is left of a folder in which one name rests and one take is open.
 pub fn examples_of_rest()
     ensures { RestingFolderExample }
+{}
+
+/// Worked rows: frames that are answered over that folder, and a run to which a sender's requests came
+/// over links. That servers answer so is what `two_lives` of `bw_tests_stops` runs.
+pub fn examples_of_runs<D: Volume, E: Volume>()
+    ensures folder { FolderRunExample }
+    ensures sent { SentRunExample D.Disk E.Disk ⟦<FolderStore<D> as TakeStore>⟧
+        ⟦<FolderJournal<E> as Journal>⟧ ⟦<RestingFolderJournal<E> as Journal>⟧ }
 {}
