@@ -9,7 +9,8 @@ use Rattle.bw_session.specs.declared.server.Server.{Server}
 use Rattle.bw_rest.specs.Folders.{HoldsFolder}
 use Rattle.bw_rest.specs.RestCalls.{WereCalled}
 use Rattle.bw_rest.specs.Resting.{RestingTurn, ServesReady, FolderTurn}
-use Rattle.bw_left.specs.RestingCalls.{RestsHonestly, HasNoForeignFile, StaysInFolder, AnswersKeepOrder}
+use Rattle.bw_left.specs.LeftFolders.{HasNoForeignFile}
+use Rattle.bw_left.specs.RestingCalls.{RestsHonestly, StaysInFolder, AnswersKeepOrder}
 use Rattle.bw_left.specs.RestingCalls.{AnswersStayInFolder}
 use Rattle.bw_left.proofs.AwakeTurns.{no_done, turn_kept}
 use Rattle.bw_left.proofs.RestingCalls.{calls_kept}
@@ -104,8 +105,8 @@ module _ {X Y : Type 0} (S : StoreGhosts X) (J : JournalGhosts Y) where
         ] in (
           turn,
           of_book new some.0 turn.later some.1 turn.held
-              (λ name bytes none stood. r.foreign name bytes (no_done S J first old new book f replies r turn name none)
-              stood),
+              (λ name bytes named none stood.
+              r.foreign name bytes named (no_done S J first old new book f replies r turn name none) stood),
         )
 
 pub answers_keep_order : {X Y : Type 0} (S : StoreGhosts X) (J : JournalGhosts Y) → AnswersKeepOrder S J

@@ -144,7 +144,8 @@ module _ {X Y : Type 0} (S : StoreGhosts X) (J : JournalGhosts Y) (first : List 
         held = folder.held;
         order = turn_order;
         names = turn_names;
-        foreign = λ name bytes none stood. r.foreign name bytes (no_done old new book (Says m) replies r folder name none) stood;
+        foreign = λ name bytes named none stood.
+            r.foreign name bytes named (no_done old new book (Says m) replies r folder name none) stood;
         apart = turn_apart;
         small = subst (λ (l : ℕ). l < 2 ^ 32) (sym t.turned.limit) r.small;
         places = places_kept S J first old new book r t.turned.limit

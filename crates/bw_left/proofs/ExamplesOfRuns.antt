@@ -54,31 +54,9 @@ closed = serves (close_of b2) (Judged b2 2 Stored ∷ []) book_of_two book_of_bo
 pub folder_run : FolderRunExample
 folder_run = (
   1,
-  (
-    book_of_two,
-    (
-      inr (refl, refl),
-      (
-        1,
-        (
-          book_of_two,
-          (
-            inl (false, again),
-            (
-              1,
-              (
-                book_of_two,
-                (
-                  inl (false, asked),
-                  (1, (book_of_both, (inl (false, closed), (refl, refl)))),
-                ),
-              ),
-            ),
-          ),
-        ),
-      ),
-    ),
-  ),
+  book_of_two,
+  inr (refl, refl),
+  (1, book_of_two, inl (false, again), (1, book_of_two, inl (false, asked), (1, book_of_both, inl (false, closed), (refl, refl)))),
 )
 
 module _ {D E F H : Type 0} (G : DiskGhosts D F) (K : DiskGhosts E H)

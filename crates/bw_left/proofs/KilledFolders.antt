@@ -30,7 +30,7 @@ killed_folders G K S J stores journals first old new book ts notes takes r went 
       x.0,
       record {
         began = k.began;
-        frames = k.frames;
+        answers = k.answers;
         ahead = k.ahead;
         left = record {
           left = shown new.limit folder first x.0.left own_notes own_takes notes takes shows

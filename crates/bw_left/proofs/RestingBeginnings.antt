@@ -173,7 +173,7 @@ resting_beginnings G K S J R starts noteds restings headers standings settings f
           honest held;
       names = begins_named G K S J R noteds restings headers standings settings folder first book notes takes s was left
           honest held;
-      foreign = λ name bytes none stood. foreign name bytes
+      foreign = λ name bytes named none stood. foreign name bytes named
           (sym (ap (λ (l : Log). l.done) (logs_cut book name)) ∙ none) stood;
       apart = begins_apart G K S J R noteds restings headers standings settings folder first book notes takes s was left
           honest held;

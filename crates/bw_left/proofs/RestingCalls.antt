@@ -119,7 +119,8 @@ module _ {X Y : Type 0} (S : StoreGhosts X) (J : JournalGhosts Y) (first : List 
     record {
       limits = r.held.limits;
       names = r.names;
-      foreign = λ name bytes stood is short there. r.foreign name stood (short_none s book r name bytes is short) there;
+      foreign = λ name bytes stood is short there.
+          r.foreign name stood (r.names name (ap is_some is)) (short_none s book r name bytes is short) there;
     },
   )
     where

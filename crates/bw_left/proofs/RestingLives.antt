@@ -18,7 +18,8 @@ use Rattle.bw_session.specs.declared.server.Server.{Server}
 use Rattle.bw_rest.specs.Folding.{IsFolderRun, ServesFrame, delay_of}
 use Rattle.bw_rest.specs.Resting.{RestingTurn, FolderTurn}
 use Rattle.bw_left.specs.RestingBeginnings.{RestingStartsAreHonest}
-use Rattle.bw_left.specs.RestingCalls.{RestsHonestly, StaysInFolder, HasNoForeignFile}
+use Rattle.bw_left.specs.LeftFolders.{HasNoForeignFile}
+use Rattle.bw_left.specs.RestingCalls.{RestsHonestly, StaysInFolder}
 use Rattle.bw_left.specs.RestingFolders.{IsLeftResting}
 use Rattle.bw_left.specs.RestingStops.{RestingServersAreLeft, LeavesRestingLater, StopsResting}
 use Rattle.bw_left.specs.LeftFolders.{GoesAhead}
@@ -211,7 +212,7 @@ module _ {D E F H : Type 0} (G : DiskGhosts D F) (K : DiskGhosts E H)
         turned = turned;
         halts = halts;
         stop = stop;
-        foreign = λ name bytes none stood. turned.honest.foreign name bytes
+        foreign = λ name bytes named none stood. turned.honest.foreign name bytes named
             (none_ahead turned.later stop.later name stop.ahead none) stood;
       }
 

@@ -33,7 +33,7 @@ use Rattle.bw_delivery.proofs.DoneRequests.{within_requests, prefix_of_requests,
 use Rattle.bw_delivery.proofs.KeptLives.{KeepsLife, goes_on, resting_life_kept}
 use Rattle.bw_delivery.proofs.WholeTakes.{IsWholeTake, all_made, not_taken, whole_take}
 use Rattle.bw_left.specs.RestingBeginnings.{RestingStartsAreHonest}
-use Rattle.bw_left.specs.RestingCalls.{HasNoForeignFile}
+use Rattle.bw_left.specs.LeftFolders.{HasNoForeignFile}
 use Rattle.bw_left.specs.RestingFolders.{IsLeftResting}
 use Rattle.bw_left.specs.RestingLives.{FollowResting, notes_after, takes_after}
 use Rattle.bw_left.specs.RestingLives.{RestingVerdictsOutliveStops, RestingRunsStopSo}

@@ -1,12 +1,13 @@
 -- Turns, stops and starts of servers are steps of a world.
-use Rattle.std.proofs.Common.{◌≡◌, ◌⊎◌, inl, inr, ℕ, List, ◌++◌, Option, sym, ◌∙◌, ap, subst}
+use Rattle.std.proofs.Common.{◌≡◌, ◌⊎◌, inl, inr, ℕ, List, ◌++◌, Option, is_some, sym, ◌∙◌, ap, subst}
 use Rattle.std.specs.Prelude.{IsTrue, IsSome, string_bytes}
 use Rattle.bw_model.specs.Replies.{Reply as ModelReply}
 use Rattle.bw_model.specs.Wire.{is_name}
-use Rattle.bw_model.specs.Book.{Book}
+use Rattle.bw_model.specs.Book.{Log, Book}
 use Rattle.bw_store.specs.declared.store.TakeStore.{Ghosts as StoreGhosts}
 use Rattle.bw_disk.specs.declared.disk.Disk.{Ghosts as DiskGhosts}
 use Rattle.bw_journal.specs.Stops.{cut_book}
+use Rattle.bw_journal.proofs.CutLaws.{logs_cut}
 use Rattle.bw_journal.specs.declared.journal.Journal.{Ghosts as JournalGhosts}
 use Rattle.bw_folder.specs.Journals.{notes_at, journal_path}
 use Rattle.bw_folder.specs.declared.folder.FolderStore.{FolderStore}
@@ -15,11 +16,11 @@ use Rattle.bw_session.proofs.OrderLaws.{quiet_in_order}
 use Rattle.bw_start.specs.Paths.{path_with, notes_path}
 use Rattle.bw_start.proofs.PathLemmas.{path_name}
 use Rattle.bw_start.specs.Restored.{KeepsJournals}
-use Rattle.bw_left.specs.LeftFolders.{GoesAhead, IsOwnFolder}
+use Rattle.bw_left.specs.LeftFolders.{GoesAhead, HasNoForeignFile, IsOwnFolder}
 use Rattle.bw_left.specs.StoppedTurns.{RunsHonestly}
 use Rattle.bw_left.specs.ServedWorlds.{TurnsAreOfWorlds, DeathsAreSteps, StopsAreSteps, StartsAreSteps}
 use Rattle.bw_left.proofs.LeftBooks.{cut_books_are_quiet}
-use Rattle.bw_left.proofs.StoppedServers.{leaves_honestly, stops}
+use Rattle.bw_left.proofs.StoppedServers.{leaves_honestly, short_none, stops}
 
 module _ {X Y : Type 0} (S : StoreGhosts X) (J : JournalGhosts Y) where
   pub turns_of_worlds : TurnsAreOfWorlds S J
@@ -70,7 +71,7 @@ starts_are_steps G K S J journals limits limit folder sync first w notes takes s
   runs = record { honest = was.honest; held = was.held; noted = was.noted; own = own };
   honest_notes = was.honest_notes;
   order = quiet_in_order S J first s (cut_book w.book) was.honest was.held was.noted (cut_books_are_quiet w.book);
-  foreign = λ name bytes none stood. foreign name bytes stood;
+  foreign = earlier;
 }
   where
     notes_now : J.notes s.stores.journal ≡ notes_at (K.contents s.stores.journal.disk) folder
@@ -78,10 +79,19 @@ starts_are_steps G K S J journals limits limit folder sync first w notes takes s
         journals s.stores.journal
         ∙ ap (λ (f : List ℕ). notes_at (K.contents s.stores.journal.disk) f) was.settings.journal
 
+    -- a start leaves every done number
+    earlier : HasNoForeignFile first (cut_book w.book)
+    earlier name bytes is none stood =
+        foreign name bytes is (sym (ap (λ (l : Log). l.done) (logs_cut w.book name)) ∙ none) stood
+
+    by_name : (name : List ℕ) → IsSome (J.notes s.stores.journal name) → IsTrue (is_name name)
+    by_name name some = named folder notes (K.contents s.stores.journal.disk) was.untouched left.left.fit name
+        (subst (λ (f : List ℕ → Option (List ℕ)). IsSome (f name)) notes_now some)
+
     own : IsOwnFolder s.limit first (J.header s.stores.journal) (J.notes s.stores.journal)
     own = record {
       limits = λ name. limits s.stores.journal name ∙ was.settings.journal_limit ∙ sym was.settings.limit_is;
-      names = λ name some. named folder notes (K.contents s.stores.journal.disk) was.untouched left.left.fit name
-          (subst (λ (f : List ℕ → Option (List ℕ)). IsSome (f name)) notes_now some);
-      foreign = λ name journal bytes is short stood. foreign name bytes stood;
+      names = by_name;
+      foreign = λ name journal bytes is short stood. earlier name bytes (by_name name (ap is_some is))
+          (short_none S J first s (cut_book w.book) was.held was.noted name journal is short) stood;
     }

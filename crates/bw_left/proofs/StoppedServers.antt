@@ -20,7 +20,7 @@ use Rattle.bw_journal.specs.Entries.{sealed_entries}
 use Rattle.bw_journal.specs.Noted.{entries_from, journal_of}
 use Rattle.bw_journal.specs.declared.journal.Journal.{Ghosts as JournalGhosts}
 use Rattle.bw_journal.proofs.Lengths.{length-header_bytes}
-use Rattle.bw_session.specs.Books.{failures_of, NotesBook, TurnsBook}
+use Rattle.bw_session.specs.Books.{failures_of, HoldsBook, NotesBook, TurnsBook}
 use Rattle.bw_session.specs.Noting.{next_entry}
 use Rattle.bw_session.specs.Numbered.{with_done}
 use Rattle.bw_session.specs.Ordering.{IsInOrder, file_due}
@@ -66,6 +66,25 @@ begun_long h name log journal (inr (count, e)) short =
   where
     some_same : {A : Type 0} {x y : A} → Some x ≡ Some y → x ≡ y
     some_same e = cc
+
+-- so under a name whose journal is shorter no number is done
+pub short_none : {X Y : Type 0} (S : StoreGhosts X) (J : JournalGhosts Y) (first : List ℕ → Option (List ℕ))
+    (s : Server X Y S J) (book : Book) → HoldsBook S J first s book → NotesBook S J first s book →
+    (name journal : List ℕ) → J.notes s.stores.journal name ≡ Some journal → length journal < header_len →
+    (log_of book name).done ≡ 0
+short_none S J first s book held noted name journal is short =
+    begun_long (J.header s.stores.journal name) name (log_of book name) journal
+    (subst (Stands (J.header s.stores.journal name) name (log_of book name)) is
+    (stands_now (session_in s.sessions name) refl)) short
+  where
+    stands_now : (o : Option Session) → session_in s.sessions name ≡ o →
+        Stands (J.header s.stores.journal name) name (log_of book name) (J.notes s.stores.journal name)
+    stands_now (Some x) e = (noted.known name x e).stands
+    stands_now None e = inl (
+      done_is s.limit (store_since S first s.stores.store) (session_in s.sessions) book held.holds name
+          ∙ ap (λ (o : Option Session). option_map_or (λ s. length s.progress.ledger.outcomes) o 0) e,
+      noted.unknown name e,
+    )
 
 -- what a store is to have of a name, in the words of a start
 due_wanted : (first : Option (List ℕ)) (log : Log) (limit : ℕ) →
@@ -155,20 +174,8 @@ module _ {X Y : Type 0} (S : StoreGhosts X) (J : JournalGhosts Y) (first : List 
       here : (journal bytes : List ℕ) → J.notes new.stores.journal m.name ≡ Some journal →
           length journal < header_len → first m.name ≡ Some bytes → begins_take bytes ≡ false
       here journal bytes is short stood =
-          let s = stands_now (session_in new.sessions m.name) refl in
-          let none = begun_long (J.header new.stores.journal m.name) m.name (log_of turn_had.later m.name) journal
-          (subst (Stands (J.header new.stores.journal m.name) m.name (log_of turn_had.later m.name)) is s) short in
-          r.foreign m.name bytes (earlier_none m.name none) stood
-        where
-          stands_now : (o : Option Session) → session_in new.sessions m.name ≡ o →
-              Stands (J.header new.stores.journal m.name) m.name (log_of turn_had.later m.name)
-              (J.notes new.stores.journal m.name)
-          stands_now (Some x) e = (now_noted.known m.name x e).stands
-          stands_now None e = inl (
-            done_is new.limit (store_since S first new.stores.store) (session_in new.sessions) turn_had.later turn_had.held.holds m.name
-                ∙ ap (λ (o : Option Session). option_map_or (λ s. length s.progress.ledger.outcomes) o 0) e,
-            now_noted.unknown m.name e,
-          )
+          let none = short_none S J first new turn_had.later turn_had.held now_noted m.name journal is short in
+          r.foreign m.name bytes is_named (earlier_none m.name none) stood
 
       by_file : (name journal bytes : List ℕ) → J.notes new.stores.journal name ≡ Some journal →
           length journal < header_len → first name ≡ Some bytes → (v : Bool) → bytes_eq m.name name ≡ v →
@@ -187,7 +194,7 @@ module _ {X Y : Type 0} (S : StoreGhosts X) (J : JournalGhosts Y) (first : List 
   honestly = record {
     runs = runs;
     honest_notes = h.both.1.honest_notes ∙ r.honest_notes;
-    foreign = λ name bytes none stood. r.foreign name bytes (earlier_none name none) stood;
+    foreign = λ name bytes named none stood. r.foreign name bytes named (earlier_none name none) stood;
     order = h.ordered r.runs.honest r.honest_notes first book r.runs.held r.runs.noted r.order;
   }
 

@@ -1,12 +1,13 @@
 -- What a server over a folder leaves on its disks when it is killed.
 use Rattle.std.specs.Prelude.{◌≡◌, ℕ, Option, is_some, List, map}
-use Rattle.bw_model.specs.Wire.{Message, Says}
+use Rattle.bw_model.specs.Wire.{Message}
 use Rattle.bw_model.specs.Book.{Book}
-use Rattle.bw_model.specs.Turn.{book_after}
+use Rattle.bw_model.specs.Turn.{book_after, run}
 use Rattle.bw_store.specs.declared.store.TakeStore.{Ghosts as StoreGhosts}
 use Rattle.bw_disk.specs.declared.disk.Disk.{Ghosts as DiskGhosts}
 use Rattle.bw_journal.specs.declared.journal.Journal.{Ghosts as JournalGhosts}
 use Rattle.bw_wire.specs.declared.reply.Reply.{Reply}
+use Rattle.bw_exchange.specs.TurnRuns.{answers_in}
 use Rattle.bw_folder.specs.declared.folder.FolderStore.{FolderStore}
 use Rattle.bw_folder.specs.declared.journal.FolderJournal.{FolderJournal}
 use Rattle.bw_folder.specs.TakeFolders.{takes_disk, takes_folder}
@@ -17,17 +18,17 @@ use Rattle.bw_start.specs.Started.{IsLeftIn}
 use Rattle.bw_left.specs.LeftFolders.{GoesAhead}
 use Rattle.bw_left.specs.ShownFolders.{ShowsFolder}
 use Rattle.bw_left.specs.StoppedLives.{StoppedLife}
-use Rattle.bw_left.specs.StoppedTurns.{RunsHonestly, HadTurns}
+use Rattle.bw_left.specs.StoppedTurns.{RunsHonestly, HadTurns, answered_in}
 
 module _ {D E F H : Type 0} (G : DiskGhosts D F) (K : DiskGhosts E H)
     (S : StoreGhosts (FolderStore D F G)) (J : JournalGhosts (FolderJournal E H K)) where
-  -- A server was killed: these messages had their turns, from this book, and two disks have what
-  -- `start` takes as its premise, from the book that the server left.
-  pub record IsKilledOver (first : List ℕ → Option (List ℕ)) (book : Book) (messages : List Message)
-      (new : Server (FolderStore D F G) (FolderJournal E H K) S J)
+  -- A server was killed: these messages had their turns, from this book, with these replies, and two
+  -- disks have what `start` takes as its premise, from the book that the server left.
+  pub record IsKilledOver (first : List ℕ → Option (List ℕ)) (book : Book)
+      (ts : List (Message × List Reply)) (new : Server (FolderStore D F G) (FolderJournal E H K) S J)
       (notes takes : List ℕ → Option (List ℕ)) (life : StoppedLife) : Type 0 where
     pub began : life.began ≡ book
-    pub frames : map (λ t. t.0) life.turns ≡ map Says messages
+    pub answers : answers_in (run (λ name. is_some (first name)) book life.turns) ≡ map answered_in ts
     pub ahead : GoesAhead (book_after (λ name. is_some (first name)) book life.turns) life.left
     pub left : IsLeftIn (server_limit new) (takes_folder (server_store new)) first life.left notes takes
 
@@ -42,4 +43,4 @@ module _ {D E F H : Type 0} (G : DiskGhosts D F) (K : DiskGhosts E H)
       journals_folder (server_journal new) ≡ takes_folder (server_store new) →
       ShowsFolder (takes_folder (server_store new)) (K.contents (journals_disk (server_journal new)))
       (G.contents (takes_disk (server_store new))) notes takes →
-      (life : StoppedLife) × IsKilledOver first book (map (λ t. t.0) ts) new notes takes life
+      (life : StoppedLife) × IsKilledOver first book ts new notes takes life

@@ -31,6 +31,11 @@ pub record IsOwnFolder (limit : ℕ) (first : List ℕ → Option (List ℕ)) (h
   pub foreign : (name journal bytes : List ℕ) → notes name ≡ Some journal →
       length journal < header_len → first name ≡ Some bytes → begins_take bytes ≡ false
 
+-- No file that begins as a server's existed at first under a name of which no number is done.
+abbrev pub HasNoForeignFile : (List ℕ → Option (List ℕ)) → Book → Type 0
+HasNoForeignFile first book = (name bytes : List ℕ) → IsTrue (is_name name) →
+    (log_of book name).done ≡ 0 → first name ≡ Some bytes → begins_take bytes ≡ false
+
 -- In which order a number that waits was written: nothing to a file before its journal is begun,
 -- and its entry is whole only where the file is already the one with it.
 pub record IsWrittenInOrder (limit : ℕ) (first : Option (List ℕ)) (name : List ℕ) (log : Log)

@@ -11,7 +11,8 @@ use Rattle.bw_folder.specs.declared.resting.RestingFolderJournal.{RestingFolderJ
 use Rattle.bw_session.specs.declared.server.Server.{Server}
 use Rattle.bw_session.specs.SeenServers.{server_store, server_journal}
 use Rattle.bw_start.specs.declared.resting.Settings.{Settings}
-use Rattle.bw_left.specs.RestingCalls.{RestsHonestly, HasNoForeignFile}
+use Rattle.bw_left.specs.LeftFolders.{HasNoForeignFile}
+use Rattle.bw_left.specs.RestingCalls.{RestsHonestly}
 use Rattle.bw_left.specs.RestingFolders.{WasStartedResting, IsLeftResting}
 
 module _ {D E F H : Type 0} (G : DiskGhosts D F) (K : DiskGhosts E H)

@@ -1,8 +1,8 @@
 -- What a stop asks of a server whose names rest, between the calls that it makes of bw_session.
-use Rattle.std.specs.Prelude.{◌≡◌, ◌⊎◌, ◌<◌, ◌^◌, ℕ, true, false, Option, None, Some, IsSome, IsTrue, List}
+use Rattle.std.specs.Prelude.{◌≡◌, ◌⊎◌, ◌<◌, ◌^◌, ℕ, true, Option, None, IsSome, IsTrue, List}
 use Rattle.bw_model.specs.Wire.{Frame, Message, Says, is_name}
 use Rattle.bw_model.specs.Replies.{Reply}
-use Rattle.bw_model.specs.Book.{Book, log_of}
+use Rattle.bw_model.specs.Book.{Book}
 use Rattle.bw_store.specs.declared.store.TakeStore.{Ghosts as StoreGhosts}
 use Rattle.bw_journal.specs.Standing.{Standing, AtRest, AtBoth}
 use Rattle.bw_journal.specs.declared.journal.Journal.{Ghosts as JournalGhosts}
@@ -14,14 +14,8 @@ use Rattle.bw_session.specs.SeenServers.{server_store, server_journal, server_li
 use Rattle.bw_rest.specs.Folders.{HoldsFolder}
 use Rattle.bw_rest.specs.RestCalls.{WasCalled}
 use Rattle.bw_rest.specs.Resting.{FolderTurn, RestingTurn, HasPlace, NoneMayRest}
-use Rattle.bw_start.specs.Names.{begins_take}
-use Rattle.bw_left.specs.LeftFolders.{EachIsInOrder, IsOwnFolder}
+use Rattle.bw_left.specs.LeftFolders.{EachIsInOrder, HasNoForeignFile, IsOwnFolder}
 use Rattle.bw_left.specs.RestingStops.{RestsApart}
-
--- no file that begins as a server's existed at first under a name of which no number is done
-abbrev pub HasNoForeignFile : (List ℕ → Option (List ℕ)) → Book → Type 0
-HasNoForeignFile first book = (name bytes : List ℕ) → (log_of book name).done ≡ 0 →
-    first name ≡ Some bytes → begins_take bytes ≡ false
 
 -- A journal that stands at its place of rest stands there alone, and its name may wake by it.
 pub record MayStandThere (limit : ℕ) (name : List ℕ) (standing : Standing) (noted : Option (List ℕ)) :

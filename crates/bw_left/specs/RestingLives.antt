@@ -21,7 +21,7 @@ use Rattle.bw_start.specs.declared.resting.Settings.{Settings}
 use Rattle.bw_left.specs.RestingFolders.{WasStartedResting, IsLeftResting}
 use Rattle.bw_left.specs.RestingStops.{StopsResting}
 use Rattle.bw_left.specs.FailedRests.{FailedRestingStart, RestingStartsFail}
-use Rattle.bw_left.specs.RestingCalls.{HasNoForeignFile}
+use Rattle.bw_left.specs.LeftFolders.{HasNoForeignFile}
 
 -- the number is done in the book, with this verdict
 abbrev pub IsDoneWith : (List ℕ → Option (List ℕ)) → Book → List ℕ → ℕ → Verdict → Type 0

@@ -17,7 +17,7 @@ use Rattle.bw_folder.specs.declared.resting.RestingFolderJournal.{RestingFolderJ
 use Rattle.bw_connections.specs.Keeping.{Tagged, all_answered}
 use Rattle.bw_delivery.specs.Deliveries.{LinkBytes, IsJoined, HasOnly, IsDelivered, HeardOverLinks}
 use Rattle.bw_start.specs.Paths.{wave_path}
-use Rattle.bw_left.specs.RestingCalls.{HasNoForeignFile}
+use Rattle.bw_left.specs.LeftFolders.{HasNoForeignFile}
 use Rattle.bw_left.specs.RestingFolders.{IsLeftResting}
 use Rattle.bw_left.specs.RestingLives.{RestingRun, FollowResting, notes_after, takes_after}
 

@@ -1,5 +1,5 @@
 -- Servers as those of a world: which steps of it their turns, their stops and their starts are.
-use Rattle.std.specs.Prelude.{◌≡◌, ℕ, Bool, false, Option, Some, is_some, IsTrue, List, ◌++◌, map}
+use Rattle.std.specs.Prelude.{◌≡◌, ℕ, Bool, Option, is_some, IsTrue, List, ◌++◌, map}
 use Rattle.bw_model.specs.Wire.{Message, Says}
 use Rattle.bw_model.specs.Book.{Book}
 use Rattle.bw_model.specs.Turn.{Faults}
@@ -16,10 +16,10 @@ use Rattle.bw_folder.specs.JournalFolders.{journals_disk}
 use Rattle.bw_session.specs.Books.{HoldsBook, NotesBook}
 use Rattle.bw_session.specs.declared.server.Server.{Server}
 use Rattle.bw_session.specs.SeenServers.{server_store, server_journal, server_limit}
-use Rattle.bw_start.specs.Names.{begins_take}
 use Rattle.bw_start.specs.LeftNames.{IsLeft}
 use Rattle.bw_start.specs.Restored.{KeepsJournals}
 use Rattle.bw_start.specs.Started.{IsLeftIn, IsSetTo}
+use Rattle.bw_left.specs.LeftFolders.{HasNoForeignFile}
 use Rattle.bw_left.specs.StoppedTurns.{RunsHonestly, HadTurn}
 use Rattle.bw_left.specs.StoppedWorlds.{Dies, Stops, Starts, after_world_step, MayCome, IsNextStep}
 
@@ -77,10 +77,6 @@ module _ {X Y : Type 0} (S : StoreGhosts X) (J : JournalGhosts Y) where
   StopsAreSteps = (first : List ℕ → Option (List ℕ)) (w : World) (s : Server X Y S J) →
       ServesWorld first w s → StopsInWorld first w s
 
--- no file that begins as this server's existed before the first one
-abbrev pub NoneIsForeign : (List ℕ → Option (List ℕ)) → Type 0
-NoneIsForeign first = (name bytes : List ℕ) → first name ≡ Some bytes → begins_take bytes ≡ false
-
 module _ {D E F H : Type 0} (G : DiskGhosts D F) (K : DiskGhosts E H)
     (S : StoreGhosts (FolderStore D F G)) (J : JournalGhosts (FolderJournal E H K)) where
   -- What `start` states of the server that it makes over a folder; and its disks are honest.
@@ -98,7 +94,7 @@ module _ {D E F H : Type 0} (G : DiskGhosts D F) (K : DiskGhosts E H)
   abbrev pub StartsAreSteps : Type 0
   StartsAreSteps = (limit : ℕ) (folder : List ℕ) (sync : Bool) (first : List ℕ → Option (List ℕ))
       (w : World) (notes takes : List ℕ → Option (List ℕ))
-      (s : Server (FolderStore D F G) (FolderJournal E H K) S J) → NoneIsForeign first →
+      (s : Server (FolderStore D F G) (FolderJournal E H K) S J) → HasNoForeignFile first w.book →
       IsLeftIn limit folder first w.book notes takes →
       WasStarted limit folder sync first w.book notes s →
       ServesWorld S J first (after_world_step (existed_in first) w Starts) s

@@ -1,21 +1,26 @@
 -- What a server leaves in its folder when it is stopped within a turn, by what `turn` of bw_session
 -- states.
-use Rattle.std.specs.Prelude.{◌≡◌, ℕ, false, Option, Some, is_some, IsTrue, List, [], ◌∷◌, map}
+use Rattle.std.specs.Prelude.{◌≡◌, ℕ, Option, is_some, IsTrue, List, [], ◌∷◌, map}
 use Rattle.bw_model.specs.Wire.{Message, Says, Second, is_frame}
-use Rattle.bw_model.specs.Book.{Book, log_of}
-use Rattle.bw_model.specs.Turn.{book_after}
+use Rattle.bw_model.specs.Book.{Book}
+use Rattle.bw_model.specs.Turn.{book_after, run}
 use Rattle.bw_model.specs.CountedTurn.{IsTurn}
 use Rattle.bw_store.specs.declared.store.TakeStore.{Ghosts as StoreGhosts}
 use Rattle.bw_journal.specs.declared.journal.Journal.{Ghosts as JournalGhosts}
 use Rattle.bw_wire.specs.declared.reply.Reply.{Reply}
 use Rattle.bw_wire.specs.Replies.{reply_of}
+use Rattle.bw_exchange.specs.Answering.{Answered}
+use Rattle.bw_exchange.specs.TurnRuns.{answers_in}
 use Rattle.bw_session.specs.Books.{failures_of, TurnsBooks, NotesBooks, OrdersBook, OrdersBooks, UsesInTurn}
 use Rattle.bw_session.specs.declared.server.Server.{Server}
 use Rattle.bw_session.specs.SeenServers.{server_store, server_journal, server_limit}
-use Rattle.bw_start.specs.Names.{begins_take}
 use Rattle.bw_start.specs.LeftNames.{IsLeft}
-use Rattle.bw_left.specs.LeftFolders.{RunsOver, LeavesLater, GoesAhead}
+use Rattle.bw_left.specs.LeftFolders.{RunsOver, LeavesLater, GoesAhead, HasNoForeignFile}
 use Rattle.bw_left.specs.StoppedLives.{StoppedLife}
+
+-- a message that had its turn, and its replies, in the definitions' words
+abbrev pub answered_in : Message × List Reply → Answered
+answered_in t = record { frame = Says t.0; replies = map reply_of t.1 }
 
 module _ {X Y : Type 0} (S : StoreGhosts X) (J : JournalGhosts Y) where
   -- The server holds the book over an honest store, and an honest journal has what the book says,
@@ -26,8 +31,7 @@ module _ {X Y : Type 0} (S : StoreGhosts X) (J : JournalGhosts Y) where
     pub runs : RunsOver S J first s book
     pub honest_notes : IsTrue (J.honest (server_journal s))
     pub order : OrdersBook S J first s
-    pub foreign : (name bytes : List ℕ) → (log_of book name).done ≡ 0 → first name ≡ Some bytes →
-        begins_take bytes ≡ false
+    pub foreign : HasNoForeignFile first book
 
   -- A message had its turn: what `turn` states of it.
   pub record HadTurn (old new : Server X Y S J) (m : Message) (replies : List Reply) : Type 0 where
@@ -56,12 +60,12 @@ module _ {X Y : Type 0} (S : StoreGhosts X) (J : JournalGhosts Y) where
       × RunsHonestly first new later
       × LeavesLater (server_limit new) first later (J.notes (server_journal new)) (S.contents (server_store new))
 
-  -- A server was killed, and left this: these messages had their turns, from this book, and the
-  -- folder is one that a start takes over from the book that the server left.
-  pub record IsKilled (first : List ℕ → Option (List ℕ)) (book : Book) (messages : List Message)
-      (new : Server X Y S J) (life : StoppedLife) : Type 0 where
+  -- A server was killed, and left this: these messages had their turns, from this book, with these
+  -- replies, and the folder is one that a start takes over from the book that the server left.
+  pub record IsKilled (first : List ℕ → Option (List ℕ)) (book : Book)
+      (ts : List (Message × List Reply)) (new : Server X Y S J) (life : StoppedLife) : Type 0 where
     pub began : life.began ≡ book
-    pub frames : map (λ t. t.0) life.turns ≡ map Says messages
+    pub answers : answers_in (run (λ name. is_some (first name)) book life.turns) ≡ map answered_in ts
     pub ahead : GoesAhead (book_after (λ name. is_some (first name)) book life.turns) life.left
     pub left : IsLeft (server_limit new) first life.left (J.notes (server_journal new))
         (S.contents (server_store new))
@@ -71,4 +75,4 @@ module _ {X Y : Type 0} (S : StoreGhosts X) (J : JournalGhosts Y) where
   abbrev pub KilledServersAreLeft : Type 0
   KilledServersAreLeft = (first : List ℕ → Option (List ℕ)) (old new : Server X Y S J) (book : Book)
       (ts : List (Message × List Reply)) → RunsHonestly first old book → HadTurns old ts new →
-      (life : StoppedLife) × IsKilled first book (map (λ t. t.0) ts) new life
+      (life : StoppedLife) × IsKilled first book ts new life

@@ -89,7 +89,7 @@ pub fn examples_of_rest()
 {}
 
 /// Worked rows: frames that are answered over that folder, and a run to which a sender's requests came
-/// over links. That servers answer so is what `two_lives` of `bw_tests_stops` runs.
+/// over links. That servers answer so is what `two_runs` of `bw_tests_stops` runs.
 pub fn examples_of_runs<D: Volume, E: Volume>()
     ensures folder { FolderRunExample }
     ensures sent { SentRunExample D.Disk E.Disk ⟦<FolderStore<D> as TakeStore>⟧

@@ -15,7 +15,7 @@ use Rattle.bw_start.specs.LeftNames.{IsLeft}
 use Rattle.bw_start.specs.Paths.{path_with}
 use Rattle.bw_start.specs.StaysLeft.{IsLeftOf}
 use Rattle.bw_start.specs.Started.{IsLeftIn}
-use Rattle.bw_left.specs.ServedWorlds.{NoneIsForeign}
+use Rattle.bw_left.specs.LeftFolders.{HasNoForeignFile}
 use Rattle.bw_left.proofs.LeftPaths.{in_folders}
 use Rattle.bw_rehearsal.specs.Rehearsing.{no_contents}
 use Rattle.bw_stops.specs.Machines.{the_folder, shown_at}
@@ -32,8 +32,8 @@ no_content : (stood : List ℕ) → None ≡ Some stood → ⊥
 no_content stood e = cc
 
 -- no file existed before the first server
-pub none_foreign : NoneIsForeign no_contents
-none_foreign name bytes stood = absurd (no_content bytes stood)
+pub none_foreign : (book : Book) → HasNoForeignFile no_contents book
+none_foreign book name bytes named none stood = absurd (no_content bytes stood)
 
 -- where nothing is, nothing was left
 nothing : (limit : ℕ) → IsLeft limit no_contents [] (λ name. None) (λ name. None)

@@ -15,7 +15,7 @@ returns-in-Ok c = λ book shown.
     let s = c.in-Ok.ensures in
     let started : ServesWorld _ _ no_contents (after_world_step (existed_in no_contents) w Starts) c.in-Ok.server =
     starts_are_steps _ _ _ _ (λ x. refl) (λ x name. refl) c.args.limit the_folder false no_contents w _ _
-    c.in-Ok.server none_foreign there
+    c.in-Ok.server (none_foreign book) there
     (record {
       honest = refl;
       honest_notes = refl;
