@@ -1,6 +1,5 @@
 -- What the steps of an upload keep of its sender.
-use Rattle.std.proofs.Common.{◌≡◌, ℕ, ◌≤◌, List, [], ◌∷◌, ◌++◌, length}
-use Rattle.std.proofs.Common.{Option, None, refl, sym, ◌∙◌, ap, subst, arith, append-nil, append_assoc, length-append}
+use Rattle.std.proofs.Common.{◌≡◌, ℕ, List, [], ◌∷◌, ◌++◌, Option, None, refl, sym, ◌∙◌, ap, subst, append-nil, append_assoc}
 use Rattle.bw_model.specs.Take.{Request}
 use Rattle.bw_model.specs.Replies.{Reply}
 use Rattle.bw_model.specs.World.{Sender, offer, offer_fault}
@@ -16,22 +15,22 @@ use Rattle.bw_upload.specs.Conversing.{Conversing, TalkEvent, TalkStep, Says, Br
 use Rattle.bw_upload.specs.Courses.{Course, CourseStep, UploadEvent, Fills, Misses, Makes, Talks, Leaves}
 use Rattle.bw_upload.specs.Filling.{Filling, FillEvent, FillStep, Takes, Lacks, Closes}
 use Rattle.bw_upload.specs.declared.feed.Feed.{Ghosts as FeedGhosts}
-use Rattle.bw_end_to_end.proofs.SaidRequests.{all_numbers}
-use Rattle.bw_end_to_end.proofs.RoundLinks.{has_number, all_named}
+use Rattle.bw_end_to_end.specs.UsedLinks.{PendingHaveNumbers}
+use Rattle.bw_end_to_end.proofs.RoundLinks.{all_named, heard_numbers, offered_numbers}
 
 -- More may have been offered to the sender, and its name is the same.
 pub record OffersMore (s t : Sender) : Type 0 where
   pub name_is : t.name ≡ s.name
   pub more : List Request
   pub offered : s.offered ++ more ≡ t.offered
-  pub few : length s.offered ≤ all_numbers → length t.offered ≤ all_numbers
+  pub numbered : PendingHaveNumbers s → PendingHaveNumbers t
 
 pub same_offers : (s t : Sender) → t ≡ s → OffersMore s t
 same_offers s t e = record {
   name_is = ap (λ (z : Sender). z.name) e;
   more = [];
   offered = append-nil s.offered ∙ ap (λ (z : Sender). z.offered) (sym e);
-  few = λ h. let same = ap (λ (z : Sender). length z.offered) e in omega (arith, h, same);
+  numbered = λ h. subst PendingHaveNumbers (sym e) h;
 }
 
 pub hears_offers : (s : Sender) (heard : List Reply) → OffersMore s (hear_all s heard)
@@ -39,7 +38,7 @@ hears_offers s heard = record {
   name_is = all_named s heard;
   more = [];
   offered = append-nil s.offered ∙ sym (all_heard s heard);
-  few = λ h. let same = ap (λ (z : List Request). length z) (all_heard s heard) in omega (arith, h, same);
+  numbered = λ h. heard_numbers s heard h;
 }
 
 one_more : (s : Sender) (r : Request) → offer_fault s r ≡ None → OffersMore s (offer s r)
@@ -47,7 +46,7 @@ one_more s r e = subst (OffersMore s) (sym (taken s r e)) (record {
   name_is = refl;
   more = r ∷ [];
   offered = refl;
-  few = λ h. let below = has_number s r e in omega (arith, below, length-append s.offered (r ∷ []));
+  numbered = λ h. offered_numbers s r e h;
 })
 
 pub then_offers : (s t u : Sender) → OffersMore s t → OffersMore t u → OffersMore s u
@@ -55,7 +54,7 @@ then_offers s t u a b = record {
   name_is = b.name_is ∙ a.name_is;
   more = a.more ++ b.more;
   offered = sym (append_assoc s.offered a.more b.more) ∙ ap (λ (z : List Request). z ++ b.more) a.offered ∙ b.offered;
-  few = λ h. b.few (a.few h);
+  numbered = λ h. b.numbered (a.numbered h);
 }
 
 module _ {F P D R W X : Type 0} (feed : FeedGhosts F X) (pause : PauseGhosts P)

@@ -8,3 +8,4 @@ pub mod CourseSteps
 pub mod UsedLines
 pub mod UploadLinks
 pub mod DoneCommands
+pub mod ExamplesOfPromises

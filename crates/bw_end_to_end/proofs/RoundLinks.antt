@@ -1,11 +1,11 @@
 -- What rounds of `send` write and hear.
 use mathlib.Core.Logic.{inl, inr}
-use Rattle.std.proofs.Common.{◌≡◌, ◌≢◌, ℕ, suc, zero, ◌<◌, ◌⊎◌, Bool, true, false, cond, ◌&&◌, List, [], ◌∷◌, ◌++◌}
+use Rattle.std.proofs.Common.{◌≡◌, ◌≢◌, ℕ, suc, zero, ◌<◌, ◌≤◌, ◌⊎◌, Bool, true, false, cond, ◌&&◌, List, [], ◌∷◌, ◌++◌}
 use Rattle.std.proofs.Common.{length, append-nil, drop, Option, Some, None, Result, refl, sym, ◌∙◌, ap, subst, arith, append_assoc, length-append}
 use Rattle.std.specs.Prelude.{nat_lt, is_none}
 use Rattle.std.specs.List.{Contains}
 use Rattle.std.specs.Str.{bytes_eq}
-use Rattle.std.proofs.lemmas.Bool.{and_parts, ltb-false}
+use Rattle.std.proofs.lemmas.Bool.{and_parts, cases_lt, ltb-false}
 use Rattle.std.proofs.lemmas.Bool.Decides.{eqb_tells}
 use Rattle.std.proofs.Math.Dec.{eqb}
 use Rattle.std.proofs.lemmas.List.Elements.{Contains-append_right, Contains-append_cases}
@@ -31,14 +31,14 @@ use Rattle.bw_engine.proofs.HeardSenders.{all_heard}
 use Rattle.std.proofs.Math.Seq.{drop-append_seam}
 use Rattle.bw_send.proofs.OfferSteps.{taken, refused, all_taken, all_refused}
 use Rattle.bw_delivery.specs.Deliveries.{LinkBytes, IsPartOf, SaysRequests, HearsVerdict, HeardOverLinks}
-use Rattle.bw_end_to_end.specs.UsedLinks.{UsedLink, AreSenderEnds}
+use Rattle.bw_end_to_end.specs.UsedLinks.{UsedLink, AreSenderEnds, PendingHaveNumbers}
 use Rattle.bw_end_to_end.specs.SentInRounds.{link_in_round, links_in_rounds, RoundsSendRequests}
 use Rattle.bw_end_to_end.proofs.SaidRequests.{IsOffered, AreSpelled, all_numbers, batch_says, only_now}
 
 -- Offers.
 
 -- an accepted offer has a number
-pub has_number : (s : Sender) (r : Request) → offer_fault s r ≡ None → length s.offered < all_numbers
+has_number : (s : Sender) (r : Request) → offer_fault s r ≡ None → length s.offered < all_numbers
 has_number s r e =
     let h = ltb-false (last_number Second) (length s.offered) (not_spent (nat_lt (last_number Second) (length s.offered)) _ e) in
     omega (arith, h)
@@ -50,14 +50,23 @@ has_number s r e =
         some_none : {X : Type 0} {x : X} → Some x ≡ None → ⊥
         some_none e = cc
 
+-- those without a verdict have numbers after it too
+pub offered_numbers : (s : Sender) (r : Request) → offer_fault s r ≡ None → PendingHaveNumbers s →
+    PendingHaveNumbers (record s { offered = s.offered ++ r ∷ [] })
+offered_numbers s r e h n below none = go (cases_lt n (length s.offered))
+  where
+    go : (n < length s.offered) ⊎ (length s.offered ≤ n) → n ≤ last_number Second
+    go (inl b) = h n b none
+    go (inr b) =
+        let most = has_number s r e in omega (arith, b, below, most, length-append s.offered (r ∷ []))
+
 pub offered_one : (name : List ℕ) (requests : List Request) (s : Sender) (r : Request) (rest : List Request) →
     IsOffered name requests s (r ∷ rest) → offer_fault s r ≡ None → IsOffered name requests (offer s r) rest
 offered_one name requests s r rest h e =
-    let below = has_number s r e in
     subst (λ (t : Sender). IsOffered name requests t rest) (sym (taken s r e)) (record {
       name_is = h.name_is;
       whole = append_assoc s.offered (r ∷ []) rest ∙ h.whole;
-      few = omega (arith, below, length-append s.offered (r ∷ []));
+      numbered = offered_numbers s r e h.numbered;
     })
 
 -- How far a sending is: these are its requests, and these its verdicts.
@@ -178,6 +187,35 @@ heard_all s (r ∷ rs) n v e = go (heard_all (hear s r) rs n v e)
     go (inl h) = first (hear_one s r n v h)
     go (inr h) = inr (later (subst (λ (x : List ℕ). Contains rs (Judged x n v)) (hear_name s r) h))
 
+-- a verdict stays
+hear_none : (s : Sender) (r : Reply) (n : ℕ) → at (hear s r).verdicts n ≡ None → at s.verdicts n ≡ None
+hear_none s (Noticed x k code next) n e = e
+hear_none s (Refused reason place) n e = e
+hear_none s (Judged x k w) n e = go (is_counted s x k) e
+  where
+    some_none : {X : Type 0} {x : X} → Some x ≡ None → ⊥
+    some_none e = cc
+
+    by_place : at (put s.verdicts k w) n ≡ None → ((eqb n k ≡ true) × (n ≡ k)) ⊎ ((eqb n k ≡ false) × (n ≢ k)) →
+        at s.verdicts n ≡ None
+    by_place e (inl p) =
+        absurd (some_none (sym (at-put_same s.verdicts k w) ∙ ap (at (put s.verdicts k w)) (sym p.1) ∙ e))
+    by_place e (inr p) = sym (at-put_other s.verdicts k n w p.1) ∙ e
+
+    go : (b : Bool) → at (cond b (record s { verdicts = put s.verdicts k w }) s).verdicts n ≡ None →
+        at s.verdicts n ≡ None
+    go false e = e
+    go true e = by_place e (eqb_tells n k)
+
+all_none : (s : Sender) (rs : List Reply) (n : ℕ) → at (hear_all s rs).verdicts n ≡ None → at s.verdicts n ≡ None
+all_none s [] n e = e
+all_none s (r ∷ rs) n e = hear_none s r n (all_none (hear s r) rs n e)
+
+pub heard_numbers : (s : Sender) (rs : List Reply) → PendingHaveNumbers s → PendingHaveNumbers (hear_all s rs)
+heard_numbers s rs h n below none =
+    let same = ap (λ (z : List Request). length z) (all_heard s rs) in
+    h n (omega (arith, below, same)) (all_none s rs n none)
+
 pub hear_going : (name : List ℕ) (requests : List Request) (vs : List (Option Verdict)) (x : Sending) (heard : List Reply) →
     IsGoing name requests vs x → IsGoing name requests (hear_all x.sender heard).verdicts (hear_in x heard)
 hear_going name requests vs x heard h = record {
@@ -186,7 +224,7 @@ hear_going name requests vs x heard h = record {
   offered = record {
     name_is = all_named x.sender heard ∙ h.offered.name_is;
     whole = ap (λ (rs : List Request). rs ++ h.rest) (all_heard x.sender heard) ∙ h.offered.whole;
-    few = let few = h.offered.few in omega (arith, few, ap (λ (rs : List Request). length rs) (all_heard x.sender heard));
+    numbered = heard_numbers x.sender heard h.offered.numbered;
   };
   verdicts_are = refl;
 }
@@ -345,7 +383,7 @@ module _ {D R W : Type 0} (dial : DialGhosts D R W) (reader : Reader R) (writer 
       (record {
         requests_are = refl;
         rest = requests;
-        offered = record { name_is = refl; whole = refl; few = omega arith };
+        offered = record { name_is = refl; whole = refl; numbered = λ n below none. absurd (omega (arith, below)) };
         verdicts_are = refl;
       })
       (record { named = named; each = each }) ends in

@@ -1,5 +1,5 @@
 -- What a sender says are its requests.
-use Rattle.std.proofs.Common.{◌≡◌, ℕ, suc, zero, ◌+◌, ◌<◌, ◌≤◌, Bool, true, ◌&&◌, List, [], ◌∷◌, ◌++◌, length}
+use Rattle.std.proofs.Common.{◌≡◌, ℕ, suc, zero, ◌+◌, ◌<◌, Bool, true, ◌&&◌, List, [], ◌∷◌, ◌++◌}
 use Rattle.std.proofs.Common.{Option, Some, None, refl, sym, ◌∙◌, ap, arith, ◌⊎◌, inl, inr}
 use Rattle.std.specs.Prelude.{slice_get, nat_le}
 use Rattle.std.specs.List.{AllByRecursion, list_all}
@@ -14,6 +14,7 @@ use Rattle.bw_model.proofs.Elements.{get-below}
 use Rattle.bw_wire.specs.Encoded.{said}
 use Rattle.bw_engine.specs.Batches.{messages, pending_messages, batch}
 use Rattle.bw_delivery.specs.Deliveries.{IsOneOf, IsPartOf, SaysRequests}
+use Rattle.bw_end_to_end.specs.UsedLinks.{PendingHaveNumbers}
 
 -- the numbers that there are
 abbrev pub all_numbers : ℕ
@@ -23,7 +24,7 @@ all_numbers = 16777216
 pub record IsOffered (name : List ℕ) (requests : List Request) (s : Sender) (rest : List Request) : Type 0 where
   pub name_is : s.name ≡ name
   pub whole : s.offered ++ rest ≡ requests
-  pub few : length s.offered ≤ all_numbers
+  pub numbered : PendingHaveNumbers s
 
 -- the name and the requests have a spelling
 pub record AreSpelled (name : List ℕ) (requests : List Request) : Type 0 where
@@ -49,15 +50,15 @@ only_now n v (inr now) = now
 
 -- each request without a verdict is one that was offered
 pub pending_are : (P : ℕ × Request → Type 0) (n : ℕ) (rs : List Request) (vs : List (Option Verdict)) →
-    ((k : ℕ) (r : Request) → slice_get rs k ≡ Some r → (j : ℕ) → j ≡ n + k → P (j, r)) →
+    ((k : ℕ) (r : Request) → slice_get rs k ≡ Some r → at vs k ≡ None → (j : ℕ) → j ≡ n + k → P (j, r)) →
     AllByRecursion P (pending_from n rs vs)
 pending_are P n [] vs h = tt
 pending_are P n (r ∷ rs) [] h =
-    (h 0 r refl n (omega arith), pending_are P (suc n) rs [] (λ k q e j is. h (suc k) q e j (omega (arith, is))))
+    (h 0 r refl refl n (omega arith), pending_are P (suc n) rs [] (λ k q e f j is. h (suc k) q e refl j (omega (arith, is))))
 pending_are P n (r ∷ rs) (None ∷ vs) h =
-    (h 0 r refl n (omega arith), pending_are P (suc n) rs vs (λ k q e j is. h (suc k) q e j (omega (arith, is))))
+    (h 0 r refl refl n (omega arith), pending_are P (suc n) rs vs (λ k q e f j is. h (suc k) q e f j (omega (arith, is))))
 pending_are P n (r ∷ rs) (Some v ∷ vs) h =
-    pending_are P (suc n) rs vs (λ k q e j is. h (suc k) q e j (omega (arith, is)))
+    pending_are P (suc n) rs vs (λ k q e f j is. h (suc k) q e f j (omega (arith, is)))
 
 -- one of the requests, under its number
 abbrev pub IsNumbered : List Request → ℕ × Request → Type 0
@@ -66,12 +67,11 @@ IsNumbered requests p = (slice_get requests p.0 ≡ Some p.1) × (p.0 < all_numb
 pub pending_numbered : (name : List ℕ) (requests : List Request) (s : Sender) (rest : List Request) →
     IsOffered name requests s rest → AllByRecursion (IsNumbered requests) (pending_from 0 s.offered s.verdicts)
 pending_numbered name requests s rest h = pending_are (IsNumbered requests) 0 s.offered s.verdicts
-    (λ k r e j is. let same : j ≡ k = omega (arith, is) in
-    let below = get-below s.offered k r e in
-    let few = h.few in (
+    (λ k r e f j is. let same : j ≡ k = omega (arith, is) in
+    let most = h.numbered k (get-below s.offered k r e) f in (
       (ap (slice_get requests) same ∙ ap (λ (rs : List Request). slice_get rs k) (sym h.whole)
           ∙ get-append s.offered rest k r e),
-      omega (arith, same, below, few),
+      omega (arith, same, most),
     ))
 
 -- messages of such requests

@@ -1,6 +1,6 @@
 -- What an upload writes and hears.
 use mathlib.Core.Logic.{inl, inr}
-use Rattle.std.proofs.Common.{◌≡◌, ℕ, suc, zero, ◌≤◌, ◌⊎◌, List, [], ◌∷◌, ◌++◌, length}
+use Rattle.std.proofs.Common.{◌≡◌, ℕ, suc, zero, ◌⊎◌, List, [], ◌∷◌, ◌++◌}
 use Rattle.std.proofs.Common.{Option, Some, None, refl, sym, ◌∙◌, ap, subst, arith, append_assoc}
 use Rattle.std.specs.List.{Contains}
 use Rattle.std.proofs.lemmas.List.Elements.{Contains-append_left, Contains-append_right, Contains-append_cases}
@@ -14,6 +14,7 @@ use Rattle.bw_engine.specs.Hears.{hear_all}
 use Rattle.bw_ports.specs.declared.dial.Dial.{Ghosts as DialGhosts}
 use Rattle.bw_ports.specs.declared.dial.Duplex.{Duplex}
 use Rattle.bw_ports.specs.declared.pause.Pause.{Ghosts as PauseGhosts}
+use Rattle.bw_sender.specs.Senders.{new_sender}
 use Rattle.bw_upload.specs.Chains.{Chain}
 use Rattle.bw_upload.specs.Conversing.{Conversing, Line, TalkEvent, TalkStep, Says, Breaks, Hears, LeavesBy, new_line}
 use Rattle.bw_upload.specs.Courses.{Course, CourseStep, UploadEvent, Fills, Misses, Makes, Talks, Leaves}
@@ -21,9 +22,10 @@ use Rattle.bw_upload.specs.declared.feed.Feed.{Ghosts as FeedGhosts}
 use Rattle.bw_upload.specs.declared.observer.LinkEnd.{LinkEnd}
 use Rattle.bw_upload.specs.declared.observer.LinkEnd.TheVariants as ends
 use Rattle.bw_delivery.specs.Deliveries.{LinkBytes, SaysRequests, HeardOverLinks}
-use Rattle.bw_end_to_end.specs.UsedLinks.{UsedLink, AreSenderEnds}
-use Rattle.bw_end_to_end.specs.UploadedLinks.{used_link, open_link, writer_left, links_in_course, UploadsSendRequests}
-use Rattle.bw_end_to_end.proofs.SaidRequests.{IsOffered, AreSpelled, all_numbers, only_now}
+use Rattle.bw_end_to_end.specs.UsedLinks.{UsedLink, AreSenderEnds, PendingHaveNumbers}
+use Rattle.bw_end_to_end.specs.UploadedLinks.{used_link, open_link, writer_left, links_in_course, UploadsSendOn}
+use Rattle.bw_end_to_end.specs.UploadedLinks.{UploadsSendRequests}
+use Rattle.bw_end_to_end.proofs.SaidRequests.{IsOffered, AreSpelled, only_now}
 use Rattle.bw_end_to_end.proofs.RoundLinks.{heard_all}
 use Rattle.bw_end_to_end.proofs.CourseSteps.{fill_offers, course_offers}
 use Rattle.bw_end_to_end.proofs.UsedLines.{IsUsedFrom, Took, used_new, used_says, used_breaks, used_hears}
@@ -181,23 +183,23 @@ module _ {F P D R W X : Type 0} (feed : FeedGhosts F X) (pause : PauseGhosts P)
   course_sends : (events : List UploadEvent) (x y : Course F P D R W)
       (went : Chain (CourseStep feed pause dial reader writer most) events x y) (made : Option (Duplex R W))
       (links : List (ℕ × LinkBytes)) (rest : List Request) → IsOpen made x.line → x.filling.sender.name ≡ name →
-      length x.filling.sender.offered ≤ all_numbers → y.filling.sender.offered ++ rest ≡ requests →
+      PendingHaveNumbers x.filling.sender → y.filling.sender.offered ++ rest ≡ requests →
       AreSpelled name requests →
       AreSenderEnds reader writer (links_in_course feed pause dial reader writer most made events x y went) links →
       CourseSends name requests x.filling.sender.verdicts (heard_over_line x.line) y.filling.sender.verdicts links
-  course_sends [] x y went made links rest is own few whole spelled ends =
+  course_sends [] x y went made links rest is own numbered whole spelled ends =
       subst (λ (z : Course F P D R W). CourseSends name requests x.filling.sender.verdicts (heard_over_line x.line)
       z.filling.sender.verdicts links) (sym went)
       (course_ends made x.line x.filling.sender.verdicts links is ends)
-  course_sends (Fills e ∷ events) x y went made links rest is own few whole spelled ends =
+  course_sends (Fills e ∷ events) x y went made links rest is own numbered whole spelled ends =
       let step = went.1 in
       let f = fill_offers feed pause dial reader writer most e x.filling went.0.filling step.step in
       let line : went.0.line ≡ x.line = ap (λ (z : Course F P D R W). z.line) step.is in
       same_line x.filling.sender.verdicts went.0.filling.sender.verdicts y.filling.sender.verdicts x.line went.0.line links
       line f.verdicts
       (course_sends events went.0 y went.2 made links rest (subst (IsOpen made) (sym line) is) (f.offers.name_is ∙ own)
-      (f.offers.few few) whole spelled ends)
-  course_sends (Misses ∷ events) x y went made links rest is own few whole spelled ends =
+      (f.offers.numbered numbered) whole spelled ends)
+  course_sends (Misses ∷ events) x y went made links rest is own numbered whole spelled ends =
       let step = went.1 in
       let line : went.0.line ≡ x.line = ap (λ (z : Course F P D R W). z.line) step.is in
       let sender : went.0.filling.sender ≡ x.filling.sender = ap (λ (z : Course F P D R W). z.filling.sender) step.is in
@@ -205,8 +207,8 @@ module _ {F P D R W X : Type 0} (feed : FeedGhosts F X) (pause : PauseGhosts P)
       line (ap (λ (z : Sender). z.verdicts) sender)
       (course_sends events went.0 y went.2 made links rest (subst (IsOpen made) (sym line) is)
       (ap (λ (z : Sender). z.name) sender ∙ own)
-      (subst (λ (z : Sender). length z.offered ≤ all_numbers) (sym sender) few) whole spelled ends)
-  course_sends (Makes ∷ events) x y went made links rest is own few whole spelled ends =
+      (subst PendingHaveNumbers (sym sender) numbered) whole spelled ends)
+  course_sends (Makes ∷ events) x y went made links rest is own numbered whole spelled ends =
       let step = went.1 in
       let line : went.0.line ≡ Some (new_line step.link.reader step.link.writer) =
       ap (λ (z : Course F P D R W). z.line) step.is in
@@ -214,14 +216,14 @@ module _ {F P D R W X : Type 0} (feed : FeedGhosts F X) (pause : PauseGhosts P)
       let h = course_sends events went.0 y went.2 (Some step.link) links rest
       (subst (IsOpen (Some step.link)) (sym line) (used_new reader writer name requests step.link))
       (ap (λ (z : Sender). z.name) sender ∙ own)
-      (subst (λ (z : Sender). length z.offered ≤ all_numbers) (sym sender) few) whole spelled ends in
+      (subst PendingHaveNumbers (sym sender) numbered) whole spelled ends in
       subst (λ (z : Option (Line R W)). CourseSends name requests x.filling.sender.verdicts (heard_over_line z)
       y.filling.sender.verdicts links) (sym step.may.free)
       (subst (λ (z : List (Option Verdict)). CourseSends name requests z [] y.filling.sender.verdicts links)
       (ap (λ (z : Sender). z.verdicts) sender)
       (subst (λ (z : Option (Line R W)). CourseSends name requests went.0.filling.sender.verdicts (heard_over_line z)
       y.filling.sender.verdicts links) line h))
-  course_sends (Talks e ∷ events) x y went made links rest is own few whole spelled ends =
+  course_sends (Talks e ∷ events) x y went made links rest is own numbered whole spelled ends =
       let step = went.1 in
       let here : Conversing R W = record { sender = x.filling.sender; line = step.l } in
       let more = course_offers feed pause dial reader writer most (Talks e ∷ events) x y went in
@@ -229,7 +231,7 @@ module _ {F P D R W X : Type 0} (feed : FeedGhosts F X) (pause : PauseGhosts P)
         name_is = own;
         whole = sym (append_assoc x.filling.sender.offered more.more rest)
             ∙ ap (λ (z : List Request). z ++ rest) more.offered ∙ whole;
-        few = few;
+        numbered = numbered;
       } in
       let line : went.0.line ≡ Some step.t.line = ap (λ (z : Course F P D R W). z.line) step.is in
       let sender : went.0.filling.sender ≡ step.t.sender = ap (λ (z : Course F P D R W). z.filling.sender) step.is in
@@ -238,14 +240,14 @@ module _ {F P D R W X : Type 0} (feed : FeedGhosts F X) (pause : PauseGhosts P)
       talked e here step.t (more.more ++ rest) step.step h spelled made (subst (IsOpen made) step.line is) in
       let one = course_offers feed pause dial reader writer most (Talks e ∷ []) x went.0 (went.0, went.1, refl) in
       let k = course_sends events went.0 y went.2 made links rest (subst (IsOpen made) (sym line) open_now)
-      (one.name_is ∙ own) (one.few few) whole spelled ends in
+      (one.name_is ∙ own) (one.numbered numbered) whole spelled ends in
       subst (λ (z : Option (Line R W)). CourseSends name requests x.filling.sender.verdicts (heard_over_line z)
       y.filling.sender.verdicts links) (sym step.line)
       (talk_sends e here step.t y.filling.sender.verdicts links step.step own
       (subst (λ (z : Sender). CourseSends name requests z.verdicts step.t.line.heard y.filling.sender.verdicts links) sender
       (subst (λ (z : Option (Line R W)). CourseSends name requests went.0.filling.sender.verdicts (heard_over_line z)
       y.filling.sender.verdicts links) line k)))
-  course_sends (Leaves end ∷ events) x y went made links rest is own few whole spelled ends =
+  course_sends (Leaves end ∷ events) x y went made links rest is own numbered whole spelled ends =
       let step = went.1 in
       let here : Conversing R W = record { sender = x.filling.sender; line = step.l } in
       let line : went.0.line ≡ None = ap (λ (z : Course F P D R W). z.line) step.is in
@@ -261,12 +263,19 @@ module _ {F P D R W X : Type 0} (feed : FeedGhosts F X) (pause : PauseGhosts P)
       y.filling.sender.verdicts ls) line
       (course_sends events went.0 y went.2 None ls rest (subst (IsOpen None) (sym line) tt)
       (ap (λ (z : Sender). z.name) sender ∙ own)
-      (subst (λ (z : Sender). length z.offered ≤ all_numbers) (sym sender) few) whole spelled e))))
+      (subst PendingHaveNumbers (sym sender) numbered) whole spelled e))))
 
 module _ {F P D R W X : Type 0} (feed : FeedGhosts F X) (pause : PauseGhosts P)
     (dial : DialGhosts D R W) (reader : Reader R) (writer : Writer W) (most : Option ℕ) where
+  pub uploads_send_on : UploadsSendOn feed pause dial reader writer most
+  uploads_send_on x sender outcome f f' p p' d d' went requests rest links whole numbered named each ends =
+      let h = course_sends feed pause dial reader writer most x.name requests went.events _ went.last went.went None links
+      rest tt refl numbered whole (record { named = named; each = each }) ends in
+      record { says = h.says; heard = h.heard }
+
+  -- a new sender had no requests before
   pub uploads_send : UploadsSendRequests feed pause dial reader writer most
   uploads_send name sender outcome f f' p p' d d' went requests rest links whole named each ends =
-      let h = course_sends feed pause dial reader writer most name requests went.events _ went.last went.went None links rest
-      tt refl (omega arith) whole (record { named = named; each = each }) ends in
+      let h = uploads_send_on (new_sender name) sender outcome f f' p p' d d' went requests rest links whole
+      (λ n below none. absurd (omega (arith, below))) named each ends in
       record { says = h.says; heard = λ n v e. only_now n v (h.heard n v e) }

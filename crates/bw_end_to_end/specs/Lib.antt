@@ -5,3 +5,4 @@ pub mod ServedInTurn
 pub mod UploadedLinks
 pub mod SentFiles
 pub mod Promises
+pub mod ExamplesOfPromises

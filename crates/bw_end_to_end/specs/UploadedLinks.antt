@@ -3,6 +3,7 @@ use Rattle.std.specs.Prelude.{◌≡◌, ℕ, Option, Some, None, IsTrue, List, 
 use Rattle.std.specs.List.{list_all}
 use Rattle.bw_model.specs.Take.{Request}
 use Rattle.bw_model.specs.Wire.{is_name, is_request}
+use Rattle.bw_model.specs.World.{Sender as Defined}
 use Rattle.bw_stream.specs.declared.sink.Sink.{Ghosts as Writer}
 use Rattle.bw_stream.specs.declared.source.Source.{Ghosts as Reader}
 use Rattle.bw_sender.specs.Senders.{new_sender}
@@ -20,7 +21,7 @@ use Rattle.bw_upload.specs.declared.observer.LinkEnd.{LinkEnd}
 use Rattle.bw_upload.specs.declared.observer.LinkEnd.TheVariants.{Ended, Broken, Stopped, Refused, Done}
 use Rattle.bw_upload.specs.declared.outcome.Outcome.{Outcome}
 use Rattle.bw_delivery.specs.Deliveries.{LinkBytes}
-use Rattle.bw_end_to_end.specs.UsedLinks.{UsedLink, AreSenderEnds, SendsOver}
+use Rattle.bw_end_to_end.specs.UsedLinks.{UsedLink, AreSenderEnds, SendsOver, SendsOnOver, PendingHaveNumbers}
 
 -- a link as it was made, and its writer after its use
 abbrev pub used_link : {R W : Type 0} → Option (Duplex R W) → W → List (UsedLink R W)
@@ -69,3 +70,15 @@ module _ {F P D R W X : Type 0} (feed : FeedGhosts F X) (pause : PauseGhosts P)
       AreSenderEnds reader writer
       (links_in_course None went.events (starts (new_sender name) f p d) went.last went.went) links →
       SendsOver name requests went.last.filling.sender.verdicts links
+
+  -- The same where an upload goes on from a sender that had requests and verdicts before: those that
+  -- it had are the first of the requests, and each verdict that it has it had, or it came over a link.
+  abbrev pub UploadsSendOn : Type 0
+  UploadsSendOn = (s : Defined) (sender : Sender) (outcome : Outcome X) (f f' : F) (p p' : P)
+      (d d' : D) (went : Uploads feed pause dial reader writer most s sender outcome f f' p p' d d')
+      (requests rest : List Request) (links : List (ℕ × LinkBytes)) →
+      went.last.filling.sender.offered ++ rest ≡ requests → PendingHaveNumbers s →
+      IsTrue (is_name s.name) → IsTrue (list_all is_request requests) →
+      AreSenderEnds reader writer
+      (links_in_course None went.events (starts s f p d) went.last went.went) links →
+      SendsOnOver requests s went.last.filling.sender links

@@ -1,7 +1,9 @@
 -- The ends of links that a command used.
-use Rattle.std.specs.Prelude.{◌≡◌, ◌<◌, ℕ, Option, Some, List, [], ◌∷◌, length}
+use Rattle.std.specs.Prelude.{◌≡◌, ◌<◌, ◌≤◌, ◌⊎◌, ℕ, Option, Some, None, List, [], ◌∷◌, length}
 use Rattle.bw_model.specs.Bytes.{at}
 use Rattle.bw_model.specs.Take.{Request, Verdict, Stored}
+use Rattle.bw_model.specs.Wire.{Second, last_number}
+use Rattle.bw_model.specs.World.{Sender}
 use Rattle.bw_stream.specs.declared.sink.Sink.{Ghosts as Writer}
 use Rattle.bw_stream.specs.declared.source.Source.{Ghosts as Reader}
 use Rattle.std.specs.List.{Contains}
@@ -34,6 +36,21 @@ pub record SendsOver (name : List ℕ) (requests : List Request) (verdicts : Lis
     (links : List (ℕ × LinkBytes)) : Type 0 where
   pub says : (n : ℕ) (l : LinkBytes) → Contains links (n, l) → SaysRequests name requests l.said
   pub heard : (n : ℕ) (v : Verdict) → at verdicts n ≡ Some v → HeardOverLinks links name n v
+
+-- a verdict that a sender had, or that came over one of these links
+abbrev pub HadOrHeard : Sender → List (ℕ × LinkBytes) → ℕ → Verdict → Type 0
+HadOrHeard s links n v = (at s.verdicts n ≡ Some v) ⊎ HeardOverLinks links s.name n v
+
+-- The same of a sender that had requests and verdicts before these links: this is what it was then,
+-- and what it is after them.
+pub record SendsOnOver (requests : List Request) (s last : Sender) (links : List (ℕ × LinkBytes))
+    : Type 0 where
+  pub says : (n : ℕ) (l : LinkBytes) → Contains links (n, l) → SaysRequests s.name requests l.said
+  pub heard : (n : ℕ) (v : Verdict) → at last.verdicts n ≡ Some v → HadOrHeard s links n v
+
+-- each request that has no verdict yet has a number that a message can have
+abbrev pub PendingHaveNumbers : Sender → Type 0
+PendingHaveNumbers s = (n : ℕ) → n < length s.offered → at s.verdicts n ≡ None → n ≤ last_number Second
 
 -- each of these requests has the verdict Stored
 abbrev pub HasAllStored : List Request → List (Option Verdict) → Type 0

@@ -2,12 +2,14 @@
 //! Each function's contract is a law; nothing runs.
 #![tactic(auto)]
 
-ghost use Rattle.bw_end_to_end.specs.Promises.{ClosedTakesHaveFiles, SendersCountTakes};
+ghost use Rattle.bw_end_to_end.specs.ExamplesOfPromises.{SenderOnExample};
+ghost use Rattle.bw_end_to_end.specs.Promises.{ClosedTakesHaveFiles, ClosedTakesHaveFilesOn};
+ghost use Rattle.bw_end_to_end.specs.Promises.{SendersCountTakes, SendersCountTakesOn};
 ghost use Rattle.bw_end_to_end.specs.SentFiles.{DoneFeedsAreStored};
 ghost use Rattle.bw_end_to_end.specs.SentInRounds.{DoneSendsStoreAll, RoundsSendRequests};
 ghost use Rattle.bw_end_to_end.specs.ServedInTurn.{RunsAnswerInTurn};
 ghost use Rattle.bw_end_to_end.specs.ServedLinks.{ConnectionsAnswer};
-ghost use Rattle.bw_end_to_end.specs.UploadedLinks.{UploadsSendRequests};
+ghost use Rattle.bw_end_to_end.specs.UploadedLinks.{UploadsSendOn, UploadsSendRequests};
 ghost use Rattle.bw_rest.specs.Leaving.{resting_answers};
 ghost use Rattle.bw_session.specs.ServerTurns.{ServerTurn};
 ghost use Rattle.std.specs.Prelude.{Bool, Option, ℕ};
@@ -23,9 +25,13 @@ use bw_upload::Feed;
 /// nothing else was admitted under its name until then: whatever reached the server under other
 /// names, its take is what these requests make, each applied once in their order, and if one of
 /// them is a CLOSE, an honest store has that take's file, byte for byte, from then on.
+///
+/// So may one that goes on with verdicts that it had before, if the server has kept what these say.
 pub fn law_promise<S: TakeStore, J: Journal>()
     ensures counts { SendersCountTakes S.TakeStore J.Journal }
     ensures files { ClosedTakesHaveFiles S.TakeStore J.Journal }
+    ensures counts_on { SendersCountTakesOn S.TakeStore J.Journal }
+    ensures files_on { ClosedTakesHaveFilesOn S.TakeStore J.Journal }
 {
     bw_engine::laws::law_server_runs::<S, J>();
 }
@@ -39,9 +45,12 @@ pub fn law_sent<D: Dial>()
 {}
 
 /// The same of an upload, as `send --file` makes it: what it wrote over its links are the requests
-/// of its feed.
+/// of its feed. Where it goes on from a sender that had requests and verdicts, as with a state file,
+/// each verdict is one that this sender had, or came over one of the links.
 pub fn law_uploaded<F: Feed, P: Pause, D: Dial>()
-    ensures { (most : Option ℕ) → UploadsSendRequests F.Feed P.Pause D.Dial D.Reader.Source
+    ensures new { (most : Option ℕ) → UploadsSendRequests F.Feed P.Pause D.Dial D.Reader.Source
+        D.Writer.Sink most }
+    ensures on { (most : Option ℕ) → UploadsSendOn F.Feed P.Pause D.Dial D.Reader.Source
         D.Writer.Sink most }
 {}
 
@@ -64,4 +73,9 @@ pub fn law_served_in_turn<S: TakeStore, J: Journal, P: Peers, O: Sink, E: Sink>(
         P.Reader.Source P.Writer.Sink O.Sink E.Sink log }
     ensures resting { (log : Bool) → RunsAnswerInTurn (resting_answers S.TakeStore J.Journal)
         P.Peers P.Reader.Source P.Writer.Sink O.Sink E.Sink log }
+{}
+
+/// A worked row: a sender goes on once its OPEN is stored, as from a state of one request.
+pub fn examples_of_promises()
+    ensures { SenderOnExample }
 {}
