@@ -8,4 +8,5 @@ pub mod CourseSteps
 pub mod UsedLines
 pub mod UploadLinks
 pub mod DoneCommands
+pub mod DoneStates
 pub mod ExamplesOfPromises

@@ -5,4 +5,5 @@ pub mod ServedInTurn
 pub mod UploadedLinks
 pub mod SentFiles
 pub mod Promises
+pub mod SentFilesOn
 pub mod ExamplesOfPromises

@@ -21,7 +21,8 @@ use Rattle.bw_upload.specs.declared.observer.LinkEnd.{LinkEnd}
 use Rattle.bw_upload.specs.declared.observer.LinkEnd.TheVariants.{Ended, Broken, Stopped, Refused, Done}
 use Rattle.bw_upload.specs.declared.outcome.Outcome.{Outcome}
 use Rattle.bw_delivery.specs.Deliveries.{LinkBytes}
-use Rattle.bw_end_to_end.specs.UsedLinks.{UsedLink, AreSenderEnds, SendsOver, SendsOnOver, PendingHaveNumbers}
+use Rattle.bw_end_to_end.specs.UsedLinks.{UsedLink, AreSenderEnds, SendsOver, SendsOnOver}
+use Rattle.bw_end_to_end.specs.UsedLinks.{PendingHaveNumbers}
 
 -- a link as it was made, and its writer after its use
 abbrev pub used_link : {R W : Type 0} → Option (Duplex R W) → W → List (UsedLink R W)
@@ -71,8 +72,8 @@ module _ {F P D R W X : Type 0} (feed : FeedGhosts F X) (pause : PauseGhosts P)
       (links_in_course None went.events (starts (new_sender name) f p d) went.last went.went) links →
       SendsOver name requests went.last.filling.sender.verdicts links
 
-  -- The same where an upload goes on from a sender that had requests and verdicts before: those that
-  -- it had are the first of the requests, and each verdict that it has it had, or it came over a link.
+  -- The same of an upload that goes on from a sender with requests and verdicts: its earlier requests
+  -- are the first of these, and each verdict that it has then it had before, or it came over a link.
   abbrev pub UploadsSendOn : Type 0
   UploadsSendOn = (s : Defined) (sender : Sender) (outcome : Outcome X) (f f' : F) (p p' : P)
       (d d' : D) (went : Uploads feed pause dial reader writer most s sender outcome f f' p p' d d')

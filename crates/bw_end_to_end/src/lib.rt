@@ -6,6 +6,7 @@ ghost use Rattle.bw_end_to_end.specs.ExamplesOfPromises.{SenderOnExample};
 ghost use Rattle.bw_end_to_end.specs.Promises.{ClosedTakesHaveFiles, ClosedTakesHaveFilesOn};
 ghost use Rattle.bw_end_to_end.specs.Promises.{SendersCountTakes, SendersCountTakesOn};
 ghost use Rattle.bw_end_to_end.specs.SentFiles.{DoneFeedsAreStored};
+ghost use Rattle.bw_end_to_end.specs.SentFilesOn.{RecordingsAreStored, RestsSendRequests};
 ghost use Rattle.bw_end_to_end.specs.SentInRounds.{DoneSendsStoreAll, RoundsSendRequests};
 ghost use Rattle.bw_end_to_end.specs.ServedInTurn.{RunsAnswerInTurn};
 ghost use Rattle.bw_end_to_end.specs.ServedLinks.{ConnectionsAnswer};
@@ -45,8 +46,8 @@ pub fn law_sent<D: Dial>()
 {}
 
 /// The same of an upload, as `send --file` makes it: what it wrote over its links are the requests
-/// of its feed. Where it goes on from a sender that had requests and verdicts, as with a state file,
-/// each verdict is one that this sender had, or came over one of the links.
+/// of its feed. Where it goes on from a sender that had requests and verdicts, as with a state, each
+/// verdict is one that this sender had, or came over one of the links.
 pub fn law_uploaded<F: Feed, P: Pause, D: Dial>()
     ensures new { (most : Option ℕ) → UploadsSendRequests F.Feed P.Pause D.Dial D.Reader.Source
         D.Writer.Sink most }
@@ -58,6 +59,15 @@ pub fn law_uploaded<F: Feed, P: Pause, D: Dial>()
 /// Stored.
 pub fn law_file_sent<F: Feed<Fault = FeedFault>, P: Pause, D: Dial>()
     ensures { DoneFeedsAreStored F.Feed P.Pause D.Dial D.Reader.Source D.Writer.Sink }
+{}
+
+/// If `send --file --state` ended with status 0, each request of the recording has the verdict
+/// Stored in a sender that had it already for those that were passed over. What its upload wrote are
+/// these requests, and each verdict was there before, or came over one of its links: so it is a
+/// sender that goes on, as in `law_promise`.
+pub fn law_file_sent_on<F: Feed<Fault = FeedFault>, P: Pause, D: Dial>()
+    ensures stored_on { RecordingsAreStored F.Feed P.Pause D.Dial D.Reader.Source D.Writer.Sink }
+    ensures said_on { RestsSendRequests F.Feed P.Pause D.Dial D.Reader.Source D.Writer.Sink }
 {}
 
 /// What a server of many connections answered over a link are the first frames of the bytes that the
