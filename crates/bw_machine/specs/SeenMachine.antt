@@ -1,5 +1,5 @@
 -- What is seen of this machine's network and of its terminal.
-use Rattle.std.specs.Prelude.{ℕ, Bool, is_some}
+use Rattle.std.specs.Prelude.{ℕ, Bool, Option, is_some, option_map}
 use Rattle.bw_machine.specs.declared.network.TcpNetwork.{TcpNetwork}
 use Rattle.bw_machine.specs.declared.terminal.Terminal.{Terminal}
 
@@ -7,9 +7,10 @@ use Rattle.bw_machine.specs.declared.terminal.Terminal.{Terminal}
 abbrev pub network_failures : TcpNetwork → ℕ
 network_failures n = n.failures
 
--- whether a folder is locked for a server that the network started
-abbrev pub holds_lock : TcpNetwork → Bool
-holds_lock n = is_some n.lock
+-- whether names may rest in the latest server with journals that the network started, whose folder's
+-- lock it keeps
+abbrev pub started_with_rest : TcpNetwork → Option Bool
+started_with_rest n = option_map (λ kept. kept.rest) n.kept
 
 -- whether what is shown is seen
 abbrev pub terminal_is_seen : Terminal → Bool

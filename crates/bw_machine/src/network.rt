@@ -22,8 +22,20 @@ pub struct TcpNetwork<'a> {
     /// The spool, if there is one, is filled while a link's calls wait.
     pub(crate) spool: &'a SpoolCell,
     pub(crate) failures: u64,
-    /// The lock of the folder over which a server with journals was started.
-    pub(crate) lock: Option<FolderLock>,
+    /// What is kept of the latest start of a server with journals.
+    pub(crate) kept: Option<KeptStart>,
+}
+
+/// The lock of the folder over which a server with journals was started, and whether names may rest
+/// there.
+///
+/// The choice is kept for the clauses alone. None says what a `SystemDisk` holds, so what is proved
+/// of a start is about any disk; what is kept ties a call that starts over the program's own disk to
+/// it.
+#[derive(Drop)]
+pub(crate) struct KeptStart {
+    pub(crate) lock: FolderLock,
+    pub(crate) rest: bool,
 }
 
 impl<'a> TcpNetwork<'a> {
@@ -46,7 +58,7 @@ impl<'a> TcpNetwork<'a> {
             rt,
             spool,
             failures: 0,
-            lock: None,
+            kept: None,
         }
     }
 

@@ -4,7 +4,7 @@ ghost use Rattle.bw_machine.specs.StartsHere.{StartsHere, asked_for};
 ghost use Rattle.bw_stream.specs.Moves.{failures_after};
 
 use crate::locked::{Locked, start_locked};
-use crate::network::TcpNetwork;
+use crate::network::{KeptStart, TcpNetwork};
 use crate::terminal::Terminal;
 use bw_disk::{SystemDisk, Volume};
 use bw_folder::{FolderJournal, FolderStore};
@@ -19,8 +19,9 @@ pub trait MachineDisk<'a>: Volume {
     /// The disk that a runtime gives.
     ///
     /// # Not specified
-    /// Anything: that it shows the folders of this machine is a premise.
-    fn of_machine(rt: &'a HostRuntime) -> Self;
+    /// That it shows the folders of this machine: that is a premise.
+    fn of_machine(rt: &'a HostRuntime) -> Self
+        ensures unused { Self.calls result ≡ 0 };
 }
 
 impl<'a> MachineDisk<'a> for SystemDisk<&'a HostRuntime> {
@@ -37,11 +38,11 @@ pub type FolderServer<'a> = ServerOver<SystemDisk<&'a HostRuntime>>;
 
 impl<'a> Starts<FolderServer<'a>> for TcpNetwork<'a> {
     ghost use Rattle.bw_machine.specs.SeenMachine.{network_failures};
-    ghost use Rattle.bw_machine.specs.StartsHere.{StartsLocked};
+    ghost use Rattle.bw_machine.specs.StartsHere.{StartsAsked};
 
     ghost failures = { network_failures };
 
-    ghost starts = { StartsLocked };
+    ghost starts = { StartsAsked false };
 
     /// Refuses a folder in which names rest.
     fn start(
@@ -56,11 +57,11 @@ impl<'a> Starts<FolderServer<'a>> for TcpNetwork<'a> {
 
 impl<'a> StartsResting<FolderServer<'a>> for TcpNetwork<'a> {
     ghost use Rattle.bw_machine.specs.SeenMachine.{network_failures};
-    ghost use Rattle.bw_machine.specs.StartsHere.{StartsLocked};
+    ghost use Rattle.bw_machine.specs.StartsHere.{StartsAsked};
 
     ghost rest_failures = { network_failures };
 
-    ghost starts_resting = { StartsLocked };
+    ghost starts_resting = { StartsAsked true };
 
     fn start_resting(
         &mut self,
@@ -123,11 +124,12 @@ fn start_in<'a, D: MachineDisk<'a>>(
     let mut locks = HostRecordings::new(network.rt, network.spool);
     let (takes, notes) = (D::of_machine(network.rt), D::of_machine(network.rt));
     let mut watch = Terminal::new(network.rt);
+    let rest = settings.rest;
     match start_locked(
         alloc, &mut locks, takes, notes, folder, settings, &mut watch,
     ) {
         Ok(Locked { server, lock }) => {
-            network.lock = Some(lock);
+            network.kept = Some(KeptStart { lock, rest });
             Ok(server)
         }
         Err((refusal, _takes, _notes)) => {

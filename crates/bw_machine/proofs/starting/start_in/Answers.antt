@@ -5,14 +5,22 @@ use Rattle.bw_machine.proofs.starting.start_in.Goals as goal
 -- no file can be made in the folder
 pub returns-in-Err-clause-here : goal.returns-in-Err-clause-here
 returns-in-Err-clause-here g c =
-    record { set = tt; locked = refl; answer = Err (Unusable c.in-Err.error); met = refl }
+    record { set = tt; kept = refl; answer = Err (Unusable c.in-Err.error); met = refl }
 
 pub returns-in-Ok-clause-here : goal.returns-in-Ok-clause-here
 returns-in-Ok-clause-here g c =
     let met = c.in-Ok.ensures.met in
     record {
       set = c.in-Ok.ensures.set;
-      locked = refl;
+      kept = refl;
       answer = met.0;
-      met = (c.of_machine-takes.result, c.of_machine-notes.result, c.in-Ok.field-0.lock, met.2);
+      met = (
+        c.of_machine-takes.result,
+        c.of_machine-notes.result,
+        c.in-Ok.field-0.lock,
+        c.of_machine-takes.ensures.unused,
+        c.of_machine-notes.ensures.unused,
+        refl,
+        met.2,
+      );
     }
