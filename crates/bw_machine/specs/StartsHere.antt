@@ -7,7 +7,7 @@ use Rattle.bw_journal.specs.declared.journal.Journal.{Ghosts as JournalGhosts}
 use Rattle.bw_lock.specs.declared.folder_locks.LockRefusal.{LockRefusal}
 use Rattle.bw_machine.specs.LockedStarts.{IsRefusalBy, StartsUnder, refusal_by}
 use Rattle.bw_machine.specs.SeenMachine.{started_with_rest}
-use Rattle.bw_machine.specs.declared.network.KeptStart.{KeptStart}
+use Rattle.bw_machine.specs.declared.locked.KeptStart.{KeptStart}
 use Rattle.bw_machine.specs.declared.network.TcpNetwork.{TcpNetwork}
 use Rattle.bw_net.specs.declared.lock.FolderLock.{FolderLock}
 use Rattle.bw_ports.specs.declared.starts.StartRefusal.{StartRefusal}
@@ -48,8 +48,7 @@ module _ {D F : Type 0} (G : DiskGhosts D F) where
     pub kept : MatchResult result (λ _. started_with_rest n' ≡ Some settings.rest) (λ _. n'.kept ≡ n.kept)
     pub answer : Result FolderLock LockRefusal
     pub met : MatchResult result
-        (λ server. (takes : D) × (notes : D) × (lock : FolderLock)
-        × (G.calls takes ≡ 0) × (G.calls notes ≡ 0)
-        × (n'.kept ≡ Some (record { lock = lock; rest = settings.rest }))
-        × StartsUnder G G answer settings folder takes notes server lock)
+        (λ server. (takes : D) × (notes : D) × (kept : KeptStart FolderLock)
+        × (G.calls takes ≡ 0) × (G.calls notes ≡ 0) × (n'.kept ≡ Some kept)
+        × StartsUnder G G answer settings folder takes notes server kept.lock)
         (IsRefusedHere answer settings folder)

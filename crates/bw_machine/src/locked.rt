@@ -13,15 +13,26 @@ use bw_session::Server;
 use bw_start::{FolderFault, Settings, StartFault, StartWatch, start_over};
 use std::alloc::Global;
 
-/// A server over a folder, and the lock of that folder.
+/// A server over a folder, and what is kept of its start.
 #[derive(Drop)]
 pub(crate) struct Locked<S, K> {
     pub(crate) server: S,
-    pub(crate) lock: K,
+    pub(crate) kept: KeptStart<K>,
+}
+
+/// The lock of the folder over which a server was started, and whether names may rest there.
+///
+/// The choice is kept for the clauses alone. None says what a `SystemDisk` holds, so what is proved
+/// of a start is about any disk; what is kept ties a call that starts over the program's own disk
+/// to it. Only `start_locked` makes one.
+#[derive(Drop)]
+pub(crate) struct KeptStart<K> {
+    lock: K,
+    rest: bool,
 }
 
 /// Starts a server over what an earlier one left in a folder, as `start_over` does, once the folder
-/// is locked. The lock comes with the server; where none is started, it is given back.
+/// is locked. The lock is kept beside the server; where none is started, it is given back.
 ///
 /// # Errors
 /// The refusal, with both disks: they are as they were if the folder isn't locked.
@@ -40,17 +51,22 @@ pub(crate) fn start_locked<L: FolderLocks, D: Volume, E: Volume, W: StartWatch>(
 ) -> Result<Locked<Server<FolderStore<D>, FolderJournal<E>>, L::Lock>, (StartRefusal, D, E)>
     ensures met { (answer : Result L.Lock Refusal) × L.locks locks.old folder.now answer locks.new
         × MatchResult result (λ started. StartsUnder D.Disk E.Disk answer settings folder.now
-        takes notes started.server started.lock)
+        takes notes started.server started.kept.lock)
         (λ e. RefusesUnder D.Disk E.Disk answer settings folder.now takes notes e.0 e.1 e.2) }
     ensures set { IfOk result (λ started.
         IsSetTo settings.limit folder.now settings.sync started.server) }
+    ensures rest { IfOk result (λ started. started.kept.rest ≡ settings.rest) }
 {
     let lock = match locks.lock(folder) {
         Ok(lock) => lock,
         Err(refusal) => return Err((refusal_by_lock(refusal), takes, notes)),
     };
+    let rest = settings.rest;
     match start_over(alloc, takes, notes, folder, settings, watch) {
-        Ok(server) => Ok(Locked { server, lock }),
+        Ok(server) => Ok(Locked {
+            server,
+            kept: KeptStart { lock, rest },
+        }),
         Err((fault, takes, notes)) => Err((refusal_of(alloc, folder, &fault), takes, notes)),
     }
 }

@@ -4,6 +4,7 @@ ghost use Rattle.std.specs.Duration.{as_nanos};
 ghost use Rattle.bw_folder.specs.TakeFolders.{takes_folder};
 
 use crate::journals::refuse_journals;
+use crate::locked::KeptStart;
 use bw_disk::SystemDisk;
 use bw_folder::FolderStore;
 use bw_net::{FolderLock, SpoolCell, TcpDial, TcpPeers, TcpReactor, check_folder};
@@ -23,19 +24,7 @@ pub struct TcpNetwork<'a> {
     pub(crate) spool: &'a SpoolCell,
     pub(crate) failures: u64,
     /// What is kept of the latest start of a server with journals.
-    pub(crate) kept: Option<KeptStart>,
-}
-
-/// The lock of the folder over which a server with journals was started, and whether names may rest
-/// there.
-///
-/// The choice is kept for the clauses alone. None says what a `SystemDisk` holds, so what is proved
-/// of a start is about any disk; what is kept ties a call that starts over the program's own disk to
-/// it.
-#[derive(Drop)]
-pub(crate) struct KeptStart {
-    pub(crate) lock: FolderLock,
-    pub(crate) rest: bool,
+    pub(crate) kept: Option<KeptStart<FolderLock>>,
 }
 
 impl<'a> TcpNetwork<'a> {

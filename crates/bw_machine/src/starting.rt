@@ -4,7 +4,7 @@ ghost use Rattle.bw_machine.specs.StartsHere.{StartsHere, asked_for};
 ghost use Rattle.bw_stream.specs.Moves.{failures_after};
 
 use crate::locked::{Locked, start_locked};
-use crate::network::{KeptStart, TcpNetwork};
+use crate::network::TcpNetwork;
 use crate::terminal::Terminal;
 use bw_disk::{SystemDisk, Volume};
 use bw_folder::{FolderJournal, FolderStore};
@@ -124,12 +124,11 @@ fn start_in<'a, D: MachineDisk<'a>>(
     let mut locks = HostRecordings::new(network.rt, network.spool);
     let (takes, notes) = (D::of_machine(network.rt), D::of_machine(network.rt));
     let mut watch = Terminal::new(network.rt);
-    let rest = settings.rest;
     match start_locked(
         alloc, &mut locks, takes, notes, folder, settings, &mut watch,
     ) {
-        Ok(Locked { server, lock }) => {
-            network.kept = Some(KeptStart { lock, rest });
+        Ok(Locked { server, kept }) => {
+            network.kept = Some(kept);
             Ok(server)
         }
         Err((refusal, _takes, _notes)) => {

@@ -1,4 +1,4 @@
-use Rattle.std.proofs.Common.{Err, refl}
+use Rattle.std.proofs.Common.{Err, Some, ap, refl}
 use Rattle.bw_lock.specs.declared.folder_locks.LockRefusal.TheVariants.{Unusable}
 use Rattle.bw_machine.proofs.starting.start_in.Goals as goal
 
@@ -12,12 +12,12 @@ returns-in-Ok-clause-here g c =
     let met = c.in-Ok.ensures.met in
     record {
       set = c.in-Ok.ensures.set;
-      kept = refl;
+      kept = ap Some c.in-Ok.ensures.rest;
       answer = met.0;
       met = (
         c.of_machine-takes.result,
         c.of_machine-notes.result,
-        c.in-Ok.field-0.lock,
+        c.in-Ok.field-0.kept,
         c.of_machine-takes.ensures.unused,
         c.of_machine-notes.ensures.unused,
         refl,
