@@ -64,14 +64,14 @@ def owner_line(lines, number):
 
 def owner_of(line, module, homes):
     """What comes before the names of the functions of an `impl` or a trait: the module (without a trait that of the
-    type), and in one word the type, what it is given but for the names that the `impl` itself declares, the trait and
-    what that is given. For a type's own functions all that it is given is named, where any of it is no such name, or
+    type), and in one word the type, what it is given (`Ref` for a reference) but for the names that the `impl` itself
+    declares, the trait and what that is given. For a type's own functions all that it is given is named, where any of it is no such name, or
     where it is fewer than the type has parameters, as some have a default."""
     head = re.match(r".*?\b(?:impl|trait)\b(?:<((?:[^<>]|<(?:[^<>]|<[^<>]*>)*>)*)>)?", line)
     trait, _, owner = line[head.end() :].strip().rpartition(" for ")
     words = [re.match(r"\w*", re.sub(r"^(\w+::)*", "", it.strip()))[0] for it in (owner, trait)]
     declared = set(re.findall(r"(?:^|,) *(\w+)", head[1] or ""))
-    given = re.findall(r"\w+", re.sub(r"'\w+", "", owner.partition("<")[2]))
+    given = [it.replace("&", "Ref") for it in re.findall(r"&|\w+", re.sub(r"'\w+", "", owner.partition("<")[2]))]
     others = [it for it in given if it not in declared]
     if not trait:
         home, count = homes.get(words[0], (module, 0))
