@@ -65,8 +65,8 @@ def owner_line(lines, number):
 def owner_of(line, module, homes):
     """What comes before the names of the functions of an `impl` or a trait: the module (without a trait that of the
     type), and in one word the type, what it is given (`Ref` for a reference) but for the names that the `impl` itself
-    declares, the trait and what that is given. For a type's own functions all that it is given is named, where any of it is no such name, or
-    where it is fewer than the type has parameters, as some have a default."""
+    declares, the trait and what that is given. For a type's own functions all that it is given is named, where any of
+    it is no such name, or where it is fewer than the type has parameters, as some have a default."""
     head = re.match(r".*?\b(?:impl|trait)\b(?:<((?:[^<>]|<(?:[^<>]|<[^<>]*>)*>)*)>)?", line)
     trait, _, owner = line[head.end() :].strip().rpartition(" for ")
     words = [re.match(r"\w*", re.sub(r"^(\w+::)*", "", it.strip()))[0] for it in (owner, trait)]
