@@ -25,8 +25,8 @@ use Rattle.bw_left.specs.RestingSenders.{WasSent}
 abbrev pub close_of : List ℕ → Frame
 close_of name = Says (record { name = name; number = 2; request = Close 2 })
 
--- `a1` rests, and can't be woken at first: its CLOSE, which comes again, is put off. Then it wakes, and
--- the CLOSE gets its first verdict; an ask gets how many of its numbers are done. `b2` is closed.
+-- The CLOSE of `a1` comes again and is put off, which changes no book. When it comes once more, it gets
+-- its first verdict; an ask gets how many of its numbers are done. `b2` is closed.
 abbrev pub answers_of_two : List Answered
 answers_of_two =
     record { frame = close_of a1; replies = Noticed a1 2 DelayedStore 0 ∷ [] }
@@ -38,15 +38,16 @@ answers_of_two =
 abbrev pub book_of_both : Book
 book_of_both = (a1, log_closed) ∷ (b2, log_closed) ∷ []
 
--- That is a run over the folder's book, in which one call failed.
+-- That is a run over the folder's book. Why a frame is put off `IsFolderRun` doesn't say, nor how many
+-- calls failed then: `FolderTurn` does, of a server.
 abbrev pub FolderRunExample : Type 0
 FolderRunExample = IsFolderRun nothing_stands 0 1 book_of_two answers_of_two book_of_both
 
 module _ {D E F H : Type 0} (G : DiskGhosts D F) (K : DiskGhosts E H)
     (S : StoreGhosts (FolderStore D F G)) (J : JournalGhosts (FolderJournal E H K))
     (R : JournalGhosts (RestingFolderJournal E H K)) where
-  -- A server whose names rest that answered what was worked out for `examples_of_deliveries`, over those
-  -- links, was sent that take.
+  -- `WasSent` asks nothing of a run but its answers: with the worked trace, over the worked links, it
+  -- holds of each run.
   abbrev pub SentRunExample : Type 0
   SentRunExample = (run : RestingRun G K S J R) → run.answered ≡ all_answered worked_trace →
       WasSent G K S J R a1 small_take (record { run = run; trace = worked_trace; links = worked_links })

@@ -88,8 +88,9 @@ pub fn examples_of_rest()
     ensures { RestingFolderExample }
 {}
 
-/// Worked rows: frames that are answered over that folder, and a run to which a sender's requests came
-/// over links. That servers answer so is what `two_runs` of `bw_tests_stops` runs.
+/// Worked rows: frames that are answered over that folder, and answers to frames that came over a
+/// sender's links. That servers run as the laws ask is proved of two that ran: `two_runs` of
+/// `bw_tests_stops`.
 pub fn examples_of_runs<D: Volume, E: Volume>()
     ensures folder { FolderRunExample }
     ensures sent { SentRunExample D.Disk E.Disk ⟦<FolderStore<D> as TakeStore>⟧
