@@ -13,7 +13,7 @@ use Rattle.bw_wire.specs.Replies.{reply_of}
 use Rattle.bw_session.specs.declared.server.Server.{Server}
 use Rattle.bw_left.specs.LeftFolders.{GoesAhead}
 use Rattle.bw_left.specs.StoppedLives.{StoppedLife}
-use Rattle.bw_left.specs.StoppedTurns.{RunsHonestly, HadTurns, IsKilled, KilledServersAreLeft, answered_in}
+use Rattle.bw_left.specs.StoppedTurns.{RunsHonestly, HadTurns, IsKilled, KilledServersAreLeft, answered_turn}
 use Rattle.bw_left.proofs.StoppedServers.{leaves_honestly, stops}
 
 module _ {X Y : Type 0} (S : StoreGhosts X) (J : JournalGhosts Y) (first : List ℕ → Option (List ℕ)) where
@@ -31,8 +31,8 @@ module _ {X Y : Type 0} (S : StoreGhosts X) (J : JournalGhosts Y) (first : List 
       began = refl;
       answers = ap (λ (rs : List ModelReply). record { frame = Says t.0; replies = rs }
           ∷ answers_in (run existed (turn existed book (Says t.0) faults).1 life.turns)) answered
-          ∙ ap (λ (b : Book). answered_in t ∷ answers_in (run existed b life.turns)) e
-          ∙ ap (λ (rest : List Answered). answered_in t ∷ rest) k.answers;
+          ∙ ap (λ (b : Book). answered_turn t ∷ answers_in (run existed b life.turns)) e
+          ∙ ap (λ (rest : List Answered). answered_turn t ∷ rest) k.answers;
       ahead = subst (λ (b : Book). GoesAhead (book_after existed b life.turns) life.left) (sym e) k.ahead;
       left = k.left;
     },

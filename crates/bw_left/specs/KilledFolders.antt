@@ -18,7 +18,7 @@ use Rattle.bw_start.specs.Started.{IsLeftIn}
 use Rattle.bw_left.specs.LeftFolders.{GoesAhead}
 use Rattle.bw_left.specs.ShownFolders.{ShowsFolder}
 use Rattle.bw_left.specs.StoppedLives.{StoppedLife}
-use Rattle.bw_left.specs.StoppedTurns.{RunsHonestly, HadTurns, answered_in}
+use Rattle.bw_left.specs.StoppedTurns.{RunsHonestly, HadTurns, answered_turn}
 
 module _ {D E F H : Type 0} (G : DiskGhosts D F) (K : DiskGhosts E H)
     (S : StoreGhosts (FolderStore D F G)) (J : JournalGhosts (FolderJournal E H K)) where
@@ -28,7 +28,7 @@ module _ {D E F H : Type 0} (G : DiskGhosts D F) (K : DiskGhosts E H)
       (ts : List (Message × List Reply)) (new : Server (FolderStore D F G) (FolderJournal E H K) S J)
       (notes takes : List ℕ → Option (List ℕ)) (life : StoppedLife) : Type 0 where
     pub began : life.began ≡ book
-    pub answers : answers_in (run (λ name. is_some (first name)) book life.turns) ≡ map answered_in ts
+    pub answers : answers_in (run (λ name. is_some (first name)) book life.turns) ≡ map answered_turn ts
     pub ahead : GoesAhead (book_after (λ name. is_some (first name)) book life.turns) life.left
     pub left : IsLeftIn (server_limit new) (takes_folder (server_store new)) first life.left notes takes
 

@@ -19,8 +19,8 @@ use Rattle.bw_left.specs.LeftFolders.{RunsOver, LeavesLater, GoesAhead, HasNoFor
 use Rattle.bw_left.specs.StoppedLives.{StoppedLife}
 
 -- a message that had its turn, and its replies, in the definitions' words
-abbrev pub answered_in : Message × List Reply → Answered
-answered_in t = record { frame = Says t.0; replies = map reply_of t.1 }
+abbrev pub answered_turn : Message × List Reply → Answered
+answered_turn t = record { frame = Says t.0; replies = map reply_of t.1 }
 
 module _ {X Y : Type 0} (S : StoreGhosts X) (J : JournalGhosts Y) where
   -- The server holds the book over an honest store, and an honest journal has what the book says,
@@ -65,7 +65,7 @@ module _ {X Y : Type 0} (S : StoreGhosts X) (J : JournalGhosts Y) where
   pub record IsKilled (first : List ℕ → Option (List ℕ)) (book : Book)
       (ts : List (Message × List Reply)) (new : Server X Y S J) (life : StoppedLife) : Type 0 where
     pub began : life.began ≡ book
-    pub answers : answers_in (run (λ name. is_some (first name)) book life.turns) ≡ map answered_in ts
+    pub answers : answers_in (run (λ name. is_some (first name)) book life.turns) ≡ map answered_turn ts
     pub ahead : GoesAhead (book_after (λ name. is_some (first name)) book life.turns) life.left
     pub left : IsLeft (server_limit new) first life.left (J.notes (server_journal new))
         (S.contents (server_store new))

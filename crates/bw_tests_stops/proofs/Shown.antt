@@ -9,7 +9,7 @@ use Rattle.bw_disk.specs.MemoryDisks.{copied_at}
 use Rattle.bw_start.specs.Paths.{path_with, wave_path, notes_path, rest_path}
 use Rattle.bw_left.specs.ShownFolders.{ShowsRestingFolder}
 use Rattle.bw_stops.proofs.Endings.{ends_so, ends_other}
-use Rattle.bw_tests_stops.specs.RestingRuns.{Paths, nothing}
+use Rattle.bw_tests_stops.specs.RestingRuns.{Paths, no_files}
 
 path_is : (folder ending name : List ℕ) → path_with folder ending name ≡ (folder ++ codes "/" ++ name) ++ ending
 unfolding path_with
@@ -85,7 +85,7 @@ third_copy note (Some x) = refl
 module _ (notes takes : Paths) where
   -- what the disk of the journals shows
   abbrev pub all_copied : Paths
-  all_copied = copied_at (codes ".wav") (copied_at (codes ".closed") (copied_at (codes ".journal") nothing notes) notes)
+  all_copied = copied_at (codes ".wav") (copied_at (codes ".closed") (copied_at (codes ".journal") no_files notes) notes)
       takes
 
   at_path : (folder name : List ℕ) (e : Ending) → all_copied (path_with folder (text e) name)

@@ -29,9 +29,9 @@ use Rattle.bw_left.specs.ShownFolders.{ShowsRestingFolder}
 use Rattle.bw_left.proofs.NewFolders.{empty_folders, new_folders}
 use Rattle.bw_stops.specs.Machines.{the_folder}
 use Rattle.bw_stops.specs.declared.machine.Folder.{Folder}
-use Rattle.bw_tests_stops.specs.RestingRuns.{BeganOver, FailedOver, GivesEach, Leaves, Paths, RanOver, RanTwice}
-use Rattle.bw_tests_stops.specs.RestingRuns.{ShowsAgain, answered_of, nothing, settings_with}
-use Rattle.bw_tests_stops.specs.declared.answering.Answer.{Answer}
+use Rattle.bw_tests_stops.specs.RestingRuns.{BeganOver, FailedOver, AnswersBodies, LeavesFolder, Paths, RanOver, RanTwice}
+use Rattle.bw_tests_stops.specs.RestingRuns.{ShowsAgain, answered_of, no_files, settings_with}
+use Rattle.bw_tests_stops.specs.declared.answering.GivenAnswer.{GivenAnswer}
 use Rattle.bw_tests_stops.specs.declared.runs.TwoRuns.{TwoRuns}
 
 module _ {D E F H : Type 0} (G : DiskGhosts D F) (K : DiskGhosts E H)
@@ -93,11 +93,11 @@ module _ {D E F H : Type 0} (G : DiskGhosts D F) (K : DiskGhosts E H)
       }
 
   -- a server that began over a folder, gave these answers and left this ran as the laws ask
-  pub ran_over : (limit : ℕ) (folder left : Folder) (answers : List Answer)
+  pub ran_over : (limit : ℕ) (folder left : Folder) (answers : List GivenAnswer)
       (began ended : RestingServer (FolderStore D F G) (RestingFolderJournal E H K) S R) →
       BeganOver G K S J R limit folder began → IsTrue (S.honest (server_store (table_server began))) →
-      IsTrue (R.honest (server_journal (table_server began))) → GivesEach S R began answers ended →
-      Leaves G K S J R ended left → RanOver G K S J R limit folder answers left
+      IsTrue (R.honest (server_journal (table_server began))) → AnswersBodies S R began answers ended →
+      LeavesFolder G K S J R ended left → RanOver G K S J R limit folder answers left
   ran_over limit folder left answers began ended started honest honest_notes went leaves = record {
     began = table_server began;
     ended = table_server ended;
@@ -110,7 +110,7 @@ module _ {D E F H : Type 0} (G : DiskGhosts D F) (K : DiskGhosts E H)
   }
 
   -- a run is one that the laws take, with the starts that failed after it
-  abbrev goes_on : (limit : ℕ) (before left : Folder) (answers : List Answer) (ran : RanOver G K S J R limit before answers left)
+  abbrev goes_on : (limit : ℕ) (before left : Folder) (answers : List GivenAnswer) (ran : RanOver G K S J R limit before answers left)
       (at_notes at_takes : Paths) → disk_content before.notes ≡ at_notes → disk_content before.takes ≡ at_takes →
       (failing : List (FailedRestingStart G K limit the_folder)) (notes takes : Paths) →
       RestingStartsFail G K limit the_folder failing (disk_content left.notes) (disk_content left.takes) notes takes →
@@ -147,8 +147,8 @@ module _ {D E F H : Type 0} (G : DiskGhosts D F) (K : DiskGhosts E H)
       RanTwice G K S J R limit it
   ran_twice limit empty left given back again last shown it small no_notes no_takes law one shows_given failed shows_again
       two shows_last is =
-      let n : disk_content empty.notes ≡ nothing = fun_ext no_notes in
-      let t : disk_content empty.takes ≡ nothing = fun_ext no_takes in
+      let n : disk_content empty.notes ≡ no_files = fun_ext no_notes in
+      let t : disk_content empty.takes ≡ no_files = fun_ext no_takes in
       let f = failed.start.failed in
       let first_shown : ShowsRestingFolder the_folder (disk_content left.notes) (disk_content left.takes)
       (K.contents f.notes) (G.contents f.takes) =
@@ -162,11 +162,11 @@ module _ {D E F H : Type 0} (G : DiskGhosts D F) (K : DiskGhosts E H)
       (disk_content again.takes)) (sym failed.notes_back)
       (subst (λ (x : Paths). ShowsRestingFolder the_folder (disk_content back.notes) x (disk_content again.notes)
       (disk_content again.takes)) (sym failed.takes_back) shows_again) in
-      let run_one = goes_on limit empty left it.first.items one nothing nothing n t (failed.start ∷ [])
+      let run_one = goes_on limit empty left it.first.items one no_files no_files n t (failed.start ∷ [])
       (disk_content again.notes) (disk_content again.takes) (first_shown, then_shown) in
       let run_two = goes_on limit again last it.second.items two (disk_content again.notes) (disk_content again.takes) refl
       refl [] (disk_content shown.notes) (disk_content shown.takes) shows_last in
-      let is_new = empty_folders the_folder nothing nothing (λ name. refl) (λ name. refl) (λ name. refl) (λ name. refl) in
+      let is_new = empty_folders the_folder no_files no_files (λ name. refl) (λ name. refl) (λ name. refl) (λ name. refl) in
       record {
         one = _;
         two = _;
@@ -176,7 +176,7 @@ module _ {D E F H : Type 0} (G : DiskGhosts D F) (K : DiskGhosts E H)
         second = refl;
         notes = ap (λ (x : Folder). disk_content x.notes) is;
         takes = ap (λ (x : Folder). disk_content x.takes) is;
-        verdicts = law limit the_folder nothing nothing nothing [] _ small
-            (new_folders limit the_folder nothing nothing nothing is_new).1 (λ name bytes named none stood. cc)
+        verdicts = law limit the_folder no_files no_files no_files [] _ small
+            (new_folders limit the_folder no_files no_files no_files is_new).1 (λ name bytes named none stood. cc)
             (run_one, (run_two, tt));
       }

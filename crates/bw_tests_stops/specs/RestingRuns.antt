@@ -26,7 +26,7 @@ use Rattle.bw_left.specs.RestingLives.{RestingRun, FollowResting, LeavesVerdicts
 use Rattle.bw_left.specs.ShownFolders.{ShowsRestingFolder}
 use Rattle.bw_stops.specs.Machines.{the_folder}
 use Rattle.bw_stops.specs.declared.machine.Folder.{Folder}
-use Rattle.bw_tests_stops.specs.declared.answering.Answer.{Answer}
+use Rattle.bw_tests_stops.specs.declared.answering.GivenAnswer.{GivenAnswer}
 use Rattle.bw_tests_stops.specs.declared.runs.TwoRuns.{TwoRuns}
 
 -- what is at each path
@@ -34,19 +34,19 @@ abbrev pub Paths : Type 0
 Paths = List ℕ → Option (List ℕ)
 
 -- nothing is, anywhere
-abbrev pub nothing : Paths
-nothing path = None
+abbrev pub no_files : Paths
+no_files path = None
 
 -- without syncs, and names rest
 abbrev pub settings_with : ℕ → Settings
 settings_with limit = record { limit = limit; sync = false; rest = true }
 
 -- a message and the replies to it, in the definitions' words
-abbrev pub answered_of : Answer → Answered
+abbrev pub answered_of : GivenAnswer → Answered
 answered_of a = record { frame = Says (message_in a.body.items); replies = map reply_of a.replies.items }
 
 -- the bodies that were answered
-abbrev pub bodies_of : List Answer → List (List ℕ)
+abbrev pub bodies_of : List GivenAnswer → List (List ℕ)
 bodies_of answers = map (λ a. a.body.items) answers
 
 -- one folder shows another as it was left
@@ -56,13 +56,13 @@ ShowsAgain left shown = ShowsRestingFolder the_folder (disk_content left.notes) 
 
 module _ {X Y : Type 0} (S : StoreGhosts X) (J : JournalGhosts Y) where
   -- a server gives these replies to this body
-  abbrev pub Gives : RestingServer X Y S J → List ℕ → List Reply → RestingServer X Y S J → Type 0
-  Gives old body replies new = RestingTurn S J (table_server old) (Says (message_in body))
+  abbrev pub AnswersBody : RestingServer X Y S J → List ℕ → List Reply → RestingServer X Y S J → Type 0
+  AnswersBody old body replies new = RestingTurn S J (table_server old) (Says (message_in body))
       (map reply_of replies) (table_server new)
 
   -- and these answers, one after another
-  abbrev pub GivesEach : RestingServer X Y S J → List Answer → RestingServer X Y S J → Type 0
-  GivesEach old answers new = AnswersAll (RestingTurn S J) (table_server old) (map answered_of answers)
+  abbrev pub AnswersBodies : RestingServer X Y S J → List GivenAnswer → RestingServer X Y S J → Type 0
+  AnswersBodies old answers new = AnswersAll (RestingTurn S J) (table_server old) (map answered_of answers)
       (table_server new)
 
 module _ {D E F H : Type 0} (G : DiskGhosts D F) (K : DiskGhosts E H)
@@ -75,14 +75,14 @@ module _ {D E F H : Type 0} (G : DiskGhosts D F) (K : DiskGhosts E H)
       (disk_content folder.notes) (disk_content folder.takes) (table_server server)
 
   -- its disks have what the folder has
-  pub record Leaves (server : RestingServer (FolderStore D F G) (RestingFolderJournal E H K) S R)
+  pub record LeavesFolder (server : RestingServer (FolderStore D F G) (RestingFolderJournal E H K) S R)
       (left : Folder) : Type 0 where
     pub takes : G.contents (takes_disk (server_store (table_server server))) ≡ disk_content left.takes
     pub notes : K.contents (disk_of_all (server_journal (table_server server))) ≡ disk_content left.notes
 
   -- A server ran over a folder, gave these answers, and left this: as `RanResting` asks, but for what
   -- comes after it.
-  pub record RanOver (limit : ℕ) (folder : Folder) (answers : List Answer) (left : Folder) : Type 0 where
+  pub record RanOver (limit : ℕ) (folder : Folder) (answers : List GivenAnswer) (left : Folder) : Type 0 where
     pub began : Server (FolderStore D F G) (RestingFolderJournal E H K) S R
     pub ended : Server (FolderStore D F G) (RestingFolderJournal E H K) S R
     pub started : WasStartedResting G K S J R (settings_with limit) the_folder (disk_content folder.notes)
@@ -106,10 +106,10 @@ module _ {D E F H : Type 0} (G : DiskGhosts D F) (K : DiskGhosts E H)
   pub record RanTwice (limit : ℕ) (it : TwoRuns) : Type 0 where
     pub one : RestingRun G K S J R
     pub two : RestingRun G K S J R
-    pub followed : FollowResting G K S J R limit the_folder nothing nothing (one ∷ two ∷ [])
+    pub followed : FollowResting G K S J R limit the_folder no_files no_files (one ∷ two ∷ [])
     pub failed_start : length followed.0.failing ≡ 1
     pub first : one.answered ≡ map answered_of it.first.items
     pub second : two.answered ≡ map answered_of it.second.items
     pub notes : two.notes ≡ disk_content it.left.notes
     pub takes : two.takes ≡ disk_content it.left.takes
-    pub verdicts : LeavesVerdicts G K S J R limit the_folder nothing nothing nothing [] (one ∷ two ∷ [])
+    pub verdicts : LeavesVerdicts G K S J R limit the_folder no_files no_files no_files [] (one ∷ two ∷ [])

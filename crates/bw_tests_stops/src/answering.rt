@@ -1,8 +1,8 @@
 //! A server whose names rest, over disks in memory that may die, and its answers to messages.
 ghost use Rattle.std.specs.Prelude.{◌≡◌, map, IfOk};
-ghost use Rattle.bw_tests_stops.specs.RestingRuns.{Gives, GivesEach, bodies_of};
+ghost use Rattle.bw_tests_stops.specs.RestingRuns.{AnswersBody, AnswersBodies, bodies_of};
 
-use crate::runs::RunFault;
+use crate::runs::TwoRunsFault;
 use arrayvec::ArrayVec;
 use bw_disk::{MemoryDisk, MortalDisk};
 use bw_exchange::Turns;
@@ -21,14 +21,14 @@ pub(crate) type RestingOver = RestingServer<FolderStore<Mortal>, RestingFolderJo
 
 /// A message's body, and the replies to it.
 #[derive(Drop)]
-pub struct Answer {
+pub struct GivenAnswer {
     /// The body.
     pub body: Vec<u8>,
     /// The replies.
     pub replies: ArrayVec<Reply, 17>,
 }
 
-/// Gives a server these messages, one after another.
+/// AnswersBody a server these messages, one after another.
 ///
 /// # Errors
 /// `Memory` if memory was refused, `Message` if a body is no message.
@@ -36,8 +36,8 @@ pub(crate) fn answer_each(
     alloc: Global,
     server: &mut RestingOver,
     bodies: Vec<Vec<u8>>,
-) -> Result<Vec<Answer>, RunFault>
-    ensures went { IfOk result (λ answers. GivesEach ⟦<FolderStore<Mortal> as TakeStore>⟧
+) -> Result<Vec<GivenAnswer>, TwoRunsFault>
+    ensures went { IfOk result (λ answers. AnswersBodies ⟦<FolderStore<Mortal> as TakeStore>⟧
         ⟦<RestingFolderJournal<Mortal> as Journal>⟧ server.old answers.items server.new) }
     ensures bodies { IfOk result (λ answers.
         bodies_of answers.items ≡ map (λ b. b.items) bodies.items) }
@@ -45,23 +45,23 @@ pub(crate) fn answer_each(
     let mut answers = Vec::new(alloc);
     for body in bodies {
         let replies = give(server, body.as_slice())?;
-        let Ok(()) = answers.push(Answer { body, replies }) else {
-            return Err(RunFault::Memory);
+        let Ok(()) = answers.push(GivenAnswer { body, replies }) else {
+            return Err(TwoRunsFault::Memory);
         };
     }
     Ok(answers)
 }
 
-/// Gives a server a message.
+/// AnswersBody a server a message.
 ///
 /// # Errors
 /// `Message` if the body is none.
-fn give(server: &mut RestingOver, body: &[u8]) -> Result<ArrayVec<Reply, 17>, RunFault>
-    ensures turned { IfOk result (λ replies. Gives ⟦<FolderStore<Mortal> as TakeStore>⟧
+fn give(server: &mut RestingOver, body: &[u8]) -> Result<ArrayVec<Reply, 17>, TwoRunsFault>
+    ensures turned { IfOk result (λ replies. AnswersBody ⟦<FolderStore<Mortal> as TakeStore>⟧
         ⟦<RestingFolderJournal<Mortal> as Journal>⟧ server.old body.now replies.items server.new) }
 {
     let Ok(Frame::Message(message)) = decode(body) else {
-        return Err(RunFault::Message);
+        return Err(TwoRunsFault::Message);
     };
     let mut replies = ArrayVec::new();
     server.turn(&message, &mut replies);

@@ -13,5 +13,5 @@ mod starts;
 #[cfg(test)]
 mod stops;
 
-pub use answering::Answer;
-pub use runs::{RunFault, TwoRuns, two_runs};
+pub use answering::GivenAnswer;
+pub use runs::{TwoRuns, TwoRunsFault, two_runs};

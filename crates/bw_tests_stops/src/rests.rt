@@ -1,7 +1,7 @@
 //! Servers of more takes than a table has places for: of 257 names one rests, and wakes at its next
 //! message. What a run shows, `two_runs` states for every run: these are some that end well.
-use crate::answering::Answer;
-use crate::runs::{RunFault, TwoRuns, two_runs};
+use crate::answering::GivenAnswer;
+use crate::runs::{TwoRuns, TwoRunsFault, two_runs};
 use bw_disk::MemoryDisk;
 use bw_layout::Limit;
 use bw_request::Verdict;
@@ -58,13 +58,13 @@ fn second(alloc: Global) -> Result<Vec<Vec<u8>>, AllocError> {
 }
 
 /// Both servers, and a start between them by disks that die so.
-fn run(alloc: Global, failing: &Lives) -> Result<Result<TwoRuns, RunFault>, Fail> {
+fn run(alloc: Global, failing: &Lives) -> Result<Result<TwoRuns, TwoRunsFault>, Fail> {
     let limit = Limit::new(8_192).ok_or("a limit")?;
     Ok(two_runs(alloc, limit, first(alloc)?, failing, second(alloc)?))
 }
 
 /// Whether the one reply to a message is the verdict Stored on its number.
-fn is_stored(answer: &Answer) -> bool {
+fn is_stored(answer: &GivenAnswer) -> bool {
     let body = answer.body.as_slice();
     let [
         Reply::Verdict {
@@ -140,6 +140,6 @@ fn a_start_by_disks_that_live_does_not_fail(rt: HostRuntime) -> Result<(), Fail>
         reached: 0,
     };
     let answer = run(rt.alloc(), &failing)?;
-    assert!(rt; matches!(answer, Err(RunFault::Start)));
+    assert!(rt; matches!(answer, Err(TwoRunsFault::Start)));
     Ok(())
 }

@@ -1,10 +1,10 @@
 //! Two servers whose names rest, one after the other over a folder in memory, and a start between them
 //! that fails: what the laws of `bw_left` take as their premises holds of these.
 ghost use Rattle.std.specs.Prelude.{◌≡◌, map, IfOk};
-ghost use Rattle.bw_tests_stops.specs.RestingRuns.{RanTwice, RanOver, FailedOver, BeganOver, Leaves};
+ghost use Rattle.bw_tests_stops.specs.RestingRuns.{RanTwice, RanOver, FailedOver, BeganOver, LeavesFolder};
 ghost use Rattle.bw_tests_stops.specs.RestingRuns.{ShowsAgain, bodies_of, settings_with};
 
-use crate::answering::{Answer, Mortal, RestingOver, answer_each};
+use crate::answering::{GivenAnswer, Mortal, RestingOver, answer_each};
 use bw_disk::{Disk, MemoryDisk, MortalDisk};
 use bw_folder::{FolderJournal, FolderStore, RestingFolderJournal};
 use bw_journal::Journal;
@@ -28,7 +28,7 @@ const ENDLESS: Lives = Lives {
 
 /// Why servers didn't run so.
 #[derive(Clone, Copy, Debug, PartialEq, Eq)]
-pub enum RunFault {
+pub enum TwoRunsFault {
     /// Memory was refused.
     Memory,
     /// A body is no message.
@@ -37,9 +37,9 @@ pub enum RunFault {
     Start,
 }
 
-impl From<AllocError> for RunFault {
-    fn from(_: AllocError) -> RunFault {
-        RunFault::Memory
+impl From<AllocError> for TwoRunsFault {
+    fn from(_: AllocError) -> TwoRunsFault {
+        TwoRunsFault::Memory
     }
 }
 
@@ -47,7 +47,7 @@ impl From<AllocError> for RunFault {
 #[derive(Drop)]
 struct Ran {
     /// What it answered.
-    answers: Vec<Answer>,
+    answers: Vec<GivenAnswer>,
     /// What it left.
     left: Folder,
 }
@@ -56,9 +56,9 @@ struct Ran {
 #[derive(Drop)]
 pub struct TwoRuns {
     /// What the first answered.
-    pub first: Vec<Answer>,
+    pub first: Vec<GivenAnswer>,
     /// What the second answered.
-    pub second: Vec<Answer>,
+    pub second: Vec<GivenAnswer>,
     /// What the second left, as the next start is shown it.
     pub left: Folder,
 }
@@ -75,7 +75,7 @@ pub fn two_runs(
     first: Vec<Vec<u8>>,
     failing: &Lives,
     second: Vec<Vec<u8>>,
-) -> Result<TwoRuns, RunFault>
+) -> Result<TwoRuns, TwoRunsFault>
     ensures ran { IfOk result (RanTwice ⟦<Mortal as Disk>⟧ ⟦<Mortal as Disk>⟧
         ⟦<FolderStore<Mortal> as TakeStore>⟧ ⟦<FolderJournal<Mortal> as Journal>⟧
         ⟦<RestingFolderJournal<Mortal> as Journal>⟧ limit) }
@@ -108,7 +108,12 @@ pub fn two_runs(
 ///
 /// # Errors
 /// As those of `two_runs`.
-fn run(alloc: Global, folder: Folder, limit: Limit, bodies: Vec<Vec<u8>>) -> Result<Ran, RunFault>
+fn run(
+    alloc: Global,
+    folder: Folder,
+    limit: Limit,
+    bodies: Vec<Vec<u8>>,
+) -> Result<Ran, TwoRunsFault>
     ensures ran { IfOk result (λ it. RanOver ⟦<Mortal as Disk>⟧ ⟦<Mortal as Disk>⟧
         ⟦<FolderStore<Mortal> as TakeStore>⟧ ⟦<FolderJournal<Mortal> as Journal>⟧
         ⟦<RestingFolderJournal<Mortal> as Journal>⟧ limit folder it.answers.items it.left) }
@@ -125,7 +130,7 @@ fn run(alloc: Global, folder: Folder, limit: Limit, bodies: Vec<Vec<u8>>) -> Res
 ///
 /// # Errors
 /// `Start` if it failed, `Memory` if memory was refused.
-fn begin(alloc: Global, folder: Folder, limit: Limit) -> Result<RestingOver, RunFault>
+fn begin(alloc: Global, folder: Folder, limit: Limit) -> Result<RestingOver, TwoRunsFault>
     ensures { IfOk result (BeganOver ⟦<Mortal as Disk>⟧ ⟦<Mortal as Disk>⟧
         ⟦<FolderStore<Mortal> as TakeStore>⟧ ⟦<FolderJournal<Mortal> as Journal>⟧
         ⟦<RestingFolderJournal<Mortal> as Journal>⟧ limit folder) }
@@ -134,11 +139,11 @@ fn begin(alloc: Global, folder: Folder, limit: Limit) -> Result<RestingOver, Run
     let notes = MortalDisk::new(folder.notes, ENDLESS.notes, ENDLESS.reached);
     let settings = settings_of(limit);
     let Ok(server) = start_over(alloc, takes, notes, FOLDER, settings, &mut Unwatched) else {
-        return Err(RunFault::Start);
+        return Err(TwoRunsFault::Start);
     };
     match RestingServer::new(alloc, server.becomes_resting()) {
         Ok(server) => Ok(server),
-        Err(_) => Err(RunFault::Memory),
+        Err(_) => Err(TwoRunsFault::Memory),
     }
 }
 
@@ -155,7 +160,7 @@ fn settings_of(limit: Limit) -> Settings
 
 /// What the disks of a server have.
 fn take_apart(server: RestingOver) -> Folder
-    ensures { Leaves ⟦<Mortal as Disk>⟧ ⟦<Mortal as Disk>⟧ ⟦<FolderStore<Mortal> as TakeStore>⟧
+    ensures { LeavesFolder ⟦<Mortal as Disk>⟧ ⟦<Mortal as Disk>⟧ ⟦<FolderStore<Mortal> as TakeStore>⟧
         ⟦<FolderJournal<Mortal> as Journal>⟧ ⟦<RestingFolderJournal<Mortal> as Journal>⟧
         server result }
 {
@@ -175,7 +180,7 @@ fn fail_to_start(
     folder: Folder,
     limit: Limit,
     lives: &Lives,
-) -> Result<Folder, RunFault>
+) -> Result<Folder, TwoRunsFault>
     ensures { IfOk result (λ back. FailedOver ⟦<Mortal as Disk>⟧ ⟦<Mortal as Disk>⟧
         ⟦<FolderStore<Mortal> as TakeStore>⟧ ⟦<FolderJournal<Mortal> as Journal>⟧
         ⟦<RestingFolderJournal<Mortal> as Journal>⟧ limit folder back) }
@@ -184,7 +189,7 @@ fn fail_to_start(
     let notes = MortalDisk::new(folder.notes, lives.notes, lives.reached);
     let settings = settings_of(limit);
     match start_over(alloc, takes, notes, FOLDER, settings, &mut Unwatched) {
-        Ok(_server) => Err(RunFault::Start),
+        Ok(_server) => Err(TwoRunsFault::Start),
         Err((_, takes, notes)) => Ok(Folder {
             takes: takes.into_inner(),
             notes: notes.into_inner(),
