@@ -32,7 +32,7 @@ none_pending s stored n below none =
 module _ {F P D R W : Type 0} (feed : FeedGhosts F FeedFault) (pause : PauseGhosts P)
     (dial : DialGhosts D R W) (reader : Reader R) (writer : Writer W) where
   pub recordings_stored : RecordingsAreStored feed pause dial reader writer
-  recordings_stored state address stamp recorder file b new r s before =
+  recordings_stored state stamp job count b old new r s before =
       let sent = r.sent.sends s before in
       let all = sent.stores.offered in
       record {
@@ -43,7 +43,7 @@ module _ {F P D R W : Type 0} (feed : FeedGhosts F FeedFault) (pause : PauseGhos
       }
 
   pub rests_send : RestsSendRequests feed pause dial reader writer
-  rests_send most requests s new x links named each ends =
+  rests_send most requests s old new x links named each ends =
       let sent = x.sent in
-      uploads_send_on feed pause dial reader writer most s sent.sender sent.outcome sent.begun sent.ended sent.old.pause
-      new.pause sent.old.dial new.dial sent.went requests [] links x.all x.numbered named each ends
+      uploads_send_on feed pause dial reader writer most s sent.sender sent.outcome sent.begun sent.ended old.pause
+      new.pause old.dial new.dial sent.went requests [] links x.all x.numbered named each ends

@@ -42,11 +42,10 @@ module _ {F P D R W : Type 0} (feed : FeedGhosts F FeedFault) (pause : PauseGhos
   pub rest_sent : (e : Errand) (count : ℕ) (requests : List Request) (s : Defined) (g g' : F) (old new : Ways P D) (did : Did) →
       SkipsFirst count requests (feed.left g) → WasStoredBefore e.name count requests s →
       IsFeedSentAfter feed pause dial reader writer s e g g' old new did → did.exit ≡ exits.Done →
-      UploadsAll feed pause dial reader writer e.most requests s new
+      UploadsAll feed pause dial reader writer e.most requests s old new
   rest_sent e count requests s g g' old new did skips before (inl x) done = record {
     begun = g;
     ended = g';
-    old = old;
     outcome = x.outcome;
     sender = x.sender;
     went = x.went;

@@ -313,8 +313,8 @@ module _ {F P D R W : Type 0} (side : SendingSide F P D R W) (job : Job) where
     pub sends : SendsFrom o outside.file count between new did.sent
     pub kept : EndsKept job.place.path.now did.sent.exit did.exit did.unkept
     pub stores : did.exit ≡ exits.Done → Of outside.file.bytes (λ b. StoresRecording side.feed side.pause
-        side.dial side.replies side.requests (outside.states job.place.path.now) job.place.address.now
-        outside.file.stamp job.recorder job.file b new)
+        side.dial side.replies side.requests (outside.states job.place.path.now) outside.file.stamp job
+        count b between new)
 
   -- what is set can't be read, or memory was refused
   abbrev pub RefusesJob : Packing → Type 0

@@ -11,7 +11,6 @@ use Rattle.bw_ports.specs.declared.recording_files.FileStamp.{FileStamp}
 use Rattle.bw_plan.specs.Plans.{plan}
 use Rattle.bw_plan.specs.Recordings.{Options, Recording, recording_of, block_frames}
 use Rattle.bw_recorder.specs.SettingLists.{options_of}
-use Rattle.bw_recorder.specs.declared.job.RecordingFile.{RecordingFile}
 use Rattle.bw_resume.specs.Headers.{Origin, state_header}
 use Rattle.bw_sender.specs.Senders.{HasStored}
 use Rattle.bw_sender.specs.declared.sender.Sender.{Sender}
@@ -22,6 +21,7 @@ use Rattle.bw_send_file.specs.Sendings.{StoresAll, Ways}
 use Rattle.bw_send_file.specs.declared.fault.FeedFault.{FeedFault}
 use Rattle.bw_send_file.specs.declared.job.Recorder.{Recorder}
 use Rattle.bw_send_state.specs.Asks.{HasAnswered}
+use Rattle.bw_send_state.specs.declared.job.Job.{Job}
 use Rattle.bw_send_state.specs.FoundCounts.{ResumesAt, IsCountFound}
 use Rattle.bw_send_state.specs.TakeOpenings.{first_block_len, frames_before_block}
 
@@ -62,12 +62,12 @@ pub record IsHeaderFor (name address : List ℕ) (stamp : Option FileStamp) (o :
 
 module _ {F P D R W : Type 0} (feed : FeedGhosts F FeedFault) (pause : PauseGhosts P)
     (dial : DialGhosts D R W) (reader : Reader R) (writer : Writer W) where
-  -- from this sender on an upload went so that each of these requests was offered, and is stored
-  pub record UploadsAll (most : Option ℕ) (requests : List Request) (s : Defined) (new : Ways P D)
+  -- from this sender and these ways on an upload went so that each of these requests was offered, and
+  -- is stored
+  pub record UploadsAll (most : Option ℕ) (requests : List Request) (s : Defined) (old new : Ways P D)
       : Type 0 where
     pub begun : F
     pub ended : F
-    pub old : Ways P D
     pub outcome : Outcome FeedFault
     pub sender : Sender
     pub went : Uploads feed pause dial reader writer most s sender outcome begun ended
@@ -76,24 +76,23 @@ module _ {F P D R W : Type 0} (feed : FeedGhosts F FeedFault) (pause : PauseGhos
 
   -- each request of the recording in these bytes is stored: the first so many by the premise, and
   -- the others as the sender heard
-  pub record SendsRest (recorder : Recorder) (o : Options) (count : ℕ) (b : List ℕ) (new : Ways P D)
+  pub record SendsRest (recorder : Recorder) (o : Options) (count : ℕ) (b : List ℕ) (old new : Ways P D)
       : Type 0 where
     pub recording : Recording
     pub is : recording_of b o ≡ Ok recording
     pub sends : (s : Defined) →
         WasStoredBefore recorder.name.now count
         (plan (block_frames o recording.outline.format) recording) s →
-        UploadsAll recorder.fruitless (plan (block_frames o recording.outline.format) recording) s new
+        UploadsAll recorder.fruitless (plan (block_frames o recording.outline.format) recording) s old new
 
   -- .. where so many is what the state of this recording says, and the server expects no less, or 0
-  pub record StoresRecording (state : Option (List ℕ)) (address : List ℕ) (stamp : Option FileStamp)
-      (recorder : Recorder) (file : RecordingFile) (b : List ℕ) (new : Ways P D) : Type 0 where
+  pub record StoresRecording (state : Option (List ℕ)) (stamp : Option FileStamp) (job : Job) (count : ℕ)
+      (b : List ℕ) (old new : Ways P D) : Type 0 where
     pub o : Options
-    pub asked : options_of (map string_bytes file.settings.now) file.is_strict file.frames ≡ Some o
+    pub asked : options_of (map string_bytes job.file.settings.now) job.file.is_strict job.file.frames ≡ Some o
     pub header : List ℕ
-    pub of_take : IsHeaderFor recorder.name.now address stamp o b header
+    pub of_take : IsHeaderFor job.recorder.name.now job.place.address.now stamp o b header
     pub found : ℕ
     pub found_is : IsCountFound state header found
-    pub count : ℕ
-    pub begins : ResumesAt found (HasAnswered dial reader recorder.name.now) count
-    pub sent : SendsRest recorder o count b new
+    pub begins : ResumesAt found (HasAnswered dial reader job.recorder.name.now) count
+    pub sent : SendsRest job.recorder o count b old new

@@ -40,7 +40,8 @@ pub(crate) fn send_rest<F: RecordingFiles, P: Pause, D: Dial, V: Observer, W: Si
     ensures stores { result ≡ Exit.Done → (b : List ℕ) →
         F.file_at files.old job.now.file.path.now ≡ Some b →
         SendsRest ⟦<PlanFeed<F::File, F::Stamped> as Feed>⟧ P.Pause D.Dial D.Reader.Source
-        D.Writer.Sink job.now.recorder options.now count b (ways pause.new dial.new) }
+        D.Writer.Sink job.now.recorder options.now count b (ways pause.old dial.old)
+        (ways pause.new dial.new) }
     ensures did { (did : Packing) × (did.exit ≡ result)
         × SendsFrom (sending_side ⟦<PlanFeed<F::File, F::Stamped> as Feed>⟧
         (LooksAt F.Stamped.Stamped) P.Pause D.Dial D.Reader.Source D.Writer.Sink) job.now

@@ -68,7 +68,6 @@ returns g c =
             of_take = b.1.knows.of_take bytes at;
             found = b.1.found.count;
             found_is = count_is _ _ _ b.1.knows.says;
-            count = c.in-Ok-begin.beginning.count;
             begins = resumes _ _ _ _ _ _ _ _ _ _ b.1.starts;
             sent = c.send_rest-exit.ensures.stores (sym s.1 ∙ kept_done _ _ _ _ kept done) bytes
                 (ap (λ (files : List ℕ → Option (List ℕ)). files c.args.job.now.file.path.now) c.in-Ok-begin.ensures.files ∙ at);
