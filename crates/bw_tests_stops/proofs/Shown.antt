@@ -1,5 +1,6 @@
 -- What the disks of a folder show once files are copied by how their paths end.
-use Rattle.std.proofs.Common.{◌≡◌, ◌∙◌, ℕ, ◌+◌, Bool, true, false, cond, List, ◌++◌, Option, None, Some, is_some, length, get_or, refl, sym, ap, arith, codes}
+use Rattle.std.proofs.Common.{◌≡◌, ◌∙◌, ℕ, ◌+◌, Bool, true, false, cond, List, ◌++◌, Option, None, Some, is_some}
+use Rattle.std.proofs.Common.{length, get_or, refl, sym, ap, arith, codes}
 use Rattle.std.proofs.Math.Path.{fun_ext}
 use Rattle.std.specs.Prelude.{◌==◌}
 use Rattle.std.specs.List.{ends_with}
@@ -58,12 +59,24 @@ ends_as : (folder name : List ℕ) (e f : Ending) →
 ends_as folder name Journal Journal = ends folder (codes ".journal") name
 ends_as folder name Closed Closed = ends folder (codes ".closed") name
 ends_as folder name Wave Wave = ends folder (codes ".wav") name
-ends_as folder name Journal Closed = ends_not folder name (codes ".journal") (codes ".closed") 7 6 108 100 refl refl refl refl (λ (e : ◌≡◌ {A = ℕ} 108 100). omega (arith, e))
-ends_as folder name Journal Wave = ends_not folder name (codes ".journal") (codes ".wav") 7 3 108 118 refl refl refl refl (λ (e : ◌≡◌ {A = ℕ} 108 118). omega (arith, e))
-ends_as folder name Closed Journal = ends_not folder name (codes ".closed") (codes ".journal") 6 7 100 108 refl refl refl refl (λ (e : ◌≡◌ {A = ℕ} 100 108). omega (arith, e))
-ends_as folder name Closed Wave = ends_not folder name (codes ".closed") (codes ".wav") 6 3 100 118 refl refl refl refl (λ (e : ◌≡◌ {A = ℕ} 100 118). omega (arith, e))
-ends_as folder name Wave Journal = ends_not folder name (codes ".wav") (codes ".journal") 3 7 118 108 refl refl refl refl (λ (e : ◌≡◌ {A = ℕ} 118 108). omega (arith, e))
-ends_as folder name Wave Closed = ends_not folder name (codes ".wav") (codes ".closed") 3 6 118 100 refl refl refl refl (λ (e : ◌≡◌ {A = ℕ} 118 100). omega (arith, e))
+ends_as folder name Journal Closed =
+    ends_not folder name (codes ".journal") (codes ".closed") 7 6 108 100 refl refl refl refl
+    (λ (e : ◌≡◌ {A = ℕ} 108 100). omega (arith, e))
+ends_as folder name Journal Wave =
+    ends_not folder name (codes ".journal") (codes ".wav") 7 3 108 118 refl refl refl refl
+    (λ (e : ◌≡◌ {A = ℕ} 108 118). omega (arith, e))
+ends_as folder name Closed Journal =
+    ends_not folder name (codes ".closed") (codes ".journal") 6 7 100 108 refl refl refl refl
+    (λ (e : ◌≡◌ {A = ℕ} 100 108). omega (arith, e))
+ends_as folder name Closed Wave =
+    ends_not folder name (codes ".closed") (codes ".wav") 6 3 100 118 refl refl refl refl
+    (λ (e : ◌≡◌ {A = ℕ} 100 118). omega (arith, e))
+ends_as folder name Wave Journal =
+    ends_not folder name (codes ".wav") (codes ".journal") 3 7 118 108 refl refl refl refl
+    (λ (e : ◌≡◌ {A = ℕ} 118 108). omega (arith, e))
+ends_as folder name Wave Closed =
+    ends_not folder name (codes ".wav") (codes ".closed") 3 6 118 100 refl refl refl refl
+    (λ (e : ◌≡◌ {A = ℕ} 118 100). omega (arith, e))
 
 -- a path after the three copies, by which of the endings it has
 abbrev copied : Bool → Bool → Bool → Option (List ℕ) → Option (List ℕ) → Option (List ℕ)
