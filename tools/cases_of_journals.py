@@ -13,6 +13,7 @@ from worked import EMPTY, SMALL
 
 NOT_OPEN = 3
 MISSING = f"fails {errno.ENOENT}"
+FOLDER_SYNCED = ["open FOLDER to-read", "sync takes"]
 
 
 def digest(content):
@@ -49,17 +50,25 @@ def begun(name):
     return [*read, f"seek {name}.journal 0", f"write {name}.journal {header(name).hex()}"]
 
 
-class Journaled(Watched):
-    """A server with journals, and with syncs if `--sync` is among the options."""
+def synced_before(names):
+    """The calls that sync what an earlier server left of these names."""
+    listed = ["open FOLDER/ to-read", "list takes", "list takes"]
+    files = [f"{name}.{ending}" for name in names for ending in ("wav", "journal")]
+    return [*listed, *(call for file in files for call in (opened(file), f"sync-data {file}")), *FOLDER_SYNCED]
 
-    def __init__(self, folder, *options, faults=(), takes=0, resuming=()):
+
+class Journaled(Watched):
+    """A server with journals, and with syncs if `--sync` is among the options; of these names it finds takes."""
+
+    def __init__(self, folder, *options, faults=(), found=(), resuming=()):
         locked = ["open FOLDER/.bwingest-lock to-write create", "lock .bwingest-lock"]
+        synced = synced_before(found) if "--sync" in options else []
         super().__init__(
             folder,
             *("--exchanges", "1", *IN_TURN, "--journal", *options),
             faults=faults,
-            opening=[f"resumed {takes} takes"],
-            starting=[*locked, *LISTED, *resuming],
+            opening=[f"resumed {len(found)} takes"],
+            starting=[*locked, *synced, *LISTED, *resuming],
         )
         self.is_synced = "--sync" in options
         self.noted = {}  # bytes in the journal of a name
@@ -81,7 +90,7 @@ class Journaled(Watched):
         has_take = name in self.made
         is_new = name not in self.listed or has_take and not self.listed[name]
         self.listed[name] = has_take
-        return ["open FOLDER to-read", "sync takes"] * is_new
+        return FOLDER_SYNCED * is_new
 
     def asks(self, peer, name, request, code=STORED, before=None):
         number = self.numbers[name]
@@ -159,7 +168,7 @@ def case_stopped(folder):
     it.ends("a failed sync", [0])
 
 
-def case_resumed(folder):
+def goes_on(folder, what, *options):
     """A journal's torn end is cut, and its take goes on; the file is as it should be, so nothing of it is written."""
     takes = folder / "takes"
     takes.mkdir()
@@ -171,12 +180,23 @@ def case_resumed(folder):
     front = [opened("a1.wav"), "stat a1.wav", "seek a1.wav 0", f"read a1.wav {SMALL[: 2 * 690]}"]
     cut = [opened("a1.journal"), "stat a1.journal", "truncate a1.journal"]
     kept = [opened("a1.wav"), opened("a1.journal"), opened("a1.wav")]
-    it = Journaled(folder, takes=1, resuming=[*seen, *front, "seek a1.wav 694", "read a1.wav ", *cut, *kept])
+    resuming = [*seen, *front, "seek a1.wav 694", "read a1.wav ", *cut, *kept]
+    it = Journaled(folder, *options, found=["a1"], resuming=resuming)
     it.numbers["a1"], it.noted["a1"] = 2, len(noted)
+    it.made.add("a1")
     peer = it.comes(accepted_in_turn(7))
     it.asks(peer, "a1", CLOSE)
     it.goes(peer, 0)
-    it.ends("a resumed take", [0])
+    it.ends(what, [0])
+
+
+def case_resumed(folder):
+    goes_on(folder, "a resumed take")
+
+
+def case_resumed_and_synced(folder):
+    """With syncs what was left is synced first, since its verdicts are given again without a note."""
+    goes_on(folder, "a resumed and synced take", "--sync")
 
 
 def case_set_aside(folder):
@@ -197,4 +217,5 @@ def case_set_aside(folder):
     it.ends("a file that is set aside", [0])
 
 
-CASES = [case_noted, case_noted_and_synced, case_noted_again, case_stopped, case_resumed, case_set_aside]
+CASES = [case_noted, case_noted_and_synced, case_noted_again, case_stopped, case_resumed, case_resumed_and_synced,
+    case_set_aside]

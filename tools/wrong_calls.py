@@ -181,6 +181,8 @@ BODIES = [
     Body("a failed sync of a note is taken for a done one", "stopped", after=when(SYNC_DATA, seem_done)),
     Body("a failed note is taken for a done one", "noted_again", after=when(WRITE, seem_done, is_file)),
     Body("a torn end isn't cut", "resumed", left_out(TRUNCATE)),
+    Body("no sync of what was left", "resumed_and_synced", left_out(SYNC_DATA)),
+    Body("no sync of the folder that was left", "resumed_and_synced", left_out(SYNC)),
     Body("a begun file isn't set aside", "set_aside", left_out(RENAME)),
     # Links one after another, and those of a sender
     Body("no timeout of reads", "in_turn", left_out(SET, is_option(RECEIVE_TIMEOUT))),

@@ -1,0 +1,2 @@
+mod SyncedDisks
+mod SyncedStarts

@@ -1,3 +1,4 @@
 pub mod LockedStarts
 pub mod SeenMachine
 pub mod StartsHere
+pub mod SyncedFolders

@@ -1,6 +1,8 @@
 -- What the start of a server results in, where its folder is locked first.
 use Rattle.std.specs.Prelude.{◌≡◌, ℕ, List, IsTrue, Result, Ok, Err}
 use Rattle.bw_disk.specs.declared.disk.Disk.{Ghosts as DiskGhosts}
+use Rattle.bw_disk.specs.declared.reading.ReadFault.{ReadFault}
+use Rattle.bw_disk.specs.declared.reading.ReadFault.TheVariants as reads
 use Rattle.bw_folder.specs.declared.folder.FolderStore.{FolderStore}
 use Rattle.bw_folder.specs.declared.journal.FolderJournal.{FolderJournal}
 use Rattle.bw_journal.specs.declared.journal.Journal.{Ghosts as JournalGhosts}
@@ -41,6 +43,11 @@ IsFolderRefusal folder (Start (TooMany count)) refusal =
     IsFaultText folder (Start (TooMany count)) refusal
 IsFolderRefusal folder (Rests names) refusal = IsFaultText folder (Rests names) refusal
 IsFolderRefusal folder (Twice names) refusal = IsFaultText folder (Twice names) refusal
+
+-- why a server isn't started where a call of a disk failed, or memory was refused
+abbrev pub IsReadRefusal : ReadFault → StartRefusal → Type 0
+IsReadRefusal reads.Disk refusal = refusal ≡ refusals.Device
+IsReadRefusal reads.Memory refusal = refusal ≡ refusals.Memory
 
 module _ {D E F H : Type 0} (G : DiskGhosts D F) (K : DiskGhosts E H) where
   -- honest disks show why no server starts over the folder with these settings

@@ -6,8 +6,7 @@ use Rattle.bw_folder.specs.declared.journal.FolderJournal.{FolderJournal}
 use Rattle.bw_journal.specs.declared.journal.Journal.{Ghosts as JournalGhosts}
 use Rattle.bw_lock.specs.declared.folder_locks.LockRefusal.{LockRefusal}
 use Rattle.bw_machine.specs.LockedStarts.{IsRefusalBy, StartsUnder, refusal_by}
-use Rattle.bw_machine.specs.SeenMachine.{started_with_rest}
-use Rattle.bw_machine.specs.declared.locked.KeptStart.{KeptStart}
+use Rattle.bw_machine.specs.SeenMachine.{started_with_rest, lock_kept}
 use Rattle.bw_machine.specs.declared.network.TcpNetwork.{TcpNetwork}
 use Rattle.bw_net.specs.declared.lock.FolderLock.{FolderLock}
 use Rattle.bw_ports.specs.declared.starts.StartRefusal.{StartRefusal}
@@ -45,10 +44,11 @@ module _ {D F : Type 0} (G : DiskGhosts D F) where
       (result : Result (Server (FolderStore D F G) (FolderJournal D F G) S J) StartRefusal)
       (n n' : TcpNetwork) : Type 0 where
     pub set : IfOk result (IsSetTo settings.limit folder settings.sync)
-    pub kept : MatchResult result (λ _. started_with_rest n' ≡ Some settings.rest) (λ _. n'.kept ≡ n.kept)
+    pub rest : MatchResult result (λ _. started_with_rest n' ≡ Some settings.rest)
+        (λ _. started_with_rest n' ≡ started_with_rest n)
     pub answer : Result FolderLock LockRefusal
     pub met : MatchResult result
-        (λ server. (takes : D) × (notes : D) × (kept : KeptStart FolderLock)
-        × (G.calls takes ≡ 0) × (G.calls notes ≡ 0) × (n'.kept ≡ Some kept)
-        × StartsUnder G G answer settings folder takes notes server kept.lock)
-        (IsRefusedHere answer settings folder)
+        (λ server. (takes : D) × (notes : D) × (lock : FolderLock)
+        × (G.calls takes ≡ 0) × (G.calls notes ≡ 0) × (lock_kept n' ≡ Some lock)
+        × StartsUnder G G answer settings folder takes notes server lock)
+        (λ refusal. (lock_kept n' ≡ lock_kept n) × IsRefusedHere answer settings folder refusal)

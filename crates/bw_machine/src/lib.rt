@@ -6,8 +6,9 @@ mod locked;
 mod network;
 mod starting;
 mod status;
+mod syncing;
 mod terminal;
 
 pub use network::TcpNetwork;
-pub use starting::{FolderServer, MachineDisk};
+pub use starting::{FolderServer, MachineDisk, start_with_rest, start_without_rest};
 pub use terminal::Terminal;

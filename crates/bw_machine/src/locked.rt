@@ -2,10 +2,11 @@
 ghost use Rattle.std.specs.Prelude.{◌≡◌, IfOk, MatchResult, Result};
 ghost use Rattle.bw_lock.specs.declared.folder_locks.LockRefusal.{LockRefusal as Refusal};
 ghost use Rattle.bw_machine.specs.LockedStarts.{IsFolderRefusal, RefusesUnder, StartsUnder};
-ghost use Rattle.bw_machine.specs.LockedStarts.{IsFaultText, refusal_by};
+ghost use Rattle.bw_machine.specs.LockedStarts.{IsFaultText, IsReadRefusal, refusal_by};
 ghost use Rattle.bw_start.specs.Started.{IsSetTo};
 
-use bw_disk::Volume;
+use crate::syncing::sync_if;
+use bw_disk::{ReadFault, Volume};
 use bw_folder::{FolderJournal, FolderStore};
 use bw_lock::{FolderLocks, LockRefusal};
 use bw_ports::StartRefusal;
@@ -32,14 +33,16 @@ pub(crate) struct KeptStart<K> {
 }
 
 /// Starts a server over what an earlier one left in a folder, as `start_over` does, once the folder
-/// is locked. The lock is kept beside the server; where none is started, it is given back.
+/// is locked; with syncs, once that is synced too. The lock is kept beside the server; where none is
+/// started, it is given back.
 ///
 /// # Errors
 /// The refusal, with both disks: they are as they were if the folder isn't locked.
 ///
 /// # Not specified
 /// - When memory is refused, and when the folder can be locked.
-/// - That the lock is held meanwhile: only the order of the calls shows it.
+/// - That the lock is held meanwhile, and that what was left is synced first: only the order of the
+///   calls shows it.
 pub(crate) fn start_locked<L: FolderLocks, D: Volume, E: Volume, W: StartWatch>(
     alloc: Global,
     locks: &mut L,
@@ -61,6 +64,10 @@ pub(crate) fn start_locked<L: FolderLocks, D: Volume, E: Volume, W: StartWatch>(
         Ok(lock) => lock,
         Err(refusal) => return Err((refusal_by_lock(refusal), takes, notes)),
     };
+    let (mut takes, mut notes) = (takes, notes);
+    if let Err(fault) = sync_if(alloc, &mut takes, &mut notes, folder, settings.sync) {
+        return Err((refusal_by_read(fault), takes, notes));
+    }
     let rest = settings.rest;
     match start_over(alloc, takes, notes, folder, settings, watch) {
         Ok(server) => Ok(Locked {
@@ -79,6 +86,16 @@ fn refusal_by_lock(refusal: LockRefusal) -> StartRefusal
         LockRefusal::Running => StartRefusal::Running,
         LockRefusal::Unusable(error) => StartRefusal::Unusable(error),
         LockRefusal::Memory => StartRefusal::Memory,
+    }
+}
+
+/// Why a server isn't started where what was left isn't synced.
+fn refusal_by_read(fault: ReadFault) -> StartRefusal
+    ensures { IsReadRefusal fault result }
+{
+    match fault {
+        ReadFault::Disk => StartRefusal::Device,
+        ReadFault::Memory => StartRefusal::Memory,
     }
 }
 

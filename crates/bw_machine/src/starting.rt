@@ -1,5 +1,6 @@
 //! The start of a server with journals over a folder of this machine.
 ghost use Rattle.std.specs.Prelude.{◌≡◌, true, false};
+ghost use Rattle.bw_machine.specs.SeenMachine.{network_failures};
 ghost use Rattle.bw_machine.specs.StartsHere.{StartsHere, asked_for};
 ghost use Rattle.bw_stream.specs.Moves.{failures_after};
 
@@ -77,8 +78,15 @@ impl<'a> StartsResting<FolderServer<'a>> for TcpNetwork<'a> {
 // proved of a start speaks of what the disks hold.
 
 /// A server over a folder of this machine, which stays locked from then on; a folder in which names
-/// rest is refused.
-fn start_without_rest<'a, D: MachineDisk<'a>>(
+/// rest is refused. [`TcpNetwork`] starts so over the program's own disk.
+///
+/// # Errors
+/// The refusal. It is counted as a failure.
+///
+/// # Not specified
+/// - When the folder can be used and locked, and when memory is refused.
+/// - That the lock that is kept is the folder's, and that no call changes the folder before the start.
+pub fn start_without_rest<'a, D: MachineDisk<'a>>(
     network: &mut TcpNetwork<'a>,
     folder: &str,
     limit: Limit,
@@ -86,14 +94,22 @@ fn start_without_rest<'a, D: MachineDisk<'a>>(
 ) -> Result<ServerOver<D>, StartRefusal>
     ensures here { StartsHere D.Disk (asked_for limit sync false) folder.now result
         network.old network.new }
-    ensures count { network.new.failures ≡ failures_after result network.old.failures }
+    ensures count { network_failures network.new
+        ≡ failures_after result (network_failures network.old) }
 {
     let rest = false;
     start_in(network, folder, Settings { limit, sync, rest })
 }
 
 /// A server whose names may rest, over a folder of this machine, which stays locked from then on.
-fn start_with_rest<'a, D: MachineDisk<'a>>(
+/// [`TcpNetwork`] starts so over the program's own disk.
+///
+/// # Errors
+/// The refusal. It is counted as a failure.
+///
+/// # Not specified
+/// As for [`start_without_rest`].
+pub fn start_with_rest<'a, D: MachineDisk<'a>>(
     network: &mut TcpNetwork<'a>,
     folder: &str,
     limit: Limit,
@@ -101,7 +117,8 @@ fn start_with_rest<'a, D: MachineDisk<'a>>(
 ) -> Result<ServerOver<D>, StartRefusal>
     ensures here { StartsHere D.Disk (asked_for limit sync true) folder.now result
         network.old network.new }
-    ensures count { network.new.failures ≡ failures_after result network.old.failures }
+    ensures count { network_failures network.new
+        ≡ failures_after result (network_failures network.old) }
 {
     let rest = true;
     start_in(network, folder, Settings { limit, sync, rest })
@@ -114,7 +131,8 @@ fn start_in<'a, D: MachineDisk<'a>>(
     settings: Settings,
 ) -> Result<ServerOver<D>, StartRefusal>
     ensures here { StartsHere D.Disk settings folder.now result network.old network.new }
-    ensures count { network.new.failures ≡ failures_after result network.old.failures }
+    ensures count { network_failures network.new
+        ≡ failures_after result (network_failures network.old) }
 {
     let alloc = network.rt.alloc();
     if let Err(error) = check_folder(network.rt, alloc, folder) {
