@@ -1,3 +1,5 @@
 mod Shown
 mod GivenAnswers
 mod Starting
+mod Restarting
+mod Delivering

@@ -1,6 +1,6 @@
 -- What the disks of a folder show once files are copied by how their paths end.
 use Rattle.std.proofs.Common.{◌≡◌, ◌∙◌, ℕ, ◌+◌, Bool, true, false, cond, List, ◌++◌, Option, None, Some, is_some}
-use Rattle.std.proofs.Common.{length, get_or, refl, sym, ap, arith, codes}
+use Rattle.std.proofs.Common.{length, get_or, refl, ap, arith, codes}
 use Rattle.std.proofs.Math.Path.{fun_ext}
 use Rattle.std.specs.Prelude.{◌==◌}
 use Rattle.std.specs.List.{ends_with}
@@ -80,20 +80,20 @@ ends_as folder name Wave Closed =
 
 -- a path after the three copies, by which of the endings it has
 abbrev copied : Bool → Bool → Bool → Option (List ℕ) → Option (List ℕ) → Option (List ℕ)
-copied journal closed wave note take =
-    option_or (option_or (option_or None (cond journal note None)) (cond closed note None)) (cond wave take None)
+copied journal closed wave noted take =
+    option_or (option_or (option_or None (cond journal noted None)) (cond closed noted None)) (cond wave take None)
 
-first_copy : (note take : Option (List ℕ)) → copied true false false note take ≡ note
+first_copy : (noted take : Option (List ℕ)) → copied true false false noted take ≡ noted
 first_copy None take = refl
 first_copy (Some x) take = refl
 
-second_copy : (note take : Option (List ℕ)) → copied false true false note take ≡ note
+second_copy : (noted take : Option (List ℕ)) → copied false true false noted take ≡ noted
 second_copy None take = refl
 second_copy (Some x) take = refl
 
-third_copy : (note take : Option (List ℕ)) → copied false false true note take ≡ take
-third_copy note None = refl
-third_copy note (Some x) = refl
+third_copy : (noted take : Option (List ℕ)) → copied false false true noted take ≡ take
+third_copy noted None = refl
+third_copy noted (Some x) = refl
 
 module _ (notes takes : Paths) where
   -- what the disk of the journals shows

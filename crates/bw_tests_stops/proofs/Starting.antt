@@ -1,5 +1,5 @@
 -- Starts over disks in memory, and what follows from them for a run.
-use Rattle.std.proofs.Common.{◌≡◌, ℕ, ◌<◌, List, [], ◌∷◌, map, None, refl, sym, ap, subst}
+use Rattle.std.proofs.Common.{◌≡◌, ℕ, ◌<◌, true, List, [], ◌∷◌, map, None, refl, sym, ap, subst}
 use Rattle.std.proofs.Math.Path.{fun_ext}
 use Rattle.std.specs.Prelude.{◌^◌, IsTrue}
 use Rattle.bw_store.specs.declared.store.TakeStore.{Ghosts as StoreGhosts}
@@ -34,6 +34,41 @@ use Rattle.bw_tests_stops.specs.RestingRuns.{ShowsAgain, answered_of, no_files, 
 use Rattle.bw_tests_stops.specs.declared.answering.GivenAnswer.{GivenAnswer}
 use Rattle.bw_tests_stops.specs.declared.runs.TwoRuns.{TwoRuns}
 
+module _ {D E F H : Type 0} (G : DiskGhosts D F) (K : DiskGhosts E H) where
+  -- a start that failed gave its disks back
+  pub failed_over : (limit : ℕ) (folder back : Folder) (takes takes_back : D) (notes notes_back : E) →
+      IsTrue (G.honest takes) → IsTrue (K.honest notes) →
+      (IsTrue (G.honest takes) → IsTrue (K.honest notes) → BooksStayLeft limit the_folder (K.contents notes)
+      (G.contents takes) (K.contents notes_back) (G.contents takes_back)) →
+      (IsTrue (G.honest takes) → IsTrue (K.honest notes) → KeepsTheRest limit the_folder (K.contents notes)
+      (G.contents takes) (K.contents notes_back) (G.contents takes_back)) →
+      K.contents notes ≡ disk_content folder.notes → G.contents takes ≡ disk_content folder.takes →
+      K.contents notes_back ≡ disk_content back.notes → G.contents takes_back ≡ disk_content back.takes →
+      FailedOver G K limit folder back
+  failed_over limit folder back takes takes_back notes notes_back t n left rest given_n given_t back_n back_t = record {
+    start = record {
+      failed = record {
+        takes = takes;
+        notes = notes;
+        takes_back = takes_back;
+        notes_back = notes_back;
+        honest = t;
+        honest_notes = n;
+        left = left;
+      };
+      untouched = rest t n;
+    };
+    notes_given = given_n;
+    takes_given = given_t;
+    notes_back = back_n;
+    takes_back = back_t;
+  }
+
+  -- the same by another word for the limit
+  pub failed_with : (settings : Settings) (limit : ℕ) (folder back : Folder) → settings.limit ≡ limit →
+      FailedOver G K settings.limit folder back → FailedOver G K limit folder back
+  failed_with settings limit folder back e h = subst (λ (k : ℕ). FailedOver G K k folder back) e h
+
 module _ {D E F H : Type 0} (G : DiskGhosts D F) (K : DiskGhosts E H)
     (S : StoreGhosts (FolderStore D F G)) (J : JournalGhosts (FolderJournal E H K))
     (R : JournalGhosts (RestingFolderJournal E H K)) where
@@ -42,7 +77,7 @@ module _ {D E F H : Type 0} (G : DiskGhosts D F) (K : DiskGhosts E H)
       (started : Server (FolderStore D F G) (FolderJournal E H K) S J)
       (resting : Server (FolderStore D F G) (RestingFolderJournal E H K) S R)
       (server : RestingServer (FolderStore D F G) (RestingFolderJournal E H K) S R) →
-      settings ≡ settings_with limit → notes ≡ folder.notes → takes ≡ folder.takes →
+      settings ≡ settings_with limit true → notes ≡ folder.notes → takes ≡ folder.takes →
       StartsOver {G = G} {K = K} {S = S} {J = J} settings the_folder (disk_content notes) (disk_content takes) started →
       IsSetTo {G = G} {K = K} {S = S} {J = J} settings.limit the_folder settings.sync started →
       ChangesJournal S J R started resting → LetsRest (server_journal started) (server_journal resting) →
@@ -50,47 +85,14 @@ module _ {D E F H : Type 0} (G : DiskGhosts D F) (K : DiskGhosts E H)
       BeganOver G K S J R limit folder server
   began_over limit folder settings notes takes started resting server set n t begun settings_are same journal books is =
       subst (λ (s : Server (FolderStore D F G) (RestingFolderJournal E H K) S R).
-      WasStartedResting G K S J R (settings_with limit) the_folder (disk_content folder.notes) (disk_content folder.takes) s)
+      WasStartedResting G K S J R (settings_with limit true) the_folder (disk_content folder.notes) (disk_content folder.takes) s)
       (sym is)
-      (subst (λ (d : MemoryDisk). WasStartedResting G K S J R (settings_with limit) the_folder (disk_content folder.notes)
+      (subst (λ (d : MemoryDisk). WasStartedResting G K S J R (settings_with limit true) the_folder (disk_content folder.notes)
       (disk_content d) resting) t
-      (subst (λ (d : MemoryDisk). WasStartedResting G K S J R (settings_with limit) the_folder (disk_content d)
+      (subst (λ (d : MemoryDisk). WasStartedResting G K S J R (settings_with limit true) the_folder (disk_content d)
       (disk_content takes) resting) n
       (subst (λ (x : Settings). WasStartedResting G K S J R x the_folder (disk_content notes) (disk_content takes) resting) set
       (record { began = started; started = begun; set = settings_are; same = same; journal = journal; books = books }))))
-
-  -- a start that failed gave its disks back
-  pub failed_over : (limit : ℕ) (folder back : Folder) (settings : Settings) (takes takes_back : D)
-      (notes notes_back : E) → settings ≡ settings_with limit → IsTrue (G.honest takes) → IsTrue (K.honest notes) →
-      (IsTrue (G.honest takes) → IsTrue (K.honest notes) → BooksStayLeft settings.limit the_folder (K.contents notes)
-      (G.contents takes) (K.contents notes_back) (G.contents takes_back)) →
-      (IsTrue (G.honest takes) → IsTrue (K.honest notes) → KeepsTheRest settings.limit the_folder (K.contents notes)
-      (G.contents takes) (K.contents notes_back) (G.contents takes_back)) →
-      K.contents notes ≡ disk_content folder.notes → G.contents takes ≡ disk_content folder.takes →
-      K.contents notes_back ≡ disk_content back.notes → G.contents takes_back ≡ disk_content back.takes →
-      FailedOver G K S J R limit folder back
-  failed_over limit folder back settings takes takes_back notes notes_back set t n left rest given_n given_t back_n back_t =
-      let same : settings.limit ≡ limit = ap (λ (x : Settings). x.limit) set in
-      record {
-        start = record {
-          failed = record {
-            takes = takes;
-            notes = notes;
-            takes_back = takes_back;
-            notes_back = notes_back;
-            honest = t;
-            honest_notes = n;
-            left = subst (λ (k : ℕ). IsTrue (G.honest takes) → IsTrue (K.honest notes) → BooksStayLeft k the_folder
-                (K.contents notes) (G.contents takes) (K.contents notes_back) (G.contents takes_back)) same left;
-          };
-          untouched = subst (λ (k : ℕ). KeepsTheRest k the_folder (K.contents notes) (G.contents takes)
-              (K.contents notes_back) (G.contents takes_back)) same (rest t n);
-        };
-        notes_given = given_n;
-        takes_given = given_t;
-        notes_back = back_n;
-        takes_back = back_t;
-      }
 
   -- a server that began over a folder, gave these answers and left this ran as the laws ask
   pub ran_over : (limit : ℕ) (folder left : Folder) (answers : List GivenAnswer)
@@ -115,7 +117,7 @@ module _ {D E F H : Type 0} (G : DiskGhosts D F) (K : DiskGhosts E H)
       (failing : List (FailedRestingStart G K limit the_folder)) (notes takes : Paths) →
       RestingStartsFail G K limit the_folder failing (disk_content left.notes) (disk_content left.takes) notes takes →
       RanResting G K S J R limit the_folder at_notes at_takes (record {
-        settings = settings_with limit;
+        settings = settings_with limit true;
         began = ran.began;
         answered = map answered_of answers;
         ended = ran.ended;
@@ -124,8 +126,8 @@ module _ {D E F H : Type 0} (G : DiskGhosts D F) (K : DiskGhosts E H)
       })
   goes_on limit before left answers ran at_notes at_takes n t failing notes takes fail = record {
     limit_is = refl;
-    started = subst (λ (x : Paths). WasStartedResting G K S J R (settings_with limit) the_folder x at_takes ran.began) n
-        (subst (λ (x : Paths). WasStartedResting G K S J R (settings_with limit) the_folder (disk_content before.notes) x
+    started = subst (λ (x : Paths). WasStartedResting G K S J R (settings_with limit true) the_folder x at_takes ran.began) n
+        (subst (λ (x : Paths). WasStartedResting G K S J R (settings_with limit true) the_folder (disk_content before.notes) x
         ran.began) t ran.started);
     honest = ran.honest;
     honest_notes = ran.honest_notes;
@@ -142,7 +144,7 @@ module _ {D E F H : Type 0} (G : DiskGhosts D F) (K : DiskGhosts E H)
       ((path : List ℕ) → disk_content empty.notes path ≡ None) →
       ((path : List ℕ) → disk_content empty.takes path ≡ None) →
       RestingVerdictsOutliveStops G K S J R → RanOver G K S J R limit empty it.first.items left →
-      ShowsAgain left given → FailedOver G K S J R limit given back → ShowsAgain back again →
+      ShowsAgain left given → FailedOver G K limit given back → ShowsAgain back again →
       RanOver G K S J R limit again it.second.items last → ShowsAgain last shown → shown ≡ it.left →
       RanTwice G K S J R limit it
   ran_twice limit empty left given back again last shown it small no_notes no_takes law one shows_given failed shows_again

@@ -1,1 +1,3 @@
+pub mod Promised
 pub mod RestingRuns
+pub mod Restarts

@@ -1,5 +1,5 @@
 -- Servers whose names rest, run for real, as the laws of `bw_left` take them as premises.
-use Rattle.std.specs.Prelude.{◌≡◌, ℕ, false, true, IsTrue, Option, None, List, [], ◌∷◌, length, map}
+use Rattle.std.specs.Prelude.{◌≡◌, ℕ, Bool, false, true, IsTrue, Option, None, List, [], ◌∷◌, length, map}
 use Rattle.bw_model.specs.Wire.{Says}
 use Rattle.bw_store.specs.declared.store.TakeStore.{Ghosts as StoreGhosts}
 use Rattle.bw_disk.specs.MemoryVolumes.{disk_content}
@@ -37,9 +37,9 @@ Paths = List ℕ → Option (List ℕ)
 abbrev pub no_files : Paths
 no_files path = None
 
--- without syncs, and names rest
-abbrev pub settings_with : ℕ → Settings
-settings_with limit = record { limit = limit; sync = false; rest = true }
+-- without syncs, and whether names may rest
+abbrev pub settings_with : ℕ → Bool → Settings
+settings_with limit rest = record { limit = limit; sync = false; rest = rest }
 
 -- a message and the replies to it, in the definitions' words
 abbrev pub answered_of : GivenAnswer → Answered
@@ -65,13 +65,22 @@ module _ {X Y : Type 0} (S : StoreGhosts X) (J : JournalGhosts Y) where
   AnswersBodies old answers new = AnswersAll (RestingTurn S J) (table_server old) (map answered_of answers)
       (table_server new)
 
+module _ {D E F H : Type 0} (G : DiskGhosts D F) (K : DiskGhosts E H) where
+  -- A start failed over a folder, with rest or without, and gave this back.
+  pub record FailedOver (limit : ℕ) (folder back : Folder) : Type 0 where
+    pub start : FailedRestingStart G K limit the_folder
+    pub notes_given : K.contents start.failed.notes ≡ disk_content folder.notes
+    pub takes_given : G.contents start.failed.takes ≡ disk_content folder.takes
+    pub notes_back : K.contents start.failed.notes_back ≡ disk_content back.notes
+    pub takes_back : G.contents start.failed.takes_back ≡ disk_content back.takes
+
 module _ {D E F H : Type 0} (G : DiskGhosts D F) (K : DiskGhosts E H)
     (S : StoreGhosts (FolderStore D F G)) (J : JournalGhosts (FolderJournal E H K))
     (R : JournalGhosts (RestingFolderJournal E H K)) where
   -- a server was started over a folder, and its names rest
   abbrev pub BeganOver : ℕ → Folder →
       RestingServer (FolderStore D F G) (RestingFolderJournal E H K) S R → Type 0
-  BeganOver limit folder server = WasStartedResting G K S J R (settings_with limit) the_folder
+  BeganOver limit folder server = WasStartedResting G K S J R (settings_with limit true) the_folder
       (disk_content folder.notes) (disk_content folder.takes) (table_server server)
 
   -- its disks have what the folder has
@@ -85,21 +94,13 @@ module _ {D E F H : Type 0} (G : DiskGhosts D F) (K : DiskGhosts E H)
   pub record RanOver (limit : ℕ) (folder : Folder) (answers : List GivenAnswer) (left : Folder) : Type 0 where
     pub began : Server (FolderStore D F G) (RestingFolderJournal E H K) S R
     pub ended : Server (FolderStore D F G) (RestingFolderJournal E H K) S R
-    pub started : WasStartedResting G K S J R (settings_with limit) the_folder (disk_content folder.notes)
+    pub started : WasStartedResting G K S J R (settings_with limit true) the_folder (disk_content folder.notes)
         (disk_content folder.takes) began
     pub honest : IsTrue (S.honest (server_store began))
     pub honest_notes : IsTrue (R.honest (server_journal began))
     pub went : AnswersAll (RestingTurn S R) began (map answered_of answers) ended
     pub takes : G.contents (takes_disk (server_store ended)) ≡ disk_content left.takes
     pub notes : K.contents (disk_of_all (server_journal ended)) ≡ disk_content left.notes
-
-  -- A start failed over a folder, and gave this back.
-  pub record FailedOver (limit : ℕ) (folder back : Folder) : Type 0 where
-    pub start : FailedRestingStart G K limit the_folder
-    pub notes_given : K.contents start.failed.notes ≡ disk_content folder.notes
-    pub takes_given : G.contents start.failed.takes ≡ disk_content folder.takes
-    pub notes_back : K.contents start.failed.notes_back ≡ disk_content back.notes
-    pub takes_back : G.contents start.failed.takes_back ≡ disk_content back.takes
 
   -- Two servers ran, one after the other over an empty folder, and between them a start failed: so the
   -- premises of `law_resting_lives` hold of real ones, and so does what it says of verdicts.

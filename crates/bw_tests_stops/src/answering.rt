@@ -2,7 +2,7 @@
 ghost use Rattle.std.specs.Prelude.{◌≡◌, map, IfOk};
 ghost use Rattle.bw_tests_stops.specs.RestingRuns.{AnswersBody, AnswersBodies, bodies_of};
 
-use crate::runs::TwoRunsFault;
+use crate::runs::TestRunFault;
 use arrayvec::ArrayVec;
 use bw_disk::{MemoryDisk, MortalDisk};
 use bw_exchange::Turns;
@@ -36,7 +36,7 @@ pub(crate) fn answer_each(
     alloc: Global,
     server: &mut RestingOver,
     bodies: Vec<Vec<u8>>,
-) -> Result<Vec<GivenAnswer>, TwoRunsFault>
+) -> Result<Vec<GivenAnswer>, TestRunFault>
     ensures went { IfOk result (λ answers. AnswersBodies ⟦<FolderStore<Mortal> as TakeStore>⟧
         ⟦<RestingFolderJournal<Mortal> as Journal>⟧ server.old answers.items server.new) }
     ensures bodies { IfOk result (λ answers.
@@ -46,7 +46,7 @@ pub(crate) fn answer_each(
     for body in bodies {
         let replies = give(server, body.as_slice())?;
         let Ok(()) = answers.push(GivenAnswer { body, replies }) else {
-            return Err(TwoRunsFault::Memory);
+            return Err(TestRunFault::Memory);
         };
     }
     Ok(answers)
@@ -56,12 +56,12 @@ pub(crate) fn answer_each(
 ///
 /// # Errors
 /// `Message` if the body is none.
-fn give(server: &mut RestingOver, body: &[u8]) -> Result<ArrayVec<Reply, 17>, TwoRunsFault>
+fn give(server: &mut RestingOver, body: &[u8]) -> Result<ArrayVec<Reply, 17>, TestRunFault>
     ensures turned { IfOk result (λ replies. AnswersBody ⟦<FolderStore<Mortal> as TakeStore>⟧
         ⟦<RestingFolderJournal<Mortal> as Journal>⟧ server.old body.now replies.items server.new) }
 {
     let Ok(Frame::Message(message)) = decode(body) else {
-        return Err(TwoRunsFault::Message);
+        return Err(TestRunFault::Message);
     };
     let mut replies = ArrayVec::new();
     server.turn(&message, &mut replies);

@@ -1,7 +1,7 @@
 //! Servers of more takes than a table has places for: of 257 names one rests, and wakes at its next
 //! message. What a run shows, `two_runs` states for every run: these are some that end well.
 use crate::answering::GivenAnswer;
-use crate::runs::{TwoRuns, TwoRunsFault, two_runs};
+use crate::runs::{TestRunFault, TwoRuns, two_runs};
 use bw_disk::MemoryDisk;
 use bw_layout::Limit;
 use bw_request::Verdict;
@@ -12,7 +12,7 @@ use std::process::Abort;
 use std::test::Fail;
 
 /// The messages of `a1`: an OPEN, a BLOCK of two frames and a CLOSE.
-const TAKE: [&[u8]; 3] = [
+pub(crate) const TAKE: [&[u8]; 3] = [
     b"\x01\x02a1\0\0\0\0\x80\xbb\0\0\x01\0\x10\0\0\0",
     b"\x02\x02a1\x01\0\0\0\x01\0\x02\0",
     b"\x05\x02a1\x02\0\0\0\x02\0\0\0\0\0\0\0",
@@ -58,13 +58,13 @@ fn second(alloc: Global) -> Result<Vec<Vec<u8>>, AllocError> {
 }
 
 /// Both servers, and a start between them by disks that die so.
-fn run(alloc: Global, failing: &Lives) -> Result<Result<TwoRuns, TwoRunsFault>, Fail> {
+fn run(alloc: Global, failing: &Lives) -> Result<Result<TwoRuns, TestRunFault>, Fail> {
     let limit = Limit::new(8_192).ok_or("a limit")?;
     Ok(two_runs(alloc, limit, first(alloc)?, failing, second(alloc)?))
 }
 
 /// Whether the one reply to a message is the verdict Stored on its number.
-fn is_stored(answer: &GivenAnswer) -> bool {
+pub(crate) fn is_stored(answer: &GivenAnswer) -> bool {
     let body = answer.body.as_slice();
     let [
         Reply::Verdict {
@@ -81,7 +81,7 @@ fn is_stored(answer: &GivenAnswer) -> bool {
 }
 
 /// Whether the disk of the takes has the file of `a1`: RIFF, with its samples.
-fn is_whole(takes: &MemoryDisk) -> bool {
+pub(crate) fn is_whole(takes: &MemoryDisk) -> bool {
     let Some(file) = takes.content("takes/a1.wav") else {
         return false;
     };
@@ -140,6 +140,6 @@ fn a_start_by_disks_that_live_does_not_fail(rt: HostRuntime) -> Result<(), Fail>
         reached: 0,
     };
     let answer = run(rt.alloc(), &failing)?;
-    assert!(rt; matches!(answer, Err(TwoRunsFault::Start)));
+    assert!(rt; matches!(answer, Err(TestRunFault::Start)));
     Ok(())
 }

@@ -17,29 +17,31 @@ use bw_store::TakeStore;
 use std::alloc::{AllocError, Global};
 
 /// The folder of the takes and their journals.
-const FOLDER: &str = "takes";
+pub(crate) const FOLDER: &str = "takes";
 
 /// Disks that don't die.
-const ENDLESS: Lives = Lives {
+pub(crate) const ENDLESS: Lives = Lives {
     takes: u64::MAX,
     notes: u64::MAX,
     reached: 0,
 };
 
-/// Why servers didn't run so.
+/// Why servers didn't run or start so.
 #[derive(Clone, Copy, Debug, PartialEq, Eq)]
-pub enum TwoRunsFault {
+pub enum TestRunFault {
     /// Memory was refused.
     Memory,
     /// A body is no message.
     Message,
     /// A start failed that was to succeed, or succeeded that was to fail.
     Start,
+    /// A message got another reply than it was to get.
+    Verdict,
 }
 
-impl From<AllocError> for TwoRunsFault {
-    fn from(_: AllocError) -> TwoRunsFault {
-        TwoRunsFault::Memory
+impl From<AllocError> for TestRunFault {
+    fn from(_: AllocError) -> TestRunFault {
+        TestRunFault::Memory
     }
 }
 
@@ -75,7 +77,7 @@ pub fn two_runs(
     first: Vec<Vec<u8>>,
     failing: &Lives,
     second: Vec<Vec<u8>>,
-) -> Result<TwoRuns, TwoRunsFault>
+) -> Result<TwoRuns, TestRunFault>
     ensures ran { IfOk result (RanTwice ⟦<Mortal as Disk>⟧ ⟦<Mortal as Disk>⟧
         ⟦<FolderStore<Mortal> as TakeStore>⟧ ⟦<FolderJournal<Mortal> as Journal>⟧
         ⟦<RestingFolderJournal<Mortal> as Journal>⟧ limit) }
@@ -93,7 +95,7 @@ pub fn two_runs(
     };
     let one = run(alloc, empty, limit, first)?;
     let given = show(alloc, one.left)?;
-    let back = fail_to_start(alloc, given, limit, failing)?;
+    let back = fail_to_start(alloc, given, settings_of(limit, true), failing)?;
     let given = show(alloc, back)?;
     let two = run(alloc, given, limit, second)?;
     let left = show(alloc, two.left)?;
@@ -113,7 +115,7 @@ fn run(
     folder: Folder,
     limit: Limit,
     bodies: Vec<Vec<u8>>,
-) -> Result<Ran, TwoRunsFault>
+) -> Result<Ran, TestRunFault>
     ensures ran { IfOk result (λ it. RanOver ⟦<Mortal as Disk>⟧ ⟦<Mortal as Disk>⟧
         ⟦<FolderStore<Mortal> as TakeStore>⟧ ⟦<FolderJournal<Mortal> as Journal>⟧
         ⟦<RestingFolderJournal<Mortal> as Journal>⟧ limit folder it.answers.items it.left) }
@@ -130,31 +132,31 @@ fn run(
 ///
 /// # Errors
 /// `Start` if it failed, `Memory` if memory was refused.
-fn begin(alloc: Global, folder: Folder, limit: Limit) -> Result<RestingOver, TwoRunsFault>
+fn begin(alloc: Global, folder: Folder, limit: Limit) -> Result<RestingOver, TestRunFault>
     ensures { IfOk result (BeganOver ⟦<Mortal as Disk>⟧ ⟦<Mortal as Disk>⟧
         ⟦<FolderStore<Mortal> as TakeStore>⟧ ⟦<FolderJournal<Mortal> as Journal>⟧
         ⟦<RestingFolderJournal<Mortal> as Journal>⟧ limit folder) }
 {
     let takes = MortalDisk::new(folder.takes, ENDLESS.takes, ENDLESS.reached);
     let notes = MortalDisk::new(folder.notes, ENDLESS.notes, ENDLESS.reached);
-    let settings = settings_of(limit);
+    let settings = settings_of(limit, true);
     let Ok(server) = start_over(alloc, takes, notes, FOLDER, settings, &mut Unwatched) else {
-        return Err(TwoRunsFault::Start);
+        return Err(TestRunFault::Start);
     };
     match RestingServer::new(alloc, server.becomes_resting()) {
         Ok(server) => Ok(server),
-        Err(_) => Err(TwoRunsFault::Memory),
+        Err(_) => Err(TestRunFault::Memory),
     }
 }
 
-/// This limit, without syncs, and names that rest.
-fn settings_of(limit: Limit) -> Settings
-    ensures { result ≡ settings_with limit }
+/// This limit, without syncs, and whether names may rest.
+pub(crate) fn settings_of(limit: Limit, rest: bool) -> Settings
+    ensures { result ≡ settings_with limit rest }
 {
     Settings {
         limit,
         sync: false,
-        rest: true,
+        rest,
     }
 }
 
@@ -175,21 +177,19 @@ fn take_apart(server: RestingOver) -> Folder
 ///
 /// # Errors
 /// `Start` if it succeeded.
-fn fail_to_start(
+pub(crate) fn fail_to_start(
     alloc: Global,
     folder: Folder,
-    limit: Limit,
+    settings: Settings,
     lives: &Lives,
-) -> Result<Folder, TwoRunsFault>
+) -> Result<Folder, TestRunFault>
     ensures { IfOk result (λ back. FailedOver ⟦<Mortal as Disk>⟧ ⟦<Mortal as Disk>⟧
-        ⟦<FolderStore<Mortal> as TakeStore>⟧ ⟦<FolderJournal<Mortal> as Journal>⟧
-        ⟦<RestingFolderJournal<Mortal> as Journal>⟧ limit folder back) }
+        settings.limit folder back) }
 {
     let takes = MortalDisk::new(folder.takes, lives.takes, lives.reached);
     let notes = MortalDisk::new(folder.notes, lives.notes, lives.reached);
-    let settings = settings_of(limit);
     match start_over(alloc, takes, notes, FOLDER, settings, &mut Unwatched) {
-        Ok(_server) => Err(TwoRunsFault::Start),
+        Ok(_server) => Err(TestRunFault::Start),
         Err((_, takes, notes)) => Ok(Folder {
             takes: takes.into_inner(),
             notes: notes.into_inner(),
@@ -201,7 +201,7 @@ fn fail_to_start(
 ///
 /// # Errors
 /// `AllocError` if memory was refused.
-fn show(alloc: Global, folder: Folder) -> Result<Folder, AllocError>
+pub(crate) fn show(alloc: Global, folder: Folder) -> Result<Folder, AllocError>
     ensures { IfOk result (ShowsAgain folder) }
 {
     let Folder { takes, notes } = folder;

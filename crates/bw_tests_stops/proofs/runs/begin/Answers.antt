@@ -1,5 +1,4 @@
-use Rattle.std.proofs.Common.{rules, ◌≡◌, ◌∙◌, refl, sym, ap, subst}
-use Rattle.bw_rest.specs.RestingServers.{table_server}
+use Rattle.std.proofs.Common.{refl}
 use Rattle.bw_tests_stops.proofs.Starting.{began_over}
 use Rattle.bw_tests_stops.proofs.runs.begin.Goals as goal
 
