@@ -77,6 +77,17 @@ impl<D: Volume> FolderJournal<D> {
         Ok(moved)
     }
 
+    /// Syncs the folder, with `sync`: a file that was moved before is found at its new path from now on,
+    /// even after a loss of power. That move may have been reported as failed, or not been synced.
+    pub(crate) fn sync_moves(&mut self) -> Result<(), StoreFault>
+        ensures { OnlyReads D.Disk self.old self.new }
+    {
+        if self.sync {
+            self.disk.sync_folder(&self.folder).map_err(|_| StoreFault)?;
+        }
+        Ok(())
+    }
+
     /// Counts a call that failed.
     pub(crate) fn count(&mut self, fails: bool)
         ensures counted { Counts self.old.failures self.new.failures fails }

@@ -65,9 +65,9 @@ impl<F: Drop> OpenJournal<F> {
 ///
 /// With `sync` a note is made in steps: the take's file is synced, the bytes are appended, and the
 /// journal is synced. The folder is synced too after the first note since the journal was opened,
-/// and after the first that finds the take's file. So no note survives a loss of power without its
-/// samples, and none that was reported is lost. After a sync that failed each `note` of the name
-/// fails: another try could succeed although bytes are lost. Without `sync` nothing is synced.
+/// and after the first that finds the take's file. So no note of this journal survives a loss of power
+/// without its samples, and none that it reported is lost. After a note whose sync failed each `note` of
+/// the name fails: another try could succeed although bytes are lost. Without `sync` nothing is synced.
 #[derive(Drop)]
 pub struct FolderJournal<D: Volume> {
     pub(crate) disk: D,

@@ -249,7 +249,8 @@ impl<D: Volume> RestingFolderJournal<D> {
         Ok(())
     }
 
-    /// Moves a loose journal back to `NAME.journal`, unless it is there.
+    /// Moves a loose journal back to `NAME.journal`, unless it is there. With `sync` the folder is synced in
+    /// either case, before anything is noted.
     fn move_back(&mut self, name: &Name) -> Result<(), StoreFault>
         requires { IsTrue (is_loose self.old.loose name.now) }
         ensures stays { StaysOpen D.Disk self.old.inner self.new.inner }
@@ -265,7 +266,7 @@ impl<D: Volume> RestingFolderJournal<D> {
             (D.contents self.old.inner.disk) (D.contents self.new.inner.disk) }
     {
         if !self.stands_closed(name)? {
-            return Ok(());
+            return self.inner.sync_moves();
         }
         let from = closed_path(self.inner.alloc, &self.inner.folder, name)?;
         let to = journal_path(self.inner.alloc, &self.inner.folder, name)?;
