@@ -25,14 +25,14 @@ use Rattle.bw_send_state.specs.declared.job.Job.{Job}
 use Rattle.bw_send_state.specs.FoundCounts.{ResumesAt, IsCountFound}
 use Rattle.bw_send_state.specs.TakeOpenings.{first_block_len, frames_before_block}
 
--- The premise of going on: this command wrote the state, and the server has kept what it stored. So
--- the first so many of these requests were offered, none of them a CLOSE, and are stored.
+-- A sender to which the first so many of these requests were offered, none of them a CLOSE, and each of
+-- them is stored: those that are passed over. It says nothing of the state's file or of a server.
 pub record WasStoredBefore (name : List ℕ) (count : ℕ) (requests : List Request) (s : Defined)
     : Type 0 where
   pub has : HasStored name count s
   pub first : s.offered ≡ take count requests
 
--- the sender to which these requests were offered, each of them stored by that premise
+-- the sender to which these requests were offered, each of them stored
 abbrev pub stored_sender : List ℕ → List Request → Defined
 stored_sender name first =
     record { name = name; offered = first; verdicts = map (λ r. Some Stored) first }
@@ -74,8 +74,8 @@ module _ {F P D R W : Type 0} (feed : FeedGhosts F FeedFault) (pause : PauseGhos
         old.pause new.pause old.dial new.dial
     pub stores : StoresAll requests went.last.filling.sender
 
-  -- each request of the recording in these bytes is stored: the first so many by the premise, and
-  -- the others as the sender heard
+  -- each request of the recording in these bytes is stored: the first so many of the sender that had
+  -- them so before, and the others as it heard
   pub record SendsRest (recorder : Recorder) (o : Options) (count : ℕ) (b : List ℕ) (old new : Ways P D)
       : Type 0 where
     pub recording : Recording
