@@ -28,7 +28,7 @@ pub struct GivenAnswer {
     pub replies: ArrayVec<Reply, 17>,
 }
 
-/// AnswersBody a server these messages, one after another.
+/// Gives a server these messages, one after another.
 ///
 /// # Errors
 /// `Memory` if memory was refused, `Message` if a body is no message.
@@ -52,7 +52,7 @@ pub(crate) fn answer_each(
     Ok(answers)
 }
 
-/// AnswersBody a server a message.
+/// Gives a server a message.
 ///
 /// # Errors
 /// `Message` if the body is none.

@@ -22,11 +22,13 @@ use bw_store::{MemoryStore, TakeStore};
 use bw_wire::{Frame, Reply, decode};
 use std::alloc::Global;
 
-/// The messages of the sender's take, each under its number.
+/// The sender's OPEN, its number 0.
 const OPEN: &[u8] = b"\x01\x02a1\0\0\0\0\x80\xbb\0\0\x01\0\x10\0\0\0";
 
+/// Its BLOCK of two frames, number 1.
 const BLOCK: &[u8] = b"\x02\x02a1\x01\0\0\0\x01\0\x02\0";
 
+/// Its CLOSE, number 2.
 const CLOSE: &[u8] = b"\x05\x02a1\x02\0\0\0\x02\0\0\0\0\0\0\0";
 
 /// A block of another recorder, of a take that was never opened.
