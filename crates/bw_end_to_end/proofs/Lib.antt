@@ -10,3 +10,4 @@ pub mod UploadLinks
 pub mod DoneCommands
 pub mod DoneStates
 pub mod ExamplesOfPromises
+mod RestingPromiseLaws

@@ -32,30 +32,31 @@ kept_on taken old new s g kept n v e =
     let more = g.done in
     ((let b : n < new.done = omega (arith, below, more) in b), x.1 ∙ sym (g.verdicts n below))
 
--- a delivery to a sender that goes on
+-- what was delivered to a sender that goes on, whose verdicts of before stand
+pub had_or_heard : (existed : List ℕ → Bool) (requests : List Request) (s : Sender) (links : List (ℕ × LinkBytes))
+    (old : Log) (later : Book) → Grows (existed s.name) old (log_of later s.name) → HasKept (existed s.name) old s →
+    IsDelivered existed s.name requests (HeardOverLinks links s.name) (log_of later s.name) later →
+    IsDelivered existed s.name requests (HadOrHeard s links) (log_of later s.name) later
+had_or_heard existed requests s links old later grows kept h = record {
+  within = h.within;
+  prefix = h.prefix;
+  made = h.made;
+  verdicts = by_time;
+}
+  where
+    by_time : (n : ℕ) (v : Verdict) → HadOrHeard s links n v →
+        (n < (log_of later s.name).done) × (v ≡ verdict_at (existed s.name) (log_of later s.name).admitted n)
+    by_time n v (inl had) = kept_on (existed s.name) old (log_of later s.name) s grows kept n v had
+    by_time n v (inr heard) = h.verdicts n v heard
+
 delivered_on : (existed : List ℕ → Bool) (requests : List Request) (s : Sender) (links : List (ℕ × LinkBytes))
     (book later : Book) → IsDelivery existed s.name requests links book later →
     HasKept (existed s.name) (log_of book s.name) s →
     IsDelivered existed s.name requests (HadOrHeard s links) (log_of later s.name) later
 delivered_on existed requests s links book later d kept =
-    let h = deliveries_true existed s.name requests links book later d in
-    let step = delivery_step existed s.name requests links book later d in
-    let old : Log = log_of book s.name in
-    let new : Log = log_of later s.name in
-    let still = kept_on (existed s.name) old new s step.grows kept in
-    record {
-      within = h.within;
-      prefix = h.prefix;
-      made = h.made;
-      verdicts = λ n v e. by_time h.verdicts still n v e;
-    }
-  where
-    by_time : ((n : ℕ) (v : Verdict) → HeardOverLinks links s.name n v →
-        (n < (log_of later s.name).done) × (v ≡ verdict_at (existed s.name) (log_of later s.name).admitted n)) →
-        HasKept (existed s.name) (log_of later s.name) s → (n : ℕ) (v : Verdict) → HadOrHeard s links n v →
-        (n < (log_of later s.name).done) × (v ≡ verdict_at (existed s.name) (log_of later s.name).admitted n)
-    by_time came still n v (inl had) = still n v had
-    by_time came still n v (inr heard) = came n v heard
+    had_or_heard existed requests s links (log_of book s.name) later
+    (delivery_step existed s.name requests links book later d).grows kept
+    (deliveries_true existed s.name requests links book later d)
 
 -- each request was heard to be stored, before or over these links
 abbrev EachStored : List Request → Sender → List (ℕ × LinkBytes) → Type 0

@@ -5,5 +5,6 @@ pub mod ServedInTurn
 pub mod UploadedLinks
 pub mod SentFiles
 pub mod Promises
+pub mod RestingPromises
 pub mod SentFilesOn
 pub mod ExamplesOfPromises

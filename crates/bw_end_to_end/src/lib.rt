@@ -5,6 +5,7 @@
 ghost use Rattle.bw_end_to_end.specs.ExamplesOfPromises.{SenderOnExample};
 ghost use Rattle.bw_end_to_end.specs.Promises.{ClosedTakesHaveFiles, ClosedTakesHaveFilesOn};
 ghost use Rattle.bw_end_to_end.specs.Promises.{SendersCountTakes, SendersCountTakesOn};
+ghost use Rattle.bw_end_to_end.specs.RestingPromises.{ClosedTakesHaveFilesAtRest, SendersCountTakesAtRest};
 ghost use Rattle.bw_end_to_end.specs.SentFiles.{DoneFeedsAreStored};
 ghost use Rattle.bw_end_to_end.specs.SentFilesOn.{RecordingsAreStored, RestsSendRequests};
 ghost use Rattle.bw_end_to_end.specs.SentInRounds.{DoneSendsStoreAll, RoundsSendRequests};
@@ -35,6 +36,16 @@ pub fn law_promise<S: TakeStore, J: Journal>()
     ensures files_on { ClosedTakesHaveFilesOn S.TakeStore J.Journal }
 {
     bw_engine::laws::law_server_runs::<S, J>();
+}
+
+/// The same of a server whose names rest, to a sender from number 0 or one that goes on, up to the end of
+/// what the server answered: to the sender it is as if no name had ever rested, whichever of its frames
+/// were put off.
+pub fn law_promise_at_rest<S: TakeStore, J: Journal>()
+    ensures counts { SendersCountTakesAtRest S.TakeStore J.Journal }
+    ensures files { ClosedTakesHaveFilesAtRest S.TakeStore J.Journal }
+{
+    bw_rest::laws::law_leaves_folders::<S, J>();
 }
 
 /// What `send` wrote over its links, for links that report it, are its requests, each under its
