@@ -14,10 +14,10 @@ use bw_wire::{Frame, Reply, decode};
 use std::alloc::Global;
 
 /// A disk in memory that dies in a chosen call.
-pub(crate) type Mortal = MortalDisk<MemoryDisk>;
+pub type Mortal = MortalDisk<MemoryDisk>;
 
 /// A server whose names rest, over such disks.
-pub(crate) type RestingOver = RestingServer<FolderStore<Mortal>, RestingFolderJournal<Mortal>>;
+pub type RestingOver = RestingServer<FolderStore<Mortal>, RestingFolderJournal<Mortal>>;
 
 /// A message's body, and the replies to it.
 #[derive(Drop)]

@@ -20,6 +20,6 @@ mod starts_again;
 mod stops;
 
 pub use answering::GivenAnswer;
-pub use promised::serve_delivery;
+pub use promised::{serve_delivery, serve_delivery_at_rest};
 pub use restarts::{Restarted, restart};
 pub use runs::{TestRunFault, TwoRuns, two_runs};

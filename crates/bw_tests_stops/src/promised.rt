@@ -1,23 +1,32 @@
-//! A server over a store in memory that answers a worked delivery, of which messages are lost and come
-//! again: what `law_promise` takes as its premises holds of it, and so its store has the file.
+//! Servers that answer a worked delivery, of which messages are lost and come again: what `law_promise`
+//! and `law_promise_at_rest` take as their premises holds of them, and so their stores have the file.
 ghost use Rattle.std.specs.Prelude.{◌≡◌, Some, IfOk, OnOk};
 ghost use Rattle.bw_model.specs.ExampleWords.{a1, example_limit, small_file};
-ghost use Rattle.bw_model.specs.Take.{Stored};
+ghost use Rattle.bw_model.specs.Take.{NotOpen, Stored};
 ghost use Rattle.bw_model.specs.Replies.{Judged};
 ghost use Rattle.bw_request.specs.Verdicts.{verdict_meaning};
 ghost use Rattle.bw_session.specs.SeenServers.{server_store};
 ghost use Rattle.bw_wire.specs.Replies.{reply_of};
-ghost use Rattle.bw_tests_stops.specs.Promised.{GivesVerdict, ServedDelivery};
+ghost use Rattle.bw_exchange.specs.Answering.{AnswersAll};
+ghost use Rattle.bw_connections.specs.Keeping.{all_answered};
+ghost use Rattle.bw_rest.specs.RestingServers.{table_server};
+ghost use Rattle.bw_delivery.specs.ExamplesOfDeliveries.{worked_trace};
+ghost use Rattle.bw_tests_stops.specs.Promised.{GivesVerdict, ServedDelivery, ServedDeliveryAtRest};
 
-use crate::runs::TestRunFault;
+use crate::answering::{Mortal, RestingOver};
+use crate::runs::{TestRunFault, begin};
 use arrayvec::ArrayVec;
 use bw_delivery::examples_of_deliveries;
-use bw_end_to_end::law_promise;
+use bw_disk::MemoryDisk;
+use bw_end_to_end::{law_promise, law_promise_at_rest};
 use bw_exchange::Turns;
+use bw_folder::{FolderStore, RestingFolderJournal};
 use bw_journal::{Journal, NoJournal};
 use bw_layout::Limit;
+use bw_left::law_resting_starts;
 use bw_request::Verdict;
 use bw_session::Server;
+use bw_stops::Folder;
 use bw_store::{MemoryStore, TakeStore};
 use bw_wire::{Frame, Reply, decode};
 use std::alloc::Global;
@@ -53,31 +62,83 @@ pub fn serve_delivery(
     let Ok(mut server) = Server::new(alloc, MemoryStore::new(alloc), limit) else {
         return Err(TestRunFault::Memory);
     };
-    store(&mut server, OPEN, b"a1", 0)?;
-    let Verdict::NotOpen = answer(&mut server, OTHER, b"b2", 0)? else {
-        return Err(TestRunFault::Verdict);
-    };
-    store(&mut server, OPEN, b"a1", 0)?;
-    store(&mut server, BLOCK, b"a1", 1)?;
-    store(&mut server, CLOSE, b"a1", 2)?;
+    deliver(&mut server)?;
     Ok(server)
+}
+
+/// The same of a server whose names may rest, over an empty folder in memory.
+///
+/// # Errors
+/// As those of `serve_delivery`; `Start` if the start failed.
+pub fn serve_delivery_at_rest(alloc: Global, limit: Limit) -> Result<RestingOver, TestRunFault>
+    ensures served { IfOk result (ServedDeliveryAtRest ⟦<FolderStore<Mortal> as TakeStore>⟧
+        ⟦<RestingFolderJournal<Mortal> as Journal>⟧) }
+    ensures file { limit ≡ example_limit → IfOk result (λ s. ⟦<FolderStore<Mortal> as TakeStore>⟧.contents
+        (server_store (table_server s)) a1 ≡ Some small_file) }
+{
+    examples_of_deliveries();
+    law_promise_at_rest::<FolderStore<Mortal>, RestingFolderJournal<Mortal>>();
+    law_resting_starts::<Mortal, Mortal>();
+    // Called for its clause on the range of a limit.
+    let _range = limit.bytes();
+    let empty = Folder {
+        takes: MemoryDisk::new(alloc),
+        notes: MemoryDisk::new(alloc),
+    };
+    let mut server = begin(alloc, empty, limit)?;
+    deliver(&mut server)?;
+    Ok(server)
+}
+
+/// Gives a server the messages of the worked delivery.
+///
+/// # Errors
+/// `Verdict` if one got another reply than there, `Message` if a body is no message.
+fn deliver<T: Turns>(server: &mut T) -> Result<(), TestRunFault>
+    ensures { OnOk result (AnswersAll T.answers server.old (all_answered worked_trace) server.new) }
+{
+    store(server, OPEN, b"a1", 0)?;
+    refuse(server, OTHER, b"b2", 0)?;
+    store(server, OPEN, b"a1", 0)?;
+    store(server, BLOCK, b"a1", 1)?;
+    store(server, CLOSE, b"a1", 2)?;
+    Ok(())
 }
 
 /// Gives a server a message that is to be stored under this name and number.
 ///
 /// # Errors
 /// `Verdict` if it wasn't, `Message` if the body is no message.
-fn store(
-    server: &mut Server<MemoryStore, NoJournal>,
+fn store<T: Turns>(
+    server: &mut T,
     body: &[u8],
     name: &[u8],
     number: u32,
 ) -> Result<(), TestRunFault>
-    ensures { OnOk result (GivesVerdict ⟦<MemoryStore as TakeStore>⟧ ⟦<NoJournal as Journal>⟧
-        server.old body.now name.now number Stored server.new) }
+    ensures { OnOk result
+        (GivesVerdict T.answers server.old body.now name.now number Stored server.new) }
 {
     match answer(server, body, name, number)? {
         Verdict::Stored => Ok(()),
+        _ => Err(TestRunFault::Verdict),
+    }
+}
+
+/// Gives a server a message of a take that was never opened.
+///
+/// # Errors
+/// `Verdict` if it wasn't refused so, `Message` if the body is no message.
+fn refuse<T: Turns>(
+    server: &mut T,
+    body: &[u8],
+    name: &[u8],
+    number: u32,
+) -> Result<(), TestRunFault>
+    ensures { OnOk result
+        (GivesVerdict T.answers server.old body.now name.now number NotOpen server.new) }
+{
+    match answer(server, body, name, number)? {
+        Verdict::NotOpen => Ok(()),
         _ => Err(TestRunFault::Verdict),
     }
 }
@@ -86,20 +147,20 @@ fn store(
 ///
 /// # Errors
 /// `Verdict` if it answers otherwise, `Message` if the body is no message.
-fn answer(
-    server: &mut Server<MemoryStore, NoJournal>,
+fn answer<T: Turns>(
+    server: &mut T,
     body: &[u8],
     name: &[u8],
     number: u32,
 ) -> Result<Verdict, TestRunFault>
-    ensures { IfOk result (λ v. GivesVerdict ⟦<MemoryStore as TakeStore>⟧ ⟦<NoJournal as Journal>⟧
-        server.old body.now name.now number (verdict_meaning v) server.new) }
+    ensures { IfOk result (λ v. GivesVerdict T.answers server.old body.now name.now number
+        (verdict_meaning v) server.new) }
 {
     let Ok(Frame::Message(message)) = decode(body) else {
         return Err(TestRunFault::Message);
     };
     let mut replies = ArrayVec::<Reply, 17>::new();
-    Turns::turn(server, &message, &mut replies);
+    server.turn(&message, &mut replies);
     let Some(reply) = replies.pop() else {
         return Err(TestRunFault::Verdict);
     };

@@ -132,7 +132,11 @@ fn run(
 ///
 /// # Errors
 /// `Start` if it failed, `Memory` if memory was refused.
-fn begin(alloc: Global, folder: Folder, limit: Limit) -> Result<RestingOver, TestRunFault>
+pub(crate) fn begin(
+    alloc: Global,
+    folder: Folder,
+    limit: Limit,
+) -> Result<RestingOver, TestRunFault>
     ensures { IfOk result (BeganOver ⟦<Mortal as Disk>⟧ ⟦<Mortal as Disk>⟧
         ⟦<FolderStore<Mortal> as TakeStore>⟧ ⟦<FolderJournal<Mortal> as Journal>⟧
         ⟦<RestingFolderJournal<Mortal> as Journal>⟧ limit folder) }
