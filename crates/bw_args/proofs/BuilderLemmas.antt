@@ -1,6 +1,6 @@
 -- What the calls on an option or a command make of it, by the one field that each of them sets: a search would look
 -- through all the others.
-use Rattle.std.proofs.Common.{◌≡◌, ◌∙◌, true, Some, List, ℕ, ◌||◌, ap, Result, IfOk}
+use Rattle.std.proofs.Common.{◌≡◌, ◌∙◌, true, Some, List, ℕ, ◌||◌, ap, subst, Result, Ok, IfOk}
 use Rattle.std.proofs.lemmas.Result.{IfOk-weaker}
 use Rattle.std.specs.declared.alloc.AllocError.{AllocError}
 use Rattle.std.specs.Borrow.{Bor}
@@ -95,3 +95,12 @@ pub one_subcommand : (a sub : Command) (r : Result Command AllocError) (app unde
     → IsCommand under sub → IfOk r (AddsSubcommand a sub) → IfOk r (λ b. app_of b ≡ with_subcommand app under.top)
 one_subcommand a sub r app under is command adds =
     IfOk-weaker r _ _ (λ b. command_subcommand a b sub app under is command) adds
+
+-- the same, where memory may have run out before
+pub any_subcommand : (a : Command) (o : Result Command AllocError) (sub : Command) (r : Result Command AllocError)
+    → o ≡ Ok sub → IfOk r (AddsSubcommand a sub)
+    → IfOk r (λ b. (app under : App) → app_of a ≡ app → IfOk o (IsCommand under)
+    → app_of b ≡ with_subcommand app under.top)
+any_subcommand a o sub r was adds = IfOk-weaker r _ _
+    (λ b is app under e holds. command_subcommand a b sub app under e (subst (λ o. IfOk o (IsCommand under)) was holds) is)
+    adds

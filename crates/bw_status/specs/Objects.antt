@@ -4,7 +4,7 @@ use Rattle.std.specs.Prelude.{ℕ, List, map, Option, Some, None, codes, string_
 use Rattle.std.specs.Net.Text.{socket_text}
 use Rattle.std.specs.declared.net.socket_addr.SocketAddr.{SocketAddr}
 use Rattle.serde_json.specs.Data.{Data, null, number, string, unsigned, array, object, member}
-use Rattle.serde_json.specs.Data.{no_members}
+use Rattle.serde_json.specs.Data.{Members, no_members, put}
 use Rattle.serde_json.specs.View.{items_of}
 use Rattle.bw_status.specs.declared.snapshot.Count.{Count}
 use Rattle.bw_status.specs.declared.snapshot.Snapshot.{Snapshot}
@@ -55,6 +55,31 @@ take_data t = take_object t (format_number (λ (f : SoundFormat). f.bits) t.form
     (unsigned_or_null t.ms) (peer_data t.peer) (unsigned_or_null t.quiet_ms)
     (format_number (λ (f : SoundFormat). f.rate) t.format)
 
+-- members with a take's name, state and peer
+abbrev pub with_words : TakeStatus → Members → Members
+with_words t members = put (codes "name") (string (string_bytes t.name))
+    (put (codes "peer") (peer_data t.peer)
+    (put (codes "state") (string (take_state_word t.state)) members))
+
+-- members with a take's counts
+abbrev pub with_counts : TakeStatus → Members → Members
+with_counts t members = put (codes "delayed") (unsigned_data t.delayed)
+    (put (codes "held") (unsigned_data t.held)
+    (put (codes "next") (unsigned_data t.next)
+    (put (codes "refused") (unsigned_data t.refused) members)))
+
+-- members with how long a take is, and how long ago it grew
+abbrev pub with_times : TakeStatus → Members → Members
+with_times t members = put (codes "frames") (unsigned_or_null t.frames)
+    (put (codes "ms") (unsigned_or_null t.ms)
+    (put (codes "quiet_ms") (unsigned_or_null t.quiet_ms) members))
+
+-- members with a format
+abbrev pub with_format : Option SoundFormat → Members → Members
+with_format f members = put (codes "bits") (format_number (λ (f : SoundFormat). f.bits) f)
+    (put (codes "channels") (format_number (λ (f : SoundFormat). f.channels) f)
+    (put (codes "rate") (format_number (λ (f : SoundFormat). f.rate) f) members))
+
 -- how often something happened
 abbrev pub count_data : Count → Data
 count_data c = object
@@ -87,3 +112,25 @@ abbrev pub snapshot_data : Snapshot → Data
 snapshot_data s = snapshot_object s (unsigned_or_null s.memory) (counts_data s.messages.items)
     (counts_data s.notices.items) (array (items_of (map take_data s.takes.items)))
     (counts_data s.verdicts.items)
+
+-- members with those that are lists
+abbrev pub with_lists : Snapshot → Members → Members
+with_lists s members = put (codes "messages") (counts_data s.messages.items)
+    (put (codes "notices") (counts_data s.notices.items)
+    (put (codes "takes") (array (items_of (map take_data s.takes.items)))
+    (put (codes "verdicts") (counts_data s.verdicts.items) members)))
+
+-- members with how the server is, and for how long it has been running
+abbrev pub with_server : Snapshot → Members → Members
+with_server s members = put (codes "health") (string (health_text s.health))
+    (put (codes "memory") (unsigned_or_null s.memory)
+    (put (codes "since") (unsigned_data s.since)
+    (put (codes "uptime_ms") (unsigned_data s.uptime_ms) members)))
+
+-- members with the counts of connections, of takes that were resumed and of bytes
+abbrev pub with_links : Snapshot → Members → Members
+with_links s members = put (codes "bytes") (unsigned_data s.bytes)
+    (put (codes "connections") (unsigned_data s.connections)
+    (put (codes "ended") (unsigned_data s.ended)
+    (put (codes "places") (unsigned_data s.places)
+    (put (codes "resumed") (unsigned_data s.resumed) members))))

@@ -1,14 +1,15 @@
 //! What a server is doing, as JSON (RFC 8259).
-ghost use Rattle.std.specs.Prelude.{◌≡◌, IfOk, Some, map, string_bytes};
+ghost use Rattle.std.specs.Prelude.{◌≡◌, IfOk, OnOk, Some, map, string_bytes};
 ghost use Rattle.serde_json.specs.Data.{array};
 ghost use Rattle.serde_json.specs.Read.{read};
-ghost use Rattle.serde_json.specs.View.{items_of, view};
+ghost use Rattle.serde_json.specs.View.{items_of, members_view, view};
 ghost use Rattle.serde_json.specs.Written.{compact_text};
-ghost use Rattle.bw_status.specs.Objects.{count_data, snapshot_data, snapshot_object, take_data};
+ghost use Rattle.bw_status.specs.Objects.{count_data, snapshot_data, take_data};
+ghost use Rattle.bw_status.specs.Objects.{with_lists, with_server, with_links};
 
 use crate::json_take::{number_value, take_value};
 use crate::snapshot::{Count, Snapshot, TakeStatus, health_text};
-use serde_json::{Value, json};
+use serde_json::{Map, ToValue, Value, json, put};
 use std::alloc::{AllocError, Global};
 
 /// What a server is doing, as the text of an object.
@@ -21,61 +22,60 @@ pub(crate) fn snapshot_json(alloc: Global, snapshot: &Snapshot) -> Result<String
     value.to_string(alloc)
 }
 
-/// The members that are lists, or aren't always known.
-#[derive(Drop)]
-struct SnapshotValues {
-    memory: Value,
-    messages: Value,
-    notices: Value,
-    takes: Value,
-    verdicts: Value,
-}
-
 fn snapshot_value(alloc: Global, snapshot: &Snapshot) -> Result<Value, AllocError>
     ensures { IfOk result (λ v. view v ≡ snapshot_data snapshot.now) }
 {
-    let values = SnapshotValues {
-        memory: number_value(snapshot.memory),
-        messages: counts_value(alloc, snapshot.messages.as_slice())?,
-        notices: counts_value(alloc, snapshot.notices.as_slice())?,
-        takes: takes_value(alloc, snapshot.takes.as_slice())?,
-        verdicts: counts_value(alloc, snapshot.verdicts.as_slice())?,
-    };
-    object_of(alloc, snapshot, values)
+    let mut members = Map::new(alloc);
+    put_lists(alloc, &mut members, snapshot)?;
+    put_server(alloc, &mut members, snapshot)?;
+    put_links(alloc, &mut members, snapshot)?;
+    Ok(Value::Object(members))
 }
 
-/// What a server is doing, with these values.
-fn object_of(
+/// Puts the members that are lists into an object.
+fn put_lists(
     alloc: Global,
+    members: &mut Map<String, Value>,
     snapshot: &Snapshot,
-    values: SnapshotValues,
-) -> Result<Value, AllocError>
-    ensures { IfOk result (λ v. view v ≡ snapshot_object snapshot.now (view values.memory)
-        (view values.messages) (view values.notices) (view values.takes) (view values.verdicts)) }
+) -> Result<(), AllocError>
+    ensures { OnOk result (members_view members.new.entries
+        ≡ with_lists snapshot.now (members_view members.old.entries)) }
 {
-    let SnapshotValues {
-        memory,
-        messages,
-        notices,
-        takes,
-        verdicts,
-    } = values;
-    let health = health_text(snapshot.health);
-    json!(in alloc; {
-        "bytes": snapshot.bytes,
-        "connections": snapshot.connections,
-        "ended": snapshot.ended,
-        "health": health,
-        "memory": memory,
-        "messages": messages,
-        "notices": notices,
-        "places": snapshot.places,
-        "resumed": snapshot.resumed,
-        "since": snapshot.since,
-        "takes": takes,
-        "uptime_ms": snapshot.uptime_ms,
-        "verdicts": verdicts
-    })
+    put(members, alloc, "verdicts", counts_value(alloc, snapshot.verdicts.as_slice())?)?;
+    put(members, alloc, "takes", takes_value(alloc, snapshot.takes.as_slice())?)?;
+    put(members, alloc, "notices", counts_value(alloc, snapshot.notices.as_slice())?)?;
+    put(members, alloc, "messages", counts_value(alloc, snapshot.messages.as_slice())?)
+}
+
+/// Puts how the server is, and for how long it has been running, into an object.
+fn put_server(
+    alloc: Global,
+    members: &mut Map<String, Value>,
+    snapshot: &Snapshot,
+) -> Result<(), AllocError>
+    ensures { OnOk result (members_view members.new.entries
+        ≡ with_server snapshot.now (members_view members.old.entries)) }
+{
+    put(members, alloc, "uptime_ms", Value::from(snapshot.uptime_ms))?;
+    put(members, alloc, "since", Value::from(snapshot.since))?;
+    put(members, alloc, "memory", number_value(snapshot.memory))?;
+    put(members, alloc, "health", health_text(snapshot.health).to_value(alloc)?)
+}
+
+/// Puts the counts of connections, of takes that were resumed and of bytes into an object.
+fn put_links(
+    alloc: Global,
+    members: &mut Map<String, Value>,
+    snapshot: &Snapshot,
+) -> Result<(), AllocError>
+    ensures { OnOk result (members_view members.new.entries
+        ≡ with_links snapshot.now (members_view members.old.entries)) }
+{
+    put(members, alloc, "resumed", Value::from(snapshot.resumed))?;
+    put(members, alloc, "places", Value::from(snapshot.places))?;
+    put(members, alloc, "ended", Value::from(snapshot.ended))?;
+    put(members, alloc, "connections", Value::from(snapshot.connections))?;
+    put(members, alloc, "bytes", Value::from(snapshot.bytes))
 }
 
 /// The takes, in their order.

@@ -1,77 +1,84 @@
 //! A take as JSON (RFC 8259).
-ghost use Rattle.std.specs.Prelude.{◌≡◌, IfOk};
-ghost use Rattle.serde_json.specs.View.{view};
+ghost use Rattle.std.specs.Prelude.{◌≡◌, IfOk, OnOk};
+ghost use Rattle.serde_json.specs.View.{members_view, view};
 ghost use Rattle.bw_status.specs.declared.snapshot.SoundFormat.{SoundFormat};
 ghost use Rattle.bw_status.specs.Objects.{format_number, unsigned_or_null, peer_data, take_data};
-ghost use Rattle.bw_status.specs.Objects.{take_object};
+ghost use Rattle.bw_status.specs.Objects.{with_words, with_counts, with_times, with_format};
 
 use crate::row::address_text;
 use crate::snapshot::{SoundFormat, TakeStatus, take_state_word};
-use serde_json::{Value, json};
+use serde_json::{Map, ToValue, Value, put};
 use std::alloc::{AllocError, Global};
 use std::net::SocketAddr;
-
-/// What of a take isn't always known.
-#[derive(Drop)]
-struct TakeValues {
-    bits: Value,
-    channels: Value,
-    frames: Value,
-    ms: Value,
-    peer: Value,
-    quiet: Value,
-    rate: Value,
-}
 
 /// A take as an object.
 #[tactic(auto, unfolding(crate::specs::Objects::take_data))]
 pub(crate) fn take_value(alloc: Global, take: &TakeStatus) -> Result<Value, AllocError>
     ensures { IfOk result (λ v. view v ≡ take_data take.now) }
 {
-    let values = TakeValues {
-        bits: bits_value(&take.format),
-        channels: channels_value(&take.format),
-        frames: number_value(take.frames),
-        ms: number_value(take.ms),
-        peer: peer_value(alloc, &take.peer)?,
-        quiet: number_value(take.quiet_ms),
-        rate: rate_value(&take.format),
-    };
-    object_of(alloc, take, values)
+    let mut members = Map::new(alloc);
+    put_words(alloc, &mut members, take)?;
+    put_counts(alloc, &mut members, take)?;
+    put_times(alloc, &mut members, take)?;
+    put_format(alloc, &mut members, &take.format)?;
+    Ok(Value::Object(members))
 }
 
-/// A take with these values.
-fn object_of(alloc: Global, take: &TakeStatus, values: TakeValues) -> Result<Value, AllocError>
-    ensures { IfOk result (λ v. view v ≡ take_object take.now (view values.bits)
-        (view values.channels) (view values.frames) (view values.ms) (view values.peer)
-        (view values.quiet) (view values.rate)) }
+/// Puts a take's name, state and peer into an object.
+fn put_words(
+    alloc: Global,
+    members: &mut Map<String, Value>,
+    take: &TakeStatus,
+) -> Result<(), AllocError>
+    ensures { OnOk result (members_view members.new.entries
+        ≡ with_words take.now (members_view members.old.entries)) }
 {
-    let TakeValues {
-        bits,
-        channels,
-        frames,
-        ms,
-        peer,
-        quiet,
-        rate,
-    } = values;
-    let name = take.name.as_str();
-    let state = take_state_word(take.state);
-    json!(in alloc; {
-        "bits": bits,
-        "channels": channels,
-        "delayed": take.delayed,
-        "frames": frames,
-        "held": take.held,
-        "ms": ms,
-        "name": name,
-        "next": take.next,
-        "peer": peer,
-        "quiet_ms": quiet,
-        "rate": rate,
-        "refused": take.refused,
-        "state": state
-    })
+    put(members, alloc, "state", take_state_word(take.state).to_value(alloc)?)?;
+    put(members, alloc, "peer", peer_value(alloc, &take.peer)?)?;
+    put(members, alloc, "name", take.name.as_str().to_value(alloc)?)
+}
+
+/// Puts a take's counts into an object.
+fn put_counts(
+    alloc: Global,
+    members: &mut Map<String, Value>,
+    take: &TakeStatus,
+) -> Result<(), AllocError>
+    ensures { OnOk result (members_view members.new.entries
+        ≡ with_counts take.now (members_view members.old.entries)) }
+{
+    put(members, alloc, "refused", Value::from(take.refused))?;
+    put(members, alloc, "next", Value::from(take.next))?;
+    put(members, alloc, "held", Value::from(take.held))?;
+    put(members, alloc, "delayed", Value::from(take.delayed))
+}
+
+/// Puts how long a take is, and how long ago it grew, into an object.
+fn put_times(
+    alloc: Global,
+    members: &mut Map<String, Value>,
+    take: &TakeStatus,
+) -> Result<(), AllocError>
+    ensures { OnOk result (members_view members.new.entries
+        ≡ with_times take.now (members_view members.old.entries)) }
+{
+    put(members, alloc, "quiet_ms", number_value(take.quiet_ms))?;
+    put(members, alloc, "ms", number_value(take.ms))?;
+    put(members, alloc, "frames", number_value(take.frames))
+}
+
+/// Puts a format into an object.
+fn put_format(
+    alloc: Global,
+    members: &mut Map<String, Value>,
+    format: &Option<SoundFormat>,
+) -> Result<(), AllocError>
+    ensures { OnOk result (members_view members.new.entries
+        ≡ with_format format.now (members_view members.old.entries)) }
+{
+    put(members, alloc, "rate", rate_value(format))?;
+    put(members, alloc, "channels", channels_value(format))?;
+    put(members, alloc, "bits", bits_value(format))
 }
 
 /// The bits per sample, or null.

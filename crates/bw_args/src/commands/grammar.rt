@@ -1,6 +1,6 @@
 //! The program and its commands, as `clap` sees them.
 ghost use Rattle.std.specs.Prelude.{◌≡◌, IfOk};
-ghost use Rattle.clap.specs.Simple.{new_app};
+ghost use Rattle.clap.specs.Simple.{App, new_app, with_subcommand};
 ghost use Rattle.clap.specs.Words.{app_of};
 ghost use Rattle.bw_args.specs.Commands.{IsCommand, command_line, inspect_command, inspect_texts};
 ghost use Rattle.bw_args.specs.Commands.{offline, on_files, on_folders, pack_command};
@@ -27,36 +27,44 @@ use std::alloc::{AllocError, Global};
 pub fn bwingest<'a>(alloc: Global) -> Result<Command<'a>, AllocError>
     ensures { IfOk result (λ c. app_of c ≡ command_line) }
 {
-    on_folders(alloc)?
-        .subcommand(serve(alloc)?)?
-        .subcommand(send(alloc)?)
+    let serves = with_command(on_folders(alloc)?, serve(alloc))?;
+    with_command(serves, send(alloc))
 }
 
 /// The program of `on_files` with the command on a folder of takes.
 fn on_folders<'a>(alloc: Global) -> Result<Command<'a>, AllocError>
     ensures { IfOk result (λ c. app_of c ≡ on_folders) }
 {
-    on_files(alloc)?.subcommand(takes(alloc)?)
+    with_command(on_files(alloc)?, takes(alloc))
 }
 
 /// The program of `offline` with the commands that draw a file or change it in place.
 fn on_files<'a>(alloc: Global) -> Result<Command<'a>, AllocError>
     ensures { IfOk result (λ c. app_of c ≡ on_files) }
 {
-    offline(alloc)?
-        .subcommand(picture(alloc)?)?
-        .subcommand(repair(alloc)?)
+    let draws = with_command(offline(alloc)?, picture(alloc))?;
+    with_command(draws, repair(alloc))
 }
 
 /// The program with the commands that use no network.
 fn offline<'a>(alloc: Global) -> Result<Command<'a>, AllocError>
     ensures { IfOk result (λ c. app_of c ≡ offline) }
 {
-    program(alloc)?
-        .subcommand(replay(alloc)?)?
-        .subcommand(rehearse(alloc)?)?
-        .subcommand(inspect(alloc)?)?
-        .subcommand(pack(alloc)?)
+    let replays = with_command(program(alloc)?, replay(alloc))?;
+    let rehearses = with_command(replays, rehearse(alloc))?;
+    let inspects = with_command(rehearses, inspect(alloc))?;
+    with_command(inspects, pack(alloc))
+}
+
+/// A program with this command too, if memory sufficed for that. Only here a program is dropped.
+fn with_command<'a>(
+    program: Command<'a>,
+    command: Result<Command<'a>, AllocError>,
+) -> Result<Command<'a>, AllocError>
+    ensures { IfOk result (λ c. (app under : App) → app_of program.entry ≡ app
+        → IfOk command.entry (IsCommand under) → app_of c ≡ with_subcommand app under.top) }
+{
+    program.subcommand(command?)
 }
 
 /// The program without its commands.
