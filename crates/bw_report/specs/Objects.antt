@@ -154,3 +154,39 @@ fault_data name fault place = object
     (member (codes "ok") (boolean false)
     (member (codes "sha256") null
     (member (codes "size") null no_members)))))))))))))
+
+-- members with what is said of the whole file
+abbrev pub with_whole_file : Option (List ℕ) → Report → Members → Members
+with_whole_file digest r members = put (codes "ok") (boolean true)
+    (put (codes "sha256") (hex_or_null digest) (put (codes "size") (number_data r.size) members))
+
+-- members with the form and the format
+abbrev pub with_form_and_format : Report → Members → Members
+with_form_and_format r members = put (codes "fmt") (fmt_data r.fmt)
+    (put (codes "form") (text_data r.form) (put (codes "form_hex") (hex_data r.form) members))
+
+-- members with the name and the samples
+abbrev pub with_placed_samples : List ℕ → Report → Members → Members
+with_placed_samples name r members = put (codes "data") (samples_data r.data_at r.data_size r.fmt)
+    (put (codes "fault") null (put (codes "file") (string name) members))
+
+-- members with the cue points, the chunks and `bext`
+abbrev pub with_placed_parts : Report → Members → Members
+with_placed_parts r members = put (codes "at") null
+    (put (codes "bext") (bext_or_null r.fmt.rate r.bext)
+    (put (codes "chunks") (array (items_of (map chunk_data r.chunks)))
+    (put (codes "cues") (array (items_of (map (cue_data r.fmt.rate) r.cues))) members)))
+
+-- members with those of a chunk
+abbrev pub with_listed_chunk : Entry → Members → Members
+with_listed_chunk e members = put (codes "at") (number_data e.place)
+    (put (codes "id") (text_data e.id)
+    (put (codes "id_hex") (hex_data e.id) (put (codes "size") (number_data e.size) members)))
+
+-- members with those of the `fmt ` chunk
+abbrev pub with_fmt_chunk : RawFmt → Members → Members
+with_fmt_chunk f members = put (codes "align") (number_data f.align)
+    (put (codes "bits") (number_data f.bits)
+    (put (codes "bytes") (number_data f.bytes_per_second)
+    (put (codes "channels") (number_data f.channels)
+    (put (codes "rate") (number_data f.rate) (put (codes "tag") (number_data f.tag) members)))))

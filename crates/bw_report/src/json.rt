@@ -1,10 +1,11 @@
 //! What is found at a path, as JSON.
-ghost use Rattle.std.specs.Prelude.{◌≡◌, IfOk, Some, string_bytes};
+ghost use Rattle.std.specs.Prelude.{◌≡◌, IfOk, OnOk, Some, string_bytes};
 ghost use Rattle.serde_json.specs.Read.{read};
-ghost use Rattle.serde_json.specs.View.{view};
+ghost use Rattle.serde_json.specs.View.{members_view, view};
 ghost use Rattle.serde_json.specs.Written.{compact_text};
 ghost use Rattle.bw_inspect.specs.Reports.{reported_by};
-ghost use Rattle.bw_report.specs.Objects.{contents_data, fault_data, report_data};
+ghost use Rattle.bw_report.specs.Objects.{fault_data, report_data};
+ghost use Rattle.bw_report.specs.Objects.{with_form_and_format, with_placed_parts, with_placed_samples, with_whole_file};
 ghost use Rattle.bw_report.specs.Values.{hex_or_null};
 ghost use Rattle.bw_report.specs.Entries.{found_data};
 
@@ -13,7 +14,7 @@ use crate::found::Found;
 use crate::parts::{chunks_value, cues_value, fmt_value, samples_value};
 use crate::value::{hex_value, number_value, text_value};
 use bw_inspect::Report;
-use serde_json::{Value, json};
+use serde_json::{Map, Value, json, put};
 use std::alloc::{AllocError, Global};
 
 /// The object of what is found under a name, as text without a line's end.
@@ -51,68 +52,93 @@ fn report_value(
 ) -> Result<Value, AllocError>
     ensures { IfOk result (λ v. view v ≡ report_data name.now digest.now (reported_by report.now)) }
 {
-    let rate = report.fmt.rate;
-    let contents = Contents {
-        bext: bext_value(alloc, &report.bext, rate)?,
-        chunks: chunks_value(alloc, &report.chunks)?,
-        cues: cues_value(alloc, &report.cues, rate)?,
-        samples: samples_value(alloc, report.data_at, report.data_size, &report.fmt)?,
-        fmt: fmt_value(alloc, &report.fmt)?,
-        form: text_value(alloc, &report.form.0)?,
-        form_hex: hex_value(alloc, &report.form.0)?,
-        sha256: digest_value(alloc, digest)?,
-    };
-    contents_value(alloc, name, report.size, contents)
+    let mut members = Map::new(alloc);
+    put_whole(alloc, &mut members, report, digest)?;
+    put_format(alloc, &mut members, report)?;
+    put_samples(alloc, &mut members, name, report)?;
+    put_parts(alloc, &mut members, report)?;
+    Ok(Value::Object(members))
 }
 
-/// What is in a file, part by part.
-#[derive(Drop)]
-struct Contents {
-    bext: Value,
-    chunks: Value,
-    cues: Value,
-    samples: Value,
-    fmt: Value,
-    form: Value,
-    form_hex: Value,
-    sha256: Value,
-}
-
-fn contents_value(
+/// Puts what is said of the whole file into an object.
+fn put_whole(
     alloc: Global,
-    name: &str,
-    size: u64,
-    contents: Contents,
-) -> Result<Value, AllocError>
-    ensures { IfOk result (λ v. view v ≡ contents_data name.now size (view contents.bext)
-        (view contents.chunks) (view contents.cues) (view contents.samples) (view contents.fmt)
-        (view contents.form) (view contents.form_hex) (view contents.sha256)) }
+    members: &mut Map<String, Value>,
+    report: &Report,
+    digest: &Option<[u8; 32]>,
+) -> Result<(), AllocError>
+    ensures { OnOk result (members_view members.new.entries
+        ≡ with_whole_file digest.now (reported_by report.now) (members_view members.old.entries)) }
 {
-    let Contents {
-        bext,
-        chunks,
-        cues,
-        samples,
-        fmt,
-        form,
-        form_hex,
-        sha256,
-    } = contents;
-    json!(in alloc; {
-        "at": null,
-        "bext": bext,
-        "chunks": chunks,
-        "cues": cues,
-        "data": samples,
-        "fault": null,
-        "file": name,
-        "fmt": fmt,
-        "form": form,
-        "form_hex": form_hex,
-        "ok": true,
-        "sha256": sha256,
-        "size": size
-    })
+    put(members, alloc, "size", Value::from(report.size))?;
+    put(members, alloc, "sha256", digest_value(alloc, digest)?)?;
+    put(members, alloc, "ok", Value::Bool(true))
+}
+
+/// Puts the form and the format into an object.
+fn put_format(
+    alloc: Global,
+    members: &mut Map<String, Value>,
+    report: &Report,
+) -> Result<(), AllocError>
+    ensures { OnOk result (members_view members.new.entries
+        ≡ with_form_and_format (reported_by report.now) (members_view members.old.entries)) }
+{
+    put(
+        members,
+        alloc,
+        "form_hex",
+        hex_value(alloc, &report.form.0)?,
+    )?;
+    put(members, alloc, "form", text_value(alloc, &report.form.0)?)?;
+    put(members, alloc, "fmt", fmt_value(alloc, &report.fmt)?)
+}
+
+/// Puts the name and the samples into an object.
+fn put_samples(
+    alloc: Global,
+    members: &mut Map<String, Value>,
+    name: &str,
+    report: &Report,
+) -> Result<(), AllocError>
+    ensures { OnOk result (members_view members.new.entries
+        ≡ with_placed_samples name.now (reported_by report.now) (members_view members.old.entries)) }
+{
+    put(members, alloc, "file", Value::try_from_str(alloc, name)?)?;
+    put(members, alloc, "fault", Value::Null)?;
+    let samples = samples_value(alloc, report.data_at, report.data_size, &report.fmt)?;
+    put(members, alloc, "data", samples)
+}
+
+/// Puts the cue points, the chunks and `bext` into an object.
+fn put_parts(
+    alloc: Global,
+    members: &mut Map<String, Value>,
+    report: &Report,
+) -> Result<(), AllocError>
+    ensures { OnOk result (members_view members.new.entries
+        ≡ with_placed_parts (reported_by report.now) (members_view members.old.entries)) }
+{
+    let rate = report.fmt.rate;
+    put(
+        members,
+        alloc,
+        "cues",
+        cues_value(alloc, &report.cues, rate)?,
+    )?;
+    put(
+        members,
+        alloc,
+        "chunks",
+        chunks_value(alloc, &report.chunks)?,
+    )?;
+    put(
+        members,
+        alloc,
+        "bext",
+        bext_value(alloc, &report.bext, rate)?,
+    )?;
+    put(members, alloc, "at", Value::Null)
 }
 
 /// A digest as hex digits, or null.

@@ -1,15 +1,15 @@
 //! The parts of a report as JSON.
-ghost use Rattle.std.specs.Prelude.{◌≡◌, IfOk, map};
+ghost use Rattle.std.specs.Prelude.{◌≡◌, IfOk, OnOk, map};
 ghost use Rattle.bw_model.specs.Report.{frames_of};
 ghost use Rattle.serde_json.specs.Data.{array};
-ghost use Rattle.serde_json.specs.View.{items_of, view};
-ghost use Rattle.bw_report.specs.Objects.{chunk_data, cue_data, fmt_data, samples_data};
+ghost use Rattle.serde_json.specs.View.{items_of, members_view, view};
+ghost use Rattle.bw_report.specs.Objects.{chunk_data, cue_data, fmt_data, samples_data, with_listed_chunk, with_fmt_chunk};
 
 use crate::time::milliseconds;
 use crate::value::{hex_value, number_value, text_value};
 use bw_inspect::{Chunks, Cues, ListedChunk};
 use bw_layout::{RawCue, RawFmt};
-use serde_json::{Value, json};
+use serde_json::{Map, Value, json, put};
 use std::alloc::{AllocError, Global};
 
 /// The chunks, in their order.
@@ -26,9 +26,23 @@ pub(crate) fn chunks_value(alloc: Global, chunks: &Chunks) -> Result<Value, Allo
 fn chunk_value(alloc: Global, chunk: &ListedChunk) -> Result<Value, AllocError>
     ensures { IfOk result (λ v. view v ≡ chunk_data chunk.now) }
 {
-    let id = text_value(alloc, &chunk.id.0)?;
-    let id_hex = hex_value(alloc, &chunk.id.0)?;
-    json!(in alloc; {"at": chunk.place, "id": id, "id_hex": id_hex, "size": chunk.size})
+    let mut members = Map::new(alloc);
+    put_chunk(alloc, &mut members, chunk)?;
+    Ok(Value::Object(members))
+}
+
+fn put_chunk(
+    alloc: Global,
+    members: &mut Map<String, Value>,
+    chunk: &ListedChunk,
+) -> Result<(), AllocError>
+    ensures { OnOk result (members_view members.new.entries
+        ≡ with_listed_chunk chunk.now (members_view members.old.entries)) }
+{
+    put(members, alloc, "size", Value::from(chunk.size))?;
+    put(members, alloc, "id_hex", hex_value(alloc, &chunk.id.0)?)?;
+    put(members, alloc, "id", text_value(alloc, &chunk.id.0)?)?;
+    put(members, alloc, "at", Value::from(chunk.place))
 }
 
 /// The cue points, in their order, and their times at this rate.
@@ -53,14 +67,21 @@ fn cue_value(alloc: Global, cue: &RawCue, rate: u32) -> Result<Value, AllocError
 pub(crate) fn fmt_value(alloc: Global, fmt: &RawFmt) -> Result<Value, AllocError>
     ensures { IfOk result (λ v. view v ≡ fmt_data fmt.now) }
 {
-    json!(in alloc; {
-        "align": fmt.align,
-        "bits": fmt.bits,
-        "bytes": fmt.bytes_per_second,
-        "channels": fmt.channels,
-        "rate": fmt.rate,
-        "tag": fmt.tag
-    })
+    let mut members = Map::new(alloc);
+    put_fmt(alloc, &mut members, fmt)?;
+    Ok(Value::Object(members))
+}
+
+fn put_fmt(alloc: Global, members: &mut Map<String, Value>, fmt: &RawFmt) -> Result<(), AllocError>
+    ensures { OnOk result (members_view members.new.entries
+        ≡ with_fmt_chunk fmt.now (members_view members.old.entries)) }
+{
+    put(members, alloc, "tag", Value::from(fmt.tag))?;
+    put(members, alloc, "rate", Value::from(fmt.rate))?;
+    put(members, alloc, "channels", Value::from(fmt.channels))?;
+    put(members, alloc, "bytes", Value::from(fmt.bytes_per_second))?;
+    put(members, alloc, "bits", Value::from(fmt.bits))?;
+    put(members, alloc, "align", Value::from(fmt.align))
 }
 
 /// The samples: where they begin, their bytes, whole frames and milliseconds.

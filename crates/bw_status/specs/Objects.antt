@@ -56,27 +56,27 @@ take_data t = take_object t (format_number (λ (f : SoundFormat). f.bits) t.form
     (format_number (λ (f : SoundFormat). f.rate) t.format)
 
 -- members with a take's name, state and peer
-abbrev pub with_words : TakeStatus → Members → Members
-with_words t members = put (codes "name") (string (string_bytes t.name))
+abbrev pub with_take_words : TakeStatus → Members → Members
+with_take_words t members = put (codes "name") (string (string_bytes t.name))
     (put (codes "peer") (peer_data t.peer)
     (put (codes "state") (string (take_state_word t.state)) members))
 
 -- members with a take's counts
-abbrev pub with_counts : TakeStatus → Members → Members
-with_counts t members = put (codes "delayed") (unsigned_data t.delayed)
+abbrev pub with_take_counts : TakeStatus → Members → Members
+with_take_counts t members = put (codes "delayed") (unsigned_data t.delayed)
     (put (codes "held") (unsigned_data t.held)
     (put (codes "next") (unsigned_data t.next)
     (put (codes "refused") (unsigned_data t.refused) members)))
 
 -- members with how long a take is, and how long ago it grew
-abbrev pub with_times : TakeStatus → Members → Members
-with_times t members = put (codes "frames") (unsigned_or_null t.frames)
+abbrev pub with_take_times : TakeStatus → Members → Members
+with_take_times t members = put (codes "frames") (unsigned_or_null t.frames)
     (put (codes "ms") (unsigned_or_null t.ms)
     (put (codes "quiet_ms") (unsigned_or_null t.quiet_ms) members))
 
 -- members with a format
-abbrev pub with_format : Option SoundFormat → Members → Members
-with_format f members = put (codes "bits") (format_number (λ (f : SoundFormat). f.bits) f)
+abbrev pub with_sound_format : Option SoundFormat → Members → Members
+with_sound_format f members = put (codes "bits") (format_number (λ (f : SoundFormat). f.bits) f)
     (put (codes "channels") (format_number (λ (f : SoundFormat). f.channels) f)
     (put (codes "rate") (format_number (λ (f : SoundFormat). f.rate) f) members))
 

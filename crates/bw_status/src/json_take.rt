@@ -3,7 +3,7 @@ ghost use Rattle.std.specs.Prelude.{◌≡◌, IfOk, OnOk};
 ghost use Rattle.serde_json.specs.View.{members_view, view};
 ghost use Rattle.bw_status.specs.declared.snapshot.SoundFormat.{SoundFormat};
 ghost use Rattle.bw_status.specs.Objects.{format_number, unsigned_or_null, peer_data, take_data};
-ghost use Rattle.bw_status.specs.Objects.{with_words, with_counts, with_times, with_format};
+ghost use Rattle.bw_status.specs.Objects.{with_take_words, with_take_counts, with_take_times, with_sound_format};
 
 use crate::row::address_text;
 use crate::snapshot::{SoundFormat, TakeStatus, take_state_word};
@@ -31,7 +31,7 @@ fn put_words(
     take: &TakeStatus,
 ) -> Result<(), AllocError>
     ensures { OnOk result (members_view members.new.entries
-        ≡ with_words take.now (members_view members.old.entries)) }
+        ≡ with_take_words take.now (members_view members.old.entries)) }
 {
     put(members, alloc, "state", take_state_word(take.state).to_value(alloc)?)?;
     put(members, alloc, "peer", peer_value(alloc, &take.peer)?)?;
@@ -45,7 +45,7 @@ fn put_counts(
     take: &TakeStatus,
 ) -> Result<(), AllocError>
     ensures { OnOk result (members_view members.new.entries
-        ≡ with_counts take.now (members_view members.old.entries)) }
+        ≡ with_take_counts take.now (members_view members.old.entries)) }
 {
     put(members, alloc, "refused", Value::from(take.refused))?;
     put(members, alloc, "next", Value::from(take.next))?;
@@ -60,7 +60,7 @@ fn put_times(
     take: &TakeStatus,
 ) -> Result<(), AllocError>
     ensures { OnOk result (members_view members.new.entries
-        ≡ with_times take.now (members_view members.old.entries)) }
+        ≡ with_take_times take.now (members_view members.old.entries)) }
 {
     put(members, alloc, "quiet_ms", number_value(take.quiet_ms))?;
     put(members, alloc, "ms", number_value(take.ms))?;
@@ -74,7 +74,7 @@ fn put_format(
     format: &Option<SoundFormat>,
 ) -> Result<(), AllocError>
     ensures { OnOk result (members_view members.new.entries
-        ≡ with_format format.now (members_view members.old.entries)) }
+        ≡ with_sound_format format.now (members_view members.old.entries)) }
 {
     put(members, alloc, "rate", rate_value(format))?;
     put(members, alloc, "channels", channels_value(format))?;
