@@ -70,6 +70,7 @@ impl Exchange {
         ensures fresh { IfOk result (λ e. HasDone [] [] [] e) }
         ensures wants_read { IfOk result (λ e. wants_piece e ≡ true) }
         ensures waiting { IfOk result (λ e. waiting_in e ≡ []) }
+        // The block has room for all replies that may wait.
         ensures small { IfOk result (λ e. reply_room e ≡ most_waiting) }
     {
         Ok(Exchange {
@@ -147,6 +148,7 @@ impl Exchange {
     /// Fewer than `turns` only if the exchange wants to read or is over, or more than 64,448 bytes
     /// are unsent.
     pub fn answer<T: Turns>(&mut self, server: &mut T, turns: usize) -> usize
+        // Whole frames are answered in order, fewer only where it must wait or is over.
         ensures { AnswersSome T.answers turns result server.old server.new self.old self.new }
     {
         for turn in 0..turns {

@@ -85,6 +85,7 @@ impl Plan {
         ensures end { IfOk result (λ p.
             p.samples.place + p.samples.left ≡ place + outline.samples_len) }
         ensures sound { IfOk result (λ p. IsSoundPlan p.stage) }
+        // All its requests are still to be given.
         ensures plan { IfOk result (λ p. (b : List ℕ) →
             let samples = slice_range b place (place + outline.samples_len) in
             outline.samples_len ≡ length samples →
@@ -125,6 +126,7 @@ impl Plan {
         ensures sound { IfOk result (λ p. IsSoundPlan p.stage) }
         ensures stands { IfOk result (λ p. Of (R.left reader.old) (λ b.
             R.left reader.new ≡ Some (drop place b))) }
+        // All its requests are still to be given.
         ensures plan { IfOk result (λ p. (b : List ℕ) →
             let samples = slice_range b place (place + outline.samples_len) in
             outline.samples_len ≡ length samples →
@@ -183,6 +185,7 @@ impl Plan {
     pub fn advance<R: Source>(&mut self, reader: &mut R) -> Result<(), InspectFault>
         ensures consumed { IsSoundPlan self.old.stage →
             Consumes R.Source self.old.samples.size result reader.old reader.new }
+        // It moves on by one request.
         ensures ok { OnOk result (AtPlace (R.left reader.old) self.old.samples.place (λ b.
             GoesOn b (after_next (remaining self.old b)) self.new (R.left reader.new))) }
         ensures err { IsSoundPlan self.old.stage → IfErr result (λ f.
@@ -192,6 +195,7 @@ impl Plan {
         ensures sound { OnOk result (IsSoundPlan self.new.stage) }
         ensures end { self.new.samples.place + self.new.samples.left
             ≡ self.old.samples.place + self.old.samples.left }
+        // An error stays.
         ensures again { (f : InspectFault) → self.old.stage ≡ AtFault f → result ≡ Err f }
     {
         match self.step {
