@@ -110,6 +110,7 @@ impl Sender {
             fault_of e.0 ≡ offer_fault s request) }
         ensures back { IfErr result (λ e. e.1 ≡ request) }
         ensures unchanged { OnErr result (self.new ≡ self.old) }
+        // Memory is asked for only where there is no room for the refusals.
         ensures room { HasRoom self.old → IfErr result (λ e. IsSome (fault_of e.0)) }
     {
         if let Err(error) = self.check_offer(&request) {
@@ -140,6 +141,7 @@ impl Sender {
     /// No other reply changes anything: even Conflict and TooFar, which are final, are `Noted`,
     /// as Held is.
     pub fn on_reply(&mut self, reply: &Reply) -> Heard
+        // The first verdict of an offered number counts, nothing else.
         ensures heard { (s : Defined) → IsSender s self.old →
             heard_of result ≡ heard s (reply_of reply.now) }
         ensures hears { (s : Defined) → IsSender s self.old →
