@@ -148,7 +148,6 @@ impl Exchange {
     /// Fewer than `turns` only if the exchange wants to read or is over, or more than 64,448 bytes
     /// are unsent.
     pub fn answer<T: Turns>(&mut self, server: &mut T, turns: usize) -> usize
-        // Whole frames are answered in order, fewer only where it must wait or is over.
         ensures { AnswersSome T.answers turns result server.old server.new self.old self.new }
     {
         for turn in 0..turns {

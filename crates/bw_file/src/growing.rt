@@ -207,13 +207,11 @@ impl GrowingFile {
         requires stored { judge state.now.parts (Block samples.now) ≡ Stored }
         requires samples { state.now.parts.samples_len + length samples.now ≤ largest }
         ensures known { self.new ≡ record self.old { dirty = is_err result; ahead = false } }
-        // No other name is touched, and the store counts a failure exactly on an error.
         ensures shared { Shared S.TakeStore (is_err result) self.old.name store.old store.new }
         ensures calls { S.calls store.new ≤ S.calls store.old + 4 }
         // A success makes exactly the calls of its plan (kind, offset, length), in order.
         ensures order { OnOk result (WasAsked S.TakeStore
             (append_plan self.old state.now.parts (length samples.now)) store.old store.new) }
-        // An error leaves a prefix of these calls.
         ensures begun { OnErr result (WasAskedFirst S.TakeStore
             (append_plan self.old state.now.parts (length samples.now)) store.old store.new) }
         // The file of the take after the request; after an error one that the same call repairs.
@@ -258,7 +256,6 @@ impl GrowingFile {
     ) -> Result<(), StoreFault>
         requires { SetsOneField state.now.parts bext.now }
         ensures known { self.new ≡ record self.old { dirty = is_err result; ahead = false } }
-        // No other name is touched, and the store counts a failure exactly on an error.
         ensures shared { Shared S.TakeStore (is_err result) self.old.name store.old store.new }
         ensures calls { S.calls store.new ≤ S.calls store.old + 1 }
         // Of a clean file: one write of the field that was set, or none where its bytes stay.
@@ -311,13 +308,11 @@ impl GrowingFile {
     ) -> Result<(), StoreFault>
         requires { judge state.now.parts (Close (frames state.now.parts)) ≡ Stored }
         ensures known { self.new ≡ record self.old { dirty = is_err result; ahead = false } }
-        // No other name is touched, and the store counts a failure exactly on an error.
         ensures shared { Shared S.TakeStore (is_err result) self.old.name store.old store.new }
         ensures calls { S.calls store.new ≤ S.calls store.old + 3 }
         // A success makes exactly the calls of its plan (kind, offset, length), in order.
         ensures order { OnOk result (WasAsked S.TakeStore
             (close_plan self.old state.now.parts) store.old store.new) }
-        // An error leaves a prefix of these calls.
         ensures begun { OnErr result (WasAskedFirst S.TakeStore
             (close_plan self.old state.now.parts) store.old store.new) }
         // The file of the take after the request; after an error one that the same call repairs.

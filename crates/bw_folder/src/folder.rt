@@ -271,7 +271,6 @@ impl<D: Disk> TakeStore for FolderStore<D> {
         // Over an honest disk a name's content is the file FOLDER/NAME.wav.
         ensures created { IsTrue (D.honest (takes_disk self.old)) → IfOk result (λ c. Creates c
             (take_in_folder self.old name.now) (take_in_folder self.new name.now)) }
-        // An error, out of memory included, made no file.
         ensures failed { IsTrue (D.honest (takes_disk self.old)) → OnErr result
             (take_in_folder self.new name.now ≡ take_in_folder self.old name.now) }
         // No other name changes, whether or not the call fails.
@@ -314,7 +313,6 @@ impl<D: Disk> TakeStore for FolderStore<D> {
         ensures synced { IsTrue (D.honest (takes_disk self.old)) →
             (path : List ℕ) → D.synced (takes_disk self.new) path
             ≡ D.synced (takes_disk self.old) path }
-        // Only files that the store made or adopted are written, at the offset that is asked.
         ensures own { Contains (open_takes self.old) name.now →
             IsOneCall D.calls D.failures (takes_disk self.old) (takes_disk self.new)
             (is_err result) }

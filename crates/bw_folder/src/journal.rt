@@ -217,7 +217,6 @@ impl<D: Volume> FolderJournal<D> {
             × (journals_folder self.new ≡ journals_folder self.old) }
         ensures known { open_journals self.new
             ≡ adopted_by result name.now existed (open_journals self.old) }
-        // From then on its header says what was given.
         ensures headers { IsTrue (D.honest (journals_disk self.old)) → (other : List ℕ) →
             header_in_folder self.new other
             ≡ adopted_header result name.now existed (header_in_folder self.old) other }

@@ -50,7 +50,6 @@ impl<D: Volume> RestingFolderJournal<D> {
         // Where nothing rests notes and headers are those of the journals that it is made of.
         ensures notes { (name : List ℕ) → (all_journals D.Disk result).noted name
             ≡ noted_in_folder inner name }
-        // What rests under a name is the file FOLDER/NAME.closed.
         ensures resting { (name : List ℕ) → (all_journals D.Disk result).resting name
             ≡ D.contents (journals_disk inner) (path_of_closed (journals_folder inner) name) }
         ensures headers { (name : List ℕ) → (all_journals D.Disk result).resting name ≡ None →
@@ -280,7 +279,6 @@ impl<D: Volume> RestingJournal for RestingFolderJournal<D> {
         ensures folder { folder_of_all self.new ≡ folder_of_all self.old }
         ensures standing { IsTrue (D.honest (disk_of_all self.old)) →
             StandingsIf (is_woken result) name.now self.old self.new }
-        // What rested is noted again; the file is moved back before the first note.
         ensures woken { IsTrue (D.honest (disk_of_all self.old)) →
             IfOk result (λ woken. WakesIf woken
             name.now (all_journals D.Disk self.old) (all_journals D.Disk self.new)) }

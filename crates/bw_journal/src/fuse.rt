@@ -108,12 +108,10 @@ impl Journal for FuseJournal {
         ensures failed { OnErr result (fused_notes self.new name.now
             ≡ fused_notes self.old name.now) }
         ensures others { KeepsOthers (fused_notes self.old) (fused_notes self.new) name.now }
-        // It fails at a fuse, and otherwise exactly where the inner journal counts a failure.
         ensures blows { Blows (has_fuse (journal_fuses self.old) (fused_calls self.old))
             (is_err result)
             (failures_in_memory (fused_journal self.old))
             (failures_in_memory (fused_journal self.new)) }
-        // A fuse blows once.
         ensures spent { journal_fuses self.new
             ≡ filter (λ f. not (f == fused_calls self.old)) (journal_fuses self.old) }
     {
@@ -147,7 +145,6 @@ impl Journal for FuseJournal {
         ensures failed { OnErr result (NotesInPart offset bytes.now
             (fused_notes self.old name.now) (fused_notes self.new name.now)) }
         ensures others { KeepsOthers (fused_notes self.old) (fused_notes self.new) name.now }
-        // It fails at a fuse, and otherwise exactly where the inner journal counts a failure.
         ensures blows { Blows (has_fuse (journal_fuses self.old) (fused_calls self.old))
             (is_err result)
             (failures_in_memory (fused_journal self.old))
@@ -158,7 +155,6 @@ impl Journal for FuseJournal {
             ≡ failures_in_memory (fused_journal self.old) →
             NotesOver offset (first_half bytes.now) (fused_notes self.old name.now)
             (fused_notes self.new name.now) }
-        // A fuse blows once.
         ensures spent { journal_fuses self.new
             ≡ filter (λ f. not (f == fused_calls self.old)) (journal_fuses self.old) }
     {

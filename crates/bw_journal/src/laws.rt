@@ -33,7 +33,6 @@ pub fn law_journals()
 pub fn law_stops()
     ensures books { BooksAreCut }
     ensures left { CutBooksAreBooks }
-    // Over any number of stops each written verdict is that of a done number.
     ensures worlds { EachWorldGoesOn }
 {}
 
@@ -41,13 +40,10 @@ pub fn law_stops()
 /// after their repair a server that keeps what the journals say holds the book that the stop left;
 /// and files of closed takes need no repair.
 pub fn law_recovery()
-    // Between turns files are those of the done numbers, or on the way to the next.
     ensures survive { HeldFilesSurvive }
     // Header, cut and pad byte repair them.
     ensures repaired { FilesAreRepaired }
-    // Then the server holds the book that the journals say.
     ensures holds { RecoveryHolds }
-    // Files of closed takes are whole as they are.
     ensures closed { ClosedFilesAreWhole }
     // A request whose note failed may be tried again.
     ensures again { NewFilesAreBetween }

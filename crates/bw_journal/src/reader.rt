@@ -53,7 +53,6 @@ pub fn replay(
     ensures ok { IfOk result (λ r. replay_of limit name.now bytes.now ≡ Ok (story_of r)) }
     ensures torn { IfOk result (λ r. r.used + r.torn ≡ length bytes.now) }
     ensures err { IfErr result (λ e. IsJournalFault e (replay_of limit name.now bytes.now)) }
-    // Memory isn't the reason where there is no header of this name and limit.
     ensures header { is_header_of limit name.now (first_header_in bytes.now) ≡ false →
         IfErr result (λ e. IsSome (fault_meaning e)) }
 {

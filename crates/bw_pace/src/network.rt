@@ -11,6 +11,5 @@ pub trait PacedNetwork: Network {
     /// - Anything beyond what each network says of itself.
     /// - How much time passes.
     fn dial_paced(&self, address: SocketAddr, timeout: Option<u32>, rate: Option<u32>) -> Self::Dial
-        // All that is proved of `dial` holds of it.
         ensures received { Self.calls self.now address timeout result };
 }

@@ -37,7 +37,6 @@ pub fn picture<R: Source>(
     // The text is the definition's, of the file's samples, its rate and its cue points.
     ensures ok { IfOk result (λ text. AtPlace (R.left reader.old) shape.now.place (λ b.
         text.items ≡ picture_text b shape.now rate cues.now)) }
-    // Frames are missing only where the reader's bytes end before the last one does.
     ensures err { IfErr result (λ f. AtPlace (R.left reader.old) shape.now.place (λ b.
         LacksFrames b shape.now f)) }
 {

@@ -45,14 +45,10 @@ pub use warning::{Warning, warnings};
 /// each recording of a file or of headerless samples, whatever their bytes, if what is set is
 /// allowed. What `Plan` gives from its start to its end is the plan.
 pub fn law_plan()
-    // Each request is Stored, whatever the block size, and they make the recording's take.
     ensures takes { PlansMakeTakes }
-    // They are as many as is counted before any is sent.
     ensures count { PlansHaveTheirCount }
-    // Every recording that is read, from any bytes, with allowed settings, may be stored so.
     ensures whole { RecordingsAreWhole }
     ensures pcm { PcmRecordingsAreWhole }
-    // A run of `Plan` from start to end gives just the plan's requests.
     ensures runs { RunsGivePlans }
 {}
 

@@ -185,7 +185,6 @@ impl Plan {
     pub fn advance<R: Source>(&mut self, reader: &mut R) -> Result<(), InspectFault>
         ensures consumed { IsSoundPlan self.old.stage →
             Consumes R.Source self.old.samples.size result reader.old reader.new }
-        // It moves on by one request.
         ensures ok { OnOk result (AtPlace (R.left reader.old) self.old.samples.place (λ b.
             GoesOn b (after_next (remaining self.old b)) self.new (R.left reader.new))) }
         ensures err { IsSoundPlan self.old.stage → IfErr result (λ f.
@@ -195,7 +194,6 @@ impl Plan {
         ensures sound { OnOk result (IsSoundPlan self.new.stage) }
         ensures end { self.new.samples.place + self.new.samples.left
             ≡ self.old.samples.place + self.old.samples.left }
-        // An error stays.
         ensures again { (f : InspectFault) → self.old.stage ≡ AtFault f → result ≡ Err f }
     {
         match self.step {

@@ -66,9 +66,7 @@ pub(crate) enum Step {
 /// TooMany, NoData, NoSize, BadFmt, Truncated: of the chunks before the samples; TooLarge for 2^62
 /// bytes or more after that head; Read.
 pub fn find_data<R: Source>(reader: &mut R) -> Result<Option<DataHead>, InspectFault>
-    // Found by the heads of the chunks before it, whatever the form's size says.
     ensures ok { IfOk result (λ found. Of (R.left reader.old) (λ b. FindsData b found)) }
-    // The first fault of these chunks, at its place.
     ensures err { IfErr result (λ f. Of (R.left reader.old) (λ b.
         (g : Fault) → bytes_fault f ≡ Some g → LacksData b g)) }
     ensures near { IfOk result AreNear }

@@ -141,7 +141,6 @@ impl Sender {
     /// No other reply changes anything: even Conflict and TooFar, which are final, are `Noted`,
     /// as Held is.
     pub fn on_reply(&mut self, reply: &Reply) -> Heard
-        // The first verdict of an offered number counts, nothing else.
         ensures heard { (s : Defined) → IsSender s self.old →
             heard_of result ≡ heard s (reply_of reply.now) }
         ensures hears { (s : Defined) → IsSender s self.old →

@@ -99,7 +99,6 @@ impl<S: TakeStore, J: RestingJournal> Server<S, J> {
         ensures standing { IsTrue (J.honest (server_journal self.old)) → MayStandAtRest name.now
             (J.stands (server_journal self.old)) (J.stands (server_journal self.new))
             (J.notes (server_journal self.old)) (J.notes (server_journal self.new)) }
-        // A name that may not rest stays, and so does all else.
         ensures unready { restable_kept self.old name.now ≡ false →
             (result ≡ Ok false) × (self.new ≡ self.old) }
         // The server holds the book without the name, and what is left of it is at rest.

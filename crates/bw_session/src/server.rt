@@ -150,7 +150,7 @@ impl<S: TakeStore, J: Journal> Server<S, J> {
         // A message whose name isn't known after it changes nothing.
         ensures unmet { session_kept self.new (message_of message.now).name ≡ None →
             LeavesServer S.TakeStore J.Journal self.old self.new }
-        // At most four store calls a done number and one more; no other name changes.
+        // At most four store calls for each done number and one more number; no other name changes.
         ensures both { UsesInTurn S.TakeStore J.Journal self.old self.new (message_of message.now)
             out.new.items }
         // A done number asks all calls of its judged request (kind, offset, length), in order.

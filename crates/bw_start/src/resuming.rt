@@ -217,7 +217,6 @@ pub fn adopt_file<D: Volume>(
         (D.contents takes.new (wave_path folder.now name.now)) }
     ensures others { IsTrue (D.honest takes.old) → ChangesTake folder.now name.now
         (D.contents takes.old) (D.contents takes.new) }
-    // A file that is kept isn't touched.
     ensures kept { IsTrue (keeps_file adoption.now) → takes.new ≡ takes.old }
 {
     match adoption {

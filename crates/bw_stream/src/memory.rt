@@ -107,11 +107,9 @@ impl Sink for MemorySink {
     fn write(&mut self, bytes: &[u8]) -> Result<usize, IoFailed>
         ensures count { memory_refusals self.new
             ≡ failures_after result (memory_refusals self.old) }
-        // A writer in memory takes all the bytes.
         ensures all { IfOk result (λ n. n ≡ length bytes.now) }
         ensures ok { OnOk result (memory_written self.new ≡ memory_written self.old ++ bytes.now) }
         ensures err { OnErr result (memory_written self.new ≡ memory_written self.old) }
-        // It can't fail where there is room.
         ensures succeeds { length (memory_written self.old) + length bytes.now
             ≤ memory_room self.old → IsOk result }
     {

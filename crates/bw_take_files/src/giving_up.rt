@@ -57,7 +57,6 @@ pub fn give_up_take<D: Volume>(
 ) -> Result<(), GiveUpFault>
     ensures honest { D.honest disk.new ≡ D.honest disk.old }
     ensures failures { Counts (D.failures disk.old) (D.failures disk.new) (is_disk_failure result) }
-    // At the new paths nothing stood before, and all else is as it was.
     ensures ok { IsTrue (D.honest disk.old) → OnOk result
         (PutsTakeAside folder.now name.now (D.contents disk.old) (D.contents disk.new)) }
     // `Unknown` and `Earlier` exactly where these hold.

@@ -44,7 +44,6 @@ pub fn find_changed<D: Volume>(
     state: &TakeState,
 ) -> Result<Option<u32>, ReadFault>
     ensures disk { StaysWhole D.Disk disk.old disk.new }
-    // The samples there make a body of another digest than the journal has.
     ensures value { IsTrue (D.honest disk.old) → IfOk result (λ number. number ≡ changed_in
         name.now state.now.parts journal.now (D.contents disk.old path.now)) }
 {
