@@ -212,6 +212,18 @@ class FileWalk:
         return f"{self.owner}::{name}" if known and (public or self.trait) else None
 
 
+def clause_comments(call):
+    """The comment above each clause of a call, or nothing where it has none, by the clause's label."""
+    found, comment = {}, []
+    for line in call.code:
+        if line.lstrip().startswith("// "):
+            comment.append(line.lstrip().removeprefix("// "))
+        elif clause := CLAUSE.match(line):
+            found[clause.group(1)] = " ".join(comment)
+            comment = []
+    return found | {it: "" for it in sorted(call.labels - found.keys())}
+
+
 def block(lines, at):
     """The lines from there on to the one that closes what the first opens."""
     depth = 0

@@ -1,4 +1,5 @@
 //! The command line of `bwingest`: words to a task that owns what it needs. Nothing is run here.
+//! Not stated: several options at once of `serve` and `send`, except by `line`.
 #![tactic(auto)]
 
 ghost use Rattle.std.specs.Prelude.{◌≡◌, ◌↔◌, map, IfOk, IsErr, string_bytes};
@@ -94,24 +95,42 @@ pub enum CommandLine {
 /// - Most combinations of options in plain terms: only `line` covers them.
 /// - What the texts of help, version and usage errors say, and where they go.
 pub fn parse(alloc: Global, words: &[String]) -> Result<CommandLine, AllocError>
+    // What runs, or what kind of error is reported, is what `clap` states of its walk over the
+    // words.
     ensures line { IfOk result (IsLineOf (map string_bytes words.now)) }
     ensures ranges { IfOk result HasNumbersInRange }
+    // `--limit N` and `--fuse K`, joined or in two words; both in two words, or none.
     ensures replay { IfOk result (RunsReplay (map string_bytes words.now)) }
+    // `--name NAME`, which may begin with `-`, and `--limit N`; without a name none runs.
     ensures rehearse { IfOk result (RunsRehearsal (map string_bytes words.now)) }
+    // A NAME, N or K of another form is a bad name, limit or fuse, the name first, then the limit.
     ensures values { IfOk result (RefusesValues (map string_bytes words.now)) }
+    // A file, `-`, or two files; `--json`, `--human` and `--digest`; what can't be combined.
     ensures inspect { IfOk result (RunsInspect (map string_bytes words.now)) }
+    // Each option of `serve` alone, beside an address and a folder that isn't empty.
     ensures serve { IfOk result (RunsServer (map string_bytes words.now)) }
+    // Each option of `send` alone, beside an address and a name.
     ensures send { IfOk result (RunsSender (map string_bytes words.now)) }
+    // A bad address, name or number, and options of `serve` that don't go together.
     ensures peers { IfOk result (RefusesPeers (map string_bytes words.now)) }
+    // A missing address, folder or name is a missing argument.
     ensures wanted { IfOk result (WantsPeers (map string_bytes words.now)) }
+    // One file that doesn't begin with `-`; `--strict`, or settings in their order, unread here.
     ensures pack { IfOk result (RunsPack (map string_bytes words.now)) }
     ensures picture { IfOk result (RunsPicture (map string_bytes words.now)) }
     ensures repair { IfOk result (RunsRepair (map string_bytes words.now)) }
+    // Each option of `send --file` alone; unless set, 30 seconds and 10 fruitless links.
     ensures send_file { IfOk result (RunsFileSender (map string_bytes words.now)) }
+    // Options of `--file` without it, `--rounds` beside it, and bad numbers of it.
     ensures files { IfOk result (RefusesFiles (map string_bytes words.now)) }
+    // `--pcm` with each option; `--follow` and `--spool` never give up unless `--fruitless` is
+    // there.
     ensures send_pcm { IfOk result (RunsPcmSender (map string_bytes words.now)) }
+    // Bad values of `--pcm`, `--skip` and `--block`, and options that don't go together.
     ensures samples { IfOk result (RefusesSamples (map string_bytes words.now)) }
+    // A folder that isn't empty, each flag of `takes`, and which of them can't be combined.
     ensures takes { IfOk result (RunsTakes (map string_bytes words.now)) }
+    // Help and version are printed.
     ensures help { IfOk result (ReportsHelp (map string_bytes words.now)) }
 {
     let read = read_words::read_words(alloc, words)?;

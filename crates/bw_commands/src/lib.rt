@@ -1,5 +1,6 @@
 //! The commands of `bwingest` that need no network: what each reads, prints and reports, and how it
 //! ends. The words of the command line are read above, in the program.
+//! Not stated: which reply a fuse delays; whether and why store calls fail in a rehearsal.
 #![tactic(auto)]
 
 mod events;

@@ -30,6 +30,7 @@ pub fn text_of_rehearsal(
     input: &[u8],
 ) -> Result<Vec<u8>, Fault>
     requires { length input.now ≤ longest_input }
+    // The text is that of a world that the events lead to, whatever memory and store do.
     ensures ok { IfOk result (λ text. IsTextOfLines name limit input.now text.items) }
     ensures err { IfErr result (λ fault. IsEventFault fault (lines_of input.now)) }
 {

@@ -44,6 +44,7 @@ pub fn replay<R: Source, W: Sink, E: Sink>(
     out: &mut W,
     faults: &mut E,
 ) -> Exit
+    // The store got at most four calls a done number, and four for the failed one.
     ensures did { (did : Outcome) × (did.exit ≡ result) × IsReplay limit fuse (R.left input.old) did
         × (R.failures input.new ≡ failures_if did.reads_all (R.failures input.old))
         × HasWritten W.Sink E.Sink did out.old out.new faults.old faults.new }

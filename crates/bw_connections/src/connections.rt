@@ -154,6 +154,7 @@ impl<L: Link + Drop> Connections<L> {
         requires given { L.given link [] }
         requires taken { L.taken link [] }
         ensures adds { Adds L.Link self.old [] [] self.new }
+        // Numbers are given in order, never again.
         ensures begins { OnOk result (BeginsAt place link now self.old self.new) }
         ensures others { LeavesOthers place self.old self.new }
         ensures err { OnErr result (RefusesLink self.old self.new) }
@@ -208,6 +209,7 @@ impl<L: Link + Drop> Connections<L> {
     ) -> Option<Closed<L>>
         requires place { place < connection_count self.old }
         requires buffer { length buffer.old ≤ longest_message_piece }
+        // What continues made progress, or its link reported none now; none ends here for silence.
         ensures { WorksAt L.Link T.answers place now result self.old self.new server.old server.new }
     {
         let Some(mut connection) = take_at(&mut self.places, place) else {
@@ -227,6 +229,7 @@ impl<L: Link + Drop> Connections<L> {
     pub fn expire(&mut self, place: usize, now: u64, idle: u64) -> Option<Closed<L>>
         requires place { place < connection_count self.old }
         ensures adds { Adds L.Link self.old [] (those result) self.new }
+        // It ends for silence exactly then.
         ensures end { end_of_connection result ≡ expired_there now idle self.old place }
         ensures its { EndsIts L.Link place result self.old }
         ensures others { StaysAt place self.old self.new }

@@ -8,6 +8,7 @@ use bw_ports::Link;
 /// their replies, and the one to a bad frame after them. When the connection is over its end says
 /// how far it got, unless it was ended as silent.
 pub fn law_connections<L: Link>()
+    // All frames at `Bye`, `EndOfInput` and `BadFrame`; at `Memory` those before the last piece.
     ensures { EachIsServed L.Link }
 {
     bw_exchange::laws::law_exchange();

@@ -30,6 +30,7 @@ const LONGEST_INPUT: usize = 16_777_216;
 ///   and `NotHex` are true.
 pub fn exchanges<R: Source>(alloc: Global, input: &mut R) -> Result<Vec<Vec<u8>>, Fault>
     ensures within { Of (R.left input.old) (λ xs. IsReadAhead xs (R.left input.new)) }
+    // At most 16,777,217 bytes are read.
     ensures most { R.moved input.new ≤ R.moved input.old + (longest_input + 1) }
     ensures count { R.failures input.new ≡ failures_if (is_read result) (R.failures input.old) }
     ensures ok { IfOk result (λ found. Of (R.left input.old) (λ xs.

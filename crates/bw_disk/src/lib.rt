@@ -1,4 +1,6 @@
 //! Files by path: of the system, in memory, and on a disk that dies.
+//! Not stated: that the system's disk is honest; whether a cut or a move in which a disk dies was
+//! done.
 #![tactic(auto)]
 
 mod disk;

@@ -154,6 +154,7 @@ impl<D: Volume> Disk for MortalDisk<D> {
     /// `DiskFault` if the inner call failed, or the disk dies or is dead: the inner disk isn't
     /// called then.
     fn create_new(&mut self, path: &str) -> Result<Option<D::File>, DiskFault>
+        // From the call in which it dies each fails; what is proved over honest disks holds of it.
         ensures call { IsMortalCall D.Disk self.old self.new (is_err result) }
         ensures path { IsTrue (D.honest self.old.inner) →
             IfOk result (λ made. IfSome made (λ file. D.path_of file ≡ path.now)) }
@@ -177,6 +178,7 @@ impl<D: Volume> Disk for MortalDisk<D> {
     fn write_at(&mut self, file: &mut D::File, offset: u64, bytes: &[u8]) -> Result<(), DiskFault>
         ensures call { IsMortalCall D.Disk self.old self.new (is_err result) }
         ensures path { D.path_of file.new ≡ D.path_of file.old }
+        // Of the call in which it dies the chosen bytes are written, unless the inner disk fails.
         ensures write { IsMortalWrite D.Disk result (D.path_of file.old) offset bytes.now
             self.old self.new }
         ensures failed { IsTrue (D.honest self.old.inner) → OnErr result (MayTear

@@ -76,6 +76,7 @@ impl<D: Volume> Volume for MortalDisk<D> {
     fn append(&mut self, file: &mut D::File, offset: u64, bytes: &[u8]) -> Result<(), DiskFault>
         ensures call { IsMortalCall D.Disk self.old self.new (is_err result) }
         ensures path { D.path_of file.new ≡ D.path_of file.old }
+        // Of the call in which it dies the chosen bytes are written, unless the inner disk fails.
         ensures write { IsMortalWrite D.Disk result (D.path_of file.old) offset bytes.now
             self.old self.new }
         ensures failed { IsTrue (D.honest self.old.inner) → OnErr result (WrittenInPart

@@ -41,6 +41,7 @@ pub fn read_prefix<D: Volume>(
         (D.contents disk.old (D.path_of file.old)) (length room.old) count room.new) }
     ensures stands { IsTrue (D.honest disk.old) → 0 < length room.old → OnOk result
         (IsSome (D.contents disk.old (D.path_of file.old))) }
+    // No file changes, honest disk or not.
     ensures rest { StaysWhole D.Disk disk.old disk.new }
 {
     let mut count = 0;
@@ -70,6 +71,7 @@ pub fn read_file<D: Volume>(
     ensures failures { Counts (D.failures disk.old) (D.failures disk.new) (is_disk_fault result) }
     ensures content { IsTrue (D.honest disk.old) → IfOk result (λ found.
         option_map (λ v. v.items) found ≡ D.contents disk.old path.now) }
+    // No file changes, honest disk or not.
     ensures rest { StaysWhole D.Disk disk.old disk.new }
 {
     let Some(mut file) = disk.open(path).map_err(|_| ReadFault::Disk)? else {

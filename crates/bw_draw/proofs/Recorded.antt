@@ -63,7 +63,7 @@ notes_are b r extension h is =
     ap (notes_with n.history extension) h.1.reports
     ∙ ap (λ (z : List ℕ). notes_with n.history z n.report) all
 
--- a recording that is told without its history
+-- a recording that is reported without its history
 pub recorded : (b : List ℕ) (r : Report) (extension : List ℕ) (x : Outline) → HasReport b r →
     extension ≡ extension_at b (entry_of (codes "fmt ") r.chunks) →
     outline_of no_options (notes_by r extension []) ≡ Ok x → HasRecording b

@@ -31,6 +31,7 @@ pub fn draw_file<F: RecordingFiles, W: Sink, E: Sink>(
     out: &mut W,
     faults: &mut E,
 ) -> Exit
+    // TooLong is reported of a recording that doesn't fit into a picture, and of no other.
     ensures { (did : Outcome) × (did.exit ≡ result) × (gives_all : Bool)
         × IsDrawing (F.file_at files.old path.now) path.now gives_all did
         × (F.failures files.new ≡ failures_if gives_all (F.failures files.old))

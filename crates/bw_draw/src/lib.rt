@@ -1,4 +1,5 @@
 //! The command `picture`: the waveform of a file's recording, as a picture on standard output.
+//! Not stated: that a failed read was one (its reader is dropped), and its place in the line.
 #![tactic(auto)]
 
 mod command;

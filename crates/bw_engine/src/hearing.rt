@@ -35,7 +35,9 @@ pub fn hear_replies<R: Source>(
     sender: &mut Sender,
     reader: &mut R,
 ) -> Result<(), SendFault>
+    // At the end all replies are counted; at a fault those before it, in order.
     ensures hears { Hears result sender.old sender.new (R.left reader.old) (R.left reader.new) }
+    // A failed read is counted exactly at `Read`.
     ensures reads { R.failures reader.new ≡ hears_failed result (R.failures reader.old) }
     ensures calls { R.calls reader.new ≤ R.calls reader.old + most_reads }
     ensures limit { IsHearingLimited result (R.moved reader.old) (R.moved reader.new)

@@ -88,11 +88,14 @@ pub fn ingest_run<S: TakeStore>(
 ) -> Result<Run<S>, (RunFault, S)>
     ensures honest { MatchResult result (λ run. S.honest run.store ≡ S.honest store)
         (λ e. S.honest e.1 ≡ S.honest store) }
+    // The inputs are answered whole, in one run; each settled name has its file.
     ensures ok { IfOk result (λ run.
         Ingests S.TakeStore ⟦<NoJournal as Journal>⟧ limit store (input_bytes inputs.now) run) }
+    // Numbers in order, without failures: one result for limit, inputs and store.
     ensures in_order { IsTrue (S.honest store) → IfOk result (λ run.
         GoWell (input_bytes inputs.now) (input_bytes run.replies.items) →
         RunsAsDefined S.TakeStore limit store (input_bytes inputs.now) run) }
+    // The store is as the first of the frames leave it.
     ensures err { IfErr result (λ e.
         IngestsInPart S.TakeStore ⟦<NoJournal as Journal>⟧ limit store (input_bytes inputs.now) e.1) }
 {

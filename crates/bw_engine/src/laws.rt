@@ -6,5 +6,6 @@ use bw_store::TakeStore;
 
 /// What a server answers, one frame after another, is a run from each book that it holds.
 pub fn law_server_runs<S: TakeStore, J: Journal>()
+    // Each frame has at most 17 replies and one more failure, which DelayedStore needs.
     ensures { ServersAnswerInRuns S.TakeStore J.Journal }
 {}

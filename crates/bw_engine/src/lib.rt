@@ -1,4 +1,5 @@
 //! Exchanges with a server, a sender's exchanges, and whole runs over memory.
+//! Not stated: contents over stores that aren't honest; that written bytes are passed on.
 #![tactic(auto)]
 
 mod hearing;

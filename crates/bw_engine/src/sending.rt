@@ -38,6 +38,7 @@ pub(crate) const BYE: [u8; 5] = [1, 0, 0, 0, 9];
 pub fn send_batch<W: Sink>(alloc: Global, sender: &Sender, writer: &mut W) -> Result<(), SendFault>
     ensures ok { (s : Defined) → IsSender s sender.now → OnOk result
         (WritesBatch s (W.written writer.old) (W.written writer.new)) }
+    // At `Write` a beginning of the frames, exactly where the writer fails.
     ensures err { (s : Defined) → IsSender s sender.now → IfErr result (λ fault.
         BreaksBytes fault s (batch_bytes s) (W.written writer.old) (W.written writer.new)) }
     ensures why { IfErr result BreaksBatch }

@@ -93,6 +93,7 @@ impl Talk {
             (W.written writer.old) (W.written writer.new)) }
         ensures next { (s : Defined) → IsSender s sender.now → OnOk result
             (first_unsaid self.new ≡ length s.offered) }
+        // At `Write` a beginning of the frames, exactly where the writer fails.
         ensures err { (s : Defined) → IsSender s sender.now → IfErr result (λ fault.
             BreaksOffSaying fault (unsaid_messages s (first_unsaid self.old))
             (W.written writer.old) (W.written writer.new)) }
@@ -118,6 +119,7 @@ impl Talk {
         sender: &mut Sender,
         reader: &mut R,
     ) -> Result<Listened, SendFault>
+        // The first reply that stops the talk (such as Conflict or TableFull) is reported.
         ensures listens { Listens R.Source result self.old self.new sender.old sender.new
             reader.old reader.new }
         ensures said { first_unsaid self.new ≡ first_unsaid self.old }

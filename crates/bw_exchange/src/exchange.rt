@@ -70,6 +70,7 @@ impl Exchange {
         ensures fresh { IfOk result (λ e. HasDone [] [] [] e) }
         ensures wants_read { IfOk result (λ e. wants_piece e ≡ true) }
         ensures waiting { IfOk result (λ e. waiting_in e ≡ []) }
+        // The block has room for all replies that may wait.
         ensures small { IfOk result (λ e. reply_room e ≡ most_waiting) }
     {
         Ok(Exchange {

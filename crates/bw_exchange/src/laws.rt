@@ -6,6 +6,7 @@ ghost use Rattle.bw_exchange.specs.TurnRuns.{OrderHoldsUnderFaults, TurnsAreRuns
 /// fed, and all of them if the exchange wants to read or is over; the bytes that were taken and
 /// those that wait are exactly their replies.
 pub fn law_exchange()
+    // BYE or a bad frame ends every longer input in the same way.
     ensures { ExchangesFollowStreams }
 {
     bw_wire::laws::law_framer();

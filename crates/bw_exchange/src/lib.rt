@@ -1,6 +1,7 @@
 //! The machine of an exchange: from the bytes of a recorder, through whoever answers its frames, to
 //! the bytes of its replies. What a server keeps of each name is in a crate above, which
 //! implements the trait `Turns`.
+//! Not stated: that written bytes are passed on; in how many reads a last piece came.
 #![tactic(auto)]
 
 mod end_text;

@@ -79,8 +79,10 @@ pub fn serve_exchange<R: Source, W: Sink, T: Turns>(
     reader: &mut R,
     writer: &mut W,
 ) -> ExchangeEnd
+    // What is written is the replies to these frames; at `WriteFault` a beginning of them.
     ensures served { Serves T.answers result server.old server.new
         (R.left reader.old) (R.left reader.new) (W.written writer.old) (W.written writer.new) }
+    // A read is counted as failed exactly at `ReadFault`, a write at `WriteFault`.
     ensures reads { R.failures reader.new ≡ reads_failed result (R.failures reader.old) }
     ensures writes { W.failures writer.new ≡ writes_failed result (W.failures writer.old) }
     ensures calls { R.calls reader.new ≤ R.calls reader.old + most_reads }

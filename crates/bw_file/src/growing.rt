@@ -148,16 +148,20 @@ impl GrowingFile {
             self.new ≡ record self.old { made = is_new c; dirty = false; ahead = false }) }
         ensures err { OnErr result
             (self.new ≡ record self.old { made = self.new.made; dirty = true; ahead = false }) }
+        // No other name is touched, and the store counts a failure exactly on an error.
         ensures shared { Shared S.TakeStore (is_err result) self.old.name store.old store.new }
         ensures calls { S.calls store.new ≤ S.calls store.old + 2 }
+        // A success makes exactly the calls of its plan (kind, offset, length), in order.
         ensures order { IfOk result (λ c. WasAsked S.TakeStore
             (begin_plan self.old (is_new c) (length history.now)) store.old store.new) }
+        // An error leaves a prefix of these calls.
         ensures begun { OnErr result (WasAskedFirst S.TakeStore
             (begin_plan self.old true (length history.now)) store.old store.new) }
         ensures name { IsTrue (S.honest store.old) → AsksForName self.old.made self.new.made
             (S.contents store.old self.old.name) (S.contents store.new self.old.name) }
         ensures existed { IsTrue (S.honest store.old) →
             IfOk result (λ c. IsFalse (is_new c) → IsSome (S.contents store.old self.old.name)) }
+        // The file of the take after the request; after an error one that the same call repairs.
         ensures file { IsTrue (S.honest store.old) → (t : Take) → parts t ≡ state.now.parts →
             BeginsFile result self.old self.new.made t (Open format history.now)
             (S.contents store.old self.old.name) (S.contents store.new self.old.name) }
@@ -205,10 +209,12 @@ impl GrowingFile {
         ensures known { self.new ≡ record self.old { dirty = is_err result; ahead = false } }
         ensures shared { Shared S.TakeStore (is_err result) self.old.name store.old store.new }
         ensures calls { S.calls store.new ≤ S.calls store.old + 4 }
+        // A success makes exactly the calls of its plan (kind, offset, length), in order.
         ensures order { OnOk result (WasAsked S.TakeStore
             (append_plan self.old state.now.parts (length samples.now)) store.old store.new) }
         ensures begun { OnErr result (WasAskedFirst S.TakeStore
             (append_plan self.old state.now.parts (length samples.now)) store.old store.new) }
+        // The file of the take after the request; after an error one that the same call repairs.
         ensures file { IsTrue (S.honest store.old) → (t : Take) → parts t ≡ state.now.parts →
             Stores result self.old t (Block samples.now)
             (S.contents store.old self.old.name) (S.contents store.new self.old.name) }
@@ -252,14 +258,17 @@ impl GrowingFile {
         ensures known { self.new ≡ record self.old { dirty = is_err result; ahead = false } }
         ensures shared { Shared S.TakeStore (is_err result) self.old.name store.old store.new }
         ensures calls { S.calls store.new ≤ S.calls store.old + 1 }
+        // Of a clean file: one write of the field that was set, or none where its bytes stay.
         ensures order { (tag : ℕ) (value : List ℕ) →
             bext.now ≡ with_field state.now.parts.fields tag value →
             OnOk result (WasAsked S.TakeStore
             (retouch_plan self.old state.now.parts bext.now tag) store.old store.new) }
+        // An error leaves a prefix of these calls.
         ensures begun { (tag : ℕ) (value : List ℕ) →
             bext.now ≡ with_field state.now.parts.fields tag value →
             OnErr result (WasAskedFirst S.TakeStore
             (retouch_plan self.old state.now.parts bext.now tag) store.old store.new) }
+        // The file of the take after the request; after an error one that the same call repairs.
         ensures file { IsTrue (S.honest store.old) → (t : Take) → parts t ≡ state.now.parts →
             (tag : ℕ) (value : List ℕ) → bext.now ≡ with_field t.fields tag value →
             Stores result self.old t (SetField tag value)
@@ -282,7 +291,7 @@ impl GrowingFile {
         Ok(())
     }
 
-    /// Writes the cue points of the markers after the data, and tells the store that the file is
+    /// Writes the cue points of the markers after the data, and says to the store that the file is
     /// complete. It requires that the CLOSE with the take's own frames is judged Stored.
     ///
     /// # Errors
@@ -301,10 +310,12 @@ impl GrowingFile {
         ensures known { self.new ≡ record self.old { dirty = is_err result; ahead = false } }
         ensures shared { Shared S.TakeStore (is_err result) self.old.name store.old store.new }
         ensures calls { S.calls store.new ≤ S.calls store.old + 3 }
+        // A success makes exactly the calls of its plan (kind, offset, length), in order.
         ensures order { OnOk result (WasAsked S.TakeStore
             (close_plan self.old state.now.parts) store.old store.new) }
         ensures begun { OnErr result (WasAskedFirst S.TakeStore
             (close_plan self.old state.now.parts) store.old store.new) }
+        // The file of the take after the request; after an error one that the same call repairs.
         ensures file { IsTrue (S.honest store.old) → (t : Take) → parts t ≡ state.now.parts →
             Stores result self.old t (Close (frames state.now.parts))
             (S.contents store.old self.old.name) (S.contents store.new self.old.name) }

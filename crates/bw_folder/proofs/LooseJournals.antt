@@ -43,7 +43,7 @@ pub keeps_all_but : (from to : List ℕ) (before after : List ℕ → Option (Li
 keeps_all_but from to before after (inl m) = m.others
 keeps_all_but from to before after (inr k) = λ p a b. k p
 
--- names that the test tells apart
+-- names that the test distinguishes
 pub differ : (name n : List ℕ) → bytes_eq name n ≡ false → n ≡ name → ⊥
 differ name n e same =
     let yes : bytes_eq name n ≡ true = subst (λ (m : List ℕ). bytes_eq name m ≡ true) (sym same) (name_refl name) in

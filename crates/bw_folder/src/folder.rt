@@ -268,10 +268,12 @@ impl<D: Disk> TakeStore for FolderStore<D> {
         ensures calls { Counts (takes_calls self.old) (takes_calls self.new) true }
         ensures folder { takes_folder self.new ≡ takes_folder self.old }
         ensures honest { D.honest (takes_disk self.new) ≡ D.honest (takes_disk self.old) }
+        // Over an honest disk a name's content is the file FOLDER/NAME.wav.
         ensures created { IsTrue (D.honest (takes_disk self.old)) → IfOk result (λ c. Creates c
             (take_in_folder self.old name.now) (take_in_folder self.new name.now)) }
         ensures failed { IsTrue (D.honest (takes_disk self.old)) → OnErr result
             (take_in_folder self.new name.now ≡ take_in_folder self.old name.now) }
+        // No other name changes, whether or not the call fails.
         ensures others { IsTrue (D.honest (takes_disk self.old)) → KeepsOthers
             (take_in_folder self.old) (take_in_folder self.new) name.now }
         ensures synced { IsTrue (D.honest (takes_disk self.old)) →
@@ -301,9 +303,11 @@ impl<D: Disk> TakeStore for FolderStore<D> {
         ensures written { IsTrue (D.honest (takes_disk self.old)) → OnOk result (Written
             (take_in_folder self.old name.now) offset bytes.now
             (take_in_folder self.new name.now)) }
+        // A failed call leaves what that of a store may.
         ensures failed { IsTrue (D.honest (takes_disk self.old)) → OnErr result (MayTear
             (take_in_folder self.old name.now) offset (length bytes.now)
             (take_in_folder self.new name.now)) }
+        // No other name changes, whether or not the call fails.
         ensures others { IsTrue (D.honest (takes_disk self.old)) → KeepsOthers
             (take_in_folder self.old) (take_in_folder self.new) name.now }
         ensures synced { IsTrue (D.honest (takes_disk self.old)) →
@@ -341,6 +345,7 @@ impl<D: Disk> TakeStore for FolderStore<D> {
         ensures calls { Counts (takes_calls self.old) (takes_calls self.new) true }
         ensures folder { takes_folder self.new ≡ takes_folder self.old }
         ensures honest { D.honest (takes_disk self.new) ≡ D.honest (takes_disk self.old) }
+        // No content changes.
         ensures unchanged { IsTrue (D.honest (takes_disk self.old)) →
             (path : List ℕ) → D.contents (takes_disk self.new) path
             ≡ D.contents (takes_disk self.old) path }

@@ -280,6 +280,7 @@ impl<D: Volume> Journal for FolderJournal<D> {
         ensures honest { D.honest (journals_disk self.new) ≡ D.honest (journals_disk self.old) }
         ensures headers { IsTrue (D.honest (journals_disk self.old)) → KeepsHeaders
             (header_in_folder self.old) (header_in_folder self.new) }
+        // The header says whether a file of the name existed.
         ensures begun { IsTrue (D.honest (journals_disk self.old)) →
             OnOk result (BeginsNotes name.now
             (header_in_folder self.old name.now) (noted_in_folder self.old name.now)
@@ -290,6 +291,7 @@ impl<D: Volume> Journal for FolderJournal<D> {
             (noted_in_folder self.new name.now)) }
         ensures others { IsTrue (D.honest (journals_disk self.old)) → KeepsOthers
             (noted_in_folder self.old) (noted_in_folder self.new) name.now }
+        // No other file changes, on errors too, and nothing is synced.
         ensures rest { ChangesAt D.Disk (path_of_journal (journals_folder self.old) name.now)
             (journals_disk self.old) (journals_disk self.new) }
     {
@@ -320,6 +322,7 @@ impl<D: Volume> Journal for FolderJournal<D> {
         ensures known { open_journals self.new ≡ open_journals self.old }
         ensures headers { IsTrue (D.honest (journals_disk self.old)) → KeepsHeaders
             (header_in_folder self.old) (header_in_folder self.new) }
+        // The bytes follow the first ones, over any prefix of them that is there.
         ensures noted { IsTrue (D.honest (journals_disk self.old)) →
             OnOk result (Notes offset bytes.now
             (noted_in_folder self.old name.now) (noted_in_folder self.new name.now)) }
@@ -328,13 +331,17 @@ impl<D: Volume> Journal for FolderJournal<D> {
             (noted_in_folder self.old name.now) (noted_in_folder self.new name.now)) }
         ensures others { IsTrue (D.honest (journals_disk self.old)) → KeepsOthers
             (noted_in_folder self.old) (noted_in_folder self.new) name.now }
+        // No other file changes, even on errors.
         ensures files { IsTrue (D.honest (journals_disk self.old)) → KeepsOthers
             (D.contents (journals_disk self.old)) (D.contents (journals_disk self.new))
             (path_of_journal (journals_folder self.old) name.now) }
+        // After a failed sync each note of the name fails, and the disk isn't called.
         ensures stopped { sync_failed_in self.old name.now ≡ Some true →
             IsErr result × (journals_disk self.new ≡ journals_disk self.old) }
+        // Without `sync` it is one call, and nothing is synced.
         ensures plain { journals_sync self.old ≡ false →
             NotesPlainly D.Disk result (journals_disk self.old) (journals_disk self.new) }
+        // With `sync` the take's file is synced first, then the note is written and synced.
         ensures order { IsTrue (D.honest (journals_disk self.old)) →
             IsTrue (journals_sync self.old) → SyncsInOrder D.Disk result
             (path_of_take (journals_folder self.old) name.now)

@@ -47,12 +47,14 @@ impl<D: Volume> RestingFolderJournal<D> {
     /// The journals of a folder, of which those at `NAME.closed` rest.
     pub fn new(alloc: Global, inner: FolderJournal<D>) -> RestingFolderJournal<D>
         ensures inner { awake_journals result ≡ inner }
+        // Where nothing rests notes and headers are those of the journals that it is made of.
         ensures notes { (name : List ℕ) → (all_journals D.Disk result).noted name
             ≡ noted_in_folder inner name }
         ensures resting { (name : List ℕ) → (all_journals D.Disk result).resting name
             ≡ D.contents (journals_disk inner) (path_of_closed (journals_folder inner) name) }
         ensures headers { (name : List ℕ) → (all_journals D.Disk result).resting name ≡ None →
             (all_journals D.Disk result).header name ≡ header_in_folder inner name }
+        // Loose: the journal woke and nothing was noted since, or a move of it failed.
         ensures loose { (name : List ℕ) → is_loose_in result name ≡ false }
     {
         RestingFolderJournal {
@@ -116,6 +118,7 @@ impl<D: Volume> Journal for RestingFolderJournal<D> {
         ensures standing { IsTrue (D.honest (disk_of_all self.old)) → KeepsStandings self.old self.new }
         ensures headers { IsTrue (D.honest (disk_of_all self.old)) → KeepsHeaders
             (all_journals D.Disk self.old).header (all_journals D.Disk self.new).header }
+        // What rests goes on resting, and headers stay, whether or not the call fails.
         ensures resting { IsTrue (D.honest (disk_of_all self.old)) → KeepsResting
             (all_journals D.Disk self.old).resting (all_journals D.Disk self.new).resting }
         ensures begun { IsTrue (D.honest (disk_of_all self.old)) → OnOk result (BeginsNotes name.now
@@ -129,6 +132,7 @@ impl<D: Volume> Journal for RestingFolderJournal<D> {
             ((all_journals D.Disk self.new).noted name.now)) }
         ensures others { IsTrue (D.honest (disk_of_all self.old)) → KeepsOthers
             (all_journals D.Disk self.old).noted (all_journals D.Disk self.new).noted name.now }
+        // No other file changes, on errors too.
         ensures files { IsTrue (D.honest (disk_of_all self.old)) → KeepsOthers
             (D.contents (disk_of_all self.old)) (D.contents (disk_of_all self.new))
             (path_of_journal (folder_of_all self.old) name.now) }
@@ -155,8 +159,10 @@ impl<D: Volume> Journal for RestingFolderJournal<D> {
         ensures standing { IsTrue (D.honest (disk_of_all self.old)) → KeepsStandings self.old self.new }
         ensures headers { IsTrue (D.honest (disk_of_all self.old)) → KeepsHeaders
             (all_journals D.Disk self.old).header (all_journals D.Disk self.new).header }
+        // What rests goes on resting, and headers stay, whether or not the call fails.
         ensures resting { IsTrue (D.honest (disk_of_all self.old)) → KeepsResting
             (all_journals D.Disk self.old).resting (all_journals D.Disk self.new).resting }
+        // The bytes follow the first ones, wherever the journal stands.
         ensures noted { IsTrue (D.honest (disk_of_all self.old)) →
             OnOk result (Notes offset bytes.now
             ((all_journals D.Disk self.old).noted name.now)
@@ -167,10 +173,12 @@ impl<D: Volume> Journal for RestingFolderJournal<D> {
             ((all_journals D.Disk self.new).noted name.now)) }
         ensures others { IsTrue (D.honest (disk_of_all self.old)) → KeepsOthers
             (all_journals D.Disk self.old).noted (all_journals D.Disk self.new).noted name.now }
+        // No file but the name's two changes, on errors too.
         ensures files { IsTrue (D.honest (disk_of_all self.old)) → KeepsAllBut
             (path_of_journal (folder_of_all self.old) name.now)
             (path_of_closed (folder_of_all self.old) name.now)
             (D.contents (disk_of_all self.old)) (D.contents (disk_of_all self.new)) }
+        // With `sync` the take's file, if any, and the journal are synced, even if moved back.
         ensures synced { IsTrue (D.honest (disk_of_all self.old)) → IsTrue (syncs_all self.old) →
             OnOk result
             (IsSyncedAt (D.contents (disk_of_all self.new)) (D.synced (disk_of_all self.new))
@@ -208,17 +216,21 @@ impl<D: Volume> RestingJournal for RestingFolderJournal<D> {
         ensures folder { folder_of_all self.new ≡ folder_of_all self.old }
         ensures standing { IsTrue (D.honest (disk_of_all self.old)) →
             MayMoveToRest name.now self.old self.new }
+        // A whole journal is put to rest, or nothing has changed.
         ensures rested { IsTrue (D.honest (disk_of_all self.old)) →
             IfOk result (λ rested. RestsIf rested
             name.now (all_journals D.Disk self.old) (all_journals D.Disk self.new)) }
+        // The same of an error, also where the disk may have moved the file.
         ensures failed { IsTrue (D.honest (disk_of_all self.old)) → OnErr result
             (SameJournals (all_journals D.Disk self.old) (all_journals D.Disk self.new)) }
+        // No file but the name's two changes, on errors too.
         ensures files { IsTrue (D.honest (disk_of_all self.old)) → KeepsAllBut
             (path_of_journal (folder_of_all self.old) name.now)
             (path_of_closed (folder_of_all self.old) name.now)
             (D.contents (disk_of_all self.old)) (D.contents (disk_of_all self.new)) }
         ensures closed { IfOk result (λ rested. IsTrue rested →
             existence_of (open_of_all self.new) name.now ≡ None) }
+        // One for which a sync failed isn't put to rest, and the disk isn't called.
         ensures stopped { is_loose_in self.old name.now ≡ false →
             sync_failed_of_all self.old name.now ≡ Some true →
             (result ≡ Ok false) × (disk_of_all self.new ≡ disk_of_all self.old) }

@@ -1,4 +1,5 @@
 //! The requests of headerless samples, given while the samples are still written.
+//! Not stated: that a complete file is found to be complete.
 #![tactic(auto)]
 
 mod buffer;

@@ -47,6 +47,7 @@ impl<F: Followed + Drop> PcmRequests<F> {
         file_len: u64,
         file: F,
     ) -> Result<PcmRequests<F>, RecordingFault>
+        // All requests of the recording's plan are still to come, whatever else is set.
         ensures plan { IfOk result (λ x. (b : List ℕ) (r : Recording) →
             F.to_come file ≡ Some (drop pcm.skip b) → pcm_recording_of b options.now pcm ≡ Ok r →
             RequestsLeft F.Followed x (plan (frames_a_block options.now r.outline.format) r)) }
@@ -85,8 +86,10 @@ impl<F: Followed + Drop> PcmRequests<F> {
     /// # Not specified
     /// When memory is refused, and when the system fails.
     pub fn next(&mut self) -> Result<NextRequest, PcmFault>
+        // A request that is given is the first of those to come; no call loses one.
         ensures left { GivesNextRequest F.Followed result self.old self.new }
         ensures count { CountsUnread F.Followed result self.old self.new }
+        // Each whole block once it is written; CLOSE only of a complete file, with nothing left.
         ensures by { NextComesTo F.Followed result self.old self.new }
     {
         match self.step {

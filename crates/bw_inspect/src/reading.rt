@@ -31,12 +31,17 @@ use std::alloc::Global;
 /// - When memory is refused.
 /// - If the reader doesn't report its bytes, that the report is of what it gave.
 pub fn inspect<R: Source>(alloc: Global, reader: &mut R) -> Result<Report, InspectFault>
+    // At most 2^62 + 8 bytes are read or skipped; Read comes exactly where the reader failed.
     ensures consumed { Consumes R.Source longest_end result reader.old reader.new }
+    // For a report no byte after the form is read.
     ensures within { IfOk result (λ r. R.moved reader.new ≤ R.moved reader.old + (8 + r.size)) }
+    // The report is that of the bytes' reading, every field.
     ensures ok { IfOk result (λ r. Of (R.left reader.old) (λ b. GivesReport b r (R.left reader.new))) }
+    // The first fault, at its place; no stated size is reserved before its bytes are there.
     ensures err { IfErr result (λ f. Of (R.left reader.old) (λ b.
         Refuses b f (R.left reader.new))) }
     ensures bounded { IfOk result (λ r. IsBounded r) }
+    // Bytes with a reading have no fault, but for a failed read and memory.
     ensures only { IfErr result (λ f. Of (R.left reader.old) (λ b.
         HasReading b → is_of_bytes f.kind ≡ false)) }
 {

@@ -48,6 +48,7 @@ impl From<IoFailed> for WriteFailed {
 /// Whether the writer holds bytes back.
 pub fn write_report<W: Sink>(report: &Report, writer: &mut W) -> Result<(), WriteFailed>
     ensures count { W.failures writer.new ≡ failures_after result (W.failures writer.old) }
+    // The text is the definition's.
     ensures ok { OnOk result
         (Writes (W.written writer.old) (report_text (reported_by report.now)) (W.written writer.new)) }
     ensures err { OnErr result

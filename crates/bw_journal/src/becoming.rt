@@ -19,6 +19,7 @@ pub trait BecomesResting: Journal {
         ensures becomes { becomes self result }
         ensures failures { Self.Resting.failures result ≡ Self.failures self }
         ensures honest { Self.Resting.honest result ≡ Self.honest self }
+        // Headers stay, but where something rests they say that a file existed.
         ensures notes { NotesAlike (Self.notes self) (Self.Resting.notes result)
             (Self.Resting.resting result) (Self.header self) (Self.Resting.header result) };
 }

@@ -60,6 +60,7 @@ pub trait Journal: Drop {
             (stands self.new) (notes self.old) (notes self.new) }
         ensures headers { IsTrue (honest self.old) →
             KeepsHeaders (header self.old) (header self.new) }
+        // What rests goes on resting, under every name.
         ensures resting { IsTrue (honest self.old) →
             KeepsResting (resting self.old) (resting self.new) }
         ensures begun { IsTrue (honest self.old) → OnOk result
@@ -89,6 +90,7 @@ pub trait Journal: Drop {
             (stands self.new) (notes self.old) (notes self.new) }
         ensures headers { IsTrue (honest self.old) →
             KeepsHeaders (header self.old) (header self.new) }
+        // What rests goes on resting, under every name.
         ensures resting { IsTrue (honest self.old) →
             KeepsResting (resting self.old) (resting self.new) }
         ensures noted { IsTrue (honest self.old) → OnOk result

@@ -41,8 +41,10 @@ pub fn law_stops()
 /// and files of closed takes need no repair.
 pub fn law_recovery()
     ensures survive { HeldFilesSurvive }
+    // Header, cut and pad byte repair them.
     ensures repaired { FilesAreRepaired }
     ensures holds { RecoveryHolds }
     ensures closed { ClosedFilesAreWhole }
+    // A request whose note failed may be tried again.
     ensures again { NewFilesAreBetween }
 {}

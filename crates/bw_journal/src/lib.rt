@@ -1,4 +1,6 @@
 //! Journals: what is noted of each done number, so that a server can resume after a stop.
+//! Not stated: premises are that a killed write leaves a prefix, and a stop no more than a failed
+//! call.
 #![tactic(auto)]
 
 mod becoming;

@@ -49,6 +49,7 @@ pub fn replay(
     bytes: &[u8],
 ) -> Result<Replayed, ReplayFault>
     requires { length bytes.now ≤ 2 ^ 40 }
+    // State and done numbers are what the bytes define.
     ensures ok { IfOk result (λ r. replay_of limit name.now bytes.now ≡ Ok (story_of r)) }
     ensures torn { IfOk result (λ r. r.used + r.torn ≡ length bytes.now) }
     ensures err { IfErr result (λ e. IsJournalFault e (replay_of limit name.now bytes.now)) }

@@ -1,5 +1,6 @@
 //! What a running server leaves in its folder is what the next start takes over: laws of the
 //! relations that both contracts state. No function runs.
+//! Not stated: that a folder is a server's own at the start (`IsOwnFolder`), which turns keep.
 #![tactic(auto)]
 
 ghost use Rattle.bw_left.specs.ExamplesOfLeft.{CutNoteExample, WholeNoteExample};
@@ -34,11 +35,17 @@ pub use resting::{
 /// has every done number, with its verdict; and no server leaves a journal in which an entry that
 /// was answered is cut.
 pub fn law_left<S: TakeStore, J: Journal>()
+    // If no number waits, `start` takes over exactly this book.
     ensures quiet { QuietServersAreLeft S.TakeStore J.Journal }
+    // Otherwise this book, or one in which numbers that waited are done.
     ensures ordered { OrderedServersAreLeft S.TakeStore J.Journal }
+    // Such a book has every done number, with its verdict.
     ensures verdicts { LaterBooksForgetNothing }
+    // In the book that the next server begins from no number waits.
     ensures again { CutBooksAreQuiet }
+    // No server leaves a journal in which an answered entry is cut, whatever its file is.
     ensures uncut { CutAnswersAreNotLeft }
+    // By the paths of a folder it is the premise of `start`.
     ensures folder { LeftNamesAreInFolders }
 {}
 
@@ -47,7 +54,9 @@ pub fn law_left<S: TakeStore, J: Journal>()
 /// waits whose note failed. The premise on the order of file and entry holds where no number waits,
 /// as in a server that was just started (`bw_session::law_order`).
 pub fn law_stopped<S: TakeStore, J: Journal>()
+    // After each turn, whichever call fails in it and whatever failed before.
     ensures turn { StoppedTurnsAreLeft S.TakeStore J.Journal }
+    // After any turns, or in the last of them.
     ensures killed { KilledServersAreLeft S.TakeStore J.Journal }
 {}
 

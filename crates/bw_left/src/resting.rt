@@ -61,6 +61,7 @@ pub fn law_resting_calls<S: TakeStore, J: Journal>()
 pub fn law_new_folders()
     ensures new { NewFoldersAreLeft }
     ensures empty { EmptyFoldersAreNew }
+    // If nothing stands at a `NAME.closed`.
     ensures without_rest { FoldersWithoutRestAreLeft }
 {}
 

@@ -1,4 +1,5 @@
 //! This machine's network and folders, over which `serve` and `send` run, and its terminal.
+//! Not stated: that the system's disk holds what the folder holds (a premise); what locks a folder.
 #![tactic(auto)]
 
 mod journals;

@@ -1,5 +1,6 @@
 //! What the program asks of the system: links over TCP, a folder and its lock, files, the clock and
 //! words.
+//! Not stated: what comes over a socket, when a wait ends, and what a terminal shows.
 #![tactic(auto)]
 
 mod counting;

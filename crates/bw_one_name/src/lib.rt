@@ -1,5 +1,6 @@
 //! Connections that may have one name alone: a filter of what comes over a link, byte by byte, which
 //! makes the first frame whose name isn't the first frame's a bad one.
+//! Not stated: what comes over a socket.
 #![tactic(auto)]
 
 mod filter;

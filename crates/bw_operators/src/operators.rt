@@ -67,8 +67,11 @@ impl<L: Link + Drop> Operators<L> {
     /// response is sent on. Those that are over, or have lasted for longer than five seconds, are
     /// closed. No call waits.
     pub fn work(&mut self, now: u64)
+        // A link took the first bytes of the response to its own request, of one snapshot.
         ensures connections { AreConnections L.Link self.old → AreConnections L.Link self.new }
         ensures places { place_count self.new ≡ place_count self.old }
+        // Bytes moved, or the link reported none or no room; closed exactly after 5,000 ms or its
+        // end.
         ensures steps { (place : ℕ) → StepsAt L.Link now self.old self.new place }
     {
         for place in 0..self.places.len() {
@@ -98,6 +101,7 @@ impl<L: Link + Drop> Operators<L> {
     /// connection has lasted for longest.
     pub fn asked(&self) -> Option<(usize, Answer)>
         ensures asks { IfSome result (λ asked. asked_at self.now asked.0 ≡ Some asked.1) }
+        // Of several it is the one whose connection has lasted for longest.
         ensures longest { IfSome result (λ asked. LastsLongest self.now asked.0) }
         ensures none { IfNone result ((place : ℕ) → asked_at self.now place ≡ None) }
     {
@@ -149,8 +153,10 @@ impl<L: Link + Drop> Operators<L> {
         ensures connections { (a : Answer) (s : Snapshot) → asked_at self.old place ≡ Some a →
             response.items ≡ response_text a s → AreConnections L.Link self.old →
             AreConnections L.Link self.new }
+        // The response is sent from its first byte.
         ensures responds { (a : Answer) → asked_at self.old place ≡ Some a →
             RespondsAt place response.items self.old self.new }
+        // So no place has two responses.
         ensures nothing { asked_at self.old place ≡ None → self.new ≡ self.old }
         ensures others { LeavesOtherPlaces place self.old self.new }
     {

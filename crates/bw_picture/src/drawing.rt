@@ -38,6 +38,7 @@ pub fn draw<R: Source>(
     requires some { (0 < shape.now.channels) × (0 < shape.now.wide) }
     requires near { shape.now.place + shape.now.frames * 2 ^ 18 < 2 ^ 62 }
     requires filled { shape.now.columns * shape.now.wide < shape.now.frames + shape.now.wide }
+    // Each stroke runs from the least to the greatest level of a channel in a column's frames.
     ensures ok { IfOk result (λ text. AtPlace (R.left reader.old) shape.now.place (λ b.
         text.items ≡ all_strokes b shape.now shape.now.columns)) }
     ensures err { IfErr result (λ f. AtPlace (R.left reader.old) shape.now.place (λ b.

@@ -12,6 +12,7 @@ use bw_inspect::Report;
 /// for a block align that isn't the size of a sample of each channel, for 2^43 frames or more, and
 /// for 2^60 bytes or more before them. The caller has to know whether they are PCM.
 pub fn fit(report: &Report) -> Option<Shape>
+    // Each frame is in one column.
     ensures value { result ≡ fitting_shape (reported_by report.now) }
     ensures drawable { IfSome result IsDrawable }
 {

@@ -1,5 +1,6 @@
 //! A waveform as a picture (SVG 1.1): the least and the greatest sample of each column of each
 //! channel, the time axis and the markers.
+//! Not stated: whether samples are PCM, which the caller has to know; how large the text grows.
 #![tactic(auto)]
 
 mod channels;

@@ -34,6 +34,7 @@ pub fn picture<R: Source>(
     requires near { shape.now.place + shape.now.frames * 2 ^ 18 < 2 ^ 62 }
     requires filled { shape.now.columns * shape.now.wide < shape.now.frames + shape.now.wide }
     requires span { shape.now.columns * shape.now.wide < 2 ^ 54 }
+    // The text is the definition's, of the file's samples, its rate and its cue points.
     ensures ok { IfOk result (λ text. AtPlace (R.left reader.old) shape.now.place (λ b.
         text.items ≡ picture_text b shape.now rate cues.now)) }
     ensures err { IfErr result (λ f. AtPlace (R.left reader.old) shape.now.place (λ b.

@@ -29,6 +29,7 @@ pub fn read_frames<R: Source>(
     requires within { length lows.old * bytes_of width ≤ align }
     requires some { (0 < align) × (align ≤ length buf.old) }
     requires near { place + frames * align < 2 ^ 63 }
+    // The levels are those of the file's samples, however they are read in pieces.
     ensures ok { OnOk result (AtPlace (R.left reader.old) place (λ b.
         HasWidened b place frames width align lows.old highs.old lows.new highs.new
         (R.left reader.new))) }

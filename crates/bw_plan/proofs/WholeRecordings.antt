@@ -66,7 +66,7 @@ comes b o r h = go (read b) refl h
     go (Err fault) q h = absurd (not_ok h)
     go (Ok z) q h = inner z.0 z.1 q (outline_of o (notes_of b z.0 z.1)) refl h
 
--- no fault, and the outline that the notes tell
+-- no fault, and the outline that the notes give
 pub record Outlines (o : Options) (n : FileNotes) (r : Outline) : Type 0 where
   pub free : first_that_holds (recording_faults o n) ≡ None
   pub is : set_outline o n ≡ r
@@ -112,7 +112,7 @@ range_long : (b : List ℕ) (p n : ℕ) → p + n ≤ length b → length (slice
 range_long b p n h =
     let d = length-drop p b in length-take (p + n - p) (drop p b) ∙ omega (arith, d, h)
 
--- the data that a report tells are there
+-- the data that a report gives are there
 pub data_there : (b : List ℕ) (form : Form) (es : List Entry) → Each (IsChunkAt b form) es →
     length (samples_of b (report_of b form es)) ≡ (report_of b form es).data_size
 unfolding report_of

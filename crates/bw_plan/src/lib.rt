@@ -1,4 +1,6 @@
 //! The requests of a recording, as a function of a file's bytes and of options.
+//! Not stated: that a report beside `read_history` is that of the file; that a take's own file has
+//! the same recording.
 #![tactic(auto)]
 
 mod block_reader;

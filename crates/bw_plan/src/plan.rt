@@ -85,6 +85,7 @@ impl Plan {
         ensures end { IfOk result (λ p.
             p.samples.place + p.samples.left ≡ place + outline.samples_len) }
         ensures sound { IfOk result (λ p. IsSoundPlan p.stage) }
+        // All its requests are still to be given.
         ensures plan { IfOk result (λ p. (b : List ℕ) →
             let samples = slice_range b place (place + outline.samples_len) in
             outline.samples_len ≡ length samples →
@@ -125,6 +126,7 @@ impl Plan {
         ensures sound { IfOk result (λ p. IsSoundPlan p.stage) }
         ensures stands { IfOk result (λ p. Of (R.left reader.old) (λ b.
             R.left reader.new ≡ Some (drop place b))) }
+        // All its requests are still to be given.
         ensures plan { IfOk result (λ p. (b : List ℕ) →
             let samples = slice_range b place (place + outline.samples_len) in
             outline.samples_len ≡ length samples →

@@ -30,6 +30,7 @@ pub fn read_extension<R: Source>(
 ) -> Result<Vec<u8>, InspectFault>
     ensures ok { IfOk result (λ v. Of (R.left reader.old) (λ b.
         v.items ≡ extension_at b (entry_of (codes "fmt ") report.now.chunks))) }
+    // It is missed only where the chunk isn't in the bytes.
     ensures cut { IfErr result (λ f. IsTrue (is_of_bytes f.kind) → (e : Entry)
         × (entry_of (codes "fmt ") report.now.chunks ≡ Some e)
         × Of (R.left reader.old) (λ b. IsOutOfBytes b e)) }
@@ -56,6 +57,7 @@ pub fn read_history<R: Source>(
 ) -> Result<Vec<u8>, InspectFault>
     ensures ok { IfOk result (λ v. Of (R.left reader.old) (λ b.
         v.items ≡ history_at b (entry_of (codes "bext") report.now.chunks))) }
+    // It is missed only where the chunk isn't in the bytes.
     ensures cut { IfErr result (λ f. IsTrue (is_of_bytes f.kind) → (e : Entry)
         × (entry_of (codes "bext") report.now.chunks ≡ Some e)
         × Of (R.left reader.old) (λ b. HasNoHistory b e)) }

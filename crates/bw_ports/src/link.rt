@@ -89,7 +89,7 @@ pub trait Link {
         ensures finished { finished self.old → finished self.new }
         ensures peer { (p : SocketAddr) → calls_from self.old p → calls_from self.new p };
 
-    /// Tells the peer that no more bytes will be sent.
+    /// Says to the peer that no more bytes will be sent.
     ///
     /// # Not specified
     /// That the peer learns of it.

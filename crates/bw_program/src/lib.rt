@@ -1,4 +1,5 @@
 //! What the program `bwingest` does: its command line, and what each command is given of the outside.
+//! Not stated: which text help and usage print; what the watcher and the log of links do.
 #![tactic(auto)]
 
 mod folders;

@@ -72,6 +72,7 @@ pub fn start<
     V: Watch + UploadWatch,
     G: Observer,
 >(alloc: Global, outside: &mut Outside<S, F, D, N, P, R, W, E, V, G>) -> ExitCode
+    // Commands without the network leave it alone, and each text goes to its stream.
     ensures { (exit : Exit) × (exit_status result ≡ status_of exit) × IsProgram
         (host_side S.System F.RecordingFiles (state_side F.kept_at F.States.StateFiles F.States.Log.StateLog)
         F.EditedFiles F.FolderLocks D.Disk R.Source W.Sink E.Sink)

@@ -1,5 +1,6 @@
 //! The progress of an upload, as one line: what it says, when it is shown again, and who asks for
 //! that. Screens, clocks and files are those of whoever uses it.
+//! Not stated: what a clock says and a screen shows, and that those who share the line ask for it.
 #![tactic(auto)]
 
 mod display;

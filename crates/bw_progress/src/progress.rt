@@ -128,6 +128,7 @@ impl UploadProgress {
     /// # Not specified
     /// When memory is refused.
     pub fn line(&self, alloc: Global, now: u64) -> Result<Vec<u8>, AllocError>
+        // Percent and time are rounded down.
         ensures { IfOk result (λ text. text.items ≡ upload_line now self.now) }
     {
         line_of(alloc, self, now)

@@ -1,5 +1,6 @@
 //! The recording in a file: how it is opened and what is reported of that, and the command `pack`,
 //! which prints its requests.
+//! Not stated: that a failed read was one (its reader is dropped), and its place in the line.
 #![tactic(auto)]
 
 mod fault;

@@ -65,6 +65,7 @@ pub fn pack<F: RecordingFiles, W: Sink, E: Sink>(
     out: &mut W,
     faults: &mut E,
 ) -> Exit
+    // A failed read or write leaves a prefix of the lines of the plan's requests.
     ensures { (did : Packing) × (did.exit ≡ result)
         × IsPack (F.file_at files.old file.now.path.now) file.now.path.now
         (map string_bytes file.now.settings.now) file.now.is_strict file.now.frames did

@@ -5,7 +5,9 @@ ghost use Rattle.bw_rehearsal.specs.Rehearsing.{QuietRehearsalsHaveOneWorld};
 
 /// Whatever is lost, repeated or reordered, the sender counts only what the server's take has.
 pub fn law_world()
+    // So it is with other recorders and faults too.
     ensures faithful { EachWorldIsFaithful }
+    // No number has TooFar or Conflict, and none is missing before a done one.
     ensures gapless { FaithfulWorldsHaveNoGap }
 {
     bw_model::law_world();

@@ -1,4 +1,5 @@
 //! Rehearsals: loss and reordering played by hand, between a real sender and a real server.
+//! Not stated: what an error leaves of a stage, which is dropped.
 #![tactic(auto)]
 
 mod event;

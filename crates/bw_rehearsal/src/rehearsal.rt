@@ -43,6 +43,7 @@ pub fn rehearse(
     limit: Limit,
     events: &[Event],
 ) -> Result<World, AllocError>
+    // Counts, sender, book and each settled name's file are those of a world of the definitions.
     ensures { IfOk result (λ w. WasRehearsed name limit events.now w) }
 {
     let mut simulation = Simulation::new(alloc, name, limit)?;

@@ -48,6 +48,7 @@ pub fn rehearse_with_stops_run<R: Source, W: Sink, E: Sink>(
 ) -> Exit
     ensures within { Of (R.left input.old) (λ xs. IsReadAhead xs (R.left input.new)) }
     ensures most { R.moved input.new ≤ R.moved input.old + (longest_input + 1) }
+    // Done only with the text of what the events lead to.
     ensures did { (did : Outcome) × (did.exit ≡ result)
         × IsChosenRehearsal name limit (R.left input.old) did
         × (R.failures input.new ≡ failures_if did.reads_all (R.failures input.old))

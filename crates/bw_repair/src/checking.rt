@@ -27,6 +27,7 @@ pub fn check<R: Source + Drop>(
 ) -> Result<Report, InspectFault>
     requires near { place < 2 ^ 62 }
     requires following { 12 ≤ place }
+    // With these sizes the file has a reading, of which this is the report.
     ensures ok { IfOk result (λ r. Of (R.left reader) (λ b.
         place + 8 ≤ length b → IsReadAs (with_sizes b place sizes) r)) }
     ensures err { IfErr result (λ f. Of (R.left reader) (λ b.

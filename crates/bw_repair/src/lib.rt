@@ -1,4 +1,5 @@
 //! The sizes that a WAVE file lacks whose writer was killed, and what the file reads as with them.
+//! Not stated: that the decision is the same after the first of the two writes.
 #![tactic(auto)]
 
 mod checking;

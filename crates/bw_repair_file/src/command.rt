@@ -37,6 +37,7 @@ pub fn repair_file<F: EditedFiles, W: Sink, E: Sink>(
     out: &mut W,
     faults: &mut E,
 ) -> Exit
+    // Without `is_written`, and of a file that is sound or refused, nothing is written.
     ensures { (did : Outcome) × (did.exit ≡ result) × (gives_all : Bool)
         × IsRepair (F.content_at files.old) (F.content_at files.new) path.now is_written gives_all did
         × (F.edit_failures files.new ≡ failures_if gives_all (F.edit_failures files.old))

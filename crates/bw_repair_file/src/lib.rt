@@ -1,4 +1,5 @@
 //! The command `repair`: the sizes that a file lacks are printed, or written into it.
+//! Not stated: that the file stays as it is between the two openings.
 #![tactic(auto)]
 
 mod command;

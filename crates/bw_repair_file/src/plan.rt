@@ -56,6 +56,7 @@ pub fn plan_repair<F: EditedFiles>(
     files: &mut F,
     path: &str,
 ) -> Result<Soundness, PlanFault>
+    // Sound, or which sizes it lacks, where, and how many frames it has with them.
     ensures ok { IfOk result (λ found. Of (F.content_at files.old path.now) (λ b.
         IsSoundness b found)) }
     ensures err { IfErr result (λ e. Of (F.content_at files.old path.now) (λ b. RefusesPlan b e)) }

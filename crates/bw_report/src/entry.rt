@@ -54,6 +54,7 @@ pub fn entry_of(
     name: &str,
     found: &Found,
 ) -> Result<Vec<u8>, AllocError>
+    // Each time, level and size in the text for people is the definition's.
     ensures { IfOk result (λ v. v.items ≡ entry_text style named name.now found.now) }
 {
     match style {

@@ -32,6 +32,7 @@ pub fn inspect_input<R: Source, W: Sink, E: Sink>(
     out: &mut W,
     faults: &mut E,
 ) -> Exit
+    // The entry has no digest.
     ensures { (did : Outcome) × (did.exit ≡ result)
         × IsEntryOf (R.left input.old) style name.now did
         × (R.failures input.new ≡ failures_if did.reads_all (R.failures input.old))

@@ -25,8 +25,10 @@ use std::alloc::{AllocError, Global};
 /// # Not specified
 /// When memory is refused.
 pub fn json_line(alloc: Global, name: &str, found: &Found) -> Result<String, AllocError>
+    // Each value of the report is in the object, compact, with the keys in order.
     ensures text { IfOk result (λ t.
         string_bytes t ≡ compact_text (found_data name.now found.now)) }
+    // It is read back as this object (RFC 8259).
     ensures reads_back { IfOk result (λ t.
         read (string_bytes t) ≡ Some (found_data name.now found.now)) }
 {

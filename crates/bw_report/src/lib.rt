@@ -1,4 +1,6 @@
 //! Reports of files, one after another: plain, for people, or as lines of JSON (RFC 8259).
+//! Not stated: which bytes the process's own files have; the reason in the line of one that isn't
+//! opened.
 #![tactic(auto)]
 
 mod bext;

@@ -24,5 +24,6 @@ pub fn law_leaves_folders<S: TakeStore, J: Journal>()
 /// replies, so that a repeat gets its first verdict, and with the same log.
 #[tactic(auto, using(crate::proofs::OwnRuns::names_run_alone))]
 pub fn law_names_alone()
+    // By `law_turns` of `bw_model` such a repeat gets its first verdict.
     ensures { NamesRunAlone }
 {}

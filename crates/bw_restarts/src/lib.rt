@@ -12,6 +12,7 @@ ghost use Rattle.bw_restarts.specs.Restarts.{StoredRestingLivesAreWhole};
 /// heard to be stored, the last server's take is what they make, and if one of them is a CLOSE, an
 /// honest store has that take's file from then on.
 pub fn law_restarts()
+    // A server with a journal begins with the same done numbers, and nothing admitted anew.
     ensures cut { CutBooksGoOn }
     ensures heard { LivesDeliver }
     ensures whole { StoredLivesAreWhole }

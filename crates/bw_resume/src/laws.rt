@@ -5,7 +5,9 @@ ghost use Rattle.bw_resume.specs.Laws.{OtherStatesSayNothing, StatesAreRead};
 /// What was noted is read back, whichever prefix of it a kill leaves; the state of another header
 /// says nothing.
 pub fn law_states()
+    // It gives the largest of the counts whose lines are whole; without its header, nothing.
     ensures cut { CutStatesAreRead }
+    // Uncut it gives the largest of all.
     ensures whole { StatesAreRead }
     ensures others { OtherStatesSayNothing }
 {}

@@ -1,5 +1,6 @@
 //! The command `send`: requests of an input, sent in rounds until all are settled. Sockets are in a
 //! crate above, which implements `Dial`.
+//! Not stated: that what a link took arrives; that a watcher gets each round.
 #![tactic(auto)]
 
 mod dispatch;

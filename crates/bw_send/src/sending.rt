@@ -49,6 +49,7 @@ pub fn send_run<D: Dial, R: Source, W: Sink, E: Sink, V: Watch>(
     faults: &mut E,
     watch: &mut V,
 ) -> Exit
+    // It is so whoever watches.
     ensures did { (did : Outcome) × (did.exit ≡ result)
         × IsSendRun D.Dial D.Reader.Source D.Writer.Sink name rounds (R.left input.old)
         dial.old dial.new did

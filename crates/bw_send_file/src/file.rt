@@ -44,6 +44,7 @@ pub fn send_file<F: RecordingFiles, P: Pause, D: Dial, V: Observer, W: Sink, E: 
     out: &mut W,
     faults: &mut E,
 ) -> Exit
+    // The feed gives the plan's requests in order; CLOSE only if the file's stamp stays.
     ensures { (did : Packing) × (did.exit ≡ result)
         × IsFileSent ⟦<PlanFeed<F::File, F::Stamped> as Feed>⟧ P.Pause D.Dial D.Reader.Source
         D.Writer.Sink recorder.now file.now (F.file_at files.old file.now.path.now)

@@ -1,5 +1,6 @@
 //! The command `send --file`: the recording in a file is sent over links that are kept, until all of
 //! it is stored or it can't go on.
+//! Not stated: that the first stamp is taken before the file is opened.
 #![tactic(auto)]
 
 mod ending;

@@ -42,6 +42,7 @@ pub fn send_feed_after<
     faults: &mut E,
 ) -> Exit
     requires { count ≤ last_number Second + 1 }
+    // With the status 0 these and all requests of the feed are stored.
     ensures { (s : Defined) → HasStored recorder.now.name.now count s → (did : Did) × (did.exit ≡ result)
         × IsFeedSentAfter X.Feed P.Pause D.Dial D.Reader.Source D.Writer.Sink s
         (record { name = recorder.now.name.now; path = path.now; most = recorder.now.fruitless })

@@ -41,6 +41,7 @@ pub fn send_samples<F: RecordingFiles, P: Pause, D: Dial, V: Observer, W: Sink, 
     out: &mut W,
     faults: &mut E,
 ) -> Exit
+    // The feed has all requests of the plan of the samples, which are a recording.
     ensures { (did : Packing) × (did.exit ≡ result)
         × IsPcmSent ⟦<PlanFeed<F::File, F::Stamped> as Feed>⟧ P.Pause D.Dial D.Reader.Source
         D.Writer.Sink recorder.now file.now

@@ -47,6 +47,7 @@ pub fn follow_samples<F: RecordingFiles, P: Pause, D: Dial, V: Observer, W: Sink
     out: &mut W,
     faults: &mut E,
 ) -> Exit
+    // If the file's later bytes are a recording, the feed has all requests of its plan.
     ensures { (did : Packing) × (did.exit ≡ result)
         × IsPcmSent ⟦<PcmFeed<F::Growing> as Feed>⟧ P.Pause D.Dial D.Reader.Source
         D.Writer.Sink recorder.now file.now

@@ -1,4 +1,4 @@
--- A keeper of a state is told how far its sender is.
+-- A keeper of a state gets reports of how far its sender is.
 use Rattle.std.proofs.Common.{◌≡◌, ◌∙◌, Bool, true, false, ap, sym, refl}
 use Rattle.std.specs.Prelude.{is_none}
 use Rattle.bw_console.specs.Printing.{failures_if}

@@ -45,6 +45,7 @@ pub fn ask_server<P: Pause, D: Dial>(
     pause: &mut P,
     dial: &mut D,
 ) -> Result<u32, NotAsked>
+    // Over each link the ask and a BYE are written, and nothing else.
     ensures { AsksServer P.Pause D.Dial D.Reader.Source D.Writer.Sink name.now most result
         (ways pause.old dial.old) (ways pause.new dial.new) }
 {

@@ -55,6 +55,7 @@ pub fn send_file_on<
     out: &mut W,
     faults: &mut E,
 ) -> Exit
+    // The first N requests are skipped, none a CLOSE; `send_feed_after` sends the others.
     ensures { (did : Continuation) × (did.exit ≡ result)
         × IsFileSentOn (sending_side ⟦<PlanFeed<F::File, F::Stamped> as Feed>⟧
         (LooksAt F.Stamped.Stamped) P.Pause D.Dial D.Reader.Source D.Writer.Sink) job.now

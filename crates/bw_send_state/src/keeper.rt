@@ -123,6 +123,7 @@ impl<'a, L: StateLog + Drop, T: Stopwatch> StateKeeper<'a, L, T> {
 impl<L: StateLog + Drop, T: Stopwatch> Observer for StateKeeper<'_, L, T> {
     /// Notes the count at each change of the link, however early.
     fn link(&mut self, _event: LinkEvent, sender: &Sender)
+        // The line has the count of settled and stored requests; after a fault none comes.
         ensures { (s : Defined) → IsSender s sender.now → HearsProgress L.StateLog s self.old self.new }
     {
         self.note(sender);

@@ -1,4 +1,6 @@
 //! `send --file` with a state: it goes on where an earlier sender of the same file stopped.
+//! Not stated: that the keeper gets the reports of this upload and no others; when a line is
+//! written.
 #![tactic(auto)]
 
 mod asking;

@@ -40,6 +40,7 @@ pub fn opening_of<X: Feed<Fault = FeedFault>>(
     name: &Name,
     feed: &mut X,
 ) -> Result<Opening, FeedFault>
+    // The SHA-256 digest of the frames before the first block, and that block's length.
     ensures ok { IfOk result (λ opening. (requests : List Message) → X.left feed.old requests →
         IsOpeningOf name.now requests opening) }
     ensures err { IfErr result (λ fault. StopsOpening X.Feed feed.old fault) }

@@ -110,6 +110,7 @@ impl Sender {
             fault_of e.0 ≡ offer_fault s request) }
         ensures back { IfErr result (λ e. e.1 ≡ request) }
         ensures unchanged { OnErr result (self.new ≡ self.old) }
+        // Memory is asked for only where there is no room for the refusals.
         ensures room { HasRoom self.old → IfErr result (λ e. IsSome (fault_of e.0)) }
     {
         if let Err(error) = self.check_offer(&request) {

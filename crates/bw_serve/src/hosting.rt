@@ -121,6 +121,7 @@ pub fn serve_many_from<S: TakeStore, J: Journal, B: Reactor, O: Sink, E: Sink>(
     out: &mut O,
     faults: &mut E,
 ) -> Exit
+    // Each settled name has its file, or what was there before.
     ensures { HostsManyFrom S.TakeStore J.Journal B.Reactor B.Link.Link O.Sink E.Sink opening.now
         hosting.now.bounds hosting.now.log result server reactor.old reactor.new out.old out.new
         faults.old faults.new }

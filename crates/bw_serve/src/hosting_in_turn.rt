@@ -62,6 +62,7 @@ pub fn serve<N: Network, O: Sink, E: Sink>(
     out: &mut O,
     faults: &mut E,
 ) -> Exit
+    // Answers are one run from the empty book; each settled name has its file, or what was there.
     ensures { Hosts N.Store.TakeStore ⟦<NoJournal as Journal>⟧ N.Peers.Peers
         N.Peers.Reader.Source N.Peers.Writer.Sink O.Sink E.Sink N.Network
         serving.now result network.old network.new out.old out.new faults.old faults.new }
@@ -140,6 +141,7 @@ pub fn serve_from<S: TakeStore, J: Journal, P: Peers, O: Sink, E: Sink>(
     out: &mut O,
     faults: &mut E,
 ) -> Exit
+    // Each settled name has its file, or what was there before.
     ensures { HostsFrom S.TakeStore J.Journal P.Peers P.Reader.Source P.Writer.Sink O.Sink E.Sink
         opening.now serving.now.exchanges serving.now.log result server peers.old peers.new out.old
         out.new faults.old faults.new }

@@ -1,6 +1,8 @@
 //! Servers of recorders, one after another or many at once: peers are accepted, each connection
 //! gets a quantum a round, and each that ends is printed as a line. Sockets are in a crate above,
 //! which implements `Peers` and `Reactor`.
+//! Not stated: who comes; whether links report the truth; how many were refused; that what a link
+//! took arrives.
 #![tactic(auto)]
 
 mod event_loop;

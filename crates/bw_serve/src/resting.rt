@@ -43,6 +43,7 @@ pub fn serve_resting<
     out: &mut O,
     faults: &mut E,
 ) -> Exit
+    // Each frame is served or put off, as `law_rests_on` of `bw_rest` says.
     ensures { HostsRested S.TakeStore J.Journal J.Resting.Journal J.becomes N.Peers.Peers
         N.Peers.Reader.Source N.Peers.Writer.Sink O.Sink E.Sink N.Network N.StartsResting serving.now
         sync result network.old network.new out.old out.new faults.old faults.new }
@@ -100,6 +101,7 @@ pub fn serve_many_resting<
     out: &mut O,
     faults: &mut E,
 ) -> Exit
+    // Each frame is served or put off, as `law_rests_on` of `bw_rest` says.
     ensures { HostsManyRested S.TakeStore J.Journal J.Resting.Journal J.becomes N.Reactor.Reactor
         N.Reactor.Link.Link O.Sink E.Sink N.ListenerSetup N.StartsResting hosting.now sync result
         network.old network.new out.old out.new faults.old faults.new }

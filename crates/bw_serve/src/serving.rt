@@ -59,6 +59,7 @@ pub fn run_event_loop<B: Reactor, T: Turns, O: Sink, E: Sink>(
     out: &mut O,
     faults: &mut E,
 ) -> Exit
+    // A round: a wait of 250 ms at most, new peers at free places, a quantum a place.
     ensures { RunsEventLoop B.Reactor B.Link.Link T.answers O.Sink E.Sink log bounds.now result
         (metered_server server.old) (metered_server server.new) reactor.old reactor.new out.old
         out.new faults.old faults.new }
@@ -81,6 +82,7 @@ pub fn run_observed<B: Reactor, T: Turns, V: RoundObserver<T>, O: Sink, E: Sink>
     ensures runs { RunsEventLoop B.Reactor B.Link.Link T.answers O.Sink E.Sink log bounds.now result
         (metered_server server.old) (metered_server server.new) reactor.old reactor.new out.old
         out.new faults.old faults.new }
+    // Nothing else happens to the observer.
     ensures observed { ObservesRun B.Reactor B.Link.Link T.answers O.Sink E.Sink log V.looks
         bounds.now result (metered_server server.old) (metered_server server.new) reactor.old
         reactor.new out.old out.new faults.old faults.new observer.old observer.new }

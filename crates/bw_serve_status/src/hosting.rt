@@ -41,6 +41,7 @@ pub fn serve_many_shown<N: Network + ListenerSetup + StatusSetup<N::Reactor>, O:
     out: &mut O,
     faults: &mut E,
 ) -> Exit
+    // Exchanges, lines and files are those of `serve_many`, whatever operators ask.
     ensures { HostsManyShown N.Store.TakeStore ⟦<NoJournal as Journal>⟧ N.Reactor.Reactor
         N.Reactor.Link.Link O.Sink E.Sink N.Network N.ListenerSetup
         (status_side N.StatusSetup N.Port.StatusPort N.Port.Link.Link) hosting.now status result
@@ -118,6 +119,7 @@ pub fn serve_many_journaled_shown<
     out: &mut O,
     faults: &mut E,
 ) -> Exit
+    // Each round is looked at once, with the counts of all that was answered until then.
     ensures { HostsManyResumedShown S.TakeStore J.Journal N.Reactor.Reactor N.Reactor.Link.Link O.Sink
         E.Sink N.ListenerSetup N.Starts (status_side N.StatusSetup N.Port.StatusPort N.Port.Link.Link)
         hosting.now sync status result network.old network.new out.old out.new faults.old faults.new }

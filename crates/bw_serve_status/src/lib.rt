@@ -1,4 +1,6 @@
 //! `serve --status`: a server of many recorders that operators may ask what it is doing.
+//! Not stated: what is shown of takes after a turn over a store that isn't honest; when operators
+//! connect.
 #![tactic(auto)]
 
 mod counts;

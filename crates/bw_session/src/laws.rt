@@ -10,6 +10,7 @@ use bw_store::TakeStore;
 
 /// Each name's turns are a run of their own: messages of other names change nothing in it.
 pub fn law_isolation()
+    // Turns refused with TableFull or NoRoom are left out.
     ensures { IsolatesEachName }
 {
     bw_model::law_isolation();

@@ -1,4 +1,6 @@
 //! Sessions: what a server keeps of each name.
+//! Not stated: contents over a store that isn't honest; whether a journal that could rest or wake
+//! does.
 #![tactic(auto)]
 
 mod admitting;

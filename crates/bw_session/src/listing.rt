@@ -40,6 +40,7 @@ impl<S: TakeStore, J: Journal> Server<S, J> {
     /// - Before the first verdict NameTaken: whether the file is found yet.
     pub fn is_taken(&self, name: &Name) -> bool
         ensures kept { result ≡ taken_kept self.now name.now }
+        // Only where a file existed, and from the first verdict NameTaken on.
         ensures value { (first : List ℕ → Option (List ℕ)) (book : Book) →
             HoldsBook S.TakeStore J.Journal first self.now book →
             KnowsTaken (is_some (first name.now)) (log_of book name.now) result }
@@ -73,6 +74,7 @@ impl<S: TakeStore, J: Journal> Server<S, J> {
     /// - How they follow from the messages, after a turn over a store that isn't honest.
     pub fn known_names(&self, alloc: Global) -> Result<Vec<Name>, AllocError>
         ensures kept { IfOk result (λ names. ListsNames (known_kept self.now) names.items) }
+        // They are those of the book, and no others.
         ensures value { IfOk result (λ names. (first : List ℕ → Option (List ℕ)) (book : Book) →
             HoldsBook S.TakeStore J.Journal first self.now book →
             ListsNames (is_known book) names.items) }

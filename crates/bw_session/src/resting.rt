@@ -101,8 +101,10 @@ impl<S: TakeStore, J: RestingJournal> Server<S, J> {
             (J.notes (server_journal self.old)) (J.notes (server_journal self.new)) }
         ensures unready { restable_kept self.old name.now ≡ false →
             (result ≡ Ok false) × (self.new ≡ self.old) }
+        // The server holds the book without the name, and what is left of it is at rest.
         ensures rested { IfOk result (λ rested.
             RestsNameIf S.TakeStore J.Journal rested name.now self.old self.new) }
+        // Nothing has changed; a failure is counted exactly where the journal failed.
         ensures failed { OnErr result (KeepsNames S.TakeStore J.Journal self.old self.new) }
     {
         if !self.may_rest(name) {

@@ -49,9 +49,11 @@ impl<S: TakeStore, J: Journal> Server<S, J> {
         ensures store { IfOk result (λ s. server_store s ≡ store) }
         ensures journal { IfOk result (λ s. server_journal s ≡ journal) }
         ensures limit { IfOk result (λ s. server_limit s ≡ limit) }
+        // The book is that of journals and files, cut to the done numbers, with the same verdicts.
         ensures book { IfOk result (λ s. (first : List ℕ → Option (List ℕ)) (book : Book) →
             RecoversBook limit (J.header journal) first (S.contents store) kept.items book →
             HoldsBook S.TakeStore J.Journal first s (cut_book book)) }
+        // It notes that book where nothing follows the done entries of any journal.
         ensures notes { IfOk result (λ s. (first : List ℕ → Option (List ℕ)) (book : Book) →
             RecoversBook limit (J.header journal) first (S.contents store) kept.items book →
             HasDoneNotes (J.header journal) (J.notes journal) book →

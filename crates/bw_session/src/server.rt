@@ -142,20 +142,27 @@ impl<S: TakeStore, J: Journal> Server<S, J> {
     pub fn turn(&mut self, message: &Message<'_>, out: &mut ArrayVec<Reply, 17>)
         ensures few { length out.new.items ≤ 17 }
         ensures numbers { All HasWireNumbers out.new.items }
+        // NoRoom and TableFull cost no call, and change no name.
         ensures uncalled { IsTrue (is_turned_away (map reply_of out.new.items)) →
             (server_store self.new ≡ server_store self.old)
             × (server_journal self.new ≡ server_journal self.old)
             × ((name : List ℕ) → kept_now self.new name ≡ kept_now self.old name) }
+        // A message whose name isn't known after it changes nothing.
         ensures unmet { session_kept self.new (message_of message.now).name ≡ None →
             LeavesServer S.TakeStore J.Journal self.old self.new }
+        // At most four store calls for each done number and one more number; no other name changes.
         ensures both { UsesInTurn S.TakeStore J.Journal self.old self.new (message_of message.now)
             out.new.items }
+        // A done number asks all calls of its judged request (kind, offset, length), in order.
         ensures asked { AsksTurn S.TakeStore J.Journal self.old self.new (message_of message.now) }
         ensures limit { server_limit self.new ≡ server_limit self.old }
+        // Replies and later book are the definitions'; a failure counts where draining stops.
         ensures turned { TurnsBooks S.TakeStore J.Journal self.old self.new (message_of message.now)
             out.new.items }
+        // An honest journal has each name's header and done entries, and a prefix of the next.
         ensures noted { NotesBooks S.TakeStore J.Journal self.old self.new (message_of message.now)
             out.new.items }
+        // No byte of an entry is in the journal before its request is carried out.
         ensures ordered { OrdersBooks S.TakeStore J.Journal self.old self.new }
     {
         out.clear();

@@ -90,9 +90,12 @@ impl<S: TakeStore, J: RestingJournal> Server<S, J> {
             StandsIf (is_woken result) name.now
             (J.stands (server_journal self.old)) (J.stands (server_journal self.new))
             (J.notes (server_journal self.old)) (J.notes (server_journal self.new)) }
+        // The journal is whole and of a closed take; the book has the log that was at rest.
         ensures woken { IfOk result (λ woken.
             WakesNameIf S.TakeStore J.Journal woken name.now self.old self.new) }
+        // Nothing has changed; a failure is counted exactly where the journal failed.
         ensures failed { OnErr result (KeepsNames S.TakeStore J.Journal self.old self.new) }
+        // Only if what rests can't be replayed, is torn or too long, or isn't of a closed take.
         ensures unfit { IsTrue (J.honest (server_journal self.old)) → IsTrue (is_unfit result) →
             may_wake (server_limit self.old) name.now (J.resting (server_journal self.old) name.now)
             ≡ false }

@@ -1,4 +1,5 @@
 //! A spool: what comes over a link is appended to a file, in the order in which it comes.
+//! Not stated: when something fails; that the program's link is standard input.
 #![tactic(auto)]
 
 mod spool;

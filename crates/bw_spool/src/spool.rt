@@ -78,8 +78,10 @@ impl<L: Link + Drop, W: Sink + Drop> Spool<L, W> {
     /// - When the link or the file fails.
     /// - Which bytes are drawn at once.
     pub fn draw(&mut self) -> Drawn
+        // The file holds what it held, then the bytes that came; after a failure a prefix of them.
         ensures spooled { (base : List ℕ) → IsSpooled L.Link W.Sink base self.old →
             IsSpooled L.Link W.Sink base self.new }
+        // After a failure, or the link's end, nothing more is drawn.
         ensures drawn { Draws L.Link W.Sink self.old result self.new }
     {
         match self.state {

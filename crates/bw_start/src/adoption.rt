@@ -127,14 +127,19 @@ pub fn judge_file(
         IsFileHeader limit state.now.parts f header.now }
     ensures ok { (file : Option (List ℕ)) → Sees state.now.parts file found.entry →
         IfOk result (λ _. file_fault limit state.now.parts file ≡ None) }
+    // Left as it is, set aside, or header, samples and pad byte, as the definitions say.
     ensures after { (file : Option (List ℕ)) → Sees state.now.parts file found.entry →
         IfOk result (λ a. adopted a header.now file ≡ file_after limit state.now.parts file) }
+    // The first fault that the definitions have (Lost, Changed, Long), and only then.
     ensures err { (file : Option (List ℕ)) → Sees state.now.parts file found.entry →
         IfErr result (λ e. file_fault limit state.now.parts file ≡ Some e) }
+    // A file that existed before, and that of a closed take, is kept.
     ensures kept { IsTrue (state.now.parts.taken || state.now.parts.closed) →
         IfOk result (λ a. a ≡ Keep) }
+    // Only what differs is written, and a file is cut only past its end.
     ensures least { (file : Option (List ℕ)) → Sees state.now.parts file found.entry →
         IfOk result (λ a. DoesLeast state.now.parts a header.now file) }
+    // Neither the header nor a cut reaches the samples.
     ensures spares { IfOk result (λ a. SparesTake state.now.parts a header.now) }
 {
     if state.is_taken() {

@@ -83,14 +83,17 @@ pub fn look<D: Volume, E: Volume>(
 ) -> Result<Option<Finding>, ReadFault>
     ensures takes { StaysWhole D.Disk takes.old takes.new }
     ensures notes { StaysWhole E.Disk notes.old notes.new }
+    // Nothing is found only where there is no journal.
     ensures none { IsTrue (E.honest notes.old) → IfOk result (λ found. IfNone found
         (E.contents notes.old (notes_path folder.now name.now) ≡ None)) }
     ensures some { IsTrue (E.honest notes.old) → IfOk result (λ found. IfSome found
         (λ _. IsSome (E.contents notes.old (notes_path folder.now name.now)))) }
+    // Refused by its fault, not begun, or begun with its story, as the definitions say.
     ensures found { IsTrue (D.honest takes.old) → IsTrue (E.honest notes.old) → IfOk result
         (λ found. (journal : List ℕ) →
         E.contents notes.old (notes_path folder.now name.now) ≡ Some journal → IfSome found
         (IsFound limit name.now journal (D.contents takes.old (wave_path folder.now name.now)))) }
+    // Neither the header nor a cut reaches the samples.
     ensures spares { IfOk result (λ found. IfSome found SparesFile) }
 {
     let Some(journal) = read_journal(notes, alloc, folder, name)? else {

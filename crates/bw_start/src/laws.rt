@@ -4,6 +4,8 @@ ghost use Rattle.bw_start.specs.LeftNames.{LeftNamesAreResumed};
 
 /// Nothing is wrong with a file that a stop left, and what becomes of it is the file of its take.
 pub fn law_left_files()
+    // One that existed before stays, a closed take's is whole, and of an unopened take there is at
+    // most a header.
     ensures { LeftFilesAreMended }
 {}
 

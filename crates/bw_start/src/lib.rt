@@ -1,4 +1,6 @@
 //! The start of a server over what an earlier one left in a folder.
+//! Not stated: that samples are those of the requests (none is read); that the system's disk is
+//! honest.
 #![tactic(auto)]
 
 mod adopting;

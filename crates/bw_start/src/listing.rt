@@ -81,6 +81,7 @@ pub fn look_at_each<D: Volume, E: Volume, W: StartWatch>(
     ensures takes { StaysWhole D.Disk takes.old takes.new }
     ensures notes { StaysWhole E.Disk notes.old notes.new }
     ensures names { IfOk result (λ found. found_names found.items ≡ names.now) }
+    // What `look` finds of each.
     ensures found { IsTrue (D.honest takes.old) → IsTrue (E.honest notes.old) →
         IfOk result (λ found. All (IsFoundIn limit folder.now (E.contents notes.old)
         (D.contents takes.old)) found.items) }

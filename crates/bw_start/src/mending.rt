@@ -28,6 +28,7 @@ pub fn mend<D: Volume>(
     ensures ok { IsTrue (D.honest disk.old) → OnOk result (Becomes
         (patched mending.now header.now)
         (D.contents disk.old (D.path_of file.old)) (D.contents disk.new (D.path_of file.old))) }
+    // A failed call leaves the samples.
     ensures part { IsTrue (D.honest disk.old) → (place count : ℕ) →
         MendsInPart place count mending.now header.now
         (D.contents disk.old (D.path_of file.old)) (D.contents disk.new (D.path_of file.old)) }

@@ -114,17 +114,22 @@ pub fn start_over<D: Volume, E: Volume, W: StartWatch>(
     ensures started { IsTrue (D.honest takes) → IsTrue (E.honest notes) → IfOk result
         (StartsOver settings folder.now (E.contents notes) (D.contents takes)) }
     ensures settings { IfOk result (IsSetTo settings.limit folder.now settings.sync) }
+    // Of `start` so; it isn't refused only if no name stands in its way.
     ensures admits { IsTrue (D.honest takes) → IsTrue (E.honest notes) → IfErr result (λ e.
         OfEachBookLeft settings.limit folder.now (E.contents notes) (D.contents takes) (λ first book.
         HasFewDone settings.limit folder.now (E.contents notes) →
         NoneStandsInTheWay settings.rest folder.now (E.contents notes) → IsPlainFolderFault e.0)) }
+    // Each name that stands in its way, and no other.
     ensures refused { IsTrue (D.honest takes) → IsTrue (E.honest notes) → IfErr result
         (λ e. RefusesStart settings folder.now (E.contents notes) (D.contents takes) e.0) }
+    // Both disks are as they were.
     ensures unchanged { IfErr result
         (λ e. IsFolderUnchanged (StaysWhole D.Disk takes e.1 × StaysWhole E.Disk notes e.2) e.0) }
+    // Only files of open takes and journals change, on errors too.
     ensures untouched_back { IsTrue (D.honest takes) → IsTrue (E.honest notes) → IfErr result (λ e.
         KeepsTheRest settings.limit folder.now (E.contents notes) (D.contents takes)
         (E.contents e.2) (D.contents e.1)) }
+    // Each book that an earlier server left stays so: the next start may begin from it.
     ensures left_back { IsTrue (D.honest takes) → IsTrue (E.honest notes) → IfErr result (λ e.
         BooksStayLeft settings.limit folder.now (E.contents notes) (D.contents takes)
         (E.contents e.2) (D.contents e.1)) }

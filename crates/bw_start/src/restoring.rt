@@ -85,11 +85,13 @@ pub fn restore_folder<D: Volume, E: Volume, W: StartWatch>(
     ensures range { limit < 2 ^ 32 }
     ensures refused { IsTrue (D.honest takes.old) → IsTrue (E.honest notes.old) → IfErr result
         (RefusesFolder limit folder.now (E.contents notes.old) (D.contents takes.old)) }
+    // After a refusal both disks are as they were, honest or not.
     ensures unchanged { IfErr result (IsUnchanged
         (StaysWhole D.Disk takes.old takes.new × StaysWhole E.Disk notes.old notes.new)) }
     ensures kept { IsTrue (D.honest takes.old) → IsTrue (E.honest notes.old) →
         KeepsTheRest limit folder.now (E.contents notes.old) (D.contents takes.old)
         (E.contents notes.new) (D.contents takes.new) }
+    // Whatever was left of each name stays so, after a failed call and on success.
     ensures left { IsTrue (D.honest takes.old) → IsTrue (E.honest notes.old) →
         BooksStayLeft limit folder.now (E.contents notes.old) (D.contents takes.old)
         (E.contents notes.new) (D.contents takes.new) }

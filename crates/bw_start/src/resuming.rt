@@ -41,6 +41,7 @@ pub fn restore_name<D: Volume, E: Volume>(
 ) -> Result<(), ReadFault>
     ensures takes { D.honest takes.new ≡ D.honest takes.old }
     ensures notes { E.honest notes.new ≡ E.honest notes.old }
+    // A name that isn't refused has the journal and the file that it is to have.
     ensures restored { IsTrue (D.honest takes.old) → IsTrue (E.honest notes.old) →
         (limit : ℕ) (journal : List ℕ) (file : Option (List ℕ)) →
         E.contents notes.old (notes_path folder.now name.now) ≡ Some journal →
@@ -49,6 +50,7 @@ pub fn restore_name<D: Volume, E: Volume>(
         OnOk result (IsRestored limit name.now journal file
         (E.contents notes.new (notes_path folder.now name.now))
         (D.contents takes.new (wave_path folder.now name.now))) }
+    // Whatever was left of the name stays so, after a failed call and on success.
     ensures left { IsTrue (D.honest takes.old) → IsTrue (E.honest notes.old) →
         (limit : ℕ) (journal : List ℕ) (file : Option (List ℕ)) →
         E.contents notes.old (notes_path folder.now name.now) ≡ Some journal →
@@ -56,6 +58,7 @@ pub fn restore_name<D: Volume, E: Volume>(
         IsFound limit name.now journal file finding.now → SparesFile finding.now →
         StaysLeft limit name.now (Some journal) file (E.contents notes.new (notes_path folder.now name.now))
         (D.contents takes.new (wave_path folder.now name.now)) }
+    // Each other path has what it had, on errors too.
     ensures others { IsTrue (D.honest takes.old) → IsTrue (E.honest notes.old) →
         ChangesTake folder.now name.now (D.contents takes.old) (D.contents takes.new)
         × KeepsOthers (E.contents notes.old) (E.contents notes.new)
@@ -149,6 +152,7 @@ pub fn cut_journal<E: Volume>(
     ensures ok { IsTrue (E.honest notes.old) → OnOk result (Becomes (take len)
         (E.contents notes.old (notes_path folder.now name.now))
         (E.contents notes.new (notes_path folder.now name.now))) }
+    // A failed call cuts no byte that is to stay.
     ensures part { IsTrue (E.honest notes.old) → IsCutInPart
         (E.contents notes.old (notes_path folder.now name.now)) len
         (E.contents notes.new (notes_path folder.now name.now)) }
@@ -206,6 +210,7 @@ pub fn adopt_file<D: Volume>(
         (adopted adoption.now header.now)
         (D.contents takes.old (wave_path folder.now name.now))
         (D.contents takes.new (wave_path folder.now name.now))) }
+    // After a failed call the samples stay; a file set aside has moved, or nothing changed.
     ensures part { IsTrue (D.honest takes.old) → (place count : ℕ) →
         AdoptsInPart place count adoption.now header.now
         (D.contents takes.old (wave_path folder.now name.now))

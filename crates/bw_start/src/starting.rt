@@ -49,24 +49,32 @@ pub fn start<D: Volume, E: Volume, W: StartWatch>(
     sync: bool,
     watch: &mut W,
 ) -> Result<Server<FolderStore<D>, FolderJournal<E>>, (StartFault, D, E)>
+    // It holds the earlier server's book, cut to its done numbers: the same verdicts and files.
     ensures holds { IsTrue (D.honest takes) → IsTrue (E.honest notes) → IfOk result
         (λ s. OfEachBookLeft limit folder.now (E.contents notes) (D.contents takes)
         (λ first book. HoldsBook _ _ first s (cut_book book) × NotesBook _ _ first s (cut_book book))) }
+    // It isn't refused, unless more names have done numbers than a server takes.
     ensures admits { IsTrue (D.honest takes) → IsTrue (E.honest notes) → IfErr result
         (λ e. OfEachBookLeft limit folder.now (E.contents notes) (D.contents takes)
         (λ first book. HasFewDone limit folder.now (E.contents notes) → IsPlainFault e.0)) }
+    // Each name that can't be resumed, with the definitions' fault, and no other.
     ensures refused { IsTrue (D.honest takes) → IsTrue (E.honest notes) → IfErr result
         (λ e. RefusesFolder limit folder.now (E.contents notes) (D.contents takes) e.0) }
+    // A server is started only if nothing is wrong with any name.
     ensures sound { IsTrue (D.honest takes) → IsTrue (E.honest notes) → IfOk result
         (λ _. IsSoundFolder limit folder.now (E.contents notes) (D.contents takes)) }
     ensures settings { IfOk result (λ s. IsSetTo limit folder.now sync s) }
+    // After a refusal both disks are as they were, honest or not.
     ensures unchanged { IfErr result
         (λ e. IsUnchanged (StaysWhole D.Disk takes e.1 × StaysWhole E.Disk notes e.2) e.0) }
+    // Closed takes, files that existed before their journal and other paths are as they were.
     ensures untouched { IsTrue (D.honest takes) → IsTrue (E.honest notes) → IfOk result
         (λ s. KeepsTheRest limit folder.now (E.contents notes) (D.contents takes)
         (E.contents (journals_disk (server_journal s))) (D.contents (takes_disk (server_store s)))) }
+    // They are so on errors too.
     ensures untouched_back { IsTrue (D.honest takes) → IsTrue (E.honest notes) → IfErr result
         (λ e. KeepsTheRest limit folder.now (E.contents notes) (D.contents takes) (E.contents e.2) (D.contents e.1)) }
+    // Each book that an earlier server left stays so: the next start may begin from it.
     ensures left_back { IsTrue (D.honest takes) → IsTrue (E.honest notes) → IfErr result
         (λ e. BooksStayLeft limit folder.now (E.contents notes) (D.contents takes) (E.contents e.2) (D.contents e.1)) }
 {

@@ -1,5 +1,6 @@
 //! What an operator may ask a server over HTTP, and the response: a page, the takes as JSON, metrics
 //! and whether it is well. Bytes to bytes, with no IO.
+//! Not stated: which of 400 and 505 is sent for bytes that never become a request.
 #![tactic(auto)]
 
 mod answer;

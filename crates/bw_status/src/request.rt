@@ -21,7 +21,9 @@ const MOST_FIELDS: usize = 64;
 /// # Not specified
 /// Which of `BadRequest` and `BadVersion` is answered to bytes that never become a request.
 pub fn answer_to(held: &[u8]) -> Option<Answer>
+    // Bytes are waited for only where some could still make a request, and fewer than 8,192 came.
     ensures answers { AnswersRequest held.now result }
+    // A request of at most 64 fields is answered by its target, method, version and hosts.
     ensures whole { (h : RequestHead) (rest : List ℕ) → ReadsRequest held.now h rest →
         length h.fields ≤ most_fields → result ≡ Some (request_answer h) }
 {

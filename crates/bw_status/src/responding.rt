@@ -19,6 +19,7 @@ use std::alloc::{AllocError, Global};
 /// # Not specified
 /// When memory is refused.
 pub fn response(alloc: Global, answer: Answer, snapshot: &Snapshot) -> Result<Vec<u8>, AllocError>
+    // Each text in the page that isn't a constant is escaped.
     ensures { IfOk result (λ bytes. bytes.items ≡ response_text answer snapshot.now) }
 {
     let mut body = Vec::new(alloc);

@@ -1,5 +1,6 @@
 //! Rehearsals in which servers stop: between turns, or in a chosen call of a disk, and others start
 //! over what they left.
+//! Not stated: in which call a disk dies, since no clause counts the calls of `start` and `turn`.
 #![tactic(auto)]
 
 mod event;

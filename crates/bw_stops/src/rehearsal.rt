@@ -70,6 +70,7 @@ pub fn rehearse_stops(
     limit: Limit,
     events: &[StopEvent],
 ) -> Result<Rehearsed, StopsFault>
+    // The sender counts only what the take has; each verdict written is that of a done number.
     ensures { IfOk result (λ it. WasRehearsedWithStops name limit events.now it) }
 {
     let Ok(mut network) = Network::new(alloc, name) else {

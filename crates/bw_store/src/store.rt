@@ -90,7 +90,7 @@ pub trait TakeStore: Drop {
         ensures others { IsTrue (honest self.old) →
             KeepsOthers (contents self.old) (contents self.new) name.now };
 
-    /// Tells the store that the content of a name is complete.
+    /// Says to the store that the content of a name is complete.
     ///
     /// # Errors
     /// `StoreFault` if the store failed. Contents are as they were then.

@@ -59,6 +59,7 @@ pub fn give_up_take<D: Volume>(
     ensures failures { Counts (D.failures disk.old) (D.failures disk.new) (is_disk_failure result) }
     ensures ok { IsTrue (D.honest disk.old) → OnOk result
         (PutsTakeAside folder.now name.now (D.contents disk.old) (D.contents disk.new)) }
+    // `Unknown` and `Earlier` exactly where these hold.
     ensures err { IsTrue (D.honest disk.old) → IfErr result (λ fault.
         StaysUnlessFailed folder.now name.now fault (D.contents disk.old) (D.contents disk.new)) }
 {

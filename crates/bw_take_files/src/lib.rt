@@ -1,5 +1,6 @@
 //! What can be done with the files of a take: their samples are compared with its journal, or they
 //! are put aside.
+//! Not stated: that other samples of the same length don't have the same digest (a premise).
 #![tactic(auto)]
 
 mod block_digests;

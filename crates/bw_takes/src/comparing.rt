@@ -46,6 +46,7 @@ pub fn examine_take<D: Volume>(
     depth: Depth,
 ) -> Result<TakeFinding, ReadFault>
     ensures disk { StaysWhole D.Disk disk.old disk.new }
+    // The fault of a start, or what the journal says; then the first number that isn't there.
     ensures found { IsTrue (D.honest disk.old) → IfOk result (λ found. finding_summary found
         ≡ summary_in depth folder.now (D.contents disk.old) name.now) }
 {

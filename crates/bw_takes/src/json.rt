@@ -26,6 +26,7 @@ use std::alloc::{AllocError, Global};
 pub fn take_json(alloc: Global, name: &Name, finding: &TakeFinding) -> Result<String, AllocError>
     ensures text { IfOk result (λ t. string_bytes t
         ≡ compact_text (summary_data name.now (finding_summary finding.now))) }
+    // It is read back as the same object.
     ensures reads_back { IfOk result (λ t. read (string_bytes t)
         ≡ Some (summary_data name.now (finding_summary finding.now))) }
 {

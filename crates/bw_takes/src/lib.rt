@@ -1,5 +1,6 @@
 //! The takes of a folder: a line for each, by its journal and its file; a screen that shows them each
 //! second; and one that is given up.
+//! Not stated: what is reported while others write; that the lock is held until the end.
 #![tactic(auto)]
 
 mod beginning;

@@ -47,6 +47,7 @@ pub fn report_takes<D: Volume>(
     depth: Depth,
 ) -> Result<TakesReport, ReadFault>
     ensures disk { StaysWhole D.Disk disk.old disk.new }
+    // A line follows from the journal's bytes and the file's alone.
     ensures report { IsTrue (D.honest disk.old) → IfOk result (λ report.
         ReportsTakes style depth folder.now (D.contents disk.old) report.lines.items report.sound) }
 {

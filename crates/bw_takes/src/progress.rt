@@ -62,6 +62,7 @@ pub trait ProgressReader {
     /// # Errors
     /// `Disk` if the folder can't be read; `Memory` if memory was refused.
     fn read_progress(&mut self, alloc: Global, folder: &str) -> Result<Vec<TakeProgress>, ReadFault>
+        // Of each take it shows what its line says, each name once.
         ensures ok { IfOk result (λ takes. reads self.old folder.now takes.items self.new) }
         ensures err { IfErr result (λ fault. fails self.old folder.now fault self.new) };
 }

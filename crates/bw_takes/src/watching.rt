@@ -61,6 +61,7 @@ pub fn watch_by_reader<T: ProgressReader, P: Pause, W: Sink, E: Sink>(
     out: &mut W,
     faults: &mut E,
 ) -> Exit
+    // A round reads, prints its screen and waits a second; after a fault none waits.
     ensures { Watches (watch_side T.reads T.fails P.waits W.Sink E.Sink) style folder.now result
         (watch_world takes.old pause.old out.old faults.old)
         (watch_world takes.new pause.new out.new faults.new) }

@@ -1,5 +1,6 @@
 //! A recording of any length is sent over links that are kept: a sliding window of sixteen requests
 //! over each, and a new link after a pause where one breaks.
+//! Not stated: that the observer gets each report; when memory is refused.
 #![tactic(auto)]
 
 pub mod backoff;

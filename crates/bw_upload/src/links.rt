@@ -45,6 +45,7 @@ pub fn upload<F: Feed, P: Pause, D: Dial, V: Observer>(
     dial: &mut D,
     observer: &mut V,
 ) -> Uploaded<F::Fault>
+    // The sender that comes back counts, by `law_world`, only what the server's take has.
     ensures { (s : Defined) → IsSender s sender →
         Uploads F.Feed P.Pause D.Dial D.Reader.Source D.Writer.Sink fruitless s result.sender
         result.outcome feed.old feed.new pause.old pause.new dial.old dial.new }

@@ -26,7 +26,7 @@ fn what_was_reported_stands_where_a_growth_is_refused(rt: HostRuntime) -> Result
     Ok(())
 }
 
-/// Whether the file of two frames is under a name, if a peer was told that all of it is stored.
+/// Whether the file of two frames is under a name, if it was reported to a peer that all of it is stored.
 fn stands(alloc: Global, received: &Received, name: &[u8], verdicts: &[u8]) -> bool {
     if !received.scripted_reactor.has_taken(0, verdicts)
         && !received.scripted_reactor.has_taken(1, verdicts)
