@@ -5,8 +5,8 @@ import subprocess
 from repository import ROOT
 
 PAGE = ROOT / "docs/OPERATING.md"
-END = "<!-- end of options -->"
-PLACE = re.compile(rf"(?ms)^(<!-- options of ([a-z]+) -->\n)(.*?)^{END}$")
+END = "<!-- end -->"
+PLACE = re.compile(rf"(?ms)^(<!-- options:([a-z]+) -->\n)(.*?)^{END}$")
 OPTION = re.compile(r"(?m)^ {2,6}(?:-[a-zA-Z], )?(--[a-z-]+(?: <[^>]+>)?)  +(.+)$")
 
 
@@ -29,7 +29,7 @@ def options_of(path, command):
 def table_of(path, command):
     """The options of a command as a table of the page."""
     rows = [f"| `{re.sub('[<>]', '', name)}` | {cell_of(text)} |" for name, text in options_of(path, command)]
-    return "".join(f"{it}\n" for it in (f"| Option of `{command}` | |", "|---|---|", *rows))
+    return "".join(f"{it}\n" for it in (f"| `{command}` | |", "|---|---|", *rows))
 
 
 def cell_of(text):
