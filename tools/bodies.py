@@ -2,7 +2,6 @@
 
 The sources are read line by line, as `rt fmt` lays them out.
 """
-import hashlib
 import pathlib
 import re
 from dataclasses import dataclass, replace
@@ -14,7 +13,6 @@ FUNCTION = re.compile(rf" *{PUB}(?:const |unsafe |final )*fn (\w+)")
 OWNER = re.compile(r" *(?:unsafe )?impl\b| *" + PUB + r"trait\b")
 ITEM = re.compile(rf"(?m)^ *{PUB}(?:const|static|enum|struct) (\w+)")
 MOST = 48  # bodies of a batch, so that their check stays small
-TURNS = 8  # in one of so many versions of its crate a private function's wrong bodies have their turn
 UNNAMED = "()"  # a type without a name, as a tuple: what a check names its functions by isn't known
 
 
@@ -44,8 +42,12 @@ class Body:
         copy = frozenset([f"{function}_{number}"])
         return replace(self, refused=copy, changed=copy, copy_of=function)
 
+    @property
+    def crate(self):
+        return self.path.parent.parent.name
+
     def __str__(self):
-        return f"{self.path.parent.parent.name}/{self.path.stem}"
+        return f"{self.crate}/{self.path.stem}"
 
 
 def module_of(file):
@@ -339,16 +341,10 @@ def bodies_of(folder, names=()):
     return found, faults
 
 
-def in_turn(found):
-    """Of wrong bodies by crate those that the gate tries: each that a function must refuse which other crates can call,
-    and of a crate whose turn it is the others too."""
-    picked = {}
-    for name, bodies in found.items():
-        sources = Sources(ROOT / "crates" / name)
-        digest = hashlib.sha256("".join(sources.texts.values()).encode()).digest()
-        every = digest[0] % TURNS == 0
-        picked[name] = [it for it in bodies if every or any(map(sources.is_for_others, it.refused))]
-    return {name: bodies for name, bodies in picked.items() if bodies}
+def of_private(crate, bodies):
+    """Those of a crate's wrong bodies that only functions must refuse which no other crate can call."""
+    sources = Sources(ROOT / "crates" / crate)
+    return [it for it in bodies if it.refused and not any(map(sources.is_for_others, it.refused))]
 
 
 def named(body):

@@ -1,7 +1,7 @@
 """Takes for which one or two calls of the store fail, with the replies, calls and next number of each turn.
 
-They are worked out by hand from docs/FORMATS.md and docs/DECISIONS.md. A turn that tries a delayed request again writes
-the samples again, and then the whole header.
+They are worked out by hand from docs/FORMATS.md and CONTRIBUTING.md (A BLOCK's path). A turn that tries a delayed
+request again writes the samples again, and then the whole header.
 """
 from typing import NamedTuple
 
