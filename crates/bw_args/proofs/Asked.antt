@@ -15,7 +15,7 @@ use Rattle.bw_args.specs.Given.{GivesNoFuse, GivesRecorders, IsAddressGiven, IsE
 use Rattle.bw_args.specs.Given.{IsJournaling, IsJournalingGiven, IsRecorders, IsRecordersGiven, given_on_line, is_set}
 use Rattle.bw_args.specs.Given.{GivesStatus, GivesWork, IsWork, IsWorkGiven, is_watch_mixed}
 use Rattle.bw_args.specs.Sources.{GivesSource, PlainSource, is_mixed, path_given, settings_on_line}
-use Rattle.bw_args.specs.Inspecting.{GivesInspection, PlainInspection, is_possible, one_file}
+use Rattle.bw_args.specs.InspectedFiles.{GivesInspection, PlainInspection, is_possible, one_file}
 use Rattle.bw_args.specs.Lines.{GivesRest, IsRestGiven}
 use Rattle.bw_args.specs.declared.bad_value.BadValue.TheVariants.{Rest}
 use Rattle.bw_args.specs.Lines.{AsksForPath, AsksNothing, GivesSender, GivesServer, GivesTries, HasNumbersInRange}

@@ -12,7 +12,7 @@ use Rattle.bw_args.specs.ReadWords.{as_read}
 use Rattle.bw_args.specs.Lines.{AsksFor, IsFirstBad, IsLineOf, IsLineRead, Lacks, bad_unlooked, given_on_line, is_set}
 use Rattle.bw_args.specs.Lines.{AsksNothing, Inspecting, InspectingFiles, looked_at, wish_of}
 use Rattle.bw_args.specs.Forms.{Inspects, IsPlain, RunsFor, RunsInspect, inspection_of}
-use Rattle.bw_args.specs.Inspecting.{GivesInspection, PlainInspection, is_input, is_possible}
+use Rattle.bw_args.specs.InspectedFiles.{GivesInspection, PlainInspection, is_input, is_possible}
 use Rattle.bw_args.specs.declared.CommandLine.{CommandLine}
 use Rattle.bw_args.specs.declared.CommandLine.TheVariants.{Run, BadValue as Bad, Report}
 use Rattle.bw_args.specs.declared.Task.TheVariants.{Inspect}

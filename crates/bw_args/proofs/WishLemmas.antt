@@ -19,7 +19,7 @@ use Rattle.bw_args.specs.Lines.{FileUpload, PcmUpload, Wish, Inspecting, Packing
 use Rattle.bw_args.specs.Lines.{Sending, SendingPcm, Serving, Uploading, InspectingFiles, Repairing, Listing, Picturing}
 use Rattle.bw_args.specs.Numbers.{most_block, most_exchanges, most_fruitless, most_rate, most_recorders, most_seconds}
 use Rattle.bw_args.specs.Numbers.{number_written}
-use Rattle.bw_args.specs.Inspecting.{GivesInspection, PlainInspection, has_option, is_alone, one_file}
+use Rattle.bw_args.specs.InspectedFiles.{GivesInspection, PlainInspection, has_option, is_alone, one_file}
 use Rattle.bw_args.specs.declared.folders.FolderWork.{FolderWork}
 use Rattle.bw_args.specs.declared.peers.End.{End}
 use Rattle.bw_args.specs.declared.peers.Journaling.{Journaling}

@@ -7,7 +7,7 @@ use Rattle.clap.specs.declared.error.ErrorKind.{ErrorKind}
 use Rattle.clap.specs.declared.error.ErrorKind.TheVariants.{DisplayHelp, DisplayVersion}
 use Rattle.clap.specs.declared.error.ErrorKind.TheVariants.{MissingRequiredArgument}
 use Rattle.clap.specs.declared.error.ErrorKind.TheVariants.{MissingSubcommand}
-use Rattle.bw_args.specs.Inspecting.{PlainInspection}
+use Rattle.bw_args.specs.InspectedFiles.{PlainInspection}
 use Rattle.bw_args.specs.Numbers.{IsLimitText, IsNumber, default_limit, number_written}
 use Rattle.bw_args.specs.Lines.{InspectingFiles, IsName, Wish, wish_of}
 use Rattle.bw_args.specs.declared.CommandLine.{CommandLine}

@@ -12,7 +12,7 @@ pub mod Forms
 pub mod PeerForms
 pub mod FileForms
 pub mod PcmForms
-pub mod Inspecting
+pub mod InspectedFiles
 pub mod PictureForms
 pub mod RepairForms
 pub mod FolderForms

@@ -26,8 +26,8 @@ use Rattle.bw_args.specs.Numbers.{default_fruitless, default_timeout, most_block
 use Rattle.bw_args.specs.Numbers.{most_fruitless, most_rate, most_recorders, most_rounds}
 use Rattle.bw_args.specs.Numbers.{most_seconds}
 use Rattle.bw_args.specs.Commands.{command_line}
-use Rattle.bw_args.specs.Inspecting.{GivesInspection, PlainInspection, has_option, inspection_in_plain}
-use Rattle.bw_args.specs.Inspecting.{is_alone, one_file}
+use Rattle.bw_args.specs.InspectedFiles.{GivesInspection, PlainInspection, has_option, inspection_in_plain}
+use Rattle.bw_args.specs.InspectedFiles.{is_alone, one_file}
 use Rattle.bw_args.specs.Sources.{GivesSource, PlainSource, in_plain, is_mixed, path_given}
 use Rattle.bw_args.specs.PcmSources.{GivesFormat, GivesNumber, GivesSamples, PlainPcm}
 use Rattle.bw_args.specs.PcmSources.{are_samples_mixed, fruitless_of, is_live, plain_pcm}

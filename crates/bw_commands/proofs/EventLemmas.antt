@@ -4,7 +4,7 @@ use Rattle.std.specs.Prelude.{Result}
 use Rattle.bw_console.specs.Input.{Asked, Exchanges, asked_by}
 use Rattle.bw_console.specs.Faults.{RefusesInput, RefusesLength}
 use Rattle.bw_console.specs.Outcomes.{Outcome, PrintsText, ResultsIn}
-use Rattle.bw_console.specs.Printing.{Nothing, Whole, Part, Print}
+use Rattle.bw_console.specs.Prints.{Nothing, Whole, Part, Print}
 use Rattle.bw_console.specs.declared.fault.Fault.{Fault}
 use Rattle.bw_console.specs.declared.fault.Fault.TheVariants as faults
 use Rattle.bw_commands.specs.Replays.{IsPrintOf, IsRunText, IsTextFor, PrintsRun}

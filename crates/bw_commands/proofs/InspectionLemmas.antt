@@ -12,7 +12,7 @@ use Rattle.bw_inspect.specs.declared.report.Report.{Report}
 use Rattle.bw_console.specs.Outcomes.{Outcome}
 use Rattle.bw_console.specs.Faults.{IsReportedBy, exit_of}
 use Rattle.bw_commands.specs.Inspections.{IsInspection, IsPrintOfText, exit_for_fault, fault_line}
-use Rattle.bw_console.specs.Printing.{IsOf, Nothing, Print, failures_if}
+use Rattle.bw_console.specs.Prints.{IsOf, Nothing, Print, failures_if}
 use Rattle.bw_console.specs.declared.fault.Fault.{Fault}
 
 -- an inspection that resulted in a report

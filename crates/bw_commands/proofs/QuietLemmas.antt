@@ -16,7 +16,7 @@ use Rattle.bw_model.proofs.BookLemmas.{same_name, log-with_log_same, log-with_lo
 use Rattle.bw_rehearsal.specs.FaultRuns.{AreFaultsOf, AreFaultsOfDelivery, AreFaultsOfRuns}
 use Rattle.bw_rehearsal.proofs.FaultLaws.{counted_up, event_up, schedule_up}
 use Rattle.bw_rehearsal.proofs.Staging.{sent_book, brought_book}
-use Rattle.bw_exchange.specs.Answering.{Answered}
+use Rattle.bw_exchange.specs.AnsweredFrames.{Answered}
 use Rattle.bw_exchange.specs.TurnRuns.{IsRun}
 
 -- Counts.

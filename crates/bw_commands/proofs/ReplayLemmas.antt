@@ -26,17 +26,17 @@ use Rattle.bw_store.specs.Memory.{content_under}
 use Rattle.bw_store.specs.MemoryNames.{AreNames, names_of}
 use Rattle.bw_store.specs.declared.memory.MemoryStore.{MemoryStore}
 use Rattle.bw_store.specs.declared.store.TakeStore.{Ghosts as StoreGhosts}
-use Rattle.bw_session.specs.Numbered.{failed_calls}
+use Rattle.bw_session.specs.NextNumbers.{failed_calls}
 use Rattle.bw_console.specs.Input.{longest_input}
 use Rattle.bw_commands.specs.Runs.{ReportedExchange, reported_of, replies_reported, ReportsInput, ReportInputs, ReportsExchange, AllReport}
 use Rattle.bw_commands.specs.OneFuse.{failures_under, SufficeForAll}
 use Rattle.bw_commands.specs.Replays.{IsRunText}
 use Rattle.bw_commands.specs.Runs.{IsReplayRun, AreExchangesOf, empty_contents}
 use Rattle.bw_commands.specs.Text.{exchanges_text, files_text}
-use Rattle.bw_exchange.specs.Answering.{Answered, answered_frames, replies_of}
+use Rattle.bw_exchange.specs.AnsweredFrames.{Answered, answered_frames, replies_of}
 use Rattle.bw_exchange.specs.TurnRuns.{IsRun as IsRun', run_without_faults}
-use Rattle.bw_engine.specs.Ingesting.{ServedInput, WasServed, IsServedTo, LeavesRun, answered_in, ingested_end, input_frames}
-use Rattle.bw_engine.specs.Ingesting.{AreServed, input_bytes}
+use Rattle.bw_engine.specs.IngestRuns.{ServedInput, WasServed, IsServedTo, LeavesRun, answered_in, ingested_end, input_frames}
+use Rattle.bw_engine.specs.IngestRuns.{AreServed, input_bytes}
 use Rattle.bw_engine.specs.ServerRuns.{all_done}
 use Rattle.bw_engine.specs.declared.ingest.Run.{Run}
 use Rattle.bw_exchange.specs.declared.serving.ExchangeEnd.{ExchangeEnd}

@@ -20,7 +20,7 @@ use Rattle.bw_store.specs.Memory.{content_under}
 use Rattle.bw_store.specs.MemoryNames.{names_of, AreNames}
 use Rattle.bw_store.specs.declared.memory.MemoryStore.{MemoryStore}
 use Rattle.bw_rehearsal.specs.FaultRuns.{AreFaultsOfRuns}
-use Rattle.bw_rehearsal.specs.Rehearsing.{event_meaning, no_contents}
+use Rattle.bw_rehearsal.specs.RehearsedWorlds.{event_meaning, no_contents}
 use Rattle.bw_rehearsal.specs.Worlds.{WasRehearsed}
 use Rattle.bw_rehearsal.specs.declared.event.Event.{Event as Read}
 use Rattle.bw_rehearsal.specs.declared.rehearsal.World.{World}

@@ -14,7 +14,7 @@ use Rattle.bw_inspect.specs.declared.fault.InspectKind.TheVariants.{NoData, BadF
 use Rattle.bw_inspect.specs.declared.fault.InspectKind.TheVariants.{TooMany, TooLarge, Read, Memory}
 use Rattle.bw_console.specs.Outcomes.{Outcome}
 use Rattle.bw_console.specs.Faults.{IsReportedBy, exit_of}
-use Rattle.bw_console.specs.Printing.{Print, Nothing, Whole, Part, IsOf}
+use Rattle.bw_console.specs.Prints.{Print, Nothing, Whole, Part, IsOf}
 use Rattle.bw_console.specs.declared.exit.Exit.{Exit}
 use Rattle.bw_console.specs.declared.exit.Exit.TheVariants.{Refused, Device, Memory as OutOfMemory}
 use Rattle.bw_console.specs.declared.fault.Fault.{Fault as Failure}

@@ -2,7 +2,7 @@
 use Rattle.std.specs.Prelude.{◌≡◌, ◌⊎◌, ℕ, Bool, true, false, Option, List}
 use Rattle.std.specs.declared.io.ErrorKind.{ErrorKind}
 use Rattle.bw_console.specs.Outcomes.{Outcome, IsOutOfMemory}
-use Rattle.bw_console.specs.Openings.{IsUnopened}
+use Rattle.bw_console.specs.FailedOpenings.{IsUnopened}
 use Rattle.bw_commands.specs.Inspections.{IsInspection}
 
 -- the file of a path was inspected, which the input has no part in

@@ -11,7 +11,7 @@ use Rattle.bw_store.specs.MemoryNames.{AreNames}
 use Rattle.bw_session.specs.Books.{HoldsBook}
 use Rattle.bw_sender.specs.Senders.{IsSender}
 use Rattle.bw_rehearsal.specs.FaultRuns.{AreFaultsOfRuns}
-use Rattle.bw_rehearsal.specs.Rehearsing.{no_contents}
+use Rattle.bw_rehearsal.specs.RehearsedWorlds.{no_contents}
 use Rattle.bw_rehearsal.specs.declared.rehearsal.World.{World}
 use Rattle.bw_commands.specs.EventLines.{SayEvents, FirstOther}
 use Rattle.bw_console.specs.Input.{longest_input}

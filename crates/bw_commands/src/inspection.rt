@@ -5,7 +5,7 @@ ghost use Rattle.bw_inspect.specs.Reports.{reported_by};
 ghost use Rattle.bw_console.specs.Outcomes.{Outcome, HasWritten};
 ghost use Rattle.bw_commands.specs.Looks.{IsLook};
 ghost use Rattle.bw_commands.specs.Inspections.{IsInspection, IsPrintOfText, exit_for_fault, fault_line};
-ghost use Rattle.bw_console.specs.Printing.{IsPrint, Print, failures_if};
+ghost use Rattle.bw_console.specs.Prints.{IsPrint, Print, failures_if};
 
 use arrayvec::ArrayString;
 use bw_console::print::{give_up, print, print_diagnostic};

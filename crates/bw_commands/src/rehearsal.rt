@@ -1,6 +1,6 @@
 //! The text of a rehearsal: a sender and a server, played by the lines of an input.
 ghost use Rattle.std.specs.Prelude.{◌≤◌, length, map, IfOk, IfErr};
-ghost use Rattle.bw_rehearsal.specs.Rehearsing.{event_meaning};
+ghost use Rattle.bw_rehearsal.specs.RehearsedWorlds.{event_meaning};
 ghost use Rattle.bw_console.specs.Input.{longest_input};
 ghost use Rattle.bw_console.specs.Lines.{lines_of};
 ghost use Rattle.bw_commands.specs.EventLines.{IsEventFault};

@@ -15,20 +15,20 @@ use Rattle.bw_exchange.specs.declared.exchange.Exchange.{Exchange}
 use Rattle.bw_exchange.specs.declared.serving.ExchangeEnd.TheVariants as ends
 use Rattle.bw_exchange.specs.declared.step.StreamEnd.{StreamEnd}
 use Rattle.bw_exchange.specs.declared.step.StreamEnd.TheVariants as streams
-use Rattle.bw_exchange.specs.Answering.{Answered, AnswersAll, replies_of}
+use Rattle.bw_exchange.specs.AnsweredFrames.{Answered, AnswersAll, replies_of}
 use Rattle.bw_exchange.specs.Bounds.{most_before_answer}
 use Rattle.bw_exchange.specs.Done.{AnswersSome, DoesMore, HasDone, MustWait, last_of}
 use Rattle.bw_exchange.proofs.Going.{does_none, does_on}
 use Rattle.bw_exchange.specs.Ends.{IsFinal, end_so_far}
 use Rattle.bw_exchange.specs.Parts.{wants_piece, end_of, waiting_in, pending_of}
-use Rattle.bw_exchange.specs.Served.{ended_by}
+use Rattle.bw_exchange.specs.WholeExchanges.{ended_by}
 use Rattle.bw_connections.specs.declared.connection.Connection.{Connection}
 use Rattle.bw_connections.specs.declared.connection.ConnectionEnd.{ConnectionEnd}
 use Rattle.bw_connections.specs.declared.connection.ConnectionEnd.TheVariants.{Idle, Over}
 use Rattle.bw_connections.specs.declared.connection.Phase.{Phase}
 use Rattle.bw_connections.specs.declared.connection.Phase.TheVariants as phases
 use Rattle.bw_ports.specs.declared.link.Link.{Ghosts as LinkGhosts}
-use Rattle.bw_connections.specs.Feeding.{Feeds, fault_to_drain, unless_cut}
+use Rattle.bw_connections.specs.ConnectionFeeds.{Feeds, fault_to_drain, unless_cut}
 use Rattle.bw_connections.specs.Lives.{EndsDrained, EndsServed, IsNoSilence, IsUpToDate, DropsSent}
 use Rattle.bw_connections.specs.Lives.{Moved, ReadsLink, SendsWaiting, EndsWithFault, Works}
 use Rattle.bw_connections.specs.Lives.{EndsAs, Proceeds, IsInPhase, IsOpen, IsConnectionOver, KeepsPeer, Lives, Settles, Steps}

@@ -10,7 +10,7 @@ use Rattle.bw_exchange.specs.declared.exchange.Exchange.{Exchange}
 use Rattle.bw_exchange.specs.declared.serving.ExchangeEnd.TheVariants as ends
 use Rattle.bw_exchange.specs.declared.step.StreamEnd.{StreamEnd}
 use Rattle.bw_exchange.specs.declared.step.StreamEnd.TheVariants as streams
-use Rattle.bw_exchange.specs.Answering.{Answered, answered_frames}
+use Rattle.bw_exchange.specs.AnsweredFrames.{Answered, answered_frames}
 use Rattle.bw_exchange.specs.Done.{AreFirstOf, ExchangesFollowStreams, IsExchangeOf}
 use Rattle.bw_exchange.specs.Ends.{IsFinal, end_meaning, end_so_far}
 use Rattle.bw_exchange.specs.Parts.{end_of, wants_piece, waiting_in}
@@ -22,9 +22,9 @@ use Rattle.bw_connections.specs.declared.connection.Phase.TheVariants as phases
 use Rattle.bw_ports.specs.declared.link.Link.{Ghosts as LinkGhosts}
 use Rattle.bw_connections.specs.declared.connections.Closed.{Closed}
 use Rattle.bw_connections.specs.declared.connections.Connections.{Connections}
-use Rattle.bw_connections.specs.Keeping.{HasLeft, KeepsConnections, HoldsConnectionAt, Tagged, own}
+use Rattle.bw_connections.specs.ConnectionTables.{HasLeft, KeepsConnections, HoldsConnectionAt, Tagged, own}
 use Rattle.bw_connections.specs.Lives.{HasEnded, IsInPhase, IsConnectionOver, Lives}
-use Rattle.bw_connections.specs.Served.{EndsLink, ConnectionReachesEnd, ServesEachConnection, ServesConnection, ConnectionReportsEnd}
+use Rattle.bw_connections.specs.ConnectionBytes.{EndsLink, ConnectionReachesEnd, ServesEachConnection, ServesConnection, ConnectionReportsEnd}
 use Rattle.bw_connections.proofs.Standing.{all_left}
 
 -- What bytes that weren't fed leave of what is known: nothing was, or none could change it.

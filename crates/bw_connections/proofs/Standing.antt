@@ -8,17 +8,17 @@ use Rattle.std.proofs.lemmas.List.{append-nil, map-append}
 use Rattle.std.proofs.lemmas.List.Elements.{filter-append}
 use Rattle.std.proofs.lemmas.Bool.{eq-eqb}
 use Rattle.std.proofs.lemmas.Bool.Decides.{eqb_tells}
-use Rattle.bw_exchange.specs.Answering.{Answered}
+use Rattle.bw_exchange.specs.AnsweredFrames.{Answered}
 use Rattle.bw_connections.specs.declared.connection.Connection.{Connection}
 use Rattle.bw_ports.specs.declared.link.Link.{Ghosts as LinkGhosts}
 use Rattle.bw_connections.specs.declared.connections.Closed.{Closed}
 use Rattle.bw_connections.specs.declared.connections.Connections.{Connections}
-use Rattle.bw_connections.specs.Keeping.{Tagged, tagged, all_answered, own, SetsPlace}
-use Rattle.bw_connections.specs.Keeping.{HoldsConnectionAt, IsFree, HoldsConnection, IsAmong}
-use Rattle.bw_connections.specs.Keeping.{AreApart}
-use Rattle.bw_connections.specs.Keeping.{HasLeft, KeepsConnections, Adds}
+use Rattle.bw_connections.specs.ConnectionTables.{Tagged, tagged, all_answered, own, SetsPlace}
+use Rattle.bw_connections.specs.ConnectionTables.{HoldsConnectionAt, IsFree, HoldsConnection, IsAmong}
+use Rattle.bw_connections.specs.ConnectionTables.{AreApart}
+use Rattle.bw_connections.specs.ConnectionTables.{HasLeft, KeepsConnections, Adds}
 use Rattle.bw_connections.specs.Lives.{Lives, IsConnectionOver, Steps}
-use Rattle.bw_connections.specs.Working.{ClosesAt}
+use Rattle.bw_connections.specs.Quanta.{ClosesAt}
 
 -- Frames under a number.
 

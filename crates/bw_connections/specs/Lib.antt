@@ -1,6 +1,6 @@
-pub mod Feeding
+pub mod ConnectionFeeds
 pub mod Lives
-pub mod Keeping
+pub mod ConnectionTables
 pub mod Places
-pub mod Working
-pub mod Served
+pub mod Quanta
+pub mod ConnectionBytes

@@ -14,19 +14,19 @@ use Rattle.bw_exchange.specs.declared.exchange.Exchange.{Exchange}
 use Rattle.bw_exchange.specs.declared.serving.ExchangeEnd.TheVariants as ends
 use Rattle.bw_exchange.specs.declared.step.StreamEnd.{StreamEnd}
 use Rattle.bw_exchange.specs.declared.step.StreamEnd.TheVariants as streams
-use Rattle.bw_exchange.specs.Answering.{Answered, AnswersAll}
+use Rattle.bw_exchange.specs.AnsweredFrames.{Answered, AnswersAll}
 use Rattle.bw_exchange.specs.Bounds.{most_before_answer}
 use Rattle.bw_exchange.specs.Done.{DoesMore, HasDone, IsIdle, MustWait}
 use Rattle.bw_exchange.specs.Ends.{IsFinal, end_so_far, end_meaning}
 use Rattle.bw_exchange.specs.Parts.{wants_piece, end_of, waiting_in, pending_of}
-use Rattle.bw_exchange.specs.Served.{ended_by}
+use Rattle.bw_exchange.specs.WholeExchanges.{ended_by}
 use Rattle.bw_connections.specs.declared.connection.Connection.{Connection}
 use Rattle.bw_connections.specs.declared.connection.ConnectionEnd.{ConnectionEnd}
 use Rattle.bw_connections.specs.declared.connection.ConnectionEnd.TheVariants.{Over, Idle}
 use Rattle.bw_connections.specs.declared.connection.Phase.{Phase}
 use Rattle.bw_connections.specs.declared.connection.Phase.TheVariants as phases
 use Rattle.bw_ports.specs.declared.link.Link.{Ghosts as LinkGhosts}
-use Rattle.bw_connections.specs.Feeding.{fault_to_drain}
+use Rattle.bw_connections.specs.ConnectionFeeds.{fault_to_drain}
 
 -- at most this many frames are answered in a quantum
 abbrev pub quantum : ℕ

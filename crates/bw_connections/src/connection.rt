@@ -2,7 +2,7 @@
 ghost use Rattle.std.specs.Prelude.{◌≡◌, ◌≤◌, ◌||◌, [], List, length, true, IfErr, IfOk, OnOk};
 ghost use Rattle.bw_wire.specs.Held.{longest_message_piece};
 ghost use Rattle.bw_exchange.specs.Parts.{wants_piece, waiting_in};
-ghost use Rattle.bw_connections.specs.Feeding.{Feeds, fault_to_drain};
+ghost use Rattle.bw_connections.specs.ConnectionFeeds.{Feeds, fault_to_drain};
 ghost use Rattle.bw_connections.specs.Lives.{EndsServed};
 
 use bw_exchange::{Exchange, ExchangeEnd, FeedError, StreamEnd, Turns};

@@ -2,7 +2,7 @@
 ghost use Rattle.std.specs.Prelude.{◌≡◌, ◌≤◌, ◌<◌, [], List, length, vec_len, slice_get, Some, None, IfOk};
 ghost use Rattle.std.specs.Prelude.{◌+◌, ◌^◌, Err, OnOk, OnErr, IfSome};
 ghost use Rattle.bw_wire.specs.Held.{longest_message_piece};
-ghost use Rattle.bw_connections.specs.Keeping.{SetsPlace};
+ghost use Rattle.bw_connections.specs.ConnectionTables.{SetsPlace};
 
 use crate::connection::{Connection, ConnectionEnd};
 use bw_exchange::Turns;
@@ -64,9 +64,9 @@ pub struct Connections<L> {
 }
 
 impl<L: Link + Drop> Connections<L> {
-    ghost use Rattle.bw_connections.specs.Keeping.{KeepsConnections, Adds, IsFree, those};
-    ghost use Rattle.bw_connections.specs.Working.{BeginsAt, EndsIts, IsEmpty, LeavesOthers, RefusesLink, StaysAt};
-    ghost use Rattle.bw_connections.specs.Working.{ExistedAt, ExistedUnder, WakesAt, WorksAt};
+    ghost use Rattle.bw_connections.specs.ConnectionTables.{KeepsConnections, Adds, IsFree, those};
+    ghost use Rattle.bw_connections.specs.Quanta.{BeginsAt, EndsIts, IsEmpty, LeavesOthers, RefusesLink, StaysAt};
+    ghost use Rattle.bw_connections.specs.Quanta.{ExistedAt, ExistedUnder, WakesAt, WorksAt};
     ghost use Rattle.bw_connections.specs.Places.{begun_of, connection_count, can_go_on_at};
     ghost use Rattle.bw_connections.specs.Places.{end_of_connection, expired_there};
     ghost use Rattle.bw_connections.specs.Places.{first_free_place, refused_of};

@@ -1,5 +1,5 @@
 //! Laws of many connections. Each function's contract is one; nothing runs.
-ghost use Rattle.bw_connections.specs.Served.{EachIsServed};
+ghost use Rattle.bw_connections.specs.ConnectionBytes.{EachIsServed};
 
 use bw_ports::Link;
 

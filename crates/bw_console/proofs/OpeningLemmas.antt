@@ -2,7 +2,7 @@
 use Rattle.std.proofs.Common.{◌≡◌, ◌≢◌, ℕ, List, Result, Ok, Err, IfOk, refl}
 use Rattle.std.specs.declared.io.ErrorKind.{ErrorKind}
 use Rattle.std.specs.declared.io.ErrorKind.TheVariants as kinds
-use Rattle.bw_console.specs.Openings.{exit_unopened}
+use Rattle.bw_console.specs.FailedOpenings.{exit_unopened}
 use Rattle.bw_console.specs.declared.exit.Exit.TheVariants as exits
 
 -- a line with some reason is the line with this one

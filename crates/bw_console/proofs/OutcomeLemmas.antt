@@ -4,7 +4,7 @@ use Rattle.std.specs.Prelude.{Result, Ok, Err}
 use Rattle.bw_stream.specs.declared.sink.Sink.{Ghosts as Writer}
 use Rattle.bw_console.specs.Faults.{exit_on, input_fault_text, is_readable}
 use Rattle.bw_console.specs.Outcomes.{HasWritten, Outcome, ResultsIn}
-use Rattle.bw_console.specs.Printing.{IsOf, IsPrint, Nothing, Print, failures_if}
+use Rattle.bw_console.specs.Prints.{IsOf, IsPrint, Nothing, Print, failures_if}
 use Rattle.bw_console.specs.Text.{as_line}
 use Rattle.bw_console.specs.declared.exit.Exit.{Exit}
 use Rattle.bw_console.specs.declared.exit.Exit.TheVariants.{Done}

@@ -2,7 +2,7 @@
 use Rattle.std.proofs.Common.{◌≡◌, ℕ, List, [], Result, Ok, Err, OnOk, OnErr, inl, inr, refl, append-nil}
 use Rattle.bw_stream.specs.Moves.{Keeps, Writes, failures_after}
 use Rattle.bw_stream.specs.declared.sink.Sink.{Ghosts as Writer}
-use Rattle.bw_console.specs.Printing.{HasPrinted, HasStopped, IsOf, IsPrint, Print, Whole, Part}
+use Rattle.bw_console.specs.Prints.{HasPrinted, HasStopped, IsOf, IsPrint, Print, Whole, Part}
 
 -- a text that was written whole is only begun where the flush after it fails
 pub flush-stops : {S X Y : Type 0} (w : Writer S) (text : List ℕ) (old mid new : S) (r : Result X Y)

@@ -3,7 +3,7 @@ use Rattle.std.specs.Prelude.{◌≡◌, true, codes}
 use Rattle.std.specs.declared.io.ErrorKind.{ErrorKind}
 use Rattle.std.specs.declared.io.ErrorKind.TheVariants as kinds
 use Rattle.bw_console.specs.Outcomes.{Outcome}
-use Rattle.bw_console.specs.Printing.{Nothing, IsOf}
+use Rattle.bw_console.specs.Prints.{Nothing, IsOf}
 use Rattle.bw_console.specs.Text.{as_line}
 use Rattle.bw_console.specs.declared.exit.Exit.{Exit}
 use Rattle.bw_console.specs.declared.exit.Exit.TheVariants as exits

@@ -5,7 +5,7 @@ use Rattle.hex.specs.declared.error.FromHexError.{FromHexError}
 use Rattle.hex.specs.declared.error.FromHexError.TheVariants.{OutOfMemory}
 use Rattle.bw_console.specs.Input.{Asked, longest_input}
 use Rattle.bw_console.specs.Input.{TooLong as AsksTooMuch, NotHex as AsksNoHex}
-use Rattle.bw_console.specs.Printing.{Print, Nothing, IsOf}
+use Rattle.bw_console.specs.Prints.{Print, Nothing, IsOf}
 use Rattle.bw_console.specs.Text.{as_line}
 use Rattle.bw_console.specs.declared.fault.Fault.{Fault}
 use Rattle.bw_console.specs.declared.fault.Fault.TheVariants.{TooLong, NotHex, NotEvent}

@@ -2,8 +2,8 @@ pub mod Lines
 pub mod Input
 pub mod Exits
 pub mod Text
-pub mod Printing
+pub mod Prints
 pub mod Faults
 pub mod Outcomes
 pub mod BadArgv
-pub mod Openings
+pub mod FailedOpenings

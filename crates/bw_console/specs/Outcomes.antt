@@ -3,7 +3,7 @@ use Rattle.std.specs.Prelude.{◌≡◌, ◌⊎◌, ℕ, Bool, true, List, Resul
 use Rattle.bw_console.specs.Faults.{IsReportedBy, exit_of, input_fault_text, is_read}
 use Rattle.bw_stream.specs.declared.sink.Sink.{Ghosts as Writer}
 use Rattle.bw_stream.specs.declared.source.Source.{Ghosts as Reader}
-use Rattle.bw_console.specs.Printing.{Print, Nothing, Whole, Part, IsOf, IsPrint, failures_if}
+use Rattle.bw_console.specs.Prints.{Print, Nothing, Whole, Part, IsOf, IsPrint, failures_if}
 use Rattle.bw_console.specs.Text.{as_line}
 use Rattle.bw_console.specs.declared.exit.Exit.{Exit}
 use Rattle.bw_console.specs.declared.exit.Exit.TheVariants as exits

@@ -2,7 +2,7 @@
 ghost use Rattle.std.specs.Prelude.{◌≡◌};
 ghost use Rattle.std.specs.IoError.{error_kind};
 ghost use Rattle.bw_console.specs.Outcomes.{Outcome};
-ghost use Rattle.bw_console.specs.Printing.{IsPrint};
+ghost use Rattle.bw_console.specs.Prints.{IsPrint};
 ghost use Rattle.bw_console.specs.BadArgv.{IsBadArgv, exit_without_words};
 
 use crate::exit::Exit;

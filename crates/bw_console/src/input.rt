@@ -7,7 +7,7 @@ ghost use Rattle.bw_console.specs.Lines.{lines_of, decoded_from, is_line_end};
 ghost use Rattle.bw_console.specs.Input.{asked_by, longest_input, Exchanges};
 ghost use Rattle.bw_console.specs.Faults.{IsLineFault, RefusesInput, RefusesLength, is_read};
 ghost use Rattle.bw_console.specs.Faults.{line_fault as line_fault_of};
-ghost use Rattle.bw_console.specs.Printing.{failures_if};
+ghost use Rattle.bw_console.specs.Prints.{failures_if};
 ghost use Rattle.bw_console.specs.Input.{IsReadAhead};
 ghost use Rattle.bw_stream.specs.Readers.{Of};
 

@@ -2,8 +2,8 @@
 ghost use Rattle.std.specs.Prelude.{◌≡◌, ◌⊎◌, ℕ, List, IfOk, string_bytes};
 ghost use Rattle.std.specs.IoError.{error_kind};
 ghost use Rattle.bw_console.specs.Outcomes.{Outcome, IsOutOfMemory};
-ghost use Rattle.bw_console.specs.Printing.{IsPrint};
-ghost use Rattle.bw_console.specs.Openings.{IsUnopened, ReportsFailure, exit_unopened, unopened_text};
+ghost use Rattle.bw_console.specs.Prints.{IsPrint};
+ghost use Rattle.bw_console.specs.FailedOpenings.{IsUnopened, ReportsFailure, exit_unopened, unopened_text};
 
 use crate::exit::Exit;
 use crate::fault::Fault;

@@ -2,7 +2,7 @@
 ghost use Rattle.std.specs.Prelude.{◌≡◌, OnOk, OnErr};
 ghost use Rattle.bw_console.specs.Faults.{exit_on, input_fault_text};
 ghost use Rattle.bw_console.specs.Outcomes.{HasWritten, Outcome, PrintsText};
-ghost use Rattle.bw_console.specs.Printing.{HasPrinted, HasStopped, IsOf, IsPrint, Print};
+ghost use Rattle.bw_console.specs.Prints.{HasPrinted, HasStopped, IsOf, IsPrint, Print};
 ghost use Rattle.bw_console.specs.Text.{as_line};
 
 use crate::exit::Exit;

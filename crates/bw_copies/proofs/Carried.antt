@@ -10,7 +10,7 @@ use Rattle.bw_model.specs.Reading as reading
 use Rattle.bw_model.specs.Reading.{Form, Entry, entry_of, read}
 use Rattle.bw_model.specs.Report.{report_of}
 use Rattle.bw_plan.specs.AllowedSettings.{is_setting, are_settings}
-use Rattle.bw_plan.specs.Cleaning.{values_of}
+use Rattle.bw_plan.specs.CleanedContents.{values_of}
 use Rattle.bw_plan.specs.PlanLaws.{IsWhole}
 use Rattle.bw_plan.specs.PcmRecordings.{pcm_recording_of, pcm_faults, set_pcm_outline, pcm_format}
 use Rattle.bw_plan.specs.declared.pcm.Pcm.{Pcm}

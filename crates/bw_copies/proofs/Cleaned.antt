@@ -15,9 +15,9 @@ use Rattle.bw_model.specs.Limits.{longest_history}
 use Rattle.bw_model.specs.Take.{Shape, Text, Digits, Whole, Maybe, Level, shapes, is_printable, is_history_byte}
 use Rattle.bw_model.specs.Take.{matches, not_given}
 use Rattle.bw_model.specs.ReadBack.{reported_cue}
-use Rattle.bw_plan.specs.Cleaning.{text_cleaned_of, printable_byte, history_byte, history_of, is_separator, is_like_at}
-use Rattle.bw_plan.specs.Cleaning.{is_like, placed, with_separators, are_zero, value_of, values_of, with_cue}
-use Rattle.bw_plan.specs.Cleaning.{markers_of}
+use Rattle.bw_plan.specs.CleanedContents.{text_cleaned_of, printable_byte, history_byte, history_of, is_separator, is_like_at}
+use Rattle.bw_plan.specs.CleanedContents.{is_like, placed, with_separators, are_zero, value_of, values_of, with_cue}
+use Rattle.bw_plan.specs.CleanedContents.{markers_of}
 use Rattle.bw_plan.specs.PlanLaws.{are_markers}
 use Rattle.bw_plan.proofs.CleanParts.{history_clean, markers_clean}
 use Rattle.bw_copies.specs.Copies.{CleansOnce}

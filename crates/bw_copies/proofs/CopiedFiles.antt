@@ -21,7 +21,7 @@ use Rattle.bw_model.specs.Report.{Report}
 use Rattle.bw_model.proofs.ChunkSteps.{first-none}
 use Rattle.bw_model.proofs.FileReports.{reads_back}
 use Rattle.bw_model.proofs.HeaderLaws.{form_len-form_size}
-use Rattle.bw_plan.specs.Cleaning.{text_cleaned_of, values_of, markers_of}
+use Rattle.bw_plan.specs.CleanedContents.{text_cleaned_of, values_of, markers_of}
 use Rattle.bw_plan.specs.PlanLaws.{take_made_of, fields_of, are_markers}
 use Rattle.bw_plan.specs.Recordings.{Options, Outline, Recording, FileNotes, recording_of, outline, outline_of}
 use Rattle.bw_plan.specs.Recordings.{format_faults, faults_of_content, bext_fields, given_count, piece_count}

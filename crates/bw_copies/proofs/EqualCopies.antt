@@ -6,7 +6,7 @@ use Rattle.std.specs.List.{list_all}
 use Rattle.std.specs.Str.{bytes_eq}
 use Rattle.std.proofs.lemmas.Bool.{and_parts, or_cases, eqb-true, not-true}
 use Rattle.bw_model.specs.Take.{Shape, Text, Digits, Whole, Maybe, Level, shapes, not_given}
-use Rattle.bw_plan.specs.Cleaning.{are_zero, value_of, values_of}
+use Rattle.bw_plan.specs.CleanedContents.{are_zero, value_of, values_of}
 use Rattle.bw_plan.specs.PcmRecordings.{pcm_format, set_pcm_outline}
 use Rattle.bw_plan.specs.Recordings.{Setting, Field, History, Outline, Recording, FileNotes, notes_of, outline}
 use Rattle.bw_plan.specs.Recordings.{no_options, with_setting, raw_fields}

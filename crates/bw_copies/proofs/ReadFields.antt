@@ -11,7 +11,7 @@ use Rattle.bw_model.specs.Layout.{is_version_1}
 use Rattle.bw_model.specs.ReadBack.{reported_bext}
 use Rattle.bw_model.specs.Wire.{are_bytes}
 use Rattle.bw_model.proofs.ByteNumbers.{IsBytes-from_test, wide16, wide64}
-use Rattle.bw_plan.specs.Cleaning.{value_of, values_of, are_texts_kept}
+use Rattle.bw_plan.specs.CleanedContents.{value_of, values_of, are_texts_kept}
 use Rattle.bw_plan.specs.PlanLaws.{fields_of, are_values}
 use Rattle.bw_plan.specs.Recordings.{bext_fields}
 use Rattle.bw_plan.proofs.CleanParts.{is_value}

@@ -12,7 +12,7 @@ use Rattle.bw_model.specs.Take.{is_length_allowed, are_bytes_allowed, FieldFault
 use Rattle.bw_model.specs.Wire.{is_below, are_bytes}
 use Rattle.bw_model.proofs.BookLemmas.{name_refl}
 use Rattle.bw_model.proofs.FieldLaws.{length-field_bytes}
-use Rattle.bw_plan.specs.Cleaning.{text_cleaned_of, printable_byte, is_like, with_separators, are_zero, value_of}
+use Rattle.bw_plan.specs.CleanedContents.{text_cleaned_of, printable_byte, is_like, with_separators, are_zero, value_of}
 use Rattle.bw_plan.specs.PlanLaws.{fields_of, are_values}
 use Rattle.bw_plan.proofs.CleanParts.{is_value}
 use Rattle.bw_copies.specs.Copies.{is_not_given, given_value}

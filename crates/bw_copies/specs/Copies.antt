@@ -12,7 +12,7 @@ use Rattle.bw_model.specs.ReadBack.{reported_cue}
 use Rattle.bw_model.specs.File.{file_of}
 use Rattle.bw_model.specs.Book.{made_by}
 use Rattle.bw_plan.specs.AllowedSettings.{are_settings}
-use Rattle.bw_plan.specs.Cleaning.{are_zero, history_of, values_of, markers_of}
+use Rattle.bw_plan.specs.CleanedContents.{are_zero, history_of, values_of, markers_of}
 use Rattle.bw_plan.specs.PcmRecordings.{pcm_recording_of}
 use Rattle.bw_plan.specs.Plans.{plan}
 use Rattle.bw_plan.specs.Recordings.{Options, no_options, Recording, Setting, Field, History}

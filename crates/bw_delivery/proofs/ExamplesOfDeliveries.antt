@@ -11,7 +11,7 @@ use Rattle.bw_model.specs.Turn.{good}
 use Rattle.bw_model.specs.Replies.{Reply, Judged}
 use Rattle.bw_model.specs.ExampleWords.{a1, mono, two_frames, says, hex, close_2, judged_example}
 use Rattle.bw_model.specs.ExamplesOfWorlds.{small_take}
-use Rattle.bw_connections.specs.Keeping.{Tagged, own}
+use Rattle.bw_connections.specs.ConnectionTables.{Tagged, own}
 use Rattle.bw_delivery.specs.Deliveries.{LinkBytes, IsJoined, IsOwnLink, IsOfAnother, HearsVerdict, SaysRequests}
 use Rattle.bw_delivery.specs.ExamplesOfDeliveries.{all_said, cut_link, whole_link, worked_trace, worked_links}
 use Rattle.bw_delivery.specs.ExamplesOfDeliveries.{WorkedDeliveryExample}

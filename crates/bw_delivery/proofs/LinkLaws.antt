@@ -14,7 +14,7 @@ use Rattle.bw_model.proofs.FrameLaws.{first_frame-framed, reply_length}
 use Rattle.bw_model.proofs.ReplyLaws.{spelled_reply_is_read}
 use Rattle.bw_model.proofs.StreamLaws.{streams_agree}
 use Rattle.bw_model.proofs.WireLaws.{frames_apart}
-use Rattle.bw_exchange.specs.Answering.{Answered, answered_frames, replies_of}
+use Rattle.bw_exchange.specs.AnsweredFrames.{Answered, answered_frames, replies_of}
 use Rattle.bw_exchange.specs.Done.{last_of}
 use Rattle.bw_delivery.specs.Deliveries.{LinkBytes, IsOneOf, HearsVerdict, IsOwnLink}
 use Rattle.bw_delivery.proofs.SpelledBytes.{frames_are_bytes}

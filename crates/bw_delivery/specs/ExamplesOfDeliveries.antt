@@ -9,8 +9,8 @@ use Rattle.bw_model.specs.Exchange.{nothing_stands}
 use Rattle.bw_model.specs.ExampleWords.{hex, a1, mono, two_frames, open_0, block_1, close_2}
 use Rattle.bw_model.specs.ExampleWords.{judged_example, says, file_in, small_file}
 use Rattle.bw_model.specs.ExamplesOfWorlds.{small_take}
-use Rattle.bw_exchange.specs.Answering.{Answered}
-use Rattle.bw_connections.specs.Keeping.{Tagged}
+use Rattle.bw_exchange.specs.AnsweredFrames.{Answered}
+use Rattle.bw_connections.specs.ConnectionTables.{Tagged}
 use Rattle.bw_delivery.specs.Deliveries.{LinkBytes, IsDelivery, EachHeardStored}
 
 -- all that the sender has to say, and what it is answered

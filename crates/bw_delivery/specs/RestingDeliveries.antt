@@ -11,9 +11,9 @@ use Rattle.bw_store.specs.declared.store.TakeStore.{Ghosts as StoreGhosts}
 use Rattle.bw_journal.specs.declared.journal.Journal.{Ghosts as JournalGhosts}
 use Rattle.bw_session.specs.SeenServers.{server_store, server_limit}
 use Rattle.bw_session.specs.declared.server.Server.{Server}
-use Rattle.bw_connections.specs.Keeping.{Tagged, all_answered}
-use Rattle.bw_rest.specs.Folding.{IsFolderRun}
-use Rattle.bw_rest.specs.Leaving.{LeavesRestFrom}
+use Rattle.bw_connections.specs.ConnectionTables.{Tagged, all_answered}
+use Rattle.bw_rest.specs.FolderRuns.{IsFolderRun}
+use Rattle.bw_rest.specs.RunLeavings.{LeavesRestFrom}
 use Rattle.bw_delivery.specs.Deliveries.{LinkBytes, IsJoined, HasOnly, IsDelivered, HeardOverLinks}
 use Rattle.bw_delivery.specs.Deliveries.{EachHeardStored}
 

@@ -4,7 +4,7 @@ use Rattle.bw_stream.specs.Readers.{Of}
 use Rattle.bw_model.specs.Report.{Report, report_of}
 use Rattle.bw_inspect.specs.Readings.{HasReading}
 use Rattle.bw_console.specs.Outcomes.{Outcome, PrintsText}
-use Rattle.bw_console.specs.Printing.{Nothing}
+use Rattle.bw_console.specs.Prints.{Nothing}
 use Rattle.bw_picture.specs.Fits.{fitting_shape}
 use Rattle.bw_picture.specs.Pages.{picture_text}
 use Rattle.bw_picture.specs.declared.drawing.Shape.{Shape}

@@ -1,7 +1,7 @@
 //! The command `picture`.
 ghost use Rattle.std.specs.Prelude.{◌≡◌, Bool};
 ghost use Rattle.bw_console.specs.Outcomes.{HasWritten, Outcome};
-ghost use Rattle.bw_console.specs.Printing.{failures_if};
+ghost use Rattle.bw_console.specs.Prints.{failures_if};
 ghost use Rattle.bw_draw.specs.Pictures.{IsDrawing};
 
 use crate::opening::picture_at;

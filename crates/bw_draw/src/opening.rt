@@ -1,6 +1,6 @@
 //! The picture of the file at a path.
 ghost use Rattle.std.specs.Prelude.{◌≡◌, None, Some, IfErr, IfOk, OnOk};
-ghost use Rattle.bw_console.specs.Printing.{failures_if};
+ghost use Rattle.bw_console.specs.Prints.{failures_if};
 ghost use Rattle.bw_draw.specs.Pictures.{HasRecording, IsPictureOf, RefusesPicture};
 ghost use Rattle.bw_draw.specs.Pictures.{too_long as too_long_at};
 ghost use Rattle.bw_inspect.specs.Reports.{reported_by};

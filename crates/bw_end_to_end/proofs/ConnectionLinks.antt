@@ -5,11 +5,11 @@ use Rattle.std.specs.List.{AllByRecursion, Contains, list_all}
 use Rattle.std.proofs.lemmas.Bool.{and_parts}
 use Rattle.std.proofs.lemmas.List.Folds.{list_all-append}
 use Rattle.bw_model.specs.Replies.{is_reply}
-use Rattle.bw_exchange.specs.Answering.{Answered, replies_of}
+use Rattle.bw_exchange.specs.AnsweredFrames.{Answered, replies_of}
 use Rattle.bw_exchange.specs.Done.{last_of}
 use Rattle.bw_ports.specs.declared.link.Link.{Ghosts as LinkGhosts}
-use Rattle.bw_connections.specs.Keeping.{own}
-use Rattle.bw_connections.specs.Served.{ServesConnection, EndsLink}
+use Rattle.bw_connections.specs.ConnectionTables.{own}
+use Rattle.bw_connections.specs.ConnectionBytes.{ServesConnection, EndsLink}
 use Rattle.bw_delivery.specs.Deliveries.{LinkBytes, AnswersOver}
 use Rattle.bw_end_to_end.specs.ServedLinks.{IsServerEnd, ConnectionsAnswer}
 

@@ -11,9 +11,9 @@ use Rattle.bw_ports.specs.declared.pause.Pause.{Ghosts as PauseGhosts}
 use Rattle.bw_send.proofs.OfferSteps.{taken}
 use Rattle.bw_engine.proofs.HeardSenders.{all_heard}
 use Rattle.bw_upload.specs.Chains.{Chain}
-use Rattle.bw_upload.specs.Conversing.{Conversing, TalkEvent, TalkStep, Says, Breaks, Hears}
+use Rattle.bw_upload.specs.Conversations.{Conversing, TalkEvent, TalkStep, Says, Breaks, Hears}
 use Rattle.bw_upload.specs.Courses.{Course, CourseStep, UploadEvent, Fills, Misses, Makes, Talks, Leaves}
-use Rattle.bw_upload.specs.Filling.{Filling, FillEvent, FillStep, Takes, Lacks, Closes}
+use Rattle.bw_upload.specs.WindowFills.{Filling, FillEvent, FillStep, Takes, Lacks, Closes}
 use Rattle.bw_upload.specs.declared.feed.Feed.{Ghosts as FeedGhosts}
 use Rattle.bw_end_to_end.specs.UsedLinks.{PendingHaveNumbers}
 use Rattle.bw_end_to_end.proofs.RoundLinks.{all_named, heard_numbers, offered_numbers}

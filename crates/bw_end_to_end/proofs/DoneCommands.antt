@@ -4,7 +4,7 @@ use Rattle.std.proofs.Common.{◌≡◌, ◌<◌, ◌⊎◌, ℕ, Option, List, 
 use Rattle.bw_model.specs.Take.{Request}
 use Rattle.bw_stream.specs.declared.sink.Sink.{Ghosts as Writer}
 use Rattle.bw_stream.specs.declared.source.Source.{Ghosts as Reader}
-use Rattle.bw_console.specs.Printing.{Print, Whole}
+use Rattle.bw_console.specs.Prints.{Print, Whole}
 use Rattle.bw_console.specs.declared.exit.Exit.{Exit}
 use Rattle.bw_console.specs.declared.exit.Exit.TheVariants.{Done, Refused, Device, Memory}
 use Rattle.bw_console.specs.declared.fault.Fault.{Fault}

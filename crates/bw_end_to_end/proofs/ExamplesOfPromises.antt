@@ -12,7 +12,7 @@ use Rattle.bw_model.specs.Book.{log_of}
 use Rattle.bw_model.specs.Replies.{Reply, Judged}
 use Rattle.bw_model.specs.ExampleWords.{a1, two_frames, says}
 use Rattle.bw_model.specs.ExamplesOfWorlds.{small_take}
-use Rattle.bw_connections.specs.Keeping.{own}
+use Rattle.bw_connections.specs.ConnectionTables.{own}
 use Rattle.bw_delivery.specs.Deliveries.{LinkBytes, IsTrueLink, IsOfAnother, AnswersOver, HasOnly, HearsVerdict, SaysRequests}
 use Rattle.bw_delivery.proofs.Elements.{each-contains}
 use Rattle.bw_delivery.proofs.ExamplesOfDeliveries.{skipped}

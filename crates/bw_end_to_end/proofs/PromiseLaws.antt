@@ -8,7 +8,7 @@ use Rattle.bw_model.specs.World.{Sender}
 use Rattle.bw_model.proofs.TrueReplies.{Grows}
 use Rattle.bw_store.specs.declared.store.TakeStore.{Ghosts as StoreGhosts}
 use Rattle.bw_journal.specs.declared.journal.Journal.{Ghosts as JournalGhosts}
-use Rattle.bw_exchange.specs.Answering.{Answered, AnswersAll}
+use Rattle.bw_exchange.specs.AnsweredFrames.{Answered, AnswersAll}
 use Rattle.bw_exchange.specs.TurnRuns.{IsRunOf}
 use Rattle.bw_exchange.proofs.GoodRuns.{turns_are_runs}
 use Rattle.bw_session.specs.Books.{HoldsBook, failures_of}
@@ -16,7 +16,7 @@ use Rattle.bw_session.specs.Servers.{kept_in, store_since}
 use Rattle.bw_session.specs.ServerTurns.{ServerTurn}
 use Rattle.bw_session.specs.declared.server.Server.{Server}
 use Rattle.bw_engine.specs.ServerRuns.{RunsOn, ServersAnswerInRuns}
-use Rattle.bw_connections.specs.Keeping.{Tagged, all_answered}
+use Rattle.bw_connections.specs.ConnectionTables.{Tagged, all_answered}
 use Rattle.bw_delivery.specs.Deliveries.{LinkBytes, IsDelivery, IsDelivered, HeardOverLinks}
 use Rattle.bw_delivery.proofs.DeliveryLaws.{delivery_step, deliveries_true}
 use Rattle.bw_delivery.proofs.WholeTakes.{all_made, closed_file, whole_take}

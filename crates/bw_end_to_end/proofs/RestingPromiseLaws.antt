@@ -10,8 +10,8 @@ use Rattle.bw_store.specs.declared.store.TakeStore.{Ghosts as StoreGhosts}
 use Rattle.bw_journal.specs.declared.journal.Journal.{Ghosts as JournalGhosts}
 use Rattle.bw_session.specs.SeenServers.{server_limit}
 use Rattle.bw_session.specs.declared.server.Server.{Server}
-use Rattle.bw_rest.specs.Leaving.{LeavesRestFrom, RunsLeaveFolders}
-use Rattle.bw_connections.specs.Keeping.{Tagged, all_answered}
+use Rattle.bw_rest.specs.RunLeavings.{LeavesRestFrom, RunsLeaveFolders}
+use Rattle.bw_connections.specs.ConnectionTables.{Tagged, all_answered}
 use Rattle.bw_delivery.specs.Deliveries.{LinkBytes, IsDelivered}
 use Rattle.bw_delivery.specs.RestingDeliveries.{IsRestingDelivery}
 use Rattle.bw_delivery.proofs.ClosedLaws.{AreStored, stored_closes}

@@ -4,8 +4,8 @@ use Rattle.std.proofs.Common.{refl, ◌∙◌, ap, subst, arith, append-nil}
 use Rattle.std.specs.Prelude.{map, filter, ◌==◌}
 use Rattle.std.specs.List.{Contains}
 use Rattle.std.proofs.lemmas.Bool.{eq-eqb, ne_eqb}
-use Rattle.bw_exchange.specs.Answering.{Answered}
-use Rattle.bw_connections.specs.Keeping.{Tagged, tagged, own}
+use Rattle.bw_exchange.specs.AnsweredFrames.{Answered}
+use Rattle.bw_connections.specs.ConnectionTables.{Tagged, tagged, own}
 use Rattle.bw_end_to_end.specs.ServedInTurn.{ServedExchange, trace_of}
 
 own-append : (n : ℕ) (xs ys : List Tagged) → own n (xs ++ ys) ≡ own n xs ++ own n ys

@@ -11,7 +11,7 @@ use Rattle.bw_model.specs.Wire.{Second, Bye, is_frame, is_name, is_request, last
 use Rattle.bw_model.specs.World.{Sender, pending_from}
 use Rattle.bw_model.specs.Stream.{frames_bytes}
 use Rattle.bw_model.proofs.Elements.{get-below}
-use Rattle.bw_wire.specs.Encoded.{said}
+use Rattle.bw_wire.specs.EncodedFrames.{said}
 use Rattle.bw_engine.specs.Batches.{messages, pending_messages, batch}
 use Rattle.bw_delivery.specs.Deliveries.{IsOneOf, IsPartOf, SaysRequests}
 use Rattle.bw_end_to_end.specs.UsedLinks.{PendingHaveNumbers}

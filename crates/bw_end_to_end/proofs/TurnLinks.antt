@@ -11,10 +11,10 @@ use Rattle.bw_stream.specs.declared.source.Source.{Ghosts as Reader}
 use Rattle.bw_wire.specs.Reasons.{reason_meaning}
 use Rattle.bw_exchange.specs.declared.serving.ExchangeEnd.{ExchangeEnd}
 use Rattle.bw_exchange.specs.declared.serving.ExchangeEnd.TheVariants as ends
-use Rattle.bw_exchange.specs.Answering.{Answered, AnswersAll, replies_of}
+use Rattle.bw_exchange.specs.AnsweredFrames.{Answered, AnswersAll, replies_of}
 use Rattle.bw_exchange.specs.Done.{last_of}
-use Rattle.bw_exchange.specs.Served.{Serves, EndsBy}
-use Rattle.bw_connections.specs.Keeping.{Tagged, tagged, all_answered}
+use Rattle.bw_exchange.specs.WholeExchanges.{Serves, EndsBy}
+use Rattle.bw_connections.specs.ConnectionTables.{Tagged, tagged, all_answered}
 use Rattle.bw_console.specs.declared.exit.Exit.{Exit}
 use Rattle.bw_console.specs.declared.exit.Exit.TheVariants.{Done, Refused, Usage, Device, Memory}
 use Rattle.bw_ports.specs.declared.peers.Peers.{Ghosts as PeerGhosts}

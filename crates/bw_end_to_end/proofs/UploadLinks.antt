@@ -16,7 +16,7 @@ use Rattle.bw_ports.specs.declared.dial.Duplex.{Duplex}
 use Rattle.bw_ports.specs.declared.pause.Pause.{Ghosts as PauseGhosts}
 use Rattle.bw_sender.specs.Senders.{new_sender}
 use Rattle.bw_upload.specs.Chains.{Chain}
-use Rattle.bw_upload.specs.Conversing.{Conversing, Line, TalkEvent, TalkStep, Says, Breaks, Hears, LeavesBy, new_line}
+use Rattle.bw_upload.specs.Conversations.{Conversing, Line, TalkEvent, TalkStep, Says, Breaks, Hears, LeavesBy, new_line}
 use Rattle.bw_upload.specs.Courses.{Course, CourseStep, UploadEvent, Fills, Misses, Makes, Talks, Leaves}
 use Rattle.bw_upload.specs.declared.feed.Feed.{Ghosts as FeedGhosts}
 use Rattle.bw_upload.specs.declared.observer.LinkEnd.{LinkEnd}

@@ -15,10 +15,10 @@ use Rattle.bw_stream.specs.Moves.{Writes, Begins}
 use Rattle.bw_stream.specs.declared.sink.Sink.{Ghosts as Writer}
 use Rattle.bw_stream.specs.declared.source.Source.{Ghosts as Reader}
 use Rattle.bw_wire.specs.Codecs.{reply_codec, Spelled}
-use Rattle.bw_engine.specs.Listening.{PartsWith}
-use Rattle.bw_engine.specs.Saying.{numbered_from, unsaid_messages}
+use Rattle.bw_engine.specs.LinkReplies.{PartsWith}
+use Rattle.bw_engine.specs.SaidMessages.{numbered_from, unsaid_messages}
 use Rattle.bw_ports.specs.declared.dial.Duplex.{Duplex}
-use Rattle.bw_upload.specs.Conversing.{Conversing, Line, SaysPending, BreaksSaying, HearsReplies, new_line}
+use Rattle.bw_upload.specs.Conversations.{Conversing, Line, SaysPending, BreaksSaying, HearsReplies, new_line}
 use Rattle.bw_delivery.specs.Deliveries.{LinkBytes, IsOneOf, IsPartOf, SaysRequests, HearsVerdict}
 use Rattle.bw_end_to_end.specs.UsedLinks.{IsSenderEnd}
 use Rattle.bw_end_to_end.proofs.SaidRequests.{IsOffered, AreSpelled, IsNumbered, pending_numbered, messages_are}

@@ -9,7 +9,7 @@ use Rattle.bw_model.specs.ExampleWords.{a1, mono, two_frames, block_1, close_2, 
 use Rattle.bw_model.specs.ExampleWords.{file_in, small_file}
 use Rattle.bw_model.specs.ExamplesOfWorlds.{small_take}
 use Rattle.bw_exchange.specs.TurnRuns.{IsRunOf}
-use Rattle.bw_connections.specs.Keeping.{Tagged, all_answered}
+use Rattle.bw_connections.specs.ConnectionTables.{Tagged, all_answered}
 use Rattle.bw_delivery.specs.Deliveries.{LinkBytes, HasOnly}
 use Rattle.bw_delivery.specs.ExamplesOfDeliveries.{stores}
 use Rattle.bw_end_to_end.specs.UsedLinks.{HasAllStored}

@@ -9,12 +9,12 @@ use Rattle.bw_model.specs.Exchange.{take_in}
 use Rattle.bw_model.specs.World.{Sender, is_close}
 use Rattle.bw_store.specs.declared.store.TakeStore.{Ghosts as StoreGhosts}
 use Rattle.bw_journal.specs.declared.journal.Journal.{Ghosts as JournalGhosts}
-use Rattle.bw_exchange.specs.Answering.{Answered, AnswersAll}
+use Rattle.bw_exchange.specs.AnsweredFrames.{Answered, AnswersAll}
 use Rattle.bw_session.specs.Books.{HoldsBook}
 use Rattle.bw_session.specs.ServerTurns.{ServerTurn}
 use Rattle.bw_session.specs.declared.server.Server.{Server}
 use Rattle.bw_session.specs.SeenServers.{server_store, server_limit}
-use Rattle.bw_connections.specs.Keeping.{Tagged, all_answered, own}
+use Rattle.bw_connections.specs.ConnectionTables.{Tagged, all_answered, own}
 use Rattle.bw_delivery.specs.Deliveries.{LinkBytes, IsTrueLink, AnswersOver, IsOfAnother, HasOnly}
 use Rattle.bw_delivery.specs.Deliveries.{HeardOverLinks, IsDelivered}
 use Rattle.bw_end_to_end.specs.UsedLinks.{HasAllStored, HadOrHeard, SendsOver, SendsOnOver}

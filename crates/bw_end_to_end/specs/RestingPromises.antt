@@ -9,12 +9,12 @@ use Rattle.bw_model.specs.Exchange.{take_in}
 use Rattle.bw_model.specs.World.{Sender, is_close}
 use Rattle.bw_store.specs.declared.store.TakeStore.{Ghosts as StoreGhosts}
 use Rattle.bw_journal.specs.declared.journal.Journal.{Ghosts as JournalGhosts}
-use Rattle.bw_exchange.specs.Answering.{AnswersAll}
+use Rattle.bw_exchange.specs.AnsweredFrames.{AnswersAll}
 use Rattle.bw_session.specs.declared.server.Server.{Server}
 use Rattle.bw_session.specs.SeenServers.{server_store, server_journal, server_limit}
 use Rattle.bw_rest.specs.Folders.{HoldsFolder}
-use Rattle.bw_rest.specs.Resting.{RestingTurn}
-use Rattle.bw_connections.specs.Keeping.{Tagged, all_answered}
+use Rattle.bw_rest.specs.TurnsAtRest.{RestingTurn}
+use Rattle.bw_connections.specs.ConnectionTables.{Tagged, all_answered}
 use Rattle.bw_delivery.specs.Deliveries.{LinkBytes, HasOnly, IsDelivered}
 use Rattle.bw_end_to_end.specs.UsedLinks.{HasAllStored, HadOrHeard}
 use Rattle.bw_end_to_end.specs.Promises.{AreLinkedOn, HasKept}

@@ -10,7 +10,7 @@ use Rattle.bw_stream.specs.declared.sink.Sink.{Ghosts as Writer}
 use Rattle.bw_stream.specs.declared.source.Source.{Ghosts as Reader}
 use Rattle.bw_ports.specs.declared.dial.Dial.{Ghosts as DialGhosts}
 use Rattle.bw_console.specs.Outcomes.{Outcome}
-use Rattle.bw_console.specs.Printing.{Whole}
+use Rattle.bw_console.specs.Prints.{Whole}
 use Rattle.bw_console.specs.declared.exit.Exit.TheVariants.{Done}
 use Rattle.bw_send.specs.RoundsMade.{IsRound, AreRounds, MakesRounds}
 use Rattle.bw_send.specs.SendState.{Sending, hear_in, new_sending, offer_more}

@@ -5,8 +5,8 @@ use Rattle.bw_model.specs.Wire.{Frame}
 use Rattle.bw_model.specs.Replies.{Reply}
 use Rattle.bw_stream.specs.declared.sink.Sink.{Ghosts as Writer}
 use Rattle.bw_stream.specs.declared.source.Source.{Ghosts as Reader}
-use Rattle.bw_exchange.specs.Answering.{Answered, AnswersAll}
-use Rattle.bw_connections.specs.Keeping.{Tagged, tagged, all_answered, own}
+use Rattle.bw_exchange.specs.AnsweredFrames.{Answered, AnswersAll}
+use Rattle.bw_connections.specs.ConnectionTables.{Tagged, tagged, all_answered, own}
 use Rattle.bw_console.specs.declared.exit.Exit.{Exit}
 use Rattle.bw_console.specs.declared.exit.Exit.TheVariants.{Done}
 use Rattle.bw_ports.specs.declared.peers.Peers.{Ghosts as PeerGhosts}

@@ -5,8 +5,8 @@ use Rattle.bw_ports.specs.declared.link.Link.{Ghosts as LinkGhosts}
 use Rattle.bw_connections.specs.declared.connection.Connection.{Connection}
 use Rattle.bw_connections.specs.declared.connections.Closed.{Closed}
 use Rattle.bw_connections.specs.declared.connections.Connections.{Connections}
-use Rattle.bw_connections.specs.Keeping.{Tagged, HoldsConnectionAt, own}
-use Rattle.bw_connections.specs.Served.{ServesEachConnection}
+use Rattle.bw_connections.specs.ConnectionTables.{Tagged, HoldsConnectionAt, own}
+use Rattle.bw_connections.specs.ConnectionBytes.{ServesEachConnection}
 use Rattle.bw_delivery.specs.Deliveries.{LinkBytes, IsPartOf, AnswersOver}
 
 module _ {L : Type 0} (G : LinkGhosts L) where

@@ -12,10 +12,10 @@ use Rattle.bw_ports.specs.declared.dial.Dial.{Ghosts as DialGhosts}
 use Rattle.bw_ports.specs.declared.dial.Duplex.{Duplex}
 use Rattle.bw_ports.specs.declared.pause.Pause.{Ghosts as PauseGhosts}
 use Rattle.bw_upload.specs.Chains.{Chain}
-use Rattle.bw_upload.specs.Conversing.{Conversing, Line, LeavesBy}
+use Rattle.bw_upload.specs.Conversations.{Conversing, Line, LeavesBy}
 use Rattle.bw_upload.specs.Courses.{Course, CourseStep, UploadEvent, Fills, Misses, Makes, Talks, Leaves}
 use Rattle.bw_upload.specs.Courses.{starts}
-use Rattle.bw_upload.specs.Uploading.{Uploads}
+use Rattle.bw_upload.specs.WholeUploads.{Uploads}
 use Rattle.bw_upload.specs.declared.feed.Feed.{Ghosts as FeedGhosts}
 use Rattle.bw_upload.specs.declared.observer.LinkEnd.{LinkEnd}
 use Rattle.bw_upload.specs.declared.observer.LinkEnd.TheVariants.{Ended, Broken, Stopped, Refused, Done}

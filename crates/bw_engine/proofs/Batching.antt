@@ -18,7 +18,7 @@ use Rattle.bw_sender.specs.Entries.{SenderEntry, entries, pending_entries}
 use Rattle.bw_sender.specs.Senders.{IsSender}
 use Rattle.bw_sender.specs.declared.sender.Sender.{Sender}
 use Rattle.bw_sender.proofs.EntryLaws.{drop_at, drop_none, pending_in, pending_after}
-use Rattle.bw_wire.specs.Encoded.{said}
+use Rattle.bw_wire.specs.EncodedFrames.{said}
 use Rattle.bw_engine.specs.declared.send_fault.SendFault.{SendFault}
 use Rattle.bw_engine.specs.declared.send_fault.SendFault.TheVariants as faults
 use Rattle.bw_engine.specs.Batches.{messages, pending_messages, batch_bytes, WritesMessages, WritesBatch}

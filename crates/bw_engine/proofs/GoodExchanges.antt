@@ -14,10 +14,10 @@ use Rattle.bw_model.specs.Book.{Book}
 use Rattle.bw_model.specs.Turn.{Turn, good, turn, run, book_after}
 use Rattle.bw_model.specs.NumberOrder.{reports_failure}
 use Rattle.bw_model.specs.Exchange.{replies_bytes, last_reply, exchange, exchanges}
-use Rattle.bw_exchange.specs.Answering.{Answered, answered_frames, replies_of}
+use Rattle.bw_exchange.specs.AnsweredFrames.{Answered, answered_frames, replies_of}
 use Rattle.bw_exchange.specs.TurnRuns.{run_without_faults}
-use Rattle.bw_engine.specs.Ingesting.{ServedInput, WasServed, IsServedTo, IsServedWhole, answered_in, ingested_end, input_frames}
-use Rattle.bw_engine.specs.Ingesting.{IsShort, ReportsNoFailure}
+use Rattle.bw_engine.specs.IngestRuns.{ServedInput, WasServed, IsServedTo, IsServedWhole, answered_in, ingested_end, input_frames}
+use Rattle.bw_engine.specs.IngestRuns.{IsShort, ReportsNoFailure}
 use Rattle.bw_exchange.proofs.GoodRuns.{GoesWell, good_run}
 
 -- a short input that was served, with its end

@@ -14,19 +14,19 @@ use Rattle.bw_sender.specs.Senders.{IsSender}
 use Rattle.bw_sender.specs.declared.sender.Sender.{Sender}
 use Rattle.bw_wire.specs.Codecs.{reply_codec, spelling_of, Spelled}
 use Rattle.bw_wire.specs.Held.{longest_piece}
-use Rattle.bw_wire.specs.Pending.{Pending, Reported, Nothing, Gives, Fails, fresh, with_piece, next_of, cut_off}
-use Rattle.bw_wire.specs.Pending.{end_fault}
+use Rattle.bw_wire.specs.FramerStates.{Pending, Reported, Nothing, Gives, Fails, fresh, with_piece, next_of, cut_off}
+use Rattle.bw_wire.specs.FramerStates.{end_fault}
 use Rattle.bw_wire.specs.Replies.{reply_of}
-use Rattle.bw_wire.specs.Reporting.{reported_as}
+use Rattle.bw_wire.specs.FramerAnswers.{reported_as}
 use Rattle.bw_wire.specs.declared.reply.Reply.{Reply as Answer}
 use Rattle.bw_engine.specs.declared.send_fault.SendFault.{SendFault}
 use Rattle.bw_engine.specs.declared.send_fault.SendFault.TheVariants as faults
-use Rattle.bw_exchange.specs.Served.{most_reads, HasGiven, HasNoneLeft}
+use Rattle.bw_exchange.specs.WholeExchanges.{most_reads, HasGiven, HasNoneLeft}
 use Rattle.bw_engine.specs.Hears.{CountsAll, IsHeardUpTo, IsAllHeard, IsHeardWhole}
 use Rattle.bw_engine.specs.Hears.{HearsBy, HearsNoFurther, Hears, GaveReplies, HearsMore, ReportsFault}
 use Rattle.bw_engine.specs.Hears.{hears_failed, IsHearingLimited, FeedsReplies, EndsReplies, ReadsReplies}
 use Rattle.bw_engine.specs.Hears.{StopsHearing}
-use Rattle.bw_engine.specs.Listening.{HearsThese}
+use Rattle.bw_engine.specs.LinkReplies.{HearsThese}
 use Rattle.bw_engine.proofs.HeardReplies.{counts_on, these_none, these_on, these_quiet, these_one}
 use Rattle.bw_exchange.proofs.Reading.{has_given-none, has_given-on, has_given-piece}
 use Rattle.bw_engine.proofs.ReplyRuns.{IsNoReply, fresh_quiet, no_bytes_cut, gave_none, gave_fed}

@@ -6,10 +6,10 @@ use Rattle.bw_model.specs.World.{Sender as Defined, hear}
 use Rattle.bw_sender.specs.Senders.{IsSender}
 use Rattle.bw_sender.specs.declared.sender.Sender.{Sender}
 use Rattle.bw_wire.specs.Codecs.{reply_codec}
-use Rattle.bw_wire.specs.Pending.{Pending, Reported, Nothing, Gives, Fails, next_of}
+use Rattle.bw_wire.specs.FramerStates.{Pending, Reported, Nothing, Gives, Fails, next_of}
 use Rattle.bw_wire.specs.Runs.{given_by}
 use Rattle.bw_engine.specs.Hears.{hear_all, CountsAll, GaveReplies}
-use Rattle.bw_engine.specs.Listening.{HearsThese}
+use Rattle.bw_engine.specs.LinkReplies.{HearsThese}
 use Rattle.bw_engine.proofs.ReplyRuns.{IsNoReply, gave_more}
 
 pub heard_in_turn : (s : Defined) (a b : List Reply) → hear_all s (a ++ b) ≡ hear_all (hear_all s a) b

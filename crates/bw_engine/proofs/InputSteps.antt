@@ -7,9 +7,9 @@ use Rattle.std.proofs.lemmas.List.{map-append, append-nil, append_assoc, take_mo
 use Rattle.std.proofs.lemmas.Grind.{flat_map-append}
 use Rattle.bw_model.specs.Wire.{Frame}
 use Rattle.bw_model.specs.Replies.{Reply}
-use Rattle.bw_exchange.specs.Answering.{Answered, AnswersAll}
-use Rattle.bw_engine.specs.Ingesting.{ServedInput, WasServed, AreServed, AreFirstIn, answered_in}
-use Rattle.bw_engine.specs.Ingesting.{input_bytes, ServesInput, ServesFirst, ServesInputs, ServesInPart}
+use Rattle.bw_exchange.specs.AnsweredFrames.{Answered, AnswersAll}
+use Rattle.bw_engine.specs.IngestRuns.{ServedInput, WasServed, AreServed, AreFirstIn, answered_in}
+use Rattle.bw_engine.specs.IngestRuns.{input_bytes, ServesInput, ServesFirst, ServesInputs, ServesInPart}
 use Rattle.bw_engine.specs.declared.ingest.Reported.{Reported}
 use Rattle.bw_exchange.proofs.Going.{answers_append}
 use Rattle.bw_exchange.specs.declared.serving.ExchangeEnd.{ExchangeEnd}

@@ -7,10 +7,10 @@ use Rattle.bw_model.specs.Replies.{Reply}
 use Rattle.bw_model.specs.World.{Sender as Defined, hear, heard}
 use Rattle.bw_sender.specs.declared.sender.Sender.{Sender}
 use Rattle.bw_wire.specs.Codecs.{reply_codec}
-use Rattle.bw_wire.specs.Pending.{Pending, Nothing, Fails, fresh, next_of}
+use Rattle.bw_wire.specs.FramerStates.{Pending, Nothing, Fails, fresh, next_of}
 use Rattle.bw_engine.specs.Hears.{hear_all, CountsAll, GaveReplies, FeedsReplies}
 use Rattle.bw_engine.specs.Hears.{EndsReplies, ReportsFault, StopsHearing, hears_failed}
-use Rattle.bw_engine.specs.Listening.{HearsThese, NotesStop, HearsNext}
+use Rattle.bw_engine.specs.LinkReplies.{HearsThese, NotesStop, HearsNext}
 use Rattle.bw_engine.specs.Stops.{stop_by, first_of, first_stop}
 use Rattle.bw_engine.specs.declared.send_fault.SendFault.{SendFault}
 use Rattle.bw_engine.specs.declared.send_fault.SendFault.TheVariants as faults

@@ -13,8 +13,8 @@ use Rattle.bw_model.proofs.FrameLaws.{reads_reply}
 use Rattle.bw_wire.specs.Codecs.{reply_codec}
 use Rattle.bw_wire.specs.Reasons.{reason_meaning}
 use Rattle.bw_wire.specs.declared.fault.WireFault.{WireFault}
-use Rattle.bw_wire.specs.Pending.{Phase, Reading, Left, Failed, Pending, Reported, Nothing, Gives, Fails, fresh}
-use Rattle.bw_wire.specs.Pending.{with_piece, compacted, emptied, next_of}
+use Rattle.bw_wire.specs.FramerStates.{Phase, Reading, Left, Failed, Pending, Reported, Nothing, Gives, Fails, fresh}
+use Rattle.bw_wire.specs.FramerStates.{with_piece, compacted, emptied, next_of}
 use Rattle.bw_wire.specs.Runs.{Call, Feeds, Takes, fed_in, Run, given_by, with_call, with_calls}
 use Rattle.bw_wire.specs.Runs.{Follows}
 use Rattle.bw_wire.proofs.FramerLaws.{next_of-left, next_of-failed, next_of-partial, next_of-bad, next_of-value}

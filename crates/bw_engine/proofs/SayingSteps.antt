@@ -13,11 +13,11 @@ use Rattle.bw_model.specs.Stream.{is_turn, frames_bytes}
 use Rattle.bw_model.specs.World.{Sender as Defined}
 use Rattle.bw_stream.specs.Moves.{Writes, Begins}
 use Rattle.bw_sender.proofs.EntryLaws.{drop_at}
-use Rattle.bw_wire.specs.Encoded.{said}
+use Rattle.bw_wire.specs.EncodedFrames.{said}
 use Rattle.bw_engine.specs.declared.send_fault.SendFault.{SendFault}
 use Rattle.bw_engine.specs.declared.send_fault.SendFault.TheVariants as faults
 use Rattle.bw_engine.specs.Batches.{messages, WritesMessages, BreaksFrame}
-use Rattle.bw_engine.specs.Saying.{numbered_from, unsaid_messages, BreaksOffSaying}
+use Rattle.bw_engine.specs.SaidMessages.{numbered_from, unsaid_messages, BreaksOffSaying}
 use Rattle.bw_engine.proofs.Batching.{nothing_after, waiting}
 use Rattle.bw_engine.proofs.Beginnings.{begins-before, begins-after}
 use Rattle.bw_exchange.proofs.Reading.{writes-none, writes-on}

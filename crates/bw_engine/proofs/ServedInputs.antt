@@ -10,10 +10,10 @@ use Rattle.bw_model.specs.Stream.{End, EndOfInput, SaidBye, BadFrame}
 use Rattle.bw_wire.specs.Reasons.{reason_meaning}
 use Rattle.bw_model.specs.Exchange.{last_reply}
 use Rattle.bw_model.proofs.Elements.{some_inj}
-use Rattle.bw_exchange.specs.Answering.{Answered, answered_frames, replies_of}
+use Rattle.bw_exchange.specs.AnsweredFrames.{Answered, answered_frames, replies_of}
 use Rattle.bw_exchange.specs.Done.{AreFirstOf}
-use Rattle.bw_exchange.specs.Served.{Serves, EndsBy, reads_failed}
-use Rattle.bw_engine.specs.Ingesting.{WasServed, ServesInput, ServesFirst}
+use Rattle.bw_exchange.specs.WholeExchanges.{Serves, EndsBy, reads_failed}
+use Rattle.bw_engine.specs.IngestRuns.{WasServed, ServesInput, ServesFirst}
 use Rattle.bw_exchange.specs.declared.serving.ExchangeEnd.{ExchangeEnd}
 use Rattle.bw_exchange.specs.declared.serving.ExchangeEnd.TheVariants as ends
 use Rattle.bw_engine.proofs.FirstFrames.{first_of_more}

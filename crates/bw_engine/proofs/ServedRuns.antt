@@ -12,7 +12,7 @@ use Rattle.bw_model.specs.CountedTurn.{is_delayed}
 use Rattle.bw_journal.specs.declared.journal.Journal.{Ghosts as JournalGhosts}
 use Rattle.bw_session.specs.Books.{failures_of}
 use Rattle.bw_session.specs.declared.server.Server.{Server}
-use Rattle.bw_exchange.specs.Answering.{Answered, replies_of}
+use Rattle.bw_exchange.specs.AnsweredFrames.{Answered, replies_of}
 use Rattle.bw_session.specs.ServerTurns.{ServerTurn}
 use Rattle.bw_engine.specs.ServerRuns.{ServerRun, ServersAnswerInRuns, all_done}
 use Rattle.bw_engine.proofs.DoneCounts.{called_for, called_then}

@@ -14,15 +14,15 @@ use Rattle.bw_model.proofs.HeldFiles.{held_files}
 use Rattle.bw_store.specs.declared.store.TakeStore.{Ghosts as StoreGhosts}
 use Rattle.bw_journal.specs.declared.journal.Journal.{Ghosts as JournalGhosts}
 use Rattle.bw_session.specs.Books.{failures_of, HoldsBook}
-use Rattle.bw_session.specs.Numbered.{failed_calls}
+use Rattle.bw_session.specs.NextNumbers.{failed_calls}
 use Rattle.bw_session.specs.Servers.{kept_in, store_since}
 use Rattle.bw_session.specs.declared.server.Server.{Server}
-use Rattle.bw_exchange.specs.Answering.{Answered, AnswersAll}
+use Rattle.bw_exchange.specs.AnsweredFrames.{Answered, AnswersAll}
 use Rattle.bw_session.specs.ServerTurns.{ServerTurn}
 use Rattle.bw_exchange.specs.TurnRuns.{IsRun, run_without_faults}
 use Rattle.bw_engine.specs.ServerRuns.{all_done}
-use Rattle.bw_engine.specs.Ingesting.{answered_in, LeavesRun, WentThrough, Ingests, IngestsInPart, input_bytes}
-use Rattle.bw_engine.specs.Ingesting.{GoWell, RunsAsDefined, ingested_end, input_frames, IsShort, ReportsNoFailure}
+use Rattle.bw_engine.specs.IngestRuns.{answered_in, LeavesRun, WentThrough, Ingests, IngestsInPart, input_bytes}
+use Rattle.bw_engine.specs.IngestRuns.{GoWell, RunsAsDefined, ingested_end, input_frames, IsShort, ReportsNoFailure}
 use Rattle.bw_engine.specs.declared.ingest.Run.{Run}
 use Rattle.std.specs.List.{AllByRecursion}
 use Rattle.bw_engine.proofs.InputSteps.{none_first}

@@ -7,7 +7,7 @@ use Rattle.bw_model.specs.Wire.{Second, Frame, Bye}
 use Rattle.bw_model.specs.Stream.{Stream, SaidBye, is_turn, frames_bytes}
 use Rattle.bw_model.specs.World.{Sender, pending_from}
 use Rattle.bw_stream.specs.Moves.{one_more, Keeps, Writes, Begins}
-use Rattle.bw_wire.specs.Encoded.{said}
+use Rattle.bw_wire.specs.EncodedFrames.{said}
 use Rattle.bw_engine.specs.declared.send_fault.SendFault.{SendFault}
 use Rattle.bw_engine.specs.declared.send_fault.SendFault.TheVariants as faults
 

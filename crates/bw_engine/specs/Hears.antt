@@ -10,11 +10,11 @@ use Rattle.bw_sender.specs.Senders.{IsSender}
 use Rattle.bw_sender.specs.declared.sender.Sender.{Sender}
 use Rattle.bw_wire.specs.Codecs.{reply_codec, Spelled}
 use Rattle.bw_wire.specs.Held.{longest_piece}
-use Rattle.bw_wire.specs.Pending.{Pending, Fails, next_of, with_piece}
+use Rattle.bw_wire.specs.FramerStates.{Pending, Fails, next_of, with_piece}
 use Rattle.bw_wire.specs.Runs.{Call, fed_in, framer_run}
 use Rattle.bw_engine.specs.declared.send_fault.SendFault.{SendFault}
 use Rattle.bw_engine.specs.declared.send_fault.SendFault.TheVariants as faults
-use Rattle.bw_exchange.specs.Served.{most_reads, HasGiven, HasNoneLeft}
+use Rattle.bw_exchange.specs.WholeExchanges.{most_reads, HasGiven, HasNoneLeft}
 
 -- a sender after these replies
 abbrev pub hear_all : Defined → List Reply → Defined

@@ -10,7 +10,7 @@ use Rattle.bw_engine.specs.declared.send_fault.SendFault.{SendFault}
 use Rattle.bw_engine.specs.declared.send_fault.SendFault.TheVariants as faults
 use Rattle.bw_engine.specs.Batches.{batch_bytes, WritesBatch, BreaksBytes}
 use Rattle.bw_engine.specs.Hears.{Hears, hears_failed, IsHearingLimited}
-use Rattle.bw_exchange.specs.Served.{most_reads}
+use Rattle.bw_exchange.specs.WholeExchanges.{most_reads}
 
 -- how an exchange ends whose batch broke off at a write, by how its hearing did: lack of memory
 -- takes precedence

@@ -8,7 +8,7 @@ use Rattle.bw_model.specs.CountedTurn.{is_delayed}
 use Rattle.bw_journal.specs.declared.journal.Journal.{Ghosts as JournalGhosts}
 use Rattle.bw_session.specs.Books.{failures_of, HoldsBook, NotesBook}
 use Rattle.bw_session.specs.declared.server.Server.{Server}
-use Rattle.bw_exchange.specs.Answering.{Answered, AnswersAll, replies_of}
+use Rattle.bw_exchange.specs.AnsweredFrames.{Answered, AnswersAll, replies_of}
 use Rattle.bw_exchange.specs.TurnRuns.{IsRun}
 use Rattle.bw_session.specs.ServerTurns.{most_replies, ServerTurn}
 use Rattle.bw_session.specs.SeenServers.{server_store, server_journal, server_limit}

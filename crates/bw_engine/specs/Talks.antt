@@ -7,16 +7,16 @@ use Rattle.bw_stream.specs.declared.source.Source.{Ghosts as Reader}
 use Rattle.bw_sender.specs.declared.sender.Sender.{Sender}
 use Rattle.bw_wire.specs.Codecs.{reply_codec}
 use Rattle.bw_wire.specs.Held.{longest_piece, longest_stream}
-use Rattle.bw_wire.specs.Pending.{Pending, Nothing, next_of}
+use Rattle.bw_wire.specs.FramerStates.{Pending, Nothing, next_of}
 use Rattle.bw_engine.specs.declared.send_fault.SendFault.{SendFault}
 use Rattle.bw_engine.specs.declared.send_fault.SendFault.TheVariants as faults
 use Rattle.bw_engine.specs.declared.stop.Stop.{Stop}
 use Rattle.bw_engine.specs.declared.talk.Listened.{Listened}
 use Rattle.bw_engine.specs.declared.talk.Listened.TheVariants as listens
 use Rattle.bw_engine.specs.declared.talk.Talk.{Talk}
-use Rattle.bw_exchange.specs.Served.{HasGiven, HasNoneLeft}
+use Rattle.bw_exchange.specs.WholeExchanges.{HasGiven, HasNoneLeft}
 use Rattle.bw_engine.specs.Hears.{CountsAll, GaveReplies, IsAllHeard, IsHeardUpTo}
-use Rattle.bw_engine.specs.Listening.{NotesStop}
+use Rattle.bw_engine.specs.LinkReplies.{NotesStop}
 
 -- the first number that wasn't said over the link
 abbrev pub first_unsaid : Talk → ℕ

@@ -5,11 +5,11 @@ ghost use Rattle.bw_model.specs.Wire.{are_bytes};
 ghost use Rattle.bw_stream.specs.Moves.{one_more};
 ghost use Rattle.bw_wire.specs.Codecs.{reply_codec};
 ghost use Rattle.bw_wire.specs.Held.{longest_piece, longest_stream};
-ghost use Rattle.bw_wire.specs.Pending.{Nothing, next_of, with_piece, end_fault};
+ghost use Rattle.bw_wire.specs.FramerStates.{Nothing, next_of, with_piece, end_fault};
 ghost use Rattle.bw_engine.specs.declared.send_fault.SendFault.TheVariants.{BadReply};
 ghost use Rattle.bw_engine.specs.Hears.{Hears, hears_failed, IsHearingLimited, HearsMore};
 ghost use Rattle.bw_engine.specs.Hears.{ReportsFault, ReadsReplies, StopsHearing};
-ghost use Rattle.bw_exchange.specs.Served.{most_reads};
+ghost use Rattle.bw_exchange.specs.WholeExchanges.{most_reads};
 
 use crate::send_fault::SendFault;
 use crate::talk::PIECE;

@@ -1,8 +1,8 @@
 //! Runs over memory: each input served as an exchange, one after another, over one store.
 ghost use Rattle.std.specs.Prelude.{◌≡◌, IsTrue, IfOk, OnErr, IfErr, MatchResult};
-ghost use Rattle.bw_engine.specs.Ingesting.{ServesInput, ServesFirst, ServesInputs, ServesInPart};
-ghost use Rattle.bw_engine.specs.Ingesting.{Ingests, IngestsInPart, GoWell, RunsAsDefined};
-ghost use Rattle.bw_engine.specs.Ingesting.{input_bytes};
+ghost use Rattle.bw_engine.specs.IngestRuns.{ServesInput, ServesFirst, ServesInputs, ServesInPart};
+ghost use Rattle.bw_engine.specs.IngestRuns.{Ingests, IngestsInPart, GoWell, RunsAsDefined};
+ghost use Rattle.bw_engine.specs.IngestRuns.{input_bytes};
 
 use bw_exchange::{ExchangeEnd, Turns, serve_exchange};
 use bw_journal::{Journal, NoJournal};

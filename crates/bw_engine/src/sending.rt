@@ -5,7 +5,7 @@ ghost use Rattle.bw_model.specs.Stream.{frames_bytes};
 ghost use Rattle.bw_model.specs.World.{Sender as Defined};
 ghost use Rattle.bw_stream.specs.Moves.{Writes, Begins};
 ghost use Rattle.bw_sender.specs.Senders.{IsSender};
-ghost use Rattle.bw_wire.specs.Encoded.{said};
+ghost use Rattle.bw_wire.specs.EncodedFrames.{said};
 ghost use Rattle.bw_engine.specs.declared.send_fault.SendFault.TheVariants.{Write};
 ghost use Rattle.bw_engine.specs.Batches.{pending_messages, batch_bytes, BreaksBatch, sends_failed};
 ghost use Rattle.bw_engine.specs.Batches.{WritesMessages, WritesBatch, BreaksBytes, BreaksFrame};

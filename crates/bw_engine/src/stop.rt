@@ -1,6 +1,6 @@
 //! Which replies stop a sender's talk.
 ghost use Rattle.std.specs.Prelude.{◌≡◌};
-ghost use Rattle.bw_sender.specs.Hearing.{heard_of};
+ghost use Rattle.bw_sender.specs.HeardReplies.{heard_of};
 ghost use Rattle.bw_wire.specs.Replies.{reply_of};
 ghost use Rattle.bw_wire.specs.Notices.{notice_meaning};
 ghost use Rattle.bw_engine.specs.Stops.{stop_by as stops_by, stop_of_notice};

@@ -7,14 +7,14 @@ ghost use Rattle.bw_model.specs.Wire.{Second, last_number};
 ghost use Rattle.bw_sender.specs.Senders.{IsSender};
 ghost use Rattle.bw_wire.specs.Codecs.{reply_codec};
 ghost use Rattle.bw_wire.specs.Held.{longest_piece};
-ghost use Rattle.bw_wire.specs.Pending.{Nothing, next_of};
+ghost use Rattle.bw_wire.specs.FramerStates.{Nothing, next_of};
 ghost use Rattle.bw_engine.specs.declared.send_fault.SendFault.TheVariants.{BadReply};
 ghost use Rattle.bw_engine.specs.Batches.{BreaksBatch, WritesMessages, messages, sends_failed};
 ghost use Rattle.bw_engine.specs.Hears.{ReportsFault};
-ghost use Rattle.bw_engine.specs.Saying.{numbered_from, unsaid_messages, BreaksOffSaying};
-ghost use Rattle.bw_engine.specs.Listening.{HearsThese, HearsNext, NotesStop};
+ghost use Rattle.bw_engine.specs.SaidMessages.{numbered_from, unsaid_messages, BreaksOffSaying};
+ghost use Rattle.bw_engine.specs.LinkReplies.{HearsThese, HearsNext, NotesStop};
 ghost use Rattle.bw_engine.specs.Stops.{first_of};
-ghost use Rattle.bw_engine.specs.Listening.{PartsWith};
+ghost use Rattle.bw_engine.specs.LinkReplies.{PartsWith};
 
 use crate::hearing::{end_of_input, read_piece};
 use crate::send_fault::SendFault;

@@ -12,9 +12,9 @@ use Rattle.bw_model.specs.Replies.{Reply, reply_body, is_reply}
 use Rattle.bw_model.specs.Stream.{End}
 use Rattle.bw_model.specs.Exchange.{replies_bytes}
 use Rattle.bw_wire.specs.Codecs.{Codec, message_codec}
-use Rattle.bw_wire.specs.Pending.{Pending, fresh, with_piece, next_of}
+use Rattle.bw_wire.specs.FramerStates.{Pending, fresh, with_piece, next_of}
 use Rattle.bw_wire.specs.Runs.{Call, Feeds, Takes, piece_of, fed_in, Run, given_by, with_call, with_calls, framer_run}
-use Rattle.bw_exchange.specs.Answering.{Answered, answered_frames, replies_of}
+use Rattle.bw_exchange.specs.AnsweredFrames.{Answered, answered_frames, replies_of}
 use Rattle.bw_exchange.specs.Done.{EndsSo, last_of, Done}
 
 with_calls-append : {X : Type 0} (codec : Codec X) (r : Run X) (calls : List Call) (c : Call) →

@@ -14,11 +14,11 @@ use Rattle.bw_exchange.specs.declared.serving.ExchangeEnd.{ExchangeEnd}
 use Rattle.bw_exchange.specs.declared.serving.ExchangeEnd.TheVariants as ends
 use Rattle.bw_exchange.specs.declared.step.StreamEnd.{StreamEnd}
 use Rattle.bw_exchange.specs.declared.step.StreamEnd.TheVariants as streams
-use Rattle.bw_exchange.specs.Answering.{Answered, answered_frames, replies_of}
+use Rattle.bw_exchange.specs.AnsweredFrames.{Answered, answered_frames, replies_of}
 use Rattle.bw_exchange.specs.Ends.{end_meaning, end_so_far, IsFinal}
 use Rattle.bw_exchange.specs.Done.{last_of, AreFirstOf}
-use Rattle.bw_exchange.specs.Served.{most_reads, ended_by, HasGiven, HasNoneLeft, ReachesEnd, AnswersAllRead, EndsBy}
-use Rattle.bw_exchange.specs.Served.{Serves, ReadsNoFurther, reads_failed, writes_failed, IsLimited}
+use Rattle.bw_exchange.specs.WholeExchanges.{most_reads, ended_by, HasGiven, HasNoneLeft, ReachesEnd, AnswersAllRead, EndsBy}
+use Rattle.bw_exchange.specs.WholeExchanges.{Serves, ReadsNoFurther, reads_failed, writes_failed, IsLimited}
 use Rattle.bw_wire.specs.Held.{longest_message_piece}
 use Rattle.bw_exchange.specs.Pieces.{FeedsNext, StopsReading, WritesAnswers, StopsWriting}
 use Rattle.bw_exchange.proofs.Going.{answers_append}

@@ -8,13 +8,13 @@ use Rattle.bw_model.specs.Replies.{Reply, is_reply}
 use Rattle.bw_model.specs.Stream.{End}
 use Rattle.bw_model.specs.Exchange.{replies_bytes, last_reply}
 use Rattle.bw_wire.specs.Codecs.{message_codec}
-use Rattle.bw_wire.specs.Pending.{Pending, Reported, Gives, Fails, next_of}
+use Rattle.bw_wire.specs.FramerStates.{Pending, Reported, Gives, Fails, next_of}
 use Rattle.bw_wire.specs.Reasons.{reason_meaning}
 use Rattle.bw_wire.specs.Runs.{given_by}
 use Rattle.bw_exchange.specs.declared.exchange.Exchange.{Exchange}
 use Rattle.bw_exchange.specs.declared.step.StreamEnd.{StreamEnd}
 use Rattle.bw_exchange.specs.declared.step.StreamEnd.TheVariants as ends
-use Rattle.bw_exchange.specs.Answering.{Answered, AnswersAll}
+use Rattle.bw_exchange.specs.AnsweredFrames.{Answered, AnswersAll}
 use Rattle.bw_exchange.specs.Ends.{end_meaning, end_so_far}
 use Rattle.bw_exchange.specs.Steps.{ReportsEnd}
 use Rattle.bw_exchange.specs.Done.{EndsSo, Done, DoesMore}

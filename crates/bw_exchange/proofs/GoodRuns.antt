@@ -16,7 +16,7 @@ use Rattle.bw_model.specs.CountedTurn.{IsTurn, IsWithoutRoom, is_pending, stops_
 use Rattle.bw_model.specs.NumberOrder.{AreInOrder, IsNextOrReceived, reports_failure, lacks}
 use Rattle.bw_model.proofs.BookLemmas.{log-with_log_same}
 use Rattle.bw_model.proofs.OrderLaws.{nothing_pends}
-use Rattle.bw_exchange.specs.Answering.{Answered, answered_frames, replies_of}
+use Rattle.bw_exchange.specs.AnsweredFrames.{Answered, answered_frames, replies_of}
 use Rattle.bw_exchange.specs.TurnRuns.{IsRun, TurnsAreRuns, IsGoodRun, OrderHoldsUnderFaults, answers_in, run_without_faults}
 
 pub turns_are_runs : TurnsAreRuns

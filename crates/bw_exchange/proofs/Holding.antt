@@ -9,9 +9,9 @@ use Rattle.bw_model.specs.Stream.{longest_body, framing_faults, before, first_fr
 use Rattle.bw_model.proofs.FrameLaws.{has_body, first_by, first_frame-by}
 use Rattle.bw_wire.specs.Codecs.{message_codec}
 use Rattle.bw_wire.specs.Held.{longest_rest}
-use Rattle.bw_wire.specs.Pending.{Phase, Reading, Left, Failed, Pending, Reported, Nothing, compacted, next_of}
-use Rattle.bw_wire.specs.Pending.{HasBoundedBlock}
-use Rattle.bw_wire.specs.Pending.{KeepsAtMost, HoldsLittle}
+use Rattle.bw_wire.specs.FramerStates.{Phase, Reading, Left, Failed, Pending, Reported, Nothing, compacted, next_of}
+use Rattle.bw_wire.specs.FramerStates.{HasBoundedBlock}
+use Rattle.bw_wire.specs.FramerStates.{KeepsAtMost, HoldsLittle}
 use Rattle.bw_wire.specs.Runs.{given_by}
 use Rattle.bw_wire.proofs.FramerLaws.{next_of-left, next_of-failed, next_of-partial, next_of-bad, next_of-value}
 use Rattle.bw_wire.proofs.FramerLaws.{next_of-last, cut_or_not}

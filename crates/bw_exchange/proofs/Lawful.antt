@@ -8,15 +8,15 @@ use Rattle.std.proofs.lemmas.List.Folds.{list_all-append}
 use Rattle.bw_model.specs.Wire.{Second, Frame, Says, Asks, Bye, Reason, is_below, are_bytes}
 use Rattle.bw_model.specs.Stream.{first_frame, End, EndOfInput, SaidBye, BadFrame, stream_of}
 use Rattle.bw_wire.specs.Codecs.{message_codec}
-use Rattle.bw_wire.specs.Pending.{Phase, Reading, Left, Failed, Pending, Reported, Nothing, Fails, fresh, next_of}
-use Rattle.bw_wire.specs.Pending.{with_piece, cut_off, end_in}
+use Rattle.bw_wire.specs.FramerStates.{Phase, Reading, Left, Failed, Pending, Reported, Nothing, Fails, fresh, next_of}
+use Rattle.bw_wire.specs.FramerStates.{with_piece, cut_off, end_in}
 use Rattle.bw_wire.specs.Runs.{Call, Feeds, Takes, fed_in, Run, framer_run, with_call, with_calls, input_end}
 use Rattle.bw_wire.specs.Runs.{FollowsStream}
 use Rattle.bw_wire.specs.Runs.{RunsFollowStreams}
 use Rattle.bw_wire.proofs.FramerLaws.{next_of-left, next_of-failed, next_of-partial, next_of-bad, next_of-value}
 use Rattle.bw_wire.proofs.FramerLaws.{next_of-last, cut_or_not}
 use Rattle.bw_exchange.specs.declared.exchange.Exchange.{Exchange}
-use Rattle.bw_exchange.specs.Answering.{Answered, answered_frames}
+use Rattle.bw_exchange.specs.AnsweredFrames.{Answered, answered_frames}
 use Rattle.bw_exchange.specs.declared.step.StreamEnd.{StreamEnd}
 use Rattle.bw_exchange.specs.declared.step.StreamEnd.TheVariants as ends
 use Rattle.bw_exchange.specs.Steps.{ReportsEnd}

@@ -2,8 +2,8 @@
 use Rattle.std.proofs.Common.{◌≡◌, List, [], ◌∷◌, fold, ap, ◌∙◌}
 use Rattle.bw_model.specs.Wire.{Frame}
 use Rattle.bw_model.specs.Replies.{Reply}
-use Rattle.bw_exchange.specs.Answering.{Answered, AnswersAll, answered_frames}
-use Rattle.bw_exchange.specs.Metered.{AnswersCounted}
+use Rattle.bw_exchange.specs.AnsweredFrames.{Answered, AnswersAll, answered_frames}
+use Rattle.bw_exchange.specs.MeteredServers.{AnswersCounted}
 use Rattle.bw_exchange.specs.LinkCounts.{counting_frame}
 use Rattle.bw_exchange.specs.declared.link_stats.Metered.{Metered}
 

@@ -3,7 +3,7 @@ use Rattle.std.proofs.Common.{◌≡◌, ℕ, ◌<◌, List, [], ◌++◌, take,
 use Rattle.std.proofs.Common.{append_assoc}
 use Rattle.std.proofs.lemmas.List.{append-nil, take-append-drop}
 use Rattle.bw_stream.specs.Moves.{Keeps, Reads, Writes, Begins}
-use Rattle.bw_exchange.specs.Served.{HasGiven, HasNoneLeft}
+use Rattle.bw_exchange.specs.WholeExchanges.{HasGiven, HasNoneLeft}
 
 -- a reader that keeps its bytes gave none
 pub has_given-none : (left left' : Option (List ℕ)) → Keeps left left' → HasGiven left [] left'

@@ -4,8 +4,8 @@ use Rattle.std.proofs.Common.{inl, inr}
 use Rattle.bw_model.specs.Wire.{Second, Frame, Says, Asks, Bye, Reason, Cut}
 use Rattle.bw_model.specs.Stream.{first_frame}
 use Rattle.bw_wire.specs.Codecs.{message_codec}
-use Rattle.bw_wire.specs.Pending.{Phase, Reading, Left, Failed, Pending, Reported, Nothing, Gives, Fails, fresh}
-use Rattle.bw_wire.specs.Pending.{compacted, emptied, next_of}
+use Rattle.bw_wire.specs.FramerStates.{Phase, Reading, Left, Failed, Pending, Reported, Nothing, Gives, Fails, fresh}
+use Rattle.bw_wire.specs.FramerStates.{compacted, emptied, next_of}
 use Rattle.bw_wire.proofs.FramerLaws.{next_of-left, next_of-failed, next_of-partial, next_of-bad, next_of-value}
 use Rattle.bw_wire.proofs.FramerLaws.{next_of-last, cut_or_not}
 

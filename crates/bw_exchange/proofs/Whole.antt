@@ -10,10 +10,10 @@ use Rattle.bw_stream.specs.Moves.{one_more, Writes}
 use Rattle.bw_wire.specs.Held.{longest_message_piece}
 use Rattle.bw_wire.proofs.StreamRuns.{runs_follow_streams}
 use Rattle.bw_exchange.specs.declared.exchange.Exchange.{Exchange}
-use Rattle.bw_exchange.specs.Answering.{Answered, AnswersAll}
+use Rattle.bw_exchange.specs.AnsweredFrames.{Answered, AnswersAll}
 use Rattle.bw_exchange.specs.Ends.{end_so_far}
 use Rattle.bw_exchange.specs.Done.{HasDone, DoesMore, IsIdle}
-use Rattle.bw_exchange.specs.Served.{HasGiven}
+use Rattle.bw_exchange.specs.WholeExchanges.{HasGiven}
 use Rattle.bw_exchange.specs.Pieces.{FeedsNext, WritesAnswers}
 use Rattle.bw_exchange.proofs.Doing.{same_done}
 use Rattle.bw_exchange.proofs.Going.{answers_append, does_on}

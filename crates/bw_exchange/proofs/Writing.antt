@@ -14,10 +14,10 @@ use Rattle.bw_stream.specs.Moves.{Writes, Begins}
 use Rattle.bw_wire.proofs.StreamRuns.{runs_follow_streams}
 use Rattle.bw_exchange.specs.declared.exchange.Exchange.{Exchange}
 use Rattle.bw_exchange.specs.declared.step.StreamEnd.{StreamEnd}
-use Rattle.bw_exchange.specs.Answering.{Answered, answered_frames, replies_of}
+use Rattle.bw_exchange.specs.AnsweredFrames.{Answered, answered_frames, replies_of}
 use Rattle.bw_exchange.specs.Ends.{end_so_far, IsFinal}
 use Rattle.bw_exchange.specs.Done.{last_of, HasDone, DoesMore, AnswersUpTo, AreFirstOf}
-use Rattle.bw_exchange.specs.Served.{IsBrokenOff}
+use Rattle.bw_exchange.specs.WholeExchanges.{IsBrokenOff}
 use Rattle.bw_exchange.specs.Pieces.{WritesAnswers, StopsWriting}
 use Rattle.bw_exchange.proofs.Doing.{same_done}
 use Rattle.bw_exchange.proofs.Going.{none_so_far, answers_append, does_on}

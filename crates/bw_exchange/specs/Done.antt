@@ -7,10 +7,10 @@ use Rattle.bw_model.specs.Replies.{Reply, is_reply}
 use Rattle.bw_model.specs.Stream.{End, EndOfInput, SaidBye, BadFrame, stream_of}
 use Rattle.bw_model.specs.Exchange.{replies_bytes, last_reply}
 use Rattle.bw_wire.specs.Codecs.{message_codec}
-use Rattle.bw_wire.specs.Pending.{Pending, Nothing, Gives, Fails, next_of, end_fault}
+use Rattle.bw_wire.specs.FramerStates.{Pending, Nothing, Gives, Fails, next_of, end_fault}
 use Rattle.bw_wire.specs.Runs.{Call, fed_in, framer_run}
 use Rattle.bw_exchange.specs.declared.exchange.Exchange.{Exchange}
-use Rattle.bw_exchange.specs.Answering.{Answered, answered_frames, replies_of, AnswersAll}
+use Rattle.bw_exchange.specs.AnsweredFrames.{Answered, answered_frames, replies_of, AnswersAll}
 use Rattle.bw_exchange.specs.Bounds.{most_before_answer}
 use Rattle.bw_exchange.specs.Ends.{end_so_far, IsFinal}
 use Rattle.bw_exchange.specs.Parts.{wants_piece, end_of, waiting_in, pending_of}

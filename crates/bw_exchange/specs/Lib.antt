@@ -1,13 +1,13 @@
-pub mod Answering
+pub mod AnsweredFrames
 pub mod Bounds
 pub mod Ends
-pub mod Feeding
+pub mod FeedResults
 pub mod Steps
 pub mod Parts
 pub mod Done
-pub mod Served
+pub mod WholeExchanges
 pub mod Pieces
 pub mod TurnRuns
 pub mod LinkCounts
-pub mod Metered
+pub mod MeteredServers
 pub mod EndNames

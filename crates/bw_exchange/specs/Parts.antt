@@ -1,6 +1,6 @@
 -- What its users know of an exchange.
 use Rattle.std.specs.Prelude.{ℕ, Bool, Option, List, vec_capacity}
-use Rattle.bw_wire.specs.Pending.{Pending}
+use Rattle.bw_wire.specs.FramerStates.{Pending}
 use Rattle.bw_exchange.specs.declared.exchange.Exchange.{Exchange}
 use Rattle.bw_exchange.specs.declared.step.StreamEnd.{StreamEnd}
 

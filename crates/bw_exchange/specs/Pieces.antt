@@ -10,11 +10,11 @@ use Rattle.bw_wire.specs.Held.{longest_message_piece}
 use Rattle.bw_exchange.specs.declared.exchange.Exchange.{Exchange}
 use Rattle.bw_exchange.specs.declared.serving.ExchangeEnd.{ExchangeEnd}
 use Rattle.bw_exchange.specs.declared.serving.ExchangeEnd.TheVariants as ends
-use Rattle.bw_exchange.specs.Answering.{Answered, answered_frames, replies_of, AnswersAll}
+use Rattle.bw_exchange.specs.AnsweredFrames.{Answered, answered_frames, replies_of, AnswersAll}
 use Rattle.bw_exchange.specs.Ends.{end_so_far, IsFinal}
 use Rattle.bw_exchange.specs.Parts.{end_of, waiting_in}
 use Rattle.bw_exchange.specs.Done.{HasDone, DoesMore, AreFirstOf}
-use Rattle.bw_exchange.specs.Served.{HasGiven, HasNoneLeft, IsBrokenOff}
+use Rattle.bw_exchange.specs.WholeExchanges.{HasGiven, HasNoneLeft, IsBrokenOff}
 
 -- a piece was read and fed; or the input ended, and the exchange with it
 pub record FeedsNext (left left' : Option (List ℕ)) (moved moved' : ℕ) (e e' : Exchange)

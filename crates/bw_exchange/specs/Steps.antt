@@ -5,7 +5,7 @@ use Rattle.bw_model.specs.Wire.{Frame, Bye}
 use Rattle.bw_model.specs.Replies.{Reply, is_reply}
 use Rattle.bw_model.specs.Exchange.{replies_bytes, last_reply}
 use Rattle.bw_wire.specs.Codecs.{message_codec}
-use Rattle.bw_wire.specs.Pending.{Pending, Reported, Nothing, Gives, Fails, next_of, HoldsLittle}
+use Rattle.bw_wire.specs.FramerStates.{Pending, Reported, Nothing, Gives, Fails, next_of, HoldsLittle}
 use Rattle.bw_wire.specs.Reasons.{reason_meaning}
 use Rattle.bw_wire.specs.Runs.{given_by}
 use Rattle.bw_exchange.specs.declared.step.Step.{Step}

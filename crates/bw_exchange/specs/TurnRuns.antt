@@ -6,7 +6,7 @@ use Rattle.bw_model.specs.Book.{Book}
 use Rattle.bw_model.specs.Turn.{Faults, Turn, good, run, book_after}
 use Rattle.bw_model.specs.CountedTurn.{IsTurn}
 use Rattle.bw_model.specs.NumberOrder.{AreInOrder, reports_failure}
-use Rattle.bw_exchange.specs.Answering.{Answered, answered_frames, replies_of}
+use Rattle.bw_exchange.specs.AnsweredFrames.{Answered, answered_frames, replies_of}
 
 -- A server whose store's failures were counted before and after may answer these frames so, one
 -- turn after another, and have the later book then.

@@ -3,10 +3,10 @@ ghost use Rattle.std.specs.Prelude.{◌≡◌, ◌+◌, ◌≤◌, [], length, t
 ghost use Rattle.std.specs.Prelude.{OnErr, None, vec_len, vec_capacity, is_some, if◌then◌else◌};
 ghost use Rattle.bw_wire.specs.Codecs.{message_codec};
 ghost use Rattle.bw_wire.specs.Held.{longest_rest, longest_message_piece};
-ghost use Rattle.bw_wire.specs.Pending.{Nothing, next_of, KeepsAtMost, HasBoundedBlock};
+ghost use Rattle.bw_wire.specs.FramerStates.{Nothing, next_of, KeepsAtMost, HasBoundedBlock};
 ghost use Rattle.bw_exchange.specs.Bounds.{longest_reply_frame, longest_answer, most_waiting};
 ghost use Rattle.bw_exchange.specs.Bounds.{most_held, most_before_answer};
-ghost use Rattle.bw_exchange.specs.Feeding.{IsFeeding};
+ghost use Rattle.bw_exchange.specs.FeedResults.{IsFeeding};
 
 use crate::outgoing::{drop_prefix, put_bad_frame};
 use crate::step::{Step, StreamEnd, take_next};

@@ -143,7 +143,7 @@ pub struct Metered<T> {
 }
 
 impl<T> Metered<T> {
-    ghost use Rattle.bw_exchange.specs.Metered.{metered_server, metered_counts};
+    ghost use Rattle.bw_exchange.specs.MeteredServers.{metered_server, metered_counts};
 
     /// Wraps a server; nothing is counted yet.
     pub fn new(server: T) -> Metered<T>
@@ -189,7 +189,7 @@ impl<T> Metered<T> {
 }
 
 impl<T: Turns> Turns for Metered<T> {
-    ghost use Rattle.bw_exchange.specs.Metered.{AnswersCounted};
+    ghost use Rattle.bw_exchange.specs.MeteredServers.{AnswersCounted};
 
     ghost answers = { AnswersCounted T.answers };
 

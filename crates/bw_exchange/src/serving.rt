@@ -7,7 +7,7 @@ ghost use Rattle.bw_wire.specs.Held.{longest_message_piece, longest_stream};
 ghost use Rattle.bw_exchange.specs.declared.serving.ExchangeEnd.TheVariants.{Memory};
 ghost use Rattle.bw_exchange.specs.Parts.{wants_piece, end_of, waiting_in, pending_of};
 ghost use Rattle.bw_exchange.specs.Done.{DoesMore, IsIdle};
-ghost use Rattle.bw_exchange.specs.Served.{most_reads, reads_failed, writes_failed, IsLimited, Serves};
+ghost use Rattle.bw_exchange.specs.WholeExchanges.{most_reads, reads_failed, writes_failed, IsLimited, Serves};
 ghost use Rattle.bw_exchange.specs.Pieces.{FeedsNext, StopsReading, WritesAnswers, StopsWriting};
 
 use crate::exchange::{Exchange, FeedError};
@@ -44,7 +44,7 @@ pub enum ExchangeEnd {
 }
 
 impl From<StreamEnd> for ExchangeEnd {
-    ghost use Rattle.bw_exchange.specs.Served.{ended_by};
+    ghost use Rattle.bw_exchange.specs.WholeExchanges.{ended_by};
 
     ghost from_gives = { λ end result. result ≡ ended_by end };
 

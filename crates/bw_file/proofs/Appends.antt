@@ -10,7 +10,7 @@ use Rattle.bw_model.specs.File.{file_with, file_of, Repairable}
 use Rattle.bw_model.specs.Holds.{IsBetween}
 use Rattle.bw_model.proofs.HeaderLaws.{length-header}
 use Rattle.bw_store.specs.Stores.{MayTear}
-use Rattle.bw_file.specs.Growing.{Growing, IsReady}
+use Rattle.bw_file.specs.GrowingFiles.{Growing, IsReady}
 use Rattle.bw_layout.specs.declared.heading.Heading.{Heading}
 use Rattle.bw_layout.specs.Headings.{header_of, place_of}
 use Rattle.bw_file.specs.Headers.{PutsLast, PutsOver}

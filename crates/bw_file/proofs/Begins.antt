@@ -8,7 +8,7 @@ use Rattle.bw_model.specs.File.{file_with, file_of, header, data_place}
 use Rattle.bw_model.specs.Holds.{IsBetween}
 use Rattle.bw_model.proofs.HeaderLaws.{length-header}
 use Rattle.bw_store.specs.Stores.{MayTear}
-use Rattle.bw_file.specs.Growing.{IsFresh}
+use Rattle.bw_file.specs.GrowingFiles.{IsFresh}
 use Rattle.bw_file.specs.Headers.{PutsLast}
 use Rattle.bw_file.proofs.Files.{file_open}
 

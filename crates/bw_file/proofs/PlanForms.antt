@@ -7,7 +7,7 @@ use Rattle.bw_model.specs.Take.{Parts}
 use Rattle.bw_store.specs.Calls.{WriteAt, Finish}
 use Rattle.bw_file.specs.Plans.{samples_plan, cues_plan, sizes_plan, form_plan, grown_plan, closed_plan, append_plan}
 use Rattle.bw_file.specs.Plans.{close_plan}
-use Rattle.bw_file.specs.Growing.{Growing}
+use Rattle.bw_file.specs.GrowingFiles.{Growing}
 use Rattle.bw_layout.specs.declared.heading.Heading.{Heading}
 use Rattle.bw_layout.specs.Headings.{place_of, fits_riff}
 

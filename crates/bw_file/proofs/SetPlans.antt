@@ -8,7 +8,7 @@ use Rattle.bw_model.specs.Take.{Parts, shape_of, with_field}
 use Rattle.bw_layout.specs.Places.{field_part, range_of}
 use Rattle.bw_store.specs.Calls.{StoreCall, Gets, GetsFirst}
 use Rattle.bw_file.specs.Plans.{set_plan, range_plan, retouch_plan}
-use Rattle.bw_file.specs.Growing.{Growing}
+use Rattle.bw_file.specs.GrowingFiles.{Growing}
 use Rattle.bw_file.specs.OneField.{DiffersInField}
 use Rattle.bw_layout.specs.Headings.{header_of, place_of}
 use Rattle.bw_layout.specs.declared.heading.Heading.{Heading}

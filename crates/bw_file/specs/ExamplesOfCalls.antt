@@ -2,7 +2,7 @@
 use Rattle.std.specs.Prelude.{◌≡◌, ℕ, Bool, true, false, List, [], ◌∷◌, ◌++◌, Some, codes}
 use Rattle.bw_model.specs.Take.{Parts, no_fields}
 use Rattle.bw_store.specs.Calls.{StoreCall, Create, WriteAt, Finish}
-use Rattle.bw_file.specs.Growing.{Growing, clean_file}
+use Rattle.bw_file.specs.GrowingFiles.{Growing, clean_file}
 use Rattle.bw_file.specs.Plans.{begin_plan, append_plan, close_plan}
 
 -- a take of 48,000 Hz, one channel, 16 bits, with this much data and these markers

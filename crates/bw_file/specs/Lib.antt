@@ -5,7 +5,7 @@ pub use Rattle.bw_store.specs.Fuses
 pub use Rattle.bw_store.specs.Memory
 pub use Rattle.bw_store.specs.MemoryNames
 pub mod Conditions
-pub mod Growing
+pub mod GrowingFiles
 pub mod Headers
 pub mod Plans
 pub mod OneField

@@ -6,7 +6,7 @@ use Rattle.bw_model.specs.Take.{Parts}
 use Rattle.bw_model.specs.File.{form_size, data_place}
 use Rattle.bw_layout.specs.Places.{field_part, range_of}
 use Rattle.bw_store.specs.Calls.{StoreCall, Create, WriteAt, Finish}
-use Rattle.bw_file.specs.Growing.{Growing}
+use Rattle.bw_file.specs.GrowingFiles.{Growing}
 
 -- a name, unless it is made
 abbrev pub name_plan : List ℕ → Bool → List StoreCall

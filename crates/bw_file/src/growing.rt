@@ -7,8 +7,8 @@ ghost use Rattle.bw_model.specs.Take.{frames, with_field};
 ghost use Rattle.bw_model.specs.Wire.{is_request};
 ghost use Rattle.bw_store.specs.StoreSteps.{Shared, WasAsked, WasAskedFirst};
 ghost use Rattle.bw_file.specs.Plans.{name_plan, begin_plan, append_plan, retouch_plan, close_plan};
-ghost use Rattle.bw_file.specs.Growing.{Growing, Stores, SetsOneField, BeginsFile, AsksForName, IsFresh};
-ghost use Rattle.bw_file.specs.Growing.{is_new, clean_file};
+ghost use Rattle.bw_file.specs.GrowingFiles.{Growing, Stores, SetsOneField, BeginsFile, AsksForName, IsFresh};
+ghost use Rattle.bw_file.specs.GrowingFiles.{is_new, clean_file};
 
 use crate::buffer::Buffer;
 use crate::condition::Condition;
@@ -39,7 +39,7 @@ pub struct GrowingFile {
 
 impl Model for GrowingFile {
     ghost use Rattle.bw_file.specs.Conditions.{is_dirty, is_ahead};
-    ghost use Rattle.bw_file.specs.Growing.{Growing};
+    ghost use Rattle.bw_file.specs.GrowingFiles.{Growing};
 
     ghost Value = { Growing };
 

@@ -2,7 +2,7 @@
 use Rattle.std.proofs.Common.{◌≡◌, List, ℕ, Bool, true, false, Option, Some, None, refl, ap, IsSome, ◌||◌}
 use Rattle.std.specs.Prelude.{if◌then◌else◌}
 use Rattle.bw_journal.specs.JournalHeaders.{Header}
-use Rattle.bw_journal.specs.Resting.{header_beside_rest}
+use Rattle.bw_journal.specs.JournalsAtRest.{header_beside_rest}
 use Rattle.bw_folder.specs.RestingJournals.{resting_header}
 
 or_true : (b : Bool) → (b || true) ≡ true

@@ -6,7 +6,7 @@ use Rattle.std.specs.Option.{option_or}
 use Rattle.std.specs.Str.{bytes_eq}
 use Rattle.bw_model.proofs.BookLemmas.{same_name, name_refl}
 use Rattle.bw_journal.specs.JournalHeaders.{Header}
-use Rattle.bw_journal.specs.Resting.{Journals, SameJournals, PutsToRest, WakesJournal}
+use Rattle.bw_journal.specs.JournalsAtRest.{Journals, SameJournals, PutsToRest, WakesJournal}
 use Rattle.bw_folder.specs.Journals.{journal_path}
 use Rattle.bw_folder.specs.RestingJournals.{closed_path, resting_header, folder_journals, KeepsBeside}
 use Rattle.bw_store.specs.Stores.{KeepsOthers}

@@ -9,7 +9,7 @@ use Rattle.bw_model.proofs.BookLemmas.{same_name, name_refl}
 use Rattle.bw_disk.specs.Volumes.{Moves, Renames, KeepsEach, KeepsAllBut}
 use Rattle.bw_disk.specs.declared.disk.Disk.{Ghosts}
 use Rattle.bw_journal.specs.JournalHeaders.{Header}
-use Rattle.bw_journal.specs.Resting.{Journals, SameJournals}
+use Rattle.bw_journal.specs.JournalsAtRest.{Journals, SameJournals}
 use Rattle.bw_folder.specs.Folders.{take_path}
 use Rattle.bw_folder.specs.Journals.{journal_path, notes_at, existences, existence_of, header_at}
 use Rattle.bw_folder.proofs.Headings.{moved}

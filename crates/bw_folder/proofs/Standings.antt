@@ -7,7 +7,7 @@ use Rattle.bw_model.proofs.BookLemmas.{name_refl}
 use Rattle.bw_disk.specs.Volumes.{KeepsEach}
 use Rattle.bw_disk.specs.declared.disk.Disk.{Ghosts}
 use Rattle.bw_store.specs.Stores.{KeepsOthers}
-use Rattle.bw_journal.specs.Standing.{Standing, Apart, AtRest, AtBoth, is_apart, KeepsStanding, MayStandAtRest, StaysIfClosed}
+use Rattle.bw_journal.specs.Standings.{Standing, Apart, AtRest, AtBoth, is_apart, KeepsStanding, MayStandAtRest, StaysIfClosed}
 use Rattle.bw_journal.proofs.StandingForms.{stays_then, standing_then, may_stand}
 use Rattle.bw_folder.specs.Journals.{journal_path}
 use Rattle.bw_folder.specs.RestingJournals.{closed_path, is_loose, standing_at, noted_at}

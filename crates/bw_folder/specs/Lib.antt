@@ -1,8 +1,8 @@
 pub mod Folders
 pub mod Journals
-pub mod Syncing
+pub mod SyncOrders
 pub mod TakeFolders
 pub mod JournalFolders
 pub mod RestingJournals
 pub mod RestingFolders
-pub mod Becoming
+pub mod FolderConversions

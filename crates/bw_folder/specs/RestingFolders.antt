@@ -1,8 +1,8 @@
 -- What is done to the journals of a folder of which some rest.
 use Rattle.std.specs.Prelude.{◌≡◌, ◌⊎◌, Bool, ℕ, List, Option, Result, IsTrue, IfOk, OnErr}
 use Rattle.std.specs.Prelude.{string_bytes}
-use Rattle.bw_journal.specs.Resting.{Journals}
-use Rattle.bw_journal.specs.Standing.{Standing, KeepsStanding, MayStandAtRest, StandsIf}
+use Rattle.bw_journal.specs.JournalsAtRest.{Journals}
+use Rattle.bw_journal.specs.Standings.{Standing, KeepsStanding, MayStandAtRest, StandsIf}
 use Rattle.bw_disk.specs.DiskSteps.{StaysWhole}
 use Rattle.bw_disk.specs.Volumes.{Moves, Renames, KeepsEach}
 use Rattle.bw_disk.specs.declared.disk.Disk.{Ghosts}

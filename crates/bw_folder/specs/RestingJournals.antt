@@ -5,9 +5,9 @@ use Rattle.std.specs.Option.{option_or}
 use Rattle.std.specs.HashSet.{HashSet, contains}
 use Rattle.std.specs.Str.{bytes_eq}
 use Rattle.bw_journal.specs.JournalHeaders.{Header}
-use Rattle.bw_journal.specs.Resting.{Journals, journals}
+use Rattle.bw_journal.specs.JournalsAtRest.{Journals, journals}
 use Rattle.bw_journal.specs.Notes.{KeepsHeaders, KeepsResting}
-use Rattle.bw_journal.specs.Standing.{Standing, Apart, AtRest, AtBoth}
+use Rattle.bw_journal.specs.Standings.{Standing, Apart, AtRest, AtBoth}
 use Rattle.bw_store.specs.Stores.{KeepsOthers}
 use Rattle.bw_folder.specs.Journals.{journal_path}
 

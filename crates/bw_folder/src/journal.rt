@@ -11,7 +11,7 @@ ghost use Rattle.bw_journal.specs.Notes.{KeepsHeaders};
 ghost use Rattle.bw_folder.specs.Folders.{take_path as path_of_take};
 ghost use Rattle.bw_folder.specs.Journals.{journal_path as path_of_journal, existence_of};
 ghost use Rattle.bw_folder.specs.Journals.{adopted_by, adopted_header};
-ghost use Rattle.bw_folder.specs.Syncing.{NotesPlainly, SyncsInOrder};
+ghost use Rattle.bw_folder.specs.SyncOrders.{NotesPlainly, SyncsInOrder};
 
 use crate::noting::find;
 use crate::paths::journal_path;

@@ -3,8 +3,8 @@
 //! folder itself is synced.
 #![tactic(auto)]
 
-mod becoming;
 mod closing;
+mod conversion;
 mod folder;
 mod heading;
 mod journal;

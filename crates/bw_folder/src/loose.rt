@@ -5,9 +5,9 @@ ghost use Rattle.bw_store.specs.Stores.{KeepsOthers};
 ghost use Rattle.bw_disk.specs.DiskSteps.{StaysWhole};
 ghost use Rattle.bw_disk.specs.Volumes.{KeepsAllBut};
 ghost use Rattle.bw_folder.specs.Folders.{take_path as path_of_take};
-ghost use Rattle.bw_folder.specs.Syncing.{IsSyncedAt};
+ghost use Rattle.bw_folder.specs.SyncOrders.{IsSyncedAt};
 ghost use Rattle.bw_journal.specs.Notes.{BeginsNotes, BeginsInPart, Notes, NotesInPart};
-ghost use Rattle.bw_journal.specs.Resting.{SameJournals, RestsIf, WakesIf, is_woken};
+ghost use Rattle.bw_journal.specs.JournalsAtRest.{SameJournals, RestsIf, WakesIf, is_woken};
 ghost use Rattle.bw_folder.specs.Journals.{journal_path as path_of_journal, existences, existence_of, failure_of};
 ghost use Rattle.bw_folder.specs.RestingJournals.{closed_path as path_of_closed, is_loose, KeepsBeside};
 

@@ -10,7 +10,7 @@ ghost use Rattle.bw_journal.specs.Notes.{KeepsHeaders};
 ghost use Rattle.bw_folder.specs.Folders.{take_path as path_of_take};
 ghost use Rattle.bw_folder.specs.Journals.{journal_path as path_of_journal, notes_at, existences};
 ghost use Rattle.bw_folder.specs.Journals.{existence_of, header_at, failure_of, IsOpenAt};
-ghost use Rattle.bw_folder.specs.Syncing.{NotesPlainly, SyncsInOrder};
+ghost use Rattle.bw_folder.specs.SyncOrders.{NotesPlainly, SyncsInOrder};
 
 use crate::heading::{append, exists, open_or_make, put_header};
 use crate::journal::{FolderJournal, OpenJournal};

@@ -8,8 +8,8 @@ ghost use Rattle.bw_journal.specs.Notes.{BeginsNotes, BeginsInPart, Notes, Notes
 ghost use Rattle.bw_journal.specs.Notes.{KeepsHeaders};
 ghost use Rattle.bw_journal.specs.Notes.{KeepsResting};
 ghost use Rattle.bw_folder.specs.Folders.{take_path as path_of_take};
-ghost use Rattle.bw_folder.specs.Syncing.{IsSyncedAt};
-ghost use Rattle.bw_journal.specs.Resting.{SameJournals, RestsIf, WakesIf, is_woken};
+ghost use Rattle.bw_folder.specs.SyncOrders.{IsSyncedAt};
+ghost use Rattle.bw_journal.specs.JournalsAtRest.{SameJournals, RestsIf, WakesIf, is_woken};
 ghost use Rattle.bw_folder.specs.Journals.{existence_of};
 ghost use Rattle.bw_folder.specs.Journals.{journal_path as path_of_journal};
 ghost use Rattle.bw_folder.specs.RestingJournals.{closed_path as path_of_closed};

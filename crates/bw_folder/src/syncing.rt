@@ -4,7 +4,7 @@ ghost use Rattle.bw_store.specs.Stores.{Written, KeepsOthers};
 ghost use Rattle.bw_disk.specs.Disks.{Syncs};
 ghost use Rattle.bw_disk.specs.DiskSteps.{StaysWhole};
 ghost use Rattle.bw_disk.specs.Volumes.{WrittenInPart, KeepsEach};
-ghost use Rattle.bw_folder.specs.Syncing.{IsSyncedAt};
+ghost use Rattle.bw_folder.specs.SyncOrders.{IsSyncedAt};
 
 use crate::journal::OpenJournal;
 use bw_disk::Volume;

@@ -6,8 +6,8 @@ use Rattle.bw_model.specs.Take.{Request, SetField, Block, block_align}
 use Rattle.bw_plan.specs.Progress.{fields_after, next_step_of}
 use Rattle.bw_plan.specs.Recordings.{Outline, value_under}
 use Rattle.bw_ports.specs.declared.followed.Followed.{Ghosts as FollowedGhosts}
-use Rattle.bw_follow.specs.Following.{PcmProgress, sample_requests, requests_of_step, GivesOf, RequestsLeft, ComesTo}
-use Rattle.bw_follow.specs.Following.{progress_of, TakesSamples, RefusesBlock, RefusesCopying, IsBlockOf}
+use Rattle.bw_follow.specs.ComingRequests.{PcmProgress, sample_requests, requests_of_step, GivesOf, RequestsLeft, ComesTo}
+use Rattle.bw_follow.specs.ComingRequests.{progress_of, TakesSamples, RefusesBlock, RefusesCopying, IsBlockOf}
 use Rattle.bw_follow.specs.Samples.{HeldSamples, HoldsMore}
 use Rattle.bw_follow.specs.declared.fault.PcmFault.{PcmFault}
 use Rattle.bw_follow.specs.declared.fault.PcmFault.TheVariants as faults

@@ -2,7 +2,7 @@
 use Rattle.std.proofs.Common.{◌≡◌, ℕ, ◌+◌, ◌-◌, ◌<◌, ◌≤◌, List, ◌++◌, length, take, drop, Option, sym, ap, ◌∙◌, arith}
 use Rattle.std.proofs.lemmas.List.{drop-take, length-drop, length-take}
 use Rattle.std.proofs.Math.Seq.{take-append_seam}
-use Rattle.bw_follow.specs.Readings.{ReadsAfter}
+use Rattle.bw_follow.specs.FollowedReads.{ReadsAfter}
 use Rattle.bw_follow.specs.Samples.{HeldSamples, HoldsMore}
 
 -- what was read into the room is held

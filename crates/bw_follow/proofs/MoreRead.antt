@@ -2,7 +2,7 @@
 use Rattle.std.proofs.Common.{◌≡◌, ℕ, ◌+◌, ◌≤◌, List, [], ◌++◌, length, take, drop, Option, Some, refl, sym, ◌∙◌, ap, arith}
 use Rattle.std.proofs.lemmas.List.{take-append-le, take_all, length-take-le, append_assoc, take-append-drop}
 use Rattle.std.proofs.Math.Seq.{take-append-add}
-use Rattle.bw_follow.specs.Readings.{ReadsAfter}
+use Rattle.bw_follow.specs.FollowedReads.{ReadsAfter}
 
 some_inj : {X : Type 0} {x y : X} → ◌≡◌ {A = Option X} (Some x) (Some y) → x ≡ y
 some_inj h = cc

@@ -13,7 +13,7 @@ use Rattle.bw_plan.specs.declared.pcm.Pcm.{Pcm}
 use Rattle.bw_plan.proofs.FaultLists.{none_hold}
 use Rattle.bw_plan.proofs.PcmRecordings.{pcm_comes}
 use Rattle.bw_plan.proofs.WholeRecordings.{not_ok, ok_inj}
-use Rattle.bw_follow.specs.Following.{whole_frames, close_after}
+use Rattle.bw_follow.specs.ComingRequests.{whole_frames, close_after}
 
 -- how many samples there are changes nothing else
 other_len : (ss : List Setting) (r : Outline) (n : ℕ) →

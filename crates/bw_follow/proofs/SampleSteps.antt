@@ -8,7 +8,7 @@ use Rattle.std.proofs.lemmas.Nat.{div-mul-add, div-add-mod', mul-le}
 use Rattle.bw_model.specs.Take.{Request, Block, Close}
 use Rattle.bw_plan.specs.Plans.{block_requests, pieces}
 use Rattle.bw_plan.proofs.NextRequests.{first_block}
-use Rattle.bw_follow.specs.Following.{PcmProgress, align_of, size_of, whole_frames, close_after, sample_requests}
+use Rattle.bw_follow.specs.ComingRequests.{PcmProgress, align_of, size_of, whole_frames, close_after, sample_requests}
 
 -- CLOSE counts the frames that were given
 close_moves : (given a q n : ℕ) → 0 < a → close_after given a (q * a + n) ≡ close_after (given + q) a n

@@ -1,3 +1,3 @@
-pub mod Readings
+pub mod FollowedReads
 pub mod Samples
-pub mod Following
+pub mod ComingRequests

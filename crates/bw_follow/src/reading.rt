@@ -1,7 +1,7 @@
 //! What is written of a file so far is read.
 ghost use Rattle.std.specs.Prelude.{◌≡◌, ℕ, List, [], ◌≤◌, ◌<◌, true, Some, OnOk, length};
 ghost use Rattle.bw_stream.specs.Moves.{failures_after};
-ghost use Rattle.bw_follow.specs.Readings.{ReadsAfter};
+ghost use Rattle.bw_follow.specs.FollowedReads.{ReadsAfter};
 
 use bw_ports::Followed;
 use bw_stream::IoFailed;

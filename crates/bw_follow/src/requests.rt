@@ -5,11 +5,11 @@ ghost use Rattle.bw_request.specs.Requests.{meaning};
 ghost use Rattle.bw_plan.specs.Plans.{plan};
 ghost use Rattle.bw_plan.specs.Recordings.{Recording, block_frames as frames_a_block};
 ghost use Rattle.bw_plan.specs.PcmRecordings.{pcm_recording_of, PcmFaultOf};
-ghost use Rattle.bw_follow.specs.Following.{RequestsLeft, GivesFrom, GivesNextRequest, GivesOf};
-ghost use Rattle.bw_follow.specs.Following.{ComesTo, NextComesTo, CountsUnread, TakesSamples};
-ghost use Rattle.bw_follow.specs.Following.{RefusesCopying, RefusesBlock, IsBlockOf};
+ghost use Rattle.bw_follow.specs.ComingRequests.{RequestsLeft, GivesFrom, GivesNextRequest, GivesOf};
+ghost use Rattle.bw_follow.specs.ComingRequests.{ComesTo, NextComesTo, CountsUnread, TakesSamples};
+ghost use Rattle.bw_follow.specs.ComingRequests.{RefusesCopying, RefusesBlock, IsBlockOf};
 ghost use Rattle.bw_follow.specs.declared.state.PcmStep.TheVariants as steps;
-ghost use Rattle.bw_follow.specs.Following.{pcm_step};
+ghost use Rattle.bw_follow.specs.ComingRequests.{pcm_step};
 
 use crate::buffer::SampleBuffer;
 use crate::fault::PcmFault;

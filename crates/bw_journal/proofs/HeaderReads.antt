@@ -12,7 +12,7 @@ use Rattle.bw_model.proofs.BookLemmas.{name_refl}
 use Rattle.bw_journal.specs.Seals.{check}
 use Rattle.bw_journal.specs.JournalHeaders.{Header, existed_flag, flag_of, magic, header_content, header_bytes, header_len}
 use Rattle.bw_journal.specs.JournalHeaders.{header_with, header_in, first_header, is_torn, is_torn_header}
-use Rattle.bw_journal.specs.Noted.{IsHeader, HeadersReadBack, CutHeadersAreNotBegun}
+use Rattle.bw_journal.specs.NotedJournals.{IsHeader, HeadersReadBack, CutHeadersAreNotBegun}
 use Rattle.bw_journal.specs.Replays.{NotBegun, NotAJournal, replay, replayed_after}
 use Rattle.bw_journal.proofs.Lengths.{check-length, header_content_len, length-header_bytes}
 use Rattle.bw_journal.proofs.SealLaws.{opened-sealed, opened-cut}

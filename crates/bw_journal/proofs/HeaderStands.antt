@@ -14,7 +14,7 @@ use Rattle.bw_model.proofs.Elements.{some_inj}
 use Rattle.bw_journal.specs.Seals.{check, sealed, opened}
 use Rattle.bw_journal.specs.JournalHeaders.{Header, existed_flag, flag_of, magic, header_content, header_bytes, header_len}
 use Rattle.bw_journal.specs.JournalHeaders.{header_with, header_in, first_header}
-use Rattle.bw_journal.specs.Noted.{ReadHeadersStand}
+use Rattle.bw_journal.specs.NotedJournals.{ReadHeadersStand}
 use Rattle.bw_journal.proofs.SpeltLaws.{opened_stands}
 
 none_some : {X : Type 0} {x : X} → None ≡ Some x → ⊥

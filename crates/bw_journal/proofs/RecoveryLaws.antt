@@ -14,7 +14,7 @@ use Rattle.bw_model.specs.Wire.{is_request}
 use Rattle.bw_model.specs.File.{file_of}
 use Rattle.bw_model.specs.Book.{Log, log_of, is_known, made, verdict_at}
 use Rattle.bw_model.specs.Holds.{Kept, body_of, finished_from, HasFile, HoldsName}
-use Rattle.bw_journal.specs.Noted.{AdmitsDone, fits}
+use Rattle.bw_journal.specs.NotedJournals.{AdmitsDone, fits}
 use Rattle.bw_journal.specs.Stops.{cut_log, cut_book}
 use Rattle.bw_journal.specs.Recovery.{IsOnTheWay, HeldFilesSurvive, kept_after_stop, kept_after, RecoveryHolds}
 use Rattle.bw_journal.specs.Recovery.{ClosedFilesAreWhole}

@@ -21,8 +21,8 @@ use Rattle.bw_journal.specs.JournalHeaders.{Header, header_bytes, header_len, fi
 use Rattle.bw_journal.specs.Replays.{Story, JournalFault, OtherName, OtherLimit, replayed, replay, replayed_after}
 use Rattle.bw_journal.specs.Replays.{replayed_entries}
 use Rattle.bw_journal.specs.Replays.{reported_with_tail, tail_fault, beginning}
-use Rattle.bw_journal.specs.Noted.{IsNotable, IsHeader, bare_entry, IsCut, AdmitsDone, fits, entries_from, packed}
-use Rattle.bw_journal.specs.Noted.{journal_of, story_of_log, JournalsReportLogs}
+use Rattle.bw_journal.specs.NotedJournals.{IsNotable, IsHeader, bare_entry, IsCut, AdmitsDone, fits, entries_from, packed}
+use Rattle.bw_journal.specs.NotedJournals.{journal_of, story_of_log, JournalsReportLogs}
 use Rattle.bw_journal.proofs.ReplaySteps.{goes_on, stops}
 use Rattle.bw_journal.proofs.Lengths.{sealed-length, length-header_bytes}
 use Rattle.bw_journal.proofs.SealLaws.{content-length, opened-cut, entries_read_back}

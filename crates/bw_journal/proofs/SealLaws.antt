@@ -19,7 +19,7 @@ use Rattle.bw_journal.proofs.Lengths.{check-length, sealed-length, entry_length}
 use Rattle.bw_journal.specs.Seals.{check, sealed, opened, has_length}
 use Rattle.bw_journal.specs.Entries.{JournalEntry, bare, noted, content, entry_in, entry_with_len, first_entry}
 use Rattle.bw_journal.specs.Entries.{request_in, value_in}
-use Rattle.bw_journal.specs.Noted.{IsNotable, bare_entry, JournalEntriesReadBack, EntriesAreShort, CutEntriesAreNone}
+use Rattle.bw_journal.specs.NotedJournals.{IsNotable, bare_entry, JournalEntriesReadBack, EntriesAreShort, CutEntriesAreNone}
 
 -- what is at the start of sealed bytes
 pub sealed_parts : (c more : List ℕ) → length c < 2 ^ 16

@@ -18,7 +18,7 @@ use Rattle.bw_journal.specs.Seals.{check, sealed, opened}
 use Rattle.bw_journal.specs.Entries.{JournalEntry, noted, content, sealed_entry, entry_in, entry_with_len, first_entry}
 use Rattle.bw_journal.specs.Entries.{made_of}
 use Rattle.bw_journal.specs.Entries.{request_in, block_noted, value_in}
-use Rattle.bw_journal.specs.Noted.{ReadEntriesStand}
+use Rattle.bw_journal.specs.NotedJournals.{ReadEntriesStand}
 use Rattle.bw_journal.proofs.EntryReads.{decoded, zeros-length}
 use Rattle.bw_journal.proofs.Lengths.{sealed-length}
 

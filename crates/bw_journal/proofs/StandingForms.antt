@@ -1,6 +1,6 @@
 -- Where journals stand after one call, and after another.
 use Rattle.std.proofs.Common.{ℕ, List, Option, sym, ◌∙◌, ap}
-use Rattle.bw_journal.specs.Standing.{Standing, is_apart, KeepsStanding, MayStandAtRest, StaysIfClosed}
+use Rattle.bw_journal.specs.Standings.{Standing, is_apart, KeepsStanding, MayStandAtRest, StaysIfClosed}
 
 -- one name's journal
 pub stays_then : (a b c : Standing) (n n' n'' : Option (List ℕ)) → StaysIfClosed a b n n' → StaysIfClosed b c n' n'' →

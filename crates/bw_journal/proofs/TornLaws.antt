@@ -10,7 +10,7 @@ use Rattle.bw_model.specs.Wire.{kind}
 use Rattle.bw_journal.specs.Seals.{check, sealed, has_length}
 use Rattle.bw_journal.specs.Entries.{JournalEntry, noted, noted_payload, content, sealed_entry, may_have_length}
 use Rattle.bw_journal.specs.Entries.{is_torn_entry}
-use Rattle.bw_journal.specs.Noted.{IsNotable}
+use Rattle.bw_journal.specs.NotedJournals.{IsNotable}
 use Rattle.bw_journal.proofs.Lengths.{content-long, sealed-length}
 use Rattle.bw_journal.proofs.SealLaws.{content-length, entries_are_short, number_of_cut, sound_cut}
 

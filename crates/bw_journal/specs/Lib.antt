@@ -11,9 +11,9 @@ pub mod Refs
 pub mod HeaderRefs
 pub mod Faults
 pub mod Stories
-pub mod Noted
+pub mod NotedJournals
 pub mod Rows
 pub mod Stops
 pub mod Recovery
-pub mod Resting
-pub mod Standing
+pub mod JournalsAtRest
+pub mod Standings

@@ -11,7 +11,7 @@ use Rattle.bw_model.specs.Layout.{pad}
 use Rattle.bw_model.specs.Book.{Log, Book, log_of, made}
 use Rattle.bw_model.specs.BookRules.{IsBook}
 use Rattle.bw_model.specs.Holds.{Store, Kept, IsBetween, IsInTheMiddle, Holds, finished_from}
-use Rattle.bw_journal.specs.Noted.{AdmitsDone}
+use Rattle.bw_journal.specs.NotedJournals.{AdmitsDone}
 use Rattle.bw_journal.specs.Stops.{cut_book}
 
 -- a take's file, or, if a request that is to be stored waits, what is between its old and its new

@@ -6,7 +6,7 @@ ghost use Rattle.bw_store.specs.Stores.{KeepsOthers};
 ghost use Rattle.bw_journal.specs.JournalHeaders.{Header};
 ghost use Rattle.bw_journal.specs.Notes.{BeginsNotes, BeginsInPart, Notes, NotesInPart};
 ghost use Rattle.bw_journal.specs.Notes.{KeepsHeaders, KeepsResting};
-ghost use Rattle.bw_journal.specs.Standing.{Standing, Apart, KeepsStanding};
+ghost use Rattle.bw_journal.specs.Standings.{Standing, Apart, KeepsStanding};
 
 use bw_request::Name;
 use bw_store::StoreFault;

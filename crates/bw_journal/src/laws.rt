@@ -1,7 +1,7 @@
 //! Laws of journals. Each function's contract is one; nothing runs.
-ghost use Rattle.bw_journal.specs.Noted.{JournalEntriesReadBack, ReadEntriesStand};
-ghost use Rattle.bw_journal.specs.Noted.{CutEntriesAreNone, EntriesAreShort, HeadersReadBack};
-ghost use Rattle.bw_journal.specs.Noted.{ReadHeadersStand, CutHeadersAreNotBegun, JournalsReportLogs};
+ghost use Rattle.bw_journal.specs.NotedJournals.{JournalEntriesReadBack, ReadEntriesStand};
+ghost use Rattle.bw_journal.specs.NotedJournals.{CutEntriesAreNone, EntriesAreShort, HeadersReadBack};
+ghost use Rattle.bw_journal.specs.NotedJournals.{ReadHeadersStand, CutHeadersAreNotBegun, JournalsReportLogs};
 ghost use Rattle.bw_journal.specs.Stops.{BooksAreCut, CutBooksAreBooks, EachWorldGoesOn};
 ghost use Rattle.bw_journal.specs.Recovery.{HeldFilesSurvive, FilesAreRepaired, RecoveryHolds};
 ghost use Rattle.bw_journal.specs.Recovery.{ClosedFilesAreWhole, NewFilesAreBetween};

@@ -3,7 +3,7 @@
 //! call.
 #![tactic(auto)]
 
-mod becoming;
+mod conversion;
 mod entry;
 mod fault;
 mod fuse;
@@ -18,7 +18,7 @@ mod seal_digests;
 mod story;
 mod writer;
 
-pub use becoming::BecomesResting;
+pub use conversion::BecomesResting;
 pub use entry::{ENTRY_MAX, EntryRef, first_entry};
 pub use fault::ReplayFault;
 pub use fuse::FuseJournal;

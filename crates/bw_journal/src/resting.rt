@@ -1,8 +1,8 @@
 //! Journals that can rest.
 ghost use Rattle.std.specs.Prelude.{◌≡◌, ℕ, List, Option, IsTrue, IfOk, OnErr, is_err, option_map};
 ghost use Rattle.bw_model.specs.Counts.{Counts};
-ghost use Rattle.bw_journal.specs.Resting.{journals, SameJournals, RestsIf, WakesIf, is_woken};
-ghost use Rattle.bw_journal.specs.Standing.{KeepsStanding, MayStandAtRest, StandsIf};
+ghost use Rattle.bw_journal.specs.JournalsAtRest.{journals, SameJournals, RestsIf, WakesIf, is_woken};
+ghost use Rattle.bw_journal.specs.Standings.{KeepsStanding, MayStandAtRest, StandsIf};
 
 use crate::journal::Journal;
 use bw_request::Name;

@@ -4,7 +4,7 @@ ghost use Rattle.std.specs.Prelude.{IsTrue, take, vec_len, vec_capacity};
 ghost use Rattle.std.specs.Str.{bytes_eq};
 ghost use Rattle.sha2.specs.Sha256.{sha256};
 ghost use Rattle.bw_model.specs.Bytes.{le16};
-ghost use Rattle.bw_layout.specs.Appending.{Gains};
+ghost use Rattle.bw_layout.specs.AppendedBytes.{Gains};
 ghost use Rattle.bw_journal.specs.Seals.{opened as opened_in, check as check_of};
 ghost use Rattle.bw_journal.specs.Seals.{has_length as is_length_sound};
 ghost use Rattle.bw_journal.specs.Seals.{is_cut_short as is_cut_short_of};

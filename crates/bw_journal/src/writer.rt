@@ -2,7 +2,7 @@
 ghost use Rattle.std.specs.Prelude.{◌≡◌, ◌+◌, ◌≤◌, IsTrue, length, take, vec_len, vec_capacity};
 ghost use Rattle.bw_model.specs.Limits.{longest_history};
 ghost use Rattle.bw_model.specs.Wire.{is_request};
-ghost use Rattle.bw_layout.specs.Appending.{Appends, Gains};
+ghost use Rattle.bw_layout.specs.AppendedBytes.{Appends, Gains};
 ghost use Rattle.bw_request.specs.Requests.{meaning};
 ghost use Rattle.bw_request.specs.Verdicts.{verdict_meaning};
 ghost use Rattle.bw_journal.specs.Entries.{JournalEntry, noted as noted_of, noted_payload};

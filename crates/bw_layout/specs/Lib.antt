@@ -1,4 +1,4 @@
-pub mod Appending
+pub mod AppendedBytes
 pub mod Cues
 pub mod Fields
 pub mod Formats

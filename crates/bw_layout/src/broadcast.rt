@@ -6,7 +6,7 @@ ghost use Rattle.bw_model.specs.Bytes.{zeros};
 ghost use Rattle.bw_model.specs.Limits.{longest_history};
 ghost use Rattle.bw_model.specs.Take.{field_fault, with_field, no_fields, AreFields};
 ghost use Rattle.bw_model.specs.Layout.{is_version_1, bext_fixed};
-ghost use Rattle.bw_layout.specs.Appending.{Gains, Appends};
+ghost use Rattle.bw_layout.specs.AppendedBytes.{Gains, Appends};
 ghost use Rattle.bw_layout.specs.Fields.{answer_of};
 
 use crate::field::{FieldError, NOT_GIVEN, set_digits, set_level, set_maybe, set_text, set_whole};

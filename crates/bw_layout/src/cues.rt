@@ -3,7 +3,7 @@ ghost use Rattle.std.specs.Prelude.{◌+◌, ◌*◌, ◌≤◌, length, vec_len
 ghost use Rattle.bw_model.specs.Limits.{most_markers};
 ghost use Rattle.bw_model.specs.Layout.{chunk, cue_point, cue_content};
 ghost use Rattle.bw_model.specs.File.{cue_chunks};
-ghost use Rattle.bw_layout.specs.Appending.{Gains, Appends};
+ghost use Rattle.bw_layout.specs.AppendedBytes.{Gains, Appends};
 ghost use Rattle.bw_layout.specs.Cues.{cue_chunk_length};
 
 use crate::chunk::{ChunkId, push_head};

@@ -3,7 +3,7 @@ ghost use Rattle.std.specs.Prelude.{◌≡◌, ◌+◌, ◌*◌, ◌≤◌, IsTr
 ghost use Rattle.std.specs.Option.{SomeIff};
 ghost use Rattle.bw_model.specs.Take.{is_format, block_align as block_align_of};
 ghost use Rattle.bw_model.specs.Layout.{fmt_content};
-ghost use Rattle.bw_layout.specs.Appending.{Gains, Appends};
+ghost use Rattle.bw_layout.specs.AppendedBytes.{Gains, Appends};
 ghost use Rattle.bw_layout.specs.Formats.{format_of};
 
 use crate::push::{push_u16, push_u32};

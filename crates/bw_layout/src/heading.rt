@@ -7,7 +7,7 @@ ghost use Rattle.bw_model.specs.Layout.{chunk, pad};
 ghost use Rattle.bw_model.specs.Take.{AreFields};
 ghost use Rattle.bw_model.specs.File.{form_size as form_size_of, data_place, junk_chunk, fmt_chunk};
 ghost use Rattle.bw_model.specs.File.{bext_chunk, header as header_bytes};
-ghost use Rattle.bw_layout.specs.Appending.{Gains, Appends};
+ghost use Rattle.bw_layout.specs.AppendedBytes.{Gains, Appends};
 ghost use Rattle.bw_layout.specs.Headers.{middle, ds64, riff_header, bw64_header};
 
 use crate::broadcast::{Bext, push_bext};

@@ -1,7 +1,7 @@
 //! Bytes and numbers appended to a Vec that has the room for them.
 ghost use Rattle.std.specs.Prelude.{◌+◌, ◌≤◌, length, vec_len, vec_capacity};
 ghost use Rattle.bw_model.specs.Bytes.{le16, le32, le64};
-ghost use Rattle.bw_layout.specs.Appending.{Gains};
+ghost use Rattle.bw_layout.specs.AppendedBytes.{Gains};
 
 pub(crate) fn push_bytes(out: &mut Vec<u8>, bytes: &[u8])
     requires { vec_len out.old + length bytes.now ≤ vec_capacity out.old }

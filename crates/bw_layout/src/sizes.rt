@@ -4,7 +4,7 @@ ghost use Rattle.std.specs.Prelude.{flat_map, take};
 ghost use Rattle.std.specs.Result.{OkIff};
 ghost use Rattle.bw_model.specs.Bytes.{le32, le64};
 ghost use Rattle.bw_model.specs.Limits.{most_entries};
-ghost use Rattle.bw_layout.specs.Appending.{Gains, Appends};
+ghost use Rattle.bw_layout.specs.AppendedBytes.{Gains, Appends};
 ghost use Rattle.bw_layout.specs.Tables.{entry_bytes, ds64_with_table, entry_at, fixed_at};
 
 use crate::chunk::{ChunkId, Short};

@@ -8,7 +8,7 @@ use Rattle.bw_journal.specs.declared.journal.Journal.{Ghosts as JournalGhosts}
 use Rattle.bw_session.specs.declared.server.Server.{Server}
 use Rattle.bw_rest.specs.Folders.{HoldsFolder}
 use Rattle.bw_rest.specs.RestCalls.{WereCalled}
-use Rattle.bw_rest.specs.Resting.{RestingTurn, ServesReady, FolderTurn}
+use Rattle.bw_rest.specs.TurnsAtRest.{RestingTurn, ServesReady, FolderTurn}
 use Rattle.bw_left.specs.LeftFolders.{HasNoForeignFile}
 use Rattle.bw_left.specs.RestingCalls.{RestsHonestly, StaysInFolder, AnswersKeepOrder}
 use Rattle.bw_left.specs.RestingCalls.{AnswersStayInFolder}

@@ -12,14 +12,14 @@ use Rattle.bw_model.specs.Turn.{Faults, turn, turn_by, is_full, with_change}
 use Rattle.bw_model.proofs.BookLemmas.{same_name, known-with_log_other}
 use Rattle.bw_store.specs.declared.store.TakeStore.{Ghosts as StoreGhosts}
 use Rattle.bw_journal.specs.declared.journal.Journal.{Ghosts as JournalGhosts}
-use Rattle.bw_exchange.specs.Answering.{Answered}
+use Rattle.bw_exchange.specs.AnsweredFrames.{Answered}
 use Rattle.bw_session.specs.Books.{failures_of, OrdersBook}
 use Rattle.bw_session.specs.ServerTurns.{TurnsOn}
 use Rattle.bw_session.specs.Tables.{session_in}
 use Rattle.bw_session.specs.declared.server.Server.{Server}
 use Rattle.bw_session.proofs.ServerForms.{apart_names}
-use Rattle.bw_rest.specs.Folding.{ServesFrame, delay_of}
-use Rattle.bw_rest.specs.Resting.{FolderTurn}
+use Rattle.bw_rest.specs.FolderRuns.{ServesFrame, delay_of}
+use Rattle.bw_rest.specs.TurnsAtRest.{FolderTurn}
 use Rattle.bw_rest.proofs.FolderTurns.{folder_turned}
 use Rattle.bw_left.specs.RestingCalls.{RestsHonestly, TurnsAwake, TurnsKeepOrder}
 use Rattle.bw_left.specs.RestingStops.{RestsApart}

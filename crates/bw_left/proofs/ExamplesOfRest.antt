@@ -13,7 +13,7 @@ use Rattle.bw_model.specs.BookRules.{IsLog, IsBook}
 use Rattle.bw_model.specs.ExampleWords.{a1, small_file, example_limit}
 use Rattle.bw_model.specs.File.{file_of}
 use Rattle.bw_model.specs.Wire.{is_name}
-use Rattle.bw_journal.specs.Noted.{journal_of}
+use Rattle.bw_journal.specs.NotedJournals.{journal_of}
 use Rattle.bw_journal.specs.Stops.{cut_log}
 use Rattle.bw_session.specs.RestingNames.{IsAtRest}
 use Rattle.bw_session.proofs.ResumeForms.{book_admits}

@@ -9,7 +9,7 @@ use Rattle.bw_model.specs.Exchange.{nothing_stands}
 use Rattle.bw_model.specs.ExampleWords.{a1}
 use Rattle.bw_model.specs.Take.{Stored}
 use Rattle.bw_model.specs.Turn.{good, with_change}
-use Rattle.bw_rest.specs.Folding.{ServesFrame, turn_where, stops_where, name_of_frame}
+use Rattle.bw_rest.specs.FolderRuns.{ServesFrame, turn_where, stops_where, name_of_frame}
 use Rattle.bw_delivery.proofs.ExamplesOfDeliveries.{joined}
 use Rattle.bw_store.specs.declared.store.TakeStore.{Ghosts as StoreGhosts}
 use Rattle.bw_disk.specs.declared.disk.Disk.{Ghosts as DiskGhosts}

@@ -5,7 +5,7 @@ use Rattle.bw_model.proofs.Computing.{computing}
 use Rattle.bw_model.specs.Book.{Log, log_of, no_log}
 use Rattle.bw_model.specs.CountedTurn.{is_pending}
 use Rattle.bw_model.specs.ExampleWords.{a1}
-use Rattle.bw_session.specs.Numbered.{with_done}
+use Rattle.bw_session.specs.NextNumbers.{with_done}
 use Rattle.bw_left.specs.LeftFolders.{GoesAhead}
 use Rattle.bw_left.specs.ExamplesOfStops.{opened_book, StoppedTurnExample}
 

@@ -10,7 +10,7 @@ use Rattle.bw_folder.specs.declared.journal.FolderJournal.{FolderJournal}
 use Rattle.bw_start.specs.LeftNames.{IsLeft}
 use Rattle.bw_start.specs.Paths.{wave_path, notes_path}
 use Rattle.bw_start.specs.StaysLeft.{IsLeftOf}
-use Rattle.bw_start.specs.Started.{IsLeftIn}
+use Rattle.bw_start.specs.StartedServers.{IsLeftIn}
 use Rattle.bw_left.specs.FailedStarts.{FailedStart, StartsFail}
 use Rattle.bw_left.specs.FailedStarts.{FailedStartsLeaveBooks, FailedStartsLoseNothing}
 use Rattle.bw_left.specs.ShownFolders.{ShowsFolder}

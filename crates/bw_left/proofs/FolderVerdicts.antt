@@ -18,9 +18,9 @@ use Rattle.bw_model.proofs.Elements.{Each, each-map}
 use Rattle.bw_model.proofs.Isolation.{served-not_away}
 use Rattle.bw_model.proofs.OtherTurns.{IsOf, message_of}
 use Rattle.bw_model.proofs.VerdictLaws.{admitted_stays, verdicts_stay, verdicts_true_reported}
-use Rattle.bw_exchange.specs.Answering.{Answered}
+use Rattle.bw_exchange.specs.AnsweredFrames.{Answered}
 use Rattle.bw_exchange.specs.TurnRuns.{answers_in}
-use Rattle.bw_rest.specs.Folding.{ServesFrame, turn_where, delay_of}
+use Rattle.bw_rest.specs.FolderRuns.{ServesFrame, turn_where, delay_of}
 use Rattle.bw_rest.specs.OwnRuns.{book_of_name, is_own_answer, LeavesOutDelays, RunsAlone}
 use Rattle.bw_rest.proofs.OwnRuns.{names_run_alone}
 use Rattle.bw_delivery.proofs.TurnCases.{by_case}

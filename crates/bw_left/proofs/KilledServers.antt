@@ -6,7 +6,7 @@ use Rattle.bw_model.specs.Replies.{Reply as ModelReply}
 use Rattle.bw_model.specs.Turn.{Faults, turn, book_after, run}
 use Rattle.bw_store.specs.declared.store.TakeStore.{Ghosts as StoreGhosts}
 use Rattle.bw_journal.specs.declared.journal.Journal.{Ghosts as JournalGhosts}
-use Rattle.bw_exchange.specs.Answering.{Answered}
+use Rattle.bw_exchange.specs.AnsweredFrames.{Answered}
 use Rattle.bw_exchange.specs.TurnRuns.{answers_in}
 use Rattle.bw_wire.specs.declared.reply.Reply.{Reply}
 use Rattle.bw_wire.specs.Replies.{reply_of}

@@ -12,7 +12,7 @@ use Rattle.bw_model.specs.CountedTurn.{is_pending}
 use Rattle.bw_model.specs.Turn.{most_takes}
 use Rattle.bw_model.proofs.BookLemmas.{same_name, unknown_log}
 use Rattle.bw_journal.proofs.CutLaws.{logs_cut, verdict-cut}
-use Rattle.bw_session.specs.Numbered.{with_done}
+use Rattle.bw_session.specs.NextNumbers.{with_done}
 use Rattle.bw_left.specs.LeftFolders.{GoesAhead, CutBooksAreQuiet, LaterBooksForgetNothing}
 
 -- one number that waited is done, or the log stays

@@ -13,10 +13,10 @@ use Rattle.bw_model.specs.Book.{Log}
 use Rattle.bw_model.specs.Holds.{body_of}
 use Rattle.bw_journal.specs.JournalHeaders.{Header, header_bytes}
 use Rattle.bw_journal.specs.Entries.{JournalEntry, sealed_entry, sealed_entries}
-use Rattle.bw_journal.specs.Noted.{IsNotable, IsCut, AdmitsDone, fits, done_entry, entries_from, journal_of}
+use Rattle.bw_journal.specs.NotedJournals.{IsNotable, IsCut, AdmitsDone, fits, done_entry, entries_from, journal_of}
 use Rattle.bw_journal.proofs.Lengths.{entry_length}
-use Rattle.bw_session.specs.Numbered.{with_done}
-use Rattle.bw_session.specs.Noting.{entry_if, next_entry, HasEntries}
+use Rattle.bw_session.specs.NextNumbers.{with_done}
+use Rattle.bw_session.specs.NameNotes.{entry_if, next_entry, HasEntries}
 use Rattle.bw_session.proofs.LogSteps.{take_next}
 
 -- before number 0 a journal is its header

@@ -19,12 +19,12 @@ use Rattle.bw_store.specs.declared.store.TakeStore.{Ghosts as StoreGhosts}
 use Rattle.bw_journal.specs.declared.journal.Journal.{Ghosts as JournalGhosts}
 use Rattle.bw_journal.specs.JournalHeaders.{Header, header_bytes, header_len}
 use Rattle.bw_journal.specs.Notes.{IsPrefixOf, IsShortOf}
-use Rattle.bw_journal.specs.Noted.{AdmitsDone, IsCut, journal_of}
+use Rattle.bw_journal.specs.NotedJournals.{AdmitsDone, IsCut, journal_of}
 use Rattle.bw_journal.specs.Recovery.{IsOnTheWay}
 use Rattle.bw_journal.proofs.Lengths.{length-header_bytes}
 use Rattle.bw_journal.proofs.RecoveryLaws.{held_files_survive}
-use Rattle.bw_session.specs.Numbered.{with_done}
-use Rattle.bw_session.specs.Noting.{HasEntries}
+use Rattle.bw_session.specs.NextNumbers.{with_done}
+use Rattle.bw_session.specs.NameNotes.{HasEntries}
 use Rattle.bw_session.specs.Servers.{kept_by}
 use Rattle.bw_session.specs.Tables.{session_in}
 use Rattle.bw_session.specs.declared.session.Session.{Session}

@@ -12,7 +12,7 @@ use Rattle.bw_model.specs.Book.{Log, made}
 use Rattle.bw_model.specs.BookRules.{IsLog}
 use Rattle.bw_model.specs.Holds.{finished_from}
 use Rattle.bw_journal.specs.JournalHeaders.{Header}
-use Rattle.bw_journal.specs.Noted.{AdmitsDone, journal_of, story_of_log}
+use Rattle.bw_journal.specs.NotedJournals.{AdmitsDone, journal_of, story_of_log}
 use Rattle.bw_journal.specs.Replays.{Story, JournalFault, replay, NotBegun}
 use Rattle.bw_journal.specs.Stops.{cut_log}
 use Rattle.bw_journal.proofs.CutLaws.{log_left, made-cut}

@@ -5,7 +5,7 @@ use Rattle.std.specs.Option.{option_or}
 use Rattle.bw_model.specs.Book.{Book}
 use Rattle.bw_store.specs.declared.store.TakeStore.{Ghosts as StoreGhosts}
 use Rattle.bw_disk.specs.declared.disk.Disk.{Ghosts as DiskGhosts}
-use Rattle.bw_journal.specs.Standing.{Apart, AtRest, AtBoth}
+use Rattle.bw_journal.specs.Standings.{Apart, AtRest, AtBoth}
 use Rattle.bw_journal.specs.declared.journal.Journal.{Ghosts as JournalGhosts}
 use Rattle.bw_folder.specs.RestingJournals.{is_loose, noted_at, standing_at}
 use Rattle.bw_folder.specs.declared.folder.FolderStore.{FolderStore}

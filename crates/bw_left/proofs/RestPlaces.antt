@@ -10,7 +10,7 @@ use Rattle.bw_model.specs.Book.{Book, log_of, made}
 use Rattle.bw_model.specs.Holds.{HoldsName}
 use Rattle.bw_model.proofs.BookLemmas.{same_name}
 use Rattle.bw_store.specs.declared.store.TakeStore.{Ghosts as StoreGhosts}
-use Rattle.bw_journal.specs.Standing.{Standing, is_apart, StaysIfClosed, KeepsStanding, MayStandAtRest}
+use Rattle.bw_journal.specs.Standings.{Standing, is_apart, StaysIfClosed, KeepsStanding, MayStandAtRest}
 use Rattle.bw_journal.specs.Stops.{cut_log}
 use Rattle.bw_journal.specs.declared.journal.Journal.{Ghosts as JournalGhosts}
 use Rattle.bw_session.specs.RestFaults.{may_wake}

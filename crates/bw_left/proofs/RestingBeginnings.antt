@@ -10,7 +10,7 @@ use Rattle.bw_model.proofs.BookLemmas.{unknown_log}
 use Rattle.bw_store.specs.declared.store.TakeStore.{Ghosts as StoreGhosts}
 use Rattle.bw_disk.specs.declared.disk.Disk.{Ghosts as DiskGhosts}
 use Rattle.bw_journal.specs.JournalHeaders.{Header}
-use Rattle.bw_journal.specs.Standing.{Apart, AtRest, AtBoth}
+use Rattle.bw_journal.specs.Standings.{Apart, AtRest, AtBoth}
 use Rattle.bw_journal.specs.Stops.{cut_book}
 use Rattle.bw_journal.proofs.CutLaws.{logs_cut}
 use Rattle.bw_journal.specs.declared.journal.Journal.{Ghosts as JournalGhosts}
@@ -26,7 +26,7 @@ use Rattle.bw_session.specs.declared.server.Server.{Server}
 use Rattle.bw_session.proofs.OrderLaws.{quiet_in_order}
 use Rattle.bw_rest.specs.Folders.{HoldsFolder}
 use Rattle.bw_start.specs.Paths.{path_with, notes_path, rest_path}
-use Rattle.bw_start.specs.Restored.{KeepsJournals}
+use Rattle.bw_start.specs.RestoredFolders.{KeepsJournals}
 use Rattle.bw_start.specs.declared.resting.Settings.{Settings}
 use Rattle.bw_left.specs.RestingBeginnings.{RestingStartsAreHonest}
 use Rattle.bw_left.specs.RestingFolders.{RestingStartsHoldFolders, WasStartedResting, IsLeftResting}

@@ -13,10 +13,10 @@ use Rattle.bw_model.specs.CountedTurn.{is_pending}
 use Rattle.bw_model.proofs.BookLemmas.{same_name, unknown_log}
 use Rattle.bw_store.specs.declared.store.TakeStore.{Ghosts as StoreGhosts}
 use Rattle.bw_journal.specs.JournalHeaders.{Header, header_len}
-use Rattle.bw_journal.specs.Resting.{KeepsOtherJournals, WakesJournal}
+use Rattle.bw_journal.specs.JournalsAtRest.{KeepsOtherJournals, WakesJournal}
 use Rattle.bw_journal.specs.declared.journal.Journal.{Ghosts as JournalGhosts}
 use Rattle.bw_session.specs.Books.{OrdersBook}
-use Rattle.bw_session.specs.Ordering.{FileComesFirst, NextIsCarriedOut}
+use Rattle.bw_session.specs.WriteOrders.{FileComesFirst, NextIsCarriedOut}
 use Rattle.bw_session.specs.RestFaults.{may_wake}
 use Rattle.bw_session.specs.RestingNames.{KeepsOtherNames, KeepsNames, RestsNow, WakesNow, journals_of}
 use Rattle.bw_session.specs.RestingNames.{is_restable_in}

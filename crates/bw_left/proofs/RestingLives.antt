@@ -9,14 +9,14 @@ use Rattle.bw_disk.specs.declared.disk.Disk.{Ghosts as DiskGhosts}
 use Rattle.bw_journal.specs.declared.journal.Journal.{Ghosts as JournalGhosts}
 use Rattle.bw_journal.specs.Stops.{cut_book}
 use Rattle.bw_journal.proofs.CutLaws.{at-take, logs_cut}
-use Rattle.bw_exchange.specs.Answering.{Answered, AnswersAll}
+use Rattle.bw_exchange.specs.AnsweredFrames.{Answered, AnswersAll}
 use Rattle.bw_folder.specs.declared.folder.FolderStore.{FolderStore}
 use Rattle.bw_folder.specs.declared.journal.FolderJournal.{FolderJournal}
 use Rattle.bw_folder.specs.declared.resting.RestingFolderJournal.{RestingFolderJournal}
 use Rattle.bw_session.specs.Books.{failures_of}
 use Rattle.bw_session.specs.declared.server.Server.{Server}
-use Rattle.bw_rest.specs.Folding.{IsFolderRun, ServesFrame, delay_of}
-use Rattle.bw_rest.specs.Resting.{RestingTurn, FolderTurn}
+use Rattle.bw_rest.specs.FolderRuns.{IsFolderRun, ServesFrame, delay_of}
+use Rattle.bw_rest.specs.TurnsAtRest.{RestingTurn, FolderTurn}
 use Rattle.bw_left.specs.RestingBeginnings.{RestingStartsAreHonest}
 use Rattle.bw_left.specs.LeftFolders.{HasNoForeignFile}
 use Rattle.bw_left.specs.RestingCalls.{RestsHonestly, StaysInFolder}

@@ -21,10 +21,10 @@ use Rattle.bw_journal.specs.declared.journal.Journal.{Ghosts as JournalGhosts}
 use Rattle.bw_folder.specs.declared.folder.FolderStore.{FolderStore}
 use Rattle.bw_folder.specs.declared.journal.FolderJournal.{FolderJournal}
 use Rattle.bw_folder.specs.declared.resting.RestingFolderJournal.{RestingFolderJournal}
-use Rattle.bw_exchange.specs.Answering.{Answered}
+use Rattle.bw_exchange.specs.AnsweredFrames.{Answered}
 use Rattle.bw_session.specs.Books.{failures_of}
-use Rattle.bw_session.specs.Numbered.{with_done}
-use Rattle.bw_rest.specs.Folding.{IsFolderRun}
+use Rattle.bw_session.specs.NextNumbers.{with_done}
+use Rattle.bw_rest.specs.FolderRuns.{IsFolderRun}
 use Rattle.bw_delivery.specs.Deliveries.{IsDelivered}
 use Rattle.bw_delivery.specs.RestingDeliveries.{IsRestingDelivery}
 use Rattle.bw_delivery.proofs.ClosedLaws.{AreStored, stored_closes}

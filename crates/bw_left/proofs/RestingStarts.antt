@@ -22,9 +22,9 @@ use Rattle.bw_session.specs.RestingNames.{IsAtRest}
 use Rattle.bw_session.proofs.ClosedForms.{made_format}
 use Rattle.bw_session.proofs.RestLaws.{has_file}
 use Rattle.bw_rest.specs.Folders.{IsInTable, RestsOutside, IsUnknown}
-use Rattle.bw_rest.specs.Folding.{ends_with_request}
+use Rattle.bw_rest.specs.FolderRuns.{ends_with_request}
 use Rattle.bw_start.specs.Paths.{path_with, wave_path, notes_path, rest_path}
-use Rattle.bw_start.specs.Restored.{KeepsTakes, KeepsJournals, IsOpenTake, IsOwnPath}
+use Rattle.bw_start.specs.RestoredFolders.{KeepsTakes, KeepsJournals, IsOpenTake, IsOwnPath}
 use Rattle.bw_start.proofs.PathLemmas.{path_name, rest_no_notes}
 use Rattle.bw_left.specs.RestingFolders.{RestingStartsHoldFolders}
 use Rattle.bw_left.specs.RestingFolders.{first_beside_rest}

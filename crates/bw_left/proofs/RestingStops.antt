@@ -18,7 +18,7 @@ use Rattle.bw_folder.specs.JournalFolders.{header_in_folder}
 use Rattle.bw_folder.specs.RestingJournals.{closed_path, is_loose, noted_at, resting_at, resting_header}
 use Rattle.bw_folder.specs.declared.folder.FolderStore.{FolderStore}
 use Rattle.bw_folder.specs.declared.resting.RestingFolderJournal.{RestingFolderJournal}
-use Rattle.bw_session.specs.Numbered.{with_done}
+use Rattle.bw_session.specs.NextNumbers.{with_done}
 use Rattle.bw_session.specs.RestFaults.{may_wake}
 use Rattle.bw_session.specs.RestingNames.{IsAtRest}
 use Rattle.bw_session.specs.Servers.{kept_by}

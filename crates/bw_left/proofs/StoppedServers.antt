@@ -17,13 +17,13 @@ use Rattle.bw_wire.specs.declared.reply.Reply.{Reply}
 use Rattle.bw_wire.specs.Replies.{reply_of}
 use Rattle.bw_journal.specs.JournalHeaders.{Header, header_bytes, header_len}
 use Rattle.bw_journal.specs.Entries.{sealed_entries}
-use Rattle.bw_journal.specs.Noted.{entries_from, journal_of}
+use Rattle.bw_journal.specs.NotedJournals.{entries_from, journal_of}
 use Rattle.bw_journal.specs.declared.journal.Journal.{Ghosts as JournalGhosts}
 use Rattle.bw_journal.proofs.Lengths.{length-header_bytes}
 use Rattle.bw_session.specs.Books.{failures_of, HoldsBook, NotesBook, TurnsBook}
-use Rattle.bw_session.specs.Noting.{next_entry}
-use Rattle.bw_session.specs.Numbered.{with_done}
-use Rattle.bw_session.specs.Ordering.{IsInOrder, file_due}
+use Rattle.bw_session.specs.NameNotes.{next_entry}
+use Rattle.bw_session.specs.NextNumbers.{with_done}
+use Rattle.bw_session.specs.WriteOrders.{IsInOrder, file_due}
 use Rattle.bw_session.specs.Servers.{done_in, store_since}
 use Rattle.bw_session.specs.Tables.{session_in}
 use Rattle.bw_session.specs.declared.session.Session.{Session}

@@ -16,7 +16,7 @@ use Rattle.bw_model.proofs.SenderSteps.{WasOffered, IsKept}
 use Rattle.bw_model.proofs.WorldLaws.{event_true, faithful, start}
 use Rattle.bw_journal.specs.Stops.{cut_log, cut_book}
 use Rattle.bw_journal.proofs.CutLaws.{at-take, at-take_some, verdict-cut, logs_cut}
-use Rattle.bw_session.specs.Numbered.{with_done}
+use Rattle.bw_session.specs.NextNumbers.{with_done}
 use Rattle.bw_left.specs.LeftFolders.{GoesAhead}
 use Rattle.bw_left.specs.StoppedWorlds.{WorldStep, Happens, Dies, Stops, Starts, MayCome, WorldStepsTo}
 use Rattle.bw_left.specs.StoppedWorlds.{StoppedWorldsAreFaithful}

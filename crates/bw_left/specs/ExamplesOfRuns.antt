@@ -10,13 +10,13 @@ use Rattle.bw_model.specs.ExamplesOfWorlds.{small_take}
 use Rattle.bw_store.specs.declared.store.TakeStore.{Ghosts as StoreGhosts}
 use Rattle.bw_disk.specs.declared.disk.Disk.{Ghosts as DiskGhosts}
 use Rattle.bw_journal.specs.declared.journal.Journal.{Ghosts as JournalGhosts}
-use Rattle.bw_exchange.specs.Answering.{Answered}
+use Rattle.bw_exchange.specs.AnsweredFrames.{Answered}
 use Rattle.bw_folder.specs.declared.folder.FolderStore.{FolderStore}
 use Rattle.bw_folder.specs.declared.journal.FolderJournal.{FolderJournal}
 use Rattle.bw_folder.specs.declared.resting.RestingFolderJournal.{RestingFolderJournal}
-use Rattle.bw_connections.specs.Keeping.{all_answered}
+use Rattle.bw_connections.specs.ConnectionTables.{all_answered}
 use Rattle.bw_delivery.specs.ExamplesOfDeliveries.{worked_trace, worked_links}
-use Rattle.bw_rest.specs.Folding.{IsFolderRun}
+use Rattle.bw_rest.specs.FolderRuns.{IsFolderRun}
 use Rattle.bw_left.specs.ExamplesOfRest.{b2, log_closed, book_of_two}
 use Rattle.bw_left.specs.RestingLives.{RestingRun}
 use Rattle.bw_left.specs.RestingSenders.{WasSent}

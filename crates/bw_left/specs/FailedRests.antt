@@ -2,7 +2,7 @@
 use Rattle.std.specs.Prelude.{ℕ, Option, List, [], ◌∷◌}
 use Rattle.bw_model.specs.Book.{Book}
 use Rattle.bw_disk.specs.declared.disk.Disk.{Ghosts as DiskGhosts}
-use Rattle.bw_start.specs.Restored.{KeepsTheRest}
+use Rattle.bw_start.specs.RestoredFolders.{KeepsTheRest}
 use Rattle.bw_left.specs.FailedStarts.{FailedStart}
 use Rattle.bw_left.specs.RestingFolders.{IsLeftResting}
 use Rattle.bw_left.specs.ShownFolders.{ShowsRestingFolder}

@@ -10,7 +10,7 @@ use Rattle.bw_folder.specs.declared.journal.FolderJournal.{FolderJournal}
 use Rattle.bw_session.specs.Books.{HoldsBook, NotesBook}
 use Rattle.bw_session.specs.declared.server.Server.{Server}
 use Rattle.bw_start.specs.StaysLeft.{IsLeftOf, BooksStayLeft}
-use Rattle.bw_start.specs.Started.{IsLeftIn, OfEachBookLeft}
+use Rattle.bw_start.specs.StartedServers.{IsLeftIn, OfEachBookLeft}
 use Rattle.bw_left.specs.ShownFolders.{ShowsFolder}
 
 module _ {D E F H : Type 0} (G : DiskGhosts D F) (K : DiskGhosts E H) where

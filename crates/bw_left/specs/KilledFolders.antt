@@ -14,7 +14,7 @@ use Rattle.bw_folder.specs.TakeFolders.{takes_disk, takes_folder}
 use Rattle.bw_folder.specs.JournalFolders.{journals_disk, journals_folder}
 use Rattle.bw_session.specs.declared.server.Server.{Server}
 use Rattle.bw_session.specs.SeenServers.{server_store, server_journal, server_limit}
-use Rattle.bw_start.specs.Started.{IsLeftIn}
+use Rattle.bw_start.specs.StartedServers.{IsLeftIn}
 use Rattle.bw_left.specs.LeftFolders.{GoesAhead}
 use Rattle.bw_left.specs.ShownFolders.{ShowsFolder}
 use Rattle.bw_left.specs.StoppedLives.{StoppedLife}

@@ -9,18 +9,18 @@ use Rattle.bw_store.specs.declared.store.TakeStore.{Ghosts as StoreGhosts}
 use Rattle.bw_journal.specs.declared.journal.Journal.{Ghosts as JournalGhosts}
 use Rattle.bw_journal.specs.JournalHeaders.{Header, header_bytes, header_len}
 use Rattle.bw_journal.specs.Notes.{IsShortOf}
-use Rattle.bw_journal.specs.Noted.{journal_of}
+use Rattle.bw_journal.specs.NotedJournals.{journal_of}
 use Rattle.bw_journal.specs.Stops.{cut_book}
 use Rattle.bw_folder.specs.Folders.{take_path, take_content}
 use Rattle.bw_folder.specs.Journals.{notes_at}
-use Rattle.bw_session.specs.Numbered.{with_done}
+use Rattle.bw_session.specs.NextNumbers.{with_done}
 use Rattle.bw_session.specs.Books.{HoldsBook, NotesBook}
 use Rattle.bw_session.specs.declared.server.Server.{Server}
 use Rattle.bw_session.specs.SeenServers.{server_store, server_journal, server_limit}
 use Rattle.bw_start.specs.Left.{wanted_file}
 use Rattle.bw_start.specs.Names.{begins_take}
 use Rattle.bw_start.specs.LeftNames.{header_beside, IsLeftName, IsLeft}
-use Rattle.bw_start.specs.Started.{IsLeftIn}
+use Rattle.bw_start.specs.StartedServers.{IsLeftIn}
 
 -- What a start requires of a folder that no server ensures: the journals are for its limit, only
 -- names have one, and beside one that isn't begun no file existed that begins as this server's do.

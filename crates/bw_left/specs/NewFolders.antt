@@ -2,7 +2,7 @@
 use Rattle.std.specs.Prelude.{◌≡◌, ℕ, Option, None, is_some, List, []}
 use Rattle.bw_model.specs.Book.{Book}
 use Rattle.bw_start.specs.Paths.{wave_path, notes_path, rest_path}
-use Rattle.bw_start.specs.Started.{IsLeftIn}
+use Rattle.bw_start.specs.StartedServers.{IsLeftIn}
 use Rattle.bw_left.specs.RestingFolders.{IsLeftResting}
 
 -- Nothing is noted in a folder, under any name, and no name rests; these are its files, and its two

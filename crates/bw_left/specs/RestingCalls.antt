@@ -4,7 +4,7 @@ use Rattle.bw_model.specs.Wire.{Frame, Message, Says, is_name}
 use Rattle.bw_model.specs.Replies.{Reply}
 use Rattle.bw_model.specs.Book.{Book}
 use Rattle.bw_store.specs.declared.store.TakeStore.{Ghosts as StoreGhosts}
-use Rattle.bw_journal.specs.Standing.{Standing, AtRest, AtBoth}
+use Rattle.bw_journal.specs.Standings.{Standing, AtRest, AtBoth}
 use Rattle.bw_journal.specs.declared.journal.Journal.{Ghosts as JournalGhosts}
 use Rattle.bw_session.specs.Books.{OrdersBook}
 use Rattle.bw_session.specs.RestFaults.{may_wake}
@@ -13,7 +13,7 @@ use Rattle.bw_session.specs.declared.server.Server.{Server}
 use Rattle.bw_session.specs.SeenServers.{server_store, server_journal, server_limit, session_kept}
 use Rattle.bw_rest.specs.Folders.{HoldsFolder}
 use Rattle.bw_rest.specs.RestCalls.{WasCalled}
-use Rattle.bw_rest.specs.Resting.{FolderTurn, RestingTurn, HasPlace, NoneMayRest}
+use Rattle.bw_rest.specs.TurnsAtRest.{FolderTurn, RestingTurn, HasPlace, NoneMayRest}
 use Rattle.bw_left.specs.LeftFolders.{EachIsInOrder, HasNoForeignFile, IsOwnFolder}
 use Rattle.bw_left.specs.RestingStops.{RestsApart}
 

@@ -6,18 +6,18 @@ use Rattle.bw_store.specs.declared.store.TakeStore.{Ghosts as StoreGhosts}
 use Rattle.bw_disk.specs.declared.disk.Disk.{Ghosts as DiskGhosts}
 use Rattle.bw_journal.specs.Stops.{cut_book, cut_log}
 use Rattle.bw_journal.specs.declared.journal.Journal.{Ghosts as JournalGhosts}
-use Rattle.bw_folder.specs.Becoming.{LetsRest}
+use Rattle.bw_folder.specs.FolderConversions.{LetsRest}
 use Rattle.bw_folder.specs.declared.folder.FolderStore.{FolderStore}
 use Rattle.bw_folder.specs.declared.journal.FolderJournal.{FolderJournal}
 use Rattle.bw_folder.specs.declared.resting.RestingFolderJournal.{RestingFolderJournal}
-use Rattle.bw_session.specs.Becoming.{ChangesJournal, KeepsItsBooks}
+use Rattle.bw_session.specs.JournalChanges.{ChangesJournal, KeepsItsBooks}
 use Rattle.bw_session.specs.RestingNames.{IsAtRest}
 use Rattle.bw_session.specs.declared.server.Server.{Server}
 use Rattle.bw_session.specs.SeenServers.{server_journal}
 use Rattle.bw_rest.specs.Folders.{HoldsFolder}
 use Rattle.bw_start.specs.Paths.{wave_path, notes_path, rest_path}
 use Rattle.bw_start.specs.RestingStarts.{StartsOver}
-use Rattle.bw_start.specs.Started.{IsLeftIn, IsSetTo}
+use Rattle.bw_start.specs.StartedServers.{IsLeftIn, IsSetTo}
 use Rattle.bw_start.specs.declared.resting.Settings.{Settings}
 
 -- A name rests in a folder: NAME.closed is the journal of its closed take, with each done number;

@@ -8,7 +8,7 @@ use Rattle.bw_model.specs.Book.{Book, log_of, verdict_at}
 use Rattle.bw_store.specs.declared.store.TakeStore.{Ghosts as StoreGhosts}
 use Rattle.bw_disk.specs.declared.disk.Disk.{Ghosts as DiskGhosts}
 use Rattle.bw_journal.specs.declared.journal.Journal.{Ghosts as JournalGhosts}
-use Rattle.bw_exchange.specs.Answering.{Answered, AnswersAll}
+use Rattle.bw_exchange.specs.AnsweredFrames.{Answered, AnswersAll}
 use Rattle.bw_folder.specs.RestingFolders.{disk_of_all}
 use Rattle.bw_folder.specs.TakeFolders.{takes_disk}
 use Rattle.bw_folder.specs.declared.folder.FolderStore.{FolderStore}
@@ -16,7 +16,7 @@ use Rattle.bw_folder.specs.declared.journal.FolderJournal.{FolderJournal}
 use Rattle.bw_folder.specs.declared.resting.RestingFolderJournal.{RestingFolderJournal}
 use Rattle.bw_session.specs.declared.server.Server.{Server}
 use Rattle.bw_session.specs.SeenServers.{server_store, server_journal}
-use Rattle.bw_rest.specs.Resting.{RestingTurn}
+use Rattle.bw_rest.specs.TurnsAtRest.{RestingTurn}
 use Rattle.bw_start.specs.declared.resting.Settings.{Settings}
 use Rattle.bw_left.specs.RestingFolders.{WasStartedResting, IsLeftResting}
 use Rattle.bw_left.specs.RestingStops.{StopsResting}

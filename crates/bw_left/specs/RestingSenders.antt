@@ -14,7 +14,7 @@ use Rattle.bw_journal.specs.declared.journal.Journal.{Ghosts as JournalGhosts}
 use Rattle.bw_folder.specs.declared.folder.FolderStore.{FolderStore}
 use Rattle.bw_folder.specs.declared.journal.FolderJournal.{FolderJournal}
 use Rattle.bw_folder.specs.declared.resting.RestingFolderJournal.{RestingFolderJournal}
-use Rattle.bw_connections.specs.Keeping.{Tagged, all_answered}
+use Rattle.bw_connections.specs.ConnectionTables.{Tagged, all_answered}
 use Rattle.bw_delivery.specs.Deliveries.{LinkBytes, IsJoined, HasOnly, IsDelivered, HeardOverLinks}
 use Rattle.bw_start.specs.Paths.{wave_path}
 use Rattle.bw_left.specs.LeftFolders.{HasNoForeignFile}

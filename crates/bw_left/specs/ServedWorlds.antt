@@ -17,8 +17,8 @@ use Rattle.bw_session.specs.Books.{HoldsBook, NotesBook}
 use Rattle.bw_session.specs.declared.server.Server.{Server}
 use Rattle.bw_session.specs.SeenServers.{server_store, server_journal, server_limit}
 use Rattle.bw_start.specs.LeftNames.{IsLeft}
-use Rattle.bw_start.specs.Restored.{KeepsJournals}
-use Rattle.bw_start.specs.Started.{IsLeftIn, IsSetTo}
+use Rattle.bw_start.specs.RestoredFolders.{KeepsJournals}
+use Rattle.bw_start.specs.StartedServers.{IsLeftIn, IsSetTo}
 use Rattle.bw_left.specs.LeftFolders.{HasNoForeignFile}
 use Rattle.bw_left.specs.StoppedTurns.{RunsHonestly, HadTurn}
 use Rattle.bw_left.specs.StoppedWorlds.{Dies, Stops, Starts, after_world_step, MayCome, IsNextStep}

@@ -9,7 +9,7 @@ use Rattle.bw_store.specs.declared.store.TakeStore.{Ghosts as StoreGhosts}
 use Rattle.bw_journal.specs.declared.journal.Journal.{Ghosts as JournalGhosts}
 use Rattle.bw_wire.specs.declared.reply.Reply.{Reply}
 use Rattle.bw_wire.specs.Replies.{reply_of}
-use Rattle.bw_exchange.specs.Answering.{Answered}
+use Rattle.bw_exchange.specs.AnsweredFrames.{Answered}
 use Rattle.bw_exchange.specs.TurnRuns.{answers_in}
 use Rattle.bw_session.specs.Books.{failures_of, TurnsBooks, NotesBooks, OrdersBook, OrdersBooks, UsesInTurn}
 use Rattle.bw_session.specs.declared.server.Server.{Server}

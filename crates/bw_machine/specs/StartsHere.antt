@@ -11,7 +11,7 @@ use Rattle.bw_machine.specs.declared.network.TcpNetwork.{TcpNetwork}
 use Rattle.bw_net.specs.declared.lock.FolderLock.{FolderLock}
 use Rattle.bw_ports.specs.declared.starts.StartRefusal.{StartRefusal}
 use Rattle.bw_session.specs.declared.server.Server.{Server}
-use Rattle.bw_start.specs.Started.{IsSetTo}
+use Rattle.bw_start.specs.StartedServers.{IsSetTo}
 use Rattle.bw_start.specs.declared.resting.Settings.{Settings}
 use Rattle.bw_store.specs.declared.store.TakeStore.{Ghosts as StoreGhosts}
 

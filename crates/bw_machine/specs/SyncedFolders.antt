@@ -4,7 +4,7 @@ use Rattle.bw_model.specs.Wire.{is_name}
 use Rattle.bw_store.specs.Stores.{KeepsOthers}
 use Rattle.bw_disk.specs.Volumes.{KeepsEach}
 use Rattle.bw_disk.specs.declared.disk.Disk.{Ghosts as DiskGhosts}
-use Rattle.bw_folder.specs.Syncing.{IsSyncedAt}
+use Rattle.bw_folder.specs.SyncOrders.{IsSyncedAt}
 use Rattle.bw_start.specs.Paths.{wave_path, notes_path}
 
 -- the disk is as honest as it was, and has what it had

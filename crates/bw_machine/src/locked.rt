@@ -3,7 +3,7 @@ ghost use Rattle.std.specs.Prelude.{◌≡◌, IfOk, MatchResult, Result};
 ghost use Rattle.bw_lock.specs.declared.folder_locks.LockRefusal.{LockRefusal as Refusal};
 ghost use Rattle.bw_machine.specs.LockedStarts.{IsFolderRefusal, RefusesUnder, StartsUnder};
 ghost use Rattle.bw_machine.specs.LockedStarts.{IsFaultText, IsReadRefusal, refusal_by};
-ghost use Rattle.bw_start.specs.Started.{IsSetTo};
+ghost use Rattle.bw_start.specs.StartedServers.{IsSetTo};
 
 use crate::syncing::sync_if;
 use bw_disk::{ReadFault, Volume};

@@ -3,16 +3,16 @@ use Rattle.std.proofs.Common.{◌≡◌, ℕ, Bool, true, List, [], ◌∷◌, s
 use Rattle.std.specs.List.{AllByRecursion}
 use Rattle.bw_model.specs.Wire.{Second}
 use Rattle.bw_model.specs.Stream.{stream_of}
-use Rattle.bw_exchange.specs.Answering.{Answered}
+use Rattle.bw_exchange.specs.AnsweredFrames.{Answered}
 use Rattle.bw_connections.specs.declared.connections.Closed.{Closed}
 use Rattle.bw_connections.specs.declared.connections.Connections.{Connections}
-use Rattle.bw_connections.specs.Keeping.{Tagged, own}
-use Rattle.bw_connections.specs.Served.{ServesConnection, EndsLink, ServesEachConnection}
+use Rattle.bw_connections.specs.ConnectionTables.{Tagged, own}
+use Rattle.bw_connections.specs.ConnectionBytes.{ServesConnection, EndsLink, ServesEachConnection}
 use Rattle.bw_ports.specs.declared.link.Link.{Ghosts as LinkGhosts}
 use Rattle.bw_one_name.specs.Filters.{starting, filtered}
-use Rattle.bw_one_name.specs.Filtering.{GivesFiltered}
+use Rattle.bw_one_name.specs.FilteredBytes.{GivesFiltered}
 use Rattle.bw_one_name.specs.OneName.{OneNameIsLeft}
-use Rattle.bw_one_name.specs.Connected.{AnswersOneName, EachAnswersOneName}
+use Rattle.bw_one_name.specs.OneNameAnswers.{AnswersOneName, EachAnswersOneName}
 use Rattle.bw_one_name.specs.declared.link.FilteredLink.{FilteredLink}
 
 module _ {L : Type 0} (F : LinkGhosts (FilteredLink L)) (G : LinkGhosts L)

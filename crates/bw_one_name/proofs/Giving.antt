@@ -4,7 +4,7 @@ use Rattle.std.proofs.Common.{Some, None, refl, sym, ap, ◌∙◌, arith}
 use Rattle.std.proofs.lemmas.List.{take_at, length-take-le}
 use Rattle.bw_stream.specs.Moves.{Reads}
 use Rattle.bw_one_name.specs.Filters.{Filter, starting, after_byte, passed, filtered, after_bytes}
-use Rattle.bw_one_name.specs.Filtering.{GivesFiltered, left_through}
+use Rattle.bw_one_name.specs.FilteredBytes.{GivesFiltered, left_through}
 use Rattle.bw_one_name.proofs.Passing.{filtered-append, after_bytes-append, filtered-length}
 
 -- the first bytes of a buffer after they were filtered in their place

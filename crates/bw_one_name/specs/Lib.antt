@@ -1,6 +1,6 @@
 pub mod Filters
 pub mod OneName
-pub mod Filtering
-pub mod Wrapping
-pub mod Filtered
-pub mod Connected
+pub mod FilteredBytes
+pub mod FilteredNetworks
+pub mod FilteredParts
+pub mod OneNameAnswers

@@ -1,5 +1,5 @@
 //! Laws of the filter. Each function's contract is one; nothing runs.
-ghost use Rattle.bw_one_name.specs.Connected.{ConnectionsAnswerOneName};
+ghost use Rattle.bw_one_name.specs.OneNameAnswers.{ConnectionsAnswerOneName};
 ghost use Rattle.bw_one_name.specs.OneName.{OneNameIsLeft};
 
 use crate::link::FilteredLink;

@@ -1,7 +1,7 @@
 //! A link of which the filter gives what comes.
 ghost use Rattle.std.specs.Prelude.{◌≡◌};
 ghost use Rattle.bw_one_name.specs.Filters.{starting};
-ghost use Rattle.bw_one_name.specs.Filtered.{inner_link, filter_of_link, link_has_one_name};
+ghost use Rattle.bw_one_name.specs.FilteredParts.{inner_link, filter_of_link, link_has_one_name};
 
 use crate::filter::NameFilter;
 use bw_ports::{Link, Received, Sent};
@@ -30,7 +30,7 @@ impl<L> FilteredLink<L> {
 }
 
 impl<L: Link> Link for FilteredLink<L> {
-    ghost use Rattle.bw_one_name.specs.Filtering.{GivesFiltered};
+    ghost use Rattle.bw_one_name.specs.FilteredBytes.{GivesFiltered};
 
     ghost given = { λ l ys. GivesFiltered (L.given (inner_link l)) (link_has_one_name l)
         (filter_of_link l) ys };

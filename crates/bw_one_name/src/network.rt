@@ -1,7 +1,7 @@
 //! A network whose links are filtered, if that is chosen.
 ghost use Rattle.std.specs.Prelude.{◌≡◌, Bool, false};
-ghost use Rattle.bw_one_name.specs.Wrapping.{OpensFiltered, PassedOn, filtered_peers, filtered_reactor};
-ghost use Rattle.bw_one_name.specs.Filtered.{inner_reactor, inner_network, network_has_one_name};
+ghost use Rattle.bw_one_name.specs.FilteredNetworks.{OpensFiltered, PassedOn, filtered_peers, filtered_reactor};
+ghost use Rattle.bw_one_name.specs.FilteredParts.{inner_reactor, inner_network, network_has_one_name};
 
 use crate::peers::FilteredPeers;
 use crate::reactor::FilteredReactor;

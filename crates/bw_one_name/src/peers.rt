@@ -1,7 +1,7 @@
 //! Peers whose readers are filtered.
 ghost use Rattle.std.specs.Prelude.{◌≡◌};
-ghost use Rattle.bw_one_name.specs.Wrapping.{AcceptsFiltered, filtered_peer};
-ghost use Rattle.bw_one_name.specs.Filtered.{inner_peers, peers_have_one_name};
+ghost use Rattle.bw_one_name.specs.FilteredNetworks.{AcceptsFiltered, filtered_peer};
+ghost use Rattle.bw_one_name.specs.FilteredParts.{inner_peers, peers_have_one_name};
 
 use crate::reader::FilteredReader;
 use bw_ports::{AcceptFault, Duplex, Peer, Peers};

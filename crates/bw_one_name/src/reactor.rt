@@ -1,7 +1,7 @@
 //! A reactor whose links are filtered.
 ghost use Rattle.std.specs.Prelude.{◌≡◌};
-ghost use Rattle.bw_one_name.specs.Wrapping.{AdmitsFiltered};
-ghost use Rattle.bw_one_name.specs.Filtered.{inner_reactor, reactor_has_one_name};
+ghost use Rattle.bw_one_name.specs.FilteredNetworks.{AdmitsFiltered};
+ghost use Rattle.bw_one_name.specs.FilteredParts.{inner_reactor, reactor_has_one_name};
 
 use crate::link::FilteredLink;
 use bw_ports::{Accepted, Reactor, Ready, TryAcceptFault, WaitFault};

@@ -1,7 +1,7 @@
 //! A reader of which the filter gives what comes.
 ghost use Rattle.std.specs.Prelude.{◌≡◌};
 ghost use Rattle.bw_one_name.specs.Filters.{starting};
-ghost use Rattle.bw_one_name.specs.Filtered.{inner_reader, filter_of_reader};
+ghost use Rattle.bw_one_name.specs.FilteredParts.{inner_reader, filter_of_reader};
 
 use crate::filter::NameFilter;
 use bw_stream::{IoFailed, Source};
@@ -27,7 +27,7 @@ impl<R> FilteredReader<R> {
 }
 
 impl<R: Source> Source for FilteredReader<R> {
-    ghost use Rattle.bw_one_name.specs.Filtering.{left_through};
+    ghost use Rattle.bw_one_name.specs.FilteredBytes.{left_through};
 
     ghost left = { λ r. left_through (filter_of_reader r) (R.left (inner_reader r)) };
 

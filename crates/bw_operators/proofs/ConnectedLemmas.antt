@@ -12,7 +12,7 @@ use Rattle.bw_operators.specs.declared.connection.Phase.{Phase}
 use Rattle.bw_operators.specs.declared.connection.Phase.TheVariants.{Reading, Asking, Answering}
 use Rattle.bw_operators.specs.declared.connection.Phase.TheVariants.{Draining}
 use Rattle.bw_operators.specs.declared.connection.Connection.{Connection}
-use Rattle.bw_operators.specs.Connected.{HasHeld, IsConnection, IsConnectionIn, IsRequestPart}
+use Rattle.bw_operators.specs.OperatorConnections.{HasHeld, IsConnection, IsConnectionIn, IsRequestPart}
 use Rattle.bw_operators.specs.Steps.{Finishes, ReadsRequestOn, SendsResponseOn}
 
 -- more came after the response, and was discarded

@@ -14,10 +14,10 @@ use Rattle.bw_operators.specs.declared.connection.Phase.{Phase}
 use Rattle.bw_operators.specs.declared.connection.Phase.TheVariants.{Reading, Asking, Answering}
 use Rattle.bw_operators.specs.declared.connection.Phase.TheVariants.{Draining}
 use Rattle.bw_operators.specs.declared.operators.Operators.{Operators}
-use Rattle.bw_operators.specs.Connected.{IsConnection, asked_in, longest_connection}
+use Rattle.bw_operators.specs.OperatorConnections.{IsConnection, asked_in, longest_connection}
 use Rattle.bw_operators.specs.Steps.{EndsIn, StepsConnection, WorksIn}
-use Rattle.bw_operators.specs.Placed.{LastsLongest, StepsIn, asked_at, asked_of, longer_of}
-use Rattle.bw_operators.specs.Placed.{oldest_of, since_at}
+use Rattle.bw_operators.specs.OperatorPlaces.{LastsLongest, StepsIn, asked_at, asked_of, longer_of}
+use Rattle.bw_operators.specs.OperatorPlaces.{oldest_of, since_at}
 use Rattle.bw_operators.specs.Places.{PutsAt}
 
 pub some_is : {X : Type 0} (x y : X) → Some x ≡ Some y → x ≡ y

@@ -1,4 +1,4 @@
 pub mod Places
-pub mod Connected
+pub mod OperatorConnections
 pub mod Steps
-pub mod Placed
+pub mod OperatorPlaces

@@ -7,7 +7,7 @@ use Rattle.bw_operators.specs.declared.connection.Connection.{Connection}
 use Rattle.bw_operators.specs.declared.connection.Phase.{Phase}
 use Rattle.bw_operators.specs.declared.connection.Phase.TheVariants.{Reading, Asking, Answering}
 use Rattle.bw_operators.specs.declared.connection.Phase.TheVariants.{Draining}
-use Rattle.bw_operators.specs.Connected.{HasHeld, longest_connection}
+use Rattle.bw_operators.specs.OperatorConnections.{HasHeld, longest_connection}
 
 module _ {L : Type 0} (G : LinkGhosts L) where
   -- a link gave these bytes more, or has none now

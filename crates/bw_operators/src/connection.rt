@@ -46,8 +46,8 @@ pub(crate) struct Connection<L> {
 }
 
 impl<L: Link> Connection<L> {
-    ghost use Rattle.bw_operators.specs.Connected.{HasHeld, IsConnection, asked_in};
-    ghost use Rattle.bw_operators.specs.Connected.{longest_connection};
+    ghost use Rattle.bw_operators.specs.OperatorConnections.{HasHeld, IsConnection, asked_in};
+    ghost use Rattle.bw_operators.specs.OperatorConnections.{longest_connection};
     ghost use Rattle.bw_operators.specs.Steps.{DrainsOn, EndsIn, Finishes, ReadsRequestOn};
     ghost use Rattle.bw_operators.specs.Steps.{SendsResponseOn, WorksIn};
 

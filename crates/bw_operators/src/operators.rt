@@ -21,11 +21,11 @@ pub struct Operators<L> {
 }
 
 impl<L: Link + Drop> Operators<L> {
-    ghost use Rattle.bw_operators.specs.Placed.{AdmitsAt, AreConnections, IsFreeAt, LastsLongest};
-    ghost use Rattle.bw_operators.specs.Placed.{LeavesOtherPlaces};
-    ghost use Rattle.bw_operators.specs.Placed.{RespondsAt, StepsAt, asked_at, lowest_free_place};
-    ghost use Rattle.bw_operators.specs.Placed.{place_count};
-    ghost use Rattle.bw_operators.specs.Placed.{oldest_of, since_at};
+    ghost use Rattle.bw_operators.specs.OperatorPlaces.{AdmitsAt, AreConnections, IsFreeAt, LastsLongest};
+    ghost use Rattle.bw_operators.specs.OperatorPlaces.{LeavesOtherPlaces};
+    ghost use Rattle.bw_operators.specs.OperatorPlaces.{RespondsAt, StepsAt, asked_at, lowest_free_place};
+    ghost use Rattle.bw_operators.specs.OperatorPlaces.{place_count};
+    ghost use Rattle.bw_operators.specs.OperatorPlaces.{oldest_of, since_at};
 
     /// Four free places.
     ///

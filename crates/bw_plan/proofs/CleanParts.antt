@@ -12,8 +12,8 @@ use Rattle.bw_model.specs.Limits.{longest_history}
 use Rattle.bw_model.specs.Take.{Shape, Text, Digits, Whole, Maybe, Level, not_given, shape_fault, is_printable}
 use Rattle.bw_model.specs.Take.{is_history_byte, is_length_allowed, are_bytes_allowed, matches, FieldFault, BadLength, BadText}
 use Rattle.bw_model.specs.Report.{RawCue}
-use Rattle.bw_plan.specs.Cleaning.{text_cleaned_of, printable_byte, history_of, is_like, is_like_at, with_separators}
-use Rattle.bw_plan.specs.Cleaning.{placed, are_zero, value_of, values_of, is_marker_kept, with_cue, markers_of}
+use Rattle.bw_plan.specs.CleanedContents.{text_cleaned_of, printable_byte, history_of, is_like, is_like_at, with_separators}
+use Rattle.bw_plan.specs.CleanedContents.{placed, are_zero, value_of, values_of, is_marker_kept, with_cue, markers_of}
 use Rattle.bw_plan.specs.PlanLaws.{are_values, are_markers}
 
 -- texts

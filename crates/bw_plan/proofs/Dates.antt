@@ -5,7 +5,7 @@ use Rattle.std.proofs.lemmas.List.{drop_all}
 use Rattle.std.specs.Prelude.{◌&&◌, ◌==◌}
 use Rattle.std.proofs.lemmas.Bool.{ne_eqb, eqb-false}
 use Rattle.std.proofs.Math.Bool.{and-false}
-use Rattle.bw_plan.specs.Cleaning.{is_like, is_like_at, with_separators, placed}
+use Rattle.bw_plan.specs.CleanedContents.{is_like, is_like_at, with_separators, placed}
 
 -- a text is like the form from a place on where the byte there is and the rest is like the rest of the form
 pub like_from : (form text : List ℕ) (i : ℕ) → i < length form → i < length text →

@@ -1,4 +1,4 @@
-pub mod Cleaning
+pub mod CleanedContents
 pub mod Recordings
 pub mod Plans
 pub mod PlanLaws

@@ -6,7 +6,7 @@ use Rattle.bw_model.specs.Reading.{Truncated}
 use Rattle.bw_model.specs.Take.{Format, shapes, block_align}
 use Rattle.bw_model.specs.Wire.{Second, last_number}
 use Rattle.bw_plan.specs.AllowedSettings.{are_settings}
-use Rattle.bw_plan.specs.Cleaning.{values_of}
+use Rattle.bw_plan.specs.CleanedContents.{values_of}
 use Rattle.bw_plan.specs.Faults.{recording_fault_meaning}
 use Rattle.bw_plan.specs.PlanLaws.{IsWhole}
 use Rattle.bw_plan.specs.Recordings.{Options, Outline, Recording, FaultAt, with_setting, request_count}

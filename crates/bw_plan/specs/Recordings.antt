@@ -13,8 +13,8 @@ use Rattle.bw_model.specs.Reading as reading
 use Rattle.bw_model.specs.Reading.{Form, Entry, entry_of, read}
 use Rattle.bw_model.specs.Report.{RawFmt, RawBext, Report, report_of, content_of}
 use Rattle.bw_model.specs.Wire.{Second, last_number}
-use Rattle.bw_plan.specs.Cleaning.{history_of, values_of, are_texts_kept, is_history_kept}
-use Rattle.bw_plan.specs.Cleaning.{markers_of}
+use Rattle.bw_plan.specs.CleanedContents.{history_of, values_of, are_texts_kept, is_history_kept}
+use Rattle.bw_plan.specs.CleanedContents.{markers_of}
 
 -- what is set in place of what the file has
 pub data Setting : Type 0 where

@@ -4,7 +4,7 @@ use Rattle.std.specs.Prelude.{codes, is_none, nat_lt, if◌then◌else◌}
 use Rattle.std.specs.Str.{bytes_eq}
 use Rattle.bw_model.specs.Take.{field_fault}
 use Rattle.bw_model.specs.Reading.{Entry}
-use Rattle.bw_plan.specs.Cleaning.{text_cleaned_of, is_like, is_history_kept}
+use Rattle.bw_plan.specs.CleanedContents.{text_cleaned_of, is_like, is_history_kept}
 use Rattle.bw_plan.specs.Recordings.{FileNotes, Outline, bext_texts, extensible}
 
 pub data Warning : Type 0 where

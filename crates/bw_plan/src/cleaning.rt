@@ -3,10 +3,10 @@ ghost use Rattle.std.specs.Prelude.{◌≡◌, ◌≤◌, ◌==◌, not, map, le
 ghost use Rattle.std.specs.List.{prefix_len};
 ghost use Rattle.bw_model.specs.Bytes.{le16};
 ghost use Rattle.bw_model.specs.Take.{Digits, Maybe, Level};
-ghost use Rattle.bw_plan.specs.Cleaning.{text_cleaned_of, history_of, value_of, are_zero as are_bytes_zero};
-ghost use Rattle.bw_plan.specs.Cleaning.{printable_byte as printable_byte_of, history_byte as history_byte_of};
-ghost use Rattle.bw_plan.specs.Cleaning.{is_like as is_text_like, with_separators as separated};
-ghost use Rattle.bw_plan.specs.Cleaning.{is_separator as is_separator_byte, is_like_at, placed};
+ghost use Rattle.bw_plan.specs.CleanedContents.{text_cleaned_of, history_of, value_of, are_zero as are_bytes_zero};
+ghost use Rattle.bw_plan.specs.CleanedContents.{printable_byte as printable_byte_of, history_byte as history_byte_of};
+ghost use Rattle.bw_plan.specs.CleanedContents.{is_like as is_text_like, with_separators as separated};
+ghost use Rattle.bw_plan.specs.CleanedContents.{is_separator as is_separator_byte, is_like_at, placed};
 
 use bw_request::LONGEST_HISTORY;
 use std::alloc::{AllocError, Global};

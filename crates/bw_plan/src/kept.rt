@@ -3,7 +3,7 @@ ghost use Rattle.std.specs.Prelude.{◌≡◌, ◌&&◌, is_none, option_map};
 ghost use Rattle.std.specs.List.{list_all};
 ghost use Rattle.bw_model.specs.Take.{field_fault, is_history_byte as is_byte_of_history};
 ghost use Rattle.bw_inspect.specs.Reports.{bext_by};
-ghost use Rattle.bw_plan.specs.Cleaning.{text_cleaned_of, are_texts_kept, is_history_kept};
+ghost use Rattle.bw_plan.specs.CleanedContents.{text_cleaned_of, are_texts_kept, is_history_kept};
 ghost use Rattle.bw_plan.specs.Recordings.{bext_texts};
 
 use crate::cleaning::text_before_zero;

@@ -1,7 +1,7 @@
 //! The markers that a take has of a file's cue points.
 ghost use Rattle.std.specs.Prelude.{◌≡◌, ◌==◌, IfOk, OnOk};
 ghost use Rattle.std.specs.List.{list_any};
-ghost use Rattle.bw_plan.specs.Cleaning.{is_marker_kept, with_cue, markers_of};
+ghost use Rattle.bw_plan.specs.CleanedContents.{is_marker_kept, with_cue, markers_of};
 
 use bw_layout::{CuePoint, RawCue};
 use std::alloc::{AllocError, Global};

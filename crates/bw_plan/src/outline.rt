@@ -2,7 +2,7 @@
 ghost use Rattle.std.specs.Prelude.{◌≡◌, ◌/◌, List, ℕ, fold, option_map, IfOk, OnOk};
 ghost use Rattle.bw_model.specs.Take.{shapes, block_align};
 ghost use Rattle.bw_inspect.specs.Reports.{bext_by};
-ghost use Rattle.bw_plan.specs.Cleaning.{values_of};
+ghost use Rattle.bw_plan.specs.CleanedContents.{values_of};
 ghost use Rattle.bw_plan.specs.Notes.{notes_by};
 ghost use Rattle.bw_plan.specs.Recordings.{raw_fields, recorded_format, outline as outline_by, with_setting};
 ghost use Rattle.bw_plan.specs.Recordings.{no_options};

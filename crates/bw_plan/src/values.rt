@@ -1,7 +1,7 @@
 //! The values of the fields of `bext` (EBU Tech 3285), as messages carry them.
 ghost use Rattle.std.specs.Prelude.{◌≡◌, ◌==◌, ◌≤◌, [], IfOk, drop, length, if◌then◌else◌};
 ghost use Rattle.bw_model.specs.Take.{shapes};
-ghost use Rattle.bw_plan.specs.Cleaning.{values_of};
+ghost use Rattle.bw_plan.specs.CleanedContents.{values_of};
 ghost use Rattle.bw_plan.specs.Recordings.{bext_fields, value_under, with_value, level_fields, given_count};
 
 use crate::cleaning::{clean_bytes, clean_digits, clean_level, clean_text};

@@ -1,3 +1,3 @@
-pub mod Dialled
+pub mod NextLinks
 pub mod Links
 pub mod Reactors

@@ -1,7 +1,7 @@
 //! Where a recorder's exchanges go: a link for each.
 ghost use Rattle.std.specs.Prelude.{◌≡◌, ℕ, List, Option, Result, IfOk, OnErr};
 ghost use Rattle.bw_stream.specs.Moves.{failures_after};
-ghost use Rattle.bw_ports.specs.Dialled.{GivesNext};
+ghost use Rattle.bw_ports.specs.NextLinks.{GivesNext};
 ghost use Rattle.bw_ports.specs.declared.dial.DialFault.{DialFault};
 ghost use Rattle.bw_ports.specs.declared.dial.Duplex.{Duplex};
 

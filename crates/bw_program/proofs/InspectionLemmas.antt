@@ -10,7 +10,7 @@ use Rattle.bw_console.specs.declared.exit.Exit.{Exit}
 use Rattle.bw_commands.specs.Inspections.{IsInspection}
 use Rattle.bw_commands.specs.Looks.{IsLook}
 use Rattle.bw_report.specs.FileLooks.{AreInspected}
-use Rattle.bw_program.specs.Inspected.{InspectsBy, InspectsInput, IsLookBy, wanted_of}
+use Rattle.bw_program.specs.FileCommands.{InspectsBy, InspectsInput, IsLookBy, wanted_of}
 use Rattle.std.specs.Prelude.{map, string_bytes}
 
 pub look_input : (b : Bool) (file input : Option (List ℕ)) (path : Text) (did : Outcome) → b ≡ true → IsInspection input did

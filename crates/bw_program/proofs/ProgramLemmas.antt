@@ -9,7 +9,7 @@ use Rattle.bw_args.specs.Lines.{IsLineOf}
 use Rattle.bw_console.specs.Faults.{IsReportedBy, exit_of}
 use Rattle.bw_commands.specs.Inspections.{IsPrintOfText}
 use Rattle.bw_console.specs.Outcomes.{Outcome}
-use Rattle.bw_console.specs.Printing.{IsOf, IsPrint, Nothing, Print}
+use Rattle.bw_console.specs.Prints.{IsOf, IsPrint, Nothing, Print}
 use Rattle.bw_ports.specs.declared.network.Network.{Ghosts as NetworkGhosts}
 use Rattle.bw_ports.specs.declared.listener_setup.ListenerSetup.{Ghosts as ListenerSetupGhosts}
 use Rattle.bw_program.specs.Sides.{HostSide, SenderSide, ServerSide, UploadSide, StartSide}

@@ -1,10 +1,10 @@
-pub mod Inspected
+pub mod FileCommands
 pub mod Programs
 pub mod Remote
-pub mod Packed
-pub mod Drawn
-pub mod Listed
+pub mod RecordingCommands
+pub mod PictureCommands
+pub mod TakesCommands
 pub mod Sides
 pub mod Uploads
 pub mod PcmUploads
-pub mod Repaired
+pub mod RepairCommands

@@ -17,7 +17,7 @@ use Rattle.bw_console.specs.Outcomes.{Outcome, Does, IsOutOfMemory}
 use Rattle.bw_commands.specs.Replays.{IsReplay}
 use Rattle.bw_console.specs.Faults.{IsReportedBy, exit_of}
 use Rattle.bw_commands.specs.Inspections.{IsPrintOfText}
-use Rattle.bw_console.specs.Printing.{Nothing, IsOf}
+use Rattle.bw_console.specs.Prints.{Nothing, IsOf}
 use Rattle.bw_console.specs.BadArgv.{IsBadArgv}
 use Rattle.bw_console.specs.declared.exit.Exit.{Exit}
 use Rattle.bw_console.specs.declared.exit.Exit.TheVariants as exits
@@ -25,11 +25,11 @@ use Rattle.bw_console.specs.declared.fault.Fault.{Fault}
 use Rattle.bw_rehearse.specs.Chosen.{IsChosenRehearsal}
 use Rattle.bw_ports.specs.declared.network.Network.{Ghosts as NetworkGhosts}
 use Rattle.bw_ports.specs.declared.listener_setup.ListenerSetup.{Ghosts as ListenerSetupGhosts}
-use Rattle.bw_program.specs.Inspected.{InspectsFiles, IsInspectedAt}
-use Rattle.bw_program.specs.Listed.{WorksOnTakes, folder_side, folder_world}
-use Rattle.bw_program.specs.Drawn.{DrawsFile}
-use Rattle.bw_program.specs.Packed.{Packs}
-use Rattle.bw_program.specs.Repaired.{RepairsFile}
+use Rattle.bw_program.specs.FileCommands.{InspectsFiles, IsInspectedAt}
+use Rattle.bw_program.specs.TakesCommands.{WorksOnTakes, folder_side, folder_world}
+use Rattle.bw_program.specs.PictureCommands.{DrawsFile}
+use Rattle.bw_program.specs.RecordingCommands.{Packs}
+use Rattle.bw_program.specs.RepairCommands.{RepairsFile}
 use Rattle.bw_program.specs.Remote.{Sends, ServesByRule}
 use Rattle.bw_program.specs.PcmUploads.{SendsPcm}
 use Rattle.bw_program.specs.Uploads.{SendsByState}

@@ -12,16 +12,16 @@ use Rattle.bw_args.specs.declared.peers.Recorders.TheVariants as recorders
 use Rattle.bw_args.specs.declared.peers.Send.{Send}
 use Rattle.bw_args.specs.declared.peers.Serve.{Serve}
 use Rattle.bw_console.specs.Outcomes.{Outcome, HasWritten}
-use Rattle.bw_console.specs.Printing.{failures_if}
+use Rattle.bw_console.specs.Prints.{failures_if}
 use Rattle.bw_console.specs.declared.exit.Exit.{Exit}
-use Rattle.bw_serve.specs.Hosted.{Hosts}
+use Rattle.bw_serve.specs.Hostings.{Hosts}
 use Rattle.bw_send.specs.Sends.{IsSendRun}
 use Rattle.bw_ports.specs.declared.network.Network.{Ghosts as NetworkGhosts}
 use Rattle.bw_serve.specs.declared.hosting_in_turn.Serving.{Serving}
 use Rattle.bw_serve.specs.HostedMany.{HostsMany}
-use Rattle.bw_serve.specs.HostedResumed.{HostsManyResumed, HostsResumed}
+use Rattle.bw_serve.specs.ResumedHostings.{HostsManyResumed, HostsResumed}
 use Rattle.bw_serve_status.specs.Shown.{HostsManyResumedShown, HostsManyShown}
-use Rattle.bw_serve.specs.HostedResting.{HostsManyRested, HostsRested}
+use Rattle.bw_serve.specs.RestingHostings.{HostsManyRested, HostsRested}
 use Rattle.bw_ports.specs.declared.listener_setup.ListenerSetup.{Ghosts as ListenerSetupGhosts}
 use Rattle.bw_serve.specs.declared.hosting.Hosting.{Hosting}
 use Rattle.bw_program.specs.Sides.{SenderSide, ServerSide, StartSide}

@@ -3,7 +3,7 @@ use Rattle.std.specs.Prelude.{◌≡◌, ◌⊎◌, ℕ, List, None, Some, strin
 use Rattle.std.specs.Net.Text.{socket_text}
 use Rattle.bw_stream.specs.declared.sink.Sink.{Ghosts as Writer}
 use Rattle.bw_args.specs.declared.recordings.FileSender.{FileSender}
-use Rattle.bw_console.specs.Printing.{failures_if}
+use Rattle.bw_console.specs.Prints.{failures_if}
 use Rattle.bw_console.specs.declared.exit.Exit.{Exit}
 use Rattle.bw_ports.specs.declared.network.Network.{Ghosts as NetworkGhosts}
 use Rattle.bw_ports.specs.declared.recording_files.RecordingFiles.{Ghosts as FileGhosts}
@@ -14,7 +14,7 @@ use Rattle.bw_send_file.specs.declared.job.Recorder.{Recorder}
 use Rattle.bw_send_state.specs.FilesSentOn.{Continuation, HasContinued, IsFileSentOn}
 use Rattle.bw_send_state.specs.FilesSentOn.{known_file_of, outside_of, sending_side}
 use Rattle.bw_send_state.specs.declared.job.Job.{Job}
-use Rattle.bw_program.specs.Packed.{IsRecordingFile}
+use Rattle.bw_program.specs.RecordingCommands.{IsRecordingFile}
 use Rattle.bw_program.specs.Sides.{SenderSide, StateSide, UploadSide}
 
 -- the recorder that a command line asks for

@@ -1,7 +1,7 @@
 //! The commands on a folder of takes, as a command line asks for them.
 ghost use Rattle.std.specs.Prelude.{◌≡◌};
-ghost use Rattle.bw_program.specs.Listed.{WorksOnTakes, depth_if, folder_side, folder_world};
-ghost use Rattle.bw_program.specs.Listed.{style_if};
+ghost use Rattle.bw_program.specs.TakesCommands.{WorksOnTakes, depth_if, folder_side, folder_world};
+ghost use Rattle.bw_program.specs.TakesCommands.{style_if};
 
 use bw_args::{FolderWork, TakesFolder};
 use bw_console::Exit;

@@ -1,10 +1,10 @@
 //! The inspections of files and of standard input, as a command line asks for them.
 ghost use Rattle.std.specs.Prelude.{◌≡◌, Bool};
 ghost use Rattle.bw_console.specs.Outcomes.{HasWritten, Outcome};
-ghost use Rattle.bw_console.specs.Printing.{failures_if};
-ghost use Rattle.bw_args.specs.Inspecting.{is_input};
-ghost use Rattle.bw_program.specs.Inspected.{InspectsFiles, IsInspectedAt, is_input_alone};
-ghost use Rattle.bw_program.specs.Inspected.{style_of, wanted_of};
+ghost use Rattle.bw_console.specs.Prints.{failures_if};
+ghost use Rattle.bw_args.specs.InspectedFiles.{is_input};
+ghost use Rattle.bw_program.specs.FileCommands.{InspectsFiles, IsInspectedAt, is_input_alone};
+ghost use Rattle.bw_program.specs.FileCommands.{style_of, wanted_of};
 
 use bw_args::Inspection;
 use bw_commands::{inspect_file, inspect_run};

@@ -1,5 +1,5 @@
 //! The commands on recordings, as a command line asks for them.
-ghost use Rattle.bw_program.specs.Packed.{IsRecordingFile, Packs};
+ghost use Rattle.bw_program.specs.RecordingCommands.{IsRecordingFile, Packs};
 
 use bw_args::SourceFile;
 use bw_console::Exit;

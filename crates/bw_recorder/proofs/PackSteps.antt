@@ -2,7 +2,7 @@
 use Rattle.std.proofs.Common.{◌≡◌, ◌⊎◌, ℕ, Bool, true, List, Option, Some, Result, inl, inr, refl, subst}
 use Rattle.bw_stream.specs.Readers.{Of}
 use Rattle.bw_model.specs.Take.{Request}
-use Rattle.bw_console.specs.Printing.{Print, Nothing}
+use Rattle.bw_console.specs.Prints.{Print, Nothing}
 use Rattle.bw_console.specs.declared.exit.Exit.{Exit}
 use Rattle.bw_plan.specs.Recordings.{Options}
 use Rattle.bw_plan.specs.Progress.{Progress, IsSoundPlan, remaining}

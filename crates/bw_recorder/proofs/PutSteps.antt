@@ -12,7 +12,7 @@ use Rattle.bw_inspect.specs.declared.fault.InspectKind.{InspectKind}
 use Rattle.bw_inspect.specs.declared.fault.InspectKind.TheVariants as kinds
 use Rattle.bw_inspect.specs.Faults.{is_failed_read}
 use Rattle.bw_inspect.proofs.Writing.{writes_after, writes_none, begins_after}
-use Rattle.bw_console.specs.Printing.{Whole, Part}
+use Rattle.bw_console.specs.Prints.{Whole, Part}
 use Rattle.bw_console.specs.Text.{as_line}
 use Rattle.bw_plan.specs.Progress.{Progress, Samples, GoesOn, IsBlockMissed, IsSoundPlan, next_step_of, after_next, remaining}
 use Rattle.bw_recorder.specs.RequestLines.{request_hex, request_lines}

@@ -4,7 +4,7 @@ use Rattle.std.specs.declared.io.ErrorKind.{ErrorKind}
 use Rattle.std.specs.declared.io.ErrorKind.TheVariants as errors
 use Rattle.bw_inspect.specs.declared.fault.InspectKind.{InspectKind}
 use Rattle.bw_inspect.specs.declared.fault.InspectKind.TheVariants as kinds
-use Rattle.bw_console.specs.Openings.{exit_unopened}
+use Rattle.bw_console.specs.FailedOpenings.{exit_unopened}
 use Rattle.bw_console.specs.declared.exit.Exit.TheVariants as exits
 use Rattle.bw_plan.specs.declared.fault.RecordingKind.{RecordingKind}
 use Rattle.bw_plan.specs.declared.fault.RecordingKind.TheVariants as recordings

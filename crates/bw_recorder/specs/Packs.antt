@@ -6,9 +6,9 @@ use Rattle.bw_stream.specs.declared.sink.Sink.{Ghosts as Writer}
 use Rattle.bw_model.specs.Take.{Request}
 use Rattle.bw_inspect.specs.Faults.{inspect_fault_text}
 use Rattle.bw_console.specs.Outcomes.{Outcome, IsOutOfMemory}
-use Rattle.bw_console.specs.Openings.{IsUnopened}
+use Rattle.bw_console.specs.FailedOpenings.{IsUnopened}
 use Rattle.bw_console.specs.Faults.{input_fault_text}
-use Rattle.bw_console.specs.Printing.{Print, Nothing, Whole, Part, IsOf, IsPrint}
+use Rattle.bw_console.specs.Prints.{Print, Nothing, Whole, Part, IsOf, IsPrint}
 use Rattle.bw_console.specs.Text.{as_line}
 use Rattle.bw_console.specs.declared.exit.Exit.{Exit}
 use Rattle.bw_console.specs.declared.exit.Exit.TheVariants as exits

@@ -1,6 +1,6 @@
 //! A recording's file is read, up to where its samples begin.
 ghost use Rattle.std.specs.Prelude.{◌≡◌, codes, IfOk, IfErr};
-ghost use Rattle.bw_console.specs.Printing.{failures_if};
+ghost use Rattle.bw_console.specs.Prints.{failures_if};
 ghost use Rattle.bw_plan.specs.Progress.{IsSoundPlan};
 ghost use Rattle.bw_model.specs.Reading.{entry_of};
 ghost use Rattle.bw_plan.specs.Notes.{notes_by};

@@ -1,6 +1,6 @@
 //! The command `pack`: the requests of a file's recording, as lines of hex.
 ghost use Rattle.std.specs.Prelude.{◌≡◌, ◌≤◌, ℕ, List, Result, length, map, string_bytes, OnOk, IfErr};
-ghost use Rattle.bw_console.specs.Printing.{IsPrint, Print, failures_if, IsOf};
+ghost use Rattle.bw_console.specs.Prints.{IsPrint, Print, failures_if, IsOf};
 ghost use Rattle.bw_plan.specs.Progress.{remaining};
 ghost use Rattle.bw_recorder.specs.Packs.{bad_setting_line, FinishesPrint};
 ghost use Rattle.bw_recorder.specs.Packs.{IsOpenReport, has_unwritable as is_writer_failed};

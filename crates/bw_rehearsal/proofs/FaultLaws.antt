@@ -16,7 +16,7 @@ use Rattle.bw_model.specs.Exchange.{nothing_stands}
 use Rattle.bw_model.specs.World.{World, Event, Offer, Send, Deliver, Bring, Ask, Foreign, happens, world_after}
 use Rattle.bw_model.specs.World.{new_world, comes, send, deliver, bring, pending}
 use Rattle.bw_rehearsal.specs.FaultRuns.{AreReported, AreFaultsOf, AreFaultsOfDelivery, AreFaultsOfRuns, UnreportedFaultsAreNone}
-use Rattle.bw_rehearsal.specs.Rehearsing.{event_meaning, without_faults, QuietRehearsalsHaveOneWorld}
+use Rattle.bw_rehearsal.specs.RehearsedWorlds.{event_meaning, without_faults, QuietRehearsalsHaveOneWorld}
 use Rattle.bw_rehearsal.specs.declared.event.Event.{Event as Played}
 
 -- Counts only rise.

@@ -12,7 +12,7 @@ use Rattle.bw_model.specs.World.{World, Sender, Offer, Send, Deliver, Bring, Ask
 use Rattle.bw_model.specs.World.{happens, send, deliver, bring}
 use Rattle.bw_session.specs.Books.{failures_of}
 use Rattle.bw_rehearsal.specs.FaultRuns.{AreReported, IsUntouched, AreFaultsOfDelivery}
-use Rattle.bw_rehearsal.specs.Simulated.{IsSimulated, PlaysOn, failures_on}
+use Rattle.bw_rehearsal.specs.Simulations.{IsSimulated, PlaysOn, failures_on}
 use Rattle.bw_rehearsal.specs.declared.simulation.Simulation.{Simulation}
 
 -- the world with this book and more replies

@@ -7,7 +7,7 @@ use Rattle.bw_model.specs.Turn.{Faults}
 use Rattle.bw_model.specs.Exchange.{nothing_stands}
 use Rattle.bw_model.specs.World.{World, Event, happens, world_after, new_world}
 use Rattle.bw_rehearsal.specs.FaultRuns.{AreFaultsOf, AreFaultsOfRuns}
-use Rattle.bw_rehearsal.specs.Rehearsing.{LeadsTo, event_meaning}
+use Rattle.bw_rehearsal.specs.RehearsedWorlds.{LeadsTo, event_meaning}
 use Rattle.bw_rehearsal.specs.declared.event.Event.{Event as Played}
 
 world_more : (existed : List ℕ → Bool) (w : World) (es : List (Event × Faults)) (e : Event) (faults : Faults) →

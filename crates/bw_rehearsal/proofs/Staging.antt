@@ -12,7 +12,7 @@ use Rattle.bw_model.specs.Replies.{Reply, Judged, Noticed, Refused}
 use Rattle.bw_model.specs.World.{World, Sender, OfferFault, offer, offer_fault, hear, is_counted, send, bring}
 use Rattle.bw_model.proofs.Elements.{some_inj}
 use Rattle.bw_model.proofs.SpellingLaws.{spelled_is_read}
-use Rattle.bw_wire.specs.Encoded.{IsFrameOf, said}
+use Rattle.bw_wire.specs.EncodedFrames.{IsFrameOf, said}
 use Rattle.bw_wire.specs.Frames.{frame_of, message_of, asked_name, asked_number}
 use Rattle.bw_wire.specs.Replies.{reply_of}
 use Rattle.bw_wire.specs.declared.message.Message.{Message as Answered}
@@ -22,7 +22,7 @@ use Rattle.bw_wire.specs.declared.message.Frame.TheVariants as frames
 use Rattle.bw_wire.specs.declared.reply.Reply.{Reply as Answer}
 use Rattle.bw_sender.specs.Senders.{IsSender}
 use Rattle.bw_sender.specs.declared.sender.Sender.{Sender as Offering}
-use Rattle.bw_rehearsal.specs.Simulated.{AreFrames}
+use Rattle.bw_rehearsal.specs.Simulations.{AreFrames}
 
 -- Frames by place.
 

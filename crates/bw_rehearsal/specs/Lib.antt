@@ -1,5 +1,5 @@
-pub mod Rehearsing
+pub mod RehearsedWorlds
 pub mod EventLines
 pub mod FaultRuns
-pub mod Simulated
+pub mod Simulations
 pub mod Worlds

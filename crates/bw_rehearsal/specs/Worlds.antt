@@ -8,7 +8,7 @@ use Rattle.bw_store.specs.MemoryNames.{memory_content}
 use Rattle.bw_session.specs.Books.{HoldsBook, failures_of}
 use Rattle.bw_session.specs.SeenServers.{server_store, server_limit}
 use Rattle.bw_sender.specs.Senders.{IsSender}
-use Rattle.bw_rehearsal.specs.Rehearsing.{LeadsTo, no_contents}
+use Rattle.bw_rehearsal.specs.RehearsedWorlds.{LeadsTo, no_contents}
 use Rattle.bw_rehearsal.specs.declared.event.Event.{Event}
 use Rattle.bw_rehearsal.specs.declared.rehearsal.World.{World}
 

@@ -1,7 +1,7 @@
 //! The laws of the definitions that rehearsals are based on.
 ghost use Rattle.bw_model.specs.World.{EachWorldIsFaithful, FaithfulWorldsHaveNoGap};
 ghost use Rattle.bw_rehearsal.specs.FaultRuns.{UnreportedFaultsAreNone};
-ghost use Rattle.bw_rehearsal.specs.Rehearsing.{QuietRehearsalsHaveOneWorld};
+ghost use Rattle.bw_rehearsal.specs.RehearsedWorlds.{QuietRehearsalsHaveOneWorld};
 
 /// Whatever is lost, repeated or reordered, the sender counts only what the server's take has.
 pub fn law_world()

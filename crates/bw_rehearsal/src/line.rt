@@ -2,7 +2,7 @@
 ghost use Rattle.std.specs.Prelude.{◌≡◌, ◌≢◌, ◌++◌, ℕ, List, IfOk, OnErr, MatchOption};
 ghost use Rattle.std.specs.Option.{SomeIff};
 ghost use Rattle.bw_model.specs.World.{Event as ReportedEvent};
-ghost use Rattle.bw_rehearsal.specs.Rehearsing.{event_meaning};
+ghost use Rattle.bw_rehearsal.specs.RehearsedWorlds.{event_meaning};
 ghost use Rattle.bw_rehearsal.specs.EventLines.{SaysEvent, IsIndexText, MayOffer, index_written};
 
 use crate::event::Event;

@@ -4,13 +4,13 @@ ghost use Rattle.std.specs.Prelude.{length, vec_capacity, slice_get, option_map}
 ghost use Rattle.bw_model.specs.Wire.{Message as Said, Says};
 ghost use Rattle.bw_model.specs.World.{World, Offer, Send, Deliver, Bring, Ask, new_world};
 ghost use Rattle.bw_model.specs.World.{Sender as Offering, offer, pending};
-ghost use Rattle.bw_wire.specs.Encoded.{IsFrameOf};
+ghost use Rattle.bw_wire.specs.EncodedFrames.{IsFrameOf};
 ghost use Rattle.bw_wire.specs.Frames.{message_of};
 ghost use Rattle.bw_sender.specs.Offers.{fault_of};
 ghost use Rattle.bw_sender.specs.Senders.{IsSender};
-ghost use Rattle.bw_rehearsal.specs.Rehearsing.{event_meaning};
-ghost use Rattle.bw_rehearsal.specs.Simulated.{IsSimulated, PlaysOn, TakesMemory, LacksRoom};
-ghost use Rattle.bw_rehearsal.specs.Simulated.{failures_on};
+ghost use Rattle.bw_rehearsal.specs.RehearsedWorlds.{event_meaning};
+ghost use Rattle.bw_rehearsal.specs.Simulations.{IsSimulated, PlaysOn, TakesMemory, LacksRoom};
+ghost use Rattle.bw_rehearsal.specs.Simulations.{failures_on};
 
 use crate::event::Event;
 use arrayvec::ArrayVec;

@@ -6,7 +6,7 @@ use Rattle.bw_console.specs.Faults.{RefusesLength, exit_on, input_fault_text, is
 use Rattle.bw_console.specs.Input.{longest_input}
 use Rattle.bw_console.specs.Lines.{lines_of}
 use Rattle.bw_console.specs.Outcomes.{HasWritten, Outcome, PrintsText}
-use Rattle.bw_console.specs.Printing.{IsOf, IsPrint, Nothing, Print, Whole, Part}
+use Rattle.bw_console.specs.Prints.{IsOf, IsPrint, Nothing, Print, Whole, Part}
 use Rattle.bw_console.specs.Text.{as_line}
 use Rattle.bw_console.specs.declared.exit.Exit.{Exit}
 use Rattle.bw_console.specs.declared.fault.Fault.{Fault}

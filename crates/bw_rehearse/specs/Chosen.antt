@@ -4,7 +4,7 @@ use Rattle.bw_stream.specs.Readers.{Of}
 use Rattle.bw_console.specs.Input.{longest_input}
 use Rattle.bw_console.specs.Lines.{FirstWithout, lines_of}
 use Rattle.bw_console.specs.Outcomes.{Outcome, ResultsIn}
-use Rattle.bw_console.specs.Printing.{Print, Nothing, Whole, Part}
+use Rattle.bw_console.specs.Prints.{Print, Nothing, Whole, Part}
 use Rattle.bw_console.specs.declared.fault.Fault.{Fault}
 use Rattle.bw_console.specs.declared.fault.Fault.TheVariants as faults
 use Rattle.bw_commands.specs.EventLines.{IsEventFault}

@@ -2,7 +2,7 @@
 use Rattle.std.specs.Prelude.{◌≡◌, ◌⊎◌, ◌==◌, ◌||◌, ℕ, ◌^◌, ◌-◌, Bool, List, ◌++◌, codes}
 use Rattle.std.specs.List.{list_any, starts_with}
 use Rattle.bw_rehearsal.specs.EventLines.{SaysEvent, IsIndex}
-use Rattle.bw_rehearsal.specs.Rehearsing.{event_meaning}
+use Rattle.bw_rehearsal.specs.RehearsedWorlds.{event_meaning}
 use Rattle.bw_console.specs.Lines.{SayEach, FirstWithout, lines_of}
 use Rattle.bw_console.specs.declared.fault.Fault.{Fault}
 use Rattle.bw_console.specs.declared.fault.Fault.TheVariants.{NotEvent, Memory}

@@ -4,7 +4,7 @@ ghost use Rattle.bw_stream.specs.Readers.{Of};
 ghost use Rattle.bw_console.specs.Input.{IsReadAhead, longest_input};
 ghost use Rattle.bw_console.specs.Lines.{lines_of};
 ghost use Rattle.bw_console.specs.Outcomes.{HasWritten, Outcome};
-ghost use Rattle.bw_console.specs.Printing.{failures_if};
+ghost use Rattle.bw_console.specs.Prints.{failures_if};
 ghost use Rattle.bw_rehearse.specs.Chosen.{IsChosenRehearsal, IsFaultIf, IsTextIf};
 ghost use Rattle.bw_rehearse.specs.ServerLines.{IsStopEventFault, has_servers};
 ghost use Rattle.bw_rehearse.specs.StopTexts.{IsStopsText, IsStopsTextOfLines};

@@ -10,7 +10,7 @@ use Rattle.bw_inspect.specs.Readings.{GivesReport, Refuses}
 use Rattle.bw_inspect.specs.declared.fault.InspectFault.{InspectFault}
 use Rattle.bw_inspect.specs.declared.report.Report.{Report}
 use Rattle.bw_repair.specs.Overlays.{overlaid}
-use Rattle.bw_repair.specs.Repaired.{ChangesSizesAlone, FaultsAs, IsReadAs, with_sizes}
+use Rattle.bw_repair.specs.RepairedFiles.{ChangesSizesAlone, FaultsAs, IsReadAs, with_sizes}
 use Rattle.bw_repair.specs.declared.decision.Sizes.{Sizes}
 use Rattle.bw_repair.proofs.Overlays.{overlaid-drop, overlaid-length, overlaid-none, overlaid-parted}
 

@@ -5,4 +5,4 @@ pub mod DataHeads
 pub mod Steps
 pub mod Near
 pub mod Decisions
-pub mod Repaired
+pub mod RepairedFiles

@@ -2,7 +2,7 @@
 ghost use Rattle.std.specs.Prelude.{◌≡◌, ◌+◌, ◌^◌, ◌<◌, ◌≤◌, length, Some, IfOk, IfErr};
 ghost use Rattle.bw_stream.specs.Readers.{Of};
 ghost use Rattle.bw_repair.specs.Overlays.{overlaid};
-ghost use Rattle.bw_repair.specs.Repaired.{FaultsAs, IsReadAs, with_sizes};
+ghost use Rattle.bw_repair.specs.RepairedFiles.{FaultsAs, IsReadAs, with_sizes};
 
 use crate::decision::Sizes;
 use crate::overlay::Overlay;

@@ -1,5 +1,5 @@
 //! Laws of repairs: functions that do nothing, whose contracts are the statements.
-ghost use Rattle.bw_repair.specs.Repaired.{SizesAloneChange};
+ghost use Rattle.bw_repair.specs.RepairedFiles.{SizesAloneChange};
 
 /// A file with other sizes is as long, and has the same bytes but for the two sizes.
 pub fn law_sizes()

@@ -1,9 +1,9 @@
 -- What is reported of files that aren't opened or written.
 use Rattle.std.proofs.Common.{◌≡◌, ◌⊎◌, ℕ, List, true, inl, inr}
 use Rattle.std.specs.declared.io.ErrorKind.{ErrorKind}
-use Rattle.bw_console.specs.Openings.{IsUnopened}
+use Rattle.bw_console.specs.FailedOpenings.{IsUnopened}
 use Rattle.bw_console.specs.Outcomes.{Outcome, IsOutOfMemory}
-use Rattle.bw_console.specs.Printing.{Nothing}
+use Rattle.bw_console.specs.Prints.{Nothing}
 use Rattle.bw_repair_file.specs.Repairs.{IsUnwritten}
 
 pub unwritten_prints : (path : List ℕ) (kind : ErrorKind) (did : Outcome) → IsUnwritten path kind did ⊎ IsOutOfMemory did →

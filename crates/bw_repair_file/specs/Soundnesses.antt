@@ -9,7 +9,7 @@ use Rattle.std.specs.Prelude.{Some}
 use Rattle.bw_repair.specs.DataHeads.{IsDataHead, LacksData, is_riff_wave}
 use Rattle.bw_repair.specs.Decisions.{decided}
 use Rattle.bw_repair.specs.Faults.{as_repair_fault}
-use Rattle.bw_repair.specs.Repaired.{FaultsAs, IsReadAs, with_sizes}
+use Rattle.bw_repair.specs.RepairedFiles.{FaultsAs, IsReadAs, with_sizes}
 use Rattle.bw_repair.specs.declared.decision.Sizes.{Sizes}
 use Rattle.bw_repair.specs.declared.fault.RepairFault.{RepairFault}
 use Rattle.bw_repair.specs.declared.search.DataHead.{DataHead}

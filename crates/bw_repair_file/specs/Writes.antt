@@ -2,7 +2,7 @@
 use Rattle.std.specs.Prelude.{◌≡◌, ℕ, ◌+◌, ◌<◌, ◌≤◌, List, Option, Some, take}
 use Rattle.bw_model.specs.Bytes.{le32}
 use Rattle.bw_store.specs.Stores.{overwritten}
-use Rattle.bw_repair.specs.Repaired.{with_sizes}
+use Rattle.bw_repair.specs.RepairedFiles.{with_sizes}
 use Rattle.bw_repair_file.specs.declared.plan.SizePlan.{SizePlan}
 
 -- the file has the new sizes, and nothing else is changed

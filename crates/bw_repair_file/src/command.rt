@@ -2,7 +2,7 @@
 ghost use Rattle.std.specs.Prelude.{◌≡◌, ◌⊎◌, ◌^◌, ◌<◌, Bool};
 ghost use Rattle.std.specs.IoError.{error_kind};
 ghost use Rattle.bw_console.specs.Outcomes.{Outcome, HasWritten, IsOutOfMemory};
-ghost use Rattle.bw_console.specs.Printing.{IsPrint, failures_if};
+ghost use Rattle.bw_console.specs.Prints.{IsPrint, failures_if};
 ghost use Rattle.bw_repair_file.specs.Repairs.{EndsWriting, IsRefusedRepair, IsRepair, IsUnwritten};
 ghost use Rattle.bw_repair_file.specs.Repairs.{exit_on_fault};
 

@@ -1,7 +1,7 @@
 //! What is to be written into a file.
 ghost use Rattle.std.specs.Prelude.{◌≡◌, IfOk, IfErr};
 ghost use Rattle.bw_stream.specs.Readers.{Of};
-ghost use Rattle.bw_console.specs.Printing.{failures_if};
+ghost use Rattle.bw_console.specs.Prints.{failures_if};
 ghost use Rattle.bw_model.specs.Report.{frames_of};
 ghost use Rattle.bw_repair.specs.DataHeads.{IsDataHead};
 ghost use Rattle.bw_repair.specs.Near.{IsNear};

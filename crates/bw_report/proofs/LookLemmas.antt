@@ -18,15 +18,15 @@ use Rattle.bw_inspect.specs.declared.fault.InspectKind.TheVariants.{Read as Fail
 use Rattle.bw_commands.specs.Inspections.{IsPrintOfText}
 use Rattle.std.specs.declared.io.ErrorKind.{ErrorKind}
 use Rattle.bw_console.specs.Faults.{exit_on, input_fault_text}
-use Rattle.bw_console.specs.Openings.{IsUnopened}
+use Rattle.bw_console.specs.FailedOpenings.{IsUnopened}
 use Rattle.bw_console.specs.Outcomes.{IsOutOfMemory, Outcome}
-use Rattle.bw_console.specs.Printing.{IsOf, IsPrint, Nothing, Print, Whole, failures_if}
+use Rattle.bw_console.specs.Prints.{IsOf, IsPrint, Nothing, Print, Whole, failures_if}
 use Rattle.bw_console.specs.Text.{as_line}
 use Rattle.bw_console.specs.declared.exit.Exit.{Exit}
 use Rattle.bw_console.specs.declared.exit.Exit.TheVariants.{Done, Refused, Usage, Device, Memory as OutOfMemory}
 use Rattle.bw_console.specs.declared.fault.Fault.{Fault}
 use Rattle.bw_report.specs.Entries.{entry_text}
-use Rattle.bw_report.specs.Findings.{IsFoundInBytes, exit_of_found, worse}
+use Rattle.bw_report.specs.FileFindings.{IsFoundInBytes, exit_of_found, worse}
 use Rattle.bw_report.specs.FileLooks.{IsOpening, IsReportedUnopened}
 use Rattle.bw_report.specs.FileLooks.{ArePrints, IsStoppedEarly, IsFoundAt, IsLookAt, IsShown, Look, look_entry}
 use Rattle.bw_report.specs.FileLooks.{failures_after_looks, worst}

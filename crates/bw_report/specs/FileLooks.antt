@@ -6,15 +6,15 @@ use Rattle.bw_stream.specs.Readers.{Of}
 use Rattle.bw_stream.specs.declared.sink.Sink.{Ghosts as Writer}
 use Rattle.bw_commands.specs.Inspections.{IsPrintOfText}
 use Rattle.bw_console.specs.Faults.{exit_on, input_fault_text}
-use Rattle.bw_console.specs.Openings.{IsUnopened}
+use Rattle.bw_console.specs.FailedOpenings.{IsUnopened}
 use Rattle.bw_console.specs.Outcomes.{IsOutOfMemory, Outcome}
-use Rattle.bw_console.specs.Printing.{IsOf, IsPrint, Nothing, Print, Whole, failures_if}
+use Rattle.bw_console.specs.Prints.{IsOf, IsPrint, Nothing, Print, Whole, failures_if}
 use Rattle.bw_console.specs.Text.{as_line}
 use Rattle.bw_console.specs.declared.exit.Exit.{Exit}
 use Rattle.bw_console.specs.declared.exit.Exit.TheVariants.{Done}
 use Rattle.bw_console.specs.declared.fault.Fault.{Fault}
 use Rattle.bw_report.specs.Entries.{entry_text}
-use Rattle.bw_report.specs.Findings.{IsFoundInBytes, exit_of_found, worse}
+use Rattle.bw_report.specs.FileFindings.{IsFoundInBytes, exit_of_found, worse}
 use Rattle.bw_report.specs.declared.entry.Wanted.{Wanted}
 use Rattle.bw_report.specs.declared.found.Found.{Found}
 use Rattle.bw_report.specs.declared.found.Found.TheVariants.{Read, Faulty, Unopened}

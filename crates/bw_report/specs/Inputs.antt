@@ -7,7 +7,7 @@ use Rattle.bw_console.specs.Faults.{IsReportedBy, exit_of}
 use Rattle.bw_console.specs.Outcomes.{Outcome}
 use Rattle.bw_console.specs.declared.fault.Fault.{Fault}
 use Rattle.bw_report.specs.Entries.{entry_text}
-use Rattle.bw_report.specs.Findings.{IsFoundInBytes, exit_of_found, worse}
+use Rattle.bw_report.specs.FileFindings.{IsFoundInBytes, exit_of_found, worse}
 use Rattle.bw_report.specs.declared.entry.Style.{Style}
 use Rattle.bw_report.specs.declared.found.Found.{Found}
 use Rattle.bw_report.specs.declared.found.Found.TheVariants.{Read, Faulty, Unopened}

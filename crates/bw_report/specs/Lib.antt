@@ -5,7 +5,7 @@ pub mod Values
 pub mod Objects
 pub mod HumanTexts
 pub mod Digests
-pub mod Findings
+pub mod FileFindings
 pub mod Entries
 pub mod FileLooks
 pub mod Inputs

@@ -2,7 +2,7 @@
 ghost use Rattle.std.specs.Prelude.{◌≡◌, ◌++◌, Some, IfOk, false};
 ghost use Rattle.bw_model.specs.Report.{report_text};
 ghost use Rattle.bw_commands.specs.Inspections.{IsPrintOfText};
-ghost use Rattle.bw_console.specs.Printing.{IsPrint, Print};
+ghost use Rattle.bw_console.specs.Prints.{IsPrint, Print};
 ghost use Rattle.bw_inspect.specs.Reports.{reported_by};
 ghost use Rattle.bw_report.specs.Entries.{digest_text, entry_text, fault_entry};
 ghost use Rattle.bw_report.specs.Entries.{heading as heading_of};

@@ -1,7 +1,7 @@
 //! How a command ends by its files.
 ghost use Rattle.std.specs.Prelude.{◌≡◌};
 ghost use Rattle.bw_commands.specs.Inspections.{exit_for_fault};
-ghost use Rattle.bw_report.specs.Findings.{worse};
+ghost use Rattle.bw_report.specs.FileFindings.{worse};
 
 use bw_console::Exit;
 use bw_inspect::InspectKind;

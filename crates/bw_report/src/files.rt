@@ -1,7 +1,7 @@
 //! Files one after another, each with its entry.
 ghost use Rattle.std.specs.Prelude.{◌≡◌, true, map, string_bytes};
 ghost use Rattle.bw_stream.specs.Readers.{Of};
-ghost use Rattle.bw_report.specs.Findings.{IsGivenOf};
+ghost use Rattle.bw_report.specs.FileFindings.{IsGivenOf};
 ghost use Rattle.bw_report.specs.FileLooks.{IsFoundAt, AreInspected, Look};
 
 use crate::digest::report_digest;

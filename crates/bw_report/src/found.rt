@@ -1,6 +1,6 @@
 //! What is found at a path.
 ghost use Rattle.std.specs.Prelude.{◌≡◌};
-ghost use Rattle.bw_report.specs.Findings.{exit_of_found};
+ghost use Rattle.bw_report.specs.FileFindings.{exit_of_found};
 
 use crate::exits::exit_on;
 use bw_console::Exit;

@@ -2,8 +2,8 @@
 ghost use Rattle.std.specs.Prelude.{◌≡◌, false};
 ghost use Rattle.bw_stream.specs.Readers.{Of};
 ghost use Rattle.bw_console.specs.Outcomes.{HasWritten, Outcome};
-ghost use Rattle.bw_console.specs.Printing.{failures_if};
-ghost use Rattle.bw_report.specs.Findings.{IsFoundInBytes};
+ghost use Rattle.bw_console.specs.Prints.{failures_if};
+ghost use Rattle.bw_report.specs.FileFindings.{IsFoundInBytes};
 ghost use Rattle.bw_report.specs.Inputs.{IsEntryOf, WasOpened, is_read_by};
 
 use crate::entry::{Style, Wanted, print_entry};

@@ -1,3 +1,3 @@
-pub mod Owned
+pub mod OwnedRequests
 pub mod Requests
 pub mod Verdicts

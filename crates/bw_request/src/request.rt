@@ -144,7 +144,7 @@ impl Model for Request {
     ghost use Rattle.bw_model.specs.Take.{Request as Requested};
     ghost use Rattle.bw_model.specs.Limits.{longest_block};
     ghost use Rattle.bw_model.specs.Wire.{is_request};
-    ghost use Rattle.bw_request.specs.Owned.{owned_meaning};
+    ghost use Rattle.bw_request.specs.OwnedRequests.{owned_meaning};
 
     ghost Value = { Requested };
 

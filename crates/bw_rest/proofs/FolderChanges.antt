@@ -6,7 +6,7 @@ use Rattle.bw_model.specs.Book.{Book, log_of, is_known}
 use Rattle.bw_model.proofs.BookLemmas.{same_name}
 use Rattle.bw_store.specs.declared.store.TakeStore.{Ghosts as StoreGhosts}
 use Rattle.bw_journal.specs.JournalHeaders.{Header}
-use Rattle.bw_journal.specs.Resting.{KeepsOtherJournals}
+use Rattle.bw_journal.specs.JournalsAtRest.{KeepsOtherJournals}
 use Rattle.bw_journal.specs.declared.journal.Journal.{Ghosts as JournalGhosts}
 use Rattle.bw_session.specs.Books.{HoldsBook, NotesBook}
 use Rattle.bw_session.specs.RestingNames.{KeepsOtherNames, journals_of}

@@ -8,10 +8,10 @@ use Rattle.bw_store.specs.declared.store.TakeStore.{Ghosts as StoreGhosts}
 use Rattle.bw_journal.specs.JournalHeaders.{Header}
 use Rattle.bw_journal.specs.declared.journal.Journal.{Ghosts as JournalGhosts}
 use Rattle.bw_session.specs.Books.{HoldsBook}
-use Rattle.bw_session.specs.Journaled.{NotesNames}
+use Rattle.bw_session.specs.NotedNames.{NotesNames}
 use Rattle.bw_journal.specs.JournalHeaders.{header_bytes}
 use Rattle.bw_journal.specs.Notes.{IsPrefixOf}
-use Rattle.bw_session.specs.Noting.{IsNoted}
+use Rattle.bw_session.specs.NameNotes.{IsNoted}
 use Rattle.bw_session.specs.RestingNames.{KeepsNames}
 use Rattle.bw_session.specs.Servers.{HoldsIn, kept_by, store_since}
 use Rattle.bw_session.specs.Tables.{session_in}

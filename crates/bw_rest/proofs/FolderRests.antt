@@ -7,7 +7,7 @@ use Rattle.bw_model.specs.Book.{Log, Book, log_of, is_known, no_log}
 use Rattle.bw_model.proofs.BookLemmas.{name_refl, unknown_log}
 use Rattle.bw_store.specs.declared.store.TakeStore.{Ghosts as StoreGhosts}
 use Rattle.bw_journal.specs.JournalHeaders.{Header}
-use Rattle.bw_journal.specs.Resting.{PutsToRest}
+use Rattle.bw_journal.specs.JournalsAtRest.{PutsToRest}
 use Rattle.bw_journal.specs.Stops.{cut_log, without}
 use Rattle.bw_journal.proofs.CutLaws.{log-without_other, known-without_same, known-without_other}
 use Rattle.bw_journal.specs.declared.journal.Journal.{Ghosts as JournalGhosts}

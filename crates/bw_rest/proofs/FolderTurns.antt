@@ -25,8 +25,8 @@ use Rattle.bw_session.specs.declared.session.Session.{Session}
 use Rattle.bw_session.specs.declared.server.Server.{Server}
 use Rattle.bw_session.proofs.RestTables.{restable_reported}
 use Rattle.bw_rest.specs.Folders.{HoldsFolder, RestsOutside, IsUnknown, IsInTable}
-use Rattle.bw_rest.specs.Folding.{name_of_frame, turn_where, stops_where, HasNoRoom, ends_with_request, may_rest}
-use Rattle.bw_rest.specs.Resting.{FolderTurn, NoneMayRest, HasPlace, IsAwake}
+use Rattle.bw_rest.specs.FolderRuns.{name_of_frame, turn_where, stops_where, HasNoRoom, ends_with_request, may_rest}
+use Rattle.bw_rest.specs.TurnsAtRest.{FolderTurn, NoneMayRest, HasPlace, IsAwake}
 use Rattle.bw_rest.proofs.FolderForms.{never, no_some, outside_as, unknown_outside}
 use Rattle.bw_rest.proofs.LogEnds.{turn_ends, change_ends}
 

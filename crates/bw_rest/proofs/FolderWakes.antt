@@ -5,7 +5,7 @@ use Rattle.bw_model.specs.Book.{Book, log_of, is_known}
 use Rattle.bw_model.proofs.BookLemmas.{name_refl}
 use Rattle.bw_store.specs.declared.store.TakeStore.{Ghosts as StoreGhosts}
 use Rattle.bw_journal.specs.JournalHeaders.{Header}
-use Rattle.bw_journal.specs.Resting.{WakesJournal}
+use Rattle.bw_journal.specs.JournalsAtRest.{WakesJournal}
 use Rattle.bw_journal.specs.declared.journal.Journal.{Ghosts as JournalGhosts}
 use Rattle.bw_session.specs.RestingNames.{WakesBook, WakesName, KeepsOtherNames, journals_of, with_first}
 use Rattle.bw_session.specs.declared.server.Server.{Server}

@@ -10,8 +10,8 @@ use Rattle.bw_session.specs.Tables.{session_in}
 use Rattle.bw_session.specs.declared.server.Server.{Server}
 use Rattle.bw_rest.specs.declared.finding.Found.{Found}
 use Rattle.bw_rest.specs.declared.finding.Found.TheVariants as found
-use Rattle.bw_rest.specs.Folding.{name_of_frame, delay_of}
-use Rattle.bw_rest.specs.Resting.{KeepsFolders, NoneMayRest, HasPlace, IsWhere, RestingTurn}
+use Rattle.bw_rest.specs.FolderRuns.{name_of_frame, delay_of}
+use Rattle.bw_rest.specs.TurnsAtRest.{KeepsFolders, NoneMayRest, HasPlace, IsWhere, RestingTurn}
 use Rattle.bw_rest.proofs.FolderForms.{never}
 use Rattle.bw_rest.proofs.PrepareForms.{served_turn, off_turn, not_inside}
 

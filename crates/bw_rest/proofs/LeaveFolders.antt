@@ -12,12 +12,12 @@ use Rattle.bw_model.proofs.BookLemmas.{unknown_log}
 use Rattle.bw_model.proofs.HeldFiles.{held_files}
 use Rattle.bw_store.specs.declared.store.TakeStore.{Ghosts as StoreGhosts}
 use Rattle.bw_journal.specs.declared.journal.Journal.{Ghosts as JournalGhosts}
-use Rattle.bw_exchange.specs.Answering.{Answered, AnswersAll}
+use Rattle.bw_exchange.specs.AnsweredFrames.{Answered, AnswersAll}
 use Rattle.bw_session.specs.Servers.{kept_in, store_since}
 use Rattle.bw_session.specs.declared.server.Server.{Server}
 use Rattle.bw_rest.specs.Folders.{HoldsFolder, RestsOutside, IsUnknown}
-use Rattle.bw_rest.specs.Leaving.{RunsLeaveFolders}
-use Rattle.bw_rest.specs.Resting.{RestingTurn}
+use Rattle.bw_rest.specs.RunLeavings.{RunsLeaveFolders}
+use Rattle.bw_rest.specs.TurnsAtRest.{RestingTurn}
 use Rattle.bw_rest.proofs.RestRuns.{runs_rest_on, honest_then}
 
 -- the file that is to stand, by what stood first and by the log

@@ -13,7 +13,7 @@ use Rattle.bw_model.proofs.BookLemmas.{log-with_log_same, log-with_log_other, sa
 use Rattle.bw_journal.specs.Stops.{cut_log}
 use Rattle.bw_session.specs.Books.{count_waiting}
 use Rattle.bw_session.proofs.ReportForms.{count_more}
-use Rattle.bw_rest.specs.Folding.{ends_with_request}
+use Rattle.bw_rest.specs.FolderRuns.{ends_with_request}
 
 never : {A : Type 0} → false ≡ true → A
 never e = absurd cc

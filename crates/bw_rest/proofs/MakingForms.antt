@@ -5,7 +5,7 @@ use Rattle.std.specs.List.{Contains}
 use Rattle.std.specs.Option.{option_map_or}
 use Rattle.bw_store.specs.declared.store.TakeStore.{Ghosts as StoreGhosts}
 use Rattle.bw_journal.specs.declared.journal.Journal.{Ghosts as JournalGhosts}
-use Rattle.bw_session.specs.Listing.{ListsNames, is_known_in}
+use Rattle.bw_session.specs.KnownNames.{ListsNames, is_known_in}
 use Rattle.bw_session.specs.RestingNames.{is_restable, is_restable_in}
 use Rattle.bw_session.specs.Servers.{kept_by}
 use Rattle.bw_session.specs.Tables.{session_in}
@@ -13,8 +13,8 @@ use Rattle.bw_session.specs.declared.session.Session.{Session}
 use Rattle.bw_session.specs.declared.server.Server.{Server}
 use Rattle.bw_rest.specs.declared.room.Rest.{Rest}
 use Rattle.bw_rest.specs.declared.room.Rest.TheVariants as rest
-use Rattle.bw_rest.specs.Making.{has_rested, is_failed, is_declined, KeepsSessions}
-use Rattle.bw_rest.specs.Resting.{KeepsFolders, NoneMayRest}
+use Rattle.bw_rest.specs.RoomResults.{has_rested, is_failed, is_declined, KeepsSessions}
+use Rattle.bw_rest.specs.TurnsAtRest.{KeepsFolders, NoneMayRest}
 use Rattle.bw_rest.proofs.FolderForms.{never}
 
 -- it goes on with the next name

@@ -11,9 +11,9 @@ use Rattle.bw_model.specs.Turn.{run, book_after, is_of, is_turned_away}
 use Rattle.bw_model.proofs.BookLemmas.{same_name, name_refl, log-with_log_same, log-with_log_other, known-with_log_same}
 use Rattle.bw_model.proofs.BookLemmas.{known-with_log_other, unknown_log}
 use Rattle.bw_model.proofs.Isolation.{served-not_away}
-use Rattle.bw_exchange.specs.Answering.{Answered}
+use Rattle.bw_exchange.specs.AnsweredFrames.{Answered}
 use Rattle.bw_exchange.specs.TurnRuns.{answers_in}
-use Rattle.bw_rest.specs.Folding.{IsFolderRun, ServesFrame, turn_where, name_of_frame, delay_of}
+use Rattle.bw_rest.specs.FolderRuns.{IsFolderRun, ServesFrame, turn_where, name_of_frame, delay_of}
 use Rattle.bw_rest.specs.OwnRuns.{book_of_name, is_own_answer, LeavesOutDelays, RunsAlone, NamesRunAlone}
 use Rattle.bw_rest.proofs.FolderForms.{never}
 

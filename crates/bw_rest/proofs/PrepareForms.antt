@@ -13,7 +13,7 @@ use Rattle.bw_model.proofs.BookLemmas.{same_name}
 use Rattle.bw_store.specs.declared.store.TakeStore.{Ghosts as StoreGhosts}
 use Rattle.bw_journal.specs.declared.journal.Journal.{Ghosts as JournalGhosts}
 use Rattle.bw_session.specs.Books.{failures_of}
-use Rattle.bw_session.specs.Numbered.{failed_calls}
+use Rattle.bw_session.specs.NextNumbers.{failed_calls}
 use Rattle.bw_session.specs.RestingNames.{KeepsNames, RestsNow, WakesNow, RestsNameIf, WakesNameIf, is_restable}
 use Rattle.bw_session.specs.RestingNames.{is_restable_in}
 use Rattle.bw_session.specs.Servers.{store_since}
@@ -23,10 +23,10 @@ use Rattle.bw_session.specs.declared.session.Session.{Session}
 use Rattle.bw_session.specs.declared.server.Server.{Server}
 use Rattle.bw_session.proofs.ServerForms.{apart_names, unknown_here}
 use Rattle.bw_rest.specs.Folders.{HoldsFolder}
-use Rattle.bw_rest.specs.Folding.{name_of_frame, delay_of, ServesFrame}
+use Rattle.bw_rest.specs.FolderRuns.{name_of_frame, delay_of, ServesFrame}
 use Rattle.bw_rest.specs.RestCalls.{KeepsStore, NoneMovesToRest, OnlyMovesToRest, WasToRest, WasWoken, WasLeft, WasCalled}
 use Rattle.bw_rest.specs.RestCalls.{WereCalled}
-use Rattle.bw_rest.specs.Resting.{KeepsFolders, StaysOutside, NoneMayRest, HasPlace, IsAwake, FolderTurn, PutsOff, RestingTurn}
+use Rattle.bw_rest.specs.TurnsAtRest.{KeepsFolders, StaysOutside, NoneMayRest, HasPlace, IsAwake, FolderTurn, PutsOff, RestingTurn}
 use Rattle.bw_rest.proofs.FolderForms.{never, folder_kept, rests_outside}
 use Rattle.bw_rest.proofs.FolderRests.{folder_rests}
 use Rattle.bw_rest.proofs.FolderWakes.{folder_woke}

@@ -7,7 +7,7 @@ use Rattle.bw_journal.specs.declared.journal.Journal.{Ghosts as JournalGhosts}
 use Rattle.bw_session.specs.Books.{failures_of}
 use Rattle.bw_session.specs.declared.server.Server.{Server}
 use Rattle.bw_rest.specs.Folders.{HoldsFolder}
-use Rattle.bw_rest.specs.Resting.{RestingTurn, FolderTurn}
+use Rattle.bw_rest.specs.TurnsAtRest.{RestingTurn, FolderTurn}
 use Rattle.bw_rest.specs.Runs.{RestsOn, RunsRestOn}
 
 module _ {X Y : Type 0} (S : StoreGhosts X) (J : JournalGhosts Y) where

@@ -7,7 +7,7 @@ use Rattle.bw_session.specs.Books.{HoldsBook, NotesBook}
 use Rattle.bw_session.specs.RestingNames.{IsAtRest}
 use Rattle.bw_session.specs.declared.server.Server.{Server}
 use Rattle.bw_session.specs.SeenServers.{server_store, server_journal, server_limit}
-use Rattle.bw_rest.specs.Folding.{ends_with_request}
+use Rattle.bw_rest.specs.FolderRuns.{ends_with_request}
 
 -- A name of the table is one of the folder, with the same log, and its file is none that existed.
 pub record IsInTable (known : Bool) (log in_table : Log) (first now : Option (List ℕ)) :

@@ -1,10 +1,10 @@
 pub mod Folders
-pub mod Folding
-pub mod Making
+pub mod FolderRuns
+pub mod RoomResults
 pub mod OwnRuns
-pub mod Resting
+pub mod TurnsAtRest
 pub mod Runs
 pub mod RestingServers
-pub mod Leaving
+pub mod RunLeavings
 pub mod UseOrder
 pub mod RestCalls

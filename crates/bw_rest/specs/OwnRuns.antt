@@ -3,9 +3,9 @@ use Rattle.std.specs.Prelude.{◌≡◌, ◌⊎◌, ℕ, Bool, not, ◌&&◌, Li
 use Rattle.bw_model.specs.Wire.{Frame}
 use Rattle.bw_model.specs.Book.{Book, log_of, is_known}
 use Rattle.bw_model.specs.Turn.{Faults, run, book_after, is_of, is_turned_away}
-use Rattle.bw_exchange.specs.Answering.{Answered}
+use Rattle.bw_exchange.specs.AnsweredFrames.{Answered}
 use Rattle.bw_exchange.specs.TurnRuns.{answers_in}
-use Rattle.bw_rest.specs.Folding.{IsFolderRun, delay_of}
+use Rattle.bw_rest.specs.FolderRuns.{IsFolderRun, delay_of}
 
 -- the book of this name alone
 abbrev pub book_of_name : Book → List ℕ → Book

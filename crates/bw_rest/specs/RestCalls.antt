@@ -2,7 +2,7 @@
 use Rattle.std.specs.Prelude.{◌≡◌, ◌⊎◌, ℕ, None, IsTrue, List, [], ◌∷◌}
 use Rattle.bw_model.specs.Wire.{is_name}
 use Rattle.bw_store.specs.declared.store.TakeStore.{Ghosts as StoreGhosts}
-use Rattle.bw_journal.specs.Standing.{KeepsStanding, MayStandAtRest}
+use Rattle.bw_journal.specs.Standings.{KeepsStanding, MayStandAtRest}
 use Rattle.bw_journal.specs.declared.journal.Journal.{Ghosts as JournalGhosts}
 use Rattle.bw_session.specs.RestingNames.{KeepsNames, RestsNow, WakesNow, restable_kept}
 use Rattle.bw_session.specs.SeenServers.{server_store, server_journal, server_limit, session_kept}

@@ -1,15 +1,15 @@
 -- Runs of a server over a folder in which names rest.
 use Rattle.std.specs.Prelude.{ℕ, Option, is_some, IsTrue, List}
 use Rattle.bw_model.specs.Book.{Book}
-use Rattle.bw_exchange.specs.Answering.{Answered, AnswersAll}
+use Rattle.bw_exchange.specs.AnsweredFrames.{Answered, AnswersAll}
 use Rattle.bw_store.specs.declared.store.TakeStore.{Ghosts as StoreGhosts}
 use Rattle.bw_journal.specs.declared.journal.Journal.{Ghosts as JournalGhosts}
 use Rattle.bw_session.specs.Books.{failures_of}
 use Rattle.bw_session.specs.declared.server.Server.{Server}
 use Rattle.bw_session.specs.SeenServers.{server_store, server_journal}
 use Rattle.bw_rest.specs.Folders.{HoldsFolder}
-use Rattle.bw_rest.specs.Folding.{IsFolderRun}
-use Rattle.bw_rest.specs.Resting.{RestingTurn}
+use Rattle.bw_rest.specs.FolderRuns.{IsFolderRun}
+use Rattle.bw_rest.specs.TurnsAtRest.{RestingTurn}
 
 module _ {X Y : Type 0} (S : StoreGhosts X) (J : JournalGhosts Y) where
   -- The frames were served or put off, each on the folder's book that the one before left, and the

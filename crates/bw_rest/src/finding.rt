@@ -2,8 +2,8 @@
 ghost use Rattle.std.specs.Prelude.{◌≡◌, ◌<◌, ◌⊎◌, Bool, true, false, List, ℕ, Option, None};
 ghost use Rattle.std.specs.Prelude.{IsTrue, IsSome};
 ghost use Rattle.bw_model.specs.Turn.{most_takes};
-ghost use Rattle.bw_rest.specs.Making.{is_failed, room_failed, find_failed};
-ghost use Rattle.bw_rest.specs.Resting.{KeepsFolders, StaysOutside, NoneMayRest, HasPlace, IsWhere};
+ghost use Rattle.bw_rest.specs.RoomResults.{is_failed, room_failed, find_failed};
+ghost use Rattle.bw_rest.specs.TurnsAtRest.{KeepsFolders, StaysOutside, NoneMayRest, HasPlace, IsWhere};
 ghost use Rattle.bw_session.specs.SeenServers.{server_journal, session_kept, names_kept};
 
 use crate::resting::RestingServer;

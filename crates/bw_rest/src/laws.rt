@@ -1,6 +1,6 @@
 //! Laws of servers whose names rest. Each function's contract is one; nothing runs.
 ghost use Rattle.bw_rest.specs.OwnRuns.{NamesRunAlone};
-ghost use Rattle.bw_rest.specs.Leaving.{RunsLeaveFolders};
+ghost use Rattle.bw_rest.specs.RunLeavings.{RunsLeaveFolders};
 ghost use Rattle.bw_rest.specs.Runs.{RunsRestOn};
 
 use bw_journal::Journal;

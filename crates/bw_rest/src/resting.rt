@@ -5,7 +5,7 @@ ghost use Rattle.bw_model.specs.Replies.{Noticed, DelayedStore};
 ghost use Rattle.bw_model.specs.Wire.{Says, Asks, Second, last_number};
 ghost use Rattle.bw_wire.specs.Frames.{message_of, asked_name, asked_number};
 ghost use Rattle.bw_wire.specs.Replies.{reply_of, HasWireNumbers};
-ghost use Rattle.bw_session.specs.Listing.{ListsNames};
+ghost use Rattle.bw_session.specs.KnownNames.{ListsNames};
 ghost use Rattle.bw_session.specs.SeenServers.{known_kept};
 ghost use Rattle.bw_session.specs.RestingNames.{restable_kept};
 ghost use Rattle.bw_session.specs.ServerTurns.{ServerTurn};
@@ -135,7 +135,7 @@ fn first_uses<S: TakeStore, J: RestingJournal>(
 }
 
 impl<S: TakeStore, J: RestingJournal> Turns for RestingServer<S, J> {
-    ghost use Rattle.bw_rest.specs.Resting.{RestingTurn};
+    ghost use Rattle.bw_rest.specs.TurnsAtRest.{RestingTurn};
     ghost use Rattle.bw_rest.specs.RestingServers.{table_server};
 
     ghost answers = { λ old frame replies new.

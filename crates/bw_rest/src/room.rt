@@ -2,9 +2,9 @@
 ghost use Rattle.std.specs.Prelude.{◌≡◌, ◌<◌, ◌||◌, true, false, None, IfSome, length, position};
 ghost use Rattle.std.specs.List.{All};
 ghost use Rattle.bw_model.specs.Turn.{most_takes};
-ghost use Rattle.bw_rest.specs.Making.{is_failed, has_rested, is_declined, room_failed};
-ghost use Rattle.bw_rest.specs.Making.{KeepsSessions};
-ghost use Rattle.bw_rest.specs.Resting.{KeepsFolders, StaysOutside, NoneMayRest, HasPlace};
+ghost use Rattle.bw_rest.specs.RoomResults.{is_failed, has_rested, is_declined, room_failed};
+ghost use Rattle.bw_rest.specs.RoomResults.{KeepsSessions};
+ghost use Rattle.bw_rest.specs.TurnsAtRest.{KeepsFolders, StaysOutside, NoneMayRest, HasPlace};
 ghost use Rattle.bw_session.specs.SeenServers.{session_kept, names_kept};
 ghost use Rattle.bw_session.specs.RestingNames.{restable_kept};
 ghost use Rattle.bw_rest.specs.UseOrder.{FirstHasLeft};

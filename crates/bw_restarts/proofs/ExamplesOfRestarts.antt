@@ -16,8 +16,8 @@ use Rattle.bw_model.specs.Exchange.{nothing_stands}
 use Rattle.bw_model.specs.ExampleWords.{a1, mono, two_frames, says, open_0, block_1, close_2, judged_example}
 use Rattle.bw_model.specs.ExamplesOfWorlds.{small_take}
 use Rattle.bw_journal.proofs.CutLaws.{cut_books_are_books}
-use Rattle.bw_exchange.specs.Answering.{Answered}
-use Rattle.bw_connections.specs.Keeping.{Tagged, own}
+use Rattle.bw_exchange.specs.AnsweredFrames.{Answered}
+use Rattle.bw_connections.specs.ConnectionTables.{Tagged, own}
 use Rattle.bw_delivery.specs.Deliveries.{LinkBytes, IsOwnLink, IsOfAnother, IsJoined, IsDelivery, HasOnly, HearsVerdict}
 use Rattle.bw_delivery.proofs.Elements.{each-contains}
 use Rattle.bw_delivery.proofs.ExamplesOfDeliveries.{skipped, take_said}

@@ -10,7 +10,7 @@ use Rattle.std.specs.List.{AllByRecursion}
 use Rattle.bw_console.specs.Text.{as_line}
 use Rattle.bw_resume.specs.Counts.{most_settled, settled_text}
 use Rattle.bw_resume.specs.States.{count_lines, state_bytes}
-use Rattle.bw_resume.specs.Reading.{greatest_count, lines_after, said_after, settled_in}
+use Rattle.bw_resume.specs.StateReadings.{greatest_count, lines_after, said_after, settled_in}
 use Rattle.bw_resume.specs.Laws.{CutStatesAreRead, OtherStatesSayNothing, StatesAreRead, greatest, said_of_cut, whole_counts}
 use Rattle.bw_resume.proofs.TextLines.{cut_after, cut_short}
 use Rattle.bw_resume.proofs.CountLines.{settled_is_read, settled_is_text}

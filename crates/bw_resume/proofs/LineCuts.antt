@@ -4,7 +4,7 @@ use Rattle.std.proofs.Common.{length, take, drop, ap, sym, refl, arith, append_a
 use Rattle.std.proofs.lemmas.List.{take_all}
 use Rattle.std.specs.Prelude.{◌==◌}
 use Rattle.std.specs.List.{prefix_len}
-use Rattle.bw_resume.specs.Reading.{lines_after}
+use Rattle.bw_resume.specs.StateReadings.{lines_after}
 
 abbrev goes_on : ℕ → Bool
 goes_on c = not (c == 10)

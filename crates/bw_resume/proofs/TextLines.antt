@@ -3,7 +3,7 @@ use Rattle.std.proofs.Common.{◌≡◌, ◌≢◌, ◌+◌, ◌-◌, ◌≤◌,
 use Rattle.std.proofs.Common.{length, take, ap, sym, refl, arith, append_assoc, append-nil}
 use Rattle.std.specs.Prelude.{◌==◌}
 use Rattle.std.specs.List.{AllByRecursion}
-use Rattle.bw_resume.specs.Reading.{lines_after}
+use Rattle.bw_resume.specs.StateReadings.{lines_after}
 
 -- no byte of it ends a line
 abbrev pub IsText : List ℕ → Type 0

@@ -6,7 +6,7 @@ use Rattle.bw_console.specs.Text.{as_line}
 use Rattle.bw_resume.specs.Counts.{most_settled, settled_text}
 use Rattle.bw_resume.specs.Headers.{IsOrigin, Origin, state_header}
 use Rattle.bw_resume.specs.States.{state_bytes}
-use Rattle.bw_resume.specs.Reading.{settled_in}
+use Rattle.bw_resume.specs.StateReadings.{settled_in}
 use Rattle.std.specs.List.{AllByRecursion}
 
 -- the greatest of these; 0 if there are none

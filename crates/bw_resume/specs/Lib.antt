@@ -1,5 +1,5 @@
 pub mod Counts
 pub mod Headers
 pub mod States
-pub mod Reading
+pub mod StateReadings
 pub mod Laws

@@ -2,7 +2,7 @@
 ghost use Rattle.std.specs.Prelude.{◌≡◌, ◌∷◌, ◌<◌, ◌≤◌, ◌==◌, [], IfSome, MatchOption, length, not};
 ghost use Rattle.std.specs.List.{prefix_len};
 ghost use Rattle.bw_resume.specs.Counts.{count_in as count_said, count_with_digit, digits_count, most_settled};
-ghost use Rattle.bw_resume.specs.Reading.{greatest_count as greatest_said, lines_after, settled_in as settled_by};
+ghost use Rattle.bw_resume.specs.StateReadings.{greatest_count as greatest_said, lines_after, settled_in as settled_by};
 
 /// The most requests that a take has.
 const MOST_SETTLED: u32 = 16_777_216;

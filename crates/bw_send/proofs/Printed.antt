@@ -4,7 +4,7 @@ use Rattle.bw_model.specs.Take.{Request}
 use Rattle.bw_stream.specs.Readers.{Of}
 use Rattle.bw_stream.specs.declared.sink.Sink.{Ghosts as Writer}
 use Rattle.bw_stream.specs.declared.source.Source.{Ghosts as Reader}
-use Rattle.bw_console.specs.Printing.{Print}
+use Rattle.bw_console.specs.Prints.{Print}
 use Rattle.bw_console.specs.declared.exit.Exit.{Exit}
 use Rattle.bw_ports.specs.declared.dial.Dial.{Ghosts as DialGhosts}
 use Rattle.bw_send.specs.RequestLines.{AreRequestsOf}

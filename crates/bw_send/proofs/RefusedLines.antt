@@ -4,7 +4,7 @@ use Rattle.std.proofs.Common.{append-nil}
 use Rattle.std.specs.Prelude.{flat_map}
 use Rattle.std.proofs.Math.ListN.{drop_of_length-le}
 use Rattle.bw_request.specs.declared.verdict.Verdict.{Verdict}
-use Rattle.bw_sender.specs.Refused.{refusal_of}
+use Rattle.bw_sender.specs.RefusedNumbers.{refusal_of}
 use Rattle.bw_send.specs.SenderText.{refused_line}
 
 -- the lines of these

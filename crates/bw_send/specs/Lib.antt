@@ -3,5 +3,5 @@ pub mod SendState
 pub mod RoundsMade
 pub mod SenderText
 pub mod Sends
-pub mod Watched
+pub mod RoundCounts
 pub mod WatchedSenders

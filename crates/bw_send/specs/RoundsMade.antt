@@ -13,7 +13,7 @@ use Rattle.bw_wire.specs.Codecs.{reply_codec, Spelled}
 use Rattle.bw_engine.specs.Sent.{Exchanges}
 use Rattle.bw_engine.specs.declared.send_fault.SendFault.{SendFault}
 use Rattle.bw_engine.specs.declared.send_fault.SendFault.TheVariants.{Memory}
-use Rattle.bw_ports.specs.Dialled.{GivesNext}
+use Rattle.bw_ports.specs.NextLinks.{GivesNext}
 use Rattle.bw_send.specs.SendState.{Sending, IsSettled, hear_in, offer_more}
 use Rattle.bw_ports.specs.declared.dial.Dial.{Ghosts as DialGhosts}
 use Rattle.bw_ports.specs.declared.dial.DialFault.{DialFault}

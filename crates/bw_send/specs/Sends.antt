@@ -6,7 +6,7 @@ use Rattle.bw_stream.specs.declared.source.Source.{Ghosts as Reader}
 use Rattle.bw_stream.specs.Readers.{Of}
 use Rattle.bw_console.specs.Outcomes.{Outcome}
 use Rattle.bw_console.specs.Faults.{IsReportedBy, exit_on, is_read}
-use Rattle.bw_console.specs.Printing.{Print, Nothing, Whole, Part, IsOf}
+use Rattle.bw_console.specs.Prints.{Print, Nothing, Whole, Part, IsOf}
 use Rattle.bw_console.specs.Text.{as_line}
 use Rattle.bw_console.specs.declared.exit.Exit.{Exit}
 use Rattle.bw_console.specs.declared.exit.Exit.TheVariants.{Done, Device}

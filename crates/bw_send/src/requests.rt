@@ -4,7 +4,7 @@ ghost use Rattle.bw_stream.specs.Readers.{Of};
 ghost use Rattle.bw_console.specs.Faults.{is_read};
 ghost use Rattle.bw_console.specs.Input.{longest_input, IsReadAhead};
 ghost use Rattle.bw_console.specs.Lines.{lines_of};
-ghost use Rattle.bw_console.specs.Printing.{failures_if};
+ghost use Rattle.bw_console.specs.Prints.{failures_if};
 ghost use Rattle.bw_send.specs.RequestLines.{AreRequestsOf, IsRequestFault, RefusesRequests};
 ghost use Rattle.bw_send.specs.RequestLines.{SayRequests};
 

@@ -4,7 +4,7 @@ ghost use Rattle.bw_stream.specs.Readers.{Of};
 ghost use Rattle.bw_console.specs.Outcomes.{Outcome, HasWritten};
 ghost use Rattle.bw_console.specs.Faults.{is_read};
 ghost use Rattle.bw_console.specs.Input.{longest_input, IsReadAhead};
-ghost use Rattle.bw_console.specs.Printing.{IsPrint, Print, failures_if};
+ghost use Rattle.bw_console.specs.Prints.{IsPrint, Print, failures_if};
 ghost use Rattle.bw_send.specs.RoundsMade.{MakesRounds};
 ghost use Rattle.bw_send.specs.SendState.{Sending, IsSending, new_sending};
 ghost use Rattle.bw_send.specs.Sends.{IsPrintOfSend, IsSendRun, ReportsOfExit};

@@ -2,7 +2,7 @@
 ghost use Rattle.std.specs.Prelude.{◌≡◌, ◌++◌, flat_map, map, IfOk, OnOk};
 ghost use Rattle.bw_model.specs.World.{Sender as Defined};
 ghost use Rattle.bw_request.specs.Verdicts.{verdict_meaning};
-ghost use Rattle.bw_sender.specs.Refused.{refusal_of};
+ghost use Rattle.bw_sender.specs.RefusedNumbers.{refusal_of};
 ghost use Rattle.bw_sender.specs.Senders.{IsSender};
 ghost use Rattle.bw_send.specs.SenderText.{counts_lines, name_of_verdict, refused_line};
 ghost use Rattle.bw_send.specs.SenderText.{sender_text};

@@ -4,9 +4,9 @@ ghost use Rattle.bw_model.specs.World.{Sender as Defined, settled as settled_of}
 ghost use Rattle.bw_model.specs.World.{stored as stored_of};
 ghost use Rattle.bw_request.specs.Requests.{samples_in};
 ghost use Rattle.bw_sender.specs.Senders.{IsSender};
-ghost use Rattle.bw_console.specs.Printing.{IsOf, IsPrint, Print};
-ghost use Rattle.bw_send.specs.Watched.{counted_bytes, round_counts_line, progress_line};
-ghost use Rattle.bw_send.specs.Watched.{settled_bytes};
+ghost use Rattle.bw_console.specs.Prints.{IsOf, IsPrint, Print};
+ghost use Rattle.bw_send.specs.RoundCounts.{counted_bytes, round_counts_line, progress_line};
+ghost use Rattle.bw_send.specs.RoundCounts.{settled_bytes};
 
 use arrayvec::ArrayString;
 use bw_console::print::print_diagnostic;

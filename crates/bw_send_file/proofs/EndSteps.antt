@@ -4,13 +4,13 @@ use Rattle.std.specs.declared.io.ErrorKind.{ErrorKind}
 use Rattle.bw_model.specs.Take.{Request}
 use Rattle.bw_model.specs.World.{Sender}
 use Rattle.std.specs.IoError.{error_kind}
-use Rattle.bw_console.specs.Openings.{IsUnopened}
+use Rattle.bw_console.specs.FailedOpenings.{IsUnopened}
 use Rattle.bw_console.specs.Outcomes.{IsOutOfMemory, Outcome as Did}
-use Rattle.bw_console.specs.Printing.{Print}
+use Rattle.bw_console.specs.Prints.{Print}
 use Rattle.bw_console.specs.declared.exit.Exit.{Exit}
 use Rattle.bw_console.specs.declared.exit.Exit.TheVariants as exits
 use Rattle.bw_recorder.proofs.Statuses.{device_ends, kind_ends, memory_ends, refused_ends, unopened_ends, unread_ends}
-use Rattle.bw_upload.specs.Fed.{OffersFeed}
+use Rattle.bw_upload.specs.OfferedFeeds.{OffersFeed}
 use Rattle.bw_upload.specs.Links.{says_done}
 use Rattle.bw_upload.specs.declared.outcome.Outcome.{Outcome}
 use Rattle.bw_upload.specs.declared.outcome.Outcome.TheVariants as outcomes

@@ -1,7 +1,7 @@
 -- What is reported where a command ends before anything is sent.
 use Rattle.std.proofs.Common.{◌≡◌, ℕ, Bool, List, Option, refl}
 use Rattle.bw_stream.specs.declared.sink.Sink.{Ghosts as Writer}
-use Rattle.bw_console.specs.Printing.{Print, IsPrint, failures_if}
+use Rattle.bw_console.specs.Prints.{Print, IsPrint, failures_if}
 use Rattle.bw_console.specs.declared.exit.Exit.{Exit}
 use Rattle.bw_recorder.specs.Openings.{is_well_at}
 use Rattle.bw_recorder.specs.Packs.{HasPacked, IsOpenReport, IsOptionsReport, Packing, RefusesAtOnce}

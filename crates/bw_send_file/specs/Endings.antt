@@ -3,7 +3,7 @@ use Rattle.std.specs.Prelude.{◌≡◌, ◌⊎◌, ◌++◌, ℕ, List, codes, 
 use Rattle.bw_model.specs.World.{Sender}
 use Rattle.bw_console.specs.Faults.{input_fault_text}
 use Rattle.bw_console.specs.Outcomes.{Outcome as Did, IsOutOfMemory}
-use Rattle.bw_console.specs.Printing.{Print, Nothing, Whole, Part, IsOf}
+use Rattle.bw_console.specs.Prints.{Print, Nothing, Whole, Part, IsOf}
 use Rattle.bw_console.specs.Text.{as_line}
 use Rattle.bw_console.specs.declared.exit.Exit.{Exit}
 use Rattle.bw_console.specs.declared.exit.Exit.TheVariants as exits

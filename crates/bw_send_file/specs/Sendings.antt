@@ -10,8 +10,8 @@ use Rattle.bw_sender.specs.Senders.{new_sender}
 use Rattle.bw_sender.specs.declared.sender.Sender.{Sender}
 use Rattle.bw_console.specs.Outcomes.{Outcome as Did, IsOutOfMemory}
 use Rattle.bw_console.specs.declared.exit.Exit.TheVariants as exits
-use Rattle.bw_upload.specs.Fed.{HasEachStored}
-use Rattle.bw_upload.specs.Uploading.{Uploads}
+use Rattle.bw_upload.specs.OfferedFeeds.{HasEachStored}
+use Rattle.bw_upload.specs.WholeUploads.{Uploads}
 use Rattle.bw_upload.specs.declared.feed.Feed.{Ghosts as FeedGhosts}
 use Rattle.bw_upload.specs.declared.outcome.Outcome.{Outcome}
 use Rattle.bw_send_file.specs.Endings.{EndsAfter}

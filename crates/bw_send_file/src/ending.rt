@@ -1,7 +1,7 @@
 //! The end of an upload is reported.
 ghost use Rattle.std.specs.Prelude.{◌≡◌, ◌≤◌, ◌++◌, length, decimal};
 ghost use Rattle.bw_console.specs.Outcomes.{HasWritten, Outcome as Did};
-ghost use Rattle.bw_console.specs.Printing.{IsOf, IsPrint, Print};
+ghost use Rattle.bw_console.specs.Prints.{IsOf, IsPrint, Print};
 ghost use Rattle.bw_console.specs.Text.{as_line};
 ghost use Rattle.bw_model.specs.World.{Sender as Defined};
 ghost use Rattle.bw_sender.specs.Senders.{IsSender};

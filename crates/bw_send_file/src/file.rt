@@ -1,6 +1,6 @@
 //! The command: a file's recording is sent.
 ghost use Rattle.std.specs.Prelude.{◌≡◌, IfOk, IfErr};
-ghost use Rattle.bw_console.specs.Printing.{failures_if};
+ghost use Rattle.bw_console.specs.Prints.{failures_if};
 ghost use Rattle.bw_stream.specs.Readers.{Of};
 ghost use Rattle.bw_recorder.specs.Openings.{RefusesAs, is_system_well};
 ghost use Rattle.bw_recorder.specs.Packs.{HasPacked, Packing};

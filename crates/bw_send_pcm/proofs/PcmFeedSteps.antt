@@ -1,7 +1,7 @@
 -- What the requests of samples give, a feed of them gives.
 use Rattle.std.proofs.Common.{◌≡◌, List, Result, Ok, Err, sym, subst}
 use Rattle.bw_model.specs.Take.{Request}
-use Rattle.bw_follow.specs.Following.{GivesOf}
+use Rattle.bw_follow.specs.ComingRequests.{GivesOf}
 use Rattle.bw_follow.specs.declared.fault.PcmFault.{PcmFault}
 use Rattle.bw_follow.specs.declared.fault.PcmFault.TheVariants as faults
 use Rattle.bw_follow.specs.declared.requests.NextRequest.{NextRequest}

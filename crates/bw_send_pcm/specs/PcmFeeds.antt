@@ -7,7 +7,7 @@ use Rattle.bw_upload.specs.declared.feed.Given.{Given}
 use Rattle.bw_upload.specs.declared.feed.Given.TheVariants as gives
 use Rattle.bw_send_file.specs.declared.fault.FeedFault.{FeedFault}
 use Rattle.bw_send_file.specs.declared.fault.FeedFault.TheVariants as feeds
-use Rattle.bw_follow.specs.Following.{NextComesTo, CountsUnread}
+use Rattle.bw_follow.specs.ComingRequests.{NextComesTo, CountsUnread}
 use Rattle.bw_follow.specs.declared.fault.PcmFault.{PcmFault}
 use Rattle.bw_follow.specs.declared.fault.PcmFault.TheVariants as faults
 use Rattle.bw_follow.specs.declared.requests.NextRequest.{NextRequest}

@@ -9,7 +9,7 @@ use Rattle.bw_ports.specs.declared.dial.Dial.{Ghosts as DialGhosts}
 use Rattle.bw_ports.specs.declared.pause.Pause.{Ghosts as PauseGhosts}
 use Rattle.bw_ports.specs.declared.recording_files.FileStamp.{FileStamp}
 use Rattle.bw_console.specs.Outcomes.{Outcome as Did}
-use Rattle.bw_console.specs.Printing.{Nothing}
+use Rattle.bw_console.specs.Prints.{Nothing}
 use Rattle.bw_plan.specs.PcmRecordings.{PcmFaultOf, pcm_recording_of}
 use Rattle.bw_plan.specs.Plans.{plan}
 use Rattle.bw_plan.specs.Recordings.{Options, Recording, block_frames}

@@ -1,6 +1,6 @@
 //! The requests of headerless samples that are still being written, as a feed.
 ghost use Rattle.std.specs.Prelude.{◌≡◌};
-ghost use Rattle.bw_follow.specs.Following.{RequestsLeft};
+ghost use Rattle.bw_follow.specs.ComingRequests.{RequestsLeft};
 ghost use Rattle.bw_send_pcm.specs.PcmFeeds.{GivesOfSamples, feed_given};
 
 use bw_follow::{NextRequest, PcmFault, PcmRequests};

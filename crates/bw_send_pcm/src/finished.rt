@@ -1,6 +1,6 @@
 //! The headerless samples in a file are sent.
 ghost use Rattle.std.specs.Prelude.{◌≡◌, IsTrue};
-ghost use Rattle.bw_console.specs.Printing.{failures_if};
+ghost use Rattle.bw_console.specs.Prints.{failures_if};
 ghost use Rattle.bw_plan.specs.AllowedSettings.{are_settings};
 ghost use Rattle.bw_recorder.specs.Openings.{is_system_well};
 ghost use Rattle.bw_recorder.specs.Packs.{HasPacked, Packing};

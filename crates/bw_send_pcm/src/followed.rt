@@ -1,7 +1,7 @@
 //! The headerless samples in a file that another program is still writing are sent.
 ghost use Rattle.std.specs.Prelude.{◌≡◌, IfOk, is_some};
 ghost use Rattle.bw_stream.specs.Moves.{failures_after};
-ghost use Rattle.bw_console.specs.Printing.{failures_if};
+ghost use Rattle.bw_console.specs.Prints.{failures_if};
 ghost use Rattle.bw_recorder.specs.Openings.{is_system_well};
 ghost use Rattle.bw_recorder.specs.Packs.{HasPacked, Packing};
 ghost use Rattle.bw_send_pcm.specs.PcmSendings.{FollowsFile, IsKnownLen, IsPcmSent};

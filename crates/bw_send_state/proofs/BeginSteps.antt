@@ -1,6 +1,6 @@
 -- A command with a state ends before anything was sent.
 use Rattle.std.proofs.Common.{◌≡◌, ◌⊎◌, ℕ, Bool, true, false, refl, inl, inr}
-use Rattle.bw_console.specs.Printing.{Print, Nothing, failures_if}
+use Rattle.bw_console.specs.Prints.{Print, Nothing, failures_if}
 use Rattle.bw_console.specs.declared.exit.Exit.{Exit}
 use Rattle.bw_stream.specs.Moves.{one_more}
 use Rattle.bw_ports.specs.declared.recording_files.FileStamp.{FileStamp}

@@ -5,7 +5,7 @@ use Rattle.std.specs.List.{list_any}
 use Rattle.bw_model.specs.Take.{Request, Open, Block, Mark, SetField, Close}
 use Rattle.bw_model.specs.Wire.{body, framed}
 use Rattle.bw_model.specs.World.{is_close}
-use Rattle.bw_wire.specs.Encoded.{said}
+use Rattle.bw_wire.specs.EncodedFrames.{said}
 use Rattle.std.proofs.lemmas.List.Folds.{list_any-append}
 use Rattle.std.proofs.Common.{Ok}
 use Rattle.bw_upload.specs.Feeds.{FeedsOf}

@@ -1,7 +1,7 @@
 -- A keeper of a state gets reports of how far its sender is.
 use Rattle.std.proofs.Common.{◌≡◌, ◌∙◌, Bool, true, false, ap, sym, refl}
 use Rattle.std.specs.Prelude.{is_none}
-use Rattle.bw_console.specs.Printing.{failures_if}
+use Rattle.bw_console.specs.Prints.{failures_if}
 use Rattle.bw_resume.specs.declared.state_files.StateLog.{Ghosts as LogGhosts}
 use Rattle.bw_send_state.specs.NotedCounts.{KeepsFault}
 use Rattle.bw_send_state.specs.declared.keeper.StateKeeper.{StateKeeper}

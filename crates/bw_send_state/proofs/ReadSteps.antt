@@ -4,7 +4,7 @@ use Rattle.std.proofs.Common.{IfSome, None, Ok}
 use Rattle.bw_model.specs.Bytes.{u32_at}
 use Rattle.bw_model.specs.Replies.{Reply, decoded_reply}
 use Rattle.bw_send_state.specs.Asks.{GivesReply}
-use Rattle.bw_exchange.specs.Served.{HasGiven}
+use Rattle.bw_exchange.specs.WholeExchanges.{HasGiven}
 use Rattle.bw_stream.specs.Moves.{Reads}
 
 first_read : (buf xs : List ℕ) → 1 ≤ length buf → 1 ≤ length xs → take 1 buf ≡ take 1 xs → get_or buf 0 0 ∷ drop 1 xs ≡ xs

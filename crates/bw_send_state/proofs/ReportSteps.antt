@@ -2,9 +2,9 @@
 use Rattle.std.proofs.Common.{◌≡◌, ◌⊎◌, ◌∙◌, ℕ, List, inl, inr, sym}
 use Rattle.std.specs.declared.io.ErrorKind.{ErrorKind}
 use Rattle.bw_stream.specs.declared.sink.Sink.{Ghosts as Writer}
-use Rattle.bw_console.specs.Openings.{ReportsFailure}
+use Rattle.bw_console.specs.FailedOpenings.{ReportsFailure}
 use Rattle.bw_console.specs.Outcomes.{IsOutOfMemory, Outcome}
-use Rattle.bw_console.specs.Printing.{IsPrint, Print}
+use Rattle.bw_console.specs.Prints.{IsPrint, Print}
 use Rattle.bw_console.specs.declared.exit.Exit.{Exit}
 use Rattle.bw_send_state.specs.StateReports.{ReportsUnkept, unkept_text}
 

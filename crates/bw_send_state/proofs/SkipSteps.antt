@@ -6,7 +6,7 @@ use Rattle.std.specs.List.{list_any, AllByRecursion}
 use Rattle.std.proofs.lemmas.List.Folds.{list_any-append}
 use Rattle.bw_model.specs.Take.{Request}
 use Rattle.bw_model.specs.World.{is_close}
-use Rattle.bw_upload.specs.Filling.{AsksFeed}
+use Rattle.bw_upload.specs.WindowFills.{AsksFeed}
 use Rattle.bw_upload.specs.declared.feed.Feed.{Ghosts as FeedGhosts}
 use Rattle.bw_upload.specs.declared.feed.Given.{Given}
 use Rattle.bw_upload.specs.declared.feed.Given.TheVariants as gives

@@ -13,7 +13,7 @@ use Rattle.bw_ports.specs.declared.dial.DialFault.{DialFault}
 use Rattle.bw_ports.specs.declared.dial.Duplex.{Duplex}
 use Rattle.bw_ports.specs.declared.pause.Pause.{Ghosts as PauseGhosts}
 use Rattle.bw_upload.specs.Backoff.{backoff, is_spent}
-use Rattle.bw_wire.specs.Encoded.{IsFrameOf}
+use Rattle.bw_wire.specs.EncodedFrames.{IsFrameOf}
 use Rattle.bw_send_file.specs.Sendings.{Ways}
 use Rattle.bw_send_state.specs.declared.asking.NotAsked.{NotAsked}
 use Rattle.bw_send_state.specs.declared.asking.NotAsked.TheVariants.{Fruitless, Memory}

@@ -12,7 +12,7 @@ use Rattle.bw_ports.specs.declared.pause.Pause.{Ghosts as PauseGhosts}
 use Rattle.bw_ports.specs.declared.recording_files.FileStamp.{FileStamp}
 use Rattle.bw_ports.specs.declared.recording_files.RecordingFiles.{Ghosts as FileGhosts}
 use Rattle.bw_console.specs.Outcomes.{Outcome as Did}
-use Rattle.bw_console.specs.Printing.{Print, Nothing, IsPrint}
+use Rattle.bw_console.specs.Prints.{Print, Nothing, IsPrint}
 use Rattle.bw_console.specs.declared.exit.Exit.{Exit}
 use Rattle.bw_console.specs.declared.exit.Exit.TheVariants as exits
 use Rattle.bw_plan.specs.Recordings.{Options}

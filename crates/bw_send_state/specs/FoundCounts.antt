@@ -5,8 +5,8 @@ use Rattle.std.specs.Prelude.{nat_eq, is_none, is_some, codes}
 use Rattle.std.specs.List.{starts_with, slice_index}
 use Rattle.bw_stream.specs.Moves.{Keeps}
 use Rattle.bw_stream.specs.Readers.{Of}
-use Rattle.bw_plan.specs.Cleaning.{are_zero}
-use Rattle.bw_resume.specs.Reading.{settled_in}
+use Rattle.bw_plan.specs.CleanedContents.{are_zero}
+use Rattle.bw_resume.specs.StateReadings.{settled_in}
 use Rattle.bw_resume.specs.States.{state_bytes}
 use Rattle.bw_send_state.specs.declared.place.Found.{Found}
 

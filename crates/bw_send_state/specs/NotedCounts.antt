@@ -2,7 +2,7 @@
 use Rattle.std.specs.Prelude.{◌≡◌, ◌≢◌, ◌⊎◌, ◌≤◌, ◌<◌, ℕ, Option, List, [], length, true, false, is_none}
 use Rattle.bw_model.specs.World.{Sender, refused, settled}
 use Rattle.bw_console.specs.Text.{as_line}
-use Rattle.bw_console.specs.Printing.{failures_if}
+use Rattle.bw_console.specs.Prints.{failures_if}
 use Rattle.bw_stream.specs.Moves.{Begins, Writes, one_more}
 use Rattle.bw_resume.specs.Counts.{settled_text}
 use Rattle.bw_resume.specs.declared.state_files.StateLog.{Ghosts as LogGhosts}

@@ -14,7 +14,7 @@ use Rattle.bw_recorder.specs.SettingLists.{options_of}
 use Rattle.bw_resume.specs.Headers.{Origin, state_header}
 use Rattle.bw_sender.specs.Senders.{HasStored}
 use Rattle.bw_sender.specs.declared.sender.Sender.{Sender}
-use Rattle.bw_upload.specs.Uploading.{Uploads}
+use Rattle.bw_upload.specs.WholeUploads.{Uploads}
 use Rattle.bw_upload.specs.declared.feed.Feed.{Ghosts as FeedGhosts}
 use Rattle.bw_upload.specs.declared.outcome.Outcome.{Outcome}
 use Rattle.bw_send_file.specs.Sendings.{StoresAll, Ways}

@@ -5,7 +5,7 @@ use Rattle.std.specs.List.{list_any}
 use Rattle.bw_model.specs.Take.{Request}
 use Rattle.bw_model.specs.World.{is_close}
 use Rattle.bw_ports.specs.declared.recording_files.FileStamp.{FileStamp}
-use Rattle.bw_upload.specs.Filling.{AsksFeed}
+use Rattle.bw_upload.specs.WindowFills.{AsksFeed}
 use Rattle.bw_upload.specs.declared.feed.Feed.{Ghosts as FeedGhosts}
 use Rattle.bw_upload.specs.declared.feed.Given.TheVariants as gives
 

@@ -1,8 +1,8 @@
 -- What is reported of a state.
 use Rattle.std.specs.Prelude.{◌≡◌, ◌⊎◌, ◌++◌, ◌∷◌, ℕ, List, [], Bool, true, false, codes, decimal}
 use Rattle.std.specs.declared.io.ErrorKind.{ErrorKind}
-use Rattle.bw_console.specs.Openings.{exit_unopened}
-use Rattle.bw_console.specs.Printing.{Print, Nothing, IsOf}
+use Rattle.bw_console.specs.FailedOpenings.{exit_unopened}
+use Rattle.bw_console.specs.Prints.{Print, Nothing, IsOf}
 use Rattle.bw_console.specs.declared.exit.Exit.{Exit}
 use Rattle.bw_console.specs.declared.exit.Exit.TheVariants as exits
 use Rattle.bw_send_file.specs.Endings.{EndsWithLine, memory_line}

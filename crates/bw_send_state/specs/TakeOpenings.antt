@@ -4,8 +4,8 @@ use Rattle.std.specs.List.{AllByRecursion}
 use Rattle.sha2.specs.Sha256.{sha256}
 use Rattle.bw_model.specs.Take.{Request, Block}
 use Rattle.bw_model.specs.Wire.{body, framed}
-use Rattle.bw_wire.specs.Encoded.{said}
-use Rattle.bw_upload.specs.Filling.{AsksFeed}
+use Rattle.bw_wire.specs.EncodedFrames.{said}
+use Rattle.bw_upload.specs.WindowFills.{AsksFeed}
 use Rattle.bw_upload.specs.declared.feed.Feed.{Ghosts as FeedGhosts}
 use Rattle.bw_upload.specs.declared.feed.Given.TheVariants as gives
 use Rattle.bw_send_file.specs.declared.fault.FeedFault.{FeedFault}

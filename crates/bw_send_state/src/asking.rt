@@ -1,6 +1,6 @@
 //! Which number a server expects next under a name.
 ghost use Rattle.std.specs.Prelude.{◌≡◌, ◌∷◌, [], IfSome, IfOk, IfErr, length};
-ghost use Rattle.bw_exchange.specs.Served.{HasGiven};
+ghost use Rattle.bw_exchange.specs.WholeExchanges.{HasGiven};
 ghost use Rattle.bw_send_state.specs.Asks.{AnswersAsk, AsksServer, DialsToAsk, GivesReply};
 ghost use Rattle.bw_send_state.specs.Asks.{SaysNext, WaitsToAsk, WritesAsk};
 ghost use Rattle.bw_send_state.specs.FilesSentOn.{ways};

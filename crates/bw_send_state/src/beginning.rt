@@ -2,7 +2,7 @@
 ghost use Rattle.std.specs.Prelude.{◌≡◌, ◌≤◌, ◌⊎◌, IfOk, IfErr, OnOk, Some};
 ghost use Rattle.std.specs.IoError.{error_kind};
 ghost use Rattle.std.specs.declared.io.ErrorKind.TheVariants.{OutOfMemory};
-ghost use Rattle.bw_console.specs.Printing.{IsPrint, Print, failures_if};
+ghost use Rattle.bw_console.specs.Prints.{IsPrint, Print, failures_if};
 ghost use Rattle.bw_ports.specs.declared.recording_files.FileStamp.{FileStamp as StampValue};
 ghost use Rattle.bw_resume.specs.Counts.{most_settled};
 ghost use Rattle.bw_resume.specs.States.{state_bytes};

@@ -1,6 +1,6 @@
 //! The command: a file's recording is sent, from where its state says.
 ghost use Rattle.std.specs.Prelude.{◌≡◌};
-ghost use Rattle.bw_console.specs.Printing.{failures_if};
+ghost use Rattle.bw_console.specs.Prints.{failures_if};
 ghost use Rattle.bw_send_file.specs.FileLooks.{LooksAt};
 ghost use Rattle.bw_send_state.specs.FilesSentOn.{Continuation, HasContinued, IsFileSentOn};
 ghost use Rattle.bw_send_state.specs.FilesSentOn.{outside_by, sending_side, ways};

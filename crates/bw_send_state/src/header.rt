@@ -1,6 +1,6 @@
 //! The header of a recording's state.
 ghost use Rattle.std.specs.Prelude.{◌≡◌, IfOk, IfErr, OnOk, List, Some, ℕ};
-ghost use Rattle.bw_console.specs.Printing.{IsPrint, failures_if};
+ghost use Rattle.bw_console.specs.Prints.{IsPrint, failures_if};
 ghost use Rattle.bw_model.specs.Take.{Request as Message};
 ghost use Rattle.bw_ports.specs.declared.recording_files.FileStamp.{FileStamp as StampValue};
 ghost use Rattle.bw_recorder.specs.Packs.{Packing};

@@ -4,7 +4,7 @@ ghost use Rattle.std.specs.Prelude.{IfOk, IfErr, OnOk, MatchOption};
 ghost use Rattle.sha2.specs.Sha256.{sha256};
 ghost use Rattle.bw_model.specs.Take.{Block, Request as Message};
 ghost use Rattle.bw_model.specs.Wire.{Second, last_number, body, framed};
-ghost use Rattle.bw_wire.specs.Encoded.{said};
+ghost use Rattle.bw_wire.specs.EncodedFrames.{said};
 ghost use Rattle.bw_send_file.specs.declared.fault.FeedFault.TheVariants.{Memory};
 ghost use Rattle.bw_send_state.specs.TakeOpenings.{IsNoBlock, IsOpeningOf, StopsOpening};
 

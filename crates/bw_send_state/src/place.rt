@@ -2,7 +2,7 @@
 ghost use Rattle.std.specs.Prelude.{◌≡◌, ◌≤◌, ◌⊎◌, true, false, IfOk, OnOk, OnErr, take};
 ghost use Rattle.bw_stream.specs.Moves.{one_more};
 ghost use Rattle.bw_stream.specs.Readers.{Of};
-ghost use Rattle.bw_plan.specs.Cleaning.{are_zero as are_bytes_zero};
+ghost use Rattle.bw_plan.specs.CleanedContents.{are_zero as are_bytes_zero};
 ghost use Rattle.bw_resume.specs.Counts.{most_settled};
 ghost use Rattle.bw_send_state.specs.FoundCounts.{IsStateFound, SaysOfTake, may_begin_state, most_bytes};
 ghost use Rattle.bw_send_state.specs.FoundCounts.{ends_line as is_line_ended};

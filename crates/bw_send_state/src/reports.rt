@@ -1,7 +1,7 @@
 //! What is reported of a state.
 ghost use Rattle.std.specs.Prelude.{◌≡◌, ℕ, List, IfOk, MatchOption, string_bytes};
 ghost use Rattle.std.specs.IoError.{error_kind};
-ghost use Rattle.bw_console.specs.Printing.{IsPrint, Nothing, Print};
+ghost use Rattle.bw_console.specs.Prints.{IsPrint, Nothing, Print};
 ghost use Rattle.bw_send_state.specs.StateReports.{ReportsStart, ReportsUnkept};
 ghost use Rattle.bw_send_state.specs.StateReports.{start_text, unkept_text};
 

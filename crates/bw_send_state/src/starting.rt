@@ -1,6 +1,6 @@
 //! At which number a sender begins, by what its state says and the server answers.
 ghost use Rattle.std.specs.Prelude.{◌≡◌, ◌≤◌, IfOk, IfErr};
-ghost use Rattle.bw_console.specs.Printing.{IsPrint, Print};
+ghost use Rattle.bw_console.specs.Prints.{IsPrint, Print};
 ghost use Rattle.bw_recorder.specs.Packs.{Packing};
 ghost use Rattle.bw_send_state.specs.FilesSentOn.{GetsNoAnswer, IsSilent, StartsAt, ways};
 ghost use Rattle.bw_send_state.specs.StateReports.{ReportsAnswer, ReportsOther};

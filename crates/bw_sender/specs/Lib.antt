@@ -1,5 +1,5 @@
 pub mod Entries
 pub mod Offers
-pub mod Refused
+pub mod RefusedNumbers
 pub mod Senders
-pub mod Hearing
+pub mod HeardReplies

@@ -9,7 +9,7 @@ ghost use Rattle.bw_model.specs.World.{offer_fault, has_closed_from, is_open as 
 ghost use Rattle.bw_request.specs.Verdicts.{verdict_meaning};
 ghost use Rattle.bw_wire.specs.Notices.{notice_meaning};
 ghost use Rattle.bw_sender.specs.Offers.{checked_fault, fault_of};
-ghost use Rattle.bw_sender.specs.Hearing.{heard_of};
+ghost use Rattle.bw_sender.specs.HeardReplies.{heard_of};
 ghost use Rattle.bw_sender.specs.declared.heard.Heard.TheVariants.{Counted};
 
 use crate::heard::Heard;

@@ -1,6 +1,6 @@
 //! What a reply is to a sender.
 ghost use Rattle.std.specs.Prelude.{◌≡◌, ◌≤◌};
-ghost use Rattle.bw_sender.specs.Hearing.{heard_number};
+ghost use Rattle.bw_sender.specs.HeardReplies.{heard_number};
 
 /// How a sender took a reply. Only `Counted` changes the sender.
 #[derive(Clone, Copy, Debug, PartialEq, Eq, Hash)]

@@ -2,7 +2,7 @@
 ghost use Rattle.std.specs.Prelude.{◌≡◌, ◌≤◌, ◌<◌, ◌+◌, ◌++◌, ◌∷◌, [], length, map, OnOk, OnErr};
 ghost use Rattle.std.specs.Prelude.{◌⊎◌, IsOk};
 ghost use Rattle.bw_request.specs.Verdicts.{verdict_meaning};
-ghost use Rattle.bw_sender.specs.Refused.{refusal_of, most_room};
+ghost use Rattle.bw_sender.specs.RefusedNumbers.{refusal_of, most_room};
 
 use crate::window::SLOTS;
 use bw_request::Verdict;
@@ -17,7 +17,7 @@ pub(crate) struct Refusals {
 
 impl Model for Refusals {
     ghost use Rattle.std.specs.Prelude.{◌-◌, vec_capacity, length, map};
-    ghost use Rattle.bw_sender.specs.Refused.{Refused, refusal_of};
+    ghost use Rattle.bw_sender.specs.RefusedNumbers.{Refused, refusal_of};
 
     ghost Value = { Refused };
 

@@ -9,7 +9,7 @@ ghost use Rattle.bw_model.specs.World.{refused as refused_of, pending as pending
 ghost use Rattle.bw_model.specs.World.{offer_fault, offer as offered_to};
 ghost use Rattle.bw_wire.specs.Replies.{reply_of};
 ghost use Rattle.bw_sender.specs.Offers.{fault_of, lent_pending};
-ghost use Rattle.bw_sender.specs.Hearing.{heard_of};
+ghost use Rattle.bw_sender.specs.HeardReplies.{heard_of};
 ghost use Rattle.bw_sender.specs.declared.heard.Heard.TheVariants.{Counted};
 
 use crate::heard::Heard;
@@ -43,7 +43,7 @@ pub struct Sender {
 impl Sender {
     ghost use Rattle.bw_sender.specs.Senders.{new_sender, HasStored, IsSender, HasRoom};
     ghost use Rattle.bw_sender.specs.Senders.{offered_count, unsettled_count};
-    ghost use Rattle.bw_sender.specs.Refused.{refusal_of};
+    ghost use Rattle.bw_sender.specs.RefusedNumbers.{refusal_of};
 
     /// A sender of a name, to which nothing was offered.
     ///

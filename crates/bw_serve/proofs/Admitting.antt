@@ -11,10 +11,10 @@ use Rattle.bw_ports.specs.declared.link.Link.{Ghosts as LinkGhosts}
 use Rattle.bw_connections.specs.declared.connections.BeginError.{BeginError}
 use Rattle.bw_connections.specs.declared.connections.Closed.{Closed}
 use Rattle.bw_connections.specs.declared.connections.Connections.{Connections}
-use Rattle.bw_connections.specs.Keeping.{HasLeft, IsAmong, KeepsConnections, HoldsConnection, HoldsConnectionAt, Tagged}
+use Rattle.bw_connections.specs.ConnectionTables.{HasLeft, IsAmong, KeepsConnections, HoldsConnection, HoldsConnectionAt, Tagged}
 use Rattle.bw_connections.specs.Lives.{KeepsPeer}
 use Rattle.bw_connections.specs.Places.{begun_of, refused_of}
-use Rattle.bw_connections.specs.Working.{BeginsAt, IsEmpty, RefusesLink, StaysAt, ExistedUnder}
+use Rattle.bw_connections.specs.Quanta.{BeginsAt, IsEmpty, RefusesLink, StaysAt, ExistedUnder}
 use Rattle.bw_connections.proofs.Standing.{not_some, some_is}
 use Rattle.bw_serve.specs.Admissions.{Admits, AdmitsEach, AreOf, EndedAs, HostsLinks, HostsAll, HostsMore, IsHosted}
 use Rattle.bw_ports.specs.Reactors.{Admission}

@@ -9,10 +9,10 @@ use Rattle.bw_store.specs.declared.store.TakeStore.{Ghosts as StoreGhosts}
 use Rattle.bw_journal.specs.declared.journal.Journal.{Ghosts as JournalGhosts}
 use Rattle.bw_session.specs.Books.{HoldsBook}
 use Rattle.bw_session.specs.declared.server.Server.{Server}
-use Rattle.bw_exchange.specs.Answering.{AnswersAll}
+use Rattle.bw_exchange.specs.AnsweredFrames.{AnswersAll}
 use Rattle.bw_console.specs.declared.exit.Exit.{Exit}
 use Rattle.bw_console.specs.declared.exit.Exit.TheVariants.{Done, Refused, Usage, Device, Memory}
-use Rattle.bw_engine.specs.Ingesting.{LeavesRun}
+use Rattle.bw_engine.specs.IngestRuns.{LeavesRun}
 use Rattle.bw_session.specs.ServerTurns.{ServerTurn}
 use Rattle.bw_exchange.proofs.Going.{answers_append}
 use Rattle.bw_engine.proofs.StoreRuns.{leaves_run}
@@ -22,7 +22,7 @@ use Rattle.bw_ports.specs.declared.link.Link.{Ghosts as LinkGhosts}
 use Rattle.bw_ports.specs.declared.peers.Peers.{Ghosts as PeerGhosts}
 use Rattle.bw_ports.specs.declared.reactor.Reactor.{Ghosts as ReactorGhosts}
 use Rattle.bw_serve.specs.HostedFrom.{answered_in_loop}
-use Rattle.bw_serve.specs.Serving.{RunsEventLoop}
+use Rattle.bw_serve.specs.EventLoopRuns.{RunsEventLoop}
 use Rattle.bw_serve.specs.declared.serving.Bounds.{Bounds}
 
 module _ {T P R W O E : Type 0} (answers : T → Frame → List Reply → T → Type 0) (peers : PeerGhosts P R W)

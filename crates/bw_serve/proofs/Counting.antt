@@ -6,15 +6,15 @@ use Rattle.std.proofs.lemmas.Bool.Decides.{eqb_tells}
 use Rattle.std.proofs.lemmas.List.{append-nil, map-append}
 use Rattle.std.proofs.lemmas.List.Sums.{fold-append}
 use Rattle.bw_stream.specs.declared.sink.Sink.{Ghosts as Writer}
-use Rattle.bw_exchange.specs.Answering.{Answered, answered_frames}
+use Rattle.bw_exchange.specs.AnsweredFrames.{Answered, answered_frames}
 use Rattle.bw_connections.specs.declared.connection.Connection.{Connection}
 use Rattle.bw_ports.specs.declared.link.Link.{Ghosts as LinkGhosts}
 use Rattle.bw_connections.specs.declared.connections.BeginError.{BeginError}
 use Rattle.bw_connections.specs.declared.connections.Closed.{Closed}
 use Rattle.bw_connections.specs.declared.connections.Connections.{Connections}
-use Rattle.bw_connections.specs.Keeping.{Adds, IsFree, KeepsConnections, SetsPlace, HoldsConnectionAt, Tagged, own, tagged}
+use Rattle.bw_connections.specs.ConnectionTables.{Adds, IsFree, KeepsConnections, SetsPlace, HoldsConnectionAt, Tagged, own, tagged}
 use Rattle.bw_connections.specs.Lives.{KeepsPeer}
-use Rattle.bw_connections.specs.Working.{BeginsAt, IsEmpty, LeavesOthers, RefusesLink, ExistedUnder}
+use Rattle.bw_connections.specs.Quanta.{BeginsAt, IsEmpty, LeavesOthers, RefusesLink, ExistedUnder}
 use Rattle.bw_connections.proofs.Standing.{not_some, own-append, own-more, some_is}
 use Rattle.bw_exchange.specs.LinkCounts.{Counted, none_counted, counting_frame}
 use Rattle.bw_serve.specs.LinkLines.{Logs, peer_line}

@@ -6,14 +6,14 @@ use Rattle.std.proofs.lemmas.List.{append-nil, length-append, map-append}
 use Rattle.bw_model.specs.Wire.{Frame}
 use Rattle.bw_model.specs.Replies.{Reply}
 use Rattle.bw_stream.specs.declared.sink.Sink.{Ghosts as Writer}
-use Rattle.bw_exchange.specs.Answering.{Answered, AnswersAll}
+use Rattle.bw_exchange.specs.AnsweredFrames.{Answered, AnswersAll}
 use Rattle.bw_exchange.proofs.Going.{answers_append}
 use Rattle.bw_ports.specs.declared.link.Link.{Ghosts as LinkGhosts}
 use Rattle.bw_connections.specs.declared.connections.Closed.{Closed}
 use Rattle.bw_connections.specs.declared.connections.Connections.{Connections}
-use Rattle.bw_connections.specs.Keeping.{Adds, KeepsConnections, Tagged, all_answered, tagged}
+use Rattle.bw_connections.specs.ConnectionTables.{Adds, KeepsConnections, Tagged, all_answered, tagged}
 use Rattle.bw_connections.specs.Places.{begun_of, can_go_on_at}
-use Rattle.bw_connections.specs.Working.{StaysAt, ExistedAt, ExistedUnder}
+use Rattle.bw_connections.specs.Quanta.{StaysAt, ExistedAt, ExistedUnder}
 use Rattle.bw_exchange.specs.LinkCounts.{up_to_last}
 use Rattle.bw_serve.specs.EventLoops.{Advances, CountsEnds, Grows, HasPeerSlots, InTurn, ServesPlace, KeepsEventLoop, can_go_on_below}
 use Rattle.bw_serve.specs.EventLoops.{ended_in_turn, frames_in_turn}

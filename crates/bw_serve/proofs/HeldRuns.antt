@@ -8,13 +8,13 @@ use Rattle.bw_journal.specs.declared.journal.Journal.{Ghosts as JournalGhosts}
 use Rattle.bw_session.specs.Servers.{kept_in, store_since}
 use Rattle.bw_session.specs.ServerTurns.{ServerTurn}
 use Rattle.bw_session.specs.declared.server.Server.{Server}
-use Rattle.bw_exchange.specs.Answering.{Answered, AnswersAll}
+use Rattle.bw_exchange.specs.AnsweredFrames.{Answered, AnswersAll}
 use Rattle.bw_engine.specs.ServerRuns.{ServersAnswerInRuns}
 use Rattle.bw_console.specs.declared.exit.Exit.{Exit}
 use Rattle.bw_ports.specs.declared.link.Link.{Ghosts as LinkGhosts}
 use Rattle.bw_ports.specs.declared.reactor.Reactor.{Ghosts as ReactorGhosts}
 use Rattle.bw_serve.specs.HostedFrom.{LeavesRunsFrom, answered_in_loop}
-use Rattle.bw_serve.specs.Serving.{RunsEventLoop}
+use Rattle.bw_serve.specs.EventLoopRuns.{RunsEventLoop}
 use Rattle.bw_serve.specs.declared.serving.Bounds.{Bounds}
 use Rattle.bw_serve.proofs.AnsweredRuns.{by_loop}
 

@@ -9,7 +9,7 @@ use Rattle.bw_console.specs.declared.exit.Exit.{Exit}
 use Rattle.bw_ports.specs.declared.link.Link.{Ghosts as LinkGhosts}
 use Rattle.bw_ports.specs.declared.peers.Peers.{Ghosts as PeerGhosts}
 use Rattle.bw_ports.specs.declared.reactor.Reactor.{Ghosts as ReactorGhosts}
-use Rattle.bw_serve.specs.Hosted.{HostsOver, IsNewServer, listening_line}
+use Rattle.bw_serve.specs.Hostings.{HostsOver, IsNewServer, listening_line}
 use Rattle.bw_serve.specs.HostedFrom.{HostsFrom, HostsManyFrom}
 use Rattle.bw_serve.specs.HostedMany.{HostsManyOver}
 use Rattle.bw_serve.specs.Names.{NamesStandApart}

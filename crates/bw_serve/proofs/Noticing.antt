@@ -6,9 +6,9 @@ use Rattle.std.proofs.lemmas.Bool.Decides.{eqb_tells}
 use Rattle.std.proofs.lemmas.List.{append-nil, length-append}
 use Rattle.std.proofs.lemmas.List.Folds.{list_any-append}
 use Rattle.bw_connections.specs.declared.connection.Connection.{Connection}
-use Rattle.bw_connections.specs.Keeping.{HoldsConnectionAt}
+use Rattle.bw_connections.specs.ConnectionTables.{HoldsConnectionAt}
 use Rattle.bw_connections.specs.Places.{connection_count}
-use Rattle.bw_connections.specs.Working.{LeavesOthers, Wakes, WakesAt}
+use Rattle.bw_connections.specs.Quanta.{LeavesOthers, Wakes, WakesAt}
 use Rattle.bw_serve.specs.Rounds.{IsAll, Notices, NoticesAll, WakesEach, reports_bytes, reports_room}
 use Rattle.bw_serve.specs.declared.event_loop.EventLoop.{EventLoop}
 use Rattle.bw_ports.specs.declared.reactor.Reactor.{Ghosts as ReactorGhosts}

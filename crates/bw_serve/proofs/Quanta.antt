@@ -8,16 +8,16 @@ use Rattle.std.proofs.lemmas.List.{append-nil}
 use Rattle.bw_model.specs.Wire.{Frame}
 use Rattle.bw_model.specs.Replies.{Reply}
 use Rattle.bw_stream.specs.declared.sink.Sink.{Ghosts as Writer}
-use Rattle.bw_exchange.specs.Answering.{answered_frames}
+use Rattle.bw_exchange.specs.AnsweredFrames.{answered_frames}
 use Rattle.bw_connections.specs.declared.connection.Connection.{Connection}
 use Rattle.bw_connections.specs.declared.connection.ConnectionEnd.TheVariants.{Idle}
 use Rattle.bw_ports.specs.declared.link.Link.{Ghosts as LinkGhosts}
 use Rattle.bw_connections.specs.declared.connections.Closed.{Closed}
 use Rattle.bw_connections.specs.declared.connections.Connections.{Connections}
-use Rattle.bw_connections.specs.Keeping.{Adds, HasLeft, KeepsConnections, HoldsConnectionAt, Tagged, own, tagged, those}
+use Rattle.bw_connections.specs.ConnectionTables.{Adds, HasLeft, KeepsConnections, HoldsConnectionAt, Tagged, own, tagged, those}
 use Rattle.bw_connections.specs.Lives.{KeepsPeer, expired_at}
 use Rattle.bw_connections.specs.Places.{end_of_connection, expired_there}
-use Rattle.bw_connections.specs.Working.{EndsIts, IsEmpty, StaysAt, ExistedAt, ExistedUnder}
+use Rattle.bw_connections.specs.Quanta.{EndsIts, IsEmpty, StaysAt, ExistedAt, ExistedUnder}
 use Rattle.bw_connections.proofs.Standing.{not_some, own-kept, some_is}
 use Rattle.bw_exchange.specs.LinkCounts.{counting_frame}
 use Rattle.bw_serve.specs.Admissions.{AreOf}

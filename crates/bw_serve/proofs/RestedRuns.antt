@@ -2,9 +2,9 @@
 use Rattle.std.proofs.Common.{List, [], ◌∷◌, ap}
 use Rattle.bw_store.specs.declared.store.TakeStore.{Ghosts as StoreGhosts}
 use Rattle.bw_journal.specs.declared.journal.Journal.{Ghosts as JournalGhosts}
-use Rattle.bw_exchange.specs.Answering.{Answered, AnswersAll}
-use Rattle.bw_rest.specs.Leaving.{LeavesRestsFrom, RunsLeaveFolders, resting_answers}
-use Rattle.bw_rest.specs.Resting.{RestingTurn}
+use Rattle.bw_exchange.specs.AnsweredFrames.{Answered, AnswersAll}
+use Rattle.bw_rest.specs.RunLeavings.{LeavesRestsFrom, RunsLeaveFolders, resting_answers}
+use Rattle.bw_rest.specs.TurnsAtRest.{RestingTurn}
 use Rattle.bw_rest.specs.RestingServers.{table_server}
 use Rattle.bw_rest.specs.declared.resting.RestingServer.{RestingServer}
 

@@ -10,10 +10,10 @@ use Rattle.bw_stream.specs.declared.sink.Sink.{Ghosts as Writer}
 use Rattle.bw_connections.specs.declared.connection.Connection.{Connection}
 use Rattle.bw_ports.specs.declared.link.Link.{Ghosts as LinkGhosts}
 use Rattle.bw_connections.specs.declared.connections.BeginError.{BeginError}
-use Rattle.bw_connections.specs.Keeping.{IsFree, HoldsConnectionAt}
+use Rattle.bw_connections.specs.ConnectionTables.{IsFree, HoldsConnectionAt}
 use Rattle.bw_connections.specs.Lives.{BeginsConnection}
 use Rattle.bw_connections.specs.Places.{connection_count}
-use Rattle.bw_connections.specs.Working.{BeginsAt, LeavesOthers, RefusesLink}
+use Rattle.bw_connections.specs.Quanta.{BeginsAt, LeavesOthers, RefusesLink}
 use Rattle.bw_connections.proofs.Standing.{not_some, some_is}
 use Rattle.bw_serve.specs.Admissions.{Admits, AdmitsEach}
 use Rattle.bw_ports.specs.Reactors.{Admission}

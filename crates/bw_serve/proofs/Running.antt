@@ -8,22 +8,22 @@ use Rattle.bw_model.specs.Wire.{Frame}
 use Rattle.bw_model.specs.Replies.{Reply}
 use Rattle.bw_stream.specs.Moves.{one_more}
 use Rattle.bw_stream.specs.declared.sink.Sink.{Ghosts as Writer}
-use Rattle.bw_exchange.specs.Answering.{Answered, AnswersAll}
+use Rattle.bw_exchange.specs.AnsweredFrames.{Answered, AnswersAll}
 use Rattle.bw_exchange.proofs.Going.{answers_append}
 use Rattle.bw_console.specs.declared.exit.Exit.{Exit}
 use Rattle.bw_ports.specs.declared.link.Link.{Ghosts as LinkGhosts}
 use Rattle.bw_connections.specs.declared.connections.Closed.{Closed}
-use Rattle.bw_connections.specs.Keeping.{KeepsConnections, Tagged, all_answered}
+use Rattle.bw_connections.specs.ConnectionTables.{KeepsConnections, Tagged, all_answered}
 use Rattle.bw_connections.specs.Places.{begun_of}
-use Rattle.bw_connections.specs.Served.{EachIsServed}
+use Rattle.bw_connections.specs.ConnectionBytes.{EachIsServed}
 use Rattle.bw_exchange.specs.LinkCounts.{up_to_last}
 use Rattle.bw_serve.specs.EventLoops.{Advances, CountsOwn, IsNew}
 use Rattle.bw_serve.specs.Rounds.{ServesInRounds, ServesRound, IsShut, ended_of_run, frames_of_run}
 use Rattle.bw_serve.specs.Admissions.{HostsAll}
 use Rattle.bw_ports.specs.Reactors.{Admission}
 use Rattle.bw_serve.specs.Lines.{LogsEnds, ReportsEnds}
-use Rattle.bw_serve.specs.Serving.{EndsAt}
-use Rattle.bw_serve.specs.Observing.{HasObserved, LooksAtRound, LooksAtEach, states_of_run}
+use Rattle.bw_serve.specs.EventLoopRuns.{EndsAt}
+use Rattle.bw_serve.specs.Observations.{HasObserved, LooksAtRound, LooksAtEach, states_of_run}
 use Rattle.bw_serve.specs.declared.event_loop.EventLoop.{EventLoop}
 use Rattle.bw_serve.specs.declared.observing.RoundReport.{RoundReport}
 use Rattle.bw_ports.specs.declared.reactor.Reactor.{Ghosts as ReactorGhosts}

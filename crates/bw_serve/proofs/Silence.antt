@@ -2,7 +2,7 @@
 use Rattle.std.proofs.Common.{◌≡◌, ℕ, ◌-◌, ◌<◌, Bool, true, false, Option, Some, None, List, [], ◌∷◌}
 use Rattle.std.proofs.Common.{refl, sym, ap, subst, ◌∙◌, arith, nat_lt, if◌then◌else◌}
 use Rattle.std.proofs.lemmas.Bool.{ltb-true}
-use Rattle.bw_exchange.specs.Answering.{Answered}
+use Rattle.bw_exchange.specs.AnsweredFrames.{Answered}
 use Rattle.bw_exchange.specs.declared.serving.ExchangeEnd.{ExchangeEnd}
 use Rattle.bw_exchange.specs.declared.serving.ExchangeEnd.TheVariants as ends
 use Rattle.bw_connections.specs.declared.connection.Connection.{Connection}
@@ -12,7 +12,7 @@ use Rattle.bw_connections.specs.declared.connection.Phase.{Phase}
 use Rattle.bw_connections.specs.declared.connection.Phase.TheVariants as phases
 use Rattle.bw_connections.specs.declared.connections.Closed.{Closed}
 use Rattle.bw_connections.specs.declared.connections.Connections.{Connections}
-use Rattle.bw_connections.specs.Keeping.{HoldsConnectionAt}
+use Rattle.bw_connections.specs.ConnectionTables.{HoldsConnectionAt}
 use Rattle.bw_connections.specs.Lives.{IsNoSilence, expired_at, expired_by, longest_drain, quiet_since}
 use Rattle.bw_connections.specs.Places.{end_of_connection, expired_there}
 use Rattle.bw_connections.proofs.Standing.{not_some}

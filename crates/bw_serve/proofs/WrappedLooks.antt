@@ -5,19 +5,19 @@ use Rattle.std.specs.List.{AllByRecursion}
 use Rattle.bw_model.specs.Wire.{Frame}
 use Rattle.bw_model.specs.Replies.{Reply}
 use Rattle.bw_stream.specs.declared.sink.Sink.{Ghosts as Writer}
-use Rattle.bw_exchange.specs.Answering.{Answered, AnswersAll}
+use Rattle.bw_exchange.specs.AnsweredFrames.{Answered, AnswersAll}
 use Rattle.bw_exchange.proofs.Going.{answers_append}
 use Rattle.bw_console.specs.declared.exit.Exit.{Exit}
 use Rattle.bw_console.specs.declared.exit.Exit.TheVariants.{Memory}
 use Rattle.bw_ports.specs.declared.link.Link.{Ghosts as LinkGhosts}
 use Rattle.bw_ports.specs.declared.reactor.Reactor.{Ghosts as ReactorGhosts}
-use Rattle.bw_connections.specs.Keeping.{Tagged, all_answered, tagged}
+use Rattle.bw_connections.specs.ConnectionTables.{Tagged, all_answered, tagged}
 use Rattle.bw_connections.specs.Places.{connection_count}
 use Rattle.bw_serve.specs.EventLoops.{InTurn, frames_in_turn}
-use Rattle.bw_serve.specs.Observing.{HasObserved, LooksAfterEach, LooksAtEach, ObservesRun, RoundLeft}
-use Rattle.bw_serve.specs.Observing.{left_in_rounds, left_in_run, states_in_rounds}
+use Rattle.bw_serve.specs.Observations.{HasObserved, LooksAfterEach, LooksAtEach, ObservesRun, RoundLeft}
+use Rattle.bw_serve.specs.Observations.{left_in_rounds, left_in_run, states_in_rounds}
 use Rattle.bw_serve.specs.Rounds.{ServesRounds, frames_in_round, frames_in_rounds}
-use Rattle.bw_serve.specs.Serving.{RunsEventLoop}
+use Rattle.bw_serve.specs.EventLoopRuns.{RunsEventLoop}
 use Rattle.bw_serve.specs.declared.event_loop.EventLoop.{EventLoop}
 use Rattle.bw_serve.specs.declared.observing.RoundReport.{RoundReport}
 use Rattle.bw_serve.specs.declared.serving.Bounds.{Bounds}

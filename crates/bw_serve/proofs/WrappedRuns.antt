@@ -5,20 +5,20 @@ use Rattle.bw_model.specs.Wire.{Frame}
 use Rattle.bw_model.specs.Replies.{Reply}
 use Rattle.bw_stream.specs.declared.sink.Sink.{Ghosts as Writer}
 use Rattle.bw_console.specs.declared.exit.Exit.{Exit}
-use Rattle.bw_exchange.specs.Answering.{Answered, AnswersAll}
+use Rattle.bw_exchange.specs.AnsweredFrames.{Answered, AnswersAll}
 use Rattle.bw_ports.specs.declared.link.Link.{Ghosts as LinkGhosts}
 use Rattle.bw_ports.specs.declared.reactor.Reactor.{Ghosts as ReactorGhosts}
 use Rattle.bw_connections.specs.declared.connections.Closed.{Closed}
 use Rattle.bw_connections.specs.declared.connections.Connections.{Connections}
-use Rattle.bw_connections.specs.Keeping.{tagged}
+use Rattle.bw_connections.specs.ConnectionTables.{tagged}
 use Rattle.bw_connections.specs.Places.{connection_count}
-use Rattle.bw_connections.specs.Working.{WorksAt}
+use Rattle.bw_connections.specs.Quanta.{WorksAt}
 use Rattle.bw_serve.specs.declared.event_loop.EventLoop.{EventLoop}
 use Rattle.bw_serve.specs.declared.serving.Bounds.{Bounds}
 use Rattle.bw_serve.specs.EventLoops.{InTurn, ServesPlace, ended_in_turn, frames_in_turn}
 use Rattle.bw_serve.specs.Rounds.{ServesInRounds, ServesRound, ServesRounds, ended_in_rounds}
 use Rattle.bw_serve.specs.Rounds.{frames_in_rounds}
-use Rattle.bw_serve.specs.Serving.{HasServed}
+use Rattle.bw_serve.specs.EventLoopRuns.{HasServed}
 
 both : {X : Type 0} {xs xs' ys ys' : List X} → xs ≡ xs' → ys ≡ ys' → xs ++ ys ≡ xs' ++ ys'
 both {X} {xs} {xs'} {ys} {ys'} e f = ap (λ zs. zs ++ ys) e ∙ ap (λ zs. xs' ++ zs) f

@@ -6,10 +6,10 @@ use Rattle.bw_connections.specs.declared.connection.Connection.{Connection}
 use Rattle.bw_ports.specs.declared.link.Link.{Ghosts as LinkGhosts}
 use Rattle.bw_connections.specs.declared.connections.Closed.{Closed}
 use Rattle.bw_connections.specs.declared.connections.Connections.{Connections}
-use Rattle.bw_connections.specs.Keeping.{IsFree, KeepsConnections, HoldsConnectionAt, Tagged}
+use Rattle.bw_connections.specs.ConnectionTables.{IsFree, KeepsConnections, HoldsConnectionAt, Tagged}
 use Rattle.bw_connections.specs.Lives.{KeepsPeer}
 use Rattle.bw_connections.specs.Places.{begun_of, refused_of}
-use Rattle.bw_connections.specs.Working.{BeginsAt, LeavesOthers, RefusesLink}
+use Rattle.bw_connections.specs.Quanta.{BeginsAt, LeavesOthers, RefusesLink}
 use Rattle.bw_ports.specs.Reactors.{Admission}
 use Rattle.bw_serve.specs.declared.event_loop.EventLoop.{EventLoop}
 

@@ -6,7 +6,7 @@ use Rattle.std.specs.declared.io.Error.{Error as IoError}
 use Rattle.std.specs.declared.net.socket_addr.SocketAddr.{SocketAddr}
 use Rattle.bw_stream.specs.Moves.{one_more}
 use Rattle.bw_stream.specs.declared.sink.Sink.{Ghosts as Writer}
-use Rattle.bw_console.specs.Printing.{HasPrinted, HasStopped}
+use Rattle.bw_console.specs.Prints.{HasPrinted, HasStopped}
 use Rattle.bw_console.specs.declared.exit.Exit.{Exit}
 use Rattle.bw_console.specs.declared.fault.Fault.TheVariants as faults
 use Rattle.bw_ports.specs.declared.listener_setup.ListenerSetup.{Ghosts as ListenerSetupGhosts}
@@ -17,7 +17,7 @@ use Rattle.bw_ports.specs.declared.starts_resting.StartsResting.{Ghosts as RestG
 use Rattle.bw_serve.specs.declared.hosting.Hosting.{Hosting}
 use Rattle.bw_serve.specs.declared.hosting_in_turn.Serving.{Serving}
 use Rattle.bw_serve.specs.Refusals.{ReportsRefusal}
-use Rattle.bw_serve.specs.Reported.{GivesUp, ReportsExit, ReportsUnopened}
+use Rattle.bw_serve.specs.ServerReports.{GivesUp, ReportsExit, ReportsUnopened}
 
 -- what calls of one kind may return, from which state to which, and how many have failed
 pub record Calls (N T F : Type 0) : Type 1 where

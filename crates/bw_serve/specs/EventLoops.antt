@@ -6,18 +6,18 @@ use Rattle.std.specs.List.{AllByRecursion}
 use Rattle.bw_model.specs.Wire.{Frame}
 use Rattle.bw_model.specs.Replies.{Reply}
 use Rattle.bw_stream.specs.declared.sink.Sink.{Ghosts as Writer}
-use Rattle.bw_exchange.specs.Answering.{AnswersAll, answered_frames}
+use Rattle.bw_exchange.specs.AnsweredFrames.{AnswersAll, answered_frames}
 use Rattle.bw_connections.specs.declared.connection.Connection.{Connection}
 use Rattle.bw_connections.specs.declared.connection.ConnectionEnd.TheVariants as ends
 use Rattle.bw_ports.specs.declared.link.Link.{Ghosts as LinkGhosts}
 use Rattle.bw_connections.specs.declared.connections.Closed.{Closed}
 use Rattle.bw_connections.specs.declared.connections.Connections.{Connections}
-use Rattle.bw_connections.specs.Keeping.{Adds, KeepsConnections, SetsPlace, HoldsConnectionAt, Tagged}
-use Rattle.bw_connections.specs.Keeping.{all_answered, own, tagged, those}
+use Rattle.bw_connections.specs.ConnectionTables.{Adds, KeepsConnections, SetsPlace, HoldsConnectionAt, Tagged}
+use Rattle.bw_connections.specs.ConnectionTables.{all_answered, own, tagged, those}
 use Rattle.bw_connections.specs.Lives.{BeginsConnection, expired_at}
 use Rattle.bw_connections.specs.Places.{begun_of, can_go_on_at, connection_count, end_of_connection}
 use Rattle.bw_connections.specs.Places.{expired_there}
-use Rattle.bw_connections.specs.Working.{IsEmpty, StaysAt, ExistedAt, WorksAt, ExistedUnder}
+use Rattle.bw_connections.specs.Quanta.{IsEmpty, StaysAt, ExistedAt, WorksAt, ExistedUnder}
 use Rattle.bw_exchange.specs.LinkCounts.{up_to_last, counting_frame}
 use Rattle.bw_connections.specs.Places.{refused_of}
 use Rattle.bw_serve.specs.Admissions.{AreOf, HostsMore}

@@ -13,17 +13,17 @@ use Rattle.bw_session.specs.Books.{HoldsBook}
 use Rattle.bw_session.specs.ServerTurns.{ServerTurn}
 use Rattle.bw_session.specs.declared.server.Server.{Server}
 use Rattle.bw_session.specs.SeenServers.{server_store, server_limit}
-use Rattle.bw_exchange.specs.Answering.{Answered}
+use Rattle.bw_exchange.specs.AnsweredFrames.{Answered}
 use Rattle.bw_engine.specs.ServerRuns.{RunsOn}
 use Rattle.bw_console.specs.declared.exit.Exit.{Exit}
 use Rattle.bw_console.specs.declared.exit.Exit.TheVariants.{Done, Refused, Usage, Device, Memory}
 use Rattle.bw_ports.specs.declared.link.Link.{Ghosts as LinkGhosts}
 use Rattle.bw_ports.specs.declared.peers.Peers.{Ghosts as PeerGhosts}
 use Rattle.bw_ports.specs.declared.reactor.Reactor.{Ghosts as ReactorGhosts}
-use Rattle.bw_connections.specs.Keeping.{all_answered}
+use Rattle.bw_connections.specs.ConnectionTables.{all_answered}
 use Rattle.bw_serve.specs.Beginnings.{CantOpen, OpensAndRuns}
 use Rattle.bw_serve.specs.ServedAll.{ServesRun, answered_in_run}
-use Rattle.bw_serve.specs.Serving.{RunsEventLoop}
+use Rattle.bw_serve.specs.EventLoopRuns.{RunsEventLoop}
 use Rattle.bw_serve.specs.declared.serving.Bounds.{Bounds}
 
 module _ {X Y : Type 0} (S : StoreGhosts X) (J : JournalGhosts Y) where

@@ -12,7 +12,7 @@ use Rattle.bw_ports.specs.declared.listener_setup.ListenerSetup.{Ghosts as Liste
 use Rattle.bw_ports.specs.declared.network.Network.{Ghosts as NetworkGhosts}
 use Rattle.bw_ports.specs.declared.reactor.Reactor.{Ghosts as ReactorGhosts}
 use Rattle.bw_serve.specs.Beginnings.{CantOpen, ServesOrReports, WantsFirst, reactor_calls, store_calls}
-use Rattle.bw_serve.specs.Hosted.{IsNewServer, listening_line}
+use Rattle.bw_serve.specs.Hostings.{IsNewServer, listening_line}
 use Rattle.bw_serve.specs.HostedFrom.{ServesManyFrom, answered_in_loop}
 use Rattle.bw_serve.specs.Names.{KeepsNamesApart}
 use Rattle.bw_serve.specs.declared.hosting.Hosting.{Hosting}

@@ -4,7 +4,7 @@ use Rattle.bw_model.specs.Wire.{Frame}
 use Rattle.bw_model.specs.Replies.{Reply}
 use Rattle.bw_stream.specs.declared.sink.Sink.{Ghosts as Writer}
 use Rattle.bw_stream.specs.declared.source.Source.{Ghosts as Reader}
-use Rattle.bw_exchange.specs.Answering.{AnswersAll}
+use Rattle.bw_exchange.specs.AnsweredFrames.{AnswersAll}
 use Rattle.bw_console.specs.declared.exit.Exit.{Exit}
 use Rattle.bw_ports.specs.declared.link.Link.{Ghosts as LinkGhosts}
 use Rattle.bw_ports.specs.declared.peers.Peers.{Ghosts as PeerGhosts}
@@ -12,7 +12,7 @@ use Rattle.bw_ports.specs.declared.reactor.Reactor.{Ghosts as ReactorGhosts}
 use Rattle.bw_serve.specs.Beginnings.{CantOpen, OpensAndRuns}
 use Rattle.bw_serve.specs.HostedFrom.{answered_in_loop}
 use Rattle.bw_serve.specs.ServedAll.{ServesRun, answered_in_run}
-use Rattle.bw_serve.specs.Serving.{RunsEventLoop}
+use Rattle.bw_serve.specs.EventLoopRuns.{RunsEventLoop}
 use Rattle.bw_serve.specs.declared.serving.Bounds.{Bounds}
 
 module _ {T P R W O E : Type 0} (answers : T → Frame → List Reply → T → Type 0) (peers : PeerGhosts P R W)

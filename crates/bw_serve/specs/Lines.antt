@@ -3,13 +3,13 @@ use Rattle.std.specs.Prelude.{◌≡◌, ℕ, suc, Bool, List, [], ◌∷◌, co
 use Rattle.std.specs.declared.net.socket_addr.SocketAddr.{SocketAddr}
 use Rattle.bw_stream.specs.declared.sink.Sink.{Ghosts as Writer}
 use Rattle.bw_exchange.specs.EndNames.{name_of_end}
-use Rattle.bw_exchange.specs.Answering.{answered_frames}
-use Rattle.bw_console.specs.Printing.{Print, IsOf, IsPrint}
+use Rattle.bw_exchange.specs.AnsweredFrames.{answered_frames}
+use Rattle.bw_console.specs.Prints.{Print, IsOf, IsPrint}
 use Rattle.bw_connections.specs.declared.connection.ConnectionEnd.{ConnectionEnd}
 use Rattle.bw_connections.specs.declared.connection.ConnectionEnd.TheVariants.{Over, Idle}
 use Rattle.bw_ports.specs.declared.link.Link.{Ghosts as LinkGhosts}
 use Rattle.bw_connections.specs.declared.connections.Closed.{Closed}
-use Rattle.bw_connections.specs.Keeping.{Tagged, own}
+use Rattle.bw_connections.specs.ConnectionTables.{Tagged, own}
 use Rattle.bw_exchange.specs.LinkCounts.{Counted, message_count, up_to_last}
 use Rattle.bw_serve.specs.LinkLines.{Logs, peer_line}
 use Rattle.bw_serve.specs.ServedOne.{ended_line}

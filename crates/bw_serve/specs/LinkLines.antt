@@ -4,7 +4,7 @@ use Rattle.std.specs.Net.Text.{socket_text}
 use Rattle.std.specs.declared.net.socket_addr.SocketAddr.{SocketAddr}
 use Rattle.bw_stream.specs.declared.sink.Sink.{Ghosts as Writer}
 use Rattle.bw_exchange.specs.declared.serving.ExchangeEnd.{ExchangeEnd}
-use Rattle.bw_console.specs.Printing.{Print, IsOf, IsPrint}
+use Rattle.bw_console.specs.Prints.{Print, IsOf, IsPrint}
 use Rattle.bw_console.specs.Text.{as_line}
 use Rattle.bw_exchange.specs.EndNames.{name_of_end}
 use Rattle.bw_exchange.specs.LinkCounts.{Counted}

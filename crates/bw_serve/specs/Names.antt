@@ -6,12 +6,12 @@ use Rattle.bw_store.specs.declared.store.TakeStore.{Ghosts as StoreGhosts}
 use Rattle.bw_journal.specs.declared.journal.Journal.{Ghosts as JournalGhosts}
 use Rattle.bw_session.specs.Books.{HoldsBook}
 use Rattle.bw_session.specs.declared.server.Server.{Server}
-use Rattle.bw_exchange.specs.Answering.{Answered, AnswersAll}
-use Rattle.bw_engine.specs.Ingesting.{LeavesRun}
+use Rattle.bw_exchange.specs.AnsweredFrames.{Answered, AnswersAll}
+use Rattle.bw_engine.specs.IngestRuns.{LeavesRun}
 use Rattle.bw_exchange.specs.TurnRuns.{answers_in}
 use Rattle.bw_session.specs.ServerTurns.{ServerTurn}
 use Rattle.bw_session.specs.SeenServers.{server_store, server_limit}
-use Rattle.bw_connections.specs.Keeping.{Tagged, all_answered}
+use Rattle.bw_connections.specs.ConnectionTables.{Tagged, all_answered}
 
 module _ {X Y : Type 0} (S : StoreGhosts X) (J : JournalGhosts Y) where
   -- These frames were answered over a store that was before so and is now so: it has the files of

@@ -2,9 +2,9 @@
 use Rattle.std.specs.Prelude.{◌≡◌, ℕ, Bool, Some, List, slice_get}
 use Rattle.bw_stream.specs.declared.sink.Sink.{Ghosts as Writer}
 use Rattle.bw_connections.specs.declared.connection.ConnectionEnd.{ConnectionEnd}
-use Rattle.bw_connections.specs.Keeping.{SetsPlace}
+use Rattle.bw_connections.specs.ConnectionTables.{SetsPlace}
 use Rattle.bw_exchange.specs.declared.link_stats.Metered.{Metered}
-use Rattle.bw_exchange.specs.Metered.{metered_server, metered_counts}
+use Rattle.bw_exchange.specs.MeteredServers.{metered_server, metered_counts}
 use Rattle.bw_serve.specs.LinkLines.{Logs, peer_line}
 use Rattle.bw_serve.specs.Lines.{name_of_connection_end}
 use Rattle.bw_serve.specs.declared.peer_slot.PeerSlot.{PeerSlot}

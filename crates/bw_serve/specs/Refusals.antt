@@ -2,14 +2,14 @@
 use Rattle.std.specs.Prelude.{◌≡◌, ℕ, List, codes}
 use Rattle.std.specs.IoError.{error_kind}
 use Rattle.bw_stream.specs.declared.sink.Sink.{Ghosts as Writer}
-use Rattle.bw_console.specs.Printing.{IsOf, IsPrint, Print}
+use Rattle.bw_console.specs.Prints.{IsOf, IsPrint, Print}
 use Rattle.bw_console.specs.Text.{as_line}
 use Rattle.bw_console.specs.declared.exit.Exit.{Exit}
 use Rattle.bw_console.specs.declared.exit.Exit.TheVariants as exits
 use Rattle.bw_console.specs.declared.fault.Fault.TheVariants as faults
 use Rattle.bw_ports.specs.declared.starts.StartRefusal.{StartRefusal}
 use Rattle.bw_ports.specs.declared.starts.StartRefusal.TheVariants as refusals
-use Rattle.bw_serve.specs.Reported.{GivesUp, ReportsUnopened}
+use Rattle.bw_serve.specs.ServerReports.{GivesUp, ReportsUnopened}
 
 -- what is reported where another server runs over the folder
 abbrev pub running_line : List ℕ

@@ -8,10 +8,10 @@ use Rattle.bw_stream.specs.Moves.{one_more}
 use Rattle.bw_stream.specs.declared.sink.Sink.{Ghosts as Writer}
 use Rattle.bw_connections.specs.declared.connection.Connection.{Connection}
 use Rattle.bw_ports.specs.declared.link.Link.{Ghosts as LinkGhosts}
-use Rattle.bw_connections.specs.Keeping.{HoldsConnectionAt, Tagged}
+use Rattle.bw_connections.specs.ConnectionTables.{HoldsConnectionAt, Tagged}
 use Rattle.bw_connections.specs.declared.connections.Closed.{Closed}
 use Rattle.bw_connections.specs.Places.{begun_of, connection_count, first_free_place}
-use Rattle.bw_connections.specs.Working.{Wakes}
+use Rattle.bw_connections.specs.Quanta.{Wakes}
 use Rattle.bw_serve.specs.Admissions.{AdmitsEach}
 use Rattle.bw_ports.specs.Reactors.{Admission}
 use Rattle.bw_serve.specs.EventLoops.{Grows, InTurn, IsNew, LetsIn, KeepsEventLoop, can_go_on_in}

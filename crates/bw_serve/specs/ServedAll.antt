@@ -6,7 +6,7 @@ use Rattle.bw_model.specs.Replies.{Reply}
 use Rattle.bw_stream.specs.Moves.{one_more}
 use Rattle.bw_stream.specs.declared.sink.Sink.{Ghosts as Writer}
 use Rattle.bw_stream.specs.declared.source.Source.{Ghosts as Reader}
-use Rattle.bw_exchange.specs.Answering.{Answered, answered_frames}
+use Rattle.bw_exchange.specs.AnsweredFrames.{Answered, answered_frames}
 use Rattle.bw_exchange.specs.declared.serving.ExchangeEnd.{ExchangeEnd}
 use Rattle.bw_exchange.specs.LinkCounts.{message_count}
 use Rattle.bw_console.specs.declared.exit.Exit.{Exit}

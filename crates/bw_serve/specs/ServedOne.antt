@@ -4,11 +4,11 @@ use Rattle.bw_model.specs.Wire.{Frame}
 use Rattle.bw_model.specs.Replies.{Reply}
 use Rattle.bw_stream.specs.declared.sink.Sink.{Ghosts as Writer}
 use Rattle.bw_stream.specs.declared.source.Source.{Ghosts as Reader}
-use Rattle.bw_exchange.specs.Served.{Serves, most_reads, reads_failed, writes_failed, IsLimited}
+use Rattle.bw_exchange.specs.WholeExchanges.{Serves, most_reads, reads_failed, writes_failed, IsLimited}
 use Rattle.bw_exchange.specs.declared.serving.ExchangeEnd.{ExchangeEnd}
 use Rattle.bw_exchange.specs.declared.serving.ExchangeEnd.TheVariants as ends
 use Rattle.bw_exchange.specs.EndNames.{name_of_end}
-use Rattle.bw_console.specs.Printing.{Print, Nothing, Whole, Part, IsOf, IsPrint}
+use Rattle.bw_console.specs.Prints.{Print, Nothing, Whole, Part, IsOf, IsPrint}
 use Rattle.bw_console.specs.Text.{as_line}
 use Rattle.bw_console.specs.declared.exit.Exit.{Exit}
 use Rattle.bw_console.specs.declared.exit.Exit.TheVariants.{Done, Device, Memory}

@@ -3,7 +3,7 @@ ghost use Rattle.std.specs.Prelude.{◌≡◌, ◌+◌, ◌≤◌, ◌<◌, ℕ,
 ghost use Rattle.std.specs.Prelude.{OnOk};
 ghost use Rattle.bw_wire.specs.Held.{longest_message_piece};
 ghost use Rattle.bw_stream.specs.Moves.{failures_after};
-ghost use Rattle.bw_exchange.specs.Metered.{metered_server};
+ghost use Rattle.bw_exchange.specs.MeteredServers.{metered_server};
 
 use crate::line::print_end;
 use crate::observing::{RoundObserver, RoundReport};
@@ -40,14 +40,14 @@ pub(crate) struct EventLoop<L> {
 }
 
 impl<L: Link + Drop> EventLoop<L> {
-    ghost use Rattle.bw_connections.specs.Keeping.{IsFree};
+    ghost use Rattle.bw_connections.specs.ConnectionTables.{IsFree};
     ghost use Rattle.bw_connections.specs.Places.{begun_of, connection_count};
     ghost use Rattle.bw_serve.specs.Admissions.{Admits};
     ghost use Rattle.bw_serve.specs.EventLoops.{CountsEnds, Grows, HasPeerSlots, IsNew, InTurn};
     ghost use Rattle.bw_serve.specs.EventLoops.{LetsIn};
     ghost use Rattle.bw_serve.specs.EventLoops.{ServesPlace, KeepsEventLoop, WorksCounted};
     ghost use Rattle.bw_serve.specs.EventLoops.{can_go_on_in};
-    ghost use Rattle.bw_serve.specs.Observing.{LooksAtRound};
+    ghost use Rattle.bw_serve.specs.Observations.{LooksAtRound};
     ghost use Rattle.bw_serve.specs.Rounds.{AsksIn, NoticesAll, Welcomes};
     ghost use Rattle.bw_ports.specs.Reactors.{Admission};
     ghost use Rattle.bw_serve.specs.PeerSlots.{LogsAt};

@@ -2,8 +2,8 @@
 ghost use Rattle.std.specs.Prelude.{◌≡◌, string_bytes, IfOk};
 ghost use Rattle.std.specs.IoError.{error_kind};
 ghost use Rattle.std.specs.Net.Text.{socket_text};
-ghost use Rattle.bw_serve.specs.Hosted.{Hosts, HostsOver, ReportsExit, ReportsUnopened};
-ghost use Rattle.bw_serve.specs.Hosted.{listening_line};
+ghost use Rattle.bw_serve.specs.Hostings.{Hosts, HostsOver, ReportsExit, ReportsUnopened};
+ghost use Rattle.bw_serve.specs.Hostings.{listening_line};
 ghost use Rattle.bw_serve.specs.HostedFrom.{HostsFrom};
 ghost use Rattle.bw_serve.specs.HostedTurns.{HostsTurns};
 

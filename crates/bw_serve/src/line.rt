@@ -1,6 +1,6 @@
 //! The line of a connection that ended.
 ghost use Rattle.std.specs.Prelude.{◌≡◌, ◌≤◌, codes, length};
-ghost use Rattle.bw_console.specs.Printing.{IsOf, IsPrint, Print};
+ghost use Rattle.bw_console.specs.Prints.{IsOf, IsPrint, Print};
 ghost use Rattle.bw_serve.specs.Lines.{connection_line, name_of_connection_end};
 ghost use Rattle.bw_serve.specs.ServedOne.{ended_line};
 

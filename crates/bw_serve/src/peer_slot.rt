@@ -1,8 +1,8 @@
 //! What is kept of the peer at a place.
 ghost use Rattle.std.specs.Prelude.{◌≡◌, ◌<◌, length, vec_len, IfOk};
-ghost use Rattle.bw_connections.specs.Keeping.{SetsPlace};
+ghost use Rattle.bw_connections.specs.ConnectionTables.{SetsPlace};
 ghost use Rattle.bw_exchange.specs.LinkCounts.{none_counted};
-ghost use Rattle.bw_exchange.specs.Metered.{metered_server, metered_counts};
+ghost use Rattle.bw_exchange.specs.MeteredServers.{metered_server, metered_counts};
 ghost use Rattle.bw_serve.specs.LinkLines.{Logs, peer_line};
 ghost use Rattle.bw_serve.specs.Lines.{name_of_connection_end};
 ghost use Rattle.bw_serve.specs.PeerSlots.{LogsAt, SwapsAt};

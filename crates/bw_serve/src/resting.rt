@@ -1,7 +1,7 @@
 //! The command `serve` with a journal and with names that rest.
 ghost use Rattle.std.specs.Prelude.{IfOk, string_bytes};
-ghost use Rattle.bw_serve.specs.HostedResting.{BeginsResting, HostsManyRested, HostsManyRestingOver};
-ghost use Rattle.bw_serve.specs.HostedResting.{HostsRested, HostsRestingOver};
+ghost use Rattle.bw_serve.specs.RestingHostings.{BeginsResting, HostsManyRested, HostsManyRestingOver};
+ghost use Rattle.bw_serve.specs.RestingHostings.{HostsRested, HostsRestingOver};
 
 use crate::hosting::{Hosting, serve_many_turns};
 use crate::hosting_in_turn::{Serving, report_unbound, serve_turns};

@@ -1,8 +1,8 @@
 //! The command `serve` with a journal: a server that resumes what an earlier one left.
 ghost use Rattle.std.specs.Prelude.{◌≡◌, ◌++◌, string_bytes, IfOk};
-ghost use Rattle.bw_serve.specs.Hosted.{listening_line};
-ghost use Rattle.bw_serve.specs.HostedResumed.{HostsManyResumed, HostsManyStartedOver};
-ghost use Rattle.bw_serve.specs.HostedResumed.{HostsResumed, HostsStartedOver, resumed_line};
+ghost use Rattle.bw_serve.specs.Hostings.{listening_line};
+ghost use Rattle.bw_serve.specs.ResumedHostings.{HostsManyResumed, HostsManyStartedOver};
+ghost use Rattle.bw_serve.specs.ResumedHostings.{HostsResumed, HostsStartedOver, resumed_line};
 
 use crate::hosting::{Hosting, serve_many_from};
 use crate::hosting_in_turn::{Serving, format_listening, report_unbound, serve_from};

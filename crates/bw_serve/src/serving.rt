@@ -4,10 +4,10 @@ ghost use Rattle.bw_stream.specs.Moves.{failures_after, one_more};
 ghost use Rattle.bw_wire.specs.Held.{longest_message_piece};
 ghost use Rattle.bw_connections.specs.Places.{begun_of};
 ghost use Rattle.bw_serve.specs.EventLoops.{HasPeerSlots};
-ghost use Rattle.bw_serve.specs.Observing.{ObservesRun};
+ghost use Rattle.bw_serve.specs.Observations.{ObservesRun};
 ghost use Rattle.bw_serve.specs.Rounds.{IsShut, ServesRound, patience_of};
-ghost use Rattle.bw_serve.specs.Serving.{RunsEventLoop};
-ghost use Rattle.bw_exchange.specs.Metered.{metered_server};
+ghost use Rattle.bw_serve.specs.EventLoopRuns.{RunsEventLoop};
+ghost use Rattle.bw_exchange.specs.MeteredServers.{metered_server};
 
 use crate::event_loop::{EventLoop, Round, Shut};
 use crate::observing::{NoRoundObserver, RoundObserver};

@@ -3,7 +3,7 @@ ghost use Rattle.std.specs.Prelude.{◌≡◌};
 ghost use Rattle.bw_serve.specs.ServedAll.{ServedOutcome, Served, ServesNext, ServesPeer};
 ghost use Rattle.bw_serve.specs.ServedAll.{ServesRun};
 ghost use Rattle.bw_serve.specs.ServedAll.{exit_now};
-ghost use Rattle.bw_exchange.specs.Metered.{metered_server};
+ghost use Rattle.bw_exchange.specs.MeteredServers.{metered_server};
 
 use crate::reporting::report_link;
 use crate::serving_one::serve_link;

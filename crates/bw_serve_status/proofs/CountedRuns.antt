@@ -6,7 +6,7 @@ use Rattle.bw_model.specs.Replies.{Reply}
 use Rattle.bw_stream.specs.declared.sink.Sink.{Ghosts as Writer}
 use Rattle.bw_store.specs.declared.store.TakeStore.{Ghosts as StoreGhosts}
 use Rattle.bw_journal.specs.declared.journal.Journal.{Ghosts as JournalGhosts}
-use Rattle.bw_exchange.specs.Answering.{Answered, AnswersAll}
+use Rattle.bw_exchange.specs.AnsweredFrames.{Answered, AnswersAll}
 use Rattle.bw_session.specs.ServerTurns.{ServerTurn}
 use Rattle.bw_session.specs.declared.server.Server.{Server}
 use Rattle.bw_engine.specs.ServerRuns.{ServersAnswerInRuns}
@@ -14,8 +14,8 @@ use Rattle.bw_console.specs.declared.exit.Exit.{Exit}
 use Rattle.bw_ports.specs.declared.link.Link.{Ghosts as LinkGhosts}
 use Rattle.bw_ports.specs.declared.reactor.Reactor.{Ghosts as ReactorGhosts}
 use Rattle.bw_operators.specs.declared.port.StatusPort.{Ghosts as PortGhosts}
-use Rattle.bw_serve.specs.Observing.{ObservesRun, RoundLeft, left_in_run}
-use Rattle.bw_serve.specs.Serving.{RunsEventLoop}
+use Rattle.bw_serve.specs.Observations.{ObservesRun, RoundLeft, left_in_run}
+use Rattle.bw_serve.specs.EventLoopRuns.{RunsEventLoop}
 use Rattle.bw_serve.specs.declared.serving.Bounds.{Bounds}
 use Rattle.bw_serve.proofs.WrappedLooks.{run_answers, run_seen}
 use Rattle.bw_serve_status.specs.Looks.{Looks}

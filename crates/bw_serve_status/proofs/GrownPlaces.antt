@@ -4,7 +4,7 @@ use Rattle.std.specs.Prelude.{None}
 use Rattle.std.specs.Str.{bytes_eq}
 use Rattle.bw_serve_status.specs.declared.growth.Growth.{Growth}
 use Rattle.bw_serve_status.specs.declared.name_tally.NameTally.{NameTally}
-use Rattle.bw_serve_status.specs.Growing.{grown_at}
+use Rattle.bw_serve_status.specs.Growths.{grown_at}
 
 -- there is no growth of a name where there is none of any
 pub grown_none : (name : List ℕ) (ts : List NameTally) (gs : List Growth) → gs ≡ [] → grown_at name ts gs ≡ None

@@ -8,8 +8,8 @@ use Rattle.bw_console.specs.declared.exit.Exit.{Exit}
 use Rattle.bw_ports.specs.declared.link.Link.{Ghosts as LinkGhosts}
 use Rattle.bw_ports.specs.declared.reactor.Reactor.{Ghosts as ReactorGhosts}
 use Rattle.bw_operators.specs.declared.port.StatusPort.{Ghosts as PortGhosts}
-use Rattle.bw_serve.specs.Hosted.{IsNewServer, listening_line}
-use Rattle.bw_serve.specs.HostedResumed.{OpensWith}
+use Rattle.bw_serve.specs.Hostings.{IsNewServer, listening_line}
+use Rattle.bw_serve.specs.ResumedHostings.{OpensWith}
 use Rattle.bw_serve.specs.Names.{NamesStandApart}
 use Rattle.bw_serve.specs.declared.hosting.Hosting.{Hosting}
 use Rattle.bw_serve.proofs.Leaving.{event_loop_leaves}

@@ -9,8 +9,8 @@ use Rattle.bw_journal.specs.declared.journal.Journal.{Ghosts as JournalGhosts}
 use Rattle.bw_session.specs.declared.server.Server.{Server}
 use Rattle.bw_serve.specs.declared.observing.RoundReport.{RoundReport}
 use Rattle.bw_status.specs.declared.answer.Answer.{Answer}
-use Rattle.bw_operators.specs.Placed.{AdmitsAt, IsFreeAt, LastsLongest, LeavesOtherPlaces, StepsAt}
-use Rattle.bw_operators.specs.Placed.{asked_at}
+use Rattle.bw_operators.specs.OperatorPlaces.{AdmitsAt, IsFreeAt, LastsLongest, LeavesOtherPlaces, StepsAt}
+use Rattle.bw_operators.specs.OperatorPlaces.{asked_at}
 use Rattle.bw_operators.specs.declared.port.StatusPort.{Ghosts as PortGhosts}
 use Rattle.bw_operators.specs.declared.operators.Operators.{Operators}
 use Rattle.bw_serve_status.specs.Looks.{AcceptsAt, Moment, RespondsToOne, ShowsOrCloses}

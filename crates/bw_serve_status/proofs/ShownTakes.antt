@@ -14,7 +14,7 @@ use Rattle.std.specs.Str.{bytes_eq}
 use Rattle.bw_model.proofs.BookLaws.{apart_sym}
 use Rattle.bw_model.specs.Book.{Book, Log, is_known, log_of}
 use Rattle.bw_session.specs.Books.{of_known}
-use Rattle.bw_session.specs.Listing.{ListsNames}
+use Rattle.bw_session.specs.KnownNames.{ListsNames}
 use Rattle.bw_serve.specs.declared.peer_slot.PeerSlot.{PeerSlot}
 use Rattle.bw_model.specs.Take.{Format}
 use Rattle.bw_status.specs.declared.snapshot.SoundFormat.{SoundFormat}

@@ -1,5 +1,5 @@
 pub mod Names
-pub mod Growing
+pub mod Growths
 pub mod Tallies
 pub mod CountNames
 pub mod Takes

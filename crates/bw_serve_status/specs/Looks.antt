@@ -10,12 +10,12 @@ use Rattle.bw_ports.specs.declared.link.Link.{Ghosts as LinkGhosts}
 use Rattle.bw_status.specs.Responses.{response_text}
 use Rattle.bw_status.specs.declared.answer.Answer.{Answer}
 use Rattle.bw_status.specs.declared.snapshot.Snapshot.{Snapshot}
-use Rattle.bw_operators.specs.Placed.{AdmitsAt, AreConnections, IsFreeAt, LastsLongest}
-use Rattle.bw_operators.specs.Placed.{LeavesOtherPlaces, RespondsAt, StepsAt, asked_at, operator_at}
+use Rattle.bw_operators.specs.OperatorPlaces.{AdmitsAt, AreConnections, IsFreeAt, LastsLongest}
+use Rattle.bw_operators.specs.OperatorPlaces.{LeavesOtherPlaces, RespondsAt, StepsAt, asked_at, operator_at}
 use Rattle.bw_operators.specs.declared.operators.Operators.{Operators}
 use Rattle.bw_operators.specs.declared.port.StatusPort.{Ghosts as PortGhosts}
 use Rattle.bw_serve.specs.declared.observing.RoundReport.{RoundReport}
-use Rattle.bw_serve_status.specs.Growing.{NotesGrowth}
+use Rattle.bw_serve_status.specs.Growths.{NotesGrowth}
 use Rattle.bw_serve_status.specs.declared.growth.Growth.{Growth}
 use Rattle.bw_serve_status.specs.Snapshots.{CopiesCounts}
 use Rattle.bw_serve_status.specs.Takes.{ShowsTakes}

@@ -20,11 +20,11 @@ use Rattle.bw_operators.specs.declared.port.StatusSetup.{Ghosts as StatusGhosts}
 use Rattle.bw_serve.specs.Beginnings.{BeginsServing, CallFails, CallGives, Calls, CantBind}
 use Rattle.bw_serve.specs.Beginnings.{ReportsUnbound, WantsFirst}
 use Rattle.bw_serve.specs.Beginnings.{reactor_calls, start_calls, store_calls}
-use Rattle.bw_serve.specs.Hosted.{listening_line}
+use Rattle.bw_serve.specs.Hostings.{listening_line}
 use Rattle.bw_serve.specs.HostedFrom.{HostsManyFrom}
 use Rattle.bw_serve.specs.HostedMany.{HostsManyOver}
-use Rattle.bw_serve.specs.HostedResumed.{HostsManyStartedOver}
-use Rattle.bw_serve.specs.Observing.{left_in_run}
+use Rattle.bw_serve.specs.ResumedHostings.{HostsManyStartedOver}
+use Rattle.bw_serve.specs.Observations.{left_in_run}
 use Rattle.bw_serve.specs.Refusals.{ReportsRefusal}
 use Rattle.bw_serve.specs.declared.hosting.Hosting.{Hosting}
 use Rattle.bw_serve.specs.declared.serving.Bounds.{Bounds}

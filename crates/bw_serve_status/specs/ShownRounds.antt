@@ -4,16 +4,16 @@ use Rattle.std.specs.List.{AllByRecursion}
 use Rattle.bw_model.specs.Book.{Book}
 use Rattle.bw_store.specs.declared.store.TakeStore.{Ghosts as StoreGhosts}
 use Rattle.bw_journal.specs.declared.journal.Journal.{Ghosts as JournalGhosts}
-use Rattle.bw_exchange.specs.Answering.{Answered}
+use Rattle.bw_exchange.specs.AnsweredFrames.{Answered}
 use Rattle.bw_session.specs.Books.{HoldsBook}
 use Rattle.bw_session.specs.declared.server.Server.{Server}
 use Rattle.bw_session.specs.SeenServers.{server_store}
 use Rattle.bw_engine.specs.ServerRuns.{RunsOn}
 use Rattle.bw_ports.specs.declared.link.Link.{Ghosts as LinkGhosts}
-use Rattle.bw_operators.specs.Placed.{IsFreeAt, place_count}
+use Rattle.bw_operators.specs.OperatorPlaces.{IsFreeAt, place_count}
 use Rattle.bw_operators.specs.declared.port.StatusPort.{Ghosts as PortGhosts}
-use Rattle.bw_serve.specs.Observing.{LooksAfterEach, RoundLeft}
-use Rattle.bw_serve_status.specs.Growing.{no_growth}
+use Rattle.bw_serve.specs.Observations.{LooksAfterEach, RoundLeft}
+use Rattle.bw_serve_status.specs.Growths.{no_growth}
 use Rattle.bw_serve_status.specs.Looks.{Looks}
 use Rattle.bw_serve_status.specs.Tallies.{none_tallied, tallied_all}
 use Rattle.bw_serve_status.specs.declared.observer.StatusObserver.{StatusObserver}

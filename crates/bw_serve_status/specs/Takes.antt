@@ -12,13 +12,13 @@ use Rattle.std.specs.declared.net.socket_addr.SocketAddr.{SocketAddr}
 use Rattle.bw_model.specs.Book.{Book, Log, is_known, log_of, made}
 use Rattle.bw_model.specs.Take.{Format, Take, frames as frames_of, parts}
 use Rattle.bw_session.specs.Books.{count_waiting}
-use Rattle.bw_session.specs.Listing.{KnowsTaken, ListsNames}
+use Rattle.bw_session.specs.KnownNames.{KnowsTaken, ListsNames}
 use Rattle.bw_serve.specs.declared.peer_slot.PeerSlot.{PeerSlot}
 use Rattle.bw_status.specs.declared.snapshot.SoundFormat.{SoundFormat}
 use Rattle.bw_status.specs.declared.snapshot.ShownState.{ShownState}
 use Rattle.bw_status.specs.declared.snapshot.ShownState.TheVariants.{Unopened, Open, Closed, Stood}
 use Rattle.bw_status.specs.declared.snapshot.TakeStatus.{TakeStatus}
-use Rattle.bw_serve_status.specs.Growing.{grown_at}
+use Rattle.bw_serve_status.specs.Growths.{grown_at}
 use Rattle.bw_serve_status.specs.declared.name_tally.NameTally.{NameTally}
 use Rattle.bw_serve_status.specs.declared.snapshots.Surroundings.{Surroundings}
 

@@ -5,7 +5,7 @@ use Rattle.bw_model.specs.Replies.{Reply, Judged, Noticed, Refused, Notice, noti
 use Rattle.bw_model.specs.CountedTurn.{is_delay}
 use Rattle.bw_model.specs.Take.{Request, Open, Block, Mark, SetField, Close, is_stored}
 use Rattle.bw_model.specs.Wire.{Frame, Says, Asks, Bye, message_body}
-use Rattle.bw_exchange.specs.Answering.{Answered}
+use Rattle.bw_exchange.specs.AnsweredFrames.{Answered}
 use Rattle.bw_exchange.specs.LinkCounts.{up_to_last}
 use Rattle.bw_serve_status.specs.declared.name_tally.Change.{Change}
 use Rattle.bw_serve_status.specs.declared.name_tally.Change.TheVariants as changes

@@ -1,6 +1,6 @@
 //! When each name grew last.
 ghost use Rattle.std.specs.Prelude.{◌≡◌, length};
-ghost use Rattle.bw_serve_status.specs.Growing.{NotesGrowth, grown_at, growth_noted};
+ghost use Rattle.bw_serve_status.specs.Growths.{NotesGrowth, grown_at, growth_noted};
 
 use crate::name_tally::{NameTally, is_of};
 use bw_request::Name;

@@ -26,9 +26,9 @@ pub(crate) struct StatusObserver<P: StatusPort> {
 }
 
 impl<P: StatusPort + Drop> StatusObserver<P> {
-    ghost use Rattle.bw_operators.specs.Placed.{AreConnections, IsFreeAt, LeavesOtherPlaces, asked_at};
-    ghost use Rattle.bw_operators.specs.Placed.{place_count};
-    ghost use Rattle.bw_serve_status.specs.Growing.{no_growth};
+    ghost use Rattle.bw_operators.specs.OperatorPlaces.{AreConnections, IsFreeAt, LeavesOtherPlaces, asked_at};
+    ghost use Rattle.bw_operators.specs.OperatorPlaces.{place_count};
+    ghost use Rattle.bw_serve_status.specs.Growths.{no_growth};
     ghost use Rattle.bw_serve_status.specs.Looks.{AcceptsAt, RespondsToOne, ShowsIn, ShowsOrCloses};
     ghost use Rattle.bw_serve_status.specs.Looks.{moment_of};
 

@@ -7,7 +7,7 @@ ghost use Rattle.std.specs.Ordering.{nat_cmp};
 ghost use Rattle.std.specs.List.Sorted.{IsSorted};
 ghost use Rattle.bw_model.specs.Book.{Book, is_known, log_of};
 ghost use Rattle.bw_session.specs.Books.{HoldsBook};
-ghost use Rattle.bw_session.specs.Listing.{ListsNames};
+ghost use Rattle.bw_session.specs.KnownNames.{ListsNames};
 ghost use Rattle.bw_serve_status.specs.Takes.{ShowsOf, ShowsTake, ShowsTakes, has_sent};
 ghost use Rattle.bw_serve_status.specs.Takes.{if_format, lasting};
 ghost use Rattle.bw_serve_status.specs.Takes.{lasting_in, peer_of, replied_of, sound_of};

@@ -17,15 +17,15 @@ use Rattle.bw_model.specs.Holds.{HoldsName, IsInTheMiddle, body_of, finished_fro
 use Rattle.bw_model.proofs.MapLemmas.{at-put_same, at-put_other, take-put, filled_len, not_filled, verdict-put}
 use Rattle.bw_model.proofs.MapLemmas.{IsFilled}
 use Rattle.bw_model.proofs.BookLaws.{fits-put}
-use Rattle.bw_file.specs.Growing.{Growing}
+use Rattle.bw_file.specs.GrowingFiles.{Growing}
 use Rattle.bw_journal.specs.JournalHeaders.{Header, header_bytes}
 use Rattle.bw_journal.specs.Entries.{JournalEntry, sealed_entry, sealed_entries}
-use Rattle.bw_journal.specs.Noted.{entries_from, journal_of}
+use Rattle.bw_journal.specs.NotedJournals.{entries_from, journal_of}
 use Rattle.bw_session.specs.Windows.{count_held}
-use Rattle.bw_session.specs.Noting.{entry_if, next_entry, HasEntries, IsNoted}
-use Rattle.bw_session.specs.Draining.{Fits, kept_as, NameStands, HoldsPart}
+use Rattle.bw_session.specs.NameNotes.{entry_if, next_entry, HasEntries, IsNoted}
+use Rattle.bw_session.specs.Drains.{Fits, kept_as, NameStands, HoldsPart}
 use Rattle.bw_session.specs.Prefixes.{StandsAhead}
-use Rattle.bw_session.specs.Admitting.{with_message}
+use Rattle.bw_session.specs.AdmittedMessages.{with_message}
 use Rattle.bw_session.proofs.Slots.{at-slot}
 use Rattle.bw_session.proofs.LogSteps.{take-short}
 

@@ -11,14 +11,14 @@ use Rattle.bw_model.specs.Book.{Log}
 use Rattle.bw_model.specs.CountedTurn.{is_pending}
 use Rattle.bw_model.specs.Turn.{Faults, served, turn_by, is_admissible, notice, window, is_turned_away}
 use Rattle.bw_model.specs.Take.{Parts, Verdict}
-use Rattle.bw_file.specs.Growing.{Growing}
+use Rattle.bw_file.specs.GrowingFiles.{Growing}
 use Rattle.bw_wire.specs.declared.reply.Reply.{Reply}
 use Rattle.bw_wire.specs.Replies.{reply_of}
-use Rattle.bw_session.specs.Draining.{HoldsPart}
+use Rattle.bw_session.specs.Drains.{HoldsPart}
 use Rattle.bw_session.specs.Sessions.{Part, HoldsLog, KeepsProgress, part_of}
 use Rattle.bw_session.specs.declared.session.Session.{Session}
-use Rattle.bw_session.specs.Reporting.{IsServing}
-use Rattle.bw_session.specs.Serving.{ServesMessage, Answers}
+use Rattle.bw_session.specs.ServedReplies.{IsServing}
+use Rattle.bw_session.specs.ServedMessages.{ServesMessage, Answers}
 
 and_no : (b : Bool) → (b && false) ≡ false
 and_no true = refl

@@ -12,12 +12,12 @@ use Rattle.bw_model.specs.Bytes.{at}
 use Rattle.bw_store.specs.StoreSteps.{WasAsked, WasAskedFirst}
 use Rattle.bw_store.specs.declared.store.TakeStore.{Ghosts as StoreGhosts}
 use Rattle.bw_wire.specs.Bodies.{message_in}
-use Rattle.bw_session.specs.Carrying.{judged_plan, StopsBeforeDone}
+use Rattle.bw_session.specs.Executions.{judged_plan, StopsBeforeDone}
 use Rattle.bw_session.specs.KeptParts.{Part}
-use Rattle.bw_session.specs.Judging.{judged_in, parts_under, KeepsJudged}
-use Rattle.bw_session.specs.Asking.{DoesFirst, TriesFirst, DoesConsecutively, DoesRun, HoldsNoNext, window_with, holding}
-use Rattle.bw_session.specs.Asking.{AsksInTurn}
-use Rattle.bw_session.specs.Asking.{new_part}
+use Rattle.bw_session.specs.JudgedParts.{judged_in, parts_under, KeepsJudged}
+use Rattle.bw_session.specs.ConsecutiveCalls.{DoesFirst, TriesFirst, DoesConsecutively, DoesRun, HoldsNoNext, window_with, holding}
+use Rattle.bw_session.specs.ConsecutiveCalls.{AsksInTurn}
+use Rattle.bw_session.specs.ConsecutiveCalls.{new_part}
 use Rattle.std.specs.Option.{option_map_or}
 use Rattle.std.specs.Prelude.{slice_set, is_some, nat_lt, nat_le}
 use Rattle.std.proofs.Common.{◌+◌, ◌-◌, ◌≤◌, ◌||◌, length}

@@ -3,9 +3,9 @@ use Rattle.std.proofs.Common.{◌≡◌, List, ℕ, Bool, true, Option, Some, No
 use Rattle.bw_model.specs.Book.{Book, log_of}
 use Rattle.bw_journal.specs.JournalHeaders.{Header, header_bytes}
 use Rattle.bw_journal.specs.Notes.{IsPrefixOf}
-use Rattle.bw_journal.specs.Resting.{NotesAlike, header_beside_rest}
-use Rattle.bw_session.specs.Journaled.{NotesNames}
-use Rattle.bw_session.specs.Noting.{IsNoted}
+use Rattle.bw_journal.specs.JournalsAtRest.{NotesAlike, header_beside_rest}
+use Rattle.bw_session.specs.NotedNames.{NotesNames}
+use Rattle.bw_session.specs.NameNotes.{IsNoted}
 use Rattle.bw_session.specs.declared.session.Session.{Session}
 
 -- a header says already that a file existed

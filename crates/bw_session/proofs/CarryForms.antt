@@ -11,11 +11,11 @@ use Rattle.bw_model.specs.File.{file_of}
 use Rattle.bw_model.specs.Holds.{IsInTheMiddle}
 use Rattle.bw_request.specs.Verdicts.{verdict_meaning}
 use Rattle.bw_request.specs.declared.verdict.Verdict.{Verdict}
-use Rattle.bw_file.specs.Growing.{Growing}
+use Rattle.bw_file.specs.GrowingFiles.{Growing}
 use Rattle.bw_store.specs.declared.store.Created.TheVariants.{New, Exists}
 use Rattle.bw_store.specs.declared.store.StoreFault.{StoreFault}
-use Rattle.bw_session.specs.Writing.{WritesRequest, HasWholeFile}
-use Rattle.bw_session.specs.Carrying.{Touches, Carries}
+use Rattle.bw_session.specs.RequestWrites.{WritesRequest, HasWholeFile}
+use Rattle.bw_session.specs.Executions.{Touches, Carries}
 
 no_false : {A : Type 0} → false ≡ true → A
 no_false e = cc

@@ -17,11 +17,11 @@ use Rattle.bw_model.specs.Book.{Log}
 use Rattle.bw_model.specs.Holds.{IsInTheMiddle, body_of}
 use Rattle.bw_model.proofs.Elements.{some_inj}
 use Rattle.bw_model.proofs.Payloads.{reads_request}
-use Rattle.bw_file.specs.Growing.{Growing}
+use Rattle.bw_file.specs.GrowingFiles.{Growing}
 use Rattle.bw_session.specs.Windows.{count_held}
 use Rattle.bw_session.specs.Prefixes.{take_done, FileStands, FileFollows, StandsAhead, HoldsPrefix}
-use Rattle.bw_session.specs.Numbered.{IsNext, with_done, IsDone}
-use Rattle.bw_session.specs.Draining.{Fits, kept_as, NameStands, HoldsPart}
+use Rattle.bw_session.specs.NextNumbers.{IsNext, with_done, IsDone}
+use Rattle.bw_session.specs.Drains.{Fits, kept_as, NameStands, HoldsPart}
 
 -- Bodies.
 

@@ -12,10 +12,10 @@ use Rattle.bw_model.proofs.BookLemmas.{same_name, log-with_log_same, log-with_lo
 use Rattle.bw_store.specs.Stores.{KeepsOthers}
 use Rattle.bw_journal.specs.JournalHeaders.{Header, header_bytes}
 use Rattle.bw_journal.specs.Notes.{IsPrefixOf, KeepsHeaders}
-use Rattle.bw_session.specs.Noting.{IsNoted}
-use Rattle.bw_session.specs.Serving.{log_after, log_reported}
-use Rattle.bw_session.specs.Journaled.{NotesNames}
-use Rattle.bw_session.specs.Ordering.{FileComesFirst, NextIsCarriedOut}
+use Rattle.bw_session.specs.NameNotes.{IsNoted}
+use Rattle.bw_session.specs.ServedMessages.{log_after, log_reported}
+use Rattle.bw_session.specs.NotedNames.{NotesNames}
+use Rattle.bw_session.specs.WriteOrders.{FileComesFirst, NextIsCarriedOut}
 use Rattle.bw_session.specs.Sessions.{part_of}
 use Rattle.bw_session.specs.declared.session.Session.{Session}
 use Rattle.bw_session.proofs.ServerForms.{apart_names}

@@ -9,7 +9,7 @@ use Rattle.bw_model.specs.Take.{Parts}
 use Rattle.bw_model.specs.Book.{Log, Book, log_of, is_known, made}
 use Rattle.bw_model.specs.Holds.{Store, Holds}
 use Rattle.bw_model.proofs.BookLemmas.{name_refl, same_name, unknown_log}
-use Rattle.bw_session.specs.Listing.{KnowsTaken, ListsNames, is_known_in}
+use Rattle.bw_session.specs.KnownNames.{KnowsTaken, ListsNames, is_known_in}
 use Rattle.bw_session.specs.Servers.{kept_by}
 use Rattle.bw_session.specs.Tables.{Table, session_in}
 use Rattle.bw_session.specs.declared.session.Session.{Session}

@@ -15,7 +15,7 @@ use Rattle.bw_model.specs.Take.{block_align, frames, field_fault, verdict, is_st
 use Rattle.bw_model.specs.Book.{Log, made, step, verdict_at, verdict_by}
 use Rattle.bw_model.specs.Holds.{body_of, finished_from}
 use Rattle.bw_take.specs.States.{FollowsTakes}
-use Rattle.bw_session.specs.Keeping.{KeepsDone}
+use Rattle.bw_session.specs.DoneNumbers.{KeepsDone}
 
 -- the first n places and the next
 pub take_next : (s : List (Option Request)) (n : ℕ) (r : Request) → at s n ≡ Some r →

@@ -10,14 +10,14 @@ use Rattle.bw_model.specs.Take.{Parts, Request, Verdict, new_take, parts}
 use Rattle.bw_model.specs.File.{file_of}
 use Rattle.bw_model.specs.Book.{Log, no_log, made}
 use Rattle.bw_model.specs.Holds.{body_of, IsInTheMiddle}
-use Rattle.bw_file.specs.Growing.{Growing}
+use Rattle.bw_file.specs.GrowingFiles.{Growing}
 use Rattle.bw_journal.specs.JournalHeaders.{Header, header_bytes, header_len}
 use Rattle.bw_journal.specs.Notes.{IsPrefixOf}
 use Rattle.bw_journal.proofs.Lengths.{length-header_bytes}
-use Rattle.bw_session.specs.Noting.{IsNoted}
-use Rattle.bw_session.specs.Keeping.{KeepsDone}
+use Rattle.bw_session.specs.NameNotes.{IsNoted}
+use Rattle.bw_session.specs.DoneNumbers.{KeepsDone}
 use Rattle.bw_session.specs.Prefixes.{take_done, FileFollows, StandsAhead}
-use Rattle.bw_session.specs.Draining.{kept_as, NameStands, HoldsPart, IsAllDone}
+use Rattle.bw_session.specs.Drains.{kept_as, NameStands, HoldsPart, IsAllDone}
 
 pub at-empty : (n i : ℕ) → at {X = List ℕ} (replicate n None) i ≡ None
 at-empty zero i = refl

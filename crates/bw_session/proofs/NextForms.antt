@@ -9,14 +9,14 @@ use Rattle.bw_model.specs.Take.{Parts, Request, Verdict}
 use Rattle.bw_model.specs.Book.{Log}
 use Rattle.bw_model.specs.Wire.{Message, Second, last_number, is_request, message_body}
 use Rattle.bw_model.proofs.Elements.{some_inj}
-use Rattle.bw_file.specs.Growing.{Growing}
+use Rattle.bw_file.specs.GrowingFiles.{Growing}
 use Rattle.bw_wire.specs.Bodies.{message_in}
 use Rattle.bw_session.specs.Windows.{count_held}
-use Rattle.bw_session.specs.Carrying.{Touches}
-use Rattle.bw_session.specs.Admitting.{with_message}
-use Rattle.bw_session.specs.Draining.{Fits, HoldsPart}
+use Rattle.bw_session.specs.Executions.{Touches}
+use Rattle.bw_session.specs.AdmittedMessages.{with_message}
+use Rattle.bw_session.specs.Drains.{Fits, HoldsPart}
 use Rattle.bw_session.specs.Prefixes.{HoldsPrefix}
-use Rattle.bw_session.specs.Numbered.{IsNext}
+use Rattle.bw_session.specs.NextNumbers.{IsNext}
 use Rattle.bw_session.specs.Sessions.{HoldsLog, KeepsProgress, kept_with, part_of}
 use Rattle.bw_session.specs.declared.numbering.Progress.{Progress}
 use Rattle.bw_session.specs.declared.session.Session.{Session}

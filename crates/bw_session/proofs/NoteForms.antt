@@ -10,11 +10,11 @@ use Rattle.bw_model.specs.Holds.{finished_from}
 use Rattle.bw_journal.specs.JournalHeaders.{Header, header_bytes}
 use Rattle.bw_journal.specs.Entries.{JournalEntry, sealed_entry, sealed_entries}
 use Rattle.bw_journal.specs.Notes.{IsPrefixOf, BeginsWith, Starts, StartsInPart, Notes, NotesInPart}
-use Rattle.bw_journal.specs.Noted.{done_entry, entries_from, journal_of}
-use Rattle.bw_file.specs.Growing.{Growing}
+use Rattle.bw_journal.specs.NotedJournals.{done_entry, entries_from, journal_of}
+use Rattle.bw_file.specs.GrowingFiles.{Growing}
 use Rattle.bw_session.specs.Prefixes.{Carried}
-use Rattle.bw_session.specs.Numbered.{IsNext, with_done, noted_of}
-use Rattle.bw_session.specs.Noting.{entry_if, next_entry, HasEntries, IsNoted}
+use Rattle.bw_session.specs.NextNumbers.{IsNext, with_done, noted_of}
+use Rattle.bw_session.specs.NameNotes.{entry_if, next_entry, HasEntries, IsNoted}
 use Rattle.bw_session.proofs.LogSteps.{take_next, finished-short, take-short, verdict_here}
 
 -- before number 0 a journal is its header

@@ -13,14 +13,14 @@ use Rattle.bw_model.specs.Take.{after}
 use Rattle.bw_model.specs.File.{file_of}
 use Rattle.bw_model.specs.Book.{Log, made}
 use Rattle.bw_model.specs.Holds.{IsBetween, IsInTheMiddle, body_of}
-use Rattle.bw_file.specs.Growing.{Growing}
+use Rattle.bw_file.specs.GrowingFiles.{Growing}
 use Rattle.bw_file.proofs.Judged.{open_for}
 use Rattle.bw_journal.proofs.BetweenLaws.{new_files_are_between}
-use Rattle.bw_session.specs.Writing.{is_mark, HasOwnFile, HasWholeFile}
-use Rattle.bw_session.specs.Carrying.{Touches}
-use Rattle.bw_session.specs.Keeping.{KeepsDone}
+use Rattle.bw_session.specs.RequestWrites.{is_mark, HasOwnFile, HasWholeFile}
+use Rattle.bw_session.specs.Executions.{Touches}
+use Rattle.bw_session.specs.DoneNumbers.{KeepsDone}
 use Rattle.bw_session.specs.Prefixes.{take_done, FileFollows, FileStands, HoldsPrefix, Carried}
-use Rattle.bw_session.specs.Numbered.{is_written, IsNext, with_done, IsDone}
+use Rattle.bw_session.specs.NextNumbers.{is_written, IsNext, with_done, IsDone}
 use Rattle.bw_file.proofs.MarkedFiles.{marked_file}
 use Rattle.bw_session.proofs.CarryForms.{after_refused, after_stored}
 use Rattle.bw_session.proofs.PrefixForms.{own_parts, refused, existed_is_new}

@@ -10,12 +10,12 @@ use Rattle.bw_model.specs.Holds.{finished_from}
 use Rattle.bw_journal.specs.JournalHeaders.{Header, header_bytes}
 use Rattle.bw_journal.specs.Entries.{content, sealed_entries}
 use Rattle.bw_journal.specs.Notes.{IsPrefixOf, IsShortOf, Starts, StartsInPart, Notes, NotesInPart}
-use Rattle.bw_journal.specs.Noted.{done_entry, entries_from, journal_of}
+use Rattle.bw_journal.specs.NotedJournals.{done_entry, entries_from, journal_of}
 use Rattle.bw_journal.proofs.Lengths.{sealed-length}
-use Rattle.bw_session.specs.Keeping.{KeepsDone}
-use Rattle.bw_session.specs.Numbered.{IsNext, with_done}
-use Rattle.bw_session.specs.Noting.{entry_if, next_entry, HasEntries, IsNoted}
-use Rattle.bw_session.specs.Ordering.{FileComesFirst, HasNothingPast}
+use Rattle.bw_session.specs.DoneNumbers.{KeepsDone}
+use Rattle.bw_session.specs.NextNumbers.{IsNext, with_done}
+use Rattle.bw_session.specs.NameNotes.{entry_if, next_entry, HasEntries, IsNoted}
+use Rattle.bw_session.specs.WriteOrders.{FileComesFirst, HasNothingPast}
 use Rattle.bw_session.proofs.NoteForms.{begins, journal_next}
 
 pub take_most : (n : ℕ) (xs : List ℕ) → length (take n xs) ≤ length xs

@@ -17,16 +17,16 @@ use Rattle.bw_model.proofs.Addresses.{after_name-cons}
 use Rattle.bw_model.proofs.BookLemmas.{unknown_log}
 use Rattle.bw_model.proofs.Elements.{some_inj}
 use Rattle.bw_model.proofs.Payloads.{reads_request}
-use Rattle.bw_file.specs.Growing.{Growing}
+use Rattle.bw_file.specs.GrowingFiles.{Growing}
 use Rattle.bw_store.specs.declared.store.TakeStore.{Ghosts as StoreGhosts}
 use Rattle.bw_journal.specs.declared.journal.Journal.{Ghosts as JournalGhosts}
 use Rattle.bw_wire.specs.Bodies.{body_request, message_in}
 use Rattle.bw_session.specs.Books.{HoldsBook, NotesBook, OrdersBook, QuietBooksAreInOrder}
 use Rattle.bw_session.specs.Books.{WaitingNumbersAreInOrder}
-use Rattle.bw_session.specs.Carrying.{Touches}
-use Rattle.bw_session.specs.Draining.{HoldsPart}
-use Rattle.bw_session.specs.Numbered.{with_done, is_written}
-use Rattle.bw_session.specs.Ordering.{IsInOrder, IsCarriedOut, file_due}
+use Rattle.bw_session.specs.Executions.{Touches}
+use Rattle.bw_session.specs.Drains.{HoldsPart}
+use Rattle.bw_session.specs.NextNumbers.{with_done, is_written}
+use Rattle.bw_session.specs.WriteOrders.{IsInOrder, IsCarriedOut, file_due}
 use Rattle.bw_session.specs.Prefixes.{take_done}
 use Rattle.bw_session.specs.Servers.{store_since, kept_by}
 use Rattle.bw_session.specs.Tables.{session_in}

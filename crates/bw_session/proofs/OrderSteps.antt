@@ -11,12 +11,12 @@ use Rattle.bw_model.specs.CountedTurn.{is_pending}
 use Rattle.bw_model.proofs.Elements.{some_inj}
 use Rattle.bw_journal.specs.JournalHeaders.{Header, header_bytes}
 use Rattle.bw_journal.specs.Notes.{IsPrefixOf}
-use Rattle.bw_journal.specs.Noted.{journal_of}
+use Rattle.bw_journal.specs.NotedJournals.{journal_of}
 use Rattle.bw_wire.specs.Bodies.{message_in}
-use Rattle.bw_session.specs.Asking.{window_with}
+use Rattle.bw_session.specs.ConsecutiveCalls.{window_with}
 use Rattle.bw_session.specs.KeptParts.{Part}
-use Rattle.bw_session.specs.Noting.{entry_if, next_entry, HasEntries, IsNoted}
-use Rattle.bw_session.specs.Ordering.{IsCarriedOut, NextIsCarriedOut, HasNothingPast}
+use Rattle.bw_session.specs.NameNotes.{entry_if, next_entry, HasEntries, IsNoted}
+use Rattle.bw_session.specs.WriteOrders.{IsCarriedOut, NextIsCarriedOut, HasNothingPast}
 use Rattle.bw_session.proofs.AdmitForms.{at-set_other}
 use Rattle.bw_session.proofs.OrderForms.{begun_length, take_most}
 

@@ -8,8 +8,8 @@ use Rattle.bw_model.specs.Take.{with_request}
 use Rattle.bw_model.specs.File.{file_of}
 use Rattle.bw_model.specs.Holds.{IsBetween, IsInTheMiddle}
 use Rattle.bw_model.proofs.Elements.{some_inj}
-use Rattle.bw_file.specs.Growing.{Growing, IsReady, IsBegun, AsksForName}
-use Rattle.bw_session.specs.Writing.{HasOwnFile, HasWholeFile}
+use Rattle.bw_file.specs.GrowingFiles.{Growing, IsReady, IsBegun, AsksForName}
+use Rattle.bw_session.specs.RequestWrites.{HasOwnFile, HasWholeFile}
 
 no_false : {A : Type 0} → false ≡ true → A
 no_false e = cc

@@ -7,11 +7,11 @@ use Rattle.bw_store.specs.StoreSteps.{WasAsked, WasAskedFirst}
 use Rattle.bw_store.specs.declared.store.StoreFault.{StoreFault}
 use Rattle.bw_store.specs.declared.store.TakeStore.{Ghosts as StoreGhosts}
 use Rattle.bw_store.proofs.Asked.{gets_none, gets_as, first_as}
-use Rattle.bw_file.specs.Growing.{Growing}
-use Rattle.bw_session.specs.Writing.{request_plan}
-use Rattle.bw_session.specs.Carrying.{Touches, judged_plan, AsksJudged}
-use Rattle.bw_session.specs.Numbered.{is_written}
-use Rattle.bw_session.specs.Ordering.{IsCarriedOut}
+use Rattle.bw_file.specs.GrowingFiles.{Growing}
+use Rattle.bw_session.specs.RequestWrites.{request_plan}
+use Rattle.bw_session.specs.Executions.{Touches, judged_plan, AsksJudged}
+use Rattle.bw_session.specs.NextNumbers.{is_written}
+use Rattle.bw_session.specs.WriteOrders.{IsCarriedOut}
 
 no_false : {A : Type 0} → false ≡ true → A
 no_false e = cc

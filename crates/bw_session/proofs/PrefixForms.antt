@@ -9,10 +9,10 @@ use Rattle.bw_model.specs.Take.{with_request, after}
 use Rattle.bw_model.specs.Book.{Log, made, step}
 use Rattle.bw_request.specs.Verdicts.{verdict_meaning}
 use Rattle.bw_request.specs.declared.verdict.Verdict.{Verdict as Judgement}
-use Rattle.bw_file.specs.Growing.{Growing}
+use Rattle.bw_file.specs.GrowingFiles.{Growing}
 use Rattle.bw_store.specs.declared.store.StoreFault.{StoreFault}
-use Rattle.bw_session.specs.Carrying.{Carries}
-use Rattle.bw_session.specs.Keeping.{KeepsDone}
+use Rattle.bw_session.specs.Executions.{Carries}
+use Rattle.bw_session.specs.DoneNumbers.{KeepsDone}
 use Rattle.bw_session.specs.Prefixes.{HoldsPrefix, CarriesPrefix}
 use Rattle.bw_session.proofs.LogSteps.{taken-after}
 

@@ -3,8 +3,8 @@ use Rattle.std.proofs.Common.{◌≡◌, ℕ, ◌-◌, Bool, List, [], length, s
 use Rattle.bw_model.specs.Take.{Verdict}
 use Rattle.bw_store.specs.declared.store.TakeStore.{Ghosts as StoreGhosts}
 use Rattle.bw_journal.specs.declared.journal.Journal.{Ghosts as JournalGhosts}
-use Rattle.bw_session.specs.Numbered.{KeepsBoth}
-use Rattle.bw_session.specs.Asking.{DoesRun}
+use Rattle.bw_session.specs.NextNumbers.{KeepsBoth}
+use Rattle.bw_session.specs.ConsecutiveCalls.{DoesRun}
 use Rattle.bw_session.specs.Sessions.{Part, KeepsProgress, CallsFew, part_of}
 use Rattle.bw_session.specs.Promises.{RunsNumbers}
 use Rattle.bw_session.specs.declared.numbering.Stores.{Stores}

@@ -15,7 +15,7 @@ use Rattle.bw_model.specs.Holds.{Store}
 use Rattle.bw_model.proofs.BookLemmas.{same_name}
 use Rattle.std.specs.HashMap.{IsUnique, hash_map_len}
 use Rattle.bw_model.specs.Book.{Log}
-use Rattle.bw_journal.specs.Resting.{Journals, PutsToRest, WakesJournal}
+use Rattle.bw_journal.specs.JournalsAtRest.{Journals, PutsToRest, WakesJournal}
 use Rattle.bw_journal.specs.Stops.{without}
 use Rattle.bw_session.specs.RestingNames.{IsAtRest, IsMadeFrom, with_first, is_restable, RestsBook, journals_of}
 use Rattle.bw_session.specs.RestingNames.{ClosedNamesRest, RestingNamesWake, KeepsOtherNames, RestsNow, WakesNow}

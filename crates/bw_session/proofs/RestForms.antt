@@ -15,8 +15,8 @@ use Rattle.bw_journal.specs.Notes.{IsPrefixOf}
 use Rattle.bw_journal.specs.Stops.{without}
 use Rattle.bw_journal.proofs.CutLaws.{log-without_other, known-without_same, known-without_other, once-without}
 use Rattle.bw_journal.proofs.CutLaws.{length-without}
-use Rattle.bw_session.specs.Journaled.{NotesNames}
-use Rattle.bw_session.specs.Noting.{IsNoted}
+use Rattle.bw_session.specs.NotedNames.{NotesNames}
+use Rattle.bw_session.specs.NameNotes.{IsNoted}
 use Rattle.bw_session.specs.Prefixes.{StandsAhead}
 use Rattle.bw_session.specs.Servers.{HoldsIn, kept_by}
 use Rattle.bw_session.specs.declared.session.Session.{Session}

@@ -12,13 +12,13 @@ use Rattle.bw_model.specs.Book.{Log, Book, log_of, made}
 use Rattle.bw_model.specs.Holds.{Store, HoldsName, body_of}
 use Rattle.bw_model.proofs.BookLemmas.{name_refl}
 use Rattle.bw_journal.specs.JournalHeaders.{Header}
-use Rattle.bw_journal.specs.Noted.{journal_of}
-use Rattle.bw_journal.specs.Resting.{Journals, PutsToRest}
+use Rattle.bw_journal.specs.NotedJournals.{journal_of}
+use Rattle.bw_journal.specs.JournalsAtRest.{Journals, PutsToRest}
 use Rattle.bw_journal.specs.Stops.{cut_log, without}
 use Rattle.bw_journal.proofs.CutLaws.{made-cut, log_left, log-without_other, known-without_same, known-without_other}
 use Rattle.bw_session.specs.Books.{count_waiting}
-use Rattle.bw_session.specs.Journaled.{NotesNames}
-use Rattle.bw_session.specs.Noting.{entry_if, next_entry}
+use Rattle.bw_session.specs.NotedNames.{NotesNames}
+use Rattle.bw_session.specs.NameNotes.{entry_if, next_entry}
 use Rattle.bw_session.specs.RestingNames.{IsAtRest, with_first}
 use Rattle.bw_session.specs.Servers.{HoldsIn, kept_by}
 use Rattle.bw_session.specs.Windows.{count_held}

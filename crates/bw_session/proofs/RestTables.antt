@@ -7,7 +7,7 @@ use Rattle.bw_model.specs.Book.{Book, log_of, is_known, made}
 use Rattle.bw_model.specs.Holds.{Store, Holds}
 use Rattle.bw_model.specs.Turn.{most_takes}
 use Rattle.bw_model.proofs.BookLemmas.{same_name}
-use Rattle.bw_journal.specs.Resting.{Journals, PutsToRest, RestsIf}
+use Rattle.bw_journal.specs.JournalsAtRest.{Journals, PutsToRest, RestsIf}
 use Rattle.bw_session.specs.Books.{count_waiting}
 use Rattle.bw_session.specs.RestingNames.{is_restable}
 use Rattle.bw_session.specs.Servers.{kept_by}

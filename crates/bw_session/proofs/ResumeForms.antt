@@ -21,10 +21,10 @@ use Rattle.bw_model.specs.Book.{Log, Book, log_of, is_known, made}
 use Rattle.bw_model.specs.BookRules.{IsBook}
 use Rattle.bw_model.specs.Holds.{Store, Kept, Holds, HoldsName, HasFile, IsInTheMiddle, body_of, finished_from}
 use Rattle.bw_model.proofs.BookLemmas.{same_name, unknown_log}
-use Rattle.bw_file.specs.Growing.{Growing}
+use Rattle.bw_file.specs.GrowingFiles.{Growing}
 use Rattle.bw_journal.specs.Entries.{JournalEntry, sealed_entries}
 use Rattle.bw_journal.specs.JournalHeaders.{Header, header_bytes}
-use Rattle.bw_journal.specs.Noted.{AdmitsDone, fits, packed, entries_from, journal_of}
+use Rattle.bw_journal.specs.NotedJournals.{AdmitsDone, fits, packed, entries_from, journal_of}
 use Rattle.bw_journal.specs.Replays.{Story}
 use Rattle.bw_journal.specs.Recovery.{kept_after, kept_after_stop}
 use Rattle.bw_journal.specs.Rows.{row_count}
@@ -32,11 +32,11 @@ use Rattle.bw_journal.specs.Stops.{cut_log, cut_book}
 use Rattle.bw_journal.proofs.CutLaws.{books_are_cut, logs_cut, verdict-cut}
 use Rattle.bw_journal.proofs.RecoveryLaws.{recovery_holds}
 use Rattle.bw_session.specs.Ledgers.{entries_in}
-use Rattle.bw_session.specs.Journaled.{NotesNames}
+use Rattle.bw_session.specs.NotedNames.{NotesNames}
 use Rattle.bw_session.specs.Prefixes.{StandsAhead}
 use Rattle.bw_session.specs.Servers.{HoldsIn}
-use Rattle.bw_session.specs.Noting.{IsNoted}
-use Rattle.bw_session.specs.Resumed.{kept_under, RecoversBook, HasDoneNotes, ResumesFrom, Resumes, AddsKept}
+use Rattle.bw_session.specs.NameNotes.{IsNoted}
+use Rattle.bw_session.specs.ResumedBooks.{kept_under, RecoversBook, HasDoneNotes, ResumesFrom, Resumes, AddsKept}
 use Rattle.bw_session.specs.Servers.{kept_by}
 use Rattle.bw_session.specs.declared.kept_take.KeptTake.{KeptTake}
 use Rattle.bw_session.specs.declared.session.Session.{Session}

@@ -18,8 +18,8 @@ use Rattle.bw_store.specs.declared.store.TakeStore.{Ghosts as StoreGhosts}
 use Rattle.bw_journal.specs.JournalHeaders.{Header}
 use Rattle.bw_journal.specs.declared.journal.Journal.{Ghosts as JournalGhosts}
 use Rattle.bw_journal.proofs.StandingForms.{standing_then}
-use Rattle.bw_session.specs.Numbered.{with_done, KeepsBoth, StaysInPlace}
-use Rattle.bw_session.specs.Noting.{IsNoted}
+use Rattle.bw_session.specs.NextNumbers.{with_done, KeepsBoth, StaysInPlace}
+use Rattle.bw_session.specs.NameNotes.{IsNoted}
 use Rattle.bw_session.specs.Sessions.{Part, HoldsLog}
 use Rattle.bw_session.specs.Runs.{with_more_done, HasDrained}
 

@@ -2,7 +2,7 @@
 use Rattle.std.proofs.Common.{◌≡◌, List, ℕ, Bool, true, false, sym, ◌∙◌, ap}
 use Rattle.std.specs.Prelude.{is_some}
 use Rattle.bw_journal.specs.JournalHeaders.{Header}
-use Rattle.bw_journal.specs.Resting.{Journals, SameJournals, WakesJournal, WakesIf}
+use Rattle.bw_journal.specs.JournalsAtRest.{Journals, SameJournals, WakesJournal, WakesIf}
 
 -- nothing has changed, and then a journal wakes
 pub wakes_then : (name : List ℕ) (a b c : Journals) → SameJournals a b → WakesJournal name b c → WakesJournal name a c

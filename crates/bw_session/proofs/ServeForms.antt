@@ -18,14 +18,14 @@ use Rattle.bw_wire.specs.declared.reply.Reply.{Reply}
 use Rattle.bw_wire.specs.declared.reply.Reply.TheVariants.{Verdict}
 use Rattle.bw_wire.specs.Replies.{reply_of}
 use Rattle.bw_journal.specs.JournalHeaders.{Header}
-use Rattle.bw_session.specs.Admitting.{with_message}
-use Rattle.bw_session.specs.Draining.{DrainsNext}
-use Rattle.bw_session.specs.declared.draining.Drained.TheVariants.{Done, Stopped}
-use Rattle.bw_session.specs.Noting.{IsNoted}
-use Rattle.bw_session.specs.Numbered.{with_done}
+use Rattle.bw_session.specs.AdmittedMessages.{with_message}
+use Rattle.bw_session.specs.Drains.{DrainsNext}
+use Rattle.bw_session.specs.declared.drains.Drained.TheVariants.{Done, Stopped}
+use Rattle.bw_session.specs.NameNotes.{IsNoted}
+use Rattle.bw_session.specs.NextNumbers.{with_done}
 use Rattle.bw_session.specs.Sessions.{Part, HoldsLog}
 use Rattle.bw_session.specs.Runs.{with_more_done, HasDrained, EndsDraining}
-use Rattle.bw_session.specs.Serving.{ServesMessage}
+use Rattle.bw_session.specs.ServedMessages.{ServesMessage}
 use Rattle.bw_session.proofs.AdmitForms.{filled}
 use Rattle.bw_session.proofs.RunForms.{drained_push}
 use Rattle.bw_session.proofs.ReplyForms.{run_stops, run_goes}

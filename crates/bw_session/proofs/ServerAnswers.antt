@@ -16,7 +16,7 @@ use Rattle.bw_model.proofs.TurnLaws.{replies_report}
 use Rattle.bw_wire.specs.declared.reply.Reply.{Reply as Reported}
 use Rattle.bw_wire.specs.Replies.{reply_of}
 use Rattle.bw_session.specs.Servers.{kept_by}
-use Rattle.bw_session.specs.Reporting.{IsTimely}
+use Rattle.bw_session.specs.ServedReplies.{IsTimely}
 use Rattle.bw_session.specs.declared.session.Session.{Session}
 use Rattle.bw_session.proofs.ReportForms.{done_reported, unknown_reported}
 

@@ -21,11 +21,11 @@ use Rattle.bw_model.specs.Holds.{Store, Kept, HoldsName, HasFile}
 use Rattle.bw_model.proofs.BookLemmas.{same_name, name_refl, log-with_log_same, log-with_log_other}
 use Rattle.bw_model.proofs.BookLemmas.{known-with_log_same, known-with_log_other, unknown_log}
 use Rattle.bw_store.specs.Stores.{KeepsOthers}
-use Rattle.bw_session.specs.Draining.{NameStands}
+use Rattle.bw_session.specs.Drains.{NameStands}
 use Rattle.bw_session.specs.Sessions.{HoldsLog, part_of}
 use Rattle.bw_wire.specs.declared.reply.Reply.{Reply}
 use Rattle.bw_wire.specs.Replies.{reply_of}
-use Rattle.bw_session.specs.Serving.{Answers}
+use Rattle.bw_session.specs.ServedMessages.{Answers}
 use Rattle.bw_session.specs.Tables.{Table, IsTable, session_in}
 use Rattle.bw_session.specs.Prefixes.{StandsAhead}
 use Rattle.bw_session.specs.Servers.{HoldsIn, kept_by}

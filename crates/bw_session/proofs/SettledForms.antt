@@ -11,7 +11,7 @@ use Rattle.bw_model.specs.Book.{Log, log_of, is_known, run_end}
 use Rattle.bw_model.specs.Turn.{Faults, turn, turn_by, served, own_reply, verdicts_from, drained_to, admitted_after}
 use Rattle.bw_model.specs.Turn.{is_admissible, is_full, with_change, notice, window}
 use Rattle.bw_model.proofs.MapLemmas.{at-first_free, at-drop}
-use Rattle.bw_session.specs.Settled.{SettledTurnsMeetNoFaults}
+use Rattle.bw_session.specs.QuietTurns.{SettledTurnsMeetNoFaults}
 
 no_request : {A : Type 0} {r : Request} → Some r ≡ None → A
 no_request e = cc

@@ -10,16 +10,16 @@ use Rattle.bw_model.specs.Holds.{Kept}
 use Rattle.bw_model.specs.Replies.{Notice, Noticed, DelayedStore, Held}
 use Rattle.bw_model.specs.CountedTurn.{is_delay, is_delayed}
 use Rattle.bw_model.proofs.BookLemmas.{same_name}
-use Rattle.bw_file.specs.Growing.{Growing}
+use Rattle.bw_file.specs.GrowingFiles.{Growing}
 use Rattle.bw_store.specs.declared.store.TakeStore.{Ghosts as StoreGhosts}
 use Rattle.bw_journal.specs.declared.journal.Journal.{Ghosts as JournalGhosts}
 use Rattle.bw_wire.specs.declared.reply.Reply.{Reply}
 use Rattle.bw_wire.specs.Replies.{reply_of}
-use Rattle.bw_session.specs.Draining.{kept_as}
+use Rattle.bw_session.specs.Drains.{kept_as}
 use Rattle.bw_session.specs.Servers.{kept_by}
 use Rattle.bw_session.specs.Sessions.{KeepsProgress}
-use Rattle.bw_session.specs.Serving.{UsesBoth}
-use Rattle.bw_session.specs.Reporting.{IsTimely}
+use Rattle.bw_session.specs.ServedMessages.{UsesBoth}
+use Rattle.bw_session.specs.ServedReplies.{IsTimely}
 use Rattle.bw_session.specs.declared.session.Session.{Session}
 use Rattle.bw_session.proofs.AdmitForms.{no_false}
 

@@ -10,10 +10,10 @@ use Rattle.bw_model.specs.Turn.{most_takes}
 use Rattle.bw_model.specs.Holds.{Store}
 use Rattle.bw_model.proofs.BookLemmas.{name_refl}
 use Rattle.bw_journal.specs.JournalHeaders.{Header}
-use Rattle.bw_journal.specs.Noted.{journal_of}
-use Rattle.bw_journal.specs.Resting.{Journals, WakesJournal}
-use Rattle.bw_session.specs.Journaled.{NotesNames}
-use Rattle.bw_session.specs.Noting.{IsNoted}
+use Rattle.bw_journal.specs.NotedJournals.{journal_of}
+use Rattle.bw_journal.specs.JournalsAtRest.{Journals, WakesJournal}
+use Rattle.bw_session.specs.NotedNames.{NotesNames}
+use Rattle.bw_session.specs.NameNotes.{IsNoted}
 use Rattle.bw_session.specs.RestingNames.{IsAtRest, IsMadeFrom, with_first}
 use Rattle.bw_session.specs.Servers.{HoldsIn}
 use Rattle.bw_session.specs.Sessions.{HoldsLog, part_of}

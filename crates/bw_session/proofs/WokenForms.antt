@@ -9,21 +9,21 @@ use Rattle.bw_model.specs.Wire.{Second, last_number}
 use Rattle.bw_model.specs.File.{file_of}
 use Rattle.bw_model.specs.Book.{Log, made}
 use Rattle.bw_model.specs.Holds.{finished_from}
-use Rattle.bw_file.specs.Growing.{Growing}
+use Rattle.bw_file.specs.GrowingFiles.{Growing}
 use Rattle.bw_journal.specs.JournalHeaders.{Header}
 use Rattle.bw_journal.specs.Entries.{JournalEntry}
-use Rattle.bw_journal.specs.Noted.{IsCut, AdmitsDone, journal_of, story_of_log}
+use Rattle.bw_journal.specs.NotedJournals.{IsCut, AdmitsDone, journal_of, story_of_log}
 use Rattle.bw_journal.specs.Replays.{Story, JournalFault, replay}
 use Rattle.bw_journal.specs.Stories.{story_of}
 use Rattle.bw_journal.proofs.Lengths.{entry_length}
 use Rattle.bw_journal.proofs.RecoveryLaws.{finished-length}
 use Rattle.bw_journal.proofs.ReportLaws.{journals_report_logs}
 use Rattle.bw_journal.proofs.Taken.{taken-made, taken_reported}
-use Rattle.bw_session.specs.Keeping.{KeepsDone}
+use Rattle.bw_session.specs.DoneNumbers.{KeepsDone}
 use Rattle.bw_session.specs.Prefixes.{take_done, FileFollows}
 use Rattle.bw_session.specs.RestFaults.{is_fit_to_wake, may_wake}
 use Rattle.bw_session.specs.RestingNames.{IsAtRest, IsMadeFrom, NamesAtRestMayWake}
-use Rattle.bw_session.specs.Resumed.{ResumesFrom}
+use Rattle.bw_session.specs.ResumedBooks.{ResumesFrom}
 use Rattle.bw_session.specs.declared.kept_take.KeptTake.{KeptTake}
 use Rattle.bw_session.specs.declared.session.Session.{Session}
 use Rattle.bw_session.proofs.ClosedForms.{made_format}

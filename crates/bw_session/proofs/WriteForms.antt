@@ -9,12 +9,12 @@ use Rattle.bw_model.specs.Take.{WrongTotal, parts, judge, judge_open, frames, ve
 use Rattle.bw_model.specs.File.{file_of}
 use Rattle.bw_model.specs.Holds.{IsBetween, IsInTheMiddle}
 use Rattle.bw_take.proofs.StoredLemmas.{opened_once}
-use Rattle.bw_file.specs.Growing.{Growing, IsReady, BeginsFile, AsksForName, is_new}
+use Rattle.bw_file.specs.GrowingFiles.{Growing, IsReady, BeginsFile, AsksForName, is_new}
 use Rattle.bw_store.specs.declared.store.Created.{Created}
 use Rattle.bw_store.specs.declared.store.Created.TheVariants.{New, Exists}
 use Rattle.bw_store.specs.declared.store.StoreFault.{StoreFault}
 use Rattle.bw_file.proofs.Judged.{IsOpen, open_for}
-use Rattle.bw_session.specs.Writing.{WritesRequest}
+use Rattle.bw_session.specs.RequestWrites.{WritesRequest}
 use Rattle.bw_session.proofs.OwnFiles.{ready, whole_after, own_after, begun, opened_new, never_existed, opened_err}
 use Rattle.bw_session.proofs.OwnFiles.{left_alone}
 use Rattle.bw_file.proofs.MarkedFiles.{marked_file}

@@ -9,13 +9,13 @@ use Rattle.bw_model.specs.Replies.{Reply as ModelReply}
 use Rattle.bw_journal.specs.declared.journal.Journal.{Ghosts as JournalGhosts}
 use Rattle.bw_wire.specs.declared.reply.Reply.{Reply}
 use Rattle.bw_wire.specs.Replies.{reply_of}
-use Rattle.bw_session.specs.Numbered.{failed_calls}
+use Rattle.bw_session.specs.NextNumbers.{failed_calls}
 use Rattle.bw_session.specs.Tables.{session_in}
-use Rattle.bw_session.specs.Asking.{AsksInTurn}
-use Rattle.bw_session.specs.Serving.{UsesBoth}
+use Rattle.bw_session.specs.ConsecutiveCalls.{AsksInTurn}
+use Rattle.bw_session.specs.ServedMessages.{UsesBoth}
 use Rattle.bw_session.specs.Servers.{HoldsIn, done_in, part_in, store_since}
-use Rattle.bw_session.specs.Journaled.{NotesNames}
-use Rattle.bw_session.specs.Ordering.{FileComesFirst, NextIsCarriedOut, IsInOrder}
+use Rattle.bw_session.specs.NotedNames.{NotesNames}
+use Rattle.bw_session.specs.WriteOrders.{FileComesFirst, NextIsCarriedOut, IsInOrder}
 use Rattle.bw_session.specs.Sessions.{part_of}
 use Rattle.bw_session.specs.declared.session.Session.{Session}
 use Rattle.bw_session.specs.declared.server.Server.{Server}

@@ -1,7 +1,7 @@
 -- What is kept and held of a name.
 use Rattle.std.specs.Prelude.{ℕ, Option, List}
 use Rattle.bw_model.specs.Take.{Parts, Verdict}
-use Rattle.bw_file.specs.Growing.{Growing}
+use Rattle.bw_file.specs.GrowingFiles.{Growing}
 
 -- what is kept and held of a name
 pub record Part : Type 0 where

@@ -7,10 +7,10 @@ use Rattle.bw_model.specs.File.{file_of}
 use Rattle.bw_model.specs.Book.{Log, made}
 use Rattle.bw_request.specs.Verdicts.{verdict_meaning}
 use Rattle.bw_request.specs.declared.verdict.Verdict.{Verdict as Judgement}
-use Rattle.bw_file.specs.Growing.{Growing}
+use Rattle.bw_file.specs.GrowingFiles.{Growing}
 use Rattle.bw_store.specs.declared.store.StoreFault.{StoreFault}
-use Rattle.bw_session.specs.Writing.{HasOwnFile, HasWholeFile}
-use Rattle.bw_session.specs.Keeping.{KeepsDone}
+use Rattle.bw_session.specs.RequestWrites.{HasOwnFile, HasWholeFile}
+use Rattle.bw_session.specs.DoneNumbers.{KeepsDone}
 
 -- the take that a log's done numbers make, under a name with these contents at the start
 abbrev pub take_done : Option (List ℕ) → Log → Take

@@ -8,12 +8,12 @@ use Rattle.bw_journal.specs.declared.journal.Journal.{Ghosts as JournalGhosts}
 use Rattle.bw_wire.specs.declared.reply.Reply.{Reply}
 use Rattle.bw_request.specs.declared.verdict.Verdict.{Verdict as Judgement}
 use Rattle.bw_store.specs.declared.store.StoreFault.{StoreFault}
-use Rattle.bw_session.specs.Draining.{drained_by, drained_count}
-use Rattle.bw_session.specs.Numbered.{KeepsBoth, failed_calls}
-use Rattle.bw_session.specs.Noting.{NotesOn}
-use Rattle.bw_session.specs.Asking.{DoesRun}
+use Rattle.bw_session.specs.Drains.{drained_by, drained_count}
+use Rattle.bw_session.specs.NextNumbers.{KeepsBoth, failed_calls}
+use Rattle.bw_session.specs.NameNotes.{NotesOn}
+use Rattle.bw_session.specs.ConsecutiveCalls.{DoesRun}
 use Rattle.bw_session.specs.Sessions.{Part, HoldsLog, KeepsProgress, CallsFew, part_of}
-use Rattle.bw_session.specs.Serving.{UsesBoth}
+use Rattle.bw_session.specs.ServedMessages.{UsesBoth}
 use Rattle.bw_session.specs.declared.numbering.Stores.{Stores}
 use Rattle.bw_session.specs.declared.session.Session.{Session}
 

@@ -12,8 +12,8 @@ use Rattle.bw_model.specs.Book.{Log, Book, log_of, made}
 use Rattle.bw_model.specs.BookRules.{IsLog}
 use Rattle.bw_store.specs.declared.store.TakeStore.{Ghosts as StoreGhosts}
 use Rattle.bw_journal.specs.declared.journal.Journal.{Ghosts as JournalGhosts}
-use Rattle.bw_journal.specs.Noted.{journal_of}
-use Rattle.bw_journal.specs.Resting.{Journals, journals, SameJournals, PutsToRest, WakesJournal}
+use Rattle.bw_journal.specs.NotedJournals.{journal_of}
+use Rattle.bw_journal.specs.JournalsAtRest.{Journals, journals, SameJournals, PutsToRest, WakesJournal}
 use Rattle.bw_journal.specs.Stops.{cut_log, without}
 use Rattle.bw_session.specs.Books.{HoldsBook, NotesBook, count_waiting}
 use Rattle.bw_session.specs.RestFaults.{may_wake}

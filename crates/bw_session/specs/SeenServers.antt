@@ -7,7 +7,7 @@ use Rattle.bw_store.specs.declared.store.TakeStore.{Ghosts as StoreGhosts}
 use Rattle.bw_journal.specs.declared.journal.Journal.{Ghosts as JournalGhosts}
 use Rattle.bw_session.specs.Tables.{session_in}
 use Rattle.bw_session.specs.Servers.{kept_in}
-use Rattle.bw_session.specs.Listing.{format_in, is_taken_in, is_known_in}
+use Rattle.bw_session.specs.KnownNames.{format_in, is_taken_in, is_known_in}
 use Rattle.bw_session.specs.declared.session.Session.{Session}
 use Rattle.bw_session.specs.declared.server.Server.{Server}
 

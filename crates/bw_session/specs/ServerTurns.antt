@@ -11,7 +11,7 @@ use Rattle.bw_model.specs.Turn.{is_turned_away}
 use Rattle.bw_journal.specs.Notes.{KeepsHeaders, KeepsResting}
 use Rattle.bw_journal.specs.declared.journal.Journal.{Ghosts as JournalGhosts}
 use Rattle.bw_session.specs.Books.{failures_of, HoldsBook, NotesBook, SameStores, AsksTurn, OrdersBooks}
-use Rattle.bw_session.specs.Numbered.{KeepsBoth}
+use Rattle.bw_session.specs.NextNumbers.{KeepsBoth}
 use Rattle.bw_session.specs.Servers.{done_in}
 use Rattle.bw_session.specs.Sessions.{CallsFew}
 use Rattle.bw_session.specs.declared.server.Server.{Server}

@@ -4,12 +4,12 @@ use Rattle.std.specs.Option.{option_map_or}
 use Rattle.bw_model.specs.Book.{Book, log_of}
 use Rattle.bw_model.specs.Holds.{Store, Kept, Holds}
 use Rattle.bw_store.specs.declared.store.TakeStore.{Ghosts as StoreGhosts}
-use Rattle.bw_session.specs.Draining.{kept_as}
+use Rattle.bw_session.specs.Drains.{kept_as}
 use Rattle.bw_session.specs.Prefixes.{StandsAhead}
 use Rattle.bw_session.specs.Tables.{Table, session_in}
 use Rattle.bw_session.specs.KeptParts.{Part}
 use Rattle.bw_session.specs.Sessions.{part_of}
-use Rattle.bw_session.specs.Asking.{new_part}
+use Rattle.bw_session.specs.ConsecutiveCalls.{new_part}
 use Rattle.bw_session.specs.declared.session.Session.{Session}
 
 -- what a session keeps of its name

@@ -1,8 +1,8 @@
 -- How a session relates to its name's log.
 use Rattle.std.specs.Prelude.{◌≡◌, ◌≤◌, ◌+◌, ◌*◌, ℕ, Bool, Option, List, length, if◌then◌else◌}
 use Rattle.bw_model.specs.Book.{Log}
-use Rattle.bw_session.specs.Writing.{IsSameFile}
-use Rattle.bw_session.specs.Draining.{Fits, HoldsPart}
+use Rattle.bw_session.specs.RequestWrites.{IsSameFile}
+use Rattle.bw_session.specs.Drains.{Fits, HoldsPart}
 pub use Rattle.bw_session.specs.KeptParts.{Part}
 use Rattle.bw_session.specs.declared.numbering.Progress.{Progress}
 use Rattle.bw_session.specs.declared.session.Session.{Session}

@@ -4,9 +4,9 @@ ghost use Rattle.sha2.specs.Sha256.{sha256};
 ghost use Rattle.bw_model.specs.Bytes.{at};
 ghost use Rattle.bw_model.specs.Wire.{message_body};
 ghost use Rattle.bw_wire.specs.Frames.{message_of};
-ghost use Rattle.bw_session.specs.Draining.{DrainsPart, drained_by, drained_log};
-ghost use Rattle.bw_session.specs.Admitting.{with_message};
-ghost use Rattle.bw_session.specs.Asking.{AsksNext, holding};
+ghost use Rattle.bw_session.specs.Drains.{DrainsPart, drained_by, drained_log};
+ghost use Rattle.bw_session.specs.AdmittedMessages.{with_message};
+ghost use Rattle.bw_session.specs.ConsecutiveCalls.{AsksNext, holding};
 
 use crate::body::HeldBody;
 use crate::numbering::Stores;
@@ -21,7 +21,7 @@ impl Session {
     ghost use Rattle.bw_session.specs.Sessions.{KeepsTake, part_of};
     ghost use Rattle.bw_session.specs.Promises.{TriesNumber, RefusesMessage};
     ghost use Rattle.bw_session.specs.Promises.{ForSessionLogs, KeepsSessionNotes};
-    ghost use Rattle.bw_session.specs.Ordering.{OrdersSession};
+    ghost use Rattle.bw_session.specs.WriteOrders.{OrdersSession};
 
     /// Does the number of a message that is the next and isn't held. Its body is copied, into a
     /// buffer allocated before, only if a call failed.

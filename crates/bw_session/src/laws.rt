@@ -3,7 +3,7 @@ ghost use Rattle.bw_model.specs.Turn.{IsolatesEachName};
 ghost use Rattle.bw_session.specs.Books.{QuietBooksAreInOrder, WaitingNumbersAreInOrder};
 ghost use Rattle.bw_session.specs.RestingNames.{ClosedNamesRest, RestingNamesWake};
 ghost use Rattle.bw_session.specs.RestingNames.{NamesAtRestMayWake};
-ghost use Rattle.bw_session.specs.Settled.{SettledTurnsMeetNoFaults};
+ghost use Rattle.bw_session.specs.QuietTurns.{SettledTurnsMeetNoFaults};
 
 use bw_journal::{Journal, RestingJournal};
 use bw_store::TakeStore;

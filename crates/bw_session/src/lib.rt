@@ -3,13 +3,13 @@
 //! does.
 #![tactic(auto)]
 
-mod admitting;
-mod becoming;
+mod admission;
 mod body;
 mod borrowing;
-mod carrying;
+mod conversion;
 mod counting;
-mod draining;
+mod drains;
+mod execution;
 mod kept_take;
 pub mod laws;
 mod ledger;

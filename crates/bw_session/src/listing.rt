@@ -3,7 +3,7 @@ ghost use Rattle.std.specs.Prelude.{◌≡◌, ◌≤◌, ℕ, List, Option, IsT
 ghost use Rattle.bw_model.specs.Book.{Book, log_of, is_known, made};
 ghost use Rattle.bw_model.specs.Take.{is_format};
 ghost use Rattle.bw_model.specs.Turn.{most_takes};
-ghost use Rattle.bw_session.specs.Listing.{KnowsTaken, ListsNames};
+ghost use Rattle.bw_session.specs.KnownNames.{KnowsTaken, ListsNames};
 
 use crate::server::Server;
 use bw_journal::Journal;

@@ -8,11 +8,11 @@ ghost use Rattle.bw_request.specs.Verdicts.{verdict_meaning};
 ghost use Rattle.bw_journal.specs.Entries.{longest_entry};
 ghost use Rattle.bw_journal.specs.Notes.{BeginsNotes, BeginsInPart, Notes, NotesInPart};
 ghost use Rattle.bw_store.specs.StoreSteps.{WasAsked, WasAskedFirst};
-ghost use Rattle.bw_session.specs.Numbered.{KeepsJournal, IsMeasured, DoesNext};
-ghost use Rattle.bw_session.specs.Carrying.{AsksJudged};
-ghost use Rattle.bw_session.specs.Numbered.{is_written as was_written, noted_of};
+ghost use Rattle.bw_session.specs.NextNumbers.{KeepsJournal, IsMeasured, DoesNext};
+ghost use Rattle.bw_session.specs.Executions.{AsksJudged};
+ghost use Rattle.bw_session.specs.NextNumbers.{is_written as was_written, noted_of};
 
-use crate::carrying::carry_out;
+use crate::execution::carry_out;
 use crate::ledger::Ledger;
 use crate::settling::settle;
 use bw_file::GrowingFile;
@@ -129,9 +129,9 @@ fn mark_written(growing: &mut GrowingFile, verdict: Verdict, request: &RequestRe
 
 impl Progress {
     ghost use Rattle.bw_session.specs.Promises.{KeepsStores};
-    ghost use Rattle.bw_session.specs.Numbering.{MayTry, KeepsPlaces, KeepsNumber, LeavesNumber};
-    ghost use Rattle.bw_session.specs.Numbering.{ForNext, NotesNext};
-    ghost use Rattle.bw_session.specs.Ordering.{OrdersNext};
+    ghost use Rattle.bw_session.specs.NumberPromises.{MayTry, KeepsPlaces, KeepsNumber, LeavesNumber};
+    ghost use Rattle.bw_session.specs.NumberPromises.{ForNext, NotesNext};
+    ghost use Rattle.bw_session.specs.WriteOrders.{OrdersNext};
 
     /// Does the next number: its request is carried out in the file, then noted in the journal,
     /// then kept in memory. If only its note failed before, the file has the request: it is noted

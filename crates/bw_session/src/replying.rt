@@ -17,7 +17,7 @@ use bw_wire::{Message, Notice, Reply};
 impl Session {
     ghost use Rattle.bw_session.specs.Sessions.{HoldsLog, part_of};
     ghost use Rattle.bw_session.specs.Runs.{EndsDraining};
-    ghost use Rattle.bw_session.specs.Reporting.{IsServing, IsTimely};
+    ghost use Rattle.bw_session.specs.ServedReplies.{IsServing, IsTimely};
 
     /// The reply to a message whose number is in the window or below it, once the numbers from
     /// `done` on were drained: none if its own was among them.

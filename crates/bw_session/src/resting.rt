@@ -5,7 +5,7 @@ ghost use Rattle.std.specs.HashMap.{hash_map_len, spare};
 ghost use Rattle.bw_model.specs.Counts.{Counts};
 ghost use Rattle.bw_model.specs.Book.{Book, log_of, is_known, made};
 ghost use Rattle.bw_model.specs.Turn.{most_takes};
-ghost use Rattle.bw_journal.specs.Standing.{MayStandAtRest};
+ghost use Rattle.bw_journal.specs.Standings.{MayStandAtRest};
 ghost use Rattle.bw_session.specs.RestFaults.{is_rest_failed};
 ghost use Rattle.bw_session.specs.RestingNames.{is_restable};
 ghost use Rattle.bw_session.specs.Tables.{session_in};

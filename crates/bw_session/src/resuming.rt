@@ -4,12 +4,12 @@ ghost use Rattle.std.specs.Prelude.{vec_capacity, false};
 ghost use Rattle.std.specs.HashMap.{hash_map_len};
 ghost use Rattle.bw_model.specs.Book.{Book};
 ghost use Rattle.bw_model.specs.Turn.{most_takes};
-ghost use Rattle.bw_file.specs.Growing.{clean_file};
+ghost use Rattle.bw_file.specs.GrowingFiles.{clean_file};
 ghost use Rattle.bw_journal.specs.Entries.{longest_entry};
 ghost use Rattle.bw_journal.specs.Stops.{cut_book};
 ghost use Rattle.bw_session.specs.Tables.{IsTable, session_in};
-ghost use Rattle.bw_session.specs.Resumed.{kept_under, RecoversBook, HasDoneNotes, ResumesFrom};
-ghost use Rattle.bw_session.specs.Resumed.{Resumes, AddsKept};
+ghost use Rattle.bw_session.specs.ResumedBooks.{kept_under, RecoversBook, HasDoneNotes, ResumesFrom};
+ghost use Rattle.bw_session.specs.ResumedBooks.{Resumes, AddsKept};
 
 use crate::kept_take::KeptTake;
 use crate::ledger::Ledger;

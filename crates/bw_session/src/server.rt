@@ -17,10 +17,10 @@ ghost use Rattle.bw_model.specs.Replies.{Noticed, Next};
 ghost use Rattle.bw_journal.specs.Entries.{longest_entry};
 ghost use Rattle.bw_wire.specs.Frames.{message_of};
 ghost use Rattle.bw_wire.specs.Replies.{reply_of, HasWireNumbers};
-ghost use Rattle.bw_session.specs.Serving.{UsesBoth};
+ghost use Rattle.bw_session.specs.ServedMessages.{UsesBoth};
 ghost use Rattle.bw_session.specs.Servers.{done_in};
 ghost use Rattle.bw_session.specs.Tables.{IsTable, session_in};
-ghost use Rattle.bw_session.specs.Reporting.{IsServing};
+ghost use Rattle.bw_session.specs.ServedReplies.{IsServing};
 
 use crate::numbering::Stores;
 use crate::session::Session;

@@ -8,8 +8,8 @@ ghost use Rattle.bw_model.specs.Wire.{message_body};
 ghost use Rattle.bw_model.specs.Turn.{is_turned_away};
 ghost use Rattle.bw_wire.specs.Frames.{message_of};
 ghost use Rattle.bw_wire.specs.Replies.{HasWireNumbers, reply_of};
-ghost use Rattle.bw_session.specs.Admitting.{with_message};
-ghost use Rattle.bw_session.specs.Asking.{holding, AsksInTurn};
+ghost use Rattle.bw_session.specs.AdmittedMessages.{with_message};
+ghost use Rattle.bw_session.specs.ConsecutiveCalls.{holding, AsksInTurn};
 
 use crate::numbering::Stores;
 use crate::session::Session;
@@ -24,10 +24,10 @@ impl Session {
     ghost use Rattle.bw_session.specs.Promises.{UsesStores, LeavesSession, RefusesMessage};
     ghost use Rattle.bw_session.specs.Promises.{RunsNumbers, ForSessionLogs, KeepsSessionNotes};
     ghost use Rattle.bw_session.specs.Promises.{failures_in};
-    ghost use Rattle.bw_session.specs.Ordering.{OrdersSession};
+    ghost use Rattle.bw_session.specs.WriteOrders.{OrdersSession};
     ghost use Rattle.bw_session.specs.Runs.{EndsDraining, with_more_done};
-    ghost use Rattle.bw_session.specs.Reporting.{IsServing, IsTimely};
-    ghost use Rattle.bw_session.specs.Serving.{Answers, ServesMessage, log_after, log_reported};
+    ghost use Rattle.bw_session.specs.ServedReplies.{IsServing, IsTimely};
+    ghost use Rattle.bw_session.specs.ServedMessages.{Answers, ServesMessage, log_after, log_reported};
 
     /// Takes a message of the name, and puts the replies to its sender into `out`, which is empty.
     pub(crate) fn answer<S: TakeStore, J: Journal>(

@@ -1,13 +1,13 @@
 //! What a server keeps of a name.
 ghost use Rattle.std.specs.Prelude.{◌≡◌, ℕ, List, Option, IfOk, length, false, is_some};
 ghost use Rattle.bw_model.specs.Book.{Log, no_log};
-ghost use Rattle.bw_file.specs.Growing.{clean_file};
+ghost use Rattle.bw_file.specs.GrowingFiles.{clean_file};
 ghost use Rattle.bw_journal.specs.JournalHeaders.{Header, header_bytes, header_len};
 ghost use Rattle.bw_journal.specs.Notes.{IsPrefixOf};
-ghost use Rattle.bw_session.specs.Noting.{IsNoted};
-ghost use Rattle.bw_session.specs.Keeping.{KeepsDone};
+ghost use Rattle.bw_session.specs.NameNotes.{IsNoted};
+ghost use Rattle.bw_session.specs.DoneNumbers.{KeepsDone};
 ghost use Rattle.bw_session.specs.Prefixes.{take_done, FileFollows};
-ghost use Rattle.bw_session.specs.Draining.{Fits, HoldsPart, IsAllDone};
+ghost use Rattle.bw_session.specs.Drains.{Fits, HoldsPart, IsAllDone};
 
 use crate::ledger::Ledger;
 use crate::numbering::Progress;
@@ -31,7 +31,7 @@ pub(crate) struct Session {
 impl Session {
     ghost use Rattle.std.specs.Prelude.{None, replicate};
     ghost use Rattle.bw_session.specs.Sessions.{part_of};
-    ghost use Rattle.bw_session.specs.Asking.{new_part};
+    ghost use Rattle.bw_session.specs.ConsecutiveCalls.{new_part};
 
     /// Creates the session of a name of which nothing has come.
     ///

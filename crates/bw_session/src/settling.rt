@@ -11,8 +11,8 @@ ghost use Rattle.bw_model.specs.Holds.{body_of};
 ghost use Rattle.bw_request.specs.Requests.{meaning};
 ghost use Rattle.bw_request.specs.Requests.{samples_in};
 ghost use Rattle.bw_request.specs.Verdicts.{verdict_meaning};
-ghost use Rattle.bw_session.specs.Keeping.{KeepsDone};
-ghost use Rattle.bw_session.specs.Judging.{parts_under};
+ghost use Rattle.bw_session.specs.DoneNumbers.{KeepsDone};
+ghost use Rattle.bw_session.specs.JudgedParts.{parts_under};
 
 use crate::ledger::Ledger;
 use bw_request::{RequestRef, Verdict};

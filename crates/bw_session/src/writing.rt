@@ -7,7 +7,7 @@ ghost use Rattle.bw_request.specs.Requests.{meaning};
 ghost use Rattle.bw_request.specs.Requests.{samples_in};
 ghost use Rattle.bw_store.specs.Stores.{Counts, KeepsOthers};
 ghost use Rattle.bw_store.specs.StoreSteps.{WasAsked, WasAskedFirst};
-ghost use Rattle.bw_session.specs.Writing.{is_mark, request_plan, Knows, WritesRequest};
+ghost use Rattle.bw_session.specs.RequestWrites.{is_mark, request_plan, Knows, WritesRequest};
 
 use bw_file::GrowingFile;
 use bw_layout::Fmt;

@@ -4,7 +4,7 @@ use Rattle.std.proofs.lemmas.List.{append_assoc}
 use Rattle.bw_ports.specs.declared.link.Link.{Ghosts as LinkGhosts}
 use Rattle.bw_stream.specs.Moves.{Begins, IsWrittenInPart, Writes}
 use Rattle.bw_stream.specs.declared.sink.Sink.{Ghosts as Writer}
-use Rattle.bw_spool.specs.Spooling.{AreKept, Came, Draws, DrawsAt, IsSpooled}
+use Rattle.bw_spool.specs.Spools.{AreKept, Came, Draws, DrawsAt, IsSpooled}
 use Rattle.bw_spool.specs.declared.spool.Drawn.TheVariants as draws
 use Rattle.bw_spool.specs.declared.spool.Spool.{Spool}
 use Rattle.bw_spool.specs.declared.spool.SpoolState.{SpoolState}

@@ -1,1 +1,1 @@
-pub mod Spooling
+pub mod Spools

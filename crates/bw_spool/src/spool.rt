@@ -1,6 +1,6 @@
 //! The spool, over a link of which no call waits and a file that bytes are appended to.
 ghost use Rattle.std.specs.Prelude.{◌≡◌, ◌≤◌, IfOk, List, ℕ, length, Some, []};
-ghost use Rattle.bw_spool.specs.Spooling.{Draws, IsSpooled};
+ghost use Rattle.bw_spool.specs.Spools.{Draws, IsSpooled};
 
 use bw_ports::{Link, Received};
 use bw_stream::{Sink, write_all};
@@ -45,7 +45,7 @@ pub struct Spool<L, W> {
 }
 
 impl<L: Link + Drop, W: Sink + Drop> Spool<L, W> {
-    ghost use Rattle.bw_spool.specs.Spooling.{spool_state};
+    ghost use Rattle.bw_spool.specs.Spools.{spool_state};
 
     /// A spool that appends to this file what comes over this link from now on.
     ///

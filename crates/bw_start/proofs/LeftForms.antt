@@ -13,7 +13,7 @@ use Rattle.bw_start.specs.Changes.{ChangesTake}
 use Rattle.bw_start.specs.Findings.{IsFound, SparesFile}
 use Rattle.bw_start.specs.FoundNames.{found_names, IsFoundIn}
 use Rattle.bw_start.specs.Paths.{wave_path, notes_path}
-use Rattle.bw_start.specs.Restored.{FindsFolder, KeepsNotesBut, KeepsTakesBut, KeepsJournals}
+use Rattle.bw_start.specs.RestoredFolders.{FindsFolder, KeepsNotesBut, KeepsTakesBut, KeepsJournals}
 use Rattle.bw_start.specs.StaysLeft.{StaysLeft, NamesStayLeft, IsLeftOf, BooksStayLeft}
 use Rattle.bw_start.specs.declared.listing.FoundName.{FoundName}
 use Rattle.bw_start.proofs.PathLemmas.{path_name}

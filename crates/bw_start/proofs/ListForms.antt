@@ -10,7 +10,7 @@ use Rattle.bw_model.specs.Wire.{is_name}
 use Rattle.std.proofs.Common.{◌≤◌}
 use Rattle.std.proofs.lemmas.List.{take_all}
 use Rattle.bw_disk.specs.Volumes.{AreDistinct, Lists, is_listed, in_folder}
-use Rattle.bw_start.specs.Endings.{ending_text}
+use Rattle.bw_start.specs.FileEndings.{ending_text}
 use Rattle.bw_start.specs.declared.ending.Ending.{Ending}
 use Rattle.bw_start.specs.Paths.{wave_path, notes_path}
 use Rattle.bw_start.specs.Findings.{IsFound, SparesFile}

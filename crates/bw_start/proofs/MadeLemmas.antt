@@ -7,7 +7,7 @@ use Rattle.bw_model.specs.Wire.{is_request}
 use Rattle.bw_model.specs.Book.{Log, made}
 use Rattle.bw_model.specs.ReadBack.{is_admitted}
 use Rattle.bw_model.proofs.MadeTakes.{is_made}
-use Rattle.bw_journal.specs.Noted.{AdmitsDone, fits}
+use Rattle.bw_journal.specs.NotedJournals.{AdmitsDone, fits}
 use Rattle.bw_journal.proofs.CutLaws.{made-cut}
 
 false_true : false ≡ true → ⊥

@@ -8,7 +8,7 @@ use Rattle.std.proofs.lemmas.Bool.{and_parts, and_from, or_cases, leb-true, ltb-
 use Rattle.std.proofs.lemmas.Str.{IsUtf8-append, IsUtf8-from_ascii}
 use Rattle.std.proofs.lemmas.Str.Ascii.{IsAscii-nil}
 use Rattle.std.proofs.lemmas.List.Folds.{list_all-append}
-use Rattle.bw_start.specs.Endings.{ending_text}
+use Rattle.bw_start.specs.FileEndings.{ending_text}
 use Rattle.bw_start.specs.declared.ending.Ending.{Ending}
 use Rattle.bw_start.specs.declared.ending.Ending.TheVariants.{Journal, Closed}
 use Rattle.bw_model.specs.Bytes.{is_within}

@@ -6,7 +6,7 @@ use Rattle.std.specs.Option.{option_map_or}
 use Rattle.std.proofs.Math.Seq.{take-append_seam}
 use Rattle.bw_model.specs.Book.{Log, made}
 use Rattle.bw_model.specs.File.{file_of}
-use Rattle.bw_journal.specs.Noted.{AdmitsDone, journal_of, story_of_log}
+use Rattle.bw_journal.specs.NotedJournals.{AdmitsDone, journal_of, story_of_log}
 use Rattle.bw_journal.specs.Replays.{Story, JournalFault, NotBegun, Damaged, replay}
 use Rattle.bw_journal.proofs.ReportLaws.{journals_report_logs}
 use Rattle.bw_journal.proofs.HeaderReads.{cut_headers_are_not_begun}

@@ -14,7 +14,7 @@ use Rattle.bw_model.proofs.HeaderLaws.{length-header}
 use Rattle.bw_disk.specs.Volumes.{IsCutInPart}
 use Rattle.bw_journal.specs.JournalHeaders.{Header, header_bytes}
 use Rattle.bw_journal.specs.Entries.{sealed_entry}
-use Rattle.bw_journal.specs.Noted.{IsCut, AdmitsDone, journal_of, story_of_log}
+use Rattle.bw_journal.specs.NotedJournals.{IsCut, AdmitsDone, journal_of, story_of_log}
 use Rattle.bw_journal.specs.Replays.{Story, JournalFault, NotBegun, replay}
 use Rattle.bw_journal.specs.Stories.{story_of}
 use Rattle.bw_journal.proofs.Taken.{taken-made}

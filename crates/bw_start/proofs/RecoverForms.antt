@@ -19,7 +19,7 @@ use Rattle.bw_folder.specs.Folders.{take_path}
 use Rattle.bw_start.specs.Paths.{path_with}
 use Rattle.bw_journal.specs.JournalHeaders.{Header, header_bytes}
 use Rattle.bw_journal.specs.Notes.{IsPrefixOf}
-use Rattle.bw_journal.specs.Noted.{AdmitsDone, fits, packed, journal_of, story_of_log, entries_from}
+use Rattle.bw_journal.specs.NotedJournals.{AdmitsDone, fits, packed, journal_of, story_of_log, entries_from}
 use Rattle.bw_journal.specs.Entries.{sealed_entries}
 use Rattle.bw_journal.specs.Replays.{Story, JournalFault, NotBegun, replay}
 use Rattle.bw_journal.specs.Stories.{story_of}
@@ -27,7 +27,7 @@ use Rattle.bw_journal.proofs.CutLaws.{books_are_cut}
 use Rattle.bw_journal.proofs.HeaderReads.{cut_headers_are_not_begun}
 use Rattle.bw_journal.proofs.ReportLaws.{journals_report_logs}
 use Rattle.bw_journal.proofs.Taken.{taken-made}
-use Rattle.bw_session.specs.Resumed.{kept_under, RecoversBook, HasDoneNotes}
+use Rattle.bw_session.specs.ResumedBooks.{kept_under, RecoversBook, HasDoneNotes}
 use Rattle.bw_session.specs.declared.kept_take.KeptTake.{KeptTake}
 use Rattle.bw_start.specs.Left.{wanted_file}
 use Rattle.bw_start.specs.LeftNames.{header_beside, IsLeftBegun, IsLeftTorn, IsLeftName, IsResumed}
@@ -35,8 +35,8 @@ use Rattle.bw_start.specs.Names.{kept_journal}
 use Rattle.bw_start.specs.Findings.{IsFound, IsRestored}
 use Rattle.bw_start.specs.FoundNames.{found_names, IsFoundIn}
 use Rattle.bw_start.specs.Paths.{wave_path, notes_path}
-use Rattle.bw_start.specs.Restored.{is_sound, are_sound, IsRestoredIn, ResumesFolder}
-use Rattle.bw_start.specs.Started.{KeptFact, kept_fact, kept_facts, begun_names, makes_file, IsLeftIn}
+use Rattle.bw_start.specs.RestoredFolders.{is_sound, are_sound, IsRestoredIn, ResumesFolder}
+use Rattle.bw_start.specs.StartedServers.{KeptFact, kept_fact, kept_facts, begun_names, makes_file, IsLeftIn}
 use Rattle.bw_start.specs.declared.finding.Finding.{Finding}
 use Rattle.bw_start.specs.declared.finding.Finding.TheVariants.{Refused, Unbegun, Begun}
 use Rattle.bw_start.specs.declared.listing.FoundName.{FoundName}

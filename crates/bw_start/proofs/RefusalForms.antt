@@ -15,9 +15,9 @@ use Rattle.bw_start.specs.Names.{NameFault, name_fault}
 use Rattle.bw_start.specs.Paths.{wave_path, notes_path}
 use Rattle.bw_start.specs.Findings.{IsFound, leaves_take, keeps_file}
 use Rattle.bw_start.specs.FoundNames.{found_names, IsFoundIn}
-use Rattle.bw_start.specs.Restored.{is_sound, are_sound, with_done_name, done_names, with_refusal, refusals_of, refusal_as}
-use Rattle.bw_start.specs.Restored.{FindsFolder, IsFoundFault, RefusesAt, RefusesIn, HasDoneNumbers, RefusesFolder}
-use Rattle.bw_start.specs.Restored.{KeepsTakesBut, KeepsNotesBut, KeepsTakes, KeepsJournals, IsOpenTake, IsRestoredIn, ResumesFolder}
+use Rattle.bw_start.specs.RestoredFolders.{is_sound, are_sound, with_done_name, done_names, with_refusal, refusals_of, refusal_as}
+use Rattle.bw_start.specs.RestoredFolders.{FindsFolder, IsFoundFault, RefusesAt, RefusesIn, HasDoneNumbers, RefusesFolder}
+use Rattle.bw_start.specs.RestoredFolders.{KeepsTakesBut, KeepsNotesBut, KeepsTakes, KeepsJournals, IsOpenTake, IsRestoredIn, ResumesFolder}
 use Rattle.bw_start.specs.declared.finding.NameFault.{NameFault as Fault}
 use Rattle.bw_start.specs.declared.finding.Finding.{Finding}
 use Rattle.bw_start.specs.declared.finding.Finding.TheVariants.{Refused as IsRefused, Unbegun, Begun}

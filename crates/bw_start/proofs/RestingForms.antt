@@ -12,7 +12,7 @@ use Rattle.bw_start.specs.FaultLines.{closed_line, closed_lines}
 use Rattle.bw_start.specs.FoundNames.{ListsFiles}
 use Rattle.bw_start.specs.RestingStarts.{HasBoth, AddsIf, ListsThoseInTheWay, SomeStandInTheWay, NoneStandsInTheWay}
 use Rattle.bw_start.specs.RestingStarts.{IsListOf, RefusesStart, IsPlainFolderFault, IsFolderUnchanged}
-use Rattle.bw_start.specs.Restored.{IsPlainFault, IsUnchanged, RefusesFolder, KeepsTheRest}
+use Rattle.bw_start.specs.RestoredFolders.{IsPlainFault, IsUnchanged, RefusesFolder, KeepsTheRest}
 use Rattle.bw_start.specs.declared.restoring.StartFault.{StartFault}
 use Rattle.bw_start.specs.declared.restoring.StartFault.TheVariants.{Disk, Memory, Refused, TooMany}
 use Rattle.bw_start.specs.declared.resting.FolderFault.{FolderFault}

@@ -5,7 +5,7 @@ use Rattle.std.specs.Prelude.{codes, get_or}
 use Rattle.std.proofs.lemmas.Grind.{take_at_read}
 use Rattle.std.proofs.lemmas.List.Folds.{list_all_at}
 use Rattle.bw_disk.specs.Volumes.{AreDistinct}
-use Rattle.bw_start.specs.Restored.{are_sound}
+use Rattle.bw_start.specs.RestoredFolders.{are_sound}
 use Rattle.std.specs.List.{All, Contains}
 use Rattle.std.specs.Str.{bytes_eq}
 use Rattle.std.proofs.lemmas.List.Elements.{All-head, All-tail, All-cons, All-nil, All-append, Contains-append_left, Contains-append_right}
@@ -17,7 +17,7 @@ use Rattle.bw_start.specs.Names.{name_fault}
 use Rattle.bw_start.specs.Findings.{IsFound, IsRestored, leaves_take}
 use Rattle.bw_start.specs.FoundNames.{found_names, IsFoundIn}
 use Rattle.bw_start.specs.Paths.{path_with, wave_path, notes_path}
-use Rattle.bw_start.specs.Restored.{is_sound, IsRestoredIn, KeepsNotesBut, KeepsTakesBut, IsOwnPath}
+use Rattle.bw_start.specs.RestoredFolders.{is_sound, IsRestoredIn, KeepsNotesBut, KeepsTakesBut, IsOwnPath}
 use Rattle.bw_start.specs.declared.finding.Finding.{Finding}
 use Rattle.bw_start.specs.declared.finding.Finding.TheVariants.{Refused, Unbegun, Begun}
 use Rattle.bw_start.specs.declared.listing.FoundName.{FoundName}

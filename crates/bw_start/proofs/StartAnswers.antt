@@ -11,15 +11,15 @@ use Rattle.bw_model.specs.Turn.{most_takes}
 use Rattle.bw_disk.specs.Volumes.{KeepsEach}
 use Rattle.bw_folder.specs.Folders.{take_content}
 use Rattle.bw_folder.specs.Journals.{header_at, notes_at}
-use Rattle.bw_session.specs.Resumed.{RecoversBook, HasDoneNotes}
+use Rattle.bw_session.specs.ResumedBooks.{RecoversBook, HasDoneNotes}
 use Rattle.bw_session.specs.declared.kept_take.KeptTake.{KeptTake}
 use Rattle.bw_start.specs.Names.{NameFault, name_fault}
 use Rattle.bw_start.specs.LeftNames.{IsLeftName, IsResumed}
 use Rattle.bw_start.specs.Paths.{wave_path, notes_path}
 use Rattle.bw_start.specs.FoundNames.{found_names, IsFoundIn}
-use Rattle.bw_start.specs.Restored.{is_sound, are_sound, with_done_name, done_names, count_done, KeepsTakes, KeepsJournals, ResumesFolder}
-use Rattle.bw_start.specs.Restored.{RefusesIn, RefusesFolder, IsPlainFault, HasFewDone, IsSoundFolder}
-use Rattle.bw_start.specs.Started.{KeptFact, kept_fact, kept_name, kept_facts, begun_names, IsLeftIn}
+use Rattle.bw_start.specs.RestoredFolders.{is_sound, are_sound, with_done_name, done_names, count_done, KeepsTakes, KeepsJournals, ResumesFolder}
+use Rattle.bw_start.specs.RestoredFolders.{RefusesIn, RefusesFolder, IsPlainFault, HasFewDone, IsSoundFolder}
+use Rattle.bw_start.specs.StartedServers.{KeptFact, kept_fact, kept_name, kept_facts, begun_names, IsLeftIn}
 use Rattle.bw_start.specs.declared.finding.Finding.{Finding}
 use Rattle.bw_start.specs.declared.finding.Finding.TheVariants.{Refused as IsRefused, Unbegun, Begun}
 use Rattle.bw_start.specs.declared.listing.FoundName.{FoundName}

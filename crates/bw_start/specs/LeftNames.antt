@@ -5,7 +5,7 @@ use Rattle.bw_model.specs.Wire.{is_name}
 use Rattle.bw_model.specs.Book.{Log, Book, log_of, made}
 use Rattle.bw_model.specs.BookRules.{IsBook}
 use Rattle.bw_journal.specs.JournalHeaders.{Header, header_bytes, header_len}
-use Rattle.bw_journal.specs.Noted.{IsCut, AdmitsDone, journal_of, story_of_log}
+use Rattle.bw_journal.specs.NotedJournals.{IsCut, AdmitsDone, journal_of, story_of_log}
 use Rattle.bw_journal.specs.Replays.{replay}
 use Rattle.bw_start.specs.Left.{IsLeftFile, wanted_file}
 use Rattle.bw_start.specs.Names.{begins_take, name_fault, kept_journal, file_beside}

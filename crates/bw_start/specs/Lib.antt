@@ -8,9 +8,9 @@ pub mod StaysLeft
 pub mod FilesRead
 pub mod Paths
 pub mod Findings
-pub mod Endings
+pub mod FileEndings
 pub mod FoundNames
-pub mod Restored
-pub mod Started
+pub mod RestoredFolders
+pub mod StartedServers
 pub mod FaultLines
 pub mod RestingStarts

@@ -15,8 +15,8 @@ use Rattle.bw_session.specs.Books.{HoldsBook, NotesBook}
 use Rattle.bw_session.specs.SeenServers.{server_store, server_journal}
 use Rattle.bw_session.specs.declared.server.Server.{Server}
 use Rattle.bw_start.specs.Paths.{notes_path, rest_path}
-use Rattle.bw_start.specs.Restored.{IsPlainFault, IsUnchanged, RefusesFolder, IsSoundFolder, KeepsTheRest}
-use Rattle.bw_start.specs.Started.{OfEachBookLeft}
+use Rattle.bw_start.specs.RestoredFolders.{IsPlainFault, IsUnchanged, RefusesFolder, IsSoundFolder, KeepsTheRest}
+use Rattle.bw_start.specs.StartedServers.{OfEachBookLeft}
 use Rattle.bw_start.specs.declared.resting.FolderFault.{FolderFault}
 use Rattle.bw_start.specs.declared.resting.FolderFault.TheVariants.{Start, Rests, Twice}
 use Rattle.bw_start.specs.declared.resting.Settings.{Settings}

@@ -1,7 +1,7 @@
 -- What a start that fails leaves of a folder: what a stop left there, from the very same book.
 use Rattle.std.specs.Prelude.{ℕ, ◌<◌, ◌^◌, Option, List}
 use Rattle.bw_model.specs.Book.{Log, Book}
-use Rattle.bw_journal.specs.Noted.{AdmitsDone}
+use Rattle.bw_journal.specs.NotedJournals.{AdmitsDone}
 use Rattle.bw_start.specs.Paths.{wave_path, notes_path}
 use Rattle.bw_start.specs.LeftNames.{IsLeftName, IsLeft}
 

@@ -1,10 +1,10 @@
 //! Taking over the journals and files of restored names, for a server that resumes.
 ghost use Rattle.std.specs.Prelude.{◌≡◌, IfOk, IfErr, OnOk, ◌++◌, ◌∷◌, [], ◌&&◌, not, map, is_some};
 ghost use Rattle.bw_disk.specs.DiskSteps.{StaysWhole};
-ghost use Rattle.bw_start.specs.Restored.{IsPlainFault};
-ghost use Rattle.bw_start.specs.Started.{kept_fact, kept_name, kept_facts, begun_name, begun_names};
-ghost use Rattle.bw_start.specs.Started.{makes_file};
-ghost use Rattle.bw_start.specs.Started.{StaysSet, kept_if};
+ghost use Rattle.bw_start.specs.RestoredFolders.{IsPlainFault};
+ghost use Rattle.bw_start.specs.StartedServers.{kept_fact, kept_name, kept_facts, begun_name, begun_names};
+ghost use Rattle.bw_start.specs.StartedServers.{makes_file};
+ghost use Rattle.bw_start.specs.StartedServers.{StaysSet, kept_if};
 ghost use Rattle.bw_journal.specs.Stories.{story_of};
 ghost use Rattle.bw_folder.specs.TakeFolders.{takes_disk, takes_folder};
 ghost use Rattle.bw_folder.specs.JournalFolders.{journals_disk, open_journals};

@@ -5,7 +5,7 @@ ghost use Rattle.std.specs.List.{Contains};
 ghost use Rattle.bw_model.specs.Wire.{is_name as is_take_name};
 ghost use Rattle.bw_disk.specs.DiskSteps.{StaysWhole};
 ghost use Rattle.bw_disk.specs.Volumes.{AreDistinct};
-ghost use Rattle.bw_start.specs.Endings.{ending_text};
+ghost use Rattle.bw_start.specs.FileEndings.{ending_text};
 ghost use Rattle.bw_start.specs.FoundNames.{ListsFiles, AddsName};
 
 use bw_disk::{ReadFault, Volume};

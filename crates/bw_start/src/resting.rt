@@ -4,13 +4,13 @@ ghost use Rattle.std.specs.Prelude.{length, true, false};
 ghost use Rattle.bw_disk.specs.DiskSteps.{StaysWhole};
 ghost use Rattle.bw_disk.specs.Volumes.{AreDistinct};
 ghost use Rattle.bw_start.specs.FaultLines.{folder_fault_lines, closed_lines, closed_line};
-ghost use Rattle.bw_start.specs.Restored.{HasFewDone, KeepsTheRest};
+ghost use Rattle.bw_start.specs.RestoredFolders.{HasFewDone, KeepsTheRest};
 ghost use Rattle.bw_start.specs.RestingStarts.{StartsOver, RefusesStart, IsPlainFolderFault};
 ghost use Rattle.bw_start.specs.RestingStarts.{IsFolderUnchanged, NoneStandsInTheWay};
 ghost use Rattle.bw_start.specs.RestingStarts.{ListsThoseInTheWay, HasBoth, AddsIf, IsListOf};
 ghost use Rattle.bw_start.specs.declared.resting.Settings.{Settings as StartSettings};
 ghost use Rattle.bw_start.specs.StaysLeft.{BooksStayLeft};
-ghost use Rattle.bw_start.specs.Started.{IsSetTo, OfEachBookLeft};
+ghost use Rattle.bw_start.specs.StartedServers.{IsSetTo, OfEachBookLeft};
 
 use crate::ending::{Ending, is_there, list_files, push_name};
 use crate::restoring::StartFault;

@@ -6,11 +6,11 @@ ghost use Rattle.bw_model.specs.Turn.{most_takes};
 ghost use Rattle.bw_disk.specs.DiskSteps.{StaysWhole};
 ghost use Rattle.bw_disk.specs.Volumes.{AreDistinct};
 ghost use Rattle.bw_start.specs.FoundNames.{found_names, IsFoundIn};
-ghost use Rattle.bw_start.specs.Restored.{IsRestoredIn, are_sound, count_done, with_done_name};
-ghost use Rattle.bw_start.specs.Restored.{with_refusal, KeepsTheRest};
-ghost use Rattle.bw_start.specs.Restored.{KeepsTakesBut, KeepsNotesBut, FindsFolder, IsFoundFault, IsPlainFault};
+ghost use Rattle.bw_start.specs.RestoredFolders.{IsRestoredIn, are_sound, count_done, with_done_name};
+ghost use Rattle.bw_start.specs.RestoredFolders.{with_refusal, KeepsTheRest};
+ghost use Rattle.bw_start.specs.RestoredFolders.{KeepsTakesBut, KeepsNotesBut, FindsFolder, IsFoundFault, IsPlainFault};
 ghost use Rattle.bw_start.specs.StaysLeft.{NamesStayLeft, BooksStayLeft};
-ghost use Rattle.bw_start.specs.Restored.{ResumesFolder, RefusesFolder, IsUnchanged, refusal_as, refusals_of};
+ghost use Rattle.bw_start.specs.RestoredFolders.{ResumesFolder, RefusesFolder, IsUnchanged, refusal_as, refusals_of};
 
 use crate::finding::{Finding, NameFault};
 use crate::listing::{FoundName, list_names, look_at_each};

@@ -41,10 +41,30 @@ fn put_lists(
     ensures { OnOk result (members_view members.new.entries
         ≡ with_lists snapshot.now (members_view members.old.entries)) }
 {
-    put(members, alloc, "verdicts", counts_value(alloc, snapshot.verdicts.as_slice())?)?;
-    put(members, alloc, "takes", takes_value(alloc, snapshot.takes.as_slice())?)?;
-    put(members, alloc, "notices", counts_value(alloc, snapshot.notices.as_slice())?)?;
-    put(members, alloc, "messages", counts_value(alloc, snapshot.messages.as_slice())?)
+    put(
+        members,
+        alloc,
+        "verdicts",
+        counts_value(alloc, snapshot.verdicts.as_slice())?,
+    )?;
+    put(
+        members,
+        alloc,
+        "takes",
+        takes_value(alloc, snapshot.takes.as_slice())?,
+    )?;
+    put(
+        members,
+        alloc,
+        "notices",
+        counts_value(alloc, snapshot.notices.as_slice())?,
+    )?;
+    put(
+        members,
+        alloc,
+        "messages",
+        counts_value(alloc, snapshot.messages.as_slice())?,
+    )
 }
 
 /// Puts how the server is, and for how long it has been running, into an object.
@@ -59,7 +79,12 @@ fn put_server(
     put(members, alloc, "uptime_ms", Value::from(snapshot.uptime_ms))?;
     put(members, alloc, "since", Value::from(snapshot.since))?;
     put(members, alloc, "memory", number_value(snapshot.memory))?;
-    put(members, alloc, "health", health_text(snapshot.health).to_value(alloc)?)
+    put(
+        members,
+        alloc,
+        "health",
+        health_text(snapshot.health).to_value(alloc)?,
+    )
 }
 
 /// Puts the counts of connections, of takes that were resumed and of bytes into an object.
@@ -74,7 +99,12 @@ fn put_links(
     put(members, alloc, "resumed", Value::from(snapshot.resumed))?;
     put(members, alloc, "places", Value::from(snapshot.places))?;
     put(members, alloc, "ended", Value::from(snapshot.ended))?;
-    put(members, alloc, "connections", Value::from(snapshot.connections))?;
+    put(
+        members,
+        alloc,
+        "connections",
+        Value::from(snapshot.connections),
+    )?;
     put(members, alloc, "bytes", Value::from(snapshot.bytes))
 }
 

@@ -33,7 +33,12 @@ fn put_words(
     ensures { OnOk result (members_view members.new.entries
         ≡ with_take_words take.now (members_view members.old.entries)) }
 {
-    put(members, alloc, "state", take_state_word(take.state).to_value(alloc)?)?;
+    put(
+        members,
+        alloc,
+        "state",
+        take_state_word(take.state).to_value(alloc)?,
+    )?;
     put(members, alloc, "peer", peer_value(alloc, &take.peer)?)?;
     put(members, alloc, "name", take.name.as_str().to_value(alloc)?)
 }

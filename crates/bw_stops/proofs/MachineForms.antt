@@ -14,10 +14,10 @@ use Rattle.bw_session.proofs.ResumeForms.{book_admits}
 use Rattle.bw_start.specs.LeftNames.{IsLeft}
 use Rattle.bw_start.specs.Paths.{path_with}
 use Rattle.bw_start.specs.StaysLeft.{IsLeftOf}
-use Rattle.bw_start.specs.Started.{IsLeftIn}
+use Rattle.bw_start.specs.StartedServers.{IsLeftIn}
 use Rattle.bw_left.specs.LeftFolders.{HasNoForeignFile}
 use Rattle.bw_left.proofs.LeftPaths.{in_folders}
-use Rattle.bw_rehearsal.specs.Rehearsing.{no_contents}
+use Rattle.bw_rehearsal.specs.RehearsedWorlds.{no_contents}
 use Rattle.bw_stops.specs.Machines.{the_folder, shown_at}
 use Rattle.bw_stops.proofs.Endings.{take_ends, journal_ends, take_is_no_journal, journal_is_no_take}
 

@@ -11,13 +11,13 @@ use Rattle.bw_model.specs.Exchange.{nothing_stands}
 use Rattle.bw_model.specs.World.{World, Event, Offer, Send, Deliver, Bring, Ask, happens, deliver, comes, pending}
 use Rattle.bw_journal.specs.Stops.{cut_book}
 use Rattle.bw_left.specs.StoppedWorlds.{WorldStep, Happens, Dies, Stops, Starts, MayCome, IsNextStep}
-use Rattle.bw_rehearsal.specs.Rehearsing.{event_meaning}
+use Rattle.bw_rehearsal.specs.RehearsedWorlds.{event_meaning}
 use Rattle.bw_rehearsal.specs.declared.event.Event.{Event as Played}
 use Rattle.bw_rehearsal.proofs.Staging.{sent_book, brought_book}
 use Rattle.bw_stops.specs.Machines.{IsRunning, IsLeftAt, IsMachine, KeepsRunning, DiesInTurn, TurnsMachine, StartsMachine, runs}
 use Rattle.bw_stops.specs.Networks.{IsNetwork}
 use Rattle.bw_stops.specs.declared.event.StopEvent.{StopEvent}
-use Rattle.bw_stops.specs.Playing.{PlaysBy, LeavesBook, IsPlayed, IsPlayedEvent, DeliversIf, AsksIf, StopsIf, StartsIf, MayStartIf}
+use Rattle.bw_stops.specs.PlayedEvents.{PlaysBy, LeavesBook, IsPlayed, IsPlayedEvent, DeliversIf, AsksIf, StopsIf, StartsIf, MayStartIf}
 use Rattle.bw_stops.specs.declared.machine.Machine.{Machine}
 use Rattle.bw_stops.specs.declared.machine.Machine.TheVariants.{Runs, Stopped}
 use Rattle.bw_stops.specs.declared.machine.Life.{Life}

@@ -1,4 +1,4 @@
 pub mod Machines
 pub mod Networks
-pub mod Playing
+pub mod PlayedEvents
 pub mod Rehearsals

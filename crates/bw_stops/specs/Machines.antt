@@ -16,11 +16,11 @@ use Rattle.bw_folder.specs.TakeFolders.{takes_disk}
 use Rattle.bw_folder.specs.JournalFolders.{journals_disk}
 use Rattle.bw_journal.specs.Stops.{cut_book}
 use Rattle.bw_start.specs.LeftNames.{IsLeft}
-use Rattle.bw_start.specs.Started.{IsLeftIn}
+use Rattle.bw_start.specs.StartedServers.{IsLeftIn}
 use Rattle.bw_left.specs.LeftFolders.{GoesAhead}
 use Rattle.bw_left.specs.StoppedTurns.{RunsHonestly}
 use Rattle.bw_left.specs.StoppedWorlds.{Dies, IsNextStep}
-use Rattle.bw_rehearsal.specs.Rehearsing.{no_contents}
+use Rattle.bw_rehearsal.specs.RehearsedWorlds.{no_contents}
 use Rattle.bw_stops.specs.declared.machine.Life.{Life}
 use Rattle.bw_stops.specs.declared.machine.Folder.{Folder}
 use Rattle.bw_stops.specs.declared.machine.Machine.{Machine}

@@ -3,7 +3,7 @@ use Rattle.std.specs.Prelude.{◌≡◌, length, map}
 use Rattle.bw_model.specs.World.{World}
 use Rattle.bw_wire.specs.Replies.{reply_of}
 use Rattle.bw_sender.specs.Senders.{IsSender}
-use Rattle.bw_rehearsal.specs.Simulated.{AreFrames}
+use Rattle.bw_rehearsal.specs.Simulations.{AreFrames}
 use Rattle.bw_stops.specs.declared.network.Network.{Network}
 
 -- The sender is that of the world, and so is all that was sent and written.

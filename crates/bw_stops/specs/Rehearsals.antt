@@ -6,7 +6,7 @@ use Rattle.bw_journal.specs.Stops.{AnswersStay}
 use Rattle.bw_sender.specs.Senders.{IsSender}
 use Rattle.bw_left.specs.StoppedWorlds.{WorldStep, WorldStepsTo}
 use Rattle.bw_stops.specs.Machines.{IsMachine, runs}
-use Rattle.bw_stops.specs.Playing.{IsPlayed}
+use Rattle.bw_stops.specs.PlayedEvents.{IsPlayed}
 use Rattle.bw_stops.specs.declared.event.StopEvent.{StopEvent}
 use Rattle.bw_stops.specs.declared.rehearsal.Rehearsed.{Rehearsed}
 

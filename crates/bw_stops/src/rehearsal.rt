@@ -1,10 +1,10 @@
 //! Rehearsals in which servers stop, event by event.
 ghost use Rattle.std.specs.Prelude.{◌≡◌, ℕ, true, IsTrue, IfOk};
 ghost use Rattle.bw_model.specs.World.{World, Deliver, Ask};
-ghost use Rattle.bw_rehearsal.specs.Rehearsing.{event_meaning};
+ghost use Rattle.bw_rehearsal.specs.RehearsedWorlds.{event_meaning};
 ghost use Rattle.bw_stops.specs.Machines.{IsMachine, IsRunning, runs};
 ghost use Rattle.bw_stops.specs.Networks.{IsNetwork};
-ghost use Rattle.bw_stops.specs.Playing.{PlaysBy, IsPlayed, IsPlayedEvent};
+ghost use Rattle.bw_stops.specs.PlayedEvents.{PlaysBy, IsPlayed, IsPlayedEvent};
 ghost use Rattle.bw_stops.specs.Rehearsals.{WasRehearsedWithStops};
 
 use crate::event::StopEvent;

@@ -2,7 +2,7 @@
 use Rattle.std.proofs.Common.{true, refl}
 use Rattle.bw_console.specs.Faults.{input_fault_text}
 use Rattle.bw_console.specs.Outcomes.{Outcome, IsOutOfMemory}
-use Rattle.bw_console.specs.Printing.{IsOf, Nothing, Print}
+use Rattle.bw_console.specs.Prints.{IsOf, Nothing, Print}
 use Rattle.bw_console.specs.Text.{as_line}
 use Rattle.bw_console.specs.declared.exit.Exit.TheVariants as exits
 use Rattle.bw_console.specs.declared.fault.Fault.TheVariants as faults

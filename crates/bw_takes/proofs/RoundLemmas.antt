@@ -2,7 +2,7 @@
 use Rattle.std.proofs.Common.{◌≡◌, inl, inr, ℕ, suc, List, Result, Ok, Err, sym, subst, refl}
 use Rattle.std.specs.Prelude.{IfOk, IfErr, OnOk}
 use Rattle.bw_console.specs.Outcomes.{Outcome, HasWritten, IsOutOfMemory}
-use Rattle.bw_console.specs.Printing.{HasPrinted, IsPrint, Print}
+use Rattle.bw_console.specs.Prints.{HasPrinted, IsPrint, Print}
 use Rattle.bw_console.specs.declared.exit.Exit.{Exit}
 use Rattle.bw_disk.specs.declared.reading.ReadFault.{ReadFault}
 use Rattle.bw_disk.specs.declared.reading.ReadFault.TheVariants.{Disk, Memory}

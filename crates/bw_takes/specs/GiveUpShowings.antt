@@ -2,9 +2,9 @@
 use Rattle.std.specs.Prelude.{◌≡◌, ◌⊎◌, ℕ, true, List, ◌++◌, codes, IsTrue}
 use Rattle.std.specs.Prelude.{Result, Ok, Err, MatchResult}
 use Rattle.std.specs.IoError.{error_kind}
-use Rattle.bw_console.specs.Openings.{IsUnopened}
+use Rattle.bw_console.specs.FailedOpenings.{IsUnopened}
 use Rattle.bw_console.specs.Outcomes.{Outcome, IsOutOfMemory}
-use Rattle.bw_console.specs.Printing.{Nothing, IsOf}
+use Rattle.bw_console.specs.Prints.{Nothing, IsOf}
 use Rattle.bw_console.specs.declared.exit.Exit.{Exit}
 use Rattle.bw_console.specs.declared.exit.Exit.TheVariants as exits
 use Rattle.bw_disk.specs.declared.disk.Disk.{Ghosts}

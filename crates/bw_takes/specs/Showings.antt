@@ -2,7 +2,7 @@
 use Rattle.std.specs.Prelude.{◌≡◌, ◌⊎◌, ℕ, Bool, true, Option, List, ◌++◌, codes, IsTrue, if◌then◌else◌}
 use Rattle.bw_console.specs.Faults.{input_fault_text}
 use Rattle.bw_console.specs.Outcomes.{Outcome, IsOutOfMemory}
-use Rattle.bw_console.specs.Printing.{Nothing, Whole, Part, IsOf}
+use Rattle.bw_console.specs.Prints.{Nothing, Whole, Part, IsOf}
 use Rattle.bw_console.specs.Text.{as_line}
 use Rattle.bw_console.specs.declared.exit.Exit.{Exit}
 use Rattle.bw_console.specs.declared.exit.Exit.TheVariants as exits

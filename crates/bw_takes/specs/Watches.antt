@@ -1,7 +1,7 @@
 -- What a watch of a folder's takes shows, round after round, and how it ends.
 use Rattle.std.specs.Prelude.{◌≡◌, ◌⊎◌, ◌-◌, ◌^◌, ℕ, zero, suc, List, []}
 use Rattle.bw_console.specs.Outcomes.{Outcome, HasWritten, IsOutOfMemory}
-use Rattle.bw_console.specs.Printing.{HasPrinted}
+use Rattle.bw_console.specs.Prints.{HasPrinted}
 use Rattle.bw_console.specs.declared.exit.Exit.{Exit}
 use Rattle.bw_console.specs.declared.exit.Exit.TheVariants.{Done}
 use Rattle.bw_disk.specs.declared.reading.ReadFault.{ReadFault}

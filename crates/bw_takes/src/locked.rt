@@ -1,7 +1,7 @@
 //! Giving up a take, while its folder is locked.
 ghost use Rattle.std.specs.Prelude.{◌≡◌, ◌≤◌, ◌++◌, length, Result};
 ghost use Rattle.bw_console.specs.Outcomes.{Outcome, HasWritten};
-ghost use Rattle.bw_console.specs.Printing.{IsPrint};
+ghost use Rattle.bw_console.specs.Prints.{IsPrint};
 ghost use Rattle.bw_lock.specs.declared.folder_locks.LockRefusal.{LockRefusal as Refusal};
 ghost use Rattle.bw_takes.specs.GiveUpShowings.{IsGivenPrint, IsGivingUp, IsLockedOut};
 ghost use Rattle.bw_takes.specs.GiveUpShowings.{IsLineReported, TriesToGiveUp};

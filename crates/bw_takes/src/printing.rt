@@ -1,7 +1,7 @@
 //! The command `takes`: a line for each take of a folder.
 ghost use Rattle.std.specs.Prelude.{◌≡◌, ◌⊎◌, true, IfOk, string_bytes};
 ghost use Rattle.bw_console.specs.Outcomes.{Outcome, HasWritten, IsOutOfMemory};
-ghost use Rattle.bw_console.specs.Printing.{IsPrint};
+ghost use Rattle.bw_console.specs.Prints.{IsPrint};
 ghost use Rattle.bw_disk.specs.DiskSteps.{StaysWhole};
 ghost use Rattle.bw_takes.specs.Showings.{IsShowing, IsFolderUnread, PrintsAll, PrintsPart};
 ghost use Rattle.bw_takes.specs.Showings.{exit_for as exit_when, unread_text};

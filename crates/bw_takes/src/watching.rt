@@ -1,7 +1,7 @@
 //! The command `takes --watch`: the takes of a folder, screen after screen.
 ghost use Rattle.std.specs.Prelude.{◌≡◌, IfOk, IfErr, OnOk};
 ghost use Rattle.bw_console.specs.Outcomes.{HasWritten, Outcome};
-ghost use Rattle.bw_console.specs.Printing.{HasPrinted, IsPrint};
+ghost use Rattle.bw_console.specs.Prints.{HasPrinted, IsPrint};
 ghost use Rattle.bw_disk.specs.DiskSteps.{StaysWhole};
 ghost use Rattle.bw_takes.specs.FolderProgress.{fails_folder, reads_folder};
 ghost use Rattle.bw_takes.specs.Screens.{rows_after, screen_text};

@@ -11,9 +11,9 @@ use Rattle.bw_wire.specs.declared.message.Frame.{Frame}
 use Rattle.bw_wire.specs.declared.message.Frame.TheVariants as frames
 use Rattle.bw_wire.specs.declared.message.Message.{Message}
 use Rattle.bw_wire.specs.declared.reply.Reply.{Reply}
-use Rattle.bw_exchange.specs.Answering.{Answered, AnswersAll}
+use Rattle.bw_exchange.specs.AnsweredFrames.{Answered, AnswersAll}
 use Rattle.bw_exchange.proofs.Going.{answers_append, answers_one}
-use Rattle.bw_rest.specs.Resting.{RestingTurn}
+use Rattle.bw_rest.specs.TurnsAtRest.{RestingTurn}
 use Rattle.bw_rest.specs.RestingServers.{table_server}
 use Rattle.bw_rest.specs.declared.resting.RestingServer.{RestingServer}
 use Rattle.bw_tests_stops.specs.RestingRuns.{AnswersBody, AnswersBodies, answered_of, bodies_of}

@@ -19,7 +19,7 @@ use Rattle.bw_session.specs.SeenServers.{server_store, server_journal, server_li
 use Rattle.bw_session.specs.declared.server.Server.{Server}
 use Rattle.bw_start.specs.Paths.{wave_path, notes_path, rest_path}
 use Rattle.bw_start.specs.RestingStarts.{StartsOver}
-use Rattle.bw_start.specs.Started.{IsLeftIn, IsSetTo}
+use Rattle.bw_start.specs.StartedServers.{IsLeftIn, IsSetTo}
 use Rattle.bw_start.specs.declared.resting.Settings.{Settings}
 use Rattle.bw_left.specs.FailedStarts.{StartsFail, FailedStartsLeaveBooks, FailedStartsLoseNothing}
 use Rattle.bw_left.specs.KilledFolders.{KilledFoldersAreLeft}

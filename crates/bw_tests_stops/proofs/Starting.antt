@@ -7,20 +7,20 @@ use Rattle.bw_disk.specs.MemoryVolumes.{disk_content}
 use Rattle.bw_disk.specs.declared.disk.Disk.{Ghosts as DiskGhosts}
 use Rattle.bw_disk.specs.declared.memory_disk.MemoryDisk.{MemoryDisk}
 use Rattle.bw_journal.specs.declared.journal.Journal.{Ghosts as JournalGhosts}
-use Rattle.bw_folder.specs.Becoming.{LetsRest}
+use Rattle.bw_folder.specs.FolderConversions.{LetsRest}
 use Rattle.bw_folder.specs.TakeFolders.{takes_disk}
 use Rattle.bw_folder.specs.declared.folder.FolderStore.{FolderStore}
 use Rattle.bw_folder.specs.declared.journal.FolderJournal.{FolderJournal}
 use Rattle.bw_folder.specs.declared.resting.RestingFolderJournal.{RestingFolderJournal}
-use Rattle.bw_session.specs.Becoming.{ChangesJournal, KeepsItsBooks}
+use Rattle.bw_session.specs.JournalChanges.{ChangesJournal, KeepsItsBooks}
 use Rattle.bw_session.specs.SeenServers.{server_store, server_journal}
 use Rattle.bw_session.specs.declared.server.Server.{Server}
 use Rattle.bw_rest.specs.RestingServers.{table_server}
 use Rattle.bw_rest.specs.declared.resting.RestingServer.{RestingServer}
 use Rattle.bw_start.specs.RestingStarts.{StartsOver}
-use Rattle.bw_start.specs.Restored.{KeepsTheRest}
+use Rattle.bw_start.specs.RestoredFolders.{KeepsTheRest}
 use Rattle.bw_start.specs.StaysLeft.{BooksStayLeft}
-use Rattle.bw_start.specs.Started.{IsSetTo}
+use Rattle.bw_start.specs.StartedServers.{IsSetTo}
 use Rattle.bw_start.specs.declared.resting.Settings.{Settings}
 use Rattle.bw_left.specs.FailedRests.{FailedRestingStart, RestingStartsFail}
 use Rattle.bw_left.specs.RestingFolders.{WasStartedResting}

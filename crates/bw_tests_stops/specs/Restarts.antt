@@ -17,7 +17,7 @@ use Rattle.bw_folder.specs.declared.journal.FolderJournal.{FolderJournal}
 use Rattle.bw_session.specs.Books.{HoldsBook, NotesBook}
 use Rattle.bw_session.specs.SeenServers.{server_store, server_journal}
 use Rattle.bw_session.specs.declared.server.Server.{Server}
-use Rattle.bw_start.specs.Started.{IsLeftIn}
+use Rattle.bw_start.specs.StartedServers.{IsLeftIn}
 use Rattle.bw_left.specs.FailedStarts.{FailedStart, StartsFail}
 use Rattle.bw_left.specs.KilledFolders.{IsKilledOver}
 use Rattle.bw_left.specs.ServedWorlds.{WasStarted}

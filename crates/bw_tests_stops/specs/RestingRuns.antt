@@ -8,7 +8,7 @@ use Rattle.bw_journal.specs.declared.journal.Journal.{Ghosts as JournalGhosts}
 use Rattle.bw_wire.specs.Bodies.{message_in}
 use Rattle.bw_wire.specs.Replies.{reply_of}
 use Rattle.bw_wire.specs.declared.reply.Reply.{Reply}
-use Rattle.bw_exchange.specs.Answering.{Answered, AnswersAll}
+use Rattle.bw_exchange.specs.AnsweredFrames.{Answered, AnswersAll}
 use Rattle.bw_folder.specs.RestingFolders.{disk_of_all}
 use Rattle.bw_folder.specs.TakeFolders.{takes_disk}
 use Rattle.bw_folder.specs.declared.folder.FolderStore.{FolderStore}
@@ -16,7 +16,7 @@ use Rattle.bw_folder.specs.declared.journal.FolderJournal.{FolderJournal}
 use Rattle.bw_folder.specs.declared.resting.RestingFolderJournal.{RestingFolderJournal}
 use Rattle.bw_session.specs.SeenServers.{server_store, server_journal}
 use Rattle.bw_session.specs.declared.server.Server.{Server}
-use Rattle.bw_rest.specs.Resting.{RestingTurn}
+use Rattle.bw_rest.specs.TurnsAtRest.{RestingTurn}
 use Rattle.bw_rest.specs.RestingServers.{table_server}
 use Rattle.bw_rest.specs.declared.resting.RestingServer.{RestingServer}
 use Rattle.bw_start.specs.declared.resting.Settings.{Settings}

@@ -13,10 +13,10 @@ use Rattle.bw_stream.specs.declared.source.Source.{Ghosts as Reader}
 use Rattle.bw_ports.specs.declared.dial.Dial.{Ghosts as DialGhosts}
 use Rattle.bw_ports.specs.declared.pause.Pause.{Ghosts as PauseGhosts}
 use Rattle.bw_upload.specs.Chains.{Chain}
-use Rattle.bw_upload.specs.Conversing.{Conversing, TalkEvent, TalkStep, Says, Breaks, Hears}
+use Rattle.bw_upload.specs.Conversations.{Conversing, TalkEvent, TalkStep, Says, Breaks, Hears}
 use Rattle.bw_upload.specs.Courses.{Course, UploadEvent, Fills, Misses, Makes, Talks, Leaves, CourseStep, starts}
-use Rattle.bw_upload.specs.Fed.{HasEachStored, OffersFeed}
-use Rattle.bw_upload.specs.Filling.{Filling, FillEvent, FillStep, Takes, Lacks, Closes, is_done}
+use Rattle.bw_upload.specs.OfferedFeeds.{HasEachStored, OffersFeed}
+use Rattle.bw_upload.specs.WindowFills.{Filling, FillEvent, FillStep, Takes, Lacks, Closes, is_done}
 use Rattle.bw_upload.specs.Links.{SaysRightly, says_done}
 use Rattle.bw_upload.specs.declared.feed.Feed.{Ghosts as FeedGhosts}
 use Rattle.bw_upload.specs.declared.outcome.Outcome.{Outcome}

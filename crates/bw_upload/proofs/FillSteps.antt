@@ -15,8 +15,8 @@ use Rattle.bw_sender.specs.declared.offer.OfferError.{OfferError}
 use Rattle.bw_sender.specs.declared.offer.OfferError.TheVariants as errors
 use Rattle.bw_ports.specs.declared.pause.Pause.{Ghosts as PauseGhosts}
 use Rattle.bw_upload.specs.Chains.{Chain}
-use Rattle.bw_upload.specs.Filling.{is_done, Filling, FillEvent, FillStep, Takes, Lacks, Closes, MayAsk, AsksFeed}
-use Rattle.bw_upload.specs.Stopping.{StopsFeed}
+use Rattle.bw_upload.specs.WindowFills.{is_done, Filling, FillEvent, FillStep, Takes, Lacks, Closes, MayAsk, AsksFeed}
+use Rattle.bw_upload.specs.FeedStops.{StopsFeed}
 use Rattle.bw_upload.specs.Supplies.{IsFilling, FilledBy, FilledOnceBy, FillsUp, FillsOnce, FollowsFeed}
 use Rattle.bw_upload.specs.Supplies.{outcome_of_offer}
 use Rattle.bw_upload.specs.declared.feed.Feed.{Ghosts as FeedGhosts}

@@ -1,9 +1,9 @@
 -- Which events leave a link for a reply that ends the upload.
 use Rattle.std.proofs.Common.{◌≡◌, List, [], ◌∷◌, ◌++◌, map, refl, sym, ap, ◌∙◌, append_assoc}
 use Rattle.bw_engine.specs.declared.stop.Stop.{Stop}
-use Rattle.bw_upload.specs.Conversing.{TalkEvent}
+use Rattle.bw_upload.specs.Conversations.{TalkEvent}
 use Rattle.bw_upload.specs.Courses.{UploadEvent, Fills, Misses, Makes, Talks, Leaves}
-use Rattle.bw_upload.specs.Filling.{FillEvent}
+use Rattle.bw_upload.specs.WindowFills.{FillEvent}
 use Rattle.bw_upload.specs.FinalStops.{final_stop, final_stops}
 
 -- those of events one after another

@@ -5,9 +5,9 @@ use Rattle.bw_stream.specs.declared.source.Source.{Ghosts as Reader}
 use Rattle.bw_ports.specs.declared.dial.Dial.{Ghosts as DialGhosts}
 use Rattle.bw_ports.specs.declared.pause.Pause.{Ghosts as PauseGhosts}
 use Rattle.bw_upload.specs.Chains.{Chain}
-use Rattle.bw_upload.specs.Conversing.{Conversing, Line, TalkEvent, TalkStep}
+use Rattle.bw_upload.specs.Conversations.{Conversing, Line, TalkEvent, TalkStep}
 use Rattle.bw_upload.specs.Courses.{Course, Fills, Talks, CourseStep}
-use Rattle.bw_upload.specs.Filling.{Filling, FillEvent, FillStep}
+use Rattle.bw_upload.specs.WindowFills.{Filling, FillEvent, FillStep}
 use Rattle.bw_upload.specs.declared.feed.Feed.{Ghosts as FeedGhosts}
 
 -- a course with another filling, and with another state of its talk

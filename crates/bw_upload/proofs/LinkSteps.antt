@@ -18,15 +18,15 @@ use Rattle.bw_ports.specs.declared.dial.Duplex.{Duplex}
 use Rattle.bw_ports.specs.declared.pause.Pause.{Ghosts as PauseGhosts}
 use Rattle.bw_upload.specs.Backoff.{backoff, is_spent}
 use Rattle.bw_upload.specs.Chains.{Chain}
-use Rattle.bw_upload.specs.Conversing.{new_line}
+use Rattle.bw_upload.specs.Conversations.{new_line}
 use Rattle.bw_upload.specs.Courses.{Course, CourseStep, UploadEvent, Fills, Misses, Makes, Leaves, fruitless_after, starts}
-use Rattle.bw_upload.specs.Filling.{Filling, FillEvent, FillStep, is_done}
+use Rattle.bw_upload.specs.WindowFills.{Filling, FillEvent, FillStep, is_done}
 use Rattle.bw_upload.specs.FinalStops.{final_stop, final_stops, named_stop}
 use Rattle.bw_upload.specs.Links.{says_done, EndsFilled, PreparedBy, Prepares, EndsUpload, DialsNext}
 use Rattle.bw_upload.specs.Links.{LinkAsked, end_of_link, WaitsBefore}
-use Rattle.bw_upload.specs.Stopping.{StopsFeed}
+use Rattle.bw_upload.specs.FeedStops.{StopsFeed}
 use Rattle.bw_upload.specs.Supplies.{IsFilling, FillsUp, RefusedBy}
-use Rattle.bw_upload.specs.Uploading.{Uploads}
+use Rattle.bw_upload.specs.WholeUploads.{Uploads}
 use Rattle.bw_upload.specs.Visits.{BeginsVisit, Visits}
 use Rattle.bw_upload.specs.declared.feed.Feed.{Ghosts as FeedGhosts}
 use Rattle.bw_upload.specs.declared.observer.LinkEnd.{LinkEnd}

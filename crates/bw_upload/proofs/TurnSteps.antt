@@ -9,7 +9,7 @@ use Rattle.bw_stream.specs.declared.sink.Sink.{Ghosts as Writer}
 use Rattle.bw_stream.specs.declared.source.Source.{Ghosts as Reader}
 use Rattle.bw_sender.specs.Senders.{IsSender}
 use Rattle.bw_sender.specs.declared.sender.Sender.{Sender}
-use Rattle.bw_exchange.specs.Served.{HasGiven, HasNoneLeft}
+use Rattle.bw_exchange.specs.WholeExchanges.{HasGiven, HasNoneLeft}
 use Rattle.bw_engine.specs.Hears.{hear_all, IsHeardUpTo}
 use Rattle.bw_engine.specs.Stops.{first_stop}
 use Rattle.bw_engine.specs.Talks.{Listens, HearsPiece, HearsBadPiece}
@@ -21,7 +21,7 @@ use Rattle.bw_engine.specs.declared.talk.Listened.TheVariants as listens
 use Rattle.bw_engine.specs.declared.talk.Talk.{Talk}
 use Rattle.bw_ports.specs.declared.dial.Duplex.{Duplex}
 use Rattle.bw_upload.specs.Chains.{Chain}
-use Rattle.bw_upload.specs.Conversing.{Conversing, TalkEvent, Hears, Says, Breaks, TalkStep, MayHear, HearsReplies, HeedsStop}
+use Rattle.bw_upload.specs.Conversations.{Conversing, TalkEvent, Hears, Says, Breaks, TalkStep, MayHear, HearsReplies, HeedsStop}
 use Rattle.bw_upload.specs.Turns.{IsLine, IsTalking, HeedsAny, HeardBy, HearsTurn, TurnBy, TakesTurn, TalksOn, HearsOut}
 use Rattle.bw_upload.specs.Turns.{turn_end, break_end}
 use Rattle.bw_upload.proofs.ChainSteps.{chain_on}
@@ -29,10 +29,10 @@ use Rattle.bw_model.specs.Stream.{frames_bytes}
 use Rattle.bw_model.specs.World.{pending}
 use Rattle.bw_stream.specs.Moves.{Begins}
 use Rattle.bw_wire.specs.Codecs.{reply_codec}
-use Rattle.bw_wire.specs.Pending.{Pending, next_of}
+use Rattle.bw_wire.specs.FramerStates.{Pending, next_of}
 use Rattle.bw_engine.specs.Batches.{WritesMessages}
 use Rattle.bw_engine.specs.Hears.{GaveReplies}
-use Rattle.bw_engine.specs.Saying.{unsaid_messages}
+use Rattle.bw_engine.specs.SaidMessages.{unsaid_messages}
 use Rattle.bw_upload.specs.declared.observer.LinkEnd.{LinkEnd}
 use Rattle.bw_upload.specs.declared.observer.LinkEnd.TheVariants as ends
 

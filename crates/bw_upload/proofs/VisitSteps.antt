@@ -9,8 +9,8 @@ use Rattle.bw_model.specs.World.{Sender as Defined, settled, pending, refused, r
 use Rattle.bw_stream.specs.declared.sink.Sink.{Ghosts as Writer}
 use Rattle.bw_stream.specs.declared.source.Source.{Ghosts as Reader}
 use Rattle.bw_sender.specs.declared.sender.Sender.{Sender}
-use Rattle.bw_exchange.specs.Served.{most_reads}
-use Rattle.bw_engine.specs.Listening.{PartsWith}
+use Rattle.bw_exchange.specs.WholeExchanges.{most_reads}
+use Rattle.bw_engine.specs.LinkReplies.{PartsWith}
 use Rattle.bw_engine.specs.Talks.{HasHeard}
 use Rattle.bw_engine.specs.declared.send_fault.SendFault.TheVariants as faults
 use Rattle.bw_engine.specs.declared.talk.Talk.{Talk}
@@ -18,10 +18,10 @@ use Rattle.bw_ports.specs.declared.dial.Dial.{Ghosts as DialGhosts}
 use Rattle.bw_ports.specs.declared.dial.Duplex.{Duplex}
 use Rattle.bw_ports.specs.declared.pause.Pause.{Ghosts as PauseGhosts}
 use Rattle.bw_upload.specs.Chains.{Chain}
-use Rattle.bw_upload.specs.Conversing.{Conversing, Line, LeavesBy, HeedsStop, new_line}
+use Rattle.bw_upload.specs.Conversations.{Conversing, Line, LeavesBy, HeedsStop, new_line}
 use Rattle.bw_upload.specs.Courses.{Course, CourseStep, UploadEvent, Fills, Talks, Leaves, LeavesRightly}
 use Rattle.bw_upload.specs.Courses.{fruitless_after}
-use Rattle.bw_upload.specs.Filling.{Filling, FillEvent, FillStep, is_done}
+use Rattle.bw_upload.specs.WindowFills.{Filling, FillEvent, FillStep, is_done}
 use Rattle.bw_upload.specs.FinalStops.{final_stop, final_stops}
 use Rattle.bw_upload.specs.Supplies.{IsFilling, FillsUp}
 use Rattle.bw_upload.specs.Turns.{IsLine, IsTalking, HeedsAny, TakesTurn, TurnBy}

@@ -14,9 +14,9 @@ use Rattle.bw_ports.specs.declared.pause.Pause.{Ghosts as PauseGhosts}
 use Rattle.bw_upload.specs.Backoff.{backoff, is_spent}
 use Rattle.bw_upload.specs.Chains.{Chain}
 use Rattle.bw_upload.specs.Courses.{Course, UploadEvent, Leaves, CourseStep, BacksOff, MayDial, fruitless_after}
-use Rattle.bw_upload.specs.Filling.{Filling, FillEvent, FillStep, is_done}
+use Rattle.bw_upload.specs.WindowFills.{Filling, FillEvent, FillStep, is_done}
 use Rattle.bw_upload.specs.FinalStops.{final_stops, named_stop}
-use Rattle.bw_upload.specs.Stopping.{StopsFeed}
+use Rattle.bw_upload.specs.FeedStops.{StopsFeed}
 use Rattle.bw_upload.specs.Supplies.{IsFilling}
 use Rattle.bw_upload.specs.declared.feed.Feed.{Ghosts as FeedGhosts}
 use Rattle.bw_upload.specs.declared.observer.LinkEnd.{LinkEnd}

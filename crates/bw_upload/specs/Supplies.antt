@@ -10,8 +10,8 @@ use Rattle.bw_sender.specs.Offers.{fault_of}
 use Rattle.bw_sender.specs.Senders.{IsSender}
 use Rattle.bw_ports.specs.declared.pause.Pause.{Ghosts as PauseGhosts}
 use Rattle.bw_upload.specs.Chains.{Chain}
-use Rattle.bw_upload.specs.Filling.{Filling, FillEvent, FillStep}
-use Rattle.bw_upload.specs.Stopping.{StopsFeed}
+use Rattle.bw_upload.specs.WindowFills.{Filling, FillEvent, FillStep}
+use Rattle.bw_upload.specs.FeedStops.{StopsFeed}
 use Rattle.bw_upload.specs.declared.feed.Feed.{Ghosts as FeedGhosts}
 use Rattle.bw_upload.specs.declared.feed.Given.{Given}
 use Rattle.bw_upload.specs.declared.feed.Given.TheVariants as gives

@@ -13,7 +13,7 @@ use Rattle.bw_engine.specs.declared.talk.Listened.TheVariants as listens
 use Rattle.bw_engine.specs.declared.talk.Talk.{Talk}
 use Rattle.bw_ports.specs.declared.dial.Duplex.{Duplex}
 use Rattle.bw_upload.specs.Chains.{Chain}
-use Rattle.bw_upload.specs.Conversing.{Conversing, Line, TalkEvent, TalkStep, LeavesBy, HeedsStop}
+use Rattle.bw_upload.specs.Conversations.{Conversing, Line, TalkEvent, TalkStep, LeavesBy, HeedsStop}
 use Rattle.bw_upload.specs.declared.observer.LinkEnd.{LinkEnd}
 use Rattle.bw_upload.specs.declared.observer.LinkEnd.TheVariants as ends
 

@@ -9,11 +9,11 @@ use Rattle.bw_ports.specs.declared.dial.Dial.{Ghosts as DialGhosts}
 use Rattle.bw_ports.specs.declared.dial.Duplex.{Duplex}
 use Rattle.bw_ports.specs.declared.pause.Pause.{Ghosts as PauseGhosts}
 use Rattle.bw_upload.specs.Chains.{Chain}
-use Rattle.bw_upload.specs.Conversing.{new_line}
+use Rattle.bw_upload.specs.Conversations.{new_line}
 use Rattle.bw_upload.specs.Courses.{Course, CourseStep, UploadEvent, Leaves, fruitless_after}
-use Rattle.bw_upload.specs.Filling.{is_done}
+use Rattle.bw_upload.specs.WindowFills.{is_done}
 use Rattle.bw_upload.specs.FinalStops.{final_stop, final_stops}
-use Rattle.bw_upload.specs.Stopping.{StopsFeed}
+use Rattle.bw_upload.specs.FeedStops.{StopsFeed}
 use Rattle.bw_upload.specs.Supplies.{IsFilling}
 use Rattle.bw_upload.specs.declared.feed.Feed.{Ghosts as FeedGhosts}
 use Rattle.bw_engine.specs.declared.send_fault.SendFault.TheVariants as faults

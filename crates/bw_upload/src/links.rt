@@ -1,12 +1,12 @@
 //! A whole upload: link after link, until all is stored or it can't go on.
 ghost use Rattle.std.specs.Prelude.{◌≡◌, ◌+◌, ◌^◌, ◌<◌, ℕ, Option, false};
 ghost use Rattle.bw_upload.specs.Courses.{Course, fruitless_after};
-ghost use Rattle.bw_upload.specs.Filling.{Filling};
+ghost use Rattle.bw_upload.specs.WindowFills.{Filling};
 ghost use Rattle.bw_upload.specs.Links.{Prepares, WaitsBefore, DialsNext, LinkAsked, end_of_link};
 ghost use Rattle.bw_upload.specs.Supplies.{IsFilling};
 ghost use Rattle.bw_model.specs.World.{Sender as Defined};
 ghost use Rattle.bw_sender.specs.Senders.{IsSender};
-ghost use Rattle.bw_upload.specs.Uploading.{Uploads};
+ghost use Rattle.bw_upload.specs.WholeUploads.{Uploads};
 
 use crate::backoff::{backoff, is_spent};
 use crate::feed::Feed;

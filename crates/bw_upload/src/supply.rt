@@ -2,7 +2,7 @@
 ghost use Rattle.std.specs.Prelude.{◌≡◌};
 ghost use Rattle.bw_model.specs.World.{Sender as Defined};
 ghost use Rattle.bw_sender.specs.Senders.{IsSender};
-ghost use Rattle.bw_upload.specs.Filling.{Filling};
+ghost use Rattle.bw_upload.specs.WindowFills.{Filling};
 ghost use Rattle.bw_upload.specs.Supplies.{IsFilling, FillsUp, FillsOnce, FollowsFeed, OffersOne};
 ghost use Rattle.bw_upload.specs.Supplies.{outcome_of_offer, RefusedBy};
 
@@ -24,7 +24,7 @@ pub(crate) struct Supply {
 }
 
 impl Supply {
-    ghost use Rattle.bw_upload.specs.Filling.{is_done as all_is_done};
+    ghost use Rattle.bw_upload.specs.WindowFills.{is_done as all_is_done};
 
     /// Whether the feed has ended, and all that was offered is settled, and stored.
     pub(crate) fn is_done(&self) -> bool

@@ -1,7 +1,7 @@
 //! Turns over a link: what is pending is sent, and a piece of the replies is read.
 ghost use Rattle.std.specs.Prelude.{◌≡◌, ◌≢◌, true, false, None};
 ghost use Rattle.bw_model.specs.World.{pending};
-ghost use Rattle.bw_upload.specs.Conversing.{Conversing, MayHear};
+ghost use Rattle.bw_upload.specs.Conversations.{Conversing, MayHear};
 ghost use Rattle.bw_upload.specs.Turns.{IsTalking, HearsTurn, HearsOut, TakesTurn};
 ghost use Rattle.bw_upload.specs.Turns.{turn_end as end_of_turn, break_end as end_of_break};
 

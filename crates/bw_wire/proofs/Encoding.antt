@@ -7,7 +7,7 @@ use Rattle.bw_model.specs.Bytes.{le32}
 use Rattle.bw_model.specs.Take.{Request}
 use Rattle.bw_model.specs.Wire.{Second, last_number, Asks, kind, payload, addressed, framed, is_name, is_request}
 use Rattle.bw_model.specs.Replies.{is_addressed}
-use Rattle.bw_wire.specs.Encoded.{IsFrameOf, said}
+use Rattle.bw_wire.specs.EncodedFrames.{IsFrameOf, said}
 
 -- a body's length, its address and its payload are its frame
 pub framed-parts : (k : ℕ) (name : List ℕ) (number : ℕ) (p : List ℕ) →

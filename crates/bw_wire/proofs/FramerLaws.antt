@@ -4,9 +4,9 @@ use Rattle.std.proofs.Common.{Err}
 use Rattle.std.proofs.Common.{refl, ap, ◌∙◌, arith, ◌⊎◌, inl, inr}
 use Rattle.bw_model.specs.Wire.{Reason, Length, Kind, Name, Number, Payload, Cut}
 use Rattle.bw_wire.specs.Codecs.{Codec}
-use Rattle.bw_wire.specs.Pending.{Phase, Reading, Left, Failed, Pending, Nothing, Gives, Fails, consumed, compacted}
-use Rattle.bw_wire.specs.Pending.{emptied}
-use Rattle.bw_wire.specs.Pending.{next_value, next_read, reported_again, next_in, next_of, cut_off, end_in, end_fault}
+use Rattle.bw_wire.specs.FramerStates.{Phase, Reading, Left, Failed, Pending, Nothing, Gives, Fails, consumed, compacted}
+use Rattle.bw_wire.specs.FramerStates.{emptied}
+use Rattle.bw_wire.specs.FramerStates.{next_value, next_read, reported_again, next_in, next_of, cut_off, end_in, end_fault}
 
 pub next_of-left : {X : Type 0} (codec : Codec X) (p : Pending) → p.phase ≡ Left →
     next_of codec p ≡ (reported_again codec.last, p)

@@ -14,8 +14,8 @@ use Rattle.bw_wire.specs.Codecs.{Codec}
 use Rattle.bw_wire.specs.Framings.{body_at_prefix}
 use Rattle.bw_wire.specs.Held.{Held, largest_kept, room_kept, nothing_held, without_prefix}
 use Rattle.bw_wire.specs.Intakes.{phase_of, pending_in, LetsGo, IsIntake}
-use Rattle.bw_wire.specs.Pending.{Pending, Left, Failed, Reported, Nothing, Gives, Fails, consumed, compacted, emptied, next_of}
-use Rattle.bw_wire.specs.Pending.{reported_again, HoldsLittle}
+use Rattle.bw_wire.specs.FramerStates.{Pending, Left, Failed, Reported, Nothing, Gives, Fails, consumed, compacted, emptied, next_of}
+use Rattle.bw_wire.specs.FramerStates.{reported_again, HoldsLittle}
 use Rattle.bw_wire.specs.Reasons.{reason_meaning}
 use Rattle.bw_wire.proofs.FramerLaws.{next_of-left, next_of-failed, next_of-partial, next_of-bad, next_of-value}
 use Rattle.bw_wire.proofs.FramerLaws.{next_of-last}

@@ -9,8 +9,8 @@ use Rattle.std.proofs.lemmas.List.Folds.{list_all-append}
 use Rattle.bw_model.specs.Wire.{Reason, Cut, is_below, are_bytes}
 use Rattle.bw_model.proofs.ByteNumbers.{are_bytes-tail}
 use Rattle.bw_wire.specs.Codecs.{Codec, spelling_of, Spelled}
-use Rattle.bw_wire.specs.Pending.{Phase, Reading, Left, Failed, Pending, Reported, Nothing, Gives, Fails, fresh, piece_in}
-use Rattle.bw_wire.specs.Pending.{consumed, compacted, emptied, reported_again, next_of, cut_off, end_in, end_fault}
+use Rattle.bw_wire.specs.FramerStates.{Phase, Reading, Left, Failed, Pending, Reported, Nothing, Gives, Fails, fresh, piece_in}
+use Rattle.bw_wire.specs.FramerStates.{consumed, compacted, emptied, reported_again, next_of, cut_off, end_in, end_fault}
 use Rattle.bw_wire.specs.Runs.{Call, Feeds, Takes, fed_in, Run, given_by, with_answer, with_call, with_calls}
 use Rattle.bw_wire.specs.Runs.{framer_run}
 use Rattle.bw_wire.specs.Runs.{Follows, RunsFollow}

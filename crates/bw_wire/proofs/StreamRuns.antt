@@ -14,7 +14,7 @@ use Rattle.bw_model.proofs.FrameLaws.{read_frame_stands, read_reply_stands, firs
 use Rattle.bw_model.proofs.GrowthLaws.{first_frame-bad_grows, first_reply-bad_grows}
 use Rattle.bw_model.proofs.StreamLaws.{found, streams_agree}
 use Rattle.bw_wire.specs.Codecs.{message_codec, reply_codec, is_bye}
-use Rattle.bw_wire.specs.Pending.{Fails, cut_off, end_fault}
+use Rattle.bw_wire.specs.FramerStates.{Fails, cut_off, end_fault}
 use Rattle.bw_wire.specs.Runs.{Run, Follows, input_end, FollowsStream, RunsFollowStreams, ReplyRunsFollowReplies}
 use Rattle.bw_wire.specs.Runs.{fed_in, framer_run}
 use Rattle.bw_wire.proofs.RunLaws.{IsCodec, runs_follow}

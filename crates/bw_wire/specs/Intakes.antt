@@ -4,7 +4,7 @@ use Rattle.bw_wire.specs.declared.intake.Intake.{Intake}
 use Rattle.bw_wire.specs.declared.intake.Phase.{Phase}
 use Rattle.bw_wire.specs.declared.intake.Phase.TheVariants.{Reading, Left, Failed}
 use Rattle.bw_wire.specs.Held.{Held, longest_stream, nothing_held}
-use Rattle.bw_wire.specs.Pending as pending
+use Rattle.bw_wire.specs.FramerStates as pending
 use Rattle.bw_wire.specs.Reasons.{reason_meaning}
 
 -- the phase, in the definitions' words

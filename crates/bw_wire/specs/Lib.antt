@@ -6,7 +6,7 @@ pub mod Frames
 pub mod Addresses
 pub mod Notices
 pub mod Replies
-pub mod Encoded
+pub mod EncodedFrames
 pub mod Framings
 pub mod FramePrefixes
 pub mod ReplyPrefixes
@@ -14,7 +14,7 @@ pub mod Held
 pub mod Blocks
 pub mod Codecs
 pub mod RequestTexts
-pub mod Pending
+pub mod FramerStates
 pub mod Intakes
-pub mod Reporting
+pub mod FramerAnswers
 pub mod Runs

@@ -4,8 +4,8 @@ use Rattle.std.specs.Prelude.{◌∷◌, ◌++◌, flat_map, length}
 use Rattle.bw_model.specs.Wire.{Second, Frame, Bye, Reason, Cut, are_bytes}
 use Rattle.bw_model.specs.Stream.{End, EndOfInput, SaidBye, BadFrame, stream_of}
 use Rattle.bw_wire.specs.Codecs.{Codec, message_codec, reply_codec, spelling_of, Spelled}
-use Rattle.bw_wire.specs.Pending.{Pending, Reported, Nothing, Gives, Fails, fresh, with_piece, next_of}
-use Rattle.bw_wire.specs.Pending.{cut_off, end_fault}
+use Rattle.bw_wire.specs.FramerStates.{Pending, Reported, Nothing, Gives, Fails, fresh, with_piece, next_of}
+use Rattle.bw_wire.specs.FramerStates.{cut_off, end_fault}
 
 -- a call: a piece is fed, or the next frame is taken
 pub data Call : Type 0 where

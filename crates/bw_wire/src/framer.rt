@@ -21,7 +21,7 @@ pub struct Framer {
 }
 
 impl Model for Framer {
-    ghost use Rattle.bw_wire.specs.Pending.{Pending};
+    ghost use Rattle.bw_wire.specs.FramerStates.{Pending};
 
     ghost Value = { Pending };
 
@@ -40,9 +40,9 @@ impl Framer {
     ghost use Rattle.bw_wire.specs.Codecs.{message_codec};
     ghost use Rattle.bw_wire.specs.Frames.{frame_of};
     ghost use Rattle.bw_wire.specs.Held.{longest_rest, longest_message_piece, longest_stream};
-    ghost use Rattle.bw_wire.specs.Pending.{fresh, with_piece, next_of, KeepsAtMost, HasBoundedBlock};
-    ghost use Rattle.bw_wire.specs.Pending.{HoldsLittle, end_fault, IsOver};
-    ghost use Rattle.bw_wire.specs.Reporting.{reported_as, end_reported};
+    ghost use Rattle.bw_wire.specs.FramerStates.{fresh, with_piece, next_of, KeepsAtMost, HasBoundedBlock};
+    ghost use Rattle.bw_wire.specs.FramerStates.{HoldsLittle, end_fault, IsOver};
+    ghost use Rattle.bw_wire.specs.FramerAnswers.{reported_as, end_reported};
 
     /// A framer at the start of a stream.
     pub fn new(alloc: Global) -> Framer

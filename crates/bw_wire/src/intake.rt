@@ -2,10 +2,10 @@
 ghost use Rattle.std.specs.Prelude.{◌≡◌, ◌+◌, ◌≤◌, length, drop, IsOk, OnOk, OnErr};
 ghost use Rattle.bw_wire.specs.Held.{nothing_held, without_prefix, longest_rest, longest_stream};
 ghost use Rattle.bw_wire.specs.Held.{longest_message_piece};
-ghost use Rattle.bw_wire.specs.Pending.{fresh, with_piece, KeepsAtMost, HasBoundedBlock, end_fault};
-ghost use Rattle.bw_wire.specs.Pending.{IsOver};
+ghost use Rattle.bw_wire.specs.FramerStates.{fresh, with_piece, KeepsAtMost, HasBoundedBlock, end_fault};
+ghost use Rattle.bw_wire.specs.FramerStates.{IsOver};
 ghost use Rattle.bw_wire.specs.Intakes.{pending_in, IsIntake};
-ghost use Rattle.bw_wire.specs.Reporting.{end_reported};
+ghost use Rattle.bw_wire.specs.FramerAnswers.{end_reported};
 
 use crate::buffer::Buffer;
 use crate::fault::WireFault;

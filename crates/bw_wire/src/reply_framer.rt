@@ -18,7 +18,7 @@ pub struct ReplyFramer {
 }
 
 impl Model for ReplyFramer {
-    ghost use Rattle.bw_wire.specs.Pending.{Pending};
+    ghost use Rattle.bw_wire.specs.FramerStates.{Pending};
 
     ghost Value = { Pending };
 
@@ -32,10 +32,10 @@ impl Model for ReplyFramer {
 impl ReplyFramer {
     ghost use Rattle.bw_wire.specs.Codecs.{reply_codec};
     ghost use Rattle.bw_wire.specs.Held.{longest_rest, longest_piece, longest_stream};
-    ghost use Rattle.bw_wire.specs.Pending.{fresh, with_piece, next_of, KeepsAtMost, HasBoundedBlock};
-    ghost use Rattle.bw_wire.specs.Pending.{HoldsLittle, end_fault, IsOver};
+    ghost use Rattle.bw_wire.specs.FramerStates.{fresh, with_piece, next_of, KeepsAtMost, HasBoundedBlock};
+    ghost use Rattle.bw_wire.specs.FramerStates.{HoldsLittle, end_fault, IsOver};
     ghost use Rattle.bw_wire.specs.Replies.{reply_of};
-    ghost use Rattle.bw_wire.specs.Reporting.{reported_as, end_reported};
+    ghost use Rattle.bw_wire.specs.FramerAnswers.{reported_as, end_reported};
 
     /// A framer at the start of a stream.
     pub fn new(alloc: Global) -> ReplyFramer

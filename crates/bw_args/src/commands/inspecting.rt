@@ -3,7 +3,7 @@ ghost use Rattle.std.specs.Prelude.{◌≡◌, ◌||◌, ◌∷◌, [], false, m
 ghost use Rattle.std.specs.Prelude.{OnErr};
 ghost use Rattle.std.specs.List.{list_any};
 ghost use Rattle.clap.specs.Words.{found_of, rows_of};
-ghost use Rattle.bw_args.specs.Inspecting.{is_alone, is_input, is_possible};
+ghost use Rattle.bw_args.specs.InspectedFiles.{is_alone, is_input, is_possible};
 ghost use Rattle.bw_args.specs.Lines.{AsksForPath, IsLineFor};
 
 use super::network::flag_given;

@@ -2,7 +2,7 @@ use Rattle.std.proofs.Common.{◌≡◌, ◌+◌, ◌∷◌, ◌++◌, [], List,
 use Rattle.std.proofs.lemmas.Grind.{common_steps}
 use Rattle.std.proofs.lemmas.List.{map_push}
 use Rattle.bw_model.specs.World.{Event}
-use Rattle.bw_rehearsal.specs.Rehearsing.{event_meaning}
+use Rattle.bw_rehearsal.specs.RehearsedWorlds.{event_meaning}
 use Rattle.bw_console.specs.Lines.{lines_of}
 use Rattle.bw_rehearsal.specs.EventLines.{SaysEvent}
 use Rattle.bw_console.proofs.LineLemmas.{no_lines}

@@ -1,5 +1,5 @@
 use Rattle.std.proofs.Common.{◌+◌, ◌≤◌, length, map}
-use Rattle.bw_rehearsal.specs.Rehearsing.{event_meaning}
+use Rattle.bw_rehearsal.specs.RehearsedWorlds.{event_meaning}
 use Rattle.bw_console.specs.Lines.{lines_of}
 use Rattle.bw_rehearsal.specs.EventLines.{SaysEvent}
 use Rattle.bw_console.proofs.SaidLines.{SaidSoFar}

@@ -2,7 +2,7 @@ use Rattle.std.proofs.Common.{◌≡◌, ◌∙◌, Ok, Err, not, true, refl, sy
 use Rattle.bw_inspect.specs.Faults.{is_failed_read}
 use Rattle.bw_console.specs.Faults.{exit_on}
 use Rattle.bw_commands.specs.Inspections.{exit_for_fault, fault_line}
-use Rattle.bw_console.specs.Printing.{IsOf, Nothing}
+use Rattle.bw_console.specs.Prints.{IsOf, Nothing}
 use Rattle.bw_console.specs.declared.exit.Exit.TheVariants.{Done}
 use Rattle.bw_commands.proofs.InspectionLemmas.{failures-not, fault-reported, report-reported}
 use Rattle.bw_commands.proofs.inspection.inspect_run.Goals as goal

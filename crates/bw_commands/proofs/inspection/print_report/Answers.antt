@@ -1,7 +1,7 @@
 use Rattle.std.proofs.Common.{◌≡◌, ◌∙◌, refl}
 use Rattle.bw_model.specs.Report.{report_text}
 use Rattle.bw_inspect.specs.Reports.{reported_by}
-use Rattle.bw_console.specs.Printing.{Whole, Part}
+use Rattle.bw_console.specs.Prints.{Whole, Part}
 use Rattle.bw_commands.proofs.InspectionLemmas.{text-made}
 use Rattle.bw_commands.proofs.inspection.print_report.Goals as goal
 

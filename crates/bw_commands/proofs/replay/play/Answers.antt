@@ -1,6 +1,6 @@
 use Rattle.std.proofs.Common.{refl}
 use Rattle.std.proofs.lemmas.Result.{err_from_is_err_and}
-use Rattle.bw_console.specs.Printing.{Nothing, Whole, Part}
+use Rattle.bw_console.specs.Prints.{Nothing, Whole, Part}
 use Rattle.bw_commands.proofs.EventLemmas.{refuses_run, run_printed}
 use Rattle.bw_commands.proofs.replay.play.Goals as goal
 

@@ -1,5 +1,5 @@
 use Rattle.std.proofs.Common.{ap, true, refl, sym}
-use Rattle.bw_console.specs.Printing.{Nothing}
+use Rattle.bw_console.specs.Prints.{Nothing}
 use Rattle.bw_console.specs.BadArgv.{exit_without_words}
 use Rattle.bw_console.proofs.bad_argv.report_bad_argv.Goals as goal
 

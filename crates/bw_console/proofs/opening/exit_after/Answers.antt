@@ -1,5 +1,5 @@
 use Rattle.std.proofs.Common.{◌∙◌, ap, sym}
-use Rattle.bw_console.specs.Openings.{exit_unopened}
+use Rattle.bw_console.specs.FailedOpenings.{exit_unopened}
 use Rattle.bw_console.proofs.OpeningLemmas.{exit-device}
 use Rattle.bw_console.proofs.opening.exit_after.Goals as goal
 

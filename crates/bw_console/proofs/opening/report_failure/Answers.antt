@@ -1,6 +1,6 @@
 use Rattle.std.proofs.Common.{◌≡◌, ◌∙◌, List, ℕ, inl, inr, true, refl, sym}
 use Rattle.std.specs.Prelude.{string_bytes}
-use Rattle.bw_console.specs.Printing.{IsOf, Nothing}
+use Rattle.bw_console.specs.Prints.{IsOf, Nothing}
 use Rattle.bw_console.specs.declared.exit.Exit.TheVariants.{Memory}
 use Rattle.bw_console.proofs.opening.report_failure.Goals as goal
 

@@ -1,4 +1,4 @@
-use Rattle.bw_console.specs.Openings.{unopened_text}
+use Rattle.bw_console.specs.FailedOpenings.{unopened_text}
 use Rattle.bw_console.proofs.opening.report_unopened.Goals as goal
 
 pub returns : goal.returns

@@ -1,5 +1,5 @@
 use Rattle.std.proofs.Common.{string_bytes}
-use Rattle.bw_console.specs.Openings.{unopened_text}
+use Rattle.bw_console.specs.FailedOpenings.{unopened_text}
 use Rattle.bw_console.proofs.OpeningLemmas.{reasoned}
 use Rattle.bw_console.proofs.opening.unopened_line.Goals as goal
 

@@ -1,5 +1,5 @@
 use Rattle.std.proofs.Common.{inl, inr, true, refl, sym}
-use Rattle.bw_console.specs.Printing.{Nothing, Whole, Part}
+use Rattle.bw_console.specs.Prints.{Nothing, Whole, Part}
 use Rattle.bw_console.specs.declared.exit.Exit.TheVariants.{Done, Device}
 use Rattle.bw_console.proofs.print.print_text.Goals as goal
 

@@ -1,5 +1,5 @@
 use Rattle.std.proofs.Common.{true, refl, subst, inl, inr, List, ℕ}
-use Rattle.bw_console.specs.Printing.{Nothing}
+use Rattle.bw_console.specs.Prints.{Nothing}
 use Rattle.bw_console.specs.Outcomes.{PrintsText}
 use Rattle.bw_recorder.specs.Openings.{is_well_at}
 use Rattle.bw_draw.proofs.command.draw_file.Goals as goal

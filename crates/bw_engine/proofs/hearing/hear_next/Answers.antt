@@ -1,5 +1,5 @@
 use Rattle.std.proofs.Common.{sym}
-use Rattle.bw_wire.specs.Pending.{Nothing}
+use Rattle.bw_wire.specs.FramerStates.{Nothing}
 use Rattle.bw_wire.specs.Replies.{reply_of}
 use Rattle.bw_engine.proofs.ReplyRuns.{reported_again, failed_by, fault_again, gives_shorter}
 use Rattle.bw_engine.proofs.HeardPieces.{as_reported, hears-quiet, hears-one}

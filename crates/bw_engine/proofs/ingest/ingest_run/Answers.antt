@@ -1,5 +1,5 @@
 use Rattle.std.proofs.Common.{refl, sym, ◌∙◌, ap, subst, ◌++◌, inl}
-use Rattle.bw_engine.specs.Ingesting.{IngestsInPart, answered_in, input_bytes}
+use Rattle.bw_engine.specs.IngestRuns.{IngestsInPart, answered_in, input_bytes}
 use Rattle.bw_engine.proofs.StoreRuns.{honest_still, runs_through, ingests_nothing, ingests_well}
 use Rattle.bw_engine.proofs.ingest.ingest_run.Goals as goal
 

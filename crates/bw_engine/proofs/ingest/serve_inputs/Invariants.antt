@@ -1,5 +1,5 @@
 use Rattle.std.proofs.Common.{take}
-use Rattle.bw_engine.specs.Ingesting.{ServesInputs, input_bytes}
+use Rattle.bw_engine.specs.IngestRuns.{ServesInputs, input_bytes}
 use Rattle.bw_engine.proofs.ingest.serve_inputs.Given as goal
 
 abbrev pub invariant-loop-input : goal.invariant-loop-input

@@ -1,6 +1,6 @@
 use Rattle.std.proofs.Common.{sym, ap, ◌∙◌}
 use Rattle.bw_model.specs.World.{Heard}
-use Rattle.bw_wire.specs.Pending.{Nothing}
+use Rattle.bw_wire.specs.FramerStates.{Nothing}
 use Rattle.bw_wire.specs.Replies.{reply_of}
 use Rattle.bw_engine.specs.Stops.{stop_by}
 use Rattle.bw_engine.proofs.ReplyRuns.{reported_again, failed_by, fault_again, gives_shorter}

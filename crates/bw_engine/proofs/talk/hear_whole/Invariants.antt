@@ -1,6 +1,6 @@
 use Rattle.std.proofs.Common.{List, length}
 use Rattle.bw_model.specs.Replies.{Reply}
-use Rattle.bw_engine.specs.Listening.{HearsThese, NotesStop}
+use Rattle.bw_engine.specs.LinkReplies.{HearsThese, NotesStop}
 use Rattle.bw_engine.proofs.talk.hear_whole.Given as goal
 
 abbrev pub invariant-loop-stop : goal.invariant-loop-stop

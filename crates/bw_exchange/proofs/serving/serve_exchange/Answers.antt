@@ -1,7 +1,7 @@
 use Rattle.std.proofs.Common.{rules, refl, ap, subst, sym, ◌∙◌, arith}
 use Rattle.std.specs.Prelude.{is_some}
 use Rattle.bw_exchange.specs.declared.serving.ExchangeEnd.{ExchangeEnd}
-use Rattle.bw_exchange.specs.Served.{reads_failed, writes_failed, IsLimited, Serves}
+use Rattle.bw_exchange.specs.WholeExchanges.{reads_failed, writes_failed, IsLimited, Serves}
 use Rattle.bw_exchange.proofs.Ending.{no_memory, no_more_read, write_failed, limit_reached, stream_ended}
 use Rattle.bw_exchange.proofs.Ending.{stopped_counts, ended_counts}
 use Rattle.bw_exchange.proofs.Whole.{so_far-none, counted, has_bytes, so_far-more, moved_on, called_on, called_once}

@@ -1,5 +1,5 @@
 use Rattle.std.proofs.Common.{◌≡◌, ◌≤◌, ◌-◌, ℕ, List, Some, true, length}
-use Rattle.bw_follow.specs.Readings.{ReadsAfter}
+use Rattle.bw_follow.specs.FollowedReads.{ReadsAfter}
 use Rattle.bw_follow.proofs.reading.read_on.Given as goal
 
 abbrev pub invariant-loop-held : goal.invariant-loop-held

@@ -1,6 +1,6 @@
 use Rattle.std.proofs.Common.{◌*◌, take}
 use Rattle.std.specs.Prelude.{flat_map}
-use Rattle.bw_layout.specs.Appending.{Gains}
+use Rattle.bw_layout.specs.AppendedBytes.{Gains}
 use Rattle.bw_layout.specs.Tables.{entry_bytes}
 use Rattle.bw_layout.proofs.sizes.push_table.Given as goal
 

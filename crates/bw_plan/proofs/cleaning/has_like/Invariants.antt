@@ -1,5 +1,5 @@
 use Rattle.std.proofs.Common.{◌≡◌, drop}
-use Rattle.bw_plan.specs.Cleaning.{is_like}
+use Rattle.bw_plan.specs.CleanedContents.{is_like}
 use Rattle.bw_plan.proofs.cleaning.has_like.Given as goal
 
 abbrev pub invariant-loop-i : goal.invariant-loop-i

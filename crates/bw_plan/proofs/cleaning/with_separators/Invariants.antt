@@ -1,5 +1,5 @@
 use Rattle.std.proofs.Common.{◌≡◌, ◌++◌, drop}
-use Rattle.bw_plan.specs.Cleaning.{with_separators}
+use Rattle.bw_plan.specs.CleanedContents.{with_separators}
 use Rattle.bw_plan.proofs.cleaning.with_separators.Given as goal
 
 abbrev pub invariant-loop-i : goal.invariant-loop-i

@@ -1,5 +1,5 @@
 use Rattle.std.proofs.Common.{◌≡◌, take}
-use Rattle.bw_plan.specs.Cleaning.{markers_of}
+use Rattle.bw_plan.specs.CleanedContents.{markers_of}
 use Rattle.bw_plan.proofs.markers.markers.Given as goal
 
 abbrev pub invariant-loop-i : goal.invariant-loop-i

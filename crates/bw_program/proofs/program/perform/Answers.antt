@@ -1,5 +1,5 @@
 use Rattle.std.proofs.Common.{refl}
-use Rattle.bw_console.specs.Printing.{IsOf}
+use Rattle.bw_console.specs.Prints.{IsOf}
 use Rattle.bw_console.specs.declared.exit.Exit.TheVariants.{Usage}
 use Rattle.bw_args.specs.BadValues.{text_of}
 use Rattle.bw_program.proofs.ProgramLemmas.{reports_alone}

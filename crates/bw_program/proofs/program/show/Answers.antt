@@ -1,5 +1,5 @@
 use Rattle.std.proofs.Common.{Ok, Err, true, refl, sym}
-use Rattle.bw_console.specs.Printing.{Nothing, Whole, Part}
+use Rattle.bw_console.specs.Prints.{Nothing, Whole, Part}
 use Rattle.bw_console.specs.declared.exit.Exit.TheVariants.{Done, Device, Memory, Usage}
 use Rattle.bw_console.specs.declared.fault.Fault.TheVariants as faults
 use Rattle.bw_program.proofs.ProgramLemmas.{reported-help, reported-usage, reported-memory}

@@ -1,6 +1,6 @@
 use Rattle.std.proofs.Common.{◌≡◌, inl, inr, refl, rules, sym, true}
 use Rattle.std.specs.Net.Text.{socket_text}
-use Rattle.bw_console.specs.Printing.{Nothing}
+use Rattle.bw_console.specs.Prints.{Nothing}
 use Rattle.bw_console.specs.declared.exit.Exit.TheVariants as exits
 use Rattle.bw_program.proofs.uploads.send_kept.Goals as goal
 

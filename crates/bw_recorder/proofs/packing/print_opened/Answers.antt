@@ -1,5 +1,5 @@
 use Rattle.std.proofs.Common.{Ok, Err, refl}
-use Rattle.bw_console.specs.Printing.{Nothing}
+use Rattle.bw_console.specs.Prints.{Nothing}
 use Rattle.bw_recorder.proofs.packing.print_opened.Goals as goal
 
 pub returns-in-Ok : goal.returns-in-Ok

@@ -4,8 +4,8 @@ use Rattle.bw_model.specs.Exchange.{content_in}
 use Rattle.bw_model.proofs.HeldFiles.{held_files}
 use Rattle.bw_session.specs.Servers.{kept_in}
 use Rattle.bw_store.specs.Memory.{content_under}
-use Rattle.bw_rehearsal.specs.Rehearsing.{LeadsTo, no_contents}
-use Rattle.bw_rehearsal.specs.Simulated.{failures_on}
+use Rattle.bw_rehearsal.specs.RehearsedWorlds.{LeadsTo, no_contents}
+use Rattle.bw_rehearsal.specs.Simulations.{failures_on}
 use Rattle.bw_rehearsal.specs.declared.event.Event.{Event}
 use Rattle.bw_rehearsal.proofs.Schedules.{leads_on}
 use Rattle.bw_rehearsal.proofs.Staging.{frames_len, replies_len}

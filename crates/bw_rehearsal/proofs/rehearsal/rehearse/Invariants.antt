@@ -1,7 +1,7 @@
 use Rattle.std.proofs.Common.{take}
 use Rattle.bw_model.specs.World.{World}
-use Rattle.bw_rehearsal.specs.Rehearsing.{LeadsTo}
-use Rattle.bw_rehearsal.specs.Simulated.{IsSimulated, failures_on}
+use Rattle.bw_rehearsal.specs.RehearsedWorlds.{LeadsTo}
+use Rattle.bw_rehearsal.specs.Simulations.{IsSimulated, failures_on}
 use Rattle.bw_rehearsal.proofs.rehearsal.rehearse.Given as goal
 
 abbrev pub invariant-loop-event : goal.invariant-loop-event

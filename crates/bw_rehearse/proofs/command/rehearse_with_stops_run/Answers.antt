@@ -1,5 +1,5 @@
 use Rattle.std.proofs.Common.{refl}
-use Rattle.bw_console.specs.Printing.{Nothing}
+use Rattle.bw_console.specs.Prints.{Nothing}
 use Rattle.bw_console.proofs.OutcomeLemmas.{ends_at}
 use Rattle.bw_rehearse.proofs.ChosenOutcomes.{unread_refuses}
 use Rattle.bw_rehearse.proofs.command.rehearse_with_stops_run.Goals as goal

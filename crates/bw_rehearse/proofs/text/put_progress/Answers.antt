@@ -1,6 +1,6 @@
 use Rattle.std.proofs.Common.{◌∙◌, ap}
 use Rattle.std.specs.Prelude.{unwrap_or}
-use Rattle.bw_rehearsal.specs.Rehearsing.{no_contents}
+use Rattle.bw_rehearsal.specs.RehearsedWorlds.{no_contents}
 use Rattle.bw_commands.proofs.WorldLemmas.{on_ok, done_reported, same_progress}
 use Rattle.bw_rehearse.proofs.StopTexts.{while_it_runs}
 use Rattle.bw_rehearse.proofs.text.put_progress.Goals as goal

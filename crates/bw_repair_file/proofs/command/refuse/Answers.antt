@@ -1,5 +1,5 @@
 use Rattle.std.proofs.Common.{◌≡◌, ◌∙◌, true, refl, sym}
-use Rattle.bw_console.specs.Printing.{IsOf, Nothing}
+use Rattle.bw_console.specs.Prints.{IsOf, Nothing}
 use Rattle.bw_repair_file.specs.Repairs.{exit_on_fault}
 use Rattle.bw_repair_file.specs.Texts.{repair_line}
 use Rattle.bw_repair_file.proofs.command.refuse.Goals as goal

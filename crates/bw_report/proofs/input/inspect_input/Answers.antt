@@ -1,7 +1,7 @@
 use Rattle.std.proofs.Common.{◌∙◌, Ok, Err, refl, sym, ap}
-use Rattle.bw_console.specs.Printing.{Nothing}
+use Rattle.bw_console.specs.Prints.{Nothing}
 use Rattle.bw_console.specs.Faults.{exit_on}
-use Rattle.bw_report.specs.Findings.{exit_of_found, worse}
+use Rattle.bw_report.specs.FileFindings.{exit_of_found, worse}
 use Rattle.bw_report.specs.Inputs.{is_read_by}
 use Rattle.bw_report.proofs.LookLemmas.{none_worse}
 use Rattle.bw_report.proofs.input.inspect_input.Goals as goal

@@ -2,7 +2,7 @@ use Rattle.std.proofs.Common.{◌≡◌, ◌||◌, false, List, ℕ, arith, sym,
 use Rattle.std.specs.List.{All}
 use Rattle.std.proofs.lemmas.List.Elements.{All-more}
 use Rattle.bw_session.specs.RestingNames.{is_restable_in}
-use Rattle.bw_rest.specs.Making.{has_rested, is_failed}
+use Rattle.bw_rest.specs.RoomResults.{has_rested, is_failed}
 use Rattle.bw_rest.proofs.MakingForms.{goes_on, none_may, kept_as, restable_same}
 use Rattle.bw_rest.proofs.PrepareForms.{keeps_then, outside_then}
 use Rattle.bw_rest.proofs.room.rest_first.Goals as goal

@@ -2,8 +2,8 @@ use Rattle.std.proofs.Common.{◌≡◌, false, take}
 use Rattle.std.specs.List.{All}
 use Rattle.bw_session.specs.RestingNames.{is_restable_in}
 use Rattle.bw_session.specs.SeenServers.{session_kept}
-use Rattle.bw_rest.specs.Making.{KeepsSessions}
-use Rattle.bw_rest.specs.Resting.{KeepsFolders, StaysOutside}
+use Rattle.bw_rest.specs.RoomResults.{KeepsSessions}
+use Rattle.bw_rest.specs.TurnsAtRest.{KeepsFolders, StaysOutside}
 use Rattle.bw_rest.proofs.room.rest_first.Given as goal
 
 abbrev pub invariant-loop-name : goal.invariant-loop-name

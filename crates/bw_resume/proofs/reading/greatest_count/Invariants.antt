@@ -1,6 +1,6 @@
 use Rattle.std.proofs.Common.{◌≡◌, ◌≤◌, [], length, max}
 use Rattle.bw_resume.specs.Counts.{most_settled}
-use Rattle.bw_resume.specs.Reading.{greatest_count, lines_after}
+use Rattle.bw_resume.specs.StateReadings.{greatest_count, lines_after}
 use Rattle.bw_resume.proofs.reading.greatest_count.Given as goal
 
 abbrev pub invariant-loop-line : goal.invariant-loop-line

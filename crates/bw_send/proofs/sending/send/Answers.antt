@@ -1,6 +1,6 @@
 use Rattle.std.proofs.Common.{◌∙◌, ap, length, refl, sym}
 use Rattle.std.proofs.lemmas.Result.{err_from_is_err_and}
-use Rattle.bw_console.specs.Printing.{Nothing, Whole, Part}
+use Rattle.bw_console.specs.Prints.{Nothing, Whole, Part}
 use Rattle.bw_send.specs.SendState.{exit_for_sender}
 use Rattle.bw_send.proofs.Printed.{prints_sender}
 use Rattle.bw_send.proofs.RoundSteps.{refuses_send, rounds_keep}

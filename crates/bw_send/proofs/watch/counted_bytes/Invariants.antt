@@ -1,7 +1,7 @@
 use Rattle.std.proofs.Common.{◌≡◌, ◌+◌, ◌-◌, ◌<◌, ◌^◌, drop, min}
 use Rattle.std.specs.Prelude.{sum_by}
 use Rattle.bw_request.specs.Requests.{samples_in}
-use Rattle.bw_send.specs.Watched.{counted_bytes}
+use Rattle.bw_send.specs.RoundCounts.{counted_bytes}
 use Rattle.bw_send.proofs.watch.counted_bytes.Given as goal
 
 abbrev pub invariant-loop-request : goal.invariant-loop-request

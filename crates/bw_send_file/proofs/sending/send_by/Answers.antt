@@ -1,5 +1,5 @@
 use Rattle.std.proofs.Common.{true, refl, sym, inl, inr}
-use Rattle.bw_console.specs.Printing.{Nothing}
+use Rattle.bw_console.specs.Prints.{Nothing}
 use Rattle.bw_console.specs.declared.exit.Exit.TheVariants as exits
 use Rattle.bw_send_file.proofs.EndSteps.{stores_after}
 use Rattle.bw_send_file.proofs.sending.send_by.Goals as goal

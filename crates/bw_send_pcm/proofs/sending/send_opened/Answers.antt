@@ -1,5 +1,5 @@
 use Rattle.std.proofs.Common.{refl, sym}
-use Rattle.bw_console.specs.Printing.{Nothing}
+use Rattle.bw_console.specs.Prints.{Nothing}
 use Rattle.bw_recorder.proofs.PackSteps.{unopened}
 use Rattle.bw_send_file.proofs.SentSo.{sent_so}
 use Rattle.bw_send_pcm.proofs.sending.send_opened.Goals as goal

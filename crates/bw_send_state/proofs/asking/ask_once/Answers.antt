@@ -1,6 +1,6 @@
 use Rattle.std.proofs.Common.{List, Ok, ℕ, subst, sym}
 use Rattle.bw_model.specs.Wire.{Asks}
-use Rattle.bw_wire.specs.Encoded.{IsFrameOf}
+use Rattle.bw_wire.specs.EncodedFrames.{IsFrameOf}
 use Rattle.bw_send_state.proofs.AskSteps.{answers_over}
 use Rattle.bw_send_state.proofs.asking.ask_once.Goals as goal
 

@@ -1,5 +1,5 @@
 use Rattle.std.proofs.Common.{◌≡◌, length}
-use Rattle.bw_exchange.specs.Served.{HasGiven}
+use Rattle.bw_exchange.specs.WholeExchanges.{HasGiven}
 use Rattle.bw_send_state.proofs.asking.read_bytes.Given as goal
 
 abbrev pub invariant-loop-place : goal.invariant-loop-place

@@ -1,7 +1,7 @@
 use Rattle.std.proofs.Common.{◌∙◌, Bool, List, ℕ, ap, inl, inr, refl, subst, sym, true}
 use Rattle.std.proofs.lemmas.Result.{err_from_is_err_and}
 use Rattle.std.specs.IoError.{error_kind}
-use Rattle.bw_console.specs.Printing.{IsPrint, Nothing, failures_if}
+use Rattle.bw_console.specs.Prints.{IsPrint, Nothing, failures_if}
 use Rattle.bw_send_state.specs.FoundCounts.{IsStateFound}
 use Rattle.bw_send_state.proofs.BeginSteps.{ended_with, sends_nothing, silent_of, well_of}
 use Rattle.bw_send_state.proofs.beginning.begin.Goals as goal

@@ -1,5 +1,5 @@
 use Rattle.std.proofs.Common.{◌∙◌, ℕ, List, Option, ap, inl, inr, refl, subst, sym, true}
-use Rattle.bw_console.specs.Printing.{Nothing, failures_if}
+use Rattle.bw_console.specs.Prints.{Nothing, failures_if}
 use Rattle.bw_console.specs.declared.exit.Exit.{Exit}
 use Rattle.bw_recorder.proofs.PackSteps.{refused}
 use Rattle.bw_send_state.specs.FilesSentOn.{EndsKept}

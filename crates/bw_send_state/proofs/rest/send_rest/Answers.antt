@@ -1,6 +1,6 @@
 use Rattle.std.proofs.Common.{◌∙◌, List, ℕ, inl, inr, refl, sym, subst, true}
 use Rattle.std.specs.Prelude.{codes}
-use Rattle.bw_console.specs.Printing.{Nothing}
+use Rattle.bw_console.specs.Prints.{Nothing}
 use Rattle.bw_plan.specs.Plans.{plan}
 use Rattle.bw_plan.specs.Recordings.{block_frames}
 use Rattle.bw_recorder.specs.Packs.{IsReportedText}

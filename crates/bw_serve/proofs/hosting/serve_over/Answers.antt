@@ -1,5 +1,5 @@
 use Rattle.std.proofs.Common.{◌≡◌, ◌∙◌}
-use Rattle.bw_serve.specs.Hosted.{listening_line}
+use Rattle.bw_serve.specs.Hostings.{listening_line}
 use Rattle.bw_serve.proofs.NewServers.{hosts_many_new}
 use Rattle.bw_serve.proofs.hosting.serve_over.Goals as goal
 

@@ -1,5 +1,5 @@
 use Rattle.std.proofs.Common.{inr, refl, sym, true}
-use Rattle.bw_console.specs.Printing.{Nothing}
+use Rattle.bw_console.specs.Prints.{Nothing}
 use Rattle.bw_console.specs.declared.exit.Exit.TheVariants.{Memory}
 use Rattle.bw_serve.proofs.hosting_in_turn.report_unbound.Goals as goal
 

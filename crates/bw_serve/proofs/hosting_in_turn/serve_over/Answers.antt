@@ -1,5 +1,5 @@
 use Rattle.std.proofs.Common.{◌≡◌, ◌∙◌, refl}
-use Rattle.bw_serve.specs.Hosted.{listening_line}
+use Rattle.bw_serve.specs.Hostings.{listening_line}
 use Rattle.bw_serve.proofs.NewServers.{hosts_new}
 use Rattle.bw_serve.proofs.hosting_in_turn.serve_over.Goals as goal
 

@@ -1,6 +1,6 @@
 use Rattle.std.proofs.Common.{[], refl}
 use Rattle.bw_engine.proofs.StoreRuns.{leaves_run}
-use Rattle.bw_connections.specs.Keeping.{all_answered}
+use Rattle.bw_connections.specs.ConnectionTables.{all_answered}
 use Rattle.bw_serve.proofs.laws.law_names.Goals as goal
 
 pub returns : goal.returns

@@ -1,5 +1,5 @@
 use Rattle.std.proofs.Common.{◌∙◌, ℕ, List, ap, fold, subst}
-use Rattle.bw_exchange.specs.Answering.{AnswersAll, answered_frames}
+use Rattle.bw_exchange.specs.AnsweredFrames.{AnswersAll, answered_frames}
 use Rattle.bw_exchange.specs.LinkCounts.{Counted, message_count, counting_frame}
 use Rattle.bw_exchange.proofs.LinkStatsLemmas.{all_by_server, all_counted}
 use Rattle.bw_serve.specs.LinkLines.{Logs, peer_line}

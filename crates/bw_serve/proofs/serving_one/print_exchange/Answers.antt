@@ -1,5 +1,5 @@
 use Rattle.std.proofs.Common.{ap, inl, inr, ◌∙◌}
-use Rattle.bw_console.specs.Printing.{Whole, Part}
+use Rattle.bw_console.specs.Prints.{Whole, Part}
 use Rattle.bw_serve.proofs.serving_one.print_exchange.Goals as goal
 
 pub returns-in-Ok : goal.returns-in-Ok

@@ -1,5 +1,5 @@
 use Rattle.std.proofs.Common.{◌≡◌, drop}
-use Rattle.bw_serve_status.specs.Growing.{grown_at}
+use Rattle.bw_serve_status.specs.Growths.{grown_at}
 use Rattle.bw_serve_status.proofs.growth.grown_at.Given as goal
 
 abbrev pub invariant-loop-place : goal.invariant-loop-place

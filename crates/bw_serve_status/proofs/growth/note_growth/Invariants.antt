@@ -1,7 +1,7 @@
 use Rattle.std.proofs.Common.{◌≡◌, ◌≤◌, ◌<◌, ℕ, Some, length, slice_get}
 use Rattle.bw_serve_status.specs.declared.growth.Growth.{Growth}
 use Rattle.bw_serve_status.specs.declared.name_tally.NameTally.{NameTally}
-use Rattle.bw_serve_status.specs.Growing.{growth_noted}
+use Rattle.bw_serve_status.specs.Growths.{growth_noted}
 use Rattle.bw_serve_status.proofs.growth.note_growth.Given as goal
 
 abbrev pub invariant-loop-place : goal.invariant-loop-place

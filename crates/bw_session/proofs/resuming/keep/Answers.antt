@@ -1,6 +1,6 @@
 use Rattle.std.proofs.Common.{◌<◌, ap, ◌∙◌, sym, arith}
 use Rattle.std.specs.HashMap.{spare}
-use Rattle.bw_file.specs.Growing.{Growing}
+use Rattle.bw_file.specs.GrowingFiles.{Growing}
 use Rattle.bw_session.specs.Tables.{session_in}
 use Rattle.bw_session.proofs.ResumeForms.{no_session}
 use Rattle.bw_session.proofs.ServerForms.{table_set, one_more}

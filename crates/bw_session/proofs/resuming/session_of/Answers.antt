@@ -1,6 +1,6 @@
 use Rattle.std.proofs.Common.{◌≡◌, ◌≤◌, ◌/◌, ℕ, length, List, ap, ◌∙◌, arith}
 use Rattle.bw_model.specs.Take.{Verdict}
-use Rattle.bw_file.specs.Growing.{Growing}
+use Rattle.bw_file.specs.GrowingFiles.{Growing}
 use Rattle.bw_journal.specs.Rows.{row_count}
 use Rattle.bw_session.proofs.Packing.{length-entries}
 use Rattle.bw_session.proofs.resuming.session_of.Goals as goal

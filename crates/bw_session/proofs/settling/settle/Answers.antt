@@ -3,7 +3,7 @@ use Rattle.bw_model.specs.Take.{Parts, Request, Verdict, is_stored}
 use Rattle.bw_request.specs.Requests.{meaning}
 use Rattle.bw_take.specs.States.{State, FollowsTakes}
 use Rattle.bw_request.specs.Verdicts.{verdict_meaning}
-use Rattle.bw_session.specs.Keeping.{KeepsDone}
+use Rattle.bw_session.specs.DoneNumbers.{KeepsDone}
 use Rattle.bw_session.proofs.LogSteps.{keeps_stored, keeps_refused}
 use Rattle.bw_session.proofs.settling.settle.Goals as goal
 use Rattle.bw_session.proofs.settling.settle.Goals.{then-is_stored, else-is_stored}

@@ -2,7 +2,7 @@ use Rattle.std.proofs.Common.{◌≡◌, ◌++◌, map, vec_len}
 use Rattle.bw_disk.specs.DiskSteps.{StaysWhole}
 use Rattle.bw_folder.specs.JournalFolders.{journals_disk, open_journals}
 use Rattle.bw_folder.specs.TakeFolders.{takes_disk, takes_folder}
-use Rattle.bw_start.specs.Started.{kept_fact, kept_facts, begun_names, StaysSet}
+use Rattle.bw_start.specs.StartedServers.{kept_fact, kept_facts, begun_names, StaysSet}
 use Rattle.bw_start.proofs.adopting.adopt_each.Given as goal
 
 -- the names so far are adopted

@@ -1,5 +1,5 @@
 use Rattle.std.proofs.Common.{◌≡◌, ℕ, List, ◌++◌, sym, ◌∙◌}
-use Rattle.bw_start.specs.Endings.{ending_text}
+use Rattle.bw_start.specs.FileEndings.{ending_text}
 use Rattle.bw_start.proofs.SortedNames.{put_name}
 use Rattle.bw_start.proofs.ending.add_name.Goals as goal
 

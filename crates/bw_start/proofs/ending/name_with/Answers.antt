@@ -1,6 +1,6 @@
 use Rattle.std.proofs.Common.{sym, ◌∙◌}
 use Rattle.std.specs.Prelude.{Some}
-use Rattle.bw_start.specs.Endings.{ending_text}
+use Rattle.bw_start.specs.FileEndings.{ending_text}
 use Rattle.std.proofs.lemmas.Slice.Eq.{strip_suffix_is}
 use Rattle.std.proofs.lemmas.Bool.Decides.{Decides-eqb}
 use Rattle.bw_start.proofs.ListForms.{named}

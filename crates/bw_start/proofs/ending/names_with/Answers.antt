@@ -2,7 +2,7 @@ use Rattle.std.proofs.Common.{◌≡◌, ◌≤◌, ◌<◌, List, ℕ, map, len
 use Rattle.std.specs.Prelude.{string_bytes, get_or}
 use Rattle.std.proofs.lemmas.List.{length-map, get_or-map}
 use Rattle.bw_disk.specs.Volumes.{Lists}
-use Rattle.bw_start.specs.Endings.{ending_text}
+use Rattle.bw_start.specs.FileEndings.{ending_text}
 use Rattle.bw_start.proofs.ListForms.{only_step, each_step, listed_end}
 use Rattle.bw_start.proofs.ending.names_with.Goals as goal
 

@@ -2,7 +2,7 @@ use Rattle.std.proofs.Common.{ℕ, IsTrue, List, map, take, ◌++◌}
 use Rattle.std.specs.Prelude.{string_bytes}
 use Rattle.std.specs.List.{Contains}
 use Rattle.bw_model.specs.Wire.{is_name}
-use Rattle.bw_start.specs.Endings.{ending_text}
+use Rattle.bw_start.specs.FileEndings.{ending_text}
 use Rattle.bw_start.proofs.ending.names_with.Given as goal
 
 -- the names are those of such files among those so far

@@ -1,7 +1,7 @@
 use Rattle.std.proofs.Common.{IsTrue, List, ℕ, Option, refl, sym, subst}
 use Rattle.std.proofs.Math.Path.{fun_ext}
-use Rattle.bw_start.specs.Restored.{HasFewDone, KeepsTheRest, RefusesFolder}
-use Rattle.bw_start.specs.Started.{IsLeftIn}
+use Rattle.bw_start.specs.RestoredFolders.{HasFewDone, KeepsTheRest, RefusesFolder}
+use Rattle.bw_start.specs.StartedServers.{IsLeftIn}
 use Rattle.bw_start.specs.StaysLeft.{BooksStayLeft}
 use Rattle.bw_start.specs.RestingStarts.{StartsOver}
 use Rattle.bw_start.proofs.LookForms.{whole_next}

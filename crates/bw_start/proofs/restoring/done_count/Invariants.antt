@@ -1,5 +1,5 @@
 use Rattle.std.proofs.Common.{◌≡◌, ◌≤◌, take}
-use Rattle.bw_start.specs.Restored.{count_done}
+use Rattle.bw_start.specs.RestoredFolders.{count_done}
 use Rattle.bw_start.proofs.restoring.done_count.Given as goal
 
 -- so many of the names so far

@@ -1,5 +1,5 @@
 use Rattle.std.proofs.Common.{◌++◌, [], List, ap, sym, ◌∙◌}
-use Rattle.bw_start.specs.Restored.{with_refusal}
+use Rattle.bw_start.specs.RestoredFolders.{with_refusal}
 use Rattle.bw_start.proofs.RefusalForms.{refusals_next}
 use Rattle.bw_start.proofs.restoring.refusals.Goals as goal
 

@@ -1,5 +1,5 @@
 use Rattle.std.proofs.Common.{◌≡◌, take, map}
-use Rattle.bw_start.specs.Restored.{refusal_as, refusals_of}
+use Rattle.bw_start.specs.RestoredFolders.{refusal_as, refusals_of}
 use Rattle.bw_start.proofs.restoring.refusals.Given as goal
 
 -- the refused ones of the names so far

@@ -2,7 +2,7 @@ use Rattle.std.proofs.Common.{◌++◌, List, IsTrue, sym, ◌∙◌, ap, subst}
 use Rattle.std.proofs.Math.Path.{fun_ext}
 use Rattle.bw_folder.specs.JournalFolders.{journals_disk, journals_folder, journals_limit, open_journals}
 use Rattle.bw_folder.specs.TakeFolders.{takes_disk, takes_folder}
-use Rattle.bw_start.specs.Started.{begun_names}
+use Rattle.bw_start.specs.StartedServers.{begun_names}
 use Rattle.bw_start.proofs.StartAnswers.{told, few_kept}
 use Rattle.bw_start.proofs.starting.resume_over.Goals as goal
 

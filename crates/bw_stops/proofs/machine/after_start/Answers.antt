@@ -3,7 +3,7 @@ use Rattle.bw_model.specs.World.{World, new_world}
 use Rattle.bw_journal.specs.Stops.{cut_book}
 use Rattle.bw_disk.specs.MemoryVolumes.{disk_content}
 use Rattle.bw_left.proofs.ServedWorlds.{stops_are_steps}
-use Rattle.bw_rehearsal.specs.Rehearsing.{no_contents}
+use Rattle.bw_rehearsal.specs.RehearsedWorlds.{no_contents}
 use Rattle.bw_stops.proofs.MachineForms.{left_at}
 use Rattle.bw_stops.proofs.machine.after_start.Goals as goal
 

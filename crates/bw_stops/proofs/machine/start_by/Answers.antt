@@ -3,7 +3,7 @@ use Rattle.bw_model.specs.World.{World, new_world}
 use Rattle.bw_left.specs.ServedWorlds.{ServesWorld, existed_in}
 use Rattle.bw_left.specs.StoppedWorlds.{Starts, after_world_step}
 use Rattle.bw_left.proofs.ServedWorlds.{starts_are_steps}
-use Rattle.bw_rehearsal.specs.Rehearsing.{no_contents}
+use Rattle.bw_rehearsal.specs.RehearsedWorlds.{no_contents}
 use Rattle.bw_stops.specs.Machines.{the_folder}
 use Rattle.bw_stops.proofs.MachineForms.{none_foreign, shown_by}
 use Rattle.bw_stops.proofs.machine.start_by.Goals as goal

@@ -2,7 +2,7 @@ use Rattle.std.proofs.Common.{ap, subst, ◌∙◌}
 use Rattle.bw_disk.specs.MemoryDisks.{content_at}
 use Rattle.bw_disk.specs.declared.memory_disk.MemoryDisk.{MemoryDisk}
 use Rattle.bw_left.proofs.ServedWorlds.{stops_are_steps}
-use Rattle.bw_rehearsal.specs.Rehearsing.{no_contents}
+use Rattle.bw_rehearsal.specs.RehearsedWorlds.{no_contents}
 use Rattle.bw_stops.specs.Machines.{IsMachine}
 use Rattle.bw_stops.proofs.MachineForms.{left_at}
 use Rattle.bw_stops.proofs.PlayForms.{stopped_already, stopped_now}

@@ -3,7 +3,7 @@ use Rattle.bw_disk.specs.MemoryDisks.{content_at}
 use Rattle.bw_disk.specs.declared.memory_disk.MemoryDisk.{MemoryDisk}
 use Rattle.bw_wire.specs.Replies.{reply_of}
 use Rattle.bw_left.proofs.ServedWorlds.{turns_of_worlds, deaths_are_steps}
-use Rattle.bw_rehearsal.specs.Rehearsing.{no_contents}
+use Rattle.bw_rehearsal.specs.RehearsedWorlds.{no_contents}
 use Rattle.bw_stops.proofs.MachineForms.{left_at}
 use Rattle.bw_stops.proofs.machine.turn.Goals as goal
 

@@ -1,7 +1,7 @@
 use Rattle.std.proofs.Common.{refl, ℕ, List, [], ◌∷◌, ◌∙◌, ap}
 use Rattle.bw_model.specs.Replies.{Reply, Noticed, Next}
 use Rattle.bw_model.specs.Book.{log_of}
-use Rattle.bw_rehearsal.specs.Rehearsing.{no_contents}
+use Rattle.bw_rehearsal.specs.RehearsedWorlds.{no_contents}
 use Rattle.bw_rehearsal.proofs.Staging.{replies_more}
 use Rattle.bw_stops.proofs.PlayForms.{asked}
 use Rattle.bw_stops.proofs.rehearsal.ask_of.Goals as goal

@@ -1,9 +1,9 @@
 use Rattle.std.proofs.Common.{sym, ap, subst, refl, ◌∙◌, ◌++◌, inl}
 use Rattle.bw_model.specs.Wire.{Message, Says}
 use Rattle.bw_model.proofs.Elements.{some_inj}
-use Rattle.bw_wire.specs.Encoded.{IsFrameOf}
+use Rattle.bw_wire.specs.EncodedFrames.{IsFrameOf}
 use Rattle.bw_rehearsal.proofs.Staging.{found_at, missing_at, none_at, sent_at, replies_more}
-use Rattle.bw_stops.specs.Playing.{IsPlayedEvent}
+use Rattle.bw_stops.specs.PlayedEvents.{IsPlayedEvent}
 use Rattle.bw_stops.proofs.PlayForms.{unsent, came}
 use Rattle.bw_stops.proofs.rehearsal.deliver_to.Goals as goal
 

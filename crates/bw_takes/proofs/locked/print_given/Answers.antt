@@ -1,5 +1,5 @@
 use Rattle.std.proofs.Common.{inl, inr, true, refl, sym, ◌∙◌, ap}
-use Rattle.bw_console.specs.Printing.{Nothing, Whole, Part}
+use Rattle.bw_console.specs.Prints.{Nothing, Whole, Part}
 use Rattle.bw_console.specs.declared.exit.Exit.TheVariants.{Device, Done}
 use Rattle.bw_takes.proofs.locked.print_given.Goals as goal
 

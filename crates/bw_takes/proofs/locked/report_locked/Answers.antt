@@ -1,5 +1,5 @@
 use Rattle.std.proofs.Common.{true, refl, sym}
-use Rattle.bw_console.specs.Printing.{Nothing, IsOf}
+use Rattle.bw_console.specs.Prints.{Nothing, IsOf}
 use Rattle.bw_console.specs.declared.exit.Exit.TheVariants.{Device}
 use Rattle.bw_takes.specs.GiveUpShowings.{running_text}
 use Rattle.bw_takes.proofs.EndLemmas.{is_out_of_memory, out_of_memory}

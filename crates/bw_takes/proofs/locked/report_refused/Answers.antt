@@ -1,5 +1,5 @@
 use Rattle.std.proofs.Common.{◌++◌, true, refl}
-use Rattle.bw_console.specs.Printing.{Nothing, IsOf}
+use Rattle.bw_console.specs.Prints.{Nothing, IsOf}
 use Rattle.bw_console.specs.declared.exit.Exit.TheVariants.{Refused}
 use Rattle.bw_takes.proofs.locked.report_refused.Goals as goal
 

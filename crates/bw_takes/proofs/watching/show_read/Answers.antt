@@ -1,5 +1,5 @@
 use Rattle.std.proofs.Common.{inl, inr, true, refl, sym}
-use Rattle.bw_console.specs.Printing.{Part}
+use Rattle.bw_console.specs.Prints.{Part}
 use Rattle.bw_console.specs.declared.exit.Exit.TheVariants.{Device}
 use Rattle.bw_takes.proofs.EndLemmas.{is_out_of_memory, out_of_memory}
 use Rattle.bw_takes.proofs.watching.show_read.Goals as goal

@@ -1,5 +1,5 @@
 use Rattle.std.proofs.Common.{Bool, ap, arith, refl, sym, ◌∙◌}
-use Rattle.bw_upload.specs.Filling.{is_done}
+use Rattle.bw_upload.specs.WindowFills.{is_done}
 use Rattle.bw_upload.specs.declared.outcome.Outcome.TheVariants.{Done, Limit}
 use Rattle.bw_upload.proofs.Lifting.{with_filling}
 use Rattle.bw_upload.proofs.LinkSteps.{links_none, links_unprepared, links_ready, links_stopped, links_more, links_over}

@@ -1,4 +1,4 @@
-use Rattle.bw_upload.specs.Filling.{Filling}
+use Rattle.bw_upload.specs.WindowFills.{Filling}
 use Rattle.bw_upload.specs.Supplies.{IsFilling}
 use Rattle.bw_upload.proofs.FillSteps.{FilledSoFar}
 use Rattle.bw_upload.proofs.supply.fill.Given as goal

@@ -1,5 +1,5 @@
 use Rattle.std.proofs.Common.{◌≡◌, true}
-use Rattle.bw_upload.specs.Conversing.{Conversing}
+use Rattle.bw_upload.specs.Conversations.{Conversing}
 use Rattle.bw_upload.specs.Turns.{IsTalking}
 use Rattle.bw_upload.proofs.TurnSteps.{OutSoFar}
 use Rattle.bw_upload.proofs.turn.hear_out.Given as goal

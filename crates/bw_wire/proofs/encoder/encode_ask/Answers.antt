@@ -2,7 +2,7 @@ use Rattle.std.proofs.Common.{◌≡◌, ℕ, ◌≤◌, List, length, ◌+◌, 
 use Rattle.std.proofs.Common.{subst}
 use Rattle.bw_model.specs.Bytes.{le32}
 use Rattle.bw_model.specs.Wire.{Second, last_number, Asks, addressed, is_name}
-use Rattle.bw_wire.specs.Encoded.{IsFrameOf}
+use Rattle.bw_wire.specs.EncodedFrames.{IsFrameOf}
 use Rattle.bw_wire.proofs.Encoding.{ask_frame}
 use Rattle.bw_wire.proofs.encoder.encode_ask.Goals as goal
 

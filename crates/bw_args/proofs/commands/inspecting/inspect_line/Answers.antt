@@ -1,6 +1,6 @@
 use Rattle.std.proofs.Common.{List, [], ◌∷◌, ◌∙◌, ◌||◌, Some, ap, sym, map, refl}
 use Rattle.clap.specs.Words.{Text, found_of}
-use Rattle.bw_args.specs.Inspecting.{is_alone, is_possible}
+use Rattle.bw_args.specs.InspectedFiles.{is_alone, is_possible}
 use Rattle.bw_args.specs.Lines.{Inspecting, InspectingFiles}
 use Rattle.bw_args.proofs.Asked.{clashing_line, inspection_asked, no_file_line, on_err, only_asked}
 use Rattle.bw_args.proofs.commands.inspecting.inspect_line.Goals as goal

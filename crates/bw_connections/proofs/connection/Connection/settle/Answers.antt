@@ -1,5 +1,5 @@
 use Rattle.std.proofs.Common.{rules, ap, refl, sym, subst, [], Err}
-use Rattle.bw_exchange.specs.Served.{ended_by}
+use Rattle.bw_exchange.specs.WholeExchanges.{ended_by}
 use Rattle.bw_connections.specs.Lives.{Proceeds}
 use Rattle.bw_connections.specs.declared.connection.ConnectionEnd.TheVariants.{Over}
 use Rattle.bw_connections.proofs.Going.{ended_served, ends_as, ends_well, over, still}

@@ -1,5 +1,5 @@
 use Rattle.std.proofs.Common.{◌≡◌, ap, refl, ◌∙◌, subst, sym, List, Some, None, [], ◌++◌}
-use Rattle.bw_exchange.specs.Answering.{Answered}
+use Rattle.bw_exchange.specs.AnsweredFrames.{Answered}
 use Rattle.bw_connections.specs.Lives.{IsConnectionOver, KeepsPeer, Lives}
 use Rattle.bw_connections.proofs.Going.{expires, woken}
 use Rattle.bw_connections.proofs.Standing.{adds_closed, adds_none, adds_on, keeps_free, not_some, sets_again, some_is}

@@ -1,6 +1,6 @@
 use Rattle.std.proofs.Common.{rules, ap, refl, subst, sym, ◌∙◌, Some, None, []}
 use Rattle.std.proofs.lemmas.Option.{slice_get_past}
-use Rattle.bw_connections.specs.Working.{Wakes}
+use Rattle.bw_connections.specs.Quanta.{Wakes}
 use Rattle.bw_connections.specs.Lives.{KeepsPeer}
 use Rattle.bw_connections.proofs.Going.{peer_same, woken}
 use Rattle.bw_connections.proofs.Standing.{adds_none, adds_on, keeps_free, not_some, sets_again, some_is}

@@ -1,5 +1,5 @@
 use Rattle.std.proofs.Common.{ap, arith, refl, subst, sym, ◌∙◌, List, Some, None, [], ◌++◌, ◌≡◌}
-use Rattle.bw_exchange.specs.Answering.{Answered}
+use Rattle.bw_exchange.specs.AnsweredFrames.{Answered}
 use Rattle.bw_connections.specs.declared.connection.Phase.TheVariants as phases
 use Rattle.bw_connections.specs.Lives.{EndsDrained, EndsServed, IsNoSilence, IsOpen, IsConnectionOver, KeepsPeer, Lives}
 use Rattle.bw_connections.proofs.Going.{finished_at, learns_at, let_go_at, moved_at, quiet_at}

@@ -2,7 +2,7 @@ use Rattle.std.proofs.Common.{rules, ap, ◌∙◌, sym, subst, [], ◌∷◌, �
 use Rattle.std.proofs.lemmas.List.{append-nil}
 use Rattle.bw_model.specs.Stream.{End}
 use Rattle.bw_wire.specs.Codecs.{message_codec}
-use Rattle.bw_wire.specs.Pending.{Nothing, next_of}
+use Rattle.bw_wire.specs.FramerStates.{Nothing, next_of}
 use Rattle.bw_wire.specs.Runs.{given_by}
 use Rattle.bw_exchange.specs.Bounds.{most_held}
 use Rattle.bw_exchange.specs.Ends.{end_so_far}

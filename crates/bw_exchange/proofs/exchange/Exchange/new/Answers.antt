@@ -1,6 +1,6 @@
 use Rattle.std.proofs.Common.{refl, ap, ◌∙◌, arith}
 use Rattle.bw_wire.specs.Codecs.{message_codec}
-use Rattle.bw_wire.specs.Pending.{Pending, next_of}
+use Rattle.bw_wire.specs.FramerStates.{Pending, next_of}
 use Rattle.bw_exchange.proofs.Staying.{fresh_nothing}
 use Rattle.bw_exchange.proofs.exchange.Exchange.new.Goals as goal
 

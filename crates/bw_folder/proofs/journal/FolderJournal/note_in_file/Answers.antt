@@ -9,7 +9,7 @@ use Rattle.bw_folder.specs.Folders.{take_path}
 use Rattle.bw_folder.specs.Journals.{journal_path}
 use Rattle.bw_folder.proofs.Appended.{written_notes, part_notes}
 use Rattle.bw_folder.proofs.JournalPaths.{paths_apart}
-use Rattle.bw_folder.specs.Syncing.{IsSyncedAt}
+use Rattle.bw_folder.specs.SyncOrders.{IsSyncedAt}
 use Rattle.bw_folder.proofs.JournalNames.{file_at}
 use Rattle.bw_folder.proofs.journal.FolderJournal.note_in_file.Given.{Over}
 use Rattle.bw_folder.proofs.journal.FolderJournal.note_in_file.Goals.{After-drop-take}

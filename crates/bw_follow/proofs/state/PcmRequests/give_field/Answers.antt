@@ -1,7 +1,7 @@
 use Rattle.std.proofs.Common.{◌∙◌, ap, sym, refl, ◌++◌, ◌∷◌}
 use Rattle.bw_model.specs.Take.{Request, SetField}
 use Rattle.bw_plan.specs.Progress.{next_step_of}
-use Rattle.bw_follow.specs.Following.{progress_of, requests_of_step}
+use Rattle.bw_follow.specs.ComingRequests.{progress_of, requests_of_step}
 use Rattle.bw_follow.specs.declared.state.PcmStep.TheVariants as steps
 use Rattle.bw_follow.proofs.FeedSteps.{copy_fault, field_first}
 use Rattle.bw_follow.proofs.state.PcmRequests.give_field.Goals as goal

@@ -1,7 +1,7 @@
 use Rattle.std.proofs.Common.{rules, ◌≡◌, ◌-◌, ◌<◌, ◌∙◌, ap, sym, arith, ℕ, [], ◌∷◌, length, refl}
 use Rattle.std.specs.Prelude.{◌%◌}
 use Rattle.bw_model.specs.Take.{Request, Close, block_align}
-use Rattle.bw_follow.specs.Following.{progress_of, sample_requests, size_of}
+use Rattle.bw_follow.specs.ComingRequests.{progress_of, sample_requests, size_of}
 use Rattle.bw_follow.specs.declared.state.PcmStep.TheVariants as steps
 use Rattle.bw_follow.proofs.FeedSteps.{copy_fault, block_left, block_by, given_of_read, next_of_read, none_left}
 use Rattle.bw_follow.proofs.SampleSteps.{held_block, rest_block, close_left, some_size}

@@ -2,7 +2,7 @@ use Rattle.std.proofs.Common.{◌≡◌, ◌∙◌, ap, sym, ℕ, List, ◌∷�
 use Rattle.bw_model.specs.Take.{Open}
 use Rattle.bw_plan.specs.Plans.{plan, field_requests}
 use Rattle.bw_plan.specs.Recordings.{Outline, block_frames}
-use Rattle.bw_follow.specs.Following.{sample_requests}
+use Rattle.bw_follow.specs.ComingRequests.{sample_requests}
 use Rattle.bw_follow.specs.Samples.{HeldSamples}
 use Rattle.bw_follow.proofs.PcmPlans.{outline_is, plan_is}
 use Rattle.bw_follow.proofs.state.PcmRequests.new.Goals as goal

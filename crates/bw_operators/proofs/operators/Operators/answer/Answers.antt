@@ -1,6 +1,6 @@
 use Rattle.std.proofs.Common.{◌∙◌, ◌≡◌, ◌<◌, arith, length, rules, vec_len, Some, ap, sym, subst}
 use Rattle.std.specs.Prelude.{slice_get}
-use Rattle.bw_operators.specs.Connected.{IsConnection}
+use Rattle.bw_operators.specs.OperatorConnections.{IsConnection}
 use Rattle.bw_operators.proofs.PlacedLemmas.{Asks, asked_within, asker, put, some_is, taken}
 use Rattle.bw_operators.proofs.operators.Operators.answer.Goals as goal
 

@@ -1,6 +1,6 @@
 use Rattle.std.proofs.Common.{◌≡◌, ◌<◌, ◌≤◌, ℕ, vec_len}
 use Rattle.std.specs.Prelude.{slice_get}
-use Rattle.bw_operators.specs.Placed.{AreConnections, StepsIn}
+use Rattle.bw_operators.specs.OperatorPlaces.{AreConnections, StepsIn}
 use Rattle.bw_operators.proofs.operators.Operators.work.Given as goal
 
 -- those that are left are connections, at as many places; those at the places below made a step, and

@@ -1,5 +1,5 @@
 use Rattle.std.proofs.Common.{Some, subst}
-use Rattle.bw_operators.specs.Connected.{IsConnection}
+use Rattle.bw_operators.specs.OperatorConnections.{IsConnection}
 use Rattle.bw_operators.proofs.PlacedLemmas.{put, some_is, steps_free, taken}
 use Rattle.bw_operators.proofs.operators.Operators.work_at.Goals as goal
 

@@ -1,7 +1,7 @@
 use Rattle.std.proofs.Common.{refl, ℕ, List, [], ◌∷◌, ◌∙◌, ap}
 use Rattle.bw_model.specs.Replies.{Reply, Noticed, Next}
 use Rattle.bw_model.specs.Book.{log_of}
-use Rattle.bw_rehearsal.specs.Rehearsing.{no_contents}
+use Rattle.bw_rehearsal.specs.RehearsedWorlds.{no_contents}
 use Rattle.bw_rehearsal.proofs.Staging.{replies_more}
 use Rattle.bw_rehearsal.proofs.Playing.{asked}
 use Rattle.bw_rehearsal.proofs.simulation.Simulation.ask.Goals as goal

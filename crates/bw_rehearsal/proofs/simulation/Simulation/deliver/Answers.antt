@@ -2,8 +2,8 @@ use Rattle.std.proofs.Common.{sym, ap, subst, refl, ◌∙◌, ◌++◌}
 use Rattle.std.specs.Prelude.{is_some}
 use Rattle.bw_model.specs.Wire.{Says}
 use Rattle.bw_model.proofs.Elements.{some_inj}
-use Rattle.bw_wire.specs.Encoded.{IsFrameOf}
-use Rattle.bw_rehearsal.specs.Rehearsing.{no_contents}
+use Rattle.bw_wire.specs.EncodedFrames.{IsFrameOf}
+use Rattle.bw_rehearsal.specs.RehearsedWorlds.{no_contents}
 use Rattle.bw_rehearsal.proofs.Staging.{on_err, found_at, missing_at, none_at, sent_at, replies_more}
 use Rattle.bw_rehearsal.proofs.Playing.{delivered, delivered_none}
 use Rattle.bw_rehearsal.proofs.simulation.Simulation.deliver.Goals as goal

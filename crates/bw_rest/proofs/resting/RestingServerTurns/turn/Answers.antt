@@ -4,7 +4,7 @@ use Rattle.bw_model.specs.Wire.{Says}
 use Rattle.bw_wire.specs.Frames.{message_of}
 use Rattle.bw_wire.specs.Replies.{reply_of}
 use Rattle.bw_rest.specs.declared.finding.Found.TheVariants as found
-use Rattle.bw_rest.specs.Resting.{IsWhere}
+use Rattle.bw_rest.specs.TurnsAtRest.{IsWhere}
 use Rattle.bw_rest.proofs.FoundForms.{Inside, known_turn, new_turn, put_off_turn, failed_turn}
 use Rattle.bw_rest.proofs.resting.RestingServerTurns.turn.Goals as goal
 

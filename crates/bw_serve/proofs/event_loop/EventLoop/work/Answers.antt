@@ -1,5 +1,5 @@
 use Rattle.std.proofs.Common.{◌∙◌, ap, fold, refl, subst, sym}
-use Rattle.bw_exchange.specs.Answering.{AnswersAll, answered_frames}
+use Rattle.bw_exchange.specs.AnsweredFrames.{AnswersAll, answered_frames}
 use Rattle.bw_connections.proofs.Standing.{sets_again, some_is}
 use Rattle.bw_exchange.specs.LinkCounts.{counting_frame}
 use Rattle.bw_exchange.proofs.LinkStatsLemmas.{all_by_server, all_counted}

@@ -1,5 +1,5 @@
 use Rattle.std.proofs.Common.{◌≡◌, ℕ}
-use Rattle.bw_operators.specs.Placed.{AreConnections}
+use Rattle.bw_operators.specs.OperatorPlaces.{AreConnections}
 use Rattle.bw_serve_status.specs.Looks.{AcceptsAt, moment_of}
 use Rattle.bw_serve_status.proofs.observer.StatusObserver.accept.Given as goal
 

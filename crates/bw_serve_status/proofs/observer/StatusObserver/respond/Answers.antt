@@ -1,6 +1,6 @@
 use Rattle.std.proofs.Common.{◌≡◌, ◌<◌, ◌∙◌, sym, subst, ap, inl, inr, arith, length, rules, vec_len}
 use Rattle.bw_operators.proofs.PlacedLemmas.{asked_within}
-use Rattle.bw_operators.specs.Placed.{AreConnections, LeavesOtherPlaces, RespondsAt, asked_at}
+use Rattle.bw_operators.specs.OperatorPlaces.{AreConnections, LeavesOtherPlaces, RespondsAt, asked_at}
 use Rattle.bw_serve_status.proofs.observer.StatusObserver.respond.Goals as goal
 
 pub returns-in-Ok-clause-responds : goal.returns-in-Ok-clause-responds

@@ -1,5 +1,5 @@
 use Rattle.std.proofs.Common.{◌∙◌, sym, subst, ap}
-use Rattle.bw_operators.specs.Placed.{AreConnections}
+use Rattle.bw_operators.specs.OperatorPlaces.{AreConnections}
 use Rattle.bw_serve_status.specs.Looks.{Moment}
 use Rattle.bw_serve_status.proofs.LookSteps.{responds_to_oldest}
 use Rattle.bw_serve_status.proofs.observer.StatusObserver.respond_to_oldest.Goals as goal

@@ -1,6 +1,6 @@
 use Rattle.std.proofs.Common.{◌≡◌, ◌∙◌, ℕ, sym, subst, ap, length, rules, vec_len}
-use Rattle.bw_operators.specs.Placed.{StepsAt}
-use Rattle.bw_serve_status.specs.Growing.{NotesGrowth}
+use Rattle.bw_operators.specs.OperatorPlaces.{StepsAt}
+use Rattle.bw_serve_status.specs.Growths.{NotesGrowth}
 use Rattle.bw_serve_status.specs.Looks.{AcceptsAt, Moment}
 use Rattle.bw_serve_status.proofs.LookSteps.{written_over}
 use Rattle.bw_serve_status.proofs.observer.StatusObserverRoundObserverTalliedServer.look.Goals as goal

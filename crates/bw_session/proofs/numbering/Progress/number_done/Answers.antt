@@ -5,12 +5,12 @@ use Rattle.bw_model.specs.Take.{Parts, Request, Verdict, AreFields}
 use Rattle.bw_request.specs.Requests.{meaning}
 use Rattle.bw_request.specs.Verdicts.{verdict_meaning}
 use Rattle.bw_session.specs.Prefixes.{HoldsPrefix}
-use Rattle.bw_session.specs.Numbered.{IsNext, IsDone, noted_of}
+use Rattle.bw_session.specs.NextNumbers.{IsNext, IsDone, noted_of}
 use Rattle.bw_journal.specs.Notes.{NotesInPart}
 use Rattle.bw_session.proofs.NumberForms.{done_again, done_next}
 use Rattle.bw_session.proofs.PlanForms.{nothing_left, carried_by, not_carried}
 use Rattle.bw_store.proofs.Asked.{gets_all}
-use Rattle.bw_session.specs.Carrying.{judged_plan, AsksJudged}
+use Rattle.bw_session.specs.Executions.{judged_plan, AsksJudged}
 use Rattle.bw_model.specs.Counts.{Counts}
 use Rattle.bw_store.specs.StoreSteps.{WasAsked, WasAskedFirst}
 use Rattle.bw_session.proofs.AskForms.{verdict_by, keeps_judged}

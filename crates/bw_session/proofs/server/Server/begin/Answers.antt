@@ -11,7 +11,7 @@ use Rattle.bw_model.specs.Book.{Log, no_log, log_of, is_known}
 use Rattle.bw_model.specs.Turn.{is_full, window, most_takes}
 use Rattle.bw_model.specs.CountedTurn.{book_reported}
 use Rattle.bw_model.proofs.BookLemmas.{unknown_log}
-use Rattle.bw_file.specs.Growing.{Growing}
+use Rattle.bw_file.specs.GrowingFiles.{Growing}
 use Rattle.bw_store.specs.Stores.{KeepsOthers}
 use Rattle.bw_wire.specs.Frames.{message_of}
 use Rattle.bw_wire.proofs.BodyLaws.{message_spelled}
@@ -19,10 +19,10 @@ use Rattle.bw_session.specs.Sessions.{CallsFew, HoldsLog, part_of}
 use Rattle.bw_wire.specs.Replies.{reply_of}
 use Rattle.bw_journal.specs.JournalHeaders.{header_bytes}
 use Rattle.bw_journal.specs.Notes.{IsPrefixOf}
-use Rattle.bw_session.specs.Noting.{IsNoted}
-use Rattle.bw_session.specs.Serving.{ServesMessage, log_after}
+use Rattle.bw_session.specs.NameNotes.{IsNoted}
+use Rattle.bw_session.specs.ServedMessages.{ServesMessage, log_after}
 use Rattle.bw_session.specs.Servers.{store_since, done_in}
-use Rattle.bw_session.specs.Numbered.{KeepsBoth, failed_calls}
+use Rattle.bw_session.specs.NextNumbers.{KeepsBoth, failed_calls}
 use Rattle.bw_session.specs.declared.session.Session.{Session}
 use Rattle.bw_session.specs.Books.{failures_of}
 use Rattle.bw_session.specs.Tables.{session_in}
@@ -31,7 +31,7 @@ use Rattle.bw_session.proofs.AnswerForms.{answers_served, answers_known, none_aw
 use Rattle.bw_session.proofs.RunForms.{noted_then}
 use Rattle.bw_session.proofs.JournalForms.{notes_after, order_after, reported_here, reported_others}
 use Rattle.bw_session.proofs.CountForms.{counted}
-use Rattle.bw_session.specs.Asking.{new_part}
+use Rattle.bw_session.specs.ConsecutiveCalls.{new_part}
 use Rattle.bw_session.proofs.AskForms.{asks_at}
 use Rattle.bw_session.proofs.OrderForms.{order_then}
 use Rattle.bw_session.proofs.OrderSteps.{quiet_ends}

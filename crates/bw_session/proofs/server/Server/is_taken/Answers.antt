@@ -1,7 +1,7 @@
 use Rattle.std.proofs.Common.{Bool, sym, subst}
 use Rattle.std.specs.Prelude.{is_some}
 use Rattle.bw_model.specs.Book.{log_of}
-use Rattle.bw_session.specs.Listing.{KnowsTaken}
+use Rattle.bw_session.specs.KnownNames.{KnowsTaken}
 use Rattle.bw_session.specs.Servers.{store_since}
 use Rattle.bw_session.specs.Tables.{session_in}
 use Rattle.bw_session.proofs.ListingForms.{taken_known, taken_unknown}

@@ -1,6 +1,6 @@
 use Rattle.std.proofs.Common.{sym, ◌∙◌, ap, ◌++◌}
 use Rattle.std.proofs.lemmas.List.{append-nil}
-use Rattle.bw_session.specs.Listing.{is_known_in}
+use Rattle.bw_session.specs.KnownNames.{is_known_in}
 use Rattle.bw_session.proofs.ListingForms.{book_listed, keys_listed}
 use Rattle.bw_session.proofs.server.Server.known_names.Goals as goal
 

@@ -6,13 +6,13 @@ use Rattle.bw_model.specs.Turn.{is_turned_away, notice, window}
 use Rattle.bw_model.specs.Book.{Book}
 use Rattle.bw_model.specs.CountedTurn.{IsTurn}
 use Rattle.bw_session.specs.Books.{failures_of}
-use Rattle.bw_session.specs.Numbered.{failed_calls}
+use Rattle.bw_session.specs.NextNumbers.{failed_calls}
 use Rattle.bw_wire.specs.declared.reply.Reply.{Reply}
 use Rattle.bw_wire.specs.declared.reply.Reply.TheVariants.{Notice}
 use Rattle.bw_wire.specs.Frames.{message_of}
 use Rattle.bw_wire.specs.Notices.{notice_meaning}
 use Rattle.bw_wire.specs.Replies.{reply_of}
-use Rattle.bw_session.specs.Journaled.{NotesNames}
+use Rattle.bw_session.specs.NotedNames.{NotesNames}
 use Rattle.bw_session.specs.Servers.{HoldsIn, store_since, done_in}
 use Rattle.bw_session.specs.Tables.{session_in}
 use Rattle.bw_session.proofs.AnswerForms.{served_here}

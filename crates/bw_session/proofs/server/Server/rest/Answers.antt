@@ -1,5 +1,5 @@
 use Rattle.std.proofs.Common.{rules, ◌≡◌, IsTrue, sym, ◌∙◌, subst}
-use Rattle.bw_journal.specs.Resting.{journals, PutsToRest}
+use Rattle.bw_journal.specs.JournalsAtRest.{journals, PutsToRest}
 use Rattle.bw_session.proofs.RestBooks.{rests_now}
 use Rattle.bw_session.proofs.RestTables.{table_less, put_if}
 use Rattle.bw_session.proofs.server.Server.rest.Goals as goal

@@ -9,17 +9,17 @@ use Rattle.bw_model.specs.Wire.{Message}
 use Rattle.bw_model.specs.Book.{log_of, is_known}
 use Rattle.bw_model.specs.Turn.{is_full, most_takes, window}
 use Rattle.bw_model.specs.CountedTurn.{book_reported}
-use Rattle.bw_file.specs.Growing.{Growing}
+use Rattle.bw_file.specs.GrowingFiles.{Growing}
 use Rattle.bw_store.specs.Stores.{KeepsOthers}
 use Rattle.bw_wire.specs.Frames.{message_of}
 use Rattle.bw_wire.proofs.BodyLaws.{message_spelled}
-use Rattle.bw_session.specs.Numbered.{KeepsBoth, failed_calls}
+use Rattle.bw_session.specs.NextNumbers.{KeepsBoth, failed_calls}
 use Rattle.bw_session.specs.Sessions.{CallsFew, HoldsLog, part_of}
 use Rattle.bw_wire.specs.Replies.{reply_of}
-use Rattle.bw_session.specs.Serving.{Answers, log_reported}
+use Rattle.bw_session.specs.ServedMessages.{Answers, log_reported}
 use Rattle.bw_session.specs.Servers.{HoldsIn, kept_in, store_since, done_in}
 use Rattle.bw_session.specs.Books.{failures_of}
-use Rattle.bw_session.specs.Journaled.{NotesNames}
+use Rattle.bw_session.specs.NotedNames.{NotesNames}
 use Rattle.bw_session.specs.Tables.{session_in}
 use Rattle.bw_session.specs.declared.session.Session.{Session}
 use Rattle.bw_session.proofs.AnswerForms.{answers_full}
@@ -28,7 +28,7 @@ use Rattle.bw_session.proofs.JournalForms.{OrderIn, notes_after, order_after, re
 use Rattle.bw_session.proofs.ServerForms.{table_set, book_turned, known_here, part_here, put_here}
 use Rattle.bw_session.proofs.AdmitForms.{no_false}
 use Rattle.bw_session.proofs.UseForms.{same_kept, kept_put}
-use Rattle.bw_session.specs.Asking.{AsksInTurn, new_part}
+use Rattle.bw_session.specs.ConsecutiveCalls.{AsksInTurn, new_part}
 use Rattle.bw_session.specs.Servers.{part_in}
 use Rattle.bw_session.proofs.AskForms.{asks_at}
 use Rattle.bw_session.proofs.OrderForms.{order_then}

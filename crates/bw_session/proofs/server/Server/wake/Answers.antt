@@ -2,7 +2,7 @@ use Rattle.std.proofs.Common.{rules, ◌≡◌, ◌<◌, ◌∙◌, IsTrue, List
 use Rattle.std.specs.HashMap.{spare}
 use Rattle.std.specs.Str.{bytes_eq}
 use Rattle.bw_model.specs.Book.{Log}
-use Rattle.bw_journal.specs.Resting.{journals}
+use Rattle.bw_journal.specs.JournalsAtRest.{journals}
 use Rattle.bw_session.specs.RestFaults.{is_fit_to_wake, may_wake}
 use Rattle.bw_session.specs.RestingNames.{IsAtRest, IsMadeFrom, journals_of}
 use Rattle.bw_session.specs.Tables.{session_in}

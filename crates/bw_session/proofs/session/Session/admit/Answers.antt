@@ -5,11 +5,11 @@ use Rattle.bw_model.specs.Bytes.{at}
 use Rattle.bw_model.specs.Take.{Verdict}
 use Rattle.bw_model.specs.Wire.{Message, Second, last_number}
 use Rattle.bw_wire.specs.Frames.{message_of}
-use Rattle.bw_file.specs.Growing.{Growing}
+use Rattle.bw_file.specs.GrowingFiles.{Growing}
 use Rattle.bw_wire.proofs.BodyLaws.{message_spelled}
-use Rattle.bw_session.specs.Noting.{IsNoted}
-use Rattle.bw_session.specs.Draining.{Fits, HoldsPart}
-use Rattle.bw_session.specs.Admitting.{with_message}
+use Rattle.bw_session.specs.NameNotes.{IsNoted}
+use Rattle.bw_session.specs.Drains.{Fits, HoldsPart}
+use Rattle.bw_session.specs.AdmittedMessages.{with_message}
 use Rattle.bw_session.proofs.Slots.{copied-some}
 use Rattle.bw_session.proofs.AdmitForms.{count_room, none_of, no_false, fits_held, outside_not_new, free_new}
 use Rattle.bw_session.proofs.AdmitForms.{said_request, part_same, part_put, notes_same, notes_put}

@@ -3,22 +3,22 @@ use Rattle.std.specs.Prelude.{is_err}
 use Rattle.std.proofs.Common.{rules, ◌≡◌, ◌+◌, Result, length, refl, sym, ◌∙◌, ap, subst, arith}
 use Rattle.bw_model.specs.Wire.{Message}
 use Rattle.bw_request.specs.declared.verdict.Verdict.{Verdict}
-use Rattle.bw_file.specs.Growing.{Growing}
+use Rattle.bw_file.specs.GrowingFiles.{Growing}
 use Rattle.bw_store.specs.declared.store.StoreFault.{StoreFault}
 use Rattle.bw_wire.specs.Frames.{message_of}
-use Rattle.bw_session.specs.Admitting.{with_message}
-use Rattle.bw_session.specs.Numbered.{KeepsBoth}
-use Rattle.bw_session.specs.Draining.{DrainsNext, drained_by, drained_log, drained_count}
-use Rattle.bw_session.specs.Noting.{IsNoted}
+use Rattle.bw_session.specs.AdmittedMessages.{with_message}
+use Rattle.bw_session.specs.NextNumbers.{KeepsBoth}
+use Rattle.bw_session.specs.Drains.{DrainsNext, drained_by, drained_log, drained_count}
+use Rattle.bw_session.specs.NameNotes.{IsNoted}
 use Rattle.bw_session.specs.Sessions.{part_of}
 use Rattle.bw_session.specs.Runs.{with_more_done}
 use Rattle.bw_session.proofs.RunForms.{both_then, noted_then}
 use Rattle.bw_session.proofs.PromiseForms.{run_since, runs_from_none}
 use Rattle.bw_session.proofs.ServeForms.{starts, starts_done, stops_at_once, ends_under, noted_start, noted_one}
 use Rattle.std.proofs.Common.{List, Option, ℕ}
-use Rattle.bw_session.specs.Asking.{AsksNext, holding}
+use Rattle.bw_session.specs.ConsecutiveCalls.{AsksNext, holding}
 use Rattle.bw_session.proofs.AskForms.{run_after, run_tried, part_kept, run_from_one}
-use Rattle.bw_session.specs.Ordering.{FileComesFirst, NextIsCarriedOut}
+use Rattle.bw_session.specs.WriteOrders.{FileComesFirst, NextIsCarriedOut}
 use Rattle.bw_session.proofs.OrderForms.{order_as, order_then}
 use Rattle.bw_session.proofs.OrderSteps.{holding_carried}
 use Rattle.bw_session.proofs.session.Session.admit_and_drain.Goals as goal

@@ -5,13 +5,13 @@ use Rattle.bw_model.specs.Turn.{notice, is_turned_away}
 use Rattle.bw_wire.specs.Frames.{message_of}
 use Rattle.bw_wire.specs.Replies.{reply_of}
 use Rattle.bw_wire.specs.declared.reply.Reply.{Reply}
-use Rattle.bw_session.specs.Numbered.{failed_calls}
+use Rattle.bw_session.specs.NextNumbers.{failed_calls}
 use Rattle.bw_session.specs.Sessions.{part_of}
-use Rattle.bw_session.specs.Noting.{IsNoted}
-use Rattle.bw_session.specs.Serving.{Answers, log_after}
+use Rattle.bw_session.specs.NameNotes.{IsNoted}
+use Rattle.bw_session.specs.ServedMessages.{Answers, log_after}
 use Rattle.bw_session.proofs.AnswerForms.{answers_served, answers_refused, same_part, served_here, none_away}
 use Rattle.bw_session.proofs.UseForms.{timely_push, timely_notice}
-use Rattle.bw_session.specs.Ordering.{FileComesFirst, NextIsCarriedOut}
+use Rattle.bw_session.specs.WriteOrders.{FileComesFirst, NextIsCarriedOut}
 use Rattle.bw_session.proofs.AskForms.{part_kept}
 use Rattle.bw_session.proofs.OrderForms.{order_as}
 use Rattle.bw_session.proofs.session.Session.answer.Goals as goal

@@ -7,29 +7,29 @@ use Rattle.bw_model.specs.Take.{Verdict}
 use Rattle.bw_model.specs.Wire.{Message, message_body}
 use Rattle.bw_request.specs.Requests.{meaning}
 use Rattle.bw_request.specs.Verdicts.{verdict_meaning}
-use Rattle.bw_file.specs.Growing.{Growing}
+use Rattle.bw_file.specs.GrowingFiles.{Growing}
 use Rattle.bw_wire.specs.Bodies.{message_in}
 use Rattle.bw_wire.specs.Frames.{message_of}
 use Rattle.bw_wire.proofs.BodyLaws.{message_spelled}
 use Rattle.bw_session.specs.Windows.{count_held}
 use Rattle.bw_session.specs.Ledgers.{Entries}
-use Rattle.bw_session.specs.Carrying.{Touches, StopsBeforeDone, judged_plan}
-use Rattle.bw_session.specs.Judging.{judged_in, KeepsJudged}
+use Rattle.bw_session.specs.Executions.{Touches, StopsBeforeDone, judged_plan}
+use Rattle.bw_session.specs.JudgedParts.{judged_in, KeepsJudged}
 use Rattle.bw_store.specs.StoreSteps.{WasAsked, WasAskedFirst}
-use Rattle.bw_session.specs.Noting.{IsNoted}
-use Rattle.bw_session.specs.Admitting.{with_message}
-use Rattle.bw_session.specs.Draining.{HoldsPart}
-use Rattle.bw_session.specs.Numbered.{with_done}
+use Rattle.bw_session.specs.NameNotes.{IsNoted}
+use Rattle.bw_session.specs.AdmittedMessages.{with_message}
+use Rattle.bw_session.specs.Drains.{HoldsPart}
+use Rattle.bw_session.specs.NextNumbers.{with_done}
 use Rattle.bw_session.proofs.AdmitForms.{at-set_same, count_room, said_number, notes_put}
 use Rattle.bw_session.proofs.DrainForms.{part_waits, part_done}
 use Rattle.bw_session.proofs.NextForms.{fits_passed, fits_waiting, passed_slot, held_at, next_prefix}
 use Rattle.bw_session.proofs.RunForms.{noted_then}
 use Rattle.bw_session.specs.Sessions.{part_of}
 use Rattle.bw_session.specs.KeptParts.{Part}
-use Rattle.bw_session.specs.Asking.{DoesFirst, TriesFirst}
+use Rattle.bw_session.specs.ConsecutiveCalls.{DoesFirst, TriesFirst}
 use Rattle.bw_session.proofs.AskForms.{does_first, tries_first, window_next}
-use Rattle.bw_session.specs.Numbered.{KeepsBoth}
-use Rattle.bw_session.specs.Ordering.{FileComesFirst, IsCarriedOut}
+use Rattle.bw_session.specs.NextNumbers.{KeepsBoth}
+use Rattle.bw_session.specs.WriteOrders.{FileComesFirst, IsCarriedOut}
 use Rattle.bw_session.proofs.OrderForms.{order_as, order_then}
 use Rattle.bw_session.proofs.OrderSteps.{next_carried, none_carried}
 use Rattle.bw_model.specs.Bytes.{at}

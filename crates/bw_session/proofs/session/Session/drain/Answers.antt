@@ -3,10 +3,10 @@ use Rattle.std.specs.List.{All}
 use Rattle.std.proofs.lemmas.List.{length_push}
 use Rattle.std.proofs.lemmas.List.Elements.{All-append, All-push}
 use Rattle.bw_model.specs.Wire.{Second, last_number}
-use Rattle.bw_file.specs.Growing.{Growing}
-use Rattle.bw_session.specs.Reporting.{IsServing, IsTimely}
-use Rattle.bw_session.specs.Noting.{IsNoted}
-use Rattle.bw_session.specs.Numbered.{with_done}
+use Rattle.bw_file.specs.GrowingFiles.{Growing}
+use Rattle.bw_session.specs.ServedReplies.{IsServing, IsTimely}
+use Rattle.bw_session.specs.NameNotes.{IsNoted}
+use Rattle.bw_session.specs.NextNumbers.{with_done}
 use Rattle.bw_session.specs.Sessions.{part_of}
 use Rattle.bw_session.specs.Runs.{with_more_done}
 use Rattle.bw_session.proofs.RunForms.{both_then, holds_under, noted_then, drained_push}

@@ -1,11 +1,11 @@
 use Rattle.std.proofs.Common.{◌≡◌, ℕ, ◌+◌, List, Option, length, IsTrue, is_some, false}
 use Rattle.std.specs.List.{All}
 use Rattle.bw_model.specs.Book.{Log}
-use Rattle.bw_session.specs.Numbered.{KeepsBoth}
-use Rattle.bw_session.specs.Asking.{DoesConsecutively}
-use Rattle.bw_session.specs.Noting.{IsNoted}
-use Rattle.bw_session.specs.Ordering.{FileComesFirst, NextIsCarriedOut}
-use Rattle.bw_session.specs.Reporting.{IsServing, IsTimely}
+use Rattle.bw_session.specs.NextNumbers.{KeepsBoth}
+use Rattle.bw_session.specs.ConsecutiveCalls.{DoesConsecutively}
+use Rattle.bw_session.specs.NameNotes.{IsNoted}
+use Rattle.bw_session.specs.WriteOrders.{FileComesFirst, NextIsCarriedOut}
+use Rattle.bw_session.specs.ServedReplies.{IsServing, IsTimely}
 use Rattle.bw_session.specs.Sessions.{CallsFew, KeepsTake, part_of}
 use Rattle.bw_session.specs.Runs.{with_more_done, HasDrained}
 use Rattle.bw_session.proofs.session.Session.drain.Given as goal

@@ -3,12 +3,12 @@ use Rattle.std.proofs.lemmas.Result.{IfOk-weaker}
 use Rattle.std.specs.Prelude.{is_some}
 use Rattle.bw_session.proofs.NewForms.{no_log_done, new_done, nothing_made, new_notes}
 use Rattle.bw_session.specs.declared.numbering.Progress.{Progress}
-use Rattle.bw_session.specs.Noting.{IsNoted}
+use Rattle.bw_session.specs.NameNotes.{IsNoted}
 use Rattle.bw_model.specs.Book.{no_log}
 use Rattle.std.proofs.Common.{rules, ◌≡◌, ◌∙◌, ℕ, List, [], false, None, Option}
 use Rattle.std.specs.Prelude.{replicate}
 use Rattle.bw_model.specs.Take.{Parts, Verdict, new_take, parts}
-use Rattle.bw_file.specs.Growing.{Growing, clean_file}
+use Rattle.bw_file.specs.GrowingFiles.{Growing, clean_file}
 use Rattle.bw_session.specs.KeptParts.{part}
 use Rattle.bw_session.proofs.AskForms.{if_both}
 use Rattle.bw_session.proofs.session.Session.new.Goals as goal

@@ -1,6 +1,6 @@
 use Rattle.std.proofs.Common.{List, ℕ, sym, subst}
 use Rattle.std.specs.Prelude.{is_some}
-use Rattle.bw_session.specs.Keeping.{KeepsDone}
+use Rattle.bw_session.specs.DoneNumbers.{KeepsDone}
 use Rattle.bw_session.proofs.NewForms.{resumed_part}
 use Rattle.bw_session.proofs.session.Session.resume.Goals as goal
 

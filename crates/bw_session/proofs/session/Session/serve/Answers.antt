@@ -5,20 +5,20 @@ use Rattle.bw_model.specs.Wire.{Message}
 use Rattle.bw_model.specs.Book.{run_end}
 use Rattle.bw_model.specs.Replies as model
 use Rattle.bw_model.specs.Turn.{admitted_after, own_reply}
-use Rattle.bw_file.specs.Growing.{Growing}
+use Rattle.bw_file.specs.GrowingFiles.{Growing}
 use Rattle.bw_wire.specs.Frames.{message_of}
-use Rattle.bw_session.specs.Admitting.{with_message}
-use Rattle.bw_session.specs.Noting.{IsNoted}
+use Rattle.bw_session.specs.AdmittedMessages.{with_message}
+use Rattle.bw_session.specs.NameNotes.{IsNoted}
 use Rattle.bw_session.specs.Sessions.{part_of}
-use Rattle.bw_session.specs.Serving.{log_after}
-use Rattle.bw_session.specs.Reporting.{IsTimely}
+use Rattle.bw_session.specs.ServedMessages.{log_after}
+use Rattle.bw_session.specs.ServedReplies.{IsTimely}
 use Rattle.bw_session.proofs.AdmitForms.{outside_not_new, part_same, notes_same}
 use Rattle.bw_session.proofs.ReplyForms.{own_far}
 use Rattle.bw_session.proofs.ServeForms.{starts, serves, noted_start}
 use Rattle.bw_session.proofs.UseForms.{all_none, timely_any, timely_notice, timely_push}
 use Rattle.std.proofs.Common.{inl}
 use Rattle.bw_session.specs.KeptParts.{Part}
-use Rattle.bw_session.specs.Asking.{DoesRun}
+use Rattle.bw_session.specs.ConsecutiveCalls.{DoesRun}
 use Rattle.bw_session.proofs.AskForms.{holding_far, run_from_none}
 use Rattle.bw_session.proofs.session.Session.serve.Goals as goal
 

@@ -7,7 +7,7 @@ use Rattle.bw_wire.specs.Codecs.{message_codec}
 use Rattle.bw_wire.specs.Framings.{body_at_prefix}
 use Rattle.bw_wire.specs.FramePrefixes.{IsMessagePrefix, IsAskPrefix, IsByePrefix}
 use Rattle.bw_wire.specs.Held.{longest_rest}
-use Rattle.bw_wire.specs.Pending.{Gives}
+use Rattle.bw_wire.specs.FramerStates.{Gives}
 use Rattle.bw_wire.specs.Reasons.{reason_meaning}
 use Rattle.bw_wire.proofs.FramerSteps.{left_steps, failed_steps, partial_steps, bad_steps, last_steps, value_steps}
 use Rattle.bw_wire.proofs.FramerSteps.{lent_body, lent_digest}
