@@ -1,4 +1,4 @@
-# Completes the command line of bwingest in bash. tools/check_help holds it to what --help lists.
+# Completes the command line of bwingest in bash. tests/test_help.py holds it to what --help lists.
 
 _bwingest() {
     local word=${COMP_WORDS[COMP_CWORD]} last=${COMP_WORDS[COMP_CWORD - 1]} options=

@@ -116,7 +116,7 @@ fn two_bytes(alloc: Global) -> Result<Vec<u8>, AllocError> {
     }
 }
 
-/// Run once more with each growth refused, by `tools/refuse_calls --tests`.
+/// Run once more with each growth refused, by `tests/test_refused_calls.py --tests`.
 #[test]
 fn a_header_that_has_no_room_leaves_what_was_there(rt: HostRuntime) -> Result<(), Fail> {
     let fmt = Fmt::new(48_000, 1, 16).ok_or("a format")?;

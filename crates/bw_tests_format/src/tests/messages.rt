@@ -30,7 +30,7 @@ fn a_long_piece_is_fed_where_memory_is_ample(rt: HostRuntime) -> Result<(), Fail
     Ok(())
 }
 
-/// Run once more with each growth refused, by `tools/refuse_calls --tests`.
+/// Run once more with each growth refused, by `tests/test_refused_calls.py --tests`.
 #[test]
 fn a_refused_piece_may_be_fed_again(rt: HostRuntime) -> Result<(), Fail> {
     let mut framer = Framer::new(rt.alloc());
@@ -50,7 +50,7 @@ fn a_refused_piece_may_be_fed_again(rt: HostRuntime) -> Result<(), Fail> {
     Ok(())
 }
 
-/// Run once more with each growth refused, by `tools/refuse_calls --tests`.
+/// Run once more with each growth refused, by `tests/test_refused_calls.py --tests`.
 #[test]
 fn a_frame_that_memory_is_refused_for_may_be_made_again(rt: HostRuntime) -> Result<(), Fail> {
     let a1 = Name::new(b"a1").ok_or("a name")?;

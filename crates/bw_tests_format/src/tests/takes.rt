@@ -254,7 +254,7 @@ fn reserve(rt: &impl Abort, state: &mut TakeState, requests: usize) -> Result<()
     Ok(())
 }
 
-/// Run once more with each growth refused, by `tools/refuse_calls --tests`.
+/// Run once more with each growth refused, by `tests/test_refused_calls.py --tests`.
 #[test]
 fn a_refused_growth_leaves_the_take(rt: HostRuntime) -> Result<(), Fail> {
     let mut state = TakeState::new(rt.alloc());

@@ -9,7 +9,7 @@ use std::test::Fail;
 
 const BOTH: &[Visit] = &[QUICK, QUICK_OTHER];
 
-/// Run once more with each growth refused, by `tools/refuse_calls --tests`.
+/// Run once more with each growth refused, by `tests/test_refused_calls.py --tests`.
 #[test]
 fn what_was_reported_stands_where_a_growth_is_refused(rt: HostRuntime) -> Result<(), Fail> {
     let plan = Plan::over(BOTH, 10, 100);

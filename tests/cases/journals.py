@@ -1,0 +1,221 @@
+"""Servers that keep journals, and the calls that they should make on them.
+
+Headers and entries are worked out from docs/FORMATS.md, with Python's SHA-256.
+"""
+import errno
+import hashlib
+
+from kit.takes import BLOCK as BLOCK_KIND, DELAYED_STORE, LARGEST_LIMIT, little, message, notice, STORED, verdict
+from kit.watched import accepted_in_turn, BLOCK, CLOSE, CLOSE_EMPTY, CLOSE_MARKED, IN_TURN, LISTED, MARK, OPEN
+from kit.watched import Watched
+from kit.watcher import Fault
+from kit.worked import EMPTY, SMALL
+
+NOT_OPEN = 3
+MISSING = f"fails {errno.ENOENT}"
+FOLDER_SYNCED = ["open FOLDER to-read", "sync takes"]
+
+
+def digest(content):
+    return hashlib.sha256(content).digest()
+
+
+def sealed(content):
+    return little(len(content), 2) + little(65_535 - len(content), 2) + content + digest(content)[:8]
+
+
+def header(name):
+    """The header of the journal of a name that is new."""
+    return sealed(b"BWJ1" + little(LARGEST_LIMIT, 4) + bytes(1) + digest(name.encode())[:8])
+
+
+def entry(name, number, request, code=STORED):
+    """The entry of a number with this verdict."""
+    noted = request[:1] + little(len(request) - 1, 4) if request[0] == BLOCK_KIND else request
+    return sealed(bytes([code]) + digest(message(name, number, request)[4:]) + noted)
+
+
+def opened(path, *how):
+    return " ".join([f"open FOLDER/{path} to-read-and-write", *how])
+
+
+def looked_up(name):
+    """The calls before a name's journal is made."""
+    return [opened(f"{name}.wav", MISSING), opened(f"{name}.journal", MISSING), opened(f"{name}.journal", "create new")]
+
+
+def begun(name):
+    """The calls that write the header of an empty journal."""
+    read = [f"seek {name}.journal 0", f"read {name}.journal "]
+    return [*read, f"seek {name}.journal 0", f"write {name}.journal {header(name).hex()}"]
+
+
+def synced_before(names):
+    """The calls that sync what an earlier server left of these names."""
+    listed = ["open FOLDER/ to-read", "list takes", "list takes"]
+    files = [f"{name}.{ending}" for name in names for ending in ("wav", "journal")]
+    return [*listed, *(call for file in files for call in (opened(file), f"sync-data {file}")), *FOLDER_SYNCED]
+
+
+class Journaled(Watched):
+    """A server with journals, and with syncs if `--sync` is among the options; of these names it finds takes."""
+
+    def __init__(self, folder, *options, faults=(), found=(), resuming=()):
+        locked = ["open FOLDER/.bwingest-lock to-write create", "lock .bwingest-lock"]
+        synced = synced_before(found) if "--sync" in options else []
+        super().__init__(
+            folder,
+            *("--exchanges", "1", *IN_TURN, "--journal", *options),
+            faults=faults,
+            opening=[f"resumed {len(found)} takes"],
+            starting=[*locked, *synced, *LISTED, *resuming],
+        )
+        self.is_synced = "--sync" in options
+        self.noted = {}  # bytes in the journal of a name
+        self.made = set()  # names whose files are made
+        self.listed = {}  # names with a synced entry in the folder, and whether their files have one too
+
+    def note_calls(self, name, content):
+        """The calls that note this."""
+        place = self.noted.setdefault(name, len(header(name)))
+        calls = [f"seek {name}.journal {place}", f"write {name}.journal {content.hex()}"]
+        if not self.is_synced:
+            return calls
+        take = opened(f"{name}.wav", *[MISSING] * (name not in self.made))
+        samples = [f"sync-data {name}.wav"] * (name in self.made)
+        return [take, *samples, *calls, f"sync-data {name}.journal", *self.folder_calls(name)]
+
+    def folder_calls(self, name):
+        """The folder is synced if the journal or the take's file is new in it."""
+        has_take = name in self.made
+        is_new = name not in self.listed or has_take and not self.listed[name]
+        self.listed[name] = has_take
+        return FOLDER_SYNCED * is_new
+
+    def asks(self, peer, name, request, code=STORED, before=None):
+        number = self.numbers[name]
+        self.numbers[name] += 1
+        content = bytes.fromhex(request[0])
+        if before is None:
+            before = [*looked_up(name), *begun(name)] if number == 0 else []
+        file_calls = request[1](name) if code == STORED else []
+        self.made |= {name} if request is OPEN and code == STORED else set()
+        noted = entry(name, number, content, code)
+        calls = [*before, *file_calls, *self.note_calls(name, noted)]
+        self.noted[name] += len(noted)
+        self.says(peer, message(name, number, content), calls, verdict(name, number, code))
+
+    def is_delayed(self, peer, name, request, calls):
+        """The next number of a name gets no verdict, and between request and notice these calls are made."""
+        number = self.numbers[name]
+        said = message(name, number, bytes.fromhex(request[0]))
+        self.says(peer, said, calls, notice(name, number, DELAYED_STORE, number))
+
+
+def takes_of_two(it):
+    """Two takes at once, of which one is refused before its OPEN."""
+    peer = it.comes(accepted_in_turn(7))
+    it.asks(peer, "a1", OPEN)
+    it.asks(peer, "b2", MARK, NOT_OPEN)
+    for name, request in (("a1", BLOCK), ("b2", OPEN), ("a1", MARK), ("b2", CLOSE_EMPTY), ("a1", CLOSE_MARKED)):
+        it.asks(peer, name, request)
+    it.goes(peer, 0)
+
+
+def case_noted(folder):
+    """Each number is noted after its file was written and before its reply, and nothing but a closed file is synced."""
+    it = Journaled(folder)
+    takes_of_two(it)
+    it.ends("notes", [0])
+
+
+def case_noted_and_synced(folder):
+    """The take's file is synced, the number noted, and the journal synced, and the folder where a file is new in it."""
+    it = Journaled(folder, "--sync")
+    takes_of_two(it)
+    it.ends("notes and syncs", [0])
+
+
+def case_noted_again(folder):
+    """A header or an entry that can't be written is written again at its place, and the file of its request isn't."""
+    it = Journaled(folder, faults=[Fault("write a1.journal"), Fault("write a1.journal 26")])
+    peer = it.comes(accepted_in_turn(7))
+    first = [*looked_up("a1"), *begun("a1")]
+    it.is_delayed(peer, "a1", OPEN, [*first[:-1], f"{first[-1]} fails {errno.EIO}"])
+    it.asks(peer, "a1", OPEN, before=begun("a1"))
+    content = entry("a1", 1, bytes.fromhex(BLOCK[0]))
+    seek, write = it.note_calls("a1", content)
+    it.is_delayed(peer, "a1", BLOCK, [*BLOCK[1]("a1"), seek, f"{write} fails {errno.EIO}"])
+    it.asks(peer, "a1", (BLOCK[0], lambda name: []))
+    it.asks(peer, "a1", CLOSE)
+    it.goes(peer, 0)
+    it.ends("failed notes", [0])
+
+
+def case_stopped(folder):
+    """After a failed sync a name has no note more, and another name has."""
+    it = Journaled(folder, "--sync", faults=[Fault("sync-data a1.journal")])
+    peer = it.comes(accepted_in_turn(7))
+    it.made.add("a1")
+    calls = it.note_calls("a1", entry("a1", 0, bytes.fromhex(OPEN[0])))
+    until = calls.index("sync-data a1.journal")
+    before = [*looked_up("a1"), *begun("a1"), *OPEN[1]("a1")]
+    it.is_delayed(peer, "a1", OPEN, [*before, *calls[:until], f"sync-data a1.journal fails {errno.EIO}"])
+    again = ["seek a1.journal 0", f"read a1.journal {header('a1').hex()}"]
+    it.is_delayed(peer, "a1", OPEN, again)
+    it.asks(peer, "b2", OPEN)
+    it.goes(peer, 0)
+    it.ends("a failed sync", [0])
+
+
+def goes_on(folder, what, *options):
+    """A journal's torn end is cut, and its take goes on; the file is as it should be, so nothing of it is written."""
+    takes = folder / "takes"
+    takes.mkdir()
+    noted = header("a1") + entry("a1", 0, bytes.fromhex(OPEN[0])) + entry("a1", 1, bytes.fromhex(BLOCK[0]))
+    content = noted + entry("a1", 2, bytes.fromhex(CLOSE[0]))[:20]
+    (takes / "a1.journal").write_bytes(content)
+    (takes / "a1.wav").write_bytes(bytes.fromhex(SMALL))
+    seen = [opened("a1.journal"), "stat a1.journal", "seek a1.journal 0", f"read a1.journal {content.hex()}"]
+    front = [opened("a1.wav"), "stat a1.wav", "seek a1.wav 0", f"read a1.wav {SMALL[: 2 * 690]}"]
+    cut = [opened("a1.journal"), "stat a1.journal", "truncate a1.journal"]
+    kept = [opened("a1.wav"), opened("a1.journal"), opened("a1.wav")]
+    resuming = [*seen, *front, "seek a1.wav 694", "read a1.wav ", *cut, *kept]
+    it = Journaled(folder, *options, found=["a1"], resuming=resuming)
+    it.numbers["a1"], it.noted["a1"] = 2, len(noted)
+    it.made.add("a1")
+    peer = it.comes(accepted_in_turn(7))
+    it.asks(peer, "a1", CLOSE)
+    it.goes(peer, 0)
+    it.ends(what, [0])
+
+
+def case_resumed(folder):
+    goes_on(folder, "a resumed take")
+
+
+def case_resumed_and_synced(folder):
+    """With syncs what was left is synced first, since its verdicts are given again without a note."""
+    goes_on(folder, "a resumed and synced take", "--sync")
+
+
+def case_set_aside(folder):
+    """The beginning of a file whose OPEN isn't noted is renamed, and the OPEN makes another."""
+    takes = folder / "takes"
+    takes.mkdir()
+    (takes / "a1.journal").write_bytes(header("a1"))
+    (takes / "a1.wav").write_bytes(bytes.fromhex(EMPTY)[:100])
+    again = ["seek a1.journal 0", f"read a1.journal {header('a1').hex()}"]
+    seen = [opened("a1.journal"), "stat a1.journal", *again]
+    front = [opened("a1.wav"), "stat a1.wav", "seek a1.wav 0", f"read a1.wav {EMPTY[:200]}"]
+    ends = ["seek a1.wav 100", "read a1.wav ", "seek a1.wav 690", "read a1.wav "]
+    moved = [f"stat FOLDER/a1.torn {MISSING}", "rename FOLDER/a1.wav FOLDER/a1.torn", opened("a1.journal")]
+    it = Journaled(folder, resuming=[*seen, *front, *ends, *moved])
+    peer = it.comes(accepted_in_turn(7))
+    it.asks(peer, "a1", OPEN, before=again)
+    it.goes(peer, 0)
+    it.ends("a file that is set aside", [0])
+
+
+CASES = [case_noted, case_noted_and_synced, case_noted_again, case_stopped, case_resumed, case_resumed_and_synced,
+    case_set_aside]

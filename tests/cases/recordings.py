@@ -1,0 +1,186 @@
+"""Files of recordings: the requests that bring them and what is said of what they lose, and those that are refused.
+
+Each is worked out by hand from docs/FORMATS.md, and not by the program.
+"""
+import math
+import random
+from typing import NamedTuple
+
+from kit import recordings as rec
+from kit.recordings import bext, cue, data, extensible, fmt, long_data, long_form, place_of, Recording, riff
+from kit.takes import chunk
+
+
+class Sent(NamedTuple):
+    """A file that is taken, the options beside it, its recording, and what is said of what is lost."""
+
+    of: str
+    file: bytes
+    recording: Recording
+    options: tuple = ()
+    lost: str = ""
+
+
+class Refused(NamedTuple):
+    """A file that isn't taken, the options beside it, and what is said: `KIND at OFFSET`."""
+
+    of: str
+    file: bytes
+    said: str
+    options: tuple = ()
+
+
+def noise(length, seed=1):
+    return random.Random(seed).randbytes(length)
+
+
+PLAIN = Recording(samples=noise(9_600))
+STEREO = Recording(rate=96_000, channels=2, bits=24, samples=noise(6 * 8_000, 2))  # two blocks, the second shorter
+SIXTY_FOUR = Recording(channels=64, bits=32, samples=noise(256 * 300, 3))
+ODD = Recording(bits=24, samples=noise(3 * 1_001, 4))
+EMPTY = Recording()
+
+UMID = bytes(range(1, 65))
+FIELDS = {
+    rec.DESCRIPTION: b"River at dawn",
+    rec.ORIGINATOR: b"Recorder 7",
+    rec.REFERENCE: b"XX1",
+    rec.DATE: b"2024-05-17",
+    rec.CLOCK: b"05:31:00",
+    rec.TIME: (172_800_000).to_bytes(8, "little"),
+    rec.UMID: UMID,
+    rec.VALUE: (-2_300).to_bytes(2, "little", signed=True),
+    rec.PEAK: (-100).to_bytes(2, "little", signed=True),
+}
+TEXTS = tuple(FIELDS[tag] for tag in (rec.DESCRIPTION, rec.ORIGINATOR, rec.REFERENCE, rec.DATE, rec.CLOCK))
+HISTORY = b"A=PCM,F=48000,W=24,M=mono\r\n"
+LEVELS = (-2_300, rec.NOT_GIVEN, -100, rec.NOT_GIVEN, rec.NOT_GIVEN)
+SECOND = bext(TEXTS, 172_800_000, 2, UMID, LEVELS, HISTORY)
+WITHOUT_LEVELS = {tag: value for tag, value in FIELDS.items() if tag < rec.VALUE}
+
+
+def of(recording, **changes):
+    return Recording(**{**vars(recording), **changes})
+
+
+# Half a second of a tone of 400 Hz at 8,000 Hz: twenty samples a period, of an amplitude of 8,000. This is
+# examples/tone.wav.
+PERIOD = b"".join(round(8_000 * math.sin(math.pi * at / 10)).to_bytes(2, "little", signed=True) for at in range(20))
+TONE_FIELDS = {
+    rec.DESCRIPTION: b"A tone of 400 Hz",
+    rec.ORIGINATOR: b"bwingest",
+    rec.DATE: b"2024-05-17",
+    rec.CLOCK: b"05:31:00",
+    rec.TIME: (8_000 * 19_860).to_bytes(8, "little"),
+}
+TONE_HISTORY = b"A=PCM,F=8000,W=16,M=mono\r\n"
+TONE = Recording(rate=8_000, samples=PERIOD * 200, history=TONE_HISTORY, fields=TONE_FIELDS, markers=[(1, 2_000)])
+TONE_BEXT = bext(
+    (b"A tone of 400 Hz", b"bwingest", b"", b"2024-05-17", b"05:31:00"), 8_000 * 19_860, 1, history=TONE_HISTORY
+)
+TONE_FILE = riff(fmt(TONE), TONE_BEXT, data(TONE.samples), cue([(1, 2_000, 2_000)]))
+
+SENT = [
+    Sent("the example", TONE_FILE, TONE),
+    Sent("16 bits", riff(fmt(PLAIN), data(PLAIN.samples)), PLAIN),
+    Sent("24 bits in two blocks", riff(fmt(STEREO), data(STEREO.samples)), STEREO),
+    Sent("64 channels of 32 bits", riff(fmt(SIXTY_FOUR), data(SIXTY_FOUR.samples)), SIXTY_FOUR),
+    Sent("an odd length", riff(fmt(ODD), data(ODD.samples)), ODD),
+    Sent("an odd length without its pad byte", riff(fmt(ODD), data(ODD.samples))[:-1], ODD),
+    Sent("no samples", riff(fmt(EMPTY), data(b"")), EMPTY),
+    Sent(
+        "an extensible format",
+        riff(extensible(STEREO), data(STEREO.samples)),
+        STEREO,
+        lost="left out: channel mask\n",
+    ),
+    Sent(
+        "fields of version 2, a history and cue points",
+        riff(fmt(PLAIN), SECOND, data(PLAIN.samples), cue([(1, 0, 0), (7, 9, 4_800), (2, 1, 100)])),
+        of(PLAIN, fields=FIELDS, history=HISTORY, markers=[(1, 0), (7, 4_800), (2, 100)]),
+    ),
+    Sent(
+        "fields of version 1, whose levels mean nothing",
+        riff(fmt(PLAIN), bext(TEXTS, 172_800_000, 1, UMID, LEVELS, HISTORY), data(PLAIN.samples)),
+        of(PLAIN, fields=WITHOUT_LEVELS, history=HISTORY),
+    ),
+    Sent("chunks after the samples", riff(fmt(PLAIN), data(PLAIN.samples), SECOND), of(PLAIN, fields=FIELDS, history=HISTORY)),
+    Sent(
+        "RF64",
+        long_form(b"RF64", len(ODD.samples), fmt(ODD), long_data(ODD.samples)),
+        ODD,
+    ),
+    Sent("BW64", long_form(b"BW64", len(PLAIN.samples), fmt(PLAIN), long_data(PLAIN.samples)), PLAIN),
+    Sent(
+        "UTF-8 in the description and in the history",
+        riff(fmt(PLAIN), bext(("Bäche".encode(),), history="é\r\n".encode()), data(PLAIN.samples)),
+        of(PLAIN, fields={rec.DESCRIPTION: b"B??che"}, history=b"??\r\n"),
+        lost="cleaned: description\ncleaned: history\n",
+    ),
+    Sent(
+        "other separators, and a time that is none",
+        riff(fmt(PLAIN), bext((b"", b"", b"", b"2024_05_17", b"noon")), data(PLAIN.samples)),
+        of(PLAIN, fields={rec.DATE: b"2024-05-17"}),
+        lost="cleaned: date\nleft out: clock\n",
+    ),
+    Sent(
+        "a history that is cut",
+        riff(fmt(PLAIN), bext(history=b"x" * 4_097), data(PLAIN.samples)),
+        of(PLAIN, history=b"x" * 4_096),
+        lost="cleaned: history\n",
+    ),
+    Sent(
+        "cue points of one identifier, and after the end",
+        riff(fmt(PLAIN), data(PLAIN.samples), cue([(1, 0, 5), (1, 0, 6), (2, 0, 4_801), (3, 0, 4_800)])),
+        of(PLAIN, markers=[(1, 5), (3, 4_800)]),
+        lost="left out: cue points 2\n",
+    ),
+    Sent(
+        "chunks that aren't carried",
+        riff(chunk(b"JUNK", bytes(28)), fmt(PLAIN), data(PLAIN.samples), chunk(b"iXML", b"<a/>" * 10)),
+        PLAIN,
+        lost="left out: JUNK 28\nleft out: iXML 40\n",
+    ),
+    Sent(
+        "settings in place of what the file has",
+        riff(fmt(PLAIN), SECOND, data(PLAIN.samples)),
+        of(PLAIN, fields={**FIELDS, rec.ORIGINATOR: b"h3", rec.RANGE: b"\x64\0", rec.PEAK: b"\0\0"}, history=b"none"),
+        ("--set", "originator=Someone", "--set=originator=h3", "--set=range=1.00", "--set=peak=0.00", "--set=history=none"),
+    ),
+    Sent(
+        "settings that take fields away",
+        riff(fmt(PLAIN), bext(TEXTS), data(PLAIN.samples)),
+        of(PLAIN, fields={rec.DESCRIPTION: b"a=b"}),
+        ("--set=description=a=b", "--set=originator=", "--set=reference=", "--set=date=", "--set=clock="),
+    ),
+    Sent("strict, and nothing is lost", riff(fmt(PLAIN), SECOND, data(PLAIN.samples)), of(PLAIN, fields=FIELDS, history=HISTORY), ("--strict",)),
+]
+
+FLOATS = riff(fmt(Recording(bits=32), tag=rec.FLOAT), data(bytes(8)))
+PART = riff(fmt(STEREO), data(bytes(7)))
+UTF8 = riff(fmt(PLAIN), bext(("é".encode(),)), data(PLAIN.samples))
+CUES = riff(fmt(PLAIN), data(PLAIN.samples), cue([(1, 0, 0), (1, 0, 1)]))
+CUT = riff(fmt(PLAIN), data(PLAIN.samples))[:-100]
+
+REFUSED = [
+    Refused("floating point", FLOATS, "NotPcm at 12"),
+    Refused("A-law", riff(fmt(Recording(bits=8), tag=rec.ALAW), data(bytes(8))), "NotPcm at 12"),
+    Refused("extensible floating point", riff(extensible(Recording(bits=32), subformat=rec.FLOAT_SUBFORMAT), data(bytes(8))), "NotPcm at 12"),
+    Refused("an extensible format of 16 bytes", riff(fmt(PLAIN, tag=rec.EXTENSIBLE), data(bytes(8))), "NotPcm at 12"),
+    Refused("8 bits", riff(fmt(Recording(bits=8)), data(bytes(8))), "Bits at 12"),
+    Refused("20 bits", riff(fmt(PLAIN, bits=20, align=3), data(bytes(9))), "Bits at 12"),
+    Refused("20 valid bits", riff(extensible(Recording(bits=24), valid=20), data(bytes(9))), "ValidBits at 12"),
+    Refused("24 bits in 4 bytes", riff(fmt(Recording(bits=24), align=4), data(bytes(8))), "Align at 12"),
+    Refused("a rate of 0", riff(fmt(Recording(rate=0)), data(bytes(8))), "Rate at 12"),
+    Refused("a rate above the greatest", riff(fmt(Recording(rate=768_001)), data(bytes(8))), "Rate at 12"),
+    Refused("no channel", riff(fmt(Recording(channels=0)), data(bytes(8))), "Channels at 12"),
+    Refused("65 channels", riff(fmt(Recording(channels=65)), data(bytes(130))), "Channels at 12"),
+    Refused("a part of a frame", PART, f"PartFrame at {place_of(PART, b'data')}"),
+    Refused("UTF-8, strict", UTF8, f"Unclean at {place_of(UTF8, b'bext')}", ("--strict",)),
+    Refused("a repeated identifier, strict", CUES, f"Unclean at {place_of(CUES, b'cue ')}", ("--strict",)),
+    Refused("no file at all", b"", "NotWave at 0"),
+    Refused("a text", b"a text\n", "NotWave at 0"),
+    Refused("a cut file", CUT, f"Truncated at {place_of(CUT, b'data')}"),
+    Refused("no format", riff(data(bytes(8))), "NoFmt at 28"),
+    Refused("no samples", riff(fmt(PLAIN)), "NoData at 36"),
+]

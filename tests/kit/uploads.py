@@ -1,0 +1,75 @@
+"""What the scripts that send recordings share: files, servers over them, a relay that counts."""
+import contextlib
+import random
+
+from kit.network import close_at_once, connect, LOCAL, pass_both_ways, Relay, run, Server
+from kit.recordings import data, fmt, Recording, riff
+
+
+def written(folder, file, name="take.wav"):
+    """The path of a file with these bytes."""
+    path = folder / name
+    path.write_bytes(file)
+    return path
+
+
+def words_of(port, name, path, *options):
+    return ("send", "--connect", f"{LOCAL}:{port}", "--name", name, "--file", str(path), *options)
+
+
+def settled(count, stored=None):
+    return f"settled {count}\nstored {count if stored is None else stored}\n"
+
+
+def folder_in(folder, name="takes"):
+    inner = folder / name
+    inner.mkdir()
+    return inner
+
+
+@contextlib.contextmanager
+def serving(folder, *options):
+    """A server over a new folder, which is stopped at the end."""
+    server = Server(folder_in(folder), "--until-stopped", *options)
+    try:
+        yield server
+    finally:
+        server.process.terminate()
+        server.process.wait()
+
+
+def long_recording(blocks, seed=9):
+    """A recording of so many blocks of 32,768 bytes, with its file."""
+    chance = random.Random(seed)
+    recording = Recording(samples=b"".join(chance.randbytes(32_768) for _ in range(blocks)))
+    return recording, riff(fmt(recording), data(recording.samples))
+
+
+def samples_of(path):
+    """The samples of a server's file, which begin where `inspect` says."""
+    _status, out, _faults = run("inspect", str(path))
+    line = next(line for line in out.splitlines() if line.startswith("data at="))
+    at, count = (int(word.partition("=")[2]) for word in line.split()[1:3])
+    return path.read_bytes()[at : at + count]
+
+
+class CountingRelay(Relay):
+    """Cuts each connection after a few megabytes, and counts what came of the sender."""
+
+    def __init__(self, server_port, seed, least, most):
+        self.least, self.most = least, most
+        self.passed = 0
+        super().__init__(server_port, seed)
+
+    def pass_on(self, sender, _most_requests, _most_replies, is_abrupt):
+        most = self.chance.randint(self.least, self.most)
+        server = connect(self.server_port)
+        room = {sender: most, server: 1 << 40}
+        with contextlib.suppress(OSError):
+            pass_both_ways({sender: server, server: sender}, room)
+        self.passed += most - room[sender]
+        for end in (sender, server):
+            if is_abrupt:
+                close_at_once(end)
+            else:
+                end.close()

@@ -1,0 +1,224 @@
+#!/usr/bin/env python3
+"""Runs `takes --check` and `takes --json` over folders that servers left, and that something else has changed.
+
+A file that isn't that of its journal is made by turning bits, cutting, lengthening and exchanging blocks; which number is
+the first whose samples are others follows from the requests alone. Nothing of a folder changes. The program is the first
+argument, or the one of this repository. Prints what differs, and last 'N passed, M failed'.
+"""
+import json
+import random
+import signal
+import subprocess
+import sys
+
+sys.dont_write_bytecode = True  # nothing is left beside this script
+from kit.folders import FastTake, folder_in, journaled, left_by, line_of, restored, says, small_take, state
+from kit.network import connect, hear_all, run, run_cases, send_words, start, TALLY
+from kit.takes import BLOCK, BYE_FRAME, message, STORED, Take, verdict
+
+LONGEST_RUN = 180  # seconds, for all of it
+DATA_PLACE = 690  # of a file without a history
+NAME_TAKEN, NOT_OPEN, BAD_BLOCK = 1, 3, 6  # verdicts
+CHANCE = random.Random(2)
+
+
+def checked(folder, *options):
+    return run("takes", "--folder", str(folder), "--check", *options)
+
+
+def shows(name, folder, lines, status=0):
+    TALLY.same(name, checked(folder), (status, "".join(line + "\n" for line in lines), ""))
+
+
+def turned(content, bit):
+    content = bytearray(content)
+    content[bit // 8] ^= 1 << bit % 8
+    return bytes(content)
+
+
+def number_at(take, place):
+    """The number of the block that has the sample byte at this place."""
+    return take.FIRST_BLOCK + place // len(take.blocks[0])
+
+
+# Samples
+
+
+def case_sound(place):
+    """Takes in each state, of which nothing is wrong: the lines are those without the samples."""
+    folder = folder_in(place)
+    (folder / "b-stood.wav").write_bytes(b"something else")
+    (folder / "zz_alone.wav").write_bytes(b"")
+    long, fast = Take("long", 300_001, 7), FastTake("fast", 100_000, 7)
+    whole, part, opened = small_take("whole"), small_take("part"), small_take("opened")
+    takes = ((long, len(long.messages())), (fast, 6), (whole, len(whole.messages())), (part, 5), (opened, 1))
+    server = journaled(folder, 0)
+    for take, count in takes:
+        says(f"{take.name}: the server", server, take, range(count))
+    with connect(server.port) as peer:
+        peer.sendall(message("b-stood", 0, part.requests()[0]) + message("refused", 0, part.requests()[1]) + BYE_FRAME)
+        TALLY.same("refused", hear_all(peer), verdict("b-stood", 0, NAME_TAKEN) + verdict("refused", 0, NOT_OPEN))
+    before = state(folder)
+    plain = run("takes", "--folder", str(folder))
+    TALLY.same("its status", (plain[0], len(plain[1].splitlines())), (0, 8))
+    TALLY.same("while the server runs", checked(folder), plain)
+    server.stop(signal.SIGKILL)
+    TALLY.same("after the server", checked(folder), plain)
+    TALLY.same("the folder", state(folder), before)
+
+
+def case_refused_blocks(place):
+    """A block that was refused has no samples in the file: the next one follows the one before it."""
+    folder = folder_in(place)
+    take = small_take()
+    requests = [*take.requests()[:4], bytes([BLOCK]) + b"x", *take.requests()[4:6]]
+    codes = [STORED] * 4 + [BAD_BLOCK] + [STORED] * 2
+    server = journaled(folder, 0)
+    with connect(server.port) as peer:
+        peer.sendall(b"".join(message("a1", number, request) for number, request in enumerate(requests)) + BYE_FRAME)
+        wanted = b"".join(verdict("a1", number, code) for number, code in enumerate(codes))
+        TALLY.same("the server", hear_all(peer), wanted)
+    server.stop(signal.SIGKILL)
+    status, out, faults = checked(folder)
+    TALLY.same("a refused block", (status, out.split(" ")[:2], faults), (0, ["a1", "open"], ""))
+    content = (folder / "a1.wav").read_bytes()
+    for at, number in ((0, 3), (32, 3), (33, 5), (98, 6)):
+        (folder / "a1.wav").write_bytes(turned(content, 8 * (DATA_PLACE + at)))
+        shows(f"sample byte {at}", folder, [f"a1 ChangedBlock number {number}"], 1)
+
+
+def case_bits(place):
+    """A bit turned anywhere in the samples: the number of its block, and of two the first; open or closed, RIFF or BW64."""
+    for at, (options, closed) in enumerate(((("--limit", "8192"), True), ((), True), ((), False))):
+        take = Take("a1", 40_000, 11, block=3_000, markers=[(1, 4)])
+        count = len(take.messages()) if closed else take.FIRST_BLOCK + len(take.blocks) - 1
+        length = len(take.samples) if closed else len(take.blocks[0]) * (len(take.blocks) - 1)
+        folder = left_by(folder_in(place, f"takes{at}"), [(take, count), (small_take("b2"), 5)], *options)
+        second = line_of(small_take("b2"), 5)
+        content = (folder / "a1.wav").read_bytes()
+        TALLY.same("its samples", content[DATA_PLACE : DATA_PLACE + length], take.samples[:length])
+        places = [0, length - 1, 2_999, 3_000, *(CHANCE.randrange(length) for _ in range(30))]
+        for sample in places:
+            (folder / "a1.wav").write_bytes(turned(content, 8 * (DATA_PLACE + sample) + CHANCE.randrange(8)))
+            shows(f"byte {sample}", folder, [f"a1 ChangedBlock number {number_at(take, sample)}", second], 1)
+            status, out, faults = run("takes", "--folder", str(folder))
+            TALLY.same(f"byte {sample} without --check", (status, out, faults), (0, f"{line_of(take, count)}\n{second}\n", ""))
+        for _ in range(5):
+            first, other = sorted(CHANCE.sample(range(length), 2))
+            both = turned(turned(content, 8 * (DATA_PLACE + first)), 8 * (DATA_PLACE + other))
+            (folder / "a1.wav").write_bytes(both)
+            shows(f"bytes {first} and {other}", folder, [f"a1 ChangedBlock number {number_at(take, first)}", second], 1)
+
+
+def case_exchanged(place):
+    """Blocks of one length that were exchanged, and samples of another take: the first of them."""
+    take, other = Take("a1", 30_000, 5, block=3_000), Take("b2", 30_000, 6, block=3_000)
+    folder = left_by(folder_in(place), [(take, 9), (other, 9)])
+    mine, theirs = ((folder / f"{name}.wav").read_bytes() for name in ("a1", "b2"))
+    one, two = DATA_PLACE + 3_000, DATA_PLACE + 9_000
+    swapped = mine[:one] + mine[two : two + 3_000] + mine[one + 3_000 : two] + mine[one : one + 3_000] + mine[two + 3_000 :]
+    (folder / "a1.wav").write_bytes(swapped)
+    shows("exchanged blocks", folder, ["a1 ChangedBlock number 4", line_of(other, 9)], 1)
+    (folder / "a1.wav").write_bytes(theirs)
+    shows("another take's file", folder, ["a1 ChangedBlock number 3", line_of(other, 9)], 1)
+
+
+def case_files(place):
+    """What is wrong without the samples is reported first: a file that is gone, cut, longer, or with another header."""
+    takes = [small_take(name) for name in ("a1", "b2", "c3", "d4", "e5", "f6", "g7")]
+    counts = [5, 5, 5, len(takes[3].messages()), len(takes[4].messages()), 5, 5]
+    folder = left_by(folder_in(place), zip(takes, counts))
+    (folder / "a1.wav").unlink()
+    (folder / "b2.wav").write_bytes((folder / "b2.wav").read_bytes()[:-34])
+    (folder / "c3.wav").write_bytes((folder / "c3.wav").read_bytes() + bytes(40_000))
+    (folder / "d4.wav").write_bytes(turned((folder / "d4.wav").read_bytes(), 800))
+    (folder / "e5.wav").write_bytes((folder / "e5.wav").read_bytes() + bytes(1))
+    (folder / "h8.journal").write_bytes((folder / "f6.journal").read_bytes())
+    (folder / "g7.wav").write_bytes(turned((folder / "g7.wav").read_bytes(), 32) + bytes(9))
+    lines = ["a1 LostFile", "b2 LostFile", "c3 LongFile", "d4 ChangedFile", "e5 ChangedFile"]
+    lines += [line_of(takes[5], 5), line_of(takes[6], 5), "h8 OtherName"]
+    before = state(folder)
+    shows("damages", folder, lines, 1)
+    TALLY.same("the folder", state(folder), before)
+
+
+def case_cut_journals(place):
+    """Of a journal that was cut only the samples of its whole entries are compared."""
+    take = small_take()
+    folder = left_by(folder_in(place), [(take, 6)])
+    saved = {path.name: path.read_bytes() for path in folder.iterdir()}
+    changed = turned(saved["a1.wav"], 8 * (DATA_PLACE + 66))  # the third block, of number 5
+    ends = [len(saved["a1.journal"]) - 50, len(saved["a1.journal"]) - 1, len(saved["a1.journal"])]
+    for length, line in zip(ends, (line_of(take, 5), line_of(take, 5), "a1 ChangedBlock number 5")):
+        restored(folder, {**saved, "a1.journal": saved["a1.journal"][:length], "a1.wav": changed})
+        shows(f"a journal of {length} bytes", folder, [line], int("Changed" in line))
+
+
+def case_while_sending(place):
+    """While recorders send as fast as they can nothing is wrong with any take."""
+    folder = folder_in(place)
+    server = journaled(folder, 0, "--recorders", "4", "--idle", "60")
+    takes = [Take(f"take{number}", 3_000_000, number) for number in range(3)]
+    running = []
+    for take in takes:
+        (place / take.name).write_bytes(take.lines())
+        with open(place / take.name, "rb") as lines:
+            words = send_words(server.port, take, "--rounds", "1000")
+            running.append(start(*words, stdin=lines, stdout=subprocess.DEVNULL, stderr=subprocess.DEVNULL))
+    reports = 0
+    while any(sender.poll() is None for sender in running):
+        status, out, faults = checked(folder)
+        states = [line.split(" ")[1] for line in out.splitlines()]
+        is_sound = status == 0 and not faults and set(states) <= {"open", "closed", "unopened"}
+        TALLY.holds("while they send", is_sound, f"{status}, {out!r}, {faults!r}")
+        reports += 1
+    TALLY.holds("reports while they send", reports > 0, reports)
+    server.stop(signal.SIGKILL)
+    shows("all sent", folder, [line_of(take, len(take.messages())) for take in takes])
+
+
+# JSON
+
+
+def object_of(line):
+    """The object of a line of words, by docs/FORMATS.md."""
+    name, state_word, *rest = line.split(" ")
+    keys = ("block", "fault", "frames", "ms", "name", "next", "ok", "rate", "state")
+    found = dict.fromkeys(keys) | {"name": name, "ok": True}
+    if state_word == "ChangedBlock":
+        return found | {"ok": False, "fault": state_word, "block": int(rest[1])}
+    if not rest:
+        return found | {"ok": False, "fault": state_word}
+    values = dict(zip(rest[::2], rest[1::2]))
+    found |= {"state": state_word, "next": int(values["next"])}
+    if "frames" in values:
+        found |= {"frames": int(values["frames"]), "ms": int(values["seconds"].replace(".", ""))}
+        found["rate"] = FastTake.RATE if name == "fast" else Take.RATE
+    return found
+
+
+def case_json(place):
+    """An object a line in the order of its keys, with the values of the line of words, for takes in each state and with
+    each kind of fault."""
+    folder = folder_in(place)
+    (folder / "b-stood.wav").write_bytes(b"something else")
+    fast, part, opened, changed, lost = FastTake("fast", 3 * 132_299, 7), *map(small_take, ("part", "opened", "x1", "x2"))
+    takes = ((fast, len(fast.messages())), (part, 5), (opened, 1), (changed, 5), (lost, 5))
+    left_by(folder, takes)
+    (folder / "x2.wav").unlink()
+    (folder / "x1.wav").write_bytes(turned((folder / "x1.wav").read_bytes(), 8 * DATA_PLACE))
+    (folder / "x3.journal").write_bytes(b"no journal at all")
+    for options in ((), ("--check",)):
+        status, out, faults = run("takes", "--folder", str(folder), *options)
+        TALLY.same("its lines", (status, faults, len(out.splitlines())), (1, "", 7))
+        wanted = [json.dumps(object_of(line), separators=(",", ":")) for line in out.splitlines()]
+        found = run("takes", "--folder", str(folder), "--json", *options)
+        TALLY.same("its objects", found, (1, "".join(line + "\n" for line in wanted), ""))
+    sound = left_by(folder_in(place, "sound"), [(part, 5)])
+    wanted = '{"block":null,"fault":null,"frames":22,"ms":0,"name":"part","next":5,"ok":true,"rate":48000,"state":"open"}\n'
+    TALLY.same("a take", run("takes", "--json", "--folder", str(sound)), (0, wanted, ""))
+    TALLY.same("no takes", run("takes", "--json", "--folder", str(folder_in(place, "none"))), (0, "", ""))
+
+
+cases = [value for name, value in list(globals().items()) if name.startswith("case_")]
+sys.exit(run_cases(cases, LONGEST_RUN))

@@ -1,0 +1,291 @@
+#!/usr/bin/env python3
+"""Runs `send --pcm --spool` of the built program on headerless samples that it reads from its standard input.
+
+What arrives is compared with the samples by their SHA-256, and the spool with what was written into the input. Whoever
+writes it must never wait for the link: it is timed while there is no server, while one doesn't answer, and while a
+connection can't be made. A disk is filled where this script may mount one. The program is the first argument, or the
+one of this repository. Prints what differs, and last 'N passed, M failed'.
+"""
+import contextlib
+import hashlib
+import os
+import random
+import signal
+import socket
+import subprocess
+import sys
+import threading
+import time
+
+sys.dont_write_bytecode = True  # nothing is left beside this script
+from kit.network import finish, free_port, LOCAL, LONGEST_WAIT, run, run_cases, Server, start, start_with_pipes, TALLY
+
+LONGEST_RUN = 170  # seconds, for all of it
+LONGEST_BLOCK = 32_768
+PIPE = 65_536  # bytes that a pipe holds
+SOON = 2.0  # seconds in which an input is taken that needn't wait
+DOWN = 10.0  # seconds for which there is no server
+
+
+def words_of(port, name, spool, pcm, *options):
+    return ("send", "--connect", f"{LOCAL}:{port}", "--name", name, "--spool", str(spool), "--pcm", pcm, *options)
+
+
+def settled(count):
+    return f"settled {count}\nstored {count}\n"
+
+
+def requests_of(samples, align):
+    """How many requests bring samples: OPEN, a block for each so many frames, CLOSE."""
+    return 2 + -(-len(samples) // (LONGEST_BLOCK // align * align))
+
+
+@contextlib.contextmanager
+def serving(folder):
+    """A server over a new folder, which is stopped at the end."""
+    (folder / "takes").mkdir()
+    server = Server(folder / "takes", "--until-stopped")
+    try:
+        yield server
+    finally:
+        server.process.terminate()
+        server.process.wait()
+
+
+def samples_of(folder, name):
+    """The samples in a take's file, by what `inspect` reports."""
+    path = folder / "takes" / f"{name}.wav"
+    _status, out, _faults = run("inspect", str(path))
+    found = next((one for one in out.splitlines() if one.startswith("data at=")), "data at=0 bytes=0")
+    at, count = (int(word.partition("=")[2]) for word in found.split()[1:3])
+    return path.read_bytes()[at : at + count]
+
+
+def digest(samples):
+    return hashlib.sha256(samples).hexdigest()
+
+
+class Writer(threading.Thread):
+    """Writes a recording into a sender's input in pieces of any length. `longest` is the longest time of a write."""
+
+    def __init__(self, sender, samples, seed, pause, closes=True):
+        super().__init__(daemon=True)
+        self.sender, self.samples, self.pause, self.closes = sender, samples, pause, closes
+        self.chance = random.Random(seed)
+        self.longest, self.written = 0.0, 0
+
+    def run(self):
+        with contextlib.suppress(BrokenPipeError):
+            while self.written < len(self.samples):
+                count = self.chance.randint(1, 40_000)
+                begun = time.monotonic()
+                self.sender.stdin.write(self.samples[self.written : self.written + count])
+                self.sender.stdin.flush()
+                self.longest = max(self.longest, time.monotonic() - begun)
+                self.written = min(len(self.samples), self.written + count)
+                time.sleep(self.pause)
+        if self.closes:
+            with contextlib.suppress(BrokenPipeError):
+                self.sender.stdin.close()
+
+
+def finish_written(sender):
+    """Waits until a sender ends whose input somebody else writes; status, standard output and standard error."""
+    out, faults = sender.stdout.read(), sender.stderr.read()
+    return sender.wait(LONGEST_WAIT), out.decode(errors="replace"), faults.decode(errors="replace")
+
+
+def is_whole(name, folder, spool, samples, align, found):
+    """All of it was sent, and the spool holds it."""
+    TALLY.same(name, found, (0, settled(requests_of(samples, align)), ""))
+    TALLY.same(f"{name}: the samples", digest(samples_of(folder, name)), digest(samples))
+    TALLY.same(f"{name}: the spool", digest(spool.read_bytes()), digest(samples))
+
+
+def case_slow_writer(folder):
+    """Input that comes slowly, in pieces that end inside frames; no input at all; some bytes before the samples."""
+    samples = random.Random(31).randbytes(6 * 60_007)
+    with serving(folder) as server:
+        spool = folder / "slow.raw"
+        sender = start_with_pipes(*words_of(server.port, "slow", spool, "48000,2,24"))
+        Writer(sender, samples, 32, 0.05).start()
+        is_whole("slow", folder, spool, samples, 6, finish_written(sender))
+        found = run(*words_of(server.port, "none", folder / "none.raw", "48000,1,16"))
+        TALLY.same("no input", found, (0, settled(2), ""))
+        found = run(*words_of(server.port, "skip", folder / "skip.raw", "48000,1,16", "--skip", "44"), given=bytes(44) + samples)
+        TALLY.same("bytes before the samples", found, (0, settled(requests_of(samples, 2)), ""))
+        TALLY.same("bytes before the samples", digest(samples_of(folder, "skip")), digest(samples))
+
+
+def case_file_as_input(folder):
+    """Input that is a file on a disk, which the system reports no waiting for; and none at all."""
+    samples = random.Random(33).randbytes(4 * 500_000)
+    source, spool = folder / "source.raw", folder / "spool.raw"
+    source.write_bytes(samples)
+    with serving(folder) as server:
+        pipe = subprocess.PIPE
+        with source.open("rb") as given:
+            sender = start(*words_of(server.port, "file", spool, "48000,2,16"), stdin=given, stdout=pipe, stderr=pipe)
+        is_whole("file", folder, spool, samples, 4, finish(sender))
+        words = words_of(server.port, "null", folder / "null.raw", "48000,2,16")
+        sender = start(*words, stdin=subprocess.DEVNULL, stdout=pipe, stderr=pipe)
+        TALLY.same("input from /dev/null", finish(sender), (0, settled(2), ""))
+
+
+def serve_at(port, takes):
+    words = ("serve", "--listen", f"{LOCAL}:{port}", "--folder", str(takes), "--until-stopped", "--journal")
+    process = start(*words, stdout=subprocess.PIPE, stderr=subprocess.DEVNULL)
+    process.stdout.readline()
+    return process
+
+
+def case_link_down(folder):
+    """While there is no server, and while one is stopped and another comes, the writer doesn't wait."""
+    samples = random.Random(34).randbytes(2 * 1_500_000)
+    spool, takes = folder / "down.raw", folder / "takes"
+    takes.mkdir()
+    port = free_port()
+    sender = start_with_pipes(*words_of(port, "down", spool, "48000,1,16", "--timeout", "5"))
+    writer = Writer(sender, samples, 35, 0.1)
+    writer.start()
+    time.sleep(DOWN)
+    TALLY.holds("link down", spool.stat().st_size + PIPE + 40_000 >= writer.written, "the input isn't in the spool")
+    server = serve_at(port, takes)
+    time.sleep(1.0)
+    server.kill()
+    server.wait(LONGEST_WAIT)
+    time.sleep(1.0)
+    server = serve_at(port, takes)
+    found = finish_written(sender)
+    server.terminate()
+    server.wait(LONGEST_WAIT)
+    is_whole("down", folder, spool, samples, 2, found)
+    TALLY.holds("link down: the writer", writer.longest < SOON, f"it waited {writer.longest:.1f} seconds")
+
+
+def takes_at_once(name, port, folder):
+    """A sender that has no way to send takes an input of some megabytes at once."""
+    samples = random.Random(36).randbytes(4_000_000)
+    spool = folder / f"{name}.raw"
+    sender = start_with_pipes(*words_of(port, name, spool, "48000,1,16"))
+    time.sleep(0.5)
+    writer = Writer(sender, samples, 37, 0.0)
+    writer.start()
+    writer.join(LONGEST_WAIT)
+    TALLY.holds(f"{name}: the writer", writer.longest < SOON, f"it waited {writer.longest:.1f} seconds")
+    time.sleep(0.5)
+    TALLY.same(f"{name}: the spool", digest(spool.read_bytes()), digest(samples))
+    sender.kill()
+    sender.wait()
+
+
+def case_no_answer(folder):
+    """Servers that can't be reached, or don't answer: the writer doesn't wait for them."""
+    with socket.create_server((LOCAL, 0), backlog=0) as listener:
+        port = listener.getsockname()[1]
+        held = []
+        for _peer in range(4):  # more than wait to be accepted, so that the next connection isn't made
+            one = socket.socket()
+            one.setblocking(False)
+            with contextlib.suppress(BlockingIOError):
+                one.connect((LOCAL, port))
+            held.append(one)
+        takes_at_once("unmade", port, folder)
+        for one in held:
+            one.close()
+    with socket.create_server((LOCAL, 0)) as listener:
+        takes_at_once("unread", listener.getsockname()[1], folder)
+
+
+def case_rerun(folder):
+    """A sender that is killed: its spool holds a front of what was written, and the same call goes on with it."""
+    samples = random.Random(38).randbytes(4 * 120_000)
+    spool = folder / "again.raw"
+    with serving(folder) as server:
+        words = words_of(server.port, "again", spool, "48000,2,16")
+        sender = start_with_pipes(*words)
+        Writer(sender, samples, 39, 0.06, closes=False).start()
+        time.sleep(0.8)
+        sender.kill()
+        sender.wait()
+        kept = spool.read_bytes()
+        TALLY.holds("killed", 0 < len(kept) < len(samples) and samples.startswith(kept), f"{len(kept)} bytes")
+        part = len(kept) % 4
+        if part:
+            found = run(*words, given=samples)
+            TALLY.same("killed inside a frame", found, (1, "", f"send: PartFrame at {len(kept) - part}\n"))
+            TALLY.same("killed inside a frame: the spool", spool.read_bytes(), kept)
+            os.truncate(spool, len(kept) - part)
+        whole = spool.read_bytes() + samples
+        is_whole("again", folder, spool, whole, 4, run(*words, given=samples))
+        found = run(*words)
+        TALLY.same("sent again", found, (0, settled(requests_of(whole, 4)), ""))
+
+
+def case_part_of_a_frame(folder):
+    """Input that ends inside a frame; a spool that does isn't appended to."""
+    samples = random.Random(40).randbytes(6 * 9_000)
+    spool = folder / "odd.raw"
+    with serving(folder) as server:
+        words = words_of(server.port, "odd", spool, "48000,2,24")
+        status, _out, said = run(*words, given=samples + bytes(5))
+        TALLY.same("a part of a frame", (status, said), (1, f"send: PartFrame at {len(samples)}\n"))
+        TALLY.same("a part of a frame: the spool", spool.read_bytes(), samples + bytes(5))
+        found = run(*words, given=samples)
+        TALLY.same("after a part of a frame", found, (1, "", f"send: PartFrame at {len(samples)}\n"))
+        TALLY.same("after a part of a frame: the spool", spool.read_bytes(), samples + bytes(5))
+
+
+def case_refusals(folder):
+    """A spool that can't be made, or is none."""
+    port = free_port()
+    none = folder / "none" / "x.raw"
+    status, out, said = run(*words_of(port, "x", none, "48000,1,16"), given=bytes(8))
+    TALLY.holds("no folder", status == 3 and out == "" and said.startswith(f"{none} can't be opened"), f"{status}, {said!r}")
+    status, _out, said = run(*words_of(port, "x", folder, "48000,1,16"), given=bytes(8))
+    TALLY.holds("a folder", status == 3 and said.startswith(f"{folder} can't be opened"), f"{status}, {said!r}")
+    for options in (("--file=x",), ("--follow", "--until=x"), ("--state=x",)):
+        status, _out, said = run(*words_of(port, "x", folder / "x", "48000,1,16", *options))
+        TALLY.holds(f"{options}", status == 2 and said.startswith("error: '--pcm' is for"), f"{status}, {said!r}")
+    TALLY.holds("usage", not (folder / "x").exists(), "a spool was made")
+
+
+def case_full_disk(folder):
+    """A disk that is full: a line says so, what the spool holds is sent, and nothing after it."""
+    disk = folder / "disk"
+    disk.mkdir()
+    mounted = subprocess.run(["mount", "-t", "tmpfs", "-o", "size=512k", "none", str(disk)], stderr=subprocess.DEVNULL)
+    if mounted.returncode:
+        print("no disk can be mounted: a full one isn't tried")
+        return
+    try:
+        samples = random.Random(41).randbytes(4 * 300_000)
+        spool = disk / "full.raw"
+        with serving(folder) as server:
+            sender = start_with_pipes(*words_of(server.port, "full", spool, "48000,2,16"))
+            begun = time.monotonic()
+            Writer(sender, samples, 42, 0.01).start()
+            status, out, said = finish_written(sender)
+            TALLY.holds("a full disk: soon", time.monotonic() - begun < LONGEST_WAIT / 3, "it took too long")
+            lines = said.splitlines()
+            is_said = len(lines) == 2 and lines[0].startswith("send: the spool can't be written: ")
+            TALLY.holds("a full disk", status == 3 and is_said and lines[1].startswith("send: Read at "), f"{status}, {said!r}")
+            kept = spool.read_bytes()
+            TALLY.holds("a full disk: the spool", len(kept) > 400_000 and samples.startswith(kept), f"{len(kept)} bytes")
+    finally:
+        subprocess.run(["umount", str(disk)], check=False)
+
+
+CASES = [
+    case_slow_writer,
+    case_file_as_input,
+    case_rerun,
+    case_part_of_a_frame,
+    case_refusals,
+    case_no_answer,
+    case_full_disk,
+    case_link_down,
+]
+
+if __name__ == "__main__":
+    sys.exit(run_cases(CASES, LONGEST_RUN))

@@ -1,0 +1,465 @@
+#!/usr/bin/env python3
+"""Starts `serve --journal` over folders that earlier servers left, and that something else has changed.
+
+What was answered stands after each stop; what can't be resumed is refused by name, and nothing of the folder changes.
+Journals are cut at many of their bytes, and single bits of them are turned. Calls of the system are refused while a
+verdict is noted and while a server starts. With `--sync` samples, note and reply come in this order. Needs what
+tracer.py needs. The program is the first argument, or the one of this repository. Prints what differs, and last 'N
+passed, M failed'.
+"""
+import errno
+import os
+import pty
+import random
+import shutil
+import signal
+import subprocess
+import sys
+
+sys.dont_write_bytecode = True  # nothing is left beside this script
+from kit.network import CANT_GO_ON, connect, finish, free_port, hear_all, LOCAL, LONGEST_WAIT, PROGRAM, reason, run
+from kit.network import run_cases, Server, start, stopped, TALLY
+from kit.refuser import Refused
+from kit.takes import ASK, BYE_FRAME, CONFLICT, DELAYED_STORE, message, NEXT, notice, STORED, Take, verdict
+from kit.watcher import Fault, Watcher
+
+LONGEST_RUN = 240  # seconds, for all of it
+LIMIT = 65_536  # bytes
+JOURNAL = ("--until-stopped", "--journal", "--limit", str(LIMIT))
+MANY = (*JOURNAL, "--recorders", "4")
+HEADER_LEN = 29  # of a journal, in bytes
+CHANCE = random.Random(1)
+
+
+def resumed(count):
+    return (f"resumed {count} takes",)
+
+
+def journaled(folder, count, *options, watch=None):
+    """A server over the folder that resumes this many takes."""
+    return Server(folder, *(options or JOURNAL), opening=resumed(count), watch=watch)
+
+
+def exchange(server, said):
+    """What the server replies to these messages."""
+    with connect(server.port) as peer:
+        peer.sendall(said + BYE_FRAME)
+        return hear_all(peer)
+
+
+def says(name, server, take, numbers, code=STORED):
+    """These numbers of a take get this verdict."""
+    messages = take.messages()
+    said = b"".join(messages[number] for number in numbers)
+    wanted = b"".join(verdict(take.name, number, code) for number in numbers)
+    TALLY.same(name, exchange(server, said), wanted)
+
+
+def has_next(name, server, take, number):
+    """The server asks for this number of a take next."""
+    said = message(take.name, 0, bytes([ASK]))
+    TALLY.same(name, exchange(server, said), notice(take.name, 0, NEXT, number))
+
+
+def small_take(name="a1"):
+    """A take of eleven requests, whose blocks have an odd length."""
+    return Take(name, 99, 7, block=33, markers=[(1, 4), (2, 9)])
+
+
+def folder_in(place):
+    folder = place / "takes"
+    folder.mkdir()
+    return folder
+
+
+def left_by(place, *takes, count=None):
+    """A folder that a server left which was killed after so many numbers of each of these takes, or after all."""
+    folder = folder_in(place)
+    server = journaled(folder, 0)
+    for take in takes:
+        says(f"{take.name}: the first server", server, take, range(count or len(take.messages())))
+    server.stop(signal.SIGKILL)
+    return folder
+
+
+def state(folder):
+    """What a start that is refused leaves as it is."""
+    files = {path.name: path for path in folder.iterdir() if path.name != ".bwingest-lock"}
+    return {name: (path.read_bytes(), path.stat().st_mtime_ns, path.stat().st_ino) for name, path in files.items()}
+
+
+def refused(name, folder, lines, *options, status=1):
+    """A server is refused over the folder by these lines, in any order, and changes nothing."""
+    before = state(folder)
+    words = ("serve", "--listen", f"{LOCAL}:{free_port()}", "--folder", str(folder), *(options or JOURNAL))
+    ended, out, faults = run(*words)
+    TALLY.same(name, (ended, out, sorted(faults.splitlines())), (status, "", sorted(lines)))
+    TALLY.same(f"{name}: the folder", state(folder), before)
+
+
+def cause(folder, name, text):
+    return f"{folder}/{name}.journal: {text}"
+
+
+# What goes on
+
+
+def goes_on(place, *options):
+    """Takes of which some numbers are done go on, a closed one and one whose name stood are as they were."""
+    folder = folder_in(place)
+    (folder / "stood.wav").write_bytes(b"something else")
+    open_take, closed, stood = small_take("open"), small_take("closed"), small_take("stood")
+    count = len(open_take.messages())
+    server = journaled(folder, 0, *options)
+    says("an open take", server, open_take, range(4))
+    says("a closed take", server, closed, range(count))
+    first = exchange(server, b"".join(stood.messages()[:2]))
+    server.stop(signal.SIGKILL)
+    for number in (signal.SIGTERM, signal.SIGKILL):
+        before = state(folder)
+        server = journaled(folder, 3, *options)
+        TALLY.same("a start changes no file", state(folder), before)
+        says("the open take again", server, open_take, range(4))
+        says("the closed take again", server, closed, range(count))
+        TALLY.same("the name that stood", exchange(server, b"".join(stood.messages()[:2])), first)
+        has_next("the next number", server, open_take, 4)
+        server.stop(number)
+    server = journaled(folder, 3, *options)
+    says("the rest", server, open_take, range(4, count))
+    said = message("open", 0, open_take.requests()[1])
+    TALLY.same("another request", exchange(server, said), notice("open", 0, CONFLICT, count))
+    server.stop(signal.SIGTERM)
+    TALLY.same("the open take's file", (folder / "open.wav").read_bytes(), open_take.file(limit=LIMIT))
+    TALLY.same("the closed take's file", (folder / "closed.wav").read_bytes(), closed.file(limit=LIMIT))
+    TALLY.same("what stood", (folder / "stood.wav").read_bytes(), b"something else")
+
+
+def case_in_turn(place):
+    goes_on(place, *JOURNAL)
+
+
+def case_many(place):
+    goes_on(place, *MANY)
+
+
+def case_synced(place):
+    goes_on(place, *JOURNAL, "--sync")
+
+
+def case_terminal(place):
+    """A terminal is shown how many journals are read; what isn't a terminal isn't."""
+    folder = left_by(place, *map(small_take, ("a1", "b2", "c3")), count=2)
+    terminal, end = pty.openpty()
+    words = ("serve", "--listen", f"{LOCAL}:{free_port()}", "--folder", str(folder), *JOURNAL)
+    process = start(*words, stdout=subprocess.PIPE, stderr=end)
+    TALLY.same("a start at a terminal", process.stdout.readline(), b"resumed 3 takes\n")
+    process.stdout.readline()
+    process.kill()
+    process.wait(LONGEST_WAIT)
+    TALLY.same("a terminal", os.read(terminal, 4_096), b"read 3 of 3 journals\r\n")
+    os.close(terminal)
+    os.close(end)
+
+
+# What is refused
+
+
+def case_two_servers(place):
+    """A second server over the folder isn't started; a kill of the first frees the folder."""
+    folder = folder_in(place)
+    server = journaled(folder, 0)
+    refused("a second server", folder, ["another server runs here"], status=3)
+    refused("a second server of many", folder, ["another server runs here"], *MANY, status=3)
+    says("the first server", server, small_take(), range(2))
+    server.stop(signal.SIGKILL)
+    stopped("the next server", journaled(folder, 1))
+
+
+def case_without_journal(place):
+    """Without `--journal` a folder with journals is refused by name, and one whose files only end alike isn't."""
+    folder = left_by(place, small_take(), count=2)
+    lines = [f"{folder}/a1.journal: this take needs serve --journal"]
+    for options in (("--exchanges", "1"), ("--exchanges", "1", "--recorders", "2")):
+        refused("no journal", folder, lines, *options)
+    (folder / "a1.journal").rename(folder / "a.1.journal")
+    stopped("no journal of a take", Server(folder, "--until-stopped"))
+
+
+def case_other_name(place):
+    folder = left_by(place, small_take(), count=5)
+    (folder / "a1.journal").rename(folder / "b2.journal")
+    (folder / "a1.wav").rename(folder / "b2.wav")
+    refused("a renamed journal", folder, [cause(folder, "b2", "OtherName")])
+
+
+def case_other_limit(place):
+    folder = left_by(place, small_take(), count=5)
+    line = cause(folder, "a1", f"OtherLimit, needs --limit {LIMIT}")
+    refused("another limit", folder, [line], "--until-stopped", "--journal", "--limit", str(LIMIT + 2))
+    refused("the usual limit", folder, [line], "--until-stopped", "--journal")
+    stopped("the same limit", journaled(folder, 1))
+
+
+LOST = "LostFile"
+
+
+def case_files(place):
+    """Files that are gone, shorter, longer or changed; each name is a line, and one that is as it was has none."""
+    takes = [small_take(name) for name in ("a1", "b2", "c3", "d4")]
+    folder = left_by(place, *takes, count=5)
+    whole = {take.name: (folder / f"{take.name}.wav").read_bytes() for take in takes}
+    (folder / "a1.wav").unlink()
+    (folder / "b2.wav").write_bytes(whole["b2"][:-34])
+    (folder / "c3.wav").write_bytes(whole["c3"] + bytes(40_000))
+    lines = [cause(folder, "a1", LOST), cause(folder, "b2", LOST), cause(folder, "c3", "LongFile")]
+    refused("three files", folder, lines)
+    for name, content in whole.items():
+        (folder / f"{name}.wav").write_bytes(content)
+    server = journaled(folder, 4)
+    for take in takes:
+        says(f"{take.name}: the rest", server, take, range(5, len(take.messages())))
+    server.stop(signal.SIGKILL)
+    for length in (-1, 1):
+        content = takes[0].file(limit=LIMIT)
+        (folder / "a1.wav").write_bytes(content[:length] if length < 0 else content + bytes(length))
+        refused("a closed file", folder, [cause(folder, "a1", "ChangedFile")])
+
+
+def case_no_folder(place):
+    """A folder that isn't there, and one that goes while a server runs over it."""
+    missing = place / "missing"
+    words = ("serve", "--listen", f"{LOCAL}:{free_port()}", "--folder", str(missing), *JOURNAL)
+    TALLY.same("no folder", run(*words), (3, "", f"{missing} can't be opened: {reason(errno.ENOENT)}\n"))
+    folder = folder_in(place)
+    server = journaled(folder, 0)
+    says("before it goes", server, small_take(), range(2))
+    server.line()
+    shutil.rmtree(folder)
+    with connect(server.port) as peer:
+        TALLY.same("no folder any longer", hear_all(peer), b"")
+    TALLY.same("the server then", server.end(), (3, [], CANT_GO_ON))
+
+
+# Journals that were cut, or changed
+
+
+def restored(folder, saved):
+    for path in folder.iterdir():
+        path.unlink()
+    for name, content in saved.items():
+        (folder / name).write_bytes(content)
+
+
+def ends_of(journal):
+    """Where the header and each entry of a journal end."""
+    ends = [HEADER_LEN]
+    while ends[-1] < len(journal):
+        ends.append(ends[-1] + 4 + int.from_bytes(journal[ends[-1] : ends[-1] + 2], "little") + 8)
+    return ends
+
+
+def case_cuts(place):
+    """A journal that is cut has the numbers of its whole entries; what comes again is stored again, at its place."""
+    take = small_take()
+    folder = left_by(place, take, count=6)
+    saved = {path.name: path.read_bytes() for path in folder.iterdir()}
+    journal = saved["a1.journal"]
+    ends = ends_of(journal)
+    TALLY.same("the end of a journal", (ends[-1], len(ends)), (len(journal), 7))
+    near = {end + by for end in ends for by in (-1, 0, 1)}
+    for length in sorted({*near, *CHANCE.sample(range(HEADER_LEN, len(journal)), 12)}):
+        if not HEADER_LEN <= length <= len(journal):
+            continue
+        restored(folder, {**saved, "a1.journal": journal[:length]})
+        done = sum(end <= length for end in ends) - 1
+        name = f"a journal of {length} bytes"
+        server = journaled(folder, int(done > 0))
+        has_next(name, server, take, done)
+        says(f"{name}: all", server, take, range(len(take.messages())))
+        server.stop(signal.SIGKILL)
+        TALLY.same(f"{name}: the file", (folder / "a1.wav").read_bytes(), take.file(limit=LIMIT))
+        torn = {path.name: path.read_bytes() for path in folder.glob("*.torn*")}
+        TALLY.same(f"{name}: what is set aside", torn, {} if done else {"a1.torn": saved["a1.wav"]})
+    for length in (0, 1, 12, HEADER_LEN - 1):
+        restored(folder, {**saved, "a1.journal": journal[:length]})
+        refused(f"a header of {length} bytes beside a file", folder, [cause(folder, "a1", "Damaged")])
+
+
+def case_turned_bits(place):
+    """With one bit turned a journal is refused by name, whatever the bit."""
+    folder = left_by(place, small_take(), count=6)
+    saved = {path.name: path.read_bytes() for path in folder.iterdir()}
+    journal = saved["a1.journal"]
+    for bit in CHANCE.sample(range(8 * len(journal)), 60):
+        turned = bytearray(journal)
+        turned[bit // 8] ^= 1 << bit % 8
+        restored(folder, {**saved, "a1.journal": bytes(turned)})
+        before = state(folder)
+        words = ("serve", "--listen", f"{LOCAL}:{free_port()}", "--folder", str(folder), *JOURNAL)
+        status, out, faults = run(*words)
+        is_named = faults.startswith(f"{folder}/a1.journal: ") and faults.count("\n") == 1
+        TALLY.holds(f"bit {bit}", (status, out) == (1, "") and is_named, f"{status}, {out!r}, {faults!r}")
+        TALLY.same(f"bit {bit}: the folder", state(folder), before)
+
+
+# Calls that fail
+
+
+def case_full_while_noting(place):
+    """A note for which the disk is full isn't answered, and is made when the message comes again."""
+    take = small_take()
+    folder = folder_in(place)
+    faults = [Fault("write a1.journal", errno.ENOSPC, 1)]
+    server = journaled(folder, 0, watch=lambda: Watcher(*faults))
+    said, rest = take.messages()[0], range(len(take.messages()))
+    TALLY.same("a full disk", exchange(server, said), notice("a1", 0, DELAYED_STORE, 0))
+    for count in (1, 2, 3):
+        server.observer.faults.append(Fault("write a1.journal", errno.ENOSPC, 1))
+        said = take.messages()[count - 1]
+        heard = exchange(server, said)
+        TALLY.same("a full disk later", heard, notice("a1", count - 1, DELAYED_STORE, count - 1))
+        says("the same again", server, take, [count - 1])
+    says("all", server, take, rest)
+    server.stop(signal.SIGKILL)
+    TALLY.same("the file", (folder / "a1.wav").read_bytes(), take.file(limit=LIMIT))
+    server = journaled(folder, 1)
+    says("all again", server, take, rest)
+    server.stop(signal.SIGKILL)
+
+
+def ended(words, kind, number):
+    """A server with this call refused, which is killed once it listens: its status, both streams, and its calls."""
+    pipes = {"stdout": subprocess.PIPE, "stderr": subprocess.PIPE}
+    with Refused([PROGRAM, *words], kind, number, **pipes) as server:
+        out = server.stdout.readline() + server.stdout.readline()
+        if b"listening" in out:
+            server.kill()
+        more, faults = server.communicate(timeout=LONGEST_WAIT)
+        return server.returncode, out + more, faults, server.seen
+
+
+def torn(place):
+    """Two takes that a server left within a note and within a write, and the files of their folder."""
+    takes = small_take("a1"), small_take("b2")
+    folder = left_by(place, *takes, count=6)
+    saved = {path.name: path.read_bytes() for path in folder.iterdir()}
+    saved["a1.journal"] = saved["a1.journal"][:-3]
+    saved["b2.wav"] = saved["b2.wav"][:4] + bytes(4) + saved["b2.wav"][8:] + bytes(50)
+    return takes, folder, saved
+
+
+def refuse_each(place, kind):
+    """Each call of a kind fails in turn at a start: it serves or says why not, and the next has all that was done."""
+    takes, folder, saved = torn(place)
+    words = ("serve", "--listen", f"{LOCAL}:{free_port()}", "--folder", str(folder), *JOURNAL)
+    restored(folder, saved)
+    seen, number = ended(words, kind, 0)[3], 0
+    TALLY.holds(f"{kind} at a start", seen, "none is seen")
+    while number < seen:
+        number += 1
+        name = f"{kind} {number} is refused"
+        restored(folder, saved)
+        status, out, faults, _ = ended(words, kind, number)
+        is_refused = status == 3 or status == 4 and kind == "growth"
+        is_so = status == -signal.SIGKILL or is_refused and out == b"" and faults.count(b"\n") == 1
+        TALLY.holds(name, is_so, f"{status}, {out!r}, {faults!r}")
+        server = journaled(folder, 2)
+        has_next(f"{name}: a1", server, takes[0], 5)
+        has_next(f"{name}: b2", server, takes[1], 6)
+        for take in takes if kind != "growth" else ():
+            says(f"{name}: {take.name}", server, take, range(len(take.messages())))
+        server.stop(signal.SIGKILL)
+        for take in takes if kind != "growth" else ():
+            content = (folder / f"{take.name}.wav").read_bytes()
+            TALLY.same(f"{name}: the file of {take.name}", content, take.file(limit=LIMIT))
+
+
+def case_refused_at_a_start(place):
+    for kind in ("open", "read", "write", "seek", "stat", "list", "cut", "lock", "growth"):
+        (place / kind).mkdir()
+        refuse_each(place / kind, kind)
+
+
+def fails(name, folder, fault, *options):
+    """A start in which this call fails reports it."""
+    words = ("serve", "--listen", f"{LOCAL}:{free_port()}", "--folder", str(folder), *JOURNAL, *options)
+    ended = finish(start(*words, observer=Watcher(fault), stdout=subprocess.PIPE, stderr=subprocess.PIPE))
+    wanted = "the server can't start: its folder can't be read or written\n"
+    TALLY.same(name, ended, (3, "", wanted))
+
+
+def case_unsynced_at_a_start(place):
+    """A start with syncs that can't sync what was left is reported, and changes nothing."""
+    _, folder, saved = torn(place)
+    restored(folder, saved)
+    before = state(folder)
+    for call in ("sync-data a1.wav", "sync-data b2.journal", f"sync {folder.name}"):
+        fails(f"{call} at a start", folder, Fault(call), "--sync")
+        TALLY.same(f"{call} at a start: the folder", state(folder), before)
+
+
+def case_full_at_a_start(place):
+    """A disk that is full at a start is reported, and the next start mends what this one didn't."""
+    takes, folder, saved = torn(place)
+    restored(folder, saved)
+    fails("a full disk at a start", folder, Fault("write b2.wav", errno.ENOSPC))
+    server = journaled(folder, 2)
+    for take in takes:
+        says(f"a start after a full disk: {take.name}", server, take, range(len(take.messages())))
+    server.stop(signal.SIGKILL)
+    for take in takes:
+        content = (folder / f"{take.name}.wav").read_bytes()
+        TALLY.same(f"a start after a full disk: the file of {take.name}", content, take.file(limit=LIMIT))
+
+
+# The order of writes
+
+
+def calls_of(server, said, reply):
+    """The calls that the server makes for a message that gets this reply."""
+    before = len(server.observer.lines)
+    TALLY.same("a reply", exchange(server, said), reply)
+    return server.observer.lines[before:]
+
+
+def places(lines, start):
+    return [at for at, line in enumerate(lines) if line.startswith(start)]
+
+
+def has_order(name, lines, samples, synced):
+    """The take's file is written and then synced, then the journal is, and then the reply is sent.
+
+    For an OPEN the journal's header is written first, and the folder is synced before the reply.
+    """
+    wave, wave_synced = places(lines, "write a1.wav"), places(lines, "sync-data a1.wav")
+    notes, notes_synced = places(lines, "write a1.journal"), places(lines, "sync-data a1.journal")
+    folder_synced, reply = places(lines, "sync takes"), places(lines, "send ")[:1]
+    is_open = name == "OPEN"
+    counts = (bool(wave), len(wave_synced), len(notes), len(notes_synced), len(folder_synced), len(reply))
+    wanted = (samples, synced, 1 + is_open, synced, synced and is_open, 1)
+    TALLY.same(f"{name}: how often", counts, wanted)
+    in_order = [*notes[:-1], *wave[-1:], *wave_synced, *notes[-1:], *notes_synced, *folder_synced, *reply]
+    TALLY.same(f"{name}: the order", in_order, sorted(in_order))
+
+
+def order_of(place, synced, *options):
+    take = small_take()
+    folder = folder_in(place)
+    server = journaled(folder, 0, *JOURNAL, *options, watch=Watcher)
+    names = ["OPEN", "BEXT", "BEXT", *["BLOCK"] * len(take.blocks), "MARK", "MARK", "CLOSE"]
+    for number, name in enumerate(names):
+        said, reply = take.messages()[number], verdict("a1", number, STORED)
+        has_order(name, calls_of(server, said, reply), name != "MARK", synced)
+    server.stop(signal.SIGKILL)
+
+
+def case_order_with_syncs(place):
+    order_of(place, 1, "--sync")
+
+
+def case_order_without_syncs(place):
+    order_of(place, 0)
+
+
+cases = [value for name, value in list(globals().items()) if name.startswith("case_")]
+sys.exit(run_cases(cases, LONGEST_RUN))
