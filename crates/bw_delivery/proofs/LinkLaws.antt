@@ -1,23 +1,21 @@
 -- What comes over a link is a prefix of what was said, frame by frame.
 use Rattle.std.proofs.Common.{length, ◌≡◌, ◌<◌, ℕ, suc, zero, true, List, [], ◌∷◌, ◌++◌, ◌^◌}
 use Rattle.std.proofs.Common.{Option, Some, None, Result, Ok, refl, sym, ◌∙◌, ap, subst, arith, append_assoc, ◌⊎◌, inl, inr}
-use Rattle.std.specs.List.{AllByRecursion, Contains, list_all}
+use Rattle.std.specs.List.{Contains, list_all}
 use Rattle.std.proofs.lemmas.Bool.{and_parts}
-use Rattle.std.proofs.lemmas.List.Folds.{list_all-append}
-use Rattle.std.proofs.lemmas.List.Elements.{Contains-append_right, Contains-append_cases}
+use Rattle.std.proofs.lemmas.List.Elements.{Contains-append_left, Contains-append_right, Contains-append_cases}
 use Rattle.bw_model.specs.Take.{Request, Verdict}
-use Rattle.bw_model.specs.Wire.{Second, Frame, Says, Asks, Bye, is_frame, are_bytes, body, framed, is_below, Reason}
+use Rattle.bw_model.specs.Wire.{Second, Message, Frame, Says, Asks, Bye, is_frame, body, framed, Reason}
 use Rattle.bw_model.specs.Replies.{Reply, Judged, Refused, is_reply, reply_body, decoded_reply}
-use Rattle.bw_model.specs.Stream.{End, EndOfInput, SaidBye, BadFrame, stream_of, is_turn, frames_bytes, first_frame}
+use Rattle.bw_model.specs.Stream.{End, EndOfInput, SaidBye, BadFrame, is_turn, frames_bytes, first_frame}
 use Rattle.bw_model.specs.Exchange.{replies_bytes}
 use Rattle.bw_model.proofs.FrameLaws.{first_frame-framed, reply_length}
 use Rattle.bw_model.proofs.ReplyLaws.{spelled_reply_is_read}
-use Rattle.bw_model.proofs.StreamLaws.{streams_agree}
 use Rattle.bw_model.proofs.WireLaws.{frames_apart}
 use Rattle.bw_exchange.specs.AnsweredFrames.{Answered, answered_frames, replies_of}
 use Rattle.bw_exchange.specs.Done.{last_of}
-use Rattle.bw_delivery.specs.Deliveries.{LinkBytes, IsOneOf, HearsVerdict, IsOwnLink}
-use Rattle.bw_delivery.proofs.SpelledBytes.{frames_are_bytes}
+use Rattle.bw_delivery.specs.Deliveries.{LinkBytes, WasTold, IsOwnLink}
+use Rattle.bw_delivery.proofs.SoundTurns.{IsOneOf}
 
 -- Lists that begin alike.
 
@@ -55,38 +53,24 @@ frames_first (x ∷ xs) (y ∷ ys) w h k e =
     let rest = frames_first xs ys w hs.1 ks.1 s.1 in
     (rest.0, ap (λ (z : Frame). z ∷ (xs ++ rest.0)) s.0 ∙ ap (λ (zs : List Frame). y ∷ zs) rest.1)
 
-all_first : {X : Type 0} (P : X → Type 0) (xs more : List X) → AllByRecursion P (xs ++ more) → AllByRecursion P xs
-all_first P [] more h = tt
-all_first P (x ∷ xs) more h = (h.0, all_first P xs more h.1)
-
--- the frames that are answered are requests of the sender
+-- the messages that are answered are requests of the sender
 pub answered_are : (name : List ℕ) (requests : List Request) (answered : List Answered) (l : LinkBytes) →
-    IsOwnLink name requests answered l → AllByRecursion (IsOneOf name requests) (answered_frames answered)
-answered_are name requests answered l h =
+    IsOwnLink name requests answered l → (m : Message) → Contains (answered_frames answered) (Says m) →
+    IsOneOf name requests (Says m)
+answered_are name requests answered l h m has =
     let says = h.says in
     let there = h.unchanged.there in
     let answers = h.answers in
-    let first = answers.first in
-    let whole : answers.read ++ (answers.read_part.0 ++ (there.0 ++ says.part.0)) ≡ frames_bytes says.frames =
-    sym (append_assoc answers.read answers.read_part.0 (there.0 ++ says.part.0))
-    ∙ ap (λ (z : List ℕ). z ++ (there.0 ++ says.part.0)) answers.read_part.1
+    let frames : List Frame = answered_frames answered in
+    let unread : List ℕ = answers.read.0 ++ (there.0 ++ says.part.0) in
+    let begins : frames_bytes frames ++ unread ≡ frames_bytes says.frames =
+    sym (append_assoc (frames_bytes frames) answers.read.0 (there.0 ++ says.part.0))
+    ∙ ap (λ (z : List ℕ). z ++ (there.0 ++ says.part.0)) answers.read.1
     ∙ sym (append_assoc l.received there.0 says.part.0)
     ∙ ap (λ (z : List ℕ). z ++ says.part.0) there.1 ∙ says.part.1 in
-    let unread : List ℕ = answers.read_part.0 ++ (there.0 ++ says.part.0) in
-    let fits : are_bytes answers.read ≡ true =
-    (and_parts (are_bytes answers.read) (are_bytes unread)
-    (sym (list_all-append (is_below 256) answers.read unread) ∙ ap are_bytes whole
-    ∙ frames_are_bytes says.frames says.spelled)).0 in
-    let gs : List Frame = (stream_of Second answers.read).0 in
-    let stream = (streams_agree Second answers.read gs (stream_of Second answers.read).1 fits).1 refl in
-    let begins : frames_bytes gs ++ (stream.rest ++ unread) ≡ frames_bytes says.frames =
-    sym (append_assoc (frames_bytes gs) stream.rest unread)
-    ∙ ap (λ (z : List ℕ). z ++ unread) (sym stream.whole) ∙ whole in
-    let all = frames_first gs says.frames (stream.rest ++ unread) stream.each says.spelled begins in
-    all_first (IsOneOf name requests) (answered_frames answered) (first.0 ++ all.0)
-    (subst (AllByRecursion (IsOneOf name requests))
-    (sym (sym (append_assoc (answered_frames answered) first.0 all.0)
-    ∙ ap (λ (zs : List Frame). zs ++ all.0) (sym first.1) ∙ all.1)) says.each)
+    let all = frames_first frames says.frames unread answers.spelled says.spelled begins in
+    says.each m (subst (λ (fs : List Frame). Contains fs (Says m)) all.1
+    (Contains-append_left frames all.0 (Says m) has))
 
 -- Replies.
 
@@ -151,16 +135,16 @@ judged_among (x ∷ xs) (y ∷ rs) end w name n v h k e has =
 
 -- a verdict that is heard was answered
 pub heard_was_answered : (name : List ℕ) (requests : List Request) (answered : List Answered) (l : LinkBytes) →
-    IsOwnLink name requests answered l → (n : ℕ) (v : Verdict) → HearsVerdict name n v l.heard →
+    IsOwnLink name requests answered l → (n : ℕ) (v : Verdict) → WasTold name n v l.heard →
     Contains (replies_of answered) (Judged name n v)
-heard_was_answered name requests answered l h n v hears =
+heard_was_answered name requests answered l h n v told =
     let back = h.unchanged.back in
     let answers = h.answers in
     let all : List Reply = replies_of answered ++ last_of answers.end in
-    let begins : replies_bytes hears.replies ++ (hears.rest ++ (back.0 ++ answers.part.0)) ≡ replies_bytes all =
-    sym (append_assoc (replies_bytes hears.replies) hears.rest (back.0 ++ answers.part.0))
-    ∙ ap (λ (z : List ℕ). z ++ (back.0 ++ answers.part.0)) (sym hears.spelled.whole)
+    let begins : replies_bytes told.replies ++ (told.part.0 ++ (back.0 ++ answers.part.0)) ≡ replies_bytes all =
+    sym (append_assoc (replies_bytes told.replies) told.part.0 (back.0 ++ answers.part.0))
+    ∙ ap (λ (z : List ℕ). z ++ (back.0 ++ answers.part.0)) told.part.1
     ∙ sym (append_assoc l.heard back.0 answers.part.0)
     ∙ ap (λ (z : List ℕ). z ++ answers.part.0) back.1 ∙ answers.part.1 in
-    judged_among hears.replies (replies_of answered) answers.end (hears.rest ++ (back.0 ++ answers.part.0)) name n v
-    hears.spelled.each answers.spelled begins hears.has
+    judged_among told.replies (replies_of answered) answers.end (told.part.0 ++ (back.0 ++ answers.part.0)) name n v
+    told.spelled answers.spelled_back begins told.among

@@ -2,6 +2,7 @@
 use Rattle.std.proofs.Common.{◌≡◌, ℕ, ◌+◌, ◌-◌, ◌<◌, ◌≤◌, Bool, true, false, not, cond, ◌&&◌, List, [], ◌∷◌}
 use Rattle.std.proofs.Common.{Option, Some, refl, sym, ◌∙◌, ap, subst, arith, ◌⊎◌, inl, inr}
 use Rattle.std.specs.Prelude.{slice_get, nat_le, nat_lt, is_none}
+use Rattle.std.specs.Str.{bytes_eq}
 use Rattle.std.proofs.lemmas.Bool.{cases_lt, le-leb, le-ltb}
 use Rattle.bw_model.specs.Bytes.{at, put}
 use Rattle.bw_model.specs.Take.{Request, Verdict}
@@ -17,8 +18,19 @@ use Rattle.bw_model.proofs.Elements.{Each, each-append, each-map}
 use Rattle.bw_model.proofs.TrueReplies.{IsSound, Grows, IsTrueReply, IsFaithfulStep, verdicts_true}
 use Rattle.bw_model.proofs.OwnTurns.{own_message_true}
 use Rattle.bw_model.proofs.OtherTurns.{other_true}
-use Rattle.bw_delivery.specs.Deliveries.{IsOneOf, IsOfAnother}
 use Rattle.bw_delivery.proofs.TurnCases.{by_case, ends_between}
+
+-- a message is one of these requests, under its number and this name
+abbrev pub IsOneOf : List ℕ → List Request → Frame → Type 0
+IsOneOf name requests (Says m) = (m.name ≡ name) × (slice_get requests m.number ≡ Some m.request)
+IsOneOf name requests (Asks x n) = Unit {0}
+IsOneOf name requests Bye = Unit {0}
+
+-- no message of this name
+abbrev pub IsOfAnother : List ℕ → Frame → Type 0
+IsOfAnother name (Says m) = bytes_eq m.name name ≡ false
+IsOfAnother name (Asks x n) = Unit {0}
+IsOfAnother name Bye = Unit {0}
 
 -- a verdict on the name in a reply is that of a done number
 abbrev pub ReportsDone : Bool → List ℕ → Log → Reply → Type 0

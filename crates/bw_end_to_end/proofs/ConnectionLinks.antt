@@ -10,8 +10,8 @@ use Rattle.bw_exchange.specs.Done.{last_of}
 use Rattle.bw_ports.specs.declared.link.Link.{Ghosts as LinkGhosts}
 use Rattle.bw_connections.specs.ConnectionTables.{own}
 use Rattle.bw_connections.specs.ConnectionBytes.{ServesConnection, EndsLink}
-use Rattle.bw_delivery.specs.Deliveries.{LinkBytes, AnswersOver}
-use Rattle.bw_end_to_end.specs.ServedLinks.{IsServerEnd, ConnectionsAnswer}
+use Rattle.bw_delivery.specs.Statement.{LinkBytes}
+use Rattle.bw_end_to_end.specs.ServedLinks.{AnswersOver, IsServerEnd, ConnectionsAnswer}
 
 pub all_contain : {X : Type 0} (P : X → Type 0) (xs : List X) (x : X) → AllByRecursion P xs → Contains xs x → P x
 all_contain P [] x h (k, below, e) = absurd (omega arith)

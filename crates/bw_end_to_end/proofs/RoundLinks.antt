@@ -30,7 +30,8 @@ use Rattle.bw_send.specs.SendState.{Sending, IsSettled, hear_in, new_sending, of
 use Rattle.bw_engine.proofs.HeardSenders.{all_heard}
 use Rattle.std.proofs.Math.Seq.{drop-append_seam}
 use Rattle.bw_send.proofs.OfferSteps.{taken, refused, all_taken, all_refused}
-use Rattle.bw_delivery.specs.Deliveries.{LinkBytes, IsPartOf, SaysRequests, HearsVerdict, HeardOverLinks}
+use Rattle.bw_delivery.specs.Deliveries.{HeardOverLinks}
+use Rattle.bw_delivery.specs.Statement.{LinkBytes, IsPartOf, WroteRequests, WasTold}
 use Rattle.bw_end_to_end.specs.UsedLinks.{UsedLink, AreSenderEnds, PendingHaveNumbers}
 use Rattle.bw_end_to_end.specs.SentInRounds.{link_in_round, links_in_rounds, RoundsSendRequests}
 use Rattle.bw_end_to_end.proofs.SaidRequests.{IsOffered, AreSpelled, all_numbers, batch_says, only_now}
@@ -237,19 +238,18 @@ some_inj e = cc
 module _ {R W : Type 0} (reader : Reader R) (writer : Writer W) where
   hears_from : (result : Result (Unit {0}) SendFault) (x y : _) (left left' : Option (List ℕ)) (gives : List ℕ)
       (name : List ℕ) (n : ℕ) (v : Verdict) → (h : Hears result x y left left') → left ≡ Some gives →
-      Contains h.heard (Judged name n v) → HearsVerdict name n v gives
+      Contains h.heard (Judged name n v) → WasTold name n v gives
   hears_from result x y left left' gives name n v h e has =
       let given = h.given gives e in
       let prefix = h.prefix in
       record {
         replies = h.heard;
-        rest = prefix.0 ++ given.0;
-        spelled = record {
-          each = prefix.1.each;
-          whole = sym given.2 ∙ ap (λ (z : List ℕ). z ++ given.0) prefix.1.whole
-              ∙ append_assoc _ prefix.0 given.0;
-        };
-        has = has;
+        spelled = prefix.1.each;
+        part = (
+          prefix.0 ++ given.0,
+          sym (sym given.2 ∙ ap (λ (z : List ℕ). z ++ given.0) prefix.1.whole ∙ append_assoc _ prefix.0 given.0),
+        );
+        among = has;
       }
 
 -- Rounds.
@@ -257,14 +257,14 @@ module _ {R W : Type 0} (reader : Reader R) (writer : Writer W) where
 -- what rounds write and hear, over these links
 pub record RoundsSend (name : List ℕ) (requests : List Request) (before after : List (Option Verdict))
     (links : List (ℕ × LinkBytes)) : Type 0 where
-  pub says : (n : ℕ) (l : LinkBytes) → Contains links (n, l) → SaysRequests name requests l.said
+  pub says : (n : ℕ) (l : LinkBytes) → Contains links (n, l) → WroteRequests name requests l.said
   pub heard : (n : ℕ) (v : Verdict) → at after n ≡ Some v → (at before n ≡ Some v) ⊎ HeardOverLinks links name n v
 
 module _ {D R W : Type 0} (dial : DialGhosts D R W) (reader : Reader R) (writer : Writer W) where
   exchange_says : (name : List ℕ) (requests : List Request) (s : Sender) (rest : List Request) (heard : List Reply)
       (link : Duplex R W) → (x : IsExchange dial reader writer s heard link) → IsOffered name requests s rest →
       AreSpelled name requests → (bytes : List ℕ) → writer.written link.writer ≡ Some [] →
-      writer.written x.w' ≡ Some bytes → SaysRequests name requests bytes
+      writer.written x.w' ≡ Some bytes → WroteRequests name requests bytes
   exchange_says name requests s rest heard link x h spelled bytes unused said =
       batch_says name requests s rest h spelled bytes (go x.exchanges)
     where
@@ -281,12 +281,12 @@ module _ {D R W : Type 0} (dial : DialGhosts D R W) (reader : Reader R) (writer 
 
   exchange_hears : (s : Sender) (heard : List Reply) (link : Duplex R W) (x : IsExchange dial reader writer s heard link)
       (gives : List ℕ) → reader.left link.reader ≡ Some gives → (name : List ℕ) (n : ℕ) (v : Verdict) →
-      Contains heard (Judged name n v) → HearsVerdict name n v gives
+      Contains heard (Judged name n v) → WasTold name n v gives
   exchange_hears s heard link x gives e name n v has =
       go x.exchanges (subst (λ (rs : List Reply). Contains rs (Judged name n v)) x.heard_is has)
     where
       go : (y : Exchanges reader writer x.result x.before x.after link.reader x.r' link.writer x.w') →
-          Contains (heard_over y) (Judged name n v) → HearsVerdict name n v gives
+          Contains (heard_over y) (Judged name n v) → WasTold name n v gives
       go (inl whole) k =
           hears_from reader writer x.result x.before x.after _ _ gives name n v whole.over.hears e k
       go (inr (inl broke)) k =
@@ -330,13 +330,13 @@ module _ {D R W : Type 0} (dial : DialGhosts D R W) (reader : Reader R) (writer 
         heard = λ n v e. by_later n v (more.heard n v e);
       }
     where
-      said : SaysRequests name requests l.1.said
+      said : WroteRequests name requests l.1.said
       said = exchange_says name requests s rest heard made.link made.exchange h spelled l.1.said ends.0.unused ends.0.said
 
-      by_place : ((n : ℕ) (m : LinkBytes) → Contains ls (n, m) → SaysRequests name requests m.said) →
-          (n : ℕ) (m : LinkBytes) → Contains (l ∷ []) (n, m) ⊎ Contains ls (n, m) → SaysRequests name requests m.said
+      by_place : ((n : ℕ) (m : LinkBytes) → Contains ls (n, m) → WroteRequests name requests m.said) →
+          (n : ℕ) (m : LinkBytes) → Contains (l ∷ []) (n, m) ⊎ Contains ls (n, m) → WroteRequests name requests m.said
       by_place rest_says n m (inl (zero, below, f)) =
-          subst (λ (z : ℕ × LinkBytes). SaysRequests name requests z.1.said) f said
+          subst (λ (z : ℕ × LinkBytes). WroteRequests name requests z.1.said) f said
       by_place rest_says n m (inl (suc k, below, f)) = absurd (omega arith)
       by_place rest_says n m (inr k) = rest_says n m k
 
@@ -387,7 +387,7 @@ module _ {D R W : Type 0} (dial : DialGhosts D R W) (reader : Reader R) (writer 
         verdicts_are = refl;
       })
       (record { named = named; each = each }) ends in
-      record { says = first.says; heard = λ n v e. only_now n v (first.heard n v (same n v went.ends e)) }
+      record { wrote = first.says; told = λ n v e. inr (only_now n v (first.heard n v (same n v went.ends e))) }
     where
       same : (n : ℕ) (v : Verdict) →
           ((length went.heard ≡ rounds) × (last ≡ went.following))

@@ -13,7 +13,9 @@ use Rattle.bw_model.specs.Stream.{frames_bytes}
 use Rattle.bw_model.proofs.Elements.{get-below}
 use Rattle.bw_wire.specs.EncodedFrames.{said}
 use Rattle.bw_engine.specs.Batches.{messages, pending_messages, batch}
-use Rattle.bw_delivery.specs.Deliveries.{IsOneOf, IsPartOf, SaysRequests}
+use Rattle.bw_delivery.specs.Statement.{IsPartOf, WroteRequests}
+use Rattle.bw_delivery.proofs.OwnFrames.{each_request}
+use Rattle.bw_delivery.proofs.SoundTurns.{IsOneOf}
 use Rattle.bw_end_to_end.specs.UsedLinks.{PendingHaveNumbers}
 
 -- the numbers that there are
@@ -101,13 +103,13 @@ all-append P (x ∷ xs) ys h k = (h.0, all-append P xs ys h.1 k)
 -- a prefix of a sender's batch says its requests
 pub batch_says : (name : List ℕ) (requests : List Request) (s : Sender) (rest : List Request) →
     IsOffered name requests s rest → AreSpelled name requests → (bytes : List ℕ) →
-    IsPartOf bytes (frames_bytes (batch s)) → SaysRequests name requests bytes
+    IsPartOf bytes (frames_bytes (batch s)) → WroteRequests name requests bytes
 batch_says name requests s rest h spelled bytes part =
     let numbered = pending_numbered name requests s rest h in
     record {
       frames = batch s;
-      each = all-append (IsOneOf name requests) (pending_messages s) (Bye ∷ [])
-          (messages_are name s.name requests _ h.name_is numbered) (tt, tt);
+      each = each_request name requests (batch s) (all-append (IsOneOf name requests) (pending_messages s) (Bye ∷ [])
+          (messages_are name s.name requests _ h.name_is numbered) (tt, tt));
       spelled = list_all-append (is_frame Second) (pending_messages s) (Bye ∷ [])
           ∙ and_from (list_all (is_frame Second) (pending_messages s)) (list_all (is_frame Second) (Bye ∷ []))
           (messages_spelled name s.name requests _ h.name_is spelled numbered) refl;

@@ -19,7 +19,8 @@ use Rattle.bw_console.specs.declared.exit.Exit.{Exit}
 use Rattle.bw_console.specs.declared.exit.Exit.TheVariants.{Done, Refused, Usage, Device, Memory}
 use Rattle.bw_ports.specs.declared.peers.Peers.{Ghosts as PeerGhosts}
 use Rattle.bw_serve.specs.ServedAll.{ServedOutcome, Served, Gone, Closed, ServesNext, ServesEach, EndsEarly}
-use Rattle.bw_delivery.specs.Deliveries.{LinkBytes, IsPartOf, AnswersOver}
+use Rattle.bw_delivery.specs.Statement.{LinkBytes, IsPartOf}
+use Rattle.bw_end_to_end.specs.ServedLinks.{AnswersOver}
 use Rattle.bw_end_to_end.specs.ServedInTurn.{ServedExchange, trace_of, IsPeerEnd, exchange_next, exchanges_each}
 use Rattle.bw_end_to_end.specs.ServedInTurn.{exchanges_early, AnswersInTurn, RunsAnswerInTurn}
 use Rattle.bw_end_to_end.proofs.ConnectionLinks.{all_contain}

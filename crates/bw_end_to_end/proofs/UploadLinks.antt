@@ -21,7 +21,8 @@ use Rattle.bw_upload.specs.Courses.{Course, CourseStep, UploadEvent, Fills, Miss
 use Rattle.bw_upload.specs.declared.feed.Feed.{Ghosts as FeedGhosts}
 use Rattle.bw_upload.specs.declared.observer.LinkEnd.{LinkEnd}
 use Rattle.bw_upload.specs.declared.observer.LinkEnd.TheVariants as ends
-use Rattle.bw_delivery.specs.Deliveries.{LinkBytes, SaysRequests, HeardOverLinks}
+use Rattle.bw_delivery.specs.Deliveries.{HeardOverLinks}
+use Rattle.bw_delivery.specs.Statement.{LinkBytes, WroteRequests}
 use Rattle.bw_end_to_end.specs.UsedLinks.{UsedLink, AreSenderEnds, PendingHaveNumbers}
 use Rattle.bw_end_to_end.specs.UploadedLinks.{used_link, open_link, writer_left, links_in_course, UploadsSendOn}
 use Rattle.bw_end_to_end.specs.UploadedLinks.{UploadsSendRequests}
@@ -39,7 +40,7 @@ heard_over_line (Some l) = l.heard
 -- what a course writes and hears, over these links; this was heard over the first of them already
 record CourseSends (name : List ℕ) (requests : List Request) (before : List (Option Verdict)) (heard_now : List Reply)
     (after : List (Option Verdict)) (links : List (ℕ × LinkBytes)) : Type 0 where
-  says : (n : ℕ) (l : LinkBytes) → Contains links (n, l) → SaysRequests name requests l.said
+  says : (n : ℕ) (l : LinkBytes) → Contains links (n, l) → WroteRequests name requests l.said
   heard : (n : ℕ) (v : Verdict) → at after n ≡ Some v → (at before n ≡ Some v) ⊎ HeardOverLinks links name n v
   current : (n : ℕ) (v : Verdict) → Contains heard_now (Judged name n v) → HeardOverLinks links name n v
 
@@ -76,10 +77,10 @@ module _ {F P D R W X : Type 0} (feed : FeedGhosts F X) (pause : PauseGhosts P)
         );
       }
     where
-      by_place : ((n : ℕ) (m : LinkBytes) → Contains ls (n, m) → SaysRequests name requests m.said) →
-          (n : ℕ) (m : LinkBytes) → Contains (l ∷ []) (n, m) ⊎ Contains ls (n, m) → SaysRequests name requests m.said
+      by_place : ((n : ℕ) (m : LinkBytes) → Contains ls (n, m) → WroteRequests name requests m.said) →
+          (n : ℕ) (m : LinkBytes) → Contains (l ∷ []) (n, m) ⊎ Contains ls (n, m) → WroteRequests name requests m.said
       by_place rest_says n m (inl (zero, below, f)) =
-          subst (λ (z : ℕ × LinkBytes). SaysRequests name requests z.1.said) f
+          subst (λ (z : ℕ × LinkBytes). WroteRequests name requests z.1.said) f
           (end_says reader writer name requests made w l.1 took ends.0)
       by_place rest_says n m (inl (suc k, below, f)) = absurd (omega arith)
       by_place rest_says n m (inr k) = rest_says n m k
@@ -271,11 +272,11 @@ module _ {F P D R W X : Type 0} (feed : FeedGhosts F X) (pause : PauseGhosts P)
   uploads_send_on x sender outcome f f' p p' d d' went requests rest links whole numbered named each ends =
       let h = course_sends feed pause dial reader writer most x.name requests went.events _ went.last went.went None links
       rest tt refl numbered whole (record { named = named; each = each }) ends in
-      record { says = h.says; heard = h.heard }
+      record { wrote = h.says; told = h.heard }
 
   -- a new sender had no requests before
   pub uploads_send : UploadsSendRequests feed pause dial reader writer most
   uploads_send name sender outcome f f' p p' d d' went requests rest links whole named each ends =
       let h = uploads_send_on (new_sender name) sender outcome f f' p p' d d' went requests rest links whole
       (λ n below none. absurd (omega (arith, below))) named each ends in
-      record { says = h.says; heard = λ n v e. only_now n v (h.heard n v e) }
+      record { wrote = h.wrote; told = λ n v e. inr (only_now n v (h.told n v e)) }

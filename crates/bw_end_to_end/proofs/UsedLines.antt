@@ -19,7 +19,9 @@ use Rattle.bw_engine.specs.LinkReplies.{PartsWith}
 use Rattle.bw_engine.specs.SaidMessages.{numbered_from, unsaid_messages}
 use Rattle.bw_ports.specs.declared.dial.Duplex.{Duplex}
 use Rattle.bw_upload.specs.Conversations.{Conversing, Line, SaysPending, BreaksSaying, HearsReplies, new_line}
-use Rattle.bw_delivery.specs.Deliveries.{LinkBytes, IsOneOf, IsPartOf, SaysRequests, HearsVerdict}
+use Rattle.bw_delivery.specs.Statement.{LinkBytes, IsPartOf, WroteRequests, WasTold}
+use Rattle.bw_delivery.proofs.OwnFrames.{each_request}
+use Rattle.bw_delivery.proofs.SoundTurns.{IsOneOf}
 use Rattle.bw_end_to_end.specs.UsedLinks.{IsSenderEnd}
 use Rattle.bw_end_to_end.proofs.SaidRequests.{IsOffered, AreSpelled, IsNumbered, pending_numbered, messages_are}
 use Rattle.bw_end_to_end.proofs.SaidRequests.{messages_spelled, all-append}
@@ -27,7 +29,7 @@ use Rattle.bw_end_to_end.proofs.SaidRequests.{messages_spelled, all-append}
 some_inj : {X : Type 0} {x y : X} → Some x ≡ Some y → x ≡ y
 some_inj e = cc
 
-frames-append : (xs ys : List Frame) → frames_bytes (xs ++ ys) ≡ frames_bytes xs ++ frames_bytes ys
+pub frames-append : (xs ys : List Frame) → frames_bytes (xs ++ ys) ≡ frames_bytes xs ++ frames_bytes ys
 frames-append [] ys = refl
 frames-append (x ∷ xs) ys =
     ap (λ (z : List ℕ). framed (body x) ++ z) (frames-append xs ys)
@@ -176,12 +178,21 @@ module _ {R W : Type 0} (reader : Reader R) (writer : Writer W) (name : List ℕ
   -- bytes that a link took are a prefix of frames of the requests
   abbrev pub Took : Duplex R W → W → Type 0
   Took made w = (gives : List ℕ) → writer.written made.writer ≡ Some [] → reader.left made.reader ≡ Some gives →
-      (bytes : List ℕ) × (writer.written w ≡ Some bytes) × SaysRequests name requests bytes
+      (bytes : List ℕ) × (writer.written w ≡ Some bytes) × WroteRequests name requests bytes
+
+  wrote_own : {bytes : List ℕ} (frames : List Frame) → AreOwn name requests frames → IsPartOf bytes (frames_bytes frames) →
+      WroteRequests name requests bytes
+  wrote_own frames own part = record {
+    frames = frames;
+    spelled = own.spelled;
+    part = part;
+    each = each_request name requests frames own.each;
+  }
 
   pub took_so_far : (made : Duplex R W) (l : Line R W) → IsUsedFrom made l → Took made l.writer
   took_so_far made l used gives unused left =
       let u = used gives unused left in
-      (u.bytes, u.stands, record { frames = u.frames; each = u.own.each; spelled = u.own.spelled; part = u.part })
+      (u.bytes, u.stands, wrote_own u.frames u.own u.part)
 
   bye_own : AreOwn name requests (Bye ∷ [])
   bye_own = record { each = (tt, tt); spelled = refl }
@@ -206,48 +217,39 @@ module _ {R W : Type 0} (reader : Reader R) (writer : Writer W) (name : List ℕ
       all = ap (λ (z : List ℕ). z ++ bye) (u.whole whole) ∙ sym (frames-append u.frames (Bye ∷ []))
 
       go : Writes (writer.written l.writer) bye (writer.written w') ⊎ Begins (writer.written l.writer) bye (writer.written w') →
-          (bytes : List ℕ) × (writer.written w' ≡ Some bytes) × SaysRequests name requests bytes
+          (bytes : List ℕ) × (writer.written w' ≡ Some bytes) × WroteRequests name requests bytes
       go (inl wrote) = (
         u.bytes ++ bye,
         wrote u.bytes u.stands,
-        record {
-          frames = fs;
-          each = own.each;
-          spelled = own.spelled;
-          part = ([], append-nil (u.bytes ++ bye) ∙ all);
-        },
+        wrote_own fs own ([], append-nil (u.bytes ++ bye) ∙ all),
       )
       go (inr begun) =
           let b = begun u.bytes u.stands in (
             u.bytes ++ b.part,
             b.stands,
-            record {
-              frames = fs;
-              each = own.each;
-              spelled = own.spelled;
-              part = (b.rest, append_assoc u.bytes b.part b.rest ∙ ap (λ (z : List ℕ). u.bytes ++ z) b.whole ∙ all);
-            },
+            wrote_own fs own
+                (b.rest, append_assoc u.bytes b.part b.rest ∙ ap (λ (z : List ℕ). u.bytes ++ z) b.whole ∙ all),
           )
 
   -- an end of the link is of this kind
   pub end_says : (made : Duplex R W) (w : W) (l : LinkBytes) → Took made w →
       IsSenderEnd reader writer (record { reader = made.reader; writer = made.writer; writer_after = w }) l →
-      SaysRequests name requests l.said
+      WroteRequests name requests l.said
   end_says made w l took end =
       let t = took l.heard end.unused end.heard in
-      subst (SaysRequests name requests) (some_inj (sym t.1 ∙ end.said)) t.2
+      subst (WroteRequests name requests) (some_inj (sym t.1 ∙ end.said)) t.2
 
   pub end_hears : (made : Duplex R W) (line : Line R W) (w : W) (l : LinkBytes) → IsUsedFrom made line →
       IsSenderEnd reader writer (record { reader = made.reader; writer = made.writer; writer_after = w }) l →
-      (n : ℕ) (v : Verdict) → Contains line.heard (Judged name n v) → HearsVerdict name n v l.heard
+      (n : ℕ) (v : Verdict) → Contains line.heard (Judged name n v) → WasTold name n v l.heard
   end_hears made line w l used end n v has =
       let u = used l.heard end.unused end.heard in
       record {
         replies = line.heard;
-        rest = u.rest ++ u.left;
-        spelled = record {
-          each = u.heard.each;
-          whole = sym u.all ∙ ap (λ (z : List ℕ). z ++ u.left) u.heard.whole ∙ append_assoc _ u.rest u.left;
-        };
-        has = has;
+        spelled = u.heard.each;
+        part = (
+          u.rest ++ u.left,
+          sym (sym u.all ∙ ap (λ (z : List ℕ). z ++ u.left) u.heard.whole ∙ append_assoc _ u.rest u.left),
+        );
+        among = has;
       }

@@ -17,7 +17,7 @@ use Rattle.bw_send_file.specs.Sendings.{Ways}
 use Rattle.bw_send_file.specs.declared.fault.FeedFault.{FeedFault}
 use Rattle.bw_send_state.specs.SentOn.{StoresRecording, UploadsAll, WasStoredBefore}
 use Rattle.bw_send_state.specs.declared.job.Job.{Job}
-use Rattle.bw_delivery.specs.Deliveries.{LinkBytes}
+use Rattle.bw_delivery.specs.Statement.{LinkBytes}
 use Rattle.bw_end_to_end.specs.UploadedLinks.{links_in_course}
 use Rattle.bw_end_to_end.specs.UsedLinks.{UsedLink, AreSenderEnds, SendsOnOver}
 use Rattle.bw_end_to_end.specs.UsedLinks.{HasAllStored, PendingHaveNumbers}

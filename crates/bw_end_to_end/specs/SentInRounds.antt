@@ -15,7 +15,7 @@ use Rattle.bw_console.specs.declared.exit.Exit.TheVariants.{Done}
 use Rattle.bw_send.specs.RoundsMade.{IsRound, AreRounds, MakesRounds}
 use Rattle.bw_send.specs.SendState.{Sending, hear_in, new_sending, offer_more}
 use Rattle.bw_send.specs.Sends.{IsSendRun, PrintsSender}
-use Rattle.bw_delivery.specs.Deliveries.{LinkBytes}
+use Rattle.bw_delivery.specs.Statement.{LinkBytes}
 use Rattle.bw_end_to_end.specs.UsedLinks.{UsedLink, AreSenderEnds, HasAllStored, SendsOver}
 
 module _ {D R W : Type 0} (dial : DialGhosts D R W) (reader : Reader R) (writer : Writer W) where

@@ -12,7 +12,8 @@ use Rattle.bw_console.specs.declared.exit.Exit.TheVariants.{Done}
 use Rattle.bw_ports.specs.declared.peers.Peers.{Ghosts as PeerGhosts}
 use Rattle.bw_serve.specs.ServedAll.{ServedOutcome, Served, Gone, Closed, ServesNext, ServesEach}
 use Rattle.bw_serve.specs.ServedAll.{EndsEarly, ServesRun}
-use Rattle.bw_delivery.specs.Deliveries.{LinkBytes, AnswersOver}
+use Rattle.bw_delivery.specs.Statement.{LinkBytes}
+use Rattle.bw_end_to_end.specs.ServedLinks.{AnswersOver}
 use Rattle.bw_end_to_end.specs.UsedLinks.{UsedLink}
 
 -- An exchange of a run: its number, what was answered in it, and the link of its peer.

@@ -1,13 +1,28 @@
 -- The server's ends of its links, while it has many connections.
-use Rattle.std.specs.Prelude.{◌≡◌, ◌⊎◌, ℕ, List}
-use Rattle.std.specs.List.{Contains}
+use Rattle.std.specs.Prelude.{◌≡◌, ◌⊎◌, ℕ, Option, IsTrue, List, ◌++◌}
+use Rattle.std.specs.List.{Contains, list_all}
+use Rattle.bw_model.specs.Replies.{is_reply}
+use Rattle.bw_model.specs.Stream.{End}
+use Rattle.bw_model.specs.Exchange.{replies_bytes}
 use Rattle.bw_ports.specs.declared.link.Link.{Ghosts as LinkGhosts}
+use Rattle.bw_exchange.specs.AnsweredFrames.{Answered, answered_frames, replies_of}
+use Rattle.bw_exchange.specs.Done.{AreFirstOf, last_of}
 use Rattle.bw_connections.specs.declared.connection.Connection.{Connection}
 use Rattle.bw_connections.specs.declared.connections.Closed.{Closed}
 use Rattle.bw_connections.specs.declared.connections.Connections.{Connections}
 use Rattle.bw_connections.specs.ConnectionTables.{Tagged, HoldsConnectionAt, own}
 use Rattle.bw_connections.specs.ConnectionBytes.{ServesEachConnection}
-use Rattle.bw_delivery.specs.Deliveries.{LinkBytes, IsPartOf, AnswersOver}
+use Rattle.bw_delivery.specs.Statement.{LinkBytes, IsPartOf}
+
+-- These frames were answered over a link: they are the first of what was read of it, and what was
+-- written is a prefix of their replies, and of the one to a bad frame after them.
+pub record AnswersOver (answered : List Answered) (received written : List ℕ) : Type 0 where
+  pub read : List ℕ
+  pub read_part : IsPartOf read received
+  pub first : AreFirstOf (answered_frames answered) read
+  pub spelled : IsTrue (list_all is_reply (replies_of answered))
+  pub end : Option End
+  pub part : IsPartOf written (replies_bytes (replies_of answered ++ last_of end))
 
 module _ {L : Type 0} (G : LinkGhosts L) where
   -- the connection with this number has this link: at its place, or where it is over

@@ -20,7 +20,7 @@ use Rattle.bw_upload.specs.declared.feed.Feed.{Ghosts as FeedGhosts}
 use Rattle.bw_upload.specs.declared.observer.LinkEnd.{LinkEnd}
 use Rattle.bw_upload.specs.declared.observer.LinkEnd.TheVariants.{Ended, Broken, Stopped, Refused, Done}
 use Rattle.bw_upload.specs.declared.outcome.Outcome.{Outcome}
-use Rattle.bw_delivery.specs.Deliveries.{LinkBytes}
+use Rattle.bw_delivery.specs.Statement.{LinkBytes}
 use Rattle.bw_end_to_end.specs.UsedLinks.{UsedLink, AreSenderEnds, SendsOver, SendsOnOver}
 use Rattle.bw_end_to_end.specs.UsedLinks.{PendingHaveNumbers}
 

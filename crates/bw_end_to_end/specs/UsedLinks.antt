@@ -1,13 +1,12 @@
 -- The ends of links that a command used.
-use Rattle.std.specs.Prelude.{◌≡◌, ◌<◌, ◌≤◌, ◌⊎◌, ℕ, Option, Some, None, List, [], ◌∷◌, length}
+use Rattle.std.specs.Prelude.{◌≡◌, ◌<◌, ◌≤◌, ℕ, Option, Some, None, List, [], ◌∷◌, length}
 use Rattle.bw_model.specs.Bytes.{at}
 use Rattle.bw_model.specs.Take.{Request, Verdict, Stored}
 use Rattle.bw_model.specs.Wire.{Second, last_number}
 use Rattle.bw_model.specs.World.{Sender}
 use Rattle.bw_stream.specs.declared.sink.Sink.{Ghosts as Writer}
 use Rattle.bw_stream.specs.declared.source.Source.{Ghosts as Reader}
-use Rattle.std.specs.List.{Contains}
-use Rattle.bw_delivery.specs.Deliveries.{LinkBytes, SaysRequests, HeardOverLinks}
+use Rattle.bw_delivery.specs.Statement.{LinkBytes, DidSend}
 
 -- A link as it was made, and its writer after its use.
 pub record UsedLink (R W : Type 0) : Type 0 where
@@ -30,23 +29,27 @@ module _ {R W : Type 0} (reader : Reader R) (writer : Writer W) where
   AreSenderEnds (u ∷ us) [] = ⊥
   AreSenderEnds (u ∷ us) (x ∷ xs) = IsSenderEnd u x.1 × AreSenderEnds us xs
 
--- A sender wrote frames of these requests over these links, and nothing else; and each verdict that
--- it has came over one of them.
-pub record SendsOver (name : List ℕ) (requests : List Request) (verdicts : List (Option Verdict))
-    (links : List (ℕ × LinkBytes)) : Type 0 where
-  pub says : (n : ℕ) (l : LinkBytes) → Contains links (n, l) → SaysRequests name requests l.said
-  pub heard : (n : ℕ) (v : Verdict) → at verdicts n ≡ Some v → HeardOverLinks links name n v
+-- A sender from number 0, as the promise takes it: what it wrote over these links are frames of these
+-- requests, and each verdict that it has came over one of them.
+abbrev pub SendsOver : List ℕ → List Request → List (Option Verdict) → List (ℕ × LinkBytes) → Type 0
+SendsOver name requests verdicts links = DidSend (record {
+  name = name;
+  requests = requests;
+  had = [];
+  has = verdicts;
+  links = links;
+})
 
--- a verdict that a sender had, or that came over one of these links
-abbrev pub HadOrHeard : Sender → List (ℕ × LinkBytes) → ℕ → Verdict → Type 0
-HadOrHeard s links n v = (at s.verdicts n ≡ Some v) ⊎ HeardOverLinks links s.name n v
-
--- The same of a sender that had requests and verdicts before these links: this is what it was then,
--- and what it is after them.
-pub record SendsOnOver (requests : List Request) (s last : Sender) (links : List (ℕ × LinkBytes))
-    : Type 0 where
-  pub says : (n : ℕ) (l : LinkBytes) → Contains links (n, l) → SaysRequests s.name requests l.said
-  pub heard : (n : ℕ) (v : Verdict) → at last.verdicts n ≡ Some v → HadOrHeard s links n v
+-- The same of one that had requests and verdicts before these links: this is what it was then, and
+-- what it is after them.
+abbrev pub SendsOnOver : List Request → Sender → Sender → List (ℕ × LinkBytes) → Type 0
+SendsOnOver requests s last links = DidSend (record {
+  name = s.name;
+  requests = requests;
+  had = s.verdicts;
+  has = last.verdicts;
+  links = links;
+})
 
 -- each request that has no verdict yet has a number that a message can have
 abbrev pub PendingHaveNumbers : Sender → Type 0

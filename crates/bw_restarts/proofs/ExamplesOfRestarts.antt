@@ -1,9 +1,6 @@
 -- The worked row computes.
-use Rattle.std.proofs.Common.{◌≡◌, ℕ, suc, zero, ◌<◌, false, List, [], ◌∷◌, ◌++◌, Some, None, refl}
-use Rattle.std.proofs.Common.{sym, subst, arith, ◌⊎◌, inl, inr}
-use Rattle.std.specs.Prelude.{◌==◌}
+use Rattle.std.proofs.Common.{◌≡◌, ℕ, suc, zero, ◌<◌, List, [], ◌∷◌, ◌++◌, Some, None, refl, arith}
 use Rattle.std.specs.List.{AllByRecursion, Contains}
-use Rattle.std.proofs.lemmas.Bool.{cases_eq, ne_eqb}
 use Rattle.bw_model.proofs.Computing.{computing}
 use Rattle.bw_model.proofs.BookLaws.{empty_book, turns_keep_books}
 use Rattle.bw_model.specs.Take.{Open, Block, Close, Stored}
@@ -18,9 +15,10 @@ use Rattle.bw_model.specs.ExamplesOfWorlds.{small_take}
 use Rattle.bw_journal.proofs.CutLaws.{cut_books_are_books}
 use Rattle.bw_exchange.specs.AnsweredFrames.{Answered}
 use Rattle.bw_connections.specs.ConnectionTables.{Tagged, own}
-use Rattle.bw_delivery.specs.Deliveries.{LinkBytes, IsOwnLink, IsOfAnother, IsJoined, IsDelivery, HasOnly, HearsVerdict}
+use Rattle.bw_delivery.specs.Deliveries.{LinkBytes, IsOwnLink, IsJoined, IsDelivery, HasOnly, WasTold}
 use Rattle.bw_delivery.proofs.Elements.{each-contains}
-use Rattle.bw_delivery.proofs.ExamplesOfDeliveries.{skipped, take_said}
+use Rattle.bw_delivery.proofs.ExamplesOfDeliveries.{take_said}
+use Rattle.bw_delivery.proofs.OwnFrames.{each_request}
 use Rattle.bw_restarts.specs.Restarts.{ServerLife, GoesOnFrom, HeardInLives}
 use Rattle.bw_restarts.specs.ExamplesOfRestarts.{first_life, second_life, StoppedServerExample}
 use Rattle.bw_restarts.proofs.LifeLaws.{cuts_go_on}
@@ -38,30 +36,20 @@ second_trace = answers 1 (says 1 (Block two_frames)) ∷ answers 2 (says 2 (Clos
 abbrev one_link : LinkBytes → List (ℕ × LinkBytes)
 one_link l = (0, l) ∷ []
 
--- each connection is the sender's link, or had no frame
-abbrev IsLinkOrEmpty : LinkBytes → List Tagged → ℕ → Type 0
-IsLinkOrEmpty l trace n =
-    ((m : LinkBytes) × Contains (one_link l) (n, m)) ⊎ AllByRecursion (λ a. IsOfAnother a1 a.frame) (own n trace)
+-- all came over the sender's only link
+abbrev IsLinked : LinkBytes → Tagged → Type 0
+IsLinked l t = (m : LinkBytes) × Contains (one_link l) (t.0, m)
 
-others : (l : LinkBytes) (trace : List Tagged) →
-    ((n : ℕ) → (n ≡ 0 → ⊥) → AllByRecursion (λ t. (t.0 == n) ≡ false) trace) → (n : ℕ) → IsLinkOrEmpty l trace n
-others l trace apart n = go (cases_eq n 0)
-  where
-    go : (n ≡ 0) ⊎ (n ≡ 0 → ⊥) → IsLinkOrEmpty l trace n
-    go (inl e) = inl (l, subst (λ (k : ℕ). Contains (one_link l) (k, l)) (sym e) (0, omega arith, refl))
-    go (inr e) = inr (subst (AllByRecursion (λ a. IsOfAnother a1 a.frame)) (sym (skipped n trace (apart n e))) tt)
+linked : (l : LinkBytes) → (m : LinkBytes) × Contains (one_link l) (0, m)
+linked l = (l, (0, omega arith, refl))
 
 joined : (l : LinkBytes) (trace : List Tagged) → IsOwnLink a1 small_take (own 0 trace) l →
-    ((n : ℕ) → (n ≡ 0 → ⊥) → AllByRecursion (λ t. (t.0 == n) ≡ false) trace) →
-    IsJoined a1 small_take (one_link l) trace
-joined l trace is_own apart = record {
+    AllByRecursion (IsLinked l) trace → IsJoined a1 small_take (one_link l) trace
+joined l trace is_own all = record {
   own_links = λ n m has. each-contains (λ x. IsOwnLink a1 small_take (own x.0 trace) x.1) (one_link l) (n, m)
       (is_own, tt) has;
-  others = others l trace apart;
+  alone = λ n a m has e same. each-contains (IsLinked l) trace (n, a) all has;
 }
-
-apart_two : (n : ℕ) → (n ≡ 0 → ⊥) → (0 == n) ≡ false
-apart_two n e = ne_eqb 0 n (λ k. e (sym k))
 
 none_some : {X : Type 0} {x : X} → None ≡ Some x → ⊥
 none_some e = cc
@@ -87,7 +75,7 @@ unfolding computing
 first_own = record {
   unchanged = record { there = (close_2, refl); back = (judged_example 1 0, refl) };
   says = take_said;
-  answers = record { read = open_0 ++ block_1; read_part = ([], refl); first = ([], refl); end = None; spelled = refl; part = ([], refl) };
+  answers = record { spelled = refl; read = ([], refl); spelled_back = refl; end = None; part = ([], refl) };
 }
 
 second_own : IsOwnLink a1 small_take (own 0 second_trace) second_link
@@ -96,11 +84,12 @@ second_own = record {
   unchanged = record { there = ([], refl); back = ([], refl) };
   says = record {
     frames = says 1 (Block two_frames) ∷ says 2 (Close 2) ∷ [];
-    each = ((refl, refl), ((refl, refl), tt));
+    each = each_request a1 small_take (says 1 (Block two_frames) ∷ says 2 (Close 2) ∷ [])
+        ((refl, refl), ((refl, refl), tt));
     spelled = refl;
     part = ([], refl);
   };
-  answers = record { read = block_1 ++ close_2; read_part = ([], refl); first = ([], refl); end = None; spelled = refl; part = ([], refl) };
+  answers = record { spelled = refl; read = ([], refl); spelled_back = refl; end = None; part = ([], refl) };
 }
 
 began_book : IsBook second_life.began
@@ -120,7 +109,8 @@ first_delivery = record {
     answers = refl;
     left = refl;
   };
-  joined = joined first_link first_trace first_own (λ n e. (apart_two n e, (apart_two n e, tt)));
+  joined = joined first_link first_trace first_own
+      (linked first_link, (linked first_link, tt));
 }
 
 second_delivery : IsDelivery nothing_stands a1 small_take second_life.links second_life.began second_life.left
@@ -134,7 +124,8 @@ second_delivery = record {
     answers = refl;
     left = refl;
   };
-  joined = joined second_link second_trace second_own (λ n e. (apart_two n e, (apart_two n e, tt)));
+  joined = joined second_link second_trace second_own
+      (linked second_link, (linked second_link, tt));
 }
   where
     only : HasOnly small_take (log_of second_life.began a1)
@@ -142,19 +133,21 @@ second_delivery = record {
     only (suc zero) r e = e
     only (suc (suc n)) r e = absurd (none_some e)
 
-first_heard : HearsVerdict a1 0 Stored first_link.heard
+first_heard : WasTold a1 0 Stored first_link.heard
+unfolding computing
 first_heard = record {
   replies = Judged a1 0 Stored ∷ [];
-  rest = [];
-  spelled = record { each = refl; whole = refl };
-  has = (0, omega arith, refl);
+  spelled = refl;
+  part = ([], refl);
+  among = (0, omega arith, refl);
 }
 
 abbrev replies : List Reply
 replies = Judged a1 1 Stored ∷ Judged a1 2 Stored ∷ []
 
-second_heard : (n : ℕ) → Contains replies (Judged a1 n Stored) → HearsVerdict a1 n Stored second_link.heard
-second_heard n has = record { replies = replies; rest = []; spelled = record { each = refl; whole = refl }; has = has }
+second_heard : (n : ℕ) → Contains replies (Judged a1 n Stored) → WasTold a1 n Stored second_link.heard
+unfolding computing
+second_heard n has = record { replies = replies; spelled = refl; part = ([], refl); among = has }
 
 abbrev lives : List ServerLife
 lives = first_life ∷ second_life ∷ []
