@@ -11,7 +11,7 @@ use Rattle.bw_model.specs.Replies.{Reply, Judged}
 use Rattle.bw_model.specs.ExampleWords.{a1, two_frames, says}
 use Rattle.bw_model.specs.ExamplesOfWorlds.{small_take}
 use Rattle.bw_connections.specs.ConnectionTables.{Tagged, own}
-use Rattle.bw_delivery.specs.Statement.{LinkBytes, IsTrueLink, WroteRequests, WasTold, ServedOver, HasHeard, DidSend}
+use Rattle.bw_delivery.specs.Statement.{LinkBytes, IsTrueLink, WroteRequests, WasTold, ServedOver, HadOrHeard, DidSend}
 use Rattle.bw_delivery.specs.Statement.{DidServe, Premises}
 use Rattle.bw_delivery.proofs.Elements.{each-contains}
 use Rattle.bw_delivery.proofs.OwnFrames.{each_request}
@@ -62,14 +62,14 @@ told_over : (n : ℕ) → Contains replies (Judged a1 n Stored) → WasTold a1 n
 unfolding computing
 told_over n has = record { replies = replies; spelled = refl; part = ([], refl); among = has }
 
-over : (n : ℕ) → Contains replies (Judged a1 n Stored) → HasHeard going_on n Stored
+over : (n : ℕ) → Contains replies (Judged a1 n Stored) → HadOrHeard going_on n Stored
 over n has = inr (0, rest_link, (0, omega arith, refl), told_over n has)
 
 -- the first verdict was there before, and the two others came over the link
-told : (n : ℕ) (v : Verdict) → at going_on.has n ≡ Some v → HasHeard going_on n v
+told : (n : ℕ) (v : Verdict) → at going_on.has n ≡ Some v → HadOrHeard going_on n v
 told zero v e = inl e
-told (suc zero) v e = subst (HasHeard going_on 1) (some_inj e) (over 1 (0, omega arith, refl))
-told (suc (suc zero)) v e = subst (HasHeard going_on 2) (some_inj e) (over 2 (1, omega arith, refl))
+told (suc zero) v e = subst (HadOrHeard going_on 1) (some_inj e) (over 1 (0, omega arith, refl))
+told (suc (suc zero)) v e = subst (HadOrHeard going_on 2) (some_inj e) (over 2 (1, omega arith, refl))
 told (suc (suc (suc n))) v e = absurd (none_some e)
 
 sender : DidSend going_on
