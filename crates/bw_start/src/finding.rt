@@ -22,11 +22,9 @@ use bw_disk::{ReadFault, Volume, read_file};
 use bw_journal::{ReplayFault, Replayed, header_limit, replay};
 use bw_layout::Limit;
 use bw_request::Name;
+use bw_session::JOURNAL_MAX;
 use bw_take::TakeState;
 use std::alloc::Global;
-
-/// The most bytes of a journal that is read.
-const JOURNAL_MAX: usize = 1 << 40;
 
 /// How many bytes show whether a file begins as a take of this server.
 const FRONT_LEN: usize = 20;

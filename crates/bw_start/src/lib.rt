@@ -20,6 +20,8 @@ mod resuming;
 mod starting;
 mod watch;
 
+pub use bw_session::JOURNAL_MAX;
+
 pub use adoption::{
     Adoption, FileFacts, Mending, data_end, data_place, file_len, header_of, judge_file,
 };

@@ -15,13 +15,10 @@ use bw_digest::LANES;
 use bw_disk::{ReadFault, Volume};
 use bw_journal::{JournalHeader, first_entry};
 use bw_request::{LONGEST_BLOCK, Name};
-use bw_start::data_place;
+use bw_start::{JOURNAL_MAX, data_place};
 use bw_take::TakeState;
 use sha2::{Digest, Sha256};
 use std::alloc::{AllocError, Global};
-
-/// The most bytes of a journal that is read.
-const JOURNAL_MAX: usize = 1 << 40;
 
 /// The first number of a take whose samples aren't in the file at a path, by its journal: at the
 /// place of a stored BLOCK are other bytes than those of which the journal has the digest, or

@@ -15,12 +15,11 @@ use bw_disk::{ReadFault, Volume, read_file};
 use bw_journal::{ReplayFault, Replayed, replay};
 use bw_layout::Limit;
 use bw_request::Name;
-use bw_start::{FileRead, NameFault, data_end, header_if, judge_file, path_in, read_take};
+use bw_start::{
+    FileRead, JOURNAL_MAX, NameFault, data_end, header_if, judge_file, path_in, read_take,
+};
 use bw_take::TakeState;
 use std::alloc::Global;
-
-/// The most bytes of a journal that are read.
-const JOURNAL_MAX: usize = 1 << 40;
 
 /// How a journal of the largest limit begins, but for its first eight bytes.
 const USUAL_FRONT: [u8; 12] = [0, 0, 0, 0, 0, 0, 0, 0, 254, 255, 255, 255];
