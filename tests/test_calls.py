@@ -19,6 +19,7 @@ from kit import network
 from kit import wrong_calls
 from cases.faults import RETRIES
 from cases.journals import CASES as CASES_OF_JOURNALS
+from kit.hints import hinted
 from kit.network import CANT_GO_ON, connect, finish, free_port, hear_all, hear_batch, LOCAL, reason, run_cases, TALLY
 from kit.takes import bad_frame, BYE_FRAME, DELAYED_STORE, message, notice, verdict
 from kit.watched import accepted_at, accepted_in_turn, BLOCK, CLOSE, CLOSE_EMPTY, CLOSE_MARKED, DESCRIBE, ENDED
@@ -313,7 +314,7 @@ def case_streams_and_statuses(folder):
     not_opened = [f"{path} can't be opened: {reason(why)}\n".encode() for path, why in ((missing, 2), (cut, 5))]
     for words, given, observer, status, text, calls in (
         (("replay", *case.options), case.given.encode(), Watcher(), 0, case.text(), []),
-        (("inspect", str(cut)), b"", Watcher(), 1, b"inspect: Truncated at 682\n", opened),
+        (("inspect", str(cut)), b"", Watcher(), 1, hinted("inspect", "Truncated at 682").encode(), opened),
         (("inspect", b"\xff"), b"", Watcher(), 2, UNREAD, []),
         (("inspect", b"a", b"\xff"), b"", Watcher(), 2, UNREAD, []),
         (("inspect", str(missing)), b"", Watcher(), 3, not_opened[0], [f"open {missing} to-read fails 2"]),

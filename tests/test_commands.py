@@ -25,6 +25,7 @@ from cases import inspections as cases_of_inspections
 from cases import orders as cases_of_orders
 from cases import rehearsals as cases_of_rehearsals
 from cases import takes as cases_of_takes
+from kit.hints import hinted
 from kit.processes import end_after
 from kit.repository import program
 from kit.tally import difference, Tally
@@ -204,7 +205,7 @@ def case_inspections(folder):
     for of, file, text in cases_of_inspections.REPORTS:
         same_inspections(folder, of, file, 0, text.encode(), b"")
     for of, file, fault in cases_of_inspections.FAULTS:
-        same_inspections(folder, of, file, 1, b"", f"inspect: {fault}\n".encode())
+        same_inspections(folder, of, file, 1, b"", hinted("inspect", fault).encode())
 
 
 def inspect_in_pieces(file, size):

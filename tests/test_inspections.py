@@ -15,6 +15,7 @@ import time
 sys.dont_write_bytecode = True  # nothing is left beside this script
 from cases import inspections as cases_of_inspections
 from cases.recordings import PLAIN, SENT, TEXTS
+from kit.hints import hinted
 from kit.network import reason, run, run_cases, TALLY
 from kit.recordings import bext, chunk, cue, data, fmt, Recording, riff
 from kit.takes import little
@@ -146,7 +147,7 @@ def case_several(folder):
 def case_one(folder):
     """One file without an option is reported as ever: no name, and the fault on standard error."""
     path = written(folder, b"RIFX", "a.wav")
-    TALLY.same("one file", run("inspect", path), (1, "", "inspect: NotWave at 0\n"))
+    TALLY.same("one file", run("inspect", path), (1, "", hinted("inspect", "NotWave at 0")))
 
 
 def case_digest(folder):
@@ -232,7 +233,7 @@ def case_input(folder):
         TALLY.same(f"- --json, {of}", (status, objects(out), faults), (0, [report("-", file)], ""))
         TALLY.same(f"- --human, {of}", run("inspect", "--human", "-", given=file), (0, human(report("-", file)), ""))
     for of, file, said in FAULTS:
-        TALLY.same(f"-, {of}", run("inspect", "-", given=file), (1, "", f"inspect: {said}\n"))
+        TALLY.same(f"-, {of}", run("inspect", "-", given=file), (1, "", hinted("inspect", said)))
         status, out, faults = run("inspect", "-", "--json", given=file)
         TALLY.same(f"- --json, {of}", (status, objects(out), faults), (1, [fault("-", *kind_and_place(said))], ""))
 

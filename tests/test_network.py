@@ -20,6 +20,7 @@ import time
 sys.dont_write_bytecode = True  # nothing is left beside this script
 from cases.disks import case_bad_folder, case_folder_goes_away, case_full_disk, case_name_taken
 from cases.peers import case_bad_servers, case_cut_client, case_deaf_peer, case_garbage, case_silent_peer
+from kit.hints import hinted
 from kit.network import connect, ends_by_signal, Fault, finish, free_port, hear_all, LEAST_LIMIT, LOCAL, LONGEST_WAIT, Relay
 from kit.network import run, run_cases, same_exchanges, same_file, same_port_in_use, same_replay, same_settled, send
 from kit.network import send_all, send_words, Server, start, start_with_pipes, stopped, TALLY, UNSETTLED, WINDOW
@@ -268,7 +269,7 @@ def same_stopped_file(name, path, take, stored, limit):
     ahead = take.file(blocks + 1, limit)[4:8]
     if limit == LARGEST_LIMIT and found[4:8] == ahead:
         wanted = wanted[:4] + ahead + wanted[8:]
-        end = (1, f"inspect: Truncated at {690 + data}\n")
+        end = (1, hinted("inspect", f"Truncated at {690 + data}"))
     TALLY.same(f"{name}: the start of the file", found[: len(wanted)], wanted)
     status, _out, faults = run("inspect", str(path))
     TALLY.same(f"{name}: inspect", (status, faults), end)

@@ -16,6 +16,7 @@ import xml.etree.ElementTree as xml
 sys.dont_write_bytecode = True  # nothing is left beside this script
 from cases.inspections import FAULTS
 from cases.recordings import noise, REFUSED, SENT, TONE_FILE
+from kit.hints import hinted
 from kit.network import PROGRAM, run, run_cases, TALLY
 from kit.pictures import picture
 from kit.recordings import cue, data, extensible, fmt, long_data, long_form, Recording, riff
@@ -106,9 +107,9 @@ def case_refusals(folder):
     for case in REFUSED:
         if not case.options:
             found = run("picture", written(folder, case.file))
-            TALLY.same(f"picture, {case.of}", found, (1, "", f"picture: {case.said}\n"))
+            TALLY.same(f"picture, {case.of}", found, (1, "", hinted("picture", case.said)))
     for of, file, said in (*FAULTS[::7], *FAULTS[-16:]):
-        TALLY.same(f"picture, {of}", run("picture", written(folder, file)), (1, "", f"picture: {said}\n"))
+        TALLY.same(f"picture, {of}", run("picture", written(folder, file)), (1, "", hinted("picture", said)))
 
 
 def case_cut(folder):

@@ -214,6 +214,9 @@ done
     no_fields
 } >wanted
 cp "$examples/a1.wav" whole.wav
+sizes='hint: its sizes are wrong, as where a recorder was cut off: see bwingest repair FILE'
+no_wave='hint: no WAVE file: convert FLAC, AIFF, W64 and others: ffmpeg -i OLD -c:a pcm_s24le NEW.wav'
+no_bytes='hint: nothing of it can be read: it may be a directory'
 run inspect whole.wav
 ends_with 'a file' 0 ''
 cp whole.wav ./-whole.wav
@@ -225,17 +228,17 @@ ends_with 'a file through a pipe' 0 ''
 head -c 693 whole.wav >cut.wav
 : >wanted
 run inspect cut.wav
-ends_with 'a cut file' 1 'inspect: Truncated at 682'
+ends_with 'a cut file' 1 "$(printf '%s\n' 'inspect: Truncated at 682' "$sizes")"
 cat cut.wav | "$program" inspect /dev/stdin >out 2>faults
 status=$?
-ends_with 'a cut file through a pipe' 1 'inspect: Truncated at 682'
+ends_with 'a cut file through a pipe' 1 "$(printf '%s\n' 'inspect: Truncated at 682' "$sizes")"
 run inspect /dev/null
-ends_with 'an empty file' 1 'inspect: NotWave at 0'
+ends_with 'an empty file' 1 "$(printf '%s\n' 'inspect: NotWave at 0' "$no_wave")"
 
 # The file at the path is inspected, and no other.
 printf RI >a.wav
 run inspect a.wav
-ends_with 'a file of two bytes' 1 'inspect: NotWave at 0'
+ends_with 'a file of two bytes' 1 "$(printf '%s\n' 'inspect: NotWave at 0' "$no_wave")"
 run inspect b.wav
 ends_with 'a path of no file' 3 "b.wav can't be opened: No such file or directory (os error 2)"
 
@@ -379,7 +382,7 @@ ends_with 'a word that is no text' 2 "the command line can't be read"
 run inspect missing.wav
 ends_with 'a missing file' 3 "missing.wav can't be opened: No such file or directory (os error 2)"
 run inspect .
-ends_with 'a folder' 3 'inspect: Read at 0'
+ends_with 'a folder' 3 "$(printf '%s\n' 'inspect: Read at 0' "$no_bytes")"
 "$program" replay <. >out 2>faults
 status=$?
 ends_with 'an input that is a folder' 3 "the input can't be read"

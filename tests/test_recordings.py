@@ -12,12 +12,12 @@ import sys
 
 sys.dont_write_bytecode = True  # nothing is left beside this script
 from cases.recordings import FIELDS, HISTORY, REFUSED, SECOND, SENT, TONE_FILE
+from kit.hints import BAD_SETTING, hinted
 from kit.network import finish, LOCAL, reason, run, run_cases, Server, start, TALLY
 from kit.recordings import cue, data, fmt, Recording, riff
 from kit.repository import ROOT
 
 LONGEST_RUN = 120  # seconds, for all of it
-BAD_SETTING = "a value of '--set' isn't KEY=VALUE, or isn't allowed\n"
 
 # Texts after `--set` that are no settings: without a key or a value's sign, of another key, not of the key's form.
 BAD_SETTINGS = [
@@ -68,7 +68,7 @@ def case_refusals(folder):
     """Each file that isn't taken is refused before anything is printed."""
     for case in REFUSED:
         path = written(folder, case.file)
-        TALLY.same(f"pack, {case.of}", run("pack", str(path), *case.options), (1, "", f"pack: {case.said}\n"))
+        TALLY.same(f"pack, {case.of}", run("pack", str(path), *case.options), (1, "", hinted("pack", case.said)))
 
 
 def case_settings(folder):
@@ -83,7 +83,7 @@ def case_settings(folder):
 def case_no_file(folder):
     path = folder / "none.wav"
     TALLY.same("no file", run("pack", str(path)), (3, "", f"{path} can't be opened: {reason(2)}\n"))
-    TALLY.same("a folder", run("pack", str(folder)), (3, "", "pack: Read at 0\n"))
+    TALLY.same("a folder", run("pack", str(folder)), (3, "", hinted("pack", "Read at 0")))
 
 
 def case_cut(folder):

@@ -20,6 +20,7 @@ import threading
 
 sys.dont_write_bytecode = True  # nothing is left beside this script
 from cases.recordings import SENT, STEREO
+from kit.hints import hinted
 from kit.network import connect, free_port, hear_batch, hear_until_it_breaks, LOCAL, PROGRAM
 from kit.refuser import Refused
 from kit.repository import ROOT
@@ -257,7 +258,7 @@ def inspect_a_prefix(runs, program, kind, number):
 
 def what_a_prefix_breaks(kind, found, wanted):
     """A refused read is reported with the place of the next byte, which is 690 at the pipe's end."""
-    if wanted != (1, b"", b"inspect: Truncated at 682\n", 690):
+    if wanted != (1, b"", hinted("inspect", "Truncated at 682").encode(), 690):
         return "the end of the pipe isn't found"
     return None if found == (3, b"", b"inspect: Read at %d\n" % found[3], found[3]) else "another fault"
 

@@ -19,6 +19,7 @@ import wave
 from dataclasses import dataclass
 
 sys.dont_write_bytecode = True  # nothing is left beside this script
+from kit.hints import hinted
 from kit.network import PROGRAM, run, run_cases, TALLY
 from kit.repository import ROOT
 from kit.tracer import Traced
@@ -218,7 +219,7 @@ def case_refusals(folder):
     for fault, file in cases:
         path.write_bytes(file)
         for words in (("repair", str(path)), ("repair", str(path), "--write")):
-            TALLY.same(f"refused, {fault}", run(*words), (1, "", f"repair: {fault}\n"))
+            TALLY.same(f"refused, {fault}", run(*words), (1, "", hinted("repair", fault)))
         TALLY.same(f"refused, {fault}, file", path.read_bytes(), file)
 
 

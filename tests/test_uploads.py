@@ -19,6 +19,7 @@ import time
 
 sys.dont_write_bytecode = True  # nothing is left beside this script
 from cases.recordings import CUT, FIELDS, HISTORY, PLAIN, REFUSED, SECOND, SENT, TONE, TONE_FILE
+from kit.hints import BAD_SETTING, hinted, OTHER_NAME
 from kit.network import connect, finish, free_port, hear, hear_batch, LOCAL, LONGEST_WAIT, pass_both_ways
 from kit.network import reason, run, run_cases, Server, start, start_with_pipes, TALLY
 from kit.recordings import cue, data, DESCRIPTION, fmt, Recording, riff
@@ -30,7 +31,6 @@ LONGEST_RUN = 170  # seconds, for all of it
 NUMBERS_IN_WINDOW = 16
 CHANGED = "Changed: the file isn't any more what it was\n"
 FRUITLESS = "Fruitless: as many links in a row as are allowed settled nothing\n"
-BAD_SETTING = "a value of '--set' isn't KEY=VALUE, or isn't allowed\n"
 
 
 def upload(port, name, path, *options):
@@ -94,10 +94,10 @@ def case_refusals(folder):
     with unseen("refusals") as port:
         for case in REFUSED:
             found = upload(port, "x", written(folder, case.file), *case.options)
-            TALLY.same(f"send --file, {case.of}", found, (1, "", f"send: {case.said}\n"))
+            TALLY.same(f"send --file, {case.of}", found, (1, "", hinted("send", case.said)))
         path = folder / "none.wav"
         TALLY.same("no file", upload(port, "x", path), (3, "", f"{path} can't be opened: {reason(2)}\n"))
-        TALLY.same("a folder", upload(port, "x", folder), (3, "", "send: Read at 0\n"))
+        TALLY.same("a folder", upload(port, "x", folder), (3, "", hinted("send", "Read at 0")))
         for file in (path, written(folder, TONE_FILE)):
             for text in ("description", "other=x", "date=2024_05_17"):
                 TALLY.same(f"--set={text}", upload(port, "x", file, f"--set={text}"), (2, "", BAD_SETTING))
@@ -113,7 +113,7 @@ def case_garbage(folder):
     with unseen("garbage") as port:
         for at, file in enumerate(files):
             status, out, said = upload(port, "x", written(folder, file))
-            is_named = status == 1 and out == "" and re.fullmatch(r"send: [A-Za-z]+ at \d+\n", said)
+            is_named = status == 1 and out == "" and re.fullmatch(r"send: [A-Za-z]+ at \d+\n(hint: .*\n)?", said)
             TALLY.holds(f"garbage {at}", is_named, f"{status}, {out!r}, {said!r}")
 
 
@@ -160,7 +160,7 @@ def case_other_file(folder):
         path = written(folder, TONE_FILE)
         TALLY.same("the first file", upload(server.port, "one", path), (0, settled(9), ""))
         before = (folder / "takes" / "one.wav").read_bytes()
-        said = "Conflict: another request was sent under number 1\n"
+        said = "Conflict: another request was sent under number 1\n" + OTHER_NAME
         found = upload(server.port, "one", path, "--set", "description=Another")
         TALLY.same("another file", found, (1, settled(1), said))
         TALLY.same("the first file stays", (folder / "takes" / "one.wav").read_bytes(), before)
@@ -281,7 +281,7 @@ def case_conflict_by_peer(folder):
         with peer:
             hear_batch(peer, 100)
             peer.sendall(verdict("two", 0, STORED) + notice("two", 1, CONFLICT, 2))
-            said = "Conflict: another request was sent under number 1\n"
+            said = "Conflict: another request was sent under number 1\n" + OTHER_NAME
             TALLY.same("Conflict by a peer", finish(sender), (1, settled(1), said))
 
 
@@ -296,7 +296,7 @@ def case_conflict_beside_stored(folder):
             hear_batch(peer, 100)
             stored = b"".join(verdict("two", number, STORED) for number in range(count))
             peer.sendall(stored + notice("two", 1, CONFLICT, count))
-            said = "Conflict: another request was sent under number 1\n"
+            said = "Conflict: another request was sent under number 1\n" + OTHER_NAME
             TALLY.same("Conflict beside Stored", finish(sender), (1, settled(count), said))
 
 
@@ -309,7 +309,7 @@ def case_body_of_another(folder):
             held = notice("held", 1, HELD, 0)
             TALLY.same("a request that is held", hear(peer, len(held)), held)
         status, _out, said = upload(server.port, "held", written(folder, TONE_FILE))
-        wanted = (1, "Conflict: another request was sent under number 1\n")
+        wanted = (1, "Conflict: another request was sent under number 1\n" + OTHER_NAME)
         TALLY.same("a request of another sender", (status, said), wanted)
 
 

@@ -4,6 +4,7 @@ The files with faults are worked ones in which some bytes are changed.
 """
 from typing import NamedTuple
 
+from kit.hints import hinted
 from kit.takes import little
 from kit.worked import SMALL
 
@@ -148,5 +149,5 @@ FAULTS = [
 # What is given in pieces: reports, and a file that is cut off.
 IN_PIECES = [
     *((one.of, one.file, 0, one.text, "") for one in REPORTS if one.file in (RF64, TABLED, MARKED)),
-    ("500 bytes", SMALL_FILE[:500], 1, "", "inspect: Truncated at 72\n"),
+    ("500 bytes", SMALL_FILE[:500], 1, "", hinted("inspect", "Truncated at 72")),
 ]

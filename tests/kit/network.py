@@ -17,6 +17,7 @@ import tempfile
 import threading
 import time
 
+from kit.hints import without_outages
 from kit.processes import end_after
 from kit.repository import program
 from kit.takes import ASK, BYE_FRAME, LARGEST_LIMIT, message, Take
@@ -61,7 +62,13 @@ def start(*words, observer=None, **streams):
 
 
 def finish(process, given=None, name="a command"):
-    """Waits until a process ends by itself; its status, standard output and standard error."""
+    """Waits until a process ends by itself; its status, standard output, and standard error without outages."""
+    status, out, faults = finish_whole(process, given, name)
+    return status, out, without_outages(faults)
+
+
+def finish_whole(process, given=None, name="a command"):
+    """The same with all that is on standard error."""
     try:
         out, faults = process.communicate(given, timeout=2 * LONGEST_WAIT)
     except subprocess.TimeoutExpired:

@@ -4,11 +4,12 @@ import re
 from made_up.checked_runs import done_well, holds, in_memory, run, same
 from kit.forms import form_of, places_of, put_together, report_of
 from made_up.files import random_chunks, random_table, wrong_file
+from kit.hints import hinted
 from kit.takes import chunk, little
 
 FAULT_LINE = (
     r"inspect: (NotWave|Truncated|NoDs64|BadDs64|NoSize|Twice|NoFmt|NoData|BadFmt|BadBext|BadCue|TooMany|TooLarge)"
-    r" at (\d+)\n"
+    r" at (\d+)\n(hint: .*\n)?"
 )
 
 
@@ -31,7 +32,7 @@ def inspected(data, through_pipe=False):
 
 
 def same_fault(what, ended, fault, place):
-    same(what, (ended.status, ended.faults), (1, f"inspect: {fault} at {place}\n"))
+    same(what, (ended.status, ended.faults), (1, hinted("inspect", f"{fault} at {place}")))
 
 
 def check_file(case, name, limit, whole):

@@ -1,10 +1,12 @@
 //! The program `bwingest`: its commands, over standard input and output.
 #![tactic(auto)]
 
+use bw_causes::CauseCell;
 use bw_disk::SystemDisk;
 use bw_machine::{TcpNetwork, Terminal};
 use bw_net::{ClockStopwatch, Host, HostRecordings, SpoolCell, SpoolPause};
 use bw_one_name::FilteredNetwork;
+use bw_outages::{LastOutage, OutageReports};
 use bw_program::{Outside, start};
 use bw_progress::{ClearingSink, LineHandle, RenewingPause, SendWatch, SharedProgress};
 use bw_send_file::LinkLog;
@@ -15,6 +17,7 @@ use std::process::ExitCode;
 
 fn main(rt: HostRuntime) -> ExitCode {
     let spool = SpoolCell::new();
+    let causes = CauseCell::new();
     let terminal = Terminal::new(&rt);
     let screen = terminal.again(&rt);
     let line = SharedProgress::new(rt.alloc(), screen, ClockStopwatch::new(&rt));
@@ -22,7 +25,7 @@ fn main(rt: HostRuntime) -> ExitCode {
         system: Host::new(&rt),
         files: HostRecordings::new(&rt, &spool),
         disk: SystemDisk::new(&rt),
-        network: FilteredNetwork::new(TcpNetwork::new(&rt, &spool)),
+        network: FilteredNetwork::new(TcpNetwork::new(&rt, &spool, &causes)),
         pause: RenewingPause {
             inner: SpoolPause::new(&rt, &spool),
             line: LineHandle { shared: &line },
@@ -36,13 +39,26 @@ fn main(rt: HostRuntime) -> ExitCode {
             inner: StdIo::new(rt.stderr()),
             line: LineHandle { shared: &line },
         },
-        watch: SendWatch {
-            rounds: terminal,
-            files: HostRecordings::new(&rt, &spool),
-            line: &line,
+        watch: OutageReports {
+            watch: SendWatch {
+                rounds: terminal,
+                files: HostRecordings::new(&rt, &spool),
+                line: &line,
+            },
+            causes: &causes,
+            faults: ClearingSink {
+                inner: StdIo::new(rt.stderr()),
+                line: LineHandle { shared: &line },
+            },
+            last: LastOutage::none(),
         },
-        log: LinkLog {
-            out: StdIo::new(rt.stderr()),
+        log: OutageReports {
+            watch: LinkLog {
+                out: StdIo::new(rt.stderr()),
+            },
+            causes: &causes,
+            faults: StdIo::new(rt.stderr()),
+            last: LastOutage::none(),
         },
         screens: screen_style(&rt),
     };

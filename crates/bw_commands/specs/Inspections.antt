@@ -1,8 +1,9 @@
 -- What an inspection writes, and how it ends.
-use Rattle.std.specs.Prelude.{◌≡◌, ◌⊎◌, ℕ, List, [], ◌∷◌, ◌++◌, Option, Some, Result, Ok, Err, not}
+use Rattle.std.specs.Prelude.{◌≡◌, ◌⊎◌, ℕ, List, ◌∷◌, ◌++◌, Option, Some, Result, Ok, Err, not}
 use Rattle.std.specs.Prelude.{true, codes}
 use Rattle.bw_model.specs.Reading.{Fault, IsFault}
 use Rattle.bw_model.specs.Report.{report_of, report_text}
+use Rattle.bw_hints.specs.Hints.{file_hint}
 use Rattle.bw_inspect.specs.Faults.{bytes_fault, inspect_fault_text, is_failed_read}
 use Rattle.bw_stream.specs.Readers.{Of}
 use Rattle.bw_inspect.specs.Readings.{HasReading}
@@ -20,9 +21,9 @@ use Rattle.bw_console.specs.declared.exit.Exit.TheVariants.{Refused, Device, Mem
 use Rattle.bw_console.specs.declared.fault.Fault.{Fault as Failure}
 use Rattle.bw_console.specs.declared.fault.Fault.TheVariants as failures
 
--- the line of a fault
+-- the line of a fault, and the hint below it
 abbrev pub fault_line : InspectFault → List ℕ
-fault_line f = codes "inspect: " ++ inspect_fault_text f ++ 10 ∷ []
+fault_line f = codes "inspect: " ++ inspect_fault_text f ++ 10 ∷ file_hint f.kind f.offset
 
 -- how an inspection ends after a fault of this kind
 abbrev pub exit_for_fault : InspectKind → Exit

@@ -10,6 +10,7 @@ ghost use Rattle.bw_console.specs.Prints.{IsPrint, Print, failures_if};
 use arrayvec::ArrayString;
 use bw_console::print::{give_up, print, print_diagnostic};
 use bw_console::{Exit, Fault, report_unopened};
+use bw_hints::hint_of;
 use bw_inspect::{InspectFault, InspectKind, Report, inspect, write_report};
 use bw_ports::System;
 use bw_stream::{MemorySink, Sink, Source};
@@ -97,8 +98,9 @@ fn print_report<W: Sink>(alloc: Global, report: &Report, out: &mut W) -> Result<
     }
 }
 
-/// The line of a fault. It allocates nothing, since memory may be what is lacking.
-fn line_of(fault: &InspectFault) -> ArrayString<64>
+/// The line of a fault, and below it what to do about it, where that is known. It allocates nothing,
+/// since memory may be what is lacking.
+fn line_of(fault: &InspectFault) -> ArrayString<256>
     ensures { result.bytes ≡ fault_line fault.now }
 {
     let mut digits = Buffer::new();
@@ -108,6 +110,7 @@ fn line_of(fault: &InspectFault) -> ArrayString<64>
     line.push_str(" at ");
     line.push_str(digits.format(fault.offset));
     line.push_str("\n");
+    line.push_str(hint_of(fault.kind, fault.offset));
     line
 }
 

@@ -5,6 +5,7 @@ ghost use Rattle.bw_folder.specs.TakeFolders.{takes_folder};
 
 use crate::journals::refuse_journals;
 use crate::locked::KeptStart;
+use bw_causes::CauseCell;
 use bw_disk::SystemDisk;
 use bw_folder::FolderStore;
 use bw_net::{FolderLock, SpoolCell, TcpDial, TcpPeers, TcpReactor, check_folder};
@@ -22,6 +23,8 @@ pub struct TcpNetwork<'a> {
     pub(crate) rt: &'a HostRuntime,
     /// The spool, if there is one, is filled while a link's calls wait.
     pub(crate) spool: &'a SpoolCell,
+    /// Is told why a link to a server can't be made, or breaks off.
+    pub(crate) causes: &'a CauseCell,
     pub(crate) failures: u64,
     /// What is kept of the latest start of a server with journals.
     pub(crate) kept: Option<KeptStart<FolderLock>>,
@@ -34,18 +37,23 @@ impl<'a> TcpNetwork<'a> {
     ghost use Rattle.bw_net.specs.SeenLinks.{peers_address, peers_folder, peers_timeout};
 
     /// The network of this runtime, which has not failed yet. This spool is filled while the calls of
-    /// a link to a server wait.
+    /// a link to a server wait, and this cell is told why they fail.
     ///
     /// # Not specified
     /// - That its runtime is the one that was given.
     /// - That a folder is tried before its store is given, that it listens and calls at the
     ///   address, and when an error is returned.
-    pub fn new(rt: &'a HostRuntime, spool: &'a SpoolCell) -> TcpNetwork<'a>
+    pub fn new(
+        rt: &'a HostRuntime,
+        spool: &'a SpoolCell,
+        causes: &'a CauseCell,
+    ) -> TcpNetwork<'a>
         ensures { network_failures result ≡ 0 }
     {
         TcpNetwork {
             rt,
             spool,
+            causes,
             failures: 0,
             kept: None,
         }
@@ -153,7 +161,7 @@ impl<'a> Network for TcpNetwork<'a> {
     }
 
     fn dial(&self, address: SocketAddr, timeout: Option<u32>) -> TcpDial<'a> {
-        TcpDial::new(self.rt, self.spool, address, span(timeout), None)
+        TcpDial::new(self.rt, self.spool, self.causes, address, span(timeout), None)
     }
 }
 
@@ -164,7 +172,7 @@ impl<'a> PacedNetwork for TcpNetwork<'a> {
         timeout: Option<u32>,
         rate: Option<u32>,
     ) -> TcpDial<'a> {
-        TcpDial::new(self.rt, self.spool, address, span(timeout), rate)
+        TcpDial::new(self.rt, self.spool, self.causes, address, span(timeout), rate)
     }
 }
 

@@ -4,9 +4,11 @@ ghost use Rattle.std.specs.Prelude.{◌≡◌, IfOk, None};
 use crate::counting::counted;
 use crate::folder::has_folder;
 use crate::link_stream::{LinkStream, connect};
+use crate::noted_stream::{NotedStream, noted};
 use crate::pause::SpoolPause;
 use crate::spool::SpoolCell;
 use crate::stopwatch::ClockStopwatch;
+use bw_causes::CauseCell;
 use bw_pace::PacedSink;
 use bw_ports::{AcceptFault, Dial, DialFault, Duplex, Peer, Peers};
 use bw_stream::StdIo;
@@ -23,6 +25,8 @@ pub struct TcpDial<'a> {
     rt: &'a HostRuntime,
     /// The spool, if there is one, is filled while a call waits.
     spool: &'a SpoolCell,
+    /// Is told why a call failed.
+    causes: &'a CauseCell,
     address: SocketAddr,
     /// How long a call may wait, if there is a limit.
     timeout: Option<Duration>,
@@ -35,14 +39,15 @@ impl<'a> TcpDial<'a> {
     ghost use Rattle.bw_net.specs.SeenLinks.{dial_address, dial_timeout, dial_rate, dial_failures};
 
     /// Opens links to this address, over each of which so many bytes a second go at most, if a rate
-    /// is given; it has not failed yet.
+    /// is given; it has not failed yet. The cell is told why one can't be made, or breaks off.
     ///
     /// # Not specified
-    /// - That its runtime is the one that was given.
+    /// - That its runtime is the one that was given, and what the cell is told.
     /// - That its links go to the address, and what they give.
     pub fn new(
         rt: &'a HostRuntime,
         spool: &'a SpoolCell,
+        causes: &'a CauseCell,
         address: SocketAddr,
         timeout: Option<Duration>,
         rate: Option<u32>,
@@ -55,6 +60,7 @@ impl<'a> TcpDial<'a> {
         TcpDial {
             rt,
             spool,
+            causes,
             address,
             timeout,
             rate,
@@ -63,9 +69,12 @@ impl<'a> TcpDial<'a> {
     }
 }
 
+/// A stream to a server, whose failures are noted.
+type ServerStream<'a> = StdIo<NotedStream<'a, LinkStream<'a>>>;
+
 /// Writes to a server, no faster than the rate that is asked for, if there is one.
 type PacedStream<'a> = PacedSink<
-    StdIo<LinkStream<'a>>,
+    ServerStream<'a>,
     SpoolPause<'a>,
     ClockStopwatch<&'a HostRuntime>,
 >;
@@ -73,7 +82,7 @@ type PacedStream<'a> = PacedSink<
 impl<'a> Dial for TcpDial<'a> {
     ghost use Rattle.bw_net.specs.SeenLinks.{dial_address, dial_timeout, dial_rate, dial_failures};
 
-    type Reader = StdIo<LinkStream<'a>>;
+    type Reader = ServerStream<'a>;
 
     type Writer = PacedStream<'a>;
 
@@ -85,13 +94,16 @@ impl<'a> Dial for TcpDial<'a> {
         × (dial_timeout d' ≡ dial_timeout d)
         × (dial_rate d' ≡ dial_rate d) };
 
-    fn dial(&mut self) -> Result<Duplex<StdIo<LinkStream<'a>>, PacedStream<'a>>, DialFault> {
-        match connect(self.rt, self.spool, self.address, self.timeout) {
+    fn dial(&mut self) -> Result<Duplex<ServerStream<'a>, PacedStream<'a>>, DialFault> {
+        let causes = self.causes;
+        match noted(connect(self.rt, self.spool, self.address, self.timeout), causes) {
             Ok((reader, writer)) => {
-                let reader = StdIo::new(reader);
+                causes.note(None);
+                let reader = StdIo::new(NotedStream { stream: reader, causes });
+                let writer = StdIo::new(NotedStream { stream: writer, causes });
                 let pause = SpoolPause::new(self.rt, self.spool);
                 let stopwatch = ClockStopwatch::new(self.rt);
-                let writer = PacedSink::new(StdIo::new(writer), self.rate, pause, stopwatch);
+                let writer = PacedSink::new(writer, self.rate, pause, stopwatch);
                 Ok(Duplex { reader, writer })
             }
             Err(_) => {

@@ -18,15 +18,16 @@ use Rattle.bw_plan.specs.Faults.{recording_fault_text, recording_fault_meaning}
 use Rattle.bw_plan.specs.declared.fault.RecordingKind.{RecordingKind}
 use Rattle.bw_plan.specs.declared.fault.RecordingKind.TheVariants.{Unread}
 use Rattle.bw_plan.specs.declared.fault.RecordingFault.{RecordingFault}
+use Rattle.bw_recorder.specs.FaultHints.{recording_hint}
 use Rattle.bw_recorder.specs.FileReports.{HasReport, HasExtras, warnings_in}
 use Rattle.bw_recorder.specs.declared.opening.Extras.{Extras}
 use Rattle.bw_recorder.specs.WarningTexts.{warning_lines}
 use Rattle.bw_recorder.specs.declared.fault.OpenFault.{OpenFault}
 use Rattle.bw_recorder.specs.declared.fault.OpenFault.TheVariants.{Unopened, Refused, Changed}
 
--- the line of a recording's fault, which begins with the command's name
+-- the line of a recording's fault, which begins with the command's name, and the hint below it
 abbrev pub recording_line : List ℕ → RecordingFault → List ℕ
-recording_line command f = as_line (command ++ codes ": " ++ recording_fault_text f)
+recording_line command f = as_line (command ++ codes ": " ++ recording_fault_text f) ++ recording_hint f
 
 -- the line of a file that has changed
 abbrev pub changed_line : List ℕ → List ℕ

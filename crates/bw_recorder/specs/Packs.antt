@@ -30,9 +30,9 @@ use Rattle.bw_recorder.specs.declared.packing.PackFault.{PackFault}
 use Rattle.bw_recorder.specs.declared.packing.PackFault.TheVariants.{Unread, Altered, Unsendable}
 use Rattle.bw_recorder.specs.declared.packing.PackFault.TheVariants.{Unwritable, Memory}
 
--- what is reported of settings that can't be read
+-- what is reported of settings that can't be read, and the keys that there are
 abbrev pub bad_setting_line : List ℕ
-bad_setting_line = as_line (codes "a value of '--set' isn't KEY=VALUE, or isn't allowed")
+bad_setting_line = codes "a value of '--set' isn't KEY=VALUE, or isn't allowed\nhint: KEY is description, originator, reference, date, clock, time, umid, history, value, range, peak, momentary or short\n"
 
 -- what is reported where what is set can't be used, and how the command ends
 abbrev pub IsOptionsReport : OptionsFault → Exit → Print → Type 0

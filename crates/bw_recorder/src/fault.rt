@@ -3,6 +3,7 @@ ghost use Rattle.std.specs.Prelude.{◌≡◌, ◌≤◌, length};
 ghost use Rattle.bw_inspect.specs.Faults.{is_of_bytes};
 ghost use Rattle.bw_recorder.specs.Openings.{recording_line, changed_line, exit_on_kind, fault_again};
 
+use crate::hint::hint_of_recording;
 use arrayvec::ArrayString;
 use bw_console::Exit;
 use bw_inspect::{InspectFault, InspectKind};
@@ -46,9 +47,9 @@ pub const NO_MEMORY: RecordingFault = RecordingFault {
     offset: 0,
 };
 
-/// The line of a fault: the command's name, of at most 8 bytes, the kind, the place. It allocates
-/// nothing, since memory may be what is lacking.
-pub fn line_of(command: &str, fault: &RecordingFault) -> ArrayString<64>
+/// The line of a fault: the command's name, of at most 8 bytes, the kind, the place; and below it what
+/// to do about it, where that is known. It allocates nothing, since memory may be what is lacking.
+pub fn line_of(command: &str, fault: &RecordingFault) -> ArrayString<256>
     requires { length command.now ≤ 8 }
     ensures { result.bytes ≡ recording_line command.now fault.now }
 {
@@ -60,6 +61,7 @@ pub fn line_of(command: &str, fault: &RecordingFault) -> ArrayString<64>
     line.push_str(" at ");
     line.push_str(digits.format(fault.offset));
     line.push_str("\n");
+    line.push_str(hint_of_recording(fault));
     line
 }
 

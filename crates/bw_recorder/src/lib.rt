@@ -4,6 +4,7 @@
 #![tactic(auto)]
 
 mod fault;
+mod hint;
 mod job;
 mod opening;
 mod packing;

@@ -30,7 +30,8 @@ use std::alloc::Global;
 /// A sender has numbers for 16,777,216 requests; after them the plan is at its end.
 const QUESTIONS: u32 = 16_777_217;
 
-const BAD_SETTING: &str = "a value of '--set' isn't KEY=VALUE, or isn't allowed\n";
+/// What is reported of a setting that isn't one, and below it the keys that `read_setting` knows.
+const BAD_SETTING: &str = "a value of '--set' isn't KEY=VALUE, or isn't allowed\nhint: KEY is description, originator, reference, date, clock, time, umid, history, value, range, peak, momentary or short\n";
 
 /// Why not all requests of a recording are printed.
 #[derive(Drop)]

@@ -1,7 +1,10 @@
 -- What `repair` prints and reports.
 use Rattle.std.specs.Prelude.{ℕ, ◌+◌, Bool, List, [], ◌∷◌, ◌++◌, codes, decimal, if◌then◌else◌}
 use Rattle.bw_console.specs.Text.{as_line}
+use Rattle.bw_hints.specs.Hints.{form_hint}
 use Rattle.bw_repair.specs.Faults.{repair_fault_text}
+use Rattle.bw_repair.specs.declared.fault.RepairKind.{RepairKind}
+use Rattle.bw_repair.specs.declared.fault.RepairKind.TheVariants.{Unread}
 use Rattle.bw_repair.specs.declared.fault.RepairFault.{RepairFault}
 use Rattle.bw_repair_file.specs.declared.plan.SizePlan.{SizePlan}
 
@@ -22,9 +25,17 @@ plan_text p is_written =
     ++ codes "frames=" ++ decimal p.frames
     ++ (if is_written then codes " written=yes\n" else codes " written=no\n")
 
--- the line of a fault
+-- what to do about a fault, but for what `repair` itself does
+abbrev pub kind_hint : RepairKind → ℕ → List ℕ
+kind_hint (Unread kind) place = form_hint kind place
+kind_hint _ place = []
+
+abbrev pub repair_hint : RepairFault → List ℕ
+repair_hint f = kind_hint f.kind f.offset
+
+-- the line of a fault, and the hint below it
 abbrev pub repair_line : RepairFault → List ℕ
-repair_line f = as_line (codes "repair: " ++ repair_fault_text f)
+repair_line f = as_line (codes "repair: " ++ repair_fault_text f) ++ repair_hint f
 
 -- the line of a path whose file isn't written, for this reason
 abbrev pub unwritten_text : List ℕ → List ℕ → List ℕ

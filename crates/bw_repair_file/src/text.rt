@@ -1,11 +1,13 @@
 //! What `repair` prints and reports.
 ghost use Rattle.std.specs.Prelude.{◌≡◌, ◌++◌, ◌+◌, ◌^◌, ◌<◌, ◌≤◌, length, codes, IfOk, List, ℕ, string_bytes};
 ghost use Rattle.bw_repair_file.specs.Texts.{plan_text as text_of_plan, repair_line as line_of_repair};
-ghost use Rattle.bw_repair_file.specs.Texts.{size_line, sound_text as text_of_sound, unwritten_text};
+ghost use Rattle.bw_repair_file.specs.Texts.{repair_hint, size_line, sound_text as text_of_sound};
+ghost use Rattle.bw_repair_file.specs.Texts.{unwritten_text};
 
 use crate::plan::SizePlan;
 use arrayvec::ArrayString;
-use bw_repair::RepairFault;
+use bw_hints::hint_of_form;
+use bw_repair::{RepairFault, RepairKind};
 use itoa::Buffer;
 use std::alloc::{AllocError, Global};
 use std::io;
@@ -64,8 +66,9 @@ fn push_size(text: &mut ArrayString<256>, name: &str, place: u64, old: u32, new:
     text.push_str("\n");
 }
 
-/// The line of a fault. It allocates nothing, since memory may be what is lacking.
-pub(crate) fn repair_line(fault: &RepairFault) -> ArrayString<64>
+/// The line of a fault, and below it what to do about it, where that is known. It allocates nothing,
+/// since memory may be what is lacking.
+pub(crate) fn repair_line(fault: &RepairFault) -> ArrayString<256>
     ensures { result.bytes ≡ line_of_repair fault.now }
 {
     let mut digits = Buffer::new();
@@ -75,7 +78,19 @@ pub(crate) fn repair_line(fault: &RepairFault) -> ArrayString<64>
     line.push_str(" at ");
     line.push_str(digits.format(fault.offset));
     line.push_str("\n");
+    line.push_str(hint_of_repair(fault));
     line
+}
+
+/// The line that says what to do about a fault; an empty text where nothing is known.
+fn hint_of_repair(fault: &RepairFault) -> &'static str
+    ensures value { result.now ≡ repair_hint fault.now }
+    ensures short { length result.now ≤ 100 }
+{
+    match fault.kind {
+        RepairKind::Unread(kind) => hint_of_form(kind, fault.offset),
+        _ => "",
+    }
 }
 
 /// The line of a file that can't be written.

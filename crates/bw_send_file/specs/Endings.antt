@@ -18,12 +18,14 @@ use Rattle.bw_send_file.specs.declared.fault.FeedFault.{FeedFault}
 use Rattle.bw_send_file.specs.declared.fault.FeedFault.TheVariants.{Unread, Unstamped, Refused, Changed}
 use Rattle.bw_send_file.specs.declared.fault.FeedFault.TheVariants.{Unsendable, Memory}
 
--- the lines, whose first word is the cause
+-- the lines, whose first word is the cause; of two of them with the line of a hint below
 abbrev pub conflict_line : ℕ → List ℕ
 conflict_line n = as_line (codes "Conflict: another request was sent under number " ++ decimal n)
+    ++ codes "hint: another recording has this name: use another, or give that one up: bwingest takes --folder DIR --give-up NAME\n"
 
 abbrev pub too_far_line : ℕ → List ℕ
 too_far_line n = as_line (codes "TooFar: the server lacks requests before number " ++ decimal n)
+    ++ codes "hint: the server hasn't the take any more: send it again under another name\n"
 
 abbrev pub not_offered_line : List ℕ
 not_offered_line = as_line (codes "NotOffered: the sender takes no more requests")

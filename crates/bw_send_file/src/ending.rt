@@ -54,11 +54,11 @@ fn report_outcome<E: Sink>(
         Outcome::Done => Exit::Done,
         Outcome::Refused(_number, _verdict) => Exit::Refused,
         Outcome::Conflict(number) => {
-            let line = numbered("Conflict: another request was sent under number ", *number);
+            let line = numbered(CONFLICT, *number, OTHER_NAME);
             end_by(line.as_str().as_bytes(), Exit::Refused, faults)
         }
         Outcome::TooFar(number) => {
-            let line = numbered("TooFar: the server lacks requests before number ", *number);
+            let line = numbered(TOO_FAR, *number, LOST_TAKE);
             end_by(line.as_str().as_bytes(), Exit::Refused, faults)
         }
         Outcome::NotOffered(_error) => end_by(NOT_OFFERED, Exit::Refused, faults),
@@ -68,6 +68,15 @@ fn report_outcome<E: Sink>(
         Outcome::Limit => end_by(LIMIT, Exit::Device, faults),
     }
 }
+
+const CONFLICT: &str = "Conflict: another request was sent under number ";
+
+const OTHER_NAME: &str = "hint: another recording has this name: use another, or give that one up: bwingest takes --folder DIR --give-up NAME\n";
+
+const TOO_FAR: &str = "TooFar: the server lacks requests before number ";
+
+const LOST_TAKE: &str =
+    "hint: the server hasn't the take any more: send it again under another name\n";
 
 const NOT_OFFERED: &[u8] = b"NotOffered: the sender takes no more requests\n";
 
@@ -116,14 +125,16 @@ fn end_by<E: Sink>(line: &[u8], exit: Exit, faults: &mut E) -> Exit
     exit
 }
 
-/// A line with a number at its end.
-fn numbered(words: &str, number: u32) -> ArrayString<96>
-    requires { length words.now ≤ 64 }
-    ensures { result.bytes ≡ as_line (words.now ++ decimal number) }
+/// A line with a number at its end, and the line of a hint below it.
+fn numbered(words: &str, number: u32, hint: &str) -> ArrayString<256>
+    requires words { length words.now ≤ 64 }
+    requires hint { length hint.now ≤ 128 }
+    ensures { result.bytes ≡ as_line (words.now ++ decimal number) ++ hint.now }
 {
     let mut line = ArrayString::new();
     line.push_str(words);
     line.push_str(Buffer::new().format(number));
     line.push_str("\n");
+    line.push_str(hint);
     line
 }

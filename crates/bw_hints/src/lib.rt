@@ -1,0 +1,6 @@
+//! What to do about a file that isn't read.
+#![tactic(auto)]
+
+mod hints;
+
+pub use hints::{hint_of, hint_of_form};
