@@ -16,7 +16,7 @@ import threading
 import time
 
 sys.dont_write_bytecode = True  # nothing is left beside this script
-from kit.hints import hinted
+from kit.hints import CLOSED, hinted, OUTAGES, REFUSED
 from kit.network import Fault, free_port, LOCAL, LONGEST_WAIT, run, run_cases, start, TALLY
 from kit.recordings import data, fmt, Recording, riff
 from kit.terminals import Glass, open_terminal, pieces_of
@@ -58,6 +58,7 @@ class Sender:
         self.glass = Glass(rows, columns)
         self.text = ""
         self.lines = []  # each with the time at which it was read
+        self.outages = []
         self.fault = None
         self.reader = threading.Thread(target=self.read, daemon=True)
         self.reader.start()
@@ -85,12 +86,14 @@ class Sender:
         TALLY.holds(what, False, f"no such line after {[line for _, line in self.lines[-3:]]}")
 
     def end(self):
-        """Waits until it ends; its status, and what stands on the terminal then."""
+        """Waits until it ends; its status, and what stands on the terminal then but for why nothing went."""
         status = self.process.wait(2 * LONGEST_WAIT)
         self.reader.join(LONGEST_WAIT)
         os.close(self.terminal)
         TALLY.holds("what a terminal knows", self.fault is None, self.fault)
-        return status, [line for line in self.glass.shown() if line]
+        lines = [line for line in self.glass.shown() if line]
+        self.outages = [line for line in lines if f"{line}\n" in OUTAGES]
+        return status, [line for line in lines if line not in self.outages]
 
 
 def parts_of(name, sender):
@@ -242,6 +245,7 @@ def case_refused(folder):
     path = written(folder, file)
     sender = Sender(*words_of(port, "unheard", path, "--fruitless", "3"))
     TALLY.same("no server", sender.end(), (3, [*settled(0).splitlines(), FRUITLESS]))
+    TALLY.same("no server: why", sender.outages, [REFUSED.strip()])
     parts = parts_of("no server", sender)
     never_falls("no server", [int(match["down"]) for _, match in parts])
     are_paced("no server", sender, parts)
@@ -283,6 +287,7 @@ def case_link_down(folder):
     server = serve_again(port, takes)
     sender.until(lambda line: line.endswith("link up"), "the link is up again")
     TALLY.same("a link that goes: the end", sender.end(), (0, settled(82).splitlines()))
+    TALLY.same("a link that goes: why", sender.outages, [CLOSED.strip(), REFUSED.strip()])
     stop(server)
     parts = parts_of("a link that goes", sender)
     same_parts("a link that goes", parts, "down", len(recording.samples) // 2)

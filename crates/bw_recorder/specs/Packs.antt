@@ -1,10 +1,9 @@
 -- What the command `pack` prints and reports, and how it ends.
-use Rattle.std.specs.Prelude.{◌≡◌, ◌⊎◌, ◌++◌, ℕ, Bool, true, false, List, [], Option, Some, None}
+use Rattle.std.specs.Prelude.{◌≡◌, ◌⊎◌, ℕ, Bool, true, false, List, [], Option, Some, None}
 use Rattle.std.specs.Prelude.{Result, Ok, Err, codes}
 use Rattle.bw_stream.specs.Readers.{Of}
 use Rattle.bw_stream.specs.declared.sink.Sink.{Ghosts as Writer}
 use Rattle.bw_model.specs.Take.{Request}
-use Rattle.bw_inspect.specs.Faults.{inspect_fault_text}
 use Rattle.bw_console.specs.Outcomes.{Outcome, IsOutOfMemory}
 use Rattle.bw_console.specs.FailedOpenings.{IsUnopened}
 use Rattle.bw_console.specs.Faults.{input_fault_text}
@@ -16,6 +15,7 @@ use Rattle.bw_console.specs.declared.fault.Fault.TheVariants as faults
 use Rattle.std.specs.IoError.{error_kind}
 use Rattle.bw_plan.specs.Recordings.{Options, Recording, recording_of, block_frames}
 use Rattle.bw_plan.specs.Plans.{plan}
+use Rattle.bw_plan.specs.declared.fault.RecordingKind.TheVariants as kinds
 use Rattle.bw_recorder.specs.FileReports.{warnings_in}
 use Rattle.bw_recorder.specs.Openings.{RefusesAs, is_well_at, recording_line, changed_line, exit_on_kind}
 use Rattle.bw_recorder.specs.Puts.{GivesRequests}
@@ -109,7 +109,8 @@ exit_of_pack Memory = exits.Memory
 
 -- .. and what is reported of it
 abbrev pub pack_line : PackFault → List ℕ
-pack_line (Unread f) = as_line (codes "pack: " ++ inspect_fault_text f)
+pack_line (Unread f) =
+    recording_line (codes "pack") (record { kind = kinds.Unread f.kind; offset = f.offset })
 pack_line Altered = changed_line (codes "pack")
 pack_line Unsendable = as_line (codes "pack: TooLong")
 pack_line Unwritable = as_line (input_fault_text faults.Unwritable)

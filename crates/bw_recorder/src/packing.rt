@@ -31,7 +31,8 @@ use std::alloc::Global;
 const QUESTIONS: u32 = 16_777_217;
 
 /// What is reported of a setting that isn't one, and below it the keys that `read_setting` knows.
-const BAD_SETTING: &str = "a value of '--set' isn't KEY=VALUE, or isn't allowed\nhint: KEY is description, originator, reference, date, clock, time, umid, history, value, range, peak, momentary or short\n";
+const BAD_SETTING: &str =
+    "a value of '--set' isn't KEY=VALUE, or isn't allowed\nhint: KEY is description, originator, reference, date, clock, time, umid, history, value, range, peak, momentary or short\n";
 
 /// Why not all requests of a recording are printed.
 #[derive(Drop)]

@@ -26,12 +26,12 @@ plan_text p is_written =
     ++ (if is_written then codes " written=yes\n" else codes " written=no\n")
 
 -- what to do about a fault, but for what `repair` itself does
-abbrev pub kind_hint : RepairKind → ℕ → List ℕ
-kind_hint (Unread kind) place = form_hint kind place
-kind_hint _ place = []
+abbrev pub repair_kind_hint : RepairKind → ℕ → List ℕ
+repair_kind_hint (Unread kind) place = form_hint kind place
+repair_kind_hint _ place = []
 
 abbrev pub repair_hint : RepairFault → List ℕ
-repair_hint f = kind_hint f.kind f.offset
+repair_hint f = repair_kind_hint f.kind f.offset
 
 -- the line of a fault, and the hint below it
 abbrev pub repair_line : RepairFault → List ℕ

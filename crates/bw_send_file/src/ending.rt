@@ -71,7 +71,8 @@ fn report_outcome<E: Sink>(
 
 const CONFLICT: &str = "Conflict: another request was sent under number ";
 
-const OTHER_NAME: &str = "hint: another recording has this name: use another, or give that one up: bwingest takes --folder DIR --give-up NAME\n";
+const OTHER_NAME: &str =
+    "hint: another recording has this name: use another, or give that one up: bwingest takes --folder DIR --give-up NAME\n";
 
 const TOO_FAR: &str = "TooFar: the server lacks requests before number ";
 
