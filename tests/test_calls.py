@@ -19,6 +19,7 @@ from kit import network
 from kit import wrong_calls
 from cases.faults import RETRIES
 from cases.journals import CASES as CASES_OF_JOURNALS
+from cases.states import CASES as CASES_OF_STATES
 from kit.hints import hinted
 from kit.network import CANT_GO_ON, connect, finish, free_port, hear_all, hear_batch, LOCAL, reason, run_cases, TALLY
 from kit.takes import bad_frame, BYE_FRAME, DELAYED_STORE, message, notice, verdict
@@ -374,6 +375,7 @@ CASES = [
     case_streams_and_statuses,
     case_inspected,
     *CASES_OF_JOURNALS,
+    *CASES_OF_STATES,
 ]
 
 

@@ -94,7 +94,7 @@ FORMATS = [  # channels and bits, with the line that `inspect` prints
 
 
 def case_finished(folder):
-    """Files as they are: any format, no sample, some bytes before the samples, other blocks, sent again."""
+    """Files as they are: any format, some bytes before the samples, other blocks, sent again."""
     chance = random.Random(11)
     with serving(folder) as server:
         for channels, bits, line in FORMATS:
@@ -109,8 +109,6 @@ def case_finished(folder):
                 holds_samples(folder, name, samples, line)
                 again = upload(server.port, name, path, f"48000,{channels},{bits}", *options)
                 TALLY.same(f"{name}, sent again", again, (0, settled(count), ""))
-        found = upload(server.port, "none", written(folder, b""), "48000,1,16")
-        TALLY.same("no samples", found, (0, settled(2), ""))
         found = upload(server.port, "fields", written(folder, bytes(4)), "48000,1,16", "--set", "description=River")
         TALLY.same("a field", found, (0, settled(4), ""))
         TALLY.holds("a field", "description=River" in report_of(folder, "fields"), "it isn't there")
@@ -153,6 +151,10 @@ REFUSED = [  # the length of the file, the format, the options, and what is said
     (8, "48000,1,24", (), "PartFrame at 6"),
     (50, "48000,2,16", ("--skip", "44"), "PartFrame at 48"),
     (43, "48000,1,16", ("--skip", "44"), "Truncated at 44"),
+    (0, "48000,1,16", (), "Empty at 0"),
+    (44, "48000,1,16", ("--skip", "44"), "Empty at 44"),
+    (0, "48000,1,20", (), "Bits at 0"),
+    (1, "48000,1,16", (), "PartFrame at 0"),
 ]
 
 USAGE = [  # options, and the first words of what is said
@@ -195,6 +197,41 @@ def case_refusals(folder):
             TALLY.holds(f"{options}", named, f"{status}, {out!r}, {faults!r}")
         status, _out, faults = run("send", "--connect", f"{LOCAL}:{port}", "--name=x", "--pcm=48000,1,16")
         TALLY.holds("without a file", status == 2 and "'--pcm' is for" in faults, f"{status}, {faults!r}")
+
+
+def case_no_file(folder):
+    """Samples in something else than a file are refused before any link is made, and not waited for."""
+    pipe = folder / "pipe.raw"
+    os.mkfifo(pipe)
+    follow = ("--follow", "--until", str(folder / "end"))
+    with unseen("no file") as port:
+        for odd, said in ((folder, "a directory"), (pipe, "a pipe: use --spool"), ("/dev/zero", "a device")):
+            for options in ((), ("--log",), follow):
+                found = upload(port, "x", odd, "48000,1,16", *options)
+                TALLY.same(f"{odd} {options}", found, (3, "", f"{odd} is {said}\n"))
+        found = run(*words_of(port, "x", "/dev/stdin", "48000,1,16"), given=bytes(100_000))
+        TALLY.same("a pipe as input", found, (3, "", "/dev/stdin is a pipe: use --spool\n"))
+
+
+def case_no_frame(folder):
+    """A recording that ends without a frame begins no take, whose name is left for one with samples."""
+    end = written(folder, b"", "end")
+    with serving(folder) as server:
+        for length, options, said in (
+            (0, (), "Empty at 0"),
+            (44, ("--skip", "44"), "Empty at 44"),
+            (3, (), "PartFrame at 0"),
+            (43, ("--skip", "40"), "PartFrame at 40"),
+        ):
+            path = written(folder, bytes(length))
+            followed = ("--follow", "--until", str(end), *options)
+            found = upload(server.port, "none", path, "48000,2,16", *followed)
+            TALLY.same(f"{length} bytes followed", found, (1, settled(0), f"send: {said}\n"))
+        left = [file.name for file in (folder / "takes").iterdir() if file.name.startswith("none")]
+        TALLY.same("no frame: the takes", left, [])
+        path = written(folder, bytes(range(8)))
+        found = upload(server.port, "none", path, "48000,2,16", "--follow", "--until", str(end))
+        TALLY.same("two frames under the name", found, (0, settled(3), ""))
 
 
 class Writer(threading.Thread):
@@ -377,6 +414,8 @@ CASES = [
     case_finished,
     case_crashed_header,
     case_refusals,
+    case_no_file,
+    case_no_frame,
     case_followed,
     case_ended_before,
     case_link_down,

@@ -277,6 +277,25 @@ def same_stopped_file(name, path, take, stored, limit):
     TALLY.holds(f"{name}: the file", blocks >= stored_blocks, f"{blocks} blocks, though {stored_blocks} are stored")
 
 
+def case_typed(_folder):
+    """Who types requests is told that they are read, before the first; who gives them otherwise isn't."""
+    terminal, end = pty.openpty()
+    pipe = subprocess.PIPE
+    words = ("send", "--connect", f"{LOCAL}:{free_port()}", "--name", "a1")
+    sender = start(*words, stdin=end, stdout=pipe, stderr=pipe)
+    os.close(end)
+    timer = threading.Timer(5, sender.kill)
+    timer.start()
+    said = sender.stderr.readline()
+    timer.cancel()
+    note = b"send: reads requests from standard input, each a line of hex, to its end (Ctrl-D)\n"
+    TALLY.same("typed", said, note)
+    os.write(terminal, b"no request\n\x04")
+    TALLY.same("typed: a bad line", finish(sender), (1, "", "line 1: not a request\n"))
+    os.close(terminal)
+    TALLY.same("not typed", run(*words, given=b"no request\n"), (1, "", "line 1: not a request\n"))
+
+
 CASES = [
     case_until_stopped,
     case_exchanges,
@@ -294,6 +313,7 @@ CASES = [
     case_name_taken,
     case_garbage,
     case_log,
+    case_typed,
     case_silent_peer,
     case_deaf_peer,
     case_cut_client,

@@ -287,7 +287,7 @@ Options:
       --status <ADDR>      With --recorders: shows its status over HTTP at 127.0.0.1:PORT, or any address with --network
   -h, --help               Print help
 
-Example: bwingest serve --listen 127.0.0.1:4100 --folder takes --recorders 16 --journal
+Example: bwingest serve --listen 127.0.0.1:4100 --folder takes --until-stopped --recorders 16 --journal
 EOF
 run serve --help
 ends_with 'help on serve' 0 ''

@@ -111,7 +111,7 @@ def case_slow_writer(folder):
         Writer(sender, samples, 32, 0.05).start()
         is_whole("slow", folder, spool, samples, 6, finish_written(sender))
         found = run(*words_of(server.port, "none", folder / "none.raw", "48000,1,16"))
-        TALLY.same("no input", found, (0, settled(2), ""))
+        TALLY.same("no input", found, (1, settled(0), "send: Empty at 0\n"))
         found = run(*words_of(server.port, "skip", folder / "skip.raw", "48000,1,16", "--skip", "44"), given=bytes(44) + samples)
         TALLY.same("bytes before the samples", found, (0, settled(requests_of(samples, 2)), ""))
         TALLY.same("bytes before the samples", digest(samples_of(folder, "skip")), digest(samples))
@@ -129,7 +129,7 @@ def case_file_as_input(folder):
         is_whole("file", folder, spool, samples, 4, finish(sender))
         words = words_of(server.port, "null", folder / "null.raw", "48000,2,16")
         sender = start(*words, stdin=subprocess.DEVNULL, stdout=pipe, stderr=pipe)
-        TALLY.same("input from /dev/null", finish(sender), (0, settled(2), ""))
+        TALLY.same("input from /dev/null", finish(sender), (1, settled(0), "send: Empty at 0\n"))
 
 
 def serve_at(port, takes):
@@ -236,8 +236,31 @@ def case_part_of_a_frame(folder):
         TALLY.same("after a part of a frame: the spool", spool.read_bytes(), samples + bytes(5))
 
 
+def case_no_samples(folder):
+    """An input without a frame begins no take; the same command then sends samples under the same name."""
+    spool = folder / "none.raw"
+    samples = random.Random(43).randbytes(4 * 20_000)
+    with serving(folder) as server:
+        words = words_of(server.port, "none", spool, "48000,2,16")
+        TALLY.same("no samples", run(*words), (1, settled(0), "send: Empty at 0\n"))
+        TALLY.same("no samples: the spool", spool.read_bytes(), b"")
+        left = [file.name for file in (folder / "takes").iterdir() if file.name.startswith("none")]
+        TALLY.same("no samples: the takes", left, [])
+        is_whole("none", folder, spool, samples, 4, run(*words, given=samples))
+        spool = folder / "few.raw"
+        found = run(*words_of(server.port, "few", spool, "48000,2,16"), given=bytes(3))
+        TALLY.same("a part of a frame alone", found, (1, settled(0), "send: PartFrame at 0\n"))
+        left = [file.name for file in (folder / "takes").iterdir() if file.name.startswith("few")]
+        TALLY.same("a part of a frame alone: the takes", left, [])
+
+
 def case_refusals(folder):
     """A spool that can't be made, or is none."""
+    pipe = folder / "pipe.raw"
+    os.mkfifo(pipe)
+    for odd, said in ((pipe, "a pipe"), ("/dev/null", "a device")):
+        found = run(*words_of(free_port(), "x", odd, "48000,1,16"), given=bytes(8))
+        TALLY.same(f"{odd} as a spool", found, (3, "", f"{odd} is {said}\n"))
     port = free_port()
     none = folder / "none" / "x.raw"
     status, out, said = run(*words_of(port, "x", none, "48000,1,16"), given=bytes(8))
@@ -281,6 +304,7 @@ CASES = [
     case_file_as_input,
     case_rerun,
     case_part_of_a_frame,
+    case_no_samples,
     case_refusals,
     case_no_answer,
     case_full_disk,

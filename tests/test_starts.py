@@ -175,6 +175,13 @@ def case_two_servers(place):
     stopped("the next server", journaled(folder, 1))
 
 
+def case_pipe_as_lock(place):
+    """A pipe in the place of the lock is refused, and not waited for."""
+    folder = folder_in(place)
+    os.mkfifo(folder / ".bwingest-lock")
+    refused("a pipe as lock", folder, [f"{folder} can't be opened: .bwingest-lock is a pipe"], status=3)
+
+
 def case_without_journal(place):
     """Without `--journal` a folder with journals is refused by name, and one whose files only end alike isn't."""
     folder = left_by(place, small_take(), count=2)

@@ -161,6 +161,73 @@ def case_other(folder):
         TALLY.holds("other fields", said in found[2] and "Conflict" in found[2], found[2])
 
 
+def case_longer_state(folder):
+    """The state of another recording that is longer than the new one: nothing of it is left, and nothing passed over."""
+    recording, file = long_recording(20)
+    count = len(recording.requests())
+    path = written(folder, file)
+    state = folder / "longer.state"
+    with serving(folder) as server:
+        old = header_of("another", server.port, path) + "\n" + 5_000 * "settled 16777216\n"
+        for name in ("after", "after"):
+            state.write_text(old)
+            found = upload(server.port, name, path, state)
+            TALLY.same("a longer state", found, (0, settled(count), f"{state}: another state, begins at 0\n"))
+            TALLY.same("a longer state: the header", state.read_text().splitlines()[0], header_of(name, server.port, path))
+            TALLY.holds("a longer state: the counts", max(counts_in(state)) == count - 1, counts_in(state)[-3:])
+        found = samples_of(folder / "takes" / "after.wav")
+        TALLY.holds("a longer state: the samples", found == recording.samples, "they differ")
+
+
+def case_long_name(folder):
+    """A name of 32 bytes, the longest, goes on too: the server's answer to its ask is the longest."""
+    name = "n" * 32
+    recording, file = long_recording(3)
+    count = len(recording.requests())
+    path = written(folder, file)
+    state = folder / "long.state"
+    with serving(folder) as server:
+        TALLY.same("a long name", upload(server.port, name, path, state), (0, settled(count), ""))
+        found = upload(server.port, name, path, state, "--fruitless", "2")
+        TALLY.same("a long name goes on", found, (0, settled(count), f"{state}: goes on at {count - 1}\n"))
+
+
+def case_rate(folder):
+    """--rate holds with a state too."""
+    blocks, rate = 20, 300_000
+    recording, file = long_recording(blocks)
+    path = written(folder, file)
+    with serving(folder) as server:
+        begun = time.monotonic()
+        found = upload(server.port, "slow", path, folder / "r.state", "--rate", str(rate))
+        took, least = time.monotonic() - begun, (len(recording.samples) - 32_768) / rate
+        TALLY.same("a rate with a state", found, (0, settled(len(recording.requests())), ""))
+        TALLY.holds("a rate with a state", least <= took, f"{took:.2f} s in place of {least:.2f}")
+
+
+def case_pipe(folder):
+    """A pipe in the place of a state is refused, and not waited for."""
+    path = written(folder, TONE_FILE)
+    state = folder / "p.state"
+    os.mkfifo(state)
+    found = upload(free_port(), "piped", path, state)
+    TALLY.same("a pipe as a state", found, (3, "", f"{state}: the state can't be kept: it is a pipe\n"))
+
+
+def case_early_time(folder):
+    """A file that was changed before 1970: its time is noted as 0."""
+    path = written(folder, TONE_FILE)
+    os.utime(path, ns=(-(10**18) - 5, -(10**18) - 5))
+    state = folder / "e.state"
+    with serving(folder) as server:
+        TALLY.same("changed before 1970", upload(server.port, "early", path, state), (0, settled(9), ""))
+        words = state.read_text().split()
+        TALLY.same("changed before 1970: the state", words[1:5], ["early", f"{LOCAL}:{server.port}", str(len(TONE_FILE)), "0"])
+        found = upload(server.port, "early", path, state)
+        TALLY.same("changed before 1970, again", found, (0, settled(9), f"{state}: goes on at 8\n"))
+        TALLY.same("changed before 1970, no state", run(*words_of(server.port, "early", path)), (0, settled(9), ""))
+
+
 def case_lost_take(folder):
     """A server that has lost the take is sent all of it."""
     recording, file = long_recording(20)
@@ -218,6 +285,11 @@ CASES = [
     case_torn,
     case_no_state,
     case_other,
+    case_longer_state,
+    case_long_name,
+    case_rate,
+    case_pipe,
+    case_early_time,
     case_lost_take,
     case_unkept,
     case_without,

@@ -97,7 +97,13 @@ def case_refusals(folder):
             TALLY.same(f"send --file, {case.of}", found, (1, "", hinted("send", case.said)))
         path = folder / "none.wav"
         TALLY.same("no file", upload(port, "x", path), (3, "", f"{path} can't be opened: {reason(2)}\n"))
-        TALLY.same("a folder", upload(port, "x", folder), (3, "", hinted("send", "Read at 0")))
+        pipe = folder / "pipe.wav"
+        os.mkfifo(pipe)
+        for odd, said in ((folder, "a directory"), (pipe, "a pipe: use --spool"), ("/dev/zero", "a device")):
+            for options in ((), ("--log",), ("--state", str(folder / "state"))):
+                TALLY.same(f"{odd} {options}", upload(port, "x", odd, *options), (3, "", f"{odd} is {said}\n"))
+        words = words_of(port, "x", "/dev/stdin")
+        TALLY.same("a pipe as input", run(*words, given=TONE_FILE), (3, "", "/dev/stdin is a pipe: use --spool\n"))
         for file in (path, written(folder, TONE_FILE)):
             for text in ("description", "other=x", "date=2024_05_17"):
                 TALLY.same(f"--set={text}", upload(port, "x", file, f"--set={text}"), (2, "", BAD_SETTING))

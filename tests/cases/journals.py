@@ -61,7 +61,7 @@ class Journaled(Watched):
     """A server with journals, and with syncs if `--sync` is among the options; of these names it finds takes."""
 
     def __init__(self, folder, *options, faults=(), found=(), resuming=()):
-        locked = ["open FOLDER/.bwingest-lock to-write create", "lock .bwingest-lock"]
+        locked = ["open FOLDER/.bwingest-lock to-read-and-write create", "stat .bwingest-lock", "lock .bwingest-lock"]
         synced = synced_before(found) if "--sync" in options else []
         super().__init__(
             folder,

@@ -149,6 +149,10 @@ def opened_over(flags):
     return flags & ~os.O_EXCL | os.O_TRUNC
 
 
+def opened_uncut(flags):
+    return flags & ~os.O_TRUNC
+
+
 def opened_at_its_end(flags):
     return flags | os.O_APPEND
 
@@ -184,6 +188,10 @@ BODIES = [
     Body("no sync of what was left", "resumed_and_synced", left_out(SYNC_DATA)),
     Body("no sync of the folder that was left", "resumed_and_synced", left_out(SYNC)),
     Body("a begun file isn't set aside", "set_aside", left_out(RENAME)),
+    # The state of a sender
+    Body("a state isn't cut where it is begun", "state", with_word(OPEN, 2, opened_uncut)),
+    Body("no sync of a state", "state", left_out(SYNC_DATA)),
+    Body("no sync of a state's folder", "state", left_out(SYNC)),
     # Links one after another, and those of a sender
     Body("no timeout of reads", "in_turn", left_out(SET, is_option(RECEIVE_TIMEOUT))),
     Body("no timeout of writes", "in_turn", left_out(SET, is_option(SEND_TIMEOUT))),

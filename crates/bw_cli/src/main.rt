@@ -61,6 +61,7 @@ fn main(rt: HostRuntime) -> ExitCode {
             last: LastOutage::none(),
         },
         screens: screen_style(&rt),
+        is_typed: rt.stdin().is_terminal(),
     };
     start(rt.alloc(), &mut outside)
 }

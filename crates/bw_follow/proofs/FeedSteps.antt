@@ -50,6 +50,7 @@ module _ {F : Type 0} (followed : FollowedGhosts F) where
       ComesTo followed step (Err f) x y
   copy_fault step x y (faults.Unread place) r h next = absurd h
   copy_fault step x y (faults.PartFrame place) r h next = absurd h
+  copy_fault step x y (faults.Empty place) r h next = absurd h
   copy_fault step x y faults.TooLong r h next = absurd h
   copy_fault step x y faults.Unsendable r h next = (r, h, next)
   copy_fault step x y faults.Memory r h next = tt
@@ -110,7 +111,7 @@ module _ {F : Type 0} (followed : FollowedGhosts F) where
       ≡ Some (Block (take count x.samples.held))) → x.step ≡ steps.Samples →
       ComesTo followed steps.Samples result start y
   block_by start x y count (Ok (nexts.Request r)) few ok err has step =
-      λ ends. absurd (goes_on (sym (ok.1.step ∙ step) ∙ ends))
+      (λ ends. absurd (goes_on (sym (ok.1.step ∙ step) ∙ ends)), tt)
     where
       goes_on : steps.Samples ≡ steps.End → ⊥
       goes_on e = absurd cc
@@ -118,6 +119,7 @@ module _ {F : Type 0} (followed : FollowedGhosts F) where
   block_by start x y count (Ok nexts.End) few ok err has step = absurd ok.0
   block_by start x y count (Err (faults.Unread place)) few ok err has step = absurd err.1
   block_by start x y count (Err (faults.PartFrame place)) few ok err has step = absurd err.1
+  block_by start x y count (Err (faults.Empty place)) few ok err has step = absurd err.1
   block_by start x y count (Err faults.TooLong) few ok err has step = too_long x y count err.0 few err.1
   block_by start x y count (Err faults.Unsendable) few ok err has step = (Block (take count x.samples.held), err.1, has)
   block_by start x y count (Err faults.Memory) few ok err has step = tt

@@ -47,6 +47,10 @@ sample_requests p s =
     block_requests (size_of p) (whole_frames (align_of p) s)
     ++ close_after p.given (align_of p) (length s)
 
+-- OPEN, of an outline
+abbrev pub open_of : Outline → Request
+open_of r = Open r.format r.history
+
 -- the requests from a step on, of these samples
 abbrev pub requests_of_step : PcmProgress → List ℕ → PcmStep → List Request
 requests_of_step p s steps.Open =
@@ -68,6 +72,7 @@ abbrev pub is_unread : {X : Type 0} → Result X PcmFault → Bool
 is_unread (Ok x) = false
 is_unread (Err (faults.Unread place)) = true
 is_unread (Err (faults.PartFrame place)) = false
+is_unread (Err (faults.Empty place)) = false
 is_unread (Err faults.TooLong) = false
 is_unread (Err faults.Unsendable) = false
 is_unread (Err faults.Memory) = false
@@ -112,6 +117,25 @@ module _ {F : Type 0} (followed : FollowedGhosts F) where
     pub complete : followed.is_complete y.file ≡ true
     pub none : (xs : List ℕ) → followed.to_come x.file ≡ Some xs → followed.to_come y.file ≡ Some []
 
+  -- the file is complete, and has nothing from the place of its first sample on
+  pub record IsEmptyAt (place : ℕ) (x y : PcmRequests F) : Type 0 where
+    pub at : place ≡ y.place
+    pub none : length y.samples.held ≡ 0
+    pub complete : followed.is_complete y.file ≡ true
+    pub no_more : (xs : List ℕ) → followed.to_come x.file ≡ Some xs → followed.to_come y.file ≡ Some []
+
+  -- whether a whole frame was read, and why there never will be one
+  abbrev pub ReachesFrame : Result Bool PcmFault → PcmRequests F → PcmRequests F → Type 0
+  ReachesFrame (Ok true) x y = align_of (progress_of y) ≤ length y.samples.held
+  ReachesFrame (Ok false) x y = length y.samples.held < align_of (progress_of y)
+  ReachesFrame (Err (faults.Unread place)) x y =
+      place ≡ min (y.place + length y.samples.held) (2 ^ 64 - 1)
+  ReachesFrame (Err (faults.PartFrame place)) x y = IsCutAt place x y
+  ReachesFrame (Err (faults.Empty place)) x y = IsEmptyAt place x y
+  ReachesFrame (Err faults.TooLong) x y = ⊥
+  ReachesFrame (Err faults.Unsendable) x y = ⊥
+  ReachesFrame (Err faults.Memory) x y = ⊥
+
   -- CLOSE, of as many frames as were given: the file is complete, and nothing of it is left
   pub record ClosesSamples (r : Request) (y : PcmRequests F) : Type 0 where
     pub close : r ≡ Close y.given
@@ -125,15 +149,37 @@ module _ {F : Type 0} (followed : FollowedGhosts F) where
       × ((rest : List ℕ) → followed.to_come x.file ≡ Some rest →
       next_step_of (requests_of_step (progress_of x) (x.samples.held ++ rest) step) ≡ Some r)
 
-  -- when each fault comes; before a whole block is written nothing is given as long as the file
-  -- isn't complete; and only CLOSE is the last request
+  -- OPEN is given only where a whole frame was read
+  abbrev pub HasFrameFor : PcmStep → PcmRequests F → Type 0
+  HasFrameFor steps.Open y = align_of (progress_of y) ≤ length y.samples.held
+  HasFrameFor (steps.Fields after) y = Unit {0}
+  HasFrameFor steps.Samples y = Unit {0}
+  HasFrameFor steps.End y = Unit {0}
+
+  -- nothing is given yet: before OPEN no whole frame was read, and after it no whole block
+  abbrev pub Awaits : PcmStep → PcmRequests F → Type 0
+  Awaits steps.Open y = (length y.samples.held < align_of (progress_of y)) × (y.step ≡ steps.Open)
+  Awaits (steps.Fields after) y = (length y.samples.held < y.samples.size) × (y.step ≡ steps.Samples)
+  Awaits steps.Samples y = (length y.samples.held < y.samples.size) × (y.step ≡ steps.Samples)
+  Awaits steps.End y = ⊥
+
+  -- the fault of a file without samples comes in the place of OPEN
+  abbrev pub IsEmptyFor : PcmStep → ℕ → PcmRequests F → PcmRequests F → Type 0
+  IsEmptyFor steps.Open place x y = IsEmptyAt place x y
+  IsEmptyFor (steps.Fields after) place x y = ⊥
+  IsEmptyFor steps.Samples place x y = ⊥
+  IsEmptyFor steps.End place x y = ⊥
+
+  -- when each fault comes; before a whole frame is written nothing is given, and then before a whole
+  -- block is, as long as the file isn't complete; and only CLOSE is the last request
   abbrev pub ComesTo : PcmStep → Result NextRequest PcmFault → PcmRequests F → PcmRequests F → Type 0
-  ComesTo step (Ok (nexts.Request r)) x y = y.step ≡ steps.End → ClosesSamples r y
-  ComesTo step (Ok nexts.NotYet) x y =
-      (length y.samples.held < y.samples.size) × (y.step ≡ steps.Samples)
+  ComesTo step (Ok (nexts.Request r)) x y =
+      (y.step ≡ steps.End → ClosesSamples r y) × HasFrameFor step y
+  ComesTo step (Ok nexts.NotYet) x y = Awaits step y
   ComesTo step (Ok nexts.End) x y = (x.step ≡ steps.End) × (y.step ≡ steps.End)
   ComesTo step (Err (faults.Unread place)) x y = place ≡ min (y.place + length y.samples.held) (2 ^ 64 - 1)
   ComesTo step (Err (faults.PartFrame place)) x y = IsCutAt place x y
+  ComesTo step (Err (faults.Empty place)) x y = IsEmptyFor step place x y
   ComesTo step (Err faults.TooLong) x y =
       (2 ^ 64 ≤ y.place + length y.samples.held) ⊎ (2 ^ 64 ≤ y.given + length y.samples.held)
   ComesTo step (Err faults.Unsendable) x y = IsUnsendable step x
@@ -144,6 +190,14 @@ module _ {F : Type 0} (followed : FollowedGhosts F) where
   NextComesTo result x y = ComesTo x.step result x y
 
 module _ {F : Type 0} where
+  -- nothing but what is held of the samples, and the file, is another
+  pub record KeepsAllButSamples (x y : PcmRequests F) : Type 0 where
+    pub outline : y.outline ≡ x.outline
+    pub frames : y.frames ≡ x.frames
+    pub given : y.given ≡ x.given
+    pub place : y.place ≡ x.place
+    pub step : y.step ≡ x.step
+
   -- so many bytes of samples were given
   pub record TakesSamples (count : ℕ) (x y : PcmRequests F) : Type 0 where
     pub outline : y.outline ≡ x.outline
@@ -157,6 +211,7 @@ module _ {F : Type 0} where
   abbrev pub RefusesBlock : ℕ → PcmFault → PcmRequests F → Type 0
   RefusesBlock count (faults.Unread place) x = ⊥
   RefusesBlock count (faults.PartFrame place) x = ⊥
+  RefusesBlock count (faults.Empty place) x = ⊥
   RefusesBlock count faults.TooLong x =
       (2 ^ 64 ≤ x.place + count) ⊎ (2 ^ 64 ≤ x.given + count)
   RefusesBlock count faults.Unsendable x = is_request (Block (take count x.samples.held)) ≡ false
@@ -172,6 +227,7 @@ IsBlockOf bytes nexts.End = ⊥
 abbrev pub RefusesCopying : Request → PcmFault → Type 0
 RefusesCopying r (faults.Unread place) = ⊥
 RefusesCopying r (faults.PartFrame place) = ⊥
+RefusesCopying r (faults.Empty place) = ⊥
 RefusesCopying r faults.TooLong = ⊥
 RefusesCopying r faults.Unsendable = is_request r ≡ false
 RefusesCopying r faults.Memory = Unit {0}

@@ -7,7 +7,9 @@ ghost use Rattle.bw_plan.specs.Recordings.{Recording, block_frames as frames_a_b
 ghost use Rattle.bw_plan.specs.PcmRecordings.{pcm_recording_of, PcmFaultOf};
 ghost use Rattle.bw_follow.specs.ComingRequests.{RequestsLeft, GivesFrom, GivesNextRequest, GivesOf};
 ghost use Rattle.bw_follow.specs.ComingRequests.{ComesTo, NextComesTo, CountsUnread, TakesSamples};
-ghost use Rattle.bw_follow.specs.ComingRequests.{RefusesCopying, RefusesBlock, IsBlockOf};
+ghost use Rattle.bw_follow.specs.ComingRequests.{RefusesCopying, RefusesBlock, IsBlockOf, open_of};
+ghost use Rattle.bw_follow.specs.ComingRequests.{KeepsAllButSamples, ReachesFrame};
+ghost use Rattle.bw_follow.specs.Samples.{HoldsMore};
 ghost use Rattle.bw_follow.specs.declared.state.PcmStep.TheVariants as steps;
 ghost use Rattle.bw_follow.specs.ComingRequests.{pcm_step};
 
@@ -25,7 +27,8 @@ use std::alloc::Global;
 pub enum NextRequest {
     /// This request.
     Request(Request),
-    /// None yet: neither a whole block is written nor the file complete.
+    /// None yet: the file isn't complete, and neither a whole block is written, nor, before OPEN, a
+    /// whole frame.
     NotYet,
     /// None: CLOSE was given.
     End,
@@ -100,15 +103,68 @@ impl<F: Followed + Drop> PcmRequests<F> {
         }
     }
 
-    /// OPEN.
+    /// OPEN, once a whole frame is written: a take is begun only for samples.
     ///
     /// # Errors
-    /// Unsendable, Memory.
+    /// Why it can't be given.
     fn give_open(&mut self) -> Result<NextRequest, PcmFault>
         requires { self.old.step ≡ steps.Open }
         ensures left { GivesFrom F.Followed steps.Open result self.old self.new }
         ensures count { CountsUnread F.Followed result self.old self.new }
         ensures by { ComesTo F.Followed steps.Open result self.old self.new }
+    {
+        let has_frame = match self.reach_frame() {
+            Ok(has_frame) => has_frame,
+            Err(fault) => return Err(fault),
+        };
+        if !has_frame {
+            return Ok(NextRequest::NotYet);
+        }
+        let request = match self.open_request() {
+            Ok(request) => request,
+            Err(fault) => return Err(fault),
+        };
+        self.step = PcmStep::Fields { after: 0 };
+        Ok(NextRequest::Request(request))
+    }
+
+    /// Reads on. Returns whether a whole frame is held; where none is, more may come.
+    ///
+    /// # Errors
+    /// Unread; PartFrame and Empty where the file is complete.
+    fn reach_frame(&mut self) -> Result<bool, PcmFault>
+        ensures kept { KeepsAllButSamples self.old self.new }
+        ensures read { (xs : List ℕ) → F.to_come self.old.file ≡ Some xs →
+            HoldsMore self.old.samples xs self.new.samples (F.to_come self.new.file) }
+        ensures count { CountsUnread F.Followed result self.old self.new }
+        ensures by { ReachesFrame F.Followed result self.old self.new }
+    {
+        let Ok(is_complete) = self.file.has_ended() else {
+            return Err(self.unread());
+        };
+        let Ok(()) = self.samples.read_on(&mut self.file) else {
+            return Err(self.unread());
+        };
+        let held = self.samples.bytes().len();
+        if held >= usize::from(self.outline.format().block_align()) {
+            return Ok(true);
+        }
+        if !is_complete {
+            return Ok(false);
+        }
+        if held > 0 {
+            return Err(PcmFault::PartFrame { place: self.place });
+        }
+        Err(PcmFault::Empty { place: self.place })
+    }
+
+    /// OPEN, of the samples' format.
+    ///
+    /// # Errors
+    /// Unsendable, Memory.
+    fn open_request(&self) -> Result<Request, PcmFault>
+        ensures ok { IfOk result (λ r. r ≡ open_of self.now.outline) }
+        ensures err { IfErr result (λ f. RefusesCopying (open_of self.now.outline) f) }
     {
         let format = self.outline.format();
         let open = RequestRef::OpenTake {
@@ -117,12 +173,7 @@ impl<F: Followed + Drop> PcmRequests<F> {
             bits: format.bits(),
             history: self.outline.history(),
         };
-        let request = match copy_of(self.alloc, &open) {
-            Ok(request) => request,
-            Err(fault) => return Err(fault),
-        };
-        self.step = PcmStep::Fields { after: 0 };
-        Ok(NextRequest::Request(request))
+        copy_of(self.alloc, &open)
     }
 
     /// The first field after a tag, or what follows the fields.

@@ -1,7 +1,9 @@
 //! A file that another program is still writing.
 ghost use Rattle.std.specs.Prelude.{◌≡◌, None, IfOk, false};
 
+use crate::kinds::kind_of;
 use crate::spool::SpoolCell;
+use bw_kind::FileKind;
 use bw_ports::Followed;
 use bw_spool::SpoolState;
 use bw_stream::IoFailed;
@@ -102,7 +104,7 @@ impl<'a> FollowedFile<'a> {
 /// Opens the file at a path, once it is there.
 fn open_once_made(rt: &HostRuntime, path: &str, until: &str) -> io::Result<File> {
     for _look in 0..LOOKS {
-        match File::open(rt, path) {
+        match open_file(rt, path) {
             Ok(file) => return Ok(file),
             Err(error) => {
                 if error.kind() != ErrorKind::NotFound || fs::exists(rt, until)? {
@@ -112,7 +114,15 @@ fn open_once_made(rt: &HostRuntime, path: &str, until: &str) -> io::Result<File>
         }
         thread::sleep(rt, Duration::from_millis(BETWEEN_LOOKS));
     }
-    File::open(rt, path)
+    open_file(rt, path)
+}
+
+/// The file at a path. A pipe, which may have been made meanwhile, isn't waited for.
+fn open_file(rt: &HostRuntime, path: &str) -> io::Result<File> {
+    match kind_of(&fs::metadata(rt, path)?) {
+        FileKind::Pipe => Err(io::Error::new(ErrorKind::InvalidInput, "it is a pipe")),
+        _ => File::open(rt, path),
+    }
 }
 
 impl Followed for FollowedFile<'_> {

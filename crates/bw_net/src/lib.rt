@@ -9,6 +9,7 @@ mod folder;
 mod followed;
 mod host;
 mod input;
+mod kinds;
 mod link_stream;
 mod lock;
 mod locks;

@@ -1,4 +1,5 @@
 //! The lock of a server's folder.
+use crate::kinds::without_pipes;
 use bw_lock::LockRefusal;
 use std::alloc::Global;
 use std::fs::{File, OpenOptions, TryLockError};
@@ -37,7 +38,10 @@ impl FolderLock {
     }
 }
 
-/// The file at a path, which is made if nothing is there. Nothing is written to it.
+/// The file at a path, which is made if nothing is there. Nothing is written to it. A pipe isn't
+/// waited for.
 fn open_lock(rt: &HostRuntime, path: &str) -> io::Result<File> {
-    OpenOptions::new().write(true).create(true).open(rt, path)
+    let mut options = OpenOptions::new();
+    options.read(true).write(true).create(true);
+    without_pipes(options.open(rt, path)?, ".bwingest-lock is a pipe")
 }

@@ -1,19 +1,21 @@
 //! The files of recordings, by the calls of std.
-ghost use Rattle.std.specs.Prelude.{◌≡◌, None};
+ghost use Rattle.std.specs.Prelude.{◌≡◌, ◌+◌, ◌*◌, ◌-◌, ◌^◌, min, None};
 
 use crate::counting::counted;
+use crate::kinds::kind_of;
 use crate::followed::FollowedFile;
 use crate::host::open_source;
 use crate::spool::SpoolCell;
 use crate::states::HostStates;
 use crate::stopwatch::ClockStopwatch;
+use bw_kind::{FileKind, FileKinds};
 use bw_ports::{FileStamp, RecordingFiles, Stamped};
 use bw_resume::StateKeeping;
 use bw_stream::SeekSource;
 use std::alloc::AllocError;
 use std::fs::{self, File};
 use std::io;
-use std::time::UNIX_EPOCH;
+use std::os::unix::fs::MetadataExt;
 
 /// The files of recordings on this machine. It reports neither their bytes nor their stamps, since
 /// no clause of std says what they are.
@@ -90,6 +92,18 @@ impl<'a> RecordingFiles for HostRecordings<'a> {
     }
 }
 
+/// It reports no kinds beforehand, since no clause of std says what is at a path.
+impl FileKinds for HostRecordings<'_> {
+    ghost kinds = { λ s path kind. Unit {0} };
+
+    fn kind_at(&self, path: &str) -> FileKind {
+        match fs::metadata(self.rt, path) {
+            Ok(found) => kind_of(&found),
+            Err(_) => FileKind::Unknown,
+        }
+    }
+}
+
 impl<'a> StateKeeping for HostRecordings<'a> {
     type States = HostStates<'a>;
 
@@ -130,12 +144,24 @@ impl Stamped for StampedFile<'_> {
 /// The stamp of the file at a path. A pipe and a device have a length of 0.
 fn stamp_of(rt: &HostRuntime, path: &str) -> io::Result<FileStamp> {
     let found = fs::metadata(rt, path)?;
-    let since = match found.modified()?.duration_since(UNIX_EPOCH) {
-        Ok(since) => since.as_nanos(),
-        Err(_) => 0,
-    };
     Ok(FileStamp {
         len: found.len(),
-        changed: u64::try_from(since).unwrap_or(u64::MAX),
+        changed: changed_at(found.mtime(), found.mtime_nsec()),
     })
+}
+
+/// A time of so many seconds since the start of 1970 (UTC) and nanoseconds after these, in
+/// nanoseconds; 0 for a time before: that is no fault.
+fn changed_at(seconds: i64, nanos: i64) -> u64 {
+    match (u64::try_from(seconds), u64::try_from(nanos)) {
+        (Ok(seconds), Ok(nanos)) => nanos_after(seconds, nanos),
+        _ => 0,
+    }
+}
+
+/// So many seconds and nanoseconds, in nanoseconds; 2^64 - 1 if they are more.
+fn nanos_after(seconds: u64, nanos: u64) -> u64
+    ensures { result ≡ min (min (seconds * 1_000_000_000) (2 ^ 64 - 1) + nanos) (2 ^ 64 - 1) }
+{
+    seconds.saturating_mul(1_000_000_000).saturating_add(nanos)
 }

@@ -1,7 +1,9 @@
 //! Files of senders' states, by the calls of std.
-ghost use Rattle.std.specs.Prelude.{◌≡◌, None};
+ghost use Rattle.std.specs.Prelude.{◌≡◌, None, true};
+ghost use Rattle.std.specs.Fs.{new_options, with_append, with_create, with_read, with_truncate, with_write};
 
 use crate::counting::counted;
+use crate::kinds::without_pipes;
 use bw_resume::{StateFiles, StateLog};
 use std::fs::{File, OpenOptions};
 use std::io::{self, ErrorKind, Read, Write};
@@ -47,17 +49,44 @@ impl StateFiles for HostStates<'_> {
     }
 
     fn go_on(&mut self, path: &str) -> io::Result<StateFile> {
-        let opened = OpenOptions::new().append(true).open(self.rt, path);
+        let opened = at_the_end().open(self.rt, path);
         let file = counted(opened, &mut self.failures)?;
         Ok(StateFile { file, failures: 0 })
     }
 }
 
+/// How a state is opened to be read: to be written too, so that a pipe isn't waited for.
+fn as_it_is() -> OpenOptions
+    ensures { result ≡ with_write (with_read new_options true) true }
+{
+    let mut options = OpenOptions::new();
+    options.read(true).write(true);
+    options
+}
+
+/// How a state is begun: made if it isn't there, and empty, whatever stood there.
+fn emptied() -> OpenOptions
+    ensures { result ≡ with_truncate (with_create (with_write new_options true) true) true }
+{
+    let mut options = OpenOptions::new();
+    options.write(true).create(true).truncate(true);
+    options
+}
+
+/// How a state is gone on with: written at its end.
+fn at_the_end() -> OpenOptions
+    ensures { result ≡ with_append new_options true }
+{
+    let mut options = OpenOptions::new();
+    options.append(true);
+    options
+}
+
 /// The first bytes of the file at a path; none where there is no file.
 fn first_bytes(rt: &HostRuntime, path: &str, most: usize) -> io::Result<Vec<u8>> {
     let mut bytes = Vec::new(rt.alloc());
-    let file = match File::open(rt, path) {
-        Ok(file) => file,
+    let file = match as_it_is().open(rt, path) {
+        Ok(file) => without_pipes(file, "it is a pipe")?,
         Err(error) if error.kind() == ErrorKind::NotFound => return Ok(bytes),
         Err(error) => return Err(error),
     };
@@ -67,11 +96,7 @@ fn first_bytes(rt: &HostRuntime, path: &str, most: usize) -> io::Result<Vec<u8>>
 
 /// A file with just these bytes, which are synced, and its folder too.
 fn begin(rt: &HostRuntime, path: &str, bytes: &[u8]) -> io::Result<StateFile> {
-    let mut file = OpenOptions::new()
-        .write(true)
-        .create(true)
-        .truncate(true)
-        .open(rt, path)?;
+    let mut file = emptied().open(rt, path)?;
     file.write_all(bytes)?;
     file.sync_data()?;
     // Some file systems can't sync a folder. Without it a loss of power may take the state away, and

@@ -5,6 +5,7 @@ pub mod RecordingCommands
 pub mod PictureCommands
 pub mod TakesCommands
 pub mod Sides
+pub mod Sources
 pub mod Uploads
 pub mod PcmUploads
 pub mod RepairCommands

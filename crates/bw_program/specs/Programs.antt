@@ -30,7 +30,8 @@ use Rattle.bw_program.specs.TakesCommands.{WorksOnTakes, folder_side, folder_wor
 use Rattle.bw_program.specs.PictureCommands.{DrawsFile}
 use Rattle.bw_program.specs.RecordingCommands.{Packs}
 use Rattle.bw_program.specs.RepairCommands.{RepairsFile}
-use Rattle.bw_program.specs.Remote.{Sends, ServesByRule}
+use Rattle.bw_program.specs.Remote.{SendsTyped, ServesByRule}
+use Rattle.bw_program.specs.Sources.{IfFile}
 use Rattle.bw_program.specs.PcmUploads.{SendsPcm}
 use Rattle.bw_program.specs.Uploads.{SendsByState}
 use Rattle.bw_program.specs.Sides.{HostSide, SenderSide, ServerSide, UploadSide, StartSide}
@@ -129,17 +130,21 @@ module _ {S T F H G M SB SL Ed LK DK DF N X Y Z P R W L K SP SK D A B U J Q I O 
       × IsHostWell failed x' × (x'.files ≡ x.files) × (x'.input ≡ x.input)
       × (x'.pause ≡ x.pause) × (x'.disk ≡ x.disk)
   IsDoneFor file_at failed (Run (Send sender)) exit x x' =
-      Sends network sender_side host.input host.out host.reported sender exit
+      SendsTyped network sender_side host.input host.out host.reported x.is_typed sender exit
       x.network x.input x'.input x.out x'.out x.faults x'.faults
       × IsHostWell failed x' × (x'.files ≡ x.files) × (x'.network ≡ x.network)
       × (x'.pause ≡ x.pause) × (x'.disk ≡ x.disk)
   IsDoneFor file_at failed (Run (SendFile sender)) exit x x' =
-      SendsByState upload_side sender_side network host.files host.states host.out host.reported sender exit
-      x.files x'.files x.network x.pause x'.pause x.out x'.out x.faults x'.faults
+      IfFile host.kinds host.reported (string_bytes sender.source.path) false exit
+      x.files x'.files x.pause x'.pause x.out x'.out x.faults x'.faults
+      (SendsByState upload_side sender_side network host.files host.states host.out host.reported sender exit
+      x.files x'.files x.network x.pause x'.pause x.out x'.out x.faults x'.faults)
       × IsHostWell failed x' × (x'.network ≡ x.network) × (x'.input ≡ x.input) × (x'.disk ≡ x.disk)
   IsDoneFor file_at failed (Run (SendPcm sender)) exit x x' =
-      SendsPcm upload_side sender_side network host.files host.out host.reported sender exit
-      x.files x'.files x.network x.pause x'.pause x.out x'.out x.faults x'.faults
+      IfFile host.kinds host.reported (string_bytes sender.source.path) sender.pcm.is_spooled exit
+      x.files x'.files x.pause x'.pause x.out x'.out x.faults x'.faults
+      (SendsPcm upload_side sender_side network host.files host.out host.reported sender exit
+      x.files x'.files x.network x.pause x'.pause x.out x'.out x.faults x'.faults)
       × IsHostWell failed x' × (x'.network ≡ x.network) × (x'.input ≡ x.input) × (x'.disk ≡ x.disk)
   IsDoneFor file_at failed (Run (Pack source)) exit x x' =
       Packs host.out host.reported (host.files.file_at x.files) source exit

@@ -25,6 +25,7 @@ use Rattle.bw_serve.specs.RestingHostings.{HostsManyRested, HostsRested}
 use Rattle.bw_ports.specs.declared.listener_setup.ListenerSetup.{Ghosts as ListenerSetupGhosts}
 use Rattle.bw_serve.specs.declared.hosting.Hosting.{Hosting}
 use Rattle.bw_program.specs.Sides.{SenderSide, ServerSide, StartSide}
+use Rattle.bw_program.specs.Sources.{NotesInput}
 
 -- how many exchanges a server makes: without an end the most that can be counted, 2^64 - 1
 abbrev pub exchanges_of : End → ℕ
@@ -177,3 +178,10 @@ module _ {N X P R W D A B I O E : Type 0} (network : NetworkGhosts N X P D R W A
         first last did
     pub reads : input.failures i' ≡ failures_if did.reads_all (input.failures i)
     pub writes : HasWritten out reported did o o' e e'
+
+  -- .. after who types them was told what is read
+  pub record SendsTyped (typed : Bool) (sender : Send) (exit : Exit) (n : N) (i i' : I) (o o' : O)
+      (e e' : E) : Type 0 where
+    pub between : E
+    pub notes : NotesInput reported typed e between
+    pub sends : Sends sender exit n i i' o o' between e'

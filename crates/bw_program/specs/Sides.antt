@@ -13,6 +13,7 @@ use Rattle.bw_ports.specs.declared.reactor.Reactor.{Ghosts as ReactorGhosts}
 use Rattle.bw_ports.specs.declared.recording_files.RecordingFiles.{Ghosts as FileGhosts}
 use Rattle.bw_edit.specs.declared.edited_files.EditedFiles.{Ghosts as EditGhosts}
 use Rattle.bw_lock.specs.declared.folder_locks.FolderLocks.{Ghosts as LockGhosts}
+use Rattle.bw_kind.specs.declared.kind.FileKinds.{Ghosts as KindGhosts}
 use Rattle.bw_ports.specs.declared.starts.Starts.{Ghosts as StartGhosts}
 use Rattle.bw_ports.specs.declared.starts_resting.StartsResting.{Ghosts as RestGhosts}
 use Rattle.bw_session.specs.declared.server.Server.{Server}
@@ -36,27 +37,30 @@ abbrev pub state_side : {F B L : Type 0} → (F → List ℕ → Option (List �
 state_side kept_at files log = record { kept_at = kept_at; files = files; log = log }
 
 -- the system, the files of recordings, the states of their senders, how files are changed in place,
--- the locks and the disk of servers' folders, and the process's streams
+-- the locks of servers' folders, what is at each path, the disk of these folders, and the process's
+-- streams
 pub record HostSide (S T F H G M SB SL J LK DK DF I O E : Type 0) : Type 1 where
   pub system : SystemGhosts S T
   pub files : FileGhosts F H G M
   pub states : StateSide F SB SL
   pub edits : EditGhosts F J
   pub locks : LockGhosts F LK
+  pub kinds : KindGhosts F
   pub disk : DiskGhosts DK DF
   pub input : Reader I
   pub out : Writer O
   pub reported : Writer E
 
 abbrev pub host_side : {S T F H G M SB SL J LK DK DF I O E : Type 0} → SystemGhosts S T → FileGhosts F H G M →
-    StateSide F SB SL → EditGhosts F J → LockGhosts F LK → DiskGhosts DK DF → Reader I → Writer O →
-    Writer E → HostSide S T F H G M SB SL J LK DK DF I O E
-host_side system files states edits locks disk input out reported = record {
+    StateSide F SB SL → EditGhosts F J → LockGhosts F LK → KindGhosts F → DiskGhosts DK DF → Reader I →
+    Writer O → Writer E → HostSide S T F H G M SB SL J LK DK DF I O E
+host_side system files states edits locks kinds disk input out reported = record {
   system = system;
   files = files;
   states = states;
   edits = edits;
   locks = locks;
+  kinds = kinds;
   disk = disk;
   input = input;
   out = out;

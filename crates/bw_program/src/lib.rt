@@ -9,6 +9,7 @@ mod program;
 mod recordings;
 mod remote;
 mod samples;
+mod sources;
 mod uploads;
 
 pub use outside::Outside;

@@ -26,4 +26,6 @@ pub struct Outside<S, F, D, N, P, R, W, E, V, G> {
     pub log: G,
     /// How screens are shown on standard output.
     pub screens: ScreenStyle,
+    /// Whether standard input is typed on a terminal.
+    pub is_typed: bool,
 }

@@ -15,9 +15,8 @@ use crate::folders::work_on_takes;
 use crate::inspections::{inspect_as, inspect_one};
 use crate::outside::Outside;
 use crate::recordings::pack_as;
-use crate::remote::{send_as, serve_as};
-use crate::samples::{send_pcm_as, send_pcm_watched};
-use crate::uploads::{send_file_as, send_file_watched};
+use crate::remote::{send_typed, serve_as};
+use crate::sources::{send_file_there, send_pcm_there};
 use bw_args::{CommandLine, Task, parse};
 use bw_commands::replay::replay;
 use bw_console::print::{give_up, print, print_diagnostic};
@@ -26,6 +25,7 @@ use bw_disk::Volume;
 use bw_draw::draw_file;
 use bw_edit::EditedFiles;
 use bw_journal::{BecomesResting, Journal, NoJournal};
+use bw_kind::FileKinds;
 use bw_layout::Limit;
 use bw_lock::FolderLocks;
 use bw_one_name::NameRule;
@@ -56,7 +56,7 @@ use std::process::ExitCode;
 /// - The texts of help, version and usage errors.
 pub fn start<
     S: System,
-    F: RecordingFiles + StateKeeping + EditedFiles + FolderLocks,
+    F: RecordingFiles + StateKeeping + EditedFiles + FolderLocks + FileKinds,
     D: Volume,
     J: BecomesResting,
     N: PacedNetwork
@@ -75,7 +75,7 @@ pub fn start<
     // Commands without the network leave it alone, and each text goes to its stream.
     ensures { (exit : Exit) × (exit_status result ≡ status_of exit) × IsProgram
         (host_side S.System F.RecordingFiles (state_side F.kept_at F.States.StateFiles F.States.Log.StateLog)
-        F.EditedFiles F.FolderLocks D.Disk R.Source W.Sink E.Sink)
+        F.EditedFiles F.FolderLocks F.FileKinds D.Disk R.Source W.Sink E.Sink)
         (server_side N.Store.TakeStore J.Journal ⟦<NoJournal as Journal>⟧ N.Peers.Peers
         N.Peers.Reader.Source N.Peers.Writer.Sink N.Reactor.Reactor N.Reactor.Link.Link N.NameRule
         (status_side N.StatusSetup N.Port.StatusPort N.Port.Link.Link))
@@ -91,7 +91,7 @@ pub fn start<
 /// Reads the command line, and does what it asks for.
 fn obey<
     S: System,
-    F: RecordingFiles + StateKeeping + EditedFiles + FolderLocks,
+    F: RecordingFiles + StateKeeping + EditedFiles + FolderLocks + FileKinds,
     D: Volume,
     J: BecomesResting,
     N: PacedNetwork
@@ -108,7 +108,7 @@ fn obey<
     G: Observer,
 >(alloc: Global, outside: &mut Outside<S, F, D, N, P, R, W, E, V, G>) -> Exit
     ensures { IsProgram (host_side S.System F.RecordingFiles (state_side F.kept_at F.States.StateFiles F.States.Log.StateLog)
-        F.EditedFiles F.FolderLocks D.Disk R.Source W.Sink E.Sink)
+        F.EditedFiles F.FolderLocks F.FileKinds D.Disk R.Source W.Sink E.Sink)
         (server_side N.Store.TakeStore J.Journal ⟦<NoJournal as Journal>⟧ N.Peers.Peers
         N.Peers.Reader.Source N.Peers.Writer.Sink N.Reactor.Reactor N.Reactor.Link.Link N.NameRule
         (status_side N.StatusSetup N.Port.StatusPort N.Port.Link.Link))
@@ -127,7 +127,7 @@ fn obey<
 /// Does what these words ask for.
 fn answer<
     S: System,
-    F: RecordingFiles + StateKeeping + EditedFiles + FolderLocks,
+    F: RecordingFiles + StateKeeping + EditedFiles + FolderLocks + FileKinds,
     D: Volume,
     J: BecomesResting,
     N: PacedNetwork
@@ -144,7 +144,7 @@ fn answer<
     G: Observer,
 >(alloc: Global, words: &[String], outside: &mut Outside<S, F, D, N, P, R, W, E, V, G>) -> Exit
     ensures { IsProgram (host_side S.System F.RecordingFiles (state_side F.kept_at F.States.StateFiles F.States.Log.StateLog)
-        F.EditedFiles F.FolderLocks D.Disk R.Source W.Sink E.Sink)
+        F.EditedFiles F.FolderLocks F.FileKinds D.Disk R.Source W.Sink E.Sink)
         (server_side N.Store.TakeStore J.Journal ⟦<NoJournal as Journal>⟧ N.Peers.Peers
         N.Peers.Reader.Source N.Peers.Writer.Sink N.Reactor.Reactor N.Reactor.Link.Link N.NameRule
         (status_side N.StatusSetup N.Port.StatusPort N.Port.Link.Link))
@@ -163,7 +163,7 @@ fn answer<
 /// Does what a command line asks for.
 fn perform<
     S: System,
-    F: RecordingFiles + StateKeeping + EditedFiles + FolderLocks,
+    F: RecordingFiles + StateKeeping + EditedFiles + FolderLocks + FileKinds,
     D: Volume,
     J: BecomesResting,
     N: PacedNetwork
@@ -181,7 +181,7 @@ fn perform<
 >(alloc: Global, line: &CommandLine, outside: &mut Outside<S, F, D, N, P, R, W, E, V, G>) -> Exit
     requires { HasNumbersInRange line.now }
     ensures { IsDoneFor (host_side S.System F.RecordingFiles (state_side F.kept_at F.States.StateFiles F.States.Log.StateLog)
-        F.EditedFiles F.FolderLocks D.Disk R.Source W.Sink E.Sink)
+        F.EditedFiles F.FolderLocks F.FileKinds D.Disk R.Source W.Sink E.Sink)
         (server_side N.Store.TakeStore J.Journal ⟦<NoJournal as Journal>⟧ N.Peers.Peers
         N.Peers.Reader.Source N.Peers.Writer.Sink N.Reactor.Reactor N.Reactor.Link.Link N.NameRule
         (status_side N.StatusSetup N.Port.StatusPort N.Port.Link.Link))
@@ -205,7 +205,7 @@ fn perform<
 /// Runs a task.
 fn run<
     S: System,
-    F: RecordingFiles + StateKeeping + EditedFiles + FolderLocks,
+    F: RecordingFiles + StateKeeping + EditedFiles + FolderLocks + FileKinds,
     D: Volume,
     J: BecomesResting,
     N: PacedNetwork
@@ -223,7 +223,7 @@ fn run<
 >(alloc: Global, task: &Task, outside: &mut Outside<S, F, D, N, P, R, W, E, V, G>) -> Exit
     requires { HasNumbersInRange (CommandLine.Run task.now) }
     ensures { IsDoneFor (host_side S.System F.RecordingFiles (state_side F.kept_at F.States.StateFiles F.States.Log.StateLog)
-        F.EditedFiles F.FolderLocks D.Disk R.Source W.Sink E.Sink)
+        F.EditedFiles F.FolderLocks F.FileKinds D.Disk R.Source W.Sink E.Sink)
         (server_side N.Store.TakeStore J.Journal ⟦<NoJournal as Journal>⟧ N.Peers.Peers
         N.Peers.Reader.Source N.Peers.Writer.Sink N.Reactor.Reactor N.Reactor.Link.Link N.NameRule
         (status_side N.StatusSetup N.Port.StatusPort N.Port.Link.Link))
@@ -246,6 +246,7 @@ fn run<
         watch,
         log,
         screens,
+        is_typed,
     } = outside;
     match task {
         Task::Replay { limit, fuse } => match Limit::new(*limit) {
@@ -263,19 +264,15 @@ fn run<
             None => unreachable!(),
         },
         Task::Serve(server) => serve_as(alloc, server, network, out, faults),
-        Task::Send(sender) => send_as(alloc, sender, network, input, out, faults, watch),
-        Task::SendFile(sender) if sender.log => {
-            send_file_as(alloc, sender, files, network, pause, log, out, faults)
+        Task::Send(sender) => {
+            send_typed(alloc, sender, *is_typed, network, input, out, faults, watch)
         }
-        Task::SendFile(sender) => {
-            send_file_watched(alloc, sender, files, network, pause, watch, out, faults)
-        }
-        Task::SendPcm(sender) if sender.log => {
-            send_pcm_as(alloc, sender, files, network, pause, log, out, faults)
-        }
-        Task::SendPcm(sender) => {
-            send_pcm_watched(alloc, sender, files, network, pause, watch, out, faults)
-        }
+        Task::SendFile(sender) => send_file_there(
+            alloc, sender, files, network, pause, watch, log, out, faults,
+        ),
+        Task::SendPcm(sender) => send_pcm_there(
+            alloc, sender, files, network, pause, watch, log, out, faults,
+        ),
         Task::Pack(source) => pack_as(alloc, source, files, out, faults),
         Task::Picture { file } => draw_file(alloc, files, file.as_str(), out, faults),
         Task::Repair { file, write } => {

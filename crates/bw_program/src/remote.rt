@@ -2,13 +2,15 @@
 ghost use Rattle.std.specs.Prelude.{◌≡◌};
 ghost use Rattle.bw_layout.specs.Limits.{IsLimit};
 ghost use Rattle.bw_program.specs.Remote.{HostsAs, IsHosting, IsServingAs, KeepsAs, ResumesAs, ResumesShown};
-ghost use Rattle.bw_program.specs.Remote.{RestsAs, Sends};
+ghost use Rattle.bw_program.specs.Remote.{RestsAs, Sends, SendsTyped};
+ghost use Rattle.bw_program.specs.Sources.{NotesInput};
 ghost use Rattle.bw_program.specs.Remote.{ServesAs, ServesByRule, exchanges_of};
 ghost use Rattle.bw_program.specs.Sides.{sender_side, server_side, start_side};
 ghost use Rattle.bw_serve_status.specs.Shown.{status_side};
 
 use bw_args::{End, Journaling, Recorders, Send, Serve};
 use bw_console::Exit;
+use bw_console::print::print_diagnostic;
 use bw_journal::{BecomesResting, Journal, NoJournal};
 use bw_layout::Limit;
 use bw_one_name::NameRule;
@@ -316,8 +318,40 @@ fn exchanges(end: End) -> u64
     }
 }
 
+/// What is told to who types requests.
+const TYPED: &str =
+    "send: reads requests from standard input, each a line of hex, to its end (Ctrl-D)\n";
+
+/// Says what is read, where somebody types it.
+fn note_input<E: Sink>(is_typed: bool, faults: &mut E)
+    ensures { NotesInput E.Sink is_typed faults.old faults.new }
+{
+    if is_typed {
+        print_diagnostic(faults, TYPED.as_bytes());
+    }
+}
+
+/// Sends as `send_as` does, and says before what is read, where somebody types it.
+pub(crate) fn send_typed<N: Network, R: Source, W: Sink, E: Sink, V: Watch>(
+    alloc: Global,
+    sender: &Send,
+    is_typed: bool,
+    network: &N,
+    input: &mut R,
+    out: &mut W,
+    faults: &mut E,
+    watch: &mut V,
+) -> Exit
+    ensures { SendsTyped N.Network (sender_side N.Dial.Dial N.Dial.Reader.Source N.Dial.Writer.Sink)
+        R.Source W.Sink E.Sink is_typed sender.now result network.now input.old input.new out.old out.new
+        faults.old faults.new }
+{
+    note_input(is_typed, faults);
+    send_as(alloc, sender, network, input, out, faults, watch)
+}
+
 /// Sends as the command line asks for, and reports the progress to the watcher.
-pub(crate) fn send_as<N: Network, R: Source, W: Sink, E: Sink, V: Watch>(
+fn send_as<N: Network, R: Source, W: Sink, E: Sink, V: Watch>(
     alloc: Global,
     sender: &Send,
     network: &N,

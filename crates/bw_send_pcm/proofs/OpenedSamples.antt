@@ -87,14 +87,14 @@ all_samples b skip len e =
 -- all requests of the plan are to come
 pub samples_opened : (b : List ℕ) (o : Options) (p : Pcm) (outline : Outline) (frames : ℕ) (q : Progress)
     (left : Option (List ℕ)) (to_come : List Request → Type 0) → IsTrue (are_settings o.settings) →
-    pcm_outline_of o p (length b) ≡ Ok outline → frames ≡ block_frames o outline.format →
+    pcm_outline_of o p (length b) ≡ Ok outline → 1 ≤ outline.samples_len → frames ≡ block_frames o outline.format →
     ((c : List ℕ) → outline.samples_len ≡ length (slice_range c p.skip (p.skip + outline.samples_len)) →
     remaining q c
     ≡ plan frames (record { outline = outline; samples = slice_range c p.skip (p.skip + outline.samples_len) })) →
     q.samples.place ≡ p.skip → left ≡ Some (drop p.skip b) →
     q.samples.place + q.samples.left ≡ p.skip + outline.samples_len → IsSoundPlan q.stage →
     ((requests : List Request) → AreToCome left q requests → to_come requests) → FeedsSamples b o p to_come
-samples_opened b o p outline frames q left to_come allowed h many requests place stands end sound gives =
+samples_opened b o p outline frames q left to_come allowed h some many requests place stands end sound gives =
     let r : Recording = samples_of b p outline in
     let has = has_samples b o p outline allowed h in
     let counted = has.counted in
@@ -109,6 +109,7 @@ samples_opened b o p outline frames q left to_come allowed h many requests place
     record {
       recording = r;
       is = recorded b o p outline h;
+      some = some;
       gives = gives (plan (block_frames o outline.format) r) (record {
         bytes = b;
         stands = record {

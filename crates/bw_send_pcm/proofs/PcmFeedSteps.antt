@@ -18,6 +18,7 @@ feeds requests (Ok nexts.NotYet) left h = h
 feeds requests (Ok nexts.End) left h = h
 feeds requests (Err (faults.Unread place)) left h = tt
 feeds requests (Err (faults.PartFrame place)) left h = tt
+feeds requests (Err (faults.Empty place)) left h = tt
 feeds requests (Err faults.TooLong) left h = tt
 feeds requests (Err faults.Unsendable) left h = tt
 feeds requests (Err faults.Memory) left h = tt

@@ -22,6 +22,8 @@ feed_given (Ok nexts.End) = Ok gives.End
 feed_given (Err (faults.Unread place)) = Err (feeds.Unread (record { kind = Read; offset = place }))
 feed_given (Err (faults.PartFrame place)) =
     Err (feeds.Refused (record { kind = kinds.PartFrame; offset = place }))
+feed_given (Err (faults.Empty place)) =
+    Err (feeds.Refused (record { kind = kinds.Empty; offset = place }))
 feed_given (Err faults.TooLong) = Err (feeds.Refused (record { kind = kinds.TooLong; offset = 0 }))
 feed_given (Err faults.Unsendable) = Err feeds.Unsendable
 feed_given (Err faults.Memory) = Err feeds.Memory

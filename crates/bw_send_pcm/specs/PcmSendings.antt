@@ -10,9 +10,11 @@ use Rattle.bw_ports.specs.declared.pause.Pause.{Ghosts as PauseGhosts}
 use Rattle.bw_ports.specs.declared.recording_files.FileStamp.{FileStamp}
 use Rattle.bw_console.specs.Outcomes.{Outcome as Did}
 use Rattle.bw_console.specs.Prints.{Nothing}
-use Rattle.bw_plan.specs.PcmRecordings.{PcmFaultOf, pcm_recording_of}
+use Rattle.bw_plan.specs.PcmRecordings.{PcmFaultOf, pcm_outline_of, pcm_recording_of}
 use Rattle.bw_plan.specs.Plans.{plan}
-use Rattle.bw_plan.specs.Recordings.{Options, Recording, block_frames}
+use Rattle.bw_plan.specs.Recordings.{Options, Outline, Recording, block_frames}
+use Rattle.bw_plan.specs.declared.fault.RecordingFault.{RecordingFault}
+use Rattle.bw_plan.specs.declared.fault.RecordingKind.TheVariants.{Empty}
 use Rattle.bw_plan.specs.declared.pcm.Pcm.{Pcm}
 use Rattle.bw_recorder.specs.Packs.{IsOpenReport, Packing, RefusesSettings, RunsOutOfMemory}
 use Rattle.bw_recorder.specs.SettingLists.{options_of}
@@ -34,6 +36,8 @@ pub record FeedsSamples (b : List ℕ) (o : Options) (p : Pcm) (to_come : List R
   where
     pub recording : Recording
     pub is : pcm_recording_of b o p ≡ Ok recording
+    -- it has a frame
+    pub some : 1 ≤ recording.outline.samples_len
     pub gives : to_come (plan (block_frames o recording.outline.format) recording)
 
 -- where the samples in these bytes are a recording, all requests of its plan are to come
@@ -47,6 +51,17 @@ abbrev pub RefusesPcm : Options → Pcm → ℕ → OpenFault → Type 0
 RefusesPcm o p len (Unopened error) = Unit {0}
 RefusesPcm o p len (Refused fault) = PcmFaultOf o p len fault
 RefusesPcm o p len Changed = ⊥
+
+-- the fault of samples that have no frame: at the place of the first one
+abbrev pub empty_at : Pcm → RecordingFault
+empty_at p = record { kind = Empty; offset = p.skip }
+
+-- the samples in a file of so many bytes have no fault, but no frame either
+pub record HasNoFrame (o : Options) (p : Pcm) (len : ℕ) (fault : OpenFault) : Type 0 where
+  pub outline : Outline
+  pub is : pcm_outline_of o p len ≡ Ok outline
+  pub none : outline.samples_len ≡ 0
+  pub fault_is : fault ≡ Refused (empty_at p)
 
 -- so many bytes a file that is followed is known to have: where a path says that it has ended, those
 -- before the samples; where standard input is appended to it, those that it has, these among them
@@ -68,7 +83,8 @@ module _ {F : Type 0} (feed : FeedGhosts F FeedFault) where
   OpensSamples looks_at file stamp p o (Ok f) =
       Of file (λ b. IsStampOf stamp b → FeedsSamples b o p (feed.left f)) × looks_at stamp f
   OpensSamples looks_at file stamp p o (Err fault) =
-      Of file (λ b. IsStampOf stamp b → RefusesPcm o p (length b) fault)
+      Of file (λ b. IsStampOf stamp b →
+      RefusesPcm o p (length b) fault ⊎ HasNoFrame o p (length b) fault)
 
   -- The file that will have these bytes, if they are reported, is followed, until a path exists or
   -- without one; or why it can't be, by what is known of it.

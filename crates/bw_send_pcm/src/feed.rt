@@ -47,6 +47,10 @@ fn given_of(next: Result<NextRequest, PcmFault>) -> Result<Given, FeedFault>
             kind: RecordingKind::PartFrame,
             offset: place,
         })),
+        Err(PcmFault::Empty { place }) => Err(FeedFault::Refused(RecordingFault {
+            kind: RecordingKind::Empty,
+            offset: place,
+        })),
         Err(PcmFault::TooLong) => Err(FeedFault::Refused(RecordingFault {
             kind: RecordingKind::TooLong,
             offset: 0,

@@ -5,12 +5,12 @@ ghost use Rattle.bw_plan.specs.AllowedSettings.{are_settings};
 ghost use Rattle.bw_recorder.specs.Openings.{is_system_well};
 ghost use Rattle.bw_recorder.specs.Packs.{HasPacked, Packing};
 ghost use Rattle.bw_send_file.specs.FileLooks.{LooksAt};
-ghost use Rattle.bw_send_pcm.specs.PcmSendings.{IsPcmSent, OpensSamples};
+ghost use Rattle.bw_send_pcm.specs.PcmSendings.{IsPcmSent, OpensSamples, empty_at};
 
 use crate::job::PcmFile;
 use crate::sending::send_opened;
 use bw_console::Exit;
-use bw_plan::{Options, Pcm, Plan, block_frames};
+use bw_plan::{Options, Pcm, Plan, RecordingFault, RecordingKind, block_frames};
 use bw_ports::{Dial, Pause, RecordingFiles};
 use bw_recorder::{NO_MEMORY, OpenFault, read_options, refuse_options, unread};
 use bw_send_file::{PlanFeed, Recorder};
@@ -99,6 +99,9 @@ fn open_samples<F: RecordingFiles>(
         Ok(outline) => outline,
         Err(fault) => return Err(OpenFault::Refused(fault)),
     };
+    if outline.samples_len() == 0 {
+        return Err(OpenFault::Refused(no_frame(pcm)));
+    }
     let frames = block_frames(options, outline.format());
     let mut reader = match files.open(path) {
         Ok(reader) => reader,
@@ -107,5 +110,15 @@ fn open_samples<F: RecordingFiles>(
     match Plan::begin(alloc, &mut reader, outline, frames, pcm.skip) {
         Ok(plan) => Ok(PlanFeed::new(alloc, plan, reader, stamped, stamp)),
         Err(fault) => Err(OpenFault::Refused(unread(fault))),
+    }
+}
+
+/// The fault of a file that has no frame where its samples would begin.
+fn no_frame(pcm: Pcm) -> RecordingFault
+    ensures { result ≡ empty_at pcm }
+{
+    RecordingFault {
+        kind: RecordingKind::Empty,
+        offset: pcm.skip,
     }
 }

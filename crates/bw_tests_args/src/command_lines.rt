@@ -816,7 +816,7 @@ static TEXTS: [(&[&str], &str); 17] = [
     ),
     (
         &["/tmp/x", "serve", "--help"],
-        "Example: bwingest serve --listen 127.0.0.1:4100 --folder takes --recorders 16 --journal\n",
+        "Example: bwingest serve --listen 127.0.0.1:4100 --folder takes --until-stopped --recorders 16 --journal\n",
     ),
     (
         &["/tmp/x", "serve", "--help"],

@@ -258,7 +258,7 @@ fn serve_where<'a>(alloc: Global) -> Result<Command<'a>, AllocError>
         "Serves exchanges over TCP, and keeps each take's file",
     )
     .after_help(
-        "Example: bwingest serve --listen 127.0.0.1:4100 --folder takes --recorders 16 --journal",
+        "Example: bwingest serve --listen 127.0.0.1:4100 --folder takes --until-stopped --recorders 16 --journal",
     )
     .arg(listen_option(alloc))?
     .arg(folder_option(alloc))?
