@@ -1,6 +1,6 @@
 -- What is given, and what is left of it.
 use Rattle.std.proofs.Common.{◌≡◌, ℕ, ◌+◌, ◌≤◌, ◌^◌, List, [], ◌∷◌, ◌++◌, length, take, drop, Option, Some, Result, Ok, Err}
-use Rattle.std.proofs.Common.{IfOk, IfErr, sym, ◌∙◌, ap, subst, arith, inl, inr}
+use Rattle.std.proofs.Common.{IfOk, IfErr, refl, sym, ◌∙◌, ap, subst, arith, inl, inr}
 use Rattle.std.specs.Prelude.{◌/◌, ◌⊎◌}
 use Rattle.bw_model.specs.Take.{Request, SetField, Block, block_align}
 use Rattle.bw_plan.specs.Progress.{fields_after, next_step_of}
@@ -8,6 +8,7 @@ use Rattle.bw_plan.specs.Recordings.{Outline, value_under}
 use Rattle.bw_ports.specs.declared.followed.Followed.{Ghosts as FollowedGhosts}
 use Rattle.bw_follow.specs.ComingRequests.{PcmProgress, sample_requests, requests_of_step, GivesOf, RequestsLeft, ComesTo}
 use Rattle.bw_follow.specs.ComingRequests.{progress_of, TakesSamples, RefusesBlock, RefusesCopying, IsBlockOf}
+use Rattle.bw_follow.specs.ComingRequests.{KeepsAllButSamples}
 use Rattle.bw_follow.specs.Samples.{HeldSamples, HoldsMore}
 use Rattle.bw_follow.specs.declared.fault.PcmFault.{PcmFault}
 use Rattle.bw_follow.specs.declared.fault.PcmFault.TheVariants as faults
@@ -43,6 +44,26 @@ field_first p s after tag v w bytes ev ew eb h =
     (sym (eb ∙ ap (λ (z : List (List ℕ)). value_under z tag) ew))
 
 module _ {F : Type 0} (followed : FollowedGhosts F) where
+  -- what is read on changes no request that is to come
+  pub same_requests : (step : PcmStep) (x y : PcmRequests F) (rest : List ℕ) (left : Option (List ℕ)) →
+      KeepsAllButSamples x y → (m : HoldsMore x.samples rest y.samples left) →
+      requests_of_step (progress_of x) (x.samples.held ++ rest) step
+      ≡ requests_of_step (progress_of y) (y.samples.held ++ m.rest) step
+  same_requests step x y rest left k m =
+      ap (λ (s : List ℕ). requests_of_step (progress_of x) s step) (sym m.together)
+      ∙ moved x.outline y.outline x.frames y.frames x.given y.given y.samples.held y.samples.held m.rest step step
+      k.outline k.frames k.given refl refl
+
+  pub left_of_read : (step : PcmStep) (x y : PcmRequests F) (rest : List ℕ) → KeepsAllButSamples x y → x.step ≡ step →
+      HoldsMore x.samples rest y.samples (followed.to_come y.file) →
+      RequestsLeft followed y (requests_of_step (progress_of x) (x.samples.held ++ rest) step)
+  left_of_read step x y rest k at m = (
+    m.rest,
+    m.left_is,
+    same_requests step x y rest (followed.to_come y.file) k m
+        ∙ ap (requests_of_step (progress_of y) (y.samples.held ++ m.rest)) (sym (k.step ∙ at)),
+  )
+
   -- a request that isn't copied
   pub copy_fault : (step : PcmStep) (x y : PcmRequests F) (f : PcmFault) (r : Request) → RefusesCopying r f →
       ((rest : List ℕ) → followed.to_come x.file ≡ Some rest →
