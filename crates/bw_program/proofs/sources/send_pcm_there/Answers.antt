@@ -1,0 +1,32 @@
+use Rattle.std.proofs.Common.{◌∙◌, inl, inr, refl, sym}
+use Rattle.bw_program.proofs.sources.send_pcm_there.Goals as goal
+
+pub returns-then-is_odd : goal.returns-then-is_odd
+returns-then-is_odd g c =
+    let l = c.refuse_kind.ensures in (
+      c.kind_at-kind.result,
+      rw c.as_str-path.ensures.value at c.kind_at-kind.ensures,
+      inl (record {
+        odd = sym c.is_odd.ensures ∙ c.if-is_odd.true;
+        print = l.0;
+        says = rw c.as_str-path.ensures.value at l.1;
+        unread = refl;
+        unpaused = refl;
+        unprinted = refl;
+        reports = l.2;
+      }),
+    )
+
+pub returns-then-log : goal.returns-then-log
+returns-then-log g c = (
+  c.kind_at-kind.result,
+  rw c.as_str-path.ensures.value at c.kind_at-kind.ensures,
+  inr (sym c.is_odd.ensures ∙ c.if-is_odd.false, c.send_pcm_as.ensures),
+)
+
+pub returns : goal.returns
+returns g c = (
+  c.kind_at-kind.result,
+  rw c.as_str-path.ensures.value at c.kind_at-kind.ensures,
+  inr (sym c.is_odd.ensures ∙ c.if-is_odd.false, c.send_pcm_watched.ensures),
+)
