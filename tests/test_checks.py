@@ -13,8 +13,8 @@ import sys
 
 sys.dont_write_bytecode = True  # nothing is left beside this script
 from kit.folders import FastTake, folder_in, journaled, left_by, line_of, restored, says, small_take, state
-from kit.network import connect, hear_all, run, run_cases, send_words, start, TALLY
-from kit.takes import BLOCK, BYE_FRAME, message, STORED, Take, verdict
+from kit.network import connect, hear_all, LOCAL, run, run_cases, send_words, start, TALLY
+from kit.takes import BLOCK, BYE_FRAME, little, message, OPEN, STORED, Take, verdict
 
 LONGEST_RUN = 180  # seconds, for all of it
 DATA_PLACE = 690  # of a file without a history
@@ -175,6 +175,42 @@ def case_while_sending(place):
     TALLY.holds("reports while they send", reports > 0, reports)
     server.stop(signal.SIGKILL)
     shows("all sent", folder, [line_of(take, len(take.messages())) for take in takes])
+
+
+# Limits
+
+MANY = 1_100_000  # frames, one a block: more than 2^20 and than a million numbers, in a journal of 55 MB
+
+
+def sends_many(name, server, path):
+    """The take is sent, or is there already: each of its numbers is stored."""
+    words = ("--pcm", "48000,1,16", "--file", str(path), "--block", "1")
+    sent = run("send", "--connect", f"{LOCAL}:{server.port}", "--name", "many", *words)
+    TALLY.same(name, sent, (0, f"settled {MANY + 2}\nstored {MANY + 2}\n", ""))
+
+
+def case_many_numbers(place):
+    """A take of very many numbers is sent, resumed by a start, compared, put to rest, woken, and compared at rest."""
+    folder, path = folder_in(place), place / "many.pcm"
+    path.write_bytes(CHANCE.randbytes(2 * MANY))
+    line = f"many closed frames {MANY} seconds {MANY // 48_000}.{MANY % 48_000 // 48} next {MANY + 2}"
+    server = journaled(folder, 0)
+    sends_many("many numbers", server, path)
+    server.stop(signal.SIGKILL)
+    shows("many numbers after a kill", folder, [line])
+    server = journaled(folder, 1, "--rest")
+    sends_many("many numbers after a start", server, path)
+    others = [small_take(f"n{number}") for number in range(256)]
+    for take in others:
+        says(take.name, server, take, range(len(take.messages())))
+    TALLY.holds("many numbers rest", (folder / "many.closed").exists(), sorted(it.name for it in folder.iterdir())[:9])
+    status, out, _ = checked(folder)
+    TALLY.holds("many numbers at rest", status == 0 and f"{line}\n" in out, (status, out[:400]))
+    opening = bytes([OPEN]) + little(48_000, 4) + little(1, 2) + little(16, 2) + little(0, 2)
+    with connect(server.port) as peer:
+        peer.sendall(message("many", 0, opening) + BYE_FRAME)
+        TALLY.same("many numbers woken", hear_all(peer), verdict("many", 0, STORED))
+    server.stop(signal.SIGKILL)
 
 
 # JSON

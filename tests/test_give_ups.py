@@ -4,11 +4,13 @@
 The program is the first argument, or the one of this repository. Prints what differs, and last 'N passed, M failed'.
 """
 import signal
+import subprocess
 import sys
 
 sys.dont_write_bytecode = True  # nothing is left beside this script
 from kit.folders import folder_in, journaled, left_by, line_of, restored, says, small_take
-from kit.network import run, run_cases, TALLY
+from kit.network import finish, run, run_cases, start, TALLY
+from kit.watcher import ClosingWatcher
 
 LONGEST_RUN = 120  # seconds, for all of it
 USAGE = "\nUsage: bwingest <COMMAND>\n\nFor more information, try '--help'.\n"
@@ -111,6 +113,19 @@ def case_running(place):
     TALLY.same("the folder", contents(folder), saved)
     server.stop(signal.SIGKILL)
     TALLY.same("after it", gives_up(folder, "a1"), given_up("a1"))
+
+
+def case_order(place):
+    """Under the lock, which is let go last, each renaming is synced before the next one, and before it is reported."""
+    folder, watcher = left_by(folder_in(place), [(small_take(), 5)]), ClosingWatcher()
+    words = ("takes", "--folder", str(folder), "--give-up", "a1")
+    told = finish(start(*words, observer=watcher, stdout=subprocess.PIPE, stderr=subprocess.PIPE))
+    TALLY.same("watched", told, given_up("a1"))
+    kinds = ("lock ", "rename ", f"sync {folder.name}", "write out", "close .bwingest-lock")
+    renamed = [f"rename {folder}/a1.{end} {folder}/a1.{end}.given-up" for end in ("journal", "wav")]
+    wanted = ["lock .bwingest-lock", *(line for it in renamed for line in (it, f"sync {folder.name}"))]
+    wanted += [f"write out {told[1].encode().hex()}", "close .bwingest-lock"]
+    TALLY.same("the order", [line for line in watcher.lines if line.startswith(kinds)], wanted)
 
 
 def case_names(place):

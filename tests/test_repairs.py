@@ -20,9 +20,10 @@ from dataclasses import dataclass
 
 sys.dont_write_bytecode = True  # nothing is left beside this script
 from kit.hints import hinted
-from kit.network import PROGRAM, run, run_cases, TALLY
+from kit.network import finish, PROGRAM, run, run_cases, start, TALLY
 from kit.repository import ROOT
 from kit.tracer import Traced
+from kit.watcher import Watcher
 
 LONGEST_RUN = 120  # seconds, for all of it
 UNKNOWN = 0xFFFF_FFFF
@@ -91,6 +92,9 @@ LEFT = [
     Left("one that had given the samples' size", UNKNOWN, len(SAMPLES)),
     Left("one after a part of a frame", 0x8000_0024, 1_000, samples=SAMPLES[:1_003], kept=1_000),
     Left("one before any sample", UNKNOWN, UNKNOWN, samples=b""),
+    # samples of the size 0, and less after them than a frame and a head
+    Left("one that gives no form, after a frame", UNKNOWN, 0, samples=SAMPLES[:7], kept=4),
+    Left("one that gives too long a form, after a frame", 100_000, 0, samples=SAMPLES[:5], kept=4),
 ]
 
 
@@ -181,6 +185,21 @@ def check_repaired(writer, path, frames, place):
         words = ["-v", "error", "-count_packets", "-show_entries", "stream=duration_ts", "-of", "csv=p=0", path]
         told = subprocess.run(["ffprobe", *words], capture_output=True, text=True, check=False).stdout
         TALLY.same(f"{writer}, ffprobe", told.strip(), str(frames))
+
+
+def case_order(folder):
+    """Each size is synced before the next one is written, and both before they are reported."""
+    path, left, watcher = folder / "take.wav", LEFT[0], Watcher()
+    path.write_bytes(left.file())
+    words = ("repair", "--write", str(path))
+    told = finish(start(*words, observer=watcher, stdout=subprocess.PIPE, stderr=subprocess.PIPE))
+    TALLY.same("watched", told, (0, left.text(True), ""))
+    whole = left.repaired()
+    form, size = whole[4:8].hex(), whole[left.place + 4 : left.place + 8].hex()
+    wanted = [f"seek take.wav {left.place + 4}", f"write take.wav {size}", "sync take.wav"]
+    wanted += ["seek take.wav 4", f"write take.wav {form}", "sync take.wav", f"write out {told[1].encode().hex()}"]
+    lines = watcher.lines[watcher.lines.index(f"open {path} to-read-and-write") :]
+    TALLY.same("the order", [line for line in lines if line.startswith(("seek", "write", "sync"))], wanted)
 
 
 def check_unchanged(name, path, frames):
@@ -333,6 +352,7 @@ def write_a_megabyte():
 
 CASES = [
     case_left,
+    case_order,
     case_sound,
     case_refusals,
     case_cut,

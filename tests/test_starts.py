@@ -368,7 +368,9 @@ def refuse_each(place, kind):
         restored(folder, saved)
         status, out, faults, _ = ended(words, kind, number)
         is_refused = status == 3 or status == 4 and kind == "growth"
-        is_so = status == -signal.SIGKILL or is_refused and out == b"" and faults.count(b"\n") == 1
+        # the end of a folder's list isn't taken for granted
+        is_served = status == -signal.SIGKILL and kind != "list"
+        is_so = is_served or is_refused and out == b"" and faults.count(b"\n") == 1
         TALLY.holds(name, is_so, f"{status}, {out!r}, {faults!r}")
         server = journaled(folder, 2)
         has_next(f"{name}: a1", server, takes[0], 5)

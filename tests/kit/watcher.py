@@ -2,7 +2,7 @@
 
 A line names the call, the file, socket or stream that it is for, and other arguments: bytes in hex, a place, a path, an
 address, an option's value, a token. The line of a failed call ends with `fails` and the fault's number. Calls that
-only concern memory and modes (LEFT_OUT) are left out, and so are closings.
+only concern memory and modes (LEFT_OUT) are left out, and so are closings, if it isn't a ClosingWatcher.
 """
 import collections
 import errno
@@ -93,6 +93,15 @@ class Watcher:
     def line_of(self, call):
         form = FORMS.get(call.number)
         return form(self, call) if form else f"call {call.number} {self.name(call)}"
+
+
+class ClosingWatcher(Watcher):
+    """Closings have lines too."""
+
+    def know(self, call, kind, name):
+        if kind == "close":
+            self.lines.append(call.line)
+        super().know(call, kind, name)
 
 
 # The line of each kind of call, before it is made

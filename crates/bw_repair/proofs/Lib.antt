@@ -2,3 +2,4 @@ pub mod Overlays
 pub mod Steps
 pub mod Heads
 pub mod SizeLaws
+pub mod Settled

@@ -1,5 +1,5 @@
 -- Which sizes a file is to have, by what its head says and by its length.
-use Rattle.std.specs.Prelude.{ℕ, ◌+◌, ◌-◌, ◌%◌, ◌&&◌, ◌||◌, not, Bool, Result, Ok, Err, Some, None}
+use Rattle.std.specs.Prelude.{◌≡◌, ℕ, ◌+◌, ◌-◌, ◌%◌, ◌&&◌, ◌||◌, not, Bool, Result, Ok, Err, Some, None}
 use Rattle.std.specs.Prelude.{List, [], ◌∷◌, nat_lt, nat_le, ◌==◌, if◌then◌else◌}
 use Rattle.bw_model.specs.Bytes.{first_that_holds, unsaid, even_up}
 use Rattle.bw_inspect.specs.declared.fault.InspectKind.TheVariants.{NoFmt, TooLarge}
@@ -14,29 +14,33 @@ use Rattle.bw_repair.specs.declared.decision.Sizes.{Sizes}
 abbrev pub is_closed : DataHead → Bool
 is_closed h = not (h.form == unsaid) && (nat_lt h.place h.form && nat_le h.form (h.place + h.rest))
 
--- The samples' size was never given: it says none, it is more than the file has, or it is 0 in a
--- form that ends no later than the samples begin.
-abbrev pub is_unsized : DataHead → Bool
-is_unsized h = h.size == unsaid || nat_lt h.rest h.size || (h.size == 0 && nat_le h.form h.place)
-
--- the size of the samples: what it is, or all whole frames that the file has
-abbrev pub size_of_data : DataHead → ℕ
-size_of_data h = if is_unsized h then h.rest - h.rest % h.align else h.size
-
 -- the form holds samples of this size, and has no room for a further head within the file
 abbrev pub is_form_kept : DataHead → Bool
 is_form_kept h =
     not (h.form == unsaid) && nat_le (h.place + h.size) h.form
     && (nat_le h.form (h.place + h.rest) || nat_lt h.form (h.place + 8 + even_up h.size))
 
+-- after samples of a known size come as many bytes as a frame or a chunk's head has
+abbrev pub may_continue : DataHead → Bool
+may_continue h = nat_le 8 (h.rest - h.size) && nat_le h.align (h.rest - h.size)
+
+-- the form ends no later than the samples begin, or would with the size that it gets
+abbrev pub ends_at_head : DataHead → Bool
+ends_at_head h = nat_le h.form h.place || (not (is_form_kept h) && not (may_continue h))
+
+-- The samples' size was never given: it says none, it is more than the file has, or it is 0 in a
+-- form that ends no later than the samples begin.
+abbrev pub is_unsized : DataHead → Bool
+is_unsized h = h.size == unsaid || nat_lt h.rest h.size || (h.size == 0 && ends_at_head h)
+
+-- the size of the samples: what it is, or all whole frames that the file has
+abbrev pub size_of_data : DataHead → ℕ
+size_of_data h = if is_unsized h then h.rest - h.rest % h.align else h.size
+
 -- the form's size: what it is, or up to the end of the samples and their pad byte
 abbrev pub size_of_form : DataHead → ℕ
 size_of_form h =
     if not (is_unsized h) && is_form_kept h then h.form else h.place + even_up (size_of_data h)
-
--- after samples of a known size come as many bytes as a frame or a chunk's head has
-abbrev pub may_continue : DataHead → Bool
-may_continue h = nat_le 8 (h.rest - h.size) && nat_le h.align (h.rest - h.size)
 
 -- a fault at the samples' head, if the test holds
 abbrev pub refusal : DataHead → Bool → RepairKind → Bool × RepairFault
@@ -60,3 +64,11 @@ within h =
 -- the sizes, or why there are none
 abbrev pub decided : DataHead → Result Sizes RepairFault
 decided h = elim (first_that_holds (refusals h)) [ None ↦ within h | Some f ↦ Err f ]
+
+-- the head once the file has these sizes
+abbrev pub with_decided : DataHead → Sizes → DataHead
+with_decided h s = record h { form = s.form; size = s.«data» }
+
+-- Of a file that has got the sizes that were decided for it, the same are decided.
+abbrev pub DecidedSizesStay : Type 0
+DecidedSizesStay = (h : DataHead) (s : Sizes) → decided h ≡ Ok s → decided (with_decided h s) ≡ Ok s

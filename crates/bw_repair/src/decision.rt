@@ -4,7 +4,8 @@ ghost use Rattle.bw_model.specs.Bytes.{even_up as even_up_of};
 ghost use Rattle.bw_repair.specs.Decisions.{decided, size_of_data, size_of_form, within};
 ghost use Rattle.bw_repair.specs.Near.{IsNear};
 ghost use Rattle.bw_repair.specs.Decisions.{is_closed as closed, is_form_kept as form_kept};
-ghost use Rattle.bw_repair.specs.Decisions.{is_unsized as unsized, may_continue as continues};
+ghost use Rattle.bw_repair.specs.Decisions.{ends_at_head as ends_there, is_unsized as unsized};
+ghost use Rattle.bw_repair.specs.Decisions.{may_continue as continues};
 
 use crate::fault::{RepairFault, RepairKind, fault_at};
 use crate::search::DataHead;
@@ -74,10 +75,18 @@ fn is_closed(head: &DataHead) -> bool
 
 /// Whether the samples' size was never given.
 fn is_unsized(head: &DataHead) -> bool
+    requires { (head.now.place < 2 ^ 62) × (head.now.rest < 2 ^ 62) }
     ensures { result ≡ unsized head.now }
 {
-    let (form, size) = (head.form as u64, head.size as u64);
-    head.size == u32::MAX || head.rest < size || size == 0 && form <= head.place
+    head.size == u32::MAX || head.rest < head.size as u64 || head.size == 0 && ends_at_head(head)
+}
+
+/// Whether the form ends no later than the samples begin, or would with the size that it gets.
+fn ends_at_head(head: &DataHead) -> bool
+    requires { (head.now.place < 2 ^ 62) × (head.now.rest < 2 ^ 62) }
+    ensures { result ≡ ends_there head.now }
+{
+    head.form as u64 <= head.place || !is_form_kept(head) && !may_continue(head)
 }
 
 /// Whether the form holds the samples, and no further head within the file.
@@ -114,7 +123,7 @@ fn form_size(head: &DataHead) -> u64
 
 /// The size of the samples: what it is, or all whole frames that the file has.
 fn data_size(head: &DataHead) -> u64
-    requires small { head.now.rest < 2 ^ 62 }
+    requires small { (head.now.place < 2 ^ 62) × (head.now.rest < 2 ^ 62) }
     requires aligned { unsized head.now ≡ true → head.now.align ≢ 0 }
     ensures value { result ≡ size_of_data head.now }
     ensures small { result < 2 ^ 62 }

@@ -1,7 +1,13 @@
 //! Laws of repairs: functions that do nothing, whose contracts are the statements.
+ghost use Rattle.bw_repair.specs.Decisions.{DecidedSizesStay};
 ghost use Rattle.bw_repair.specs.RepairedFiles.{SizesAloneChange};
 
 /// A file with other sizes is as long, and has the same bytes but for the two sizes.
 pub fn law_sizes()
     ensures alone { SizesAloneChange }
+{}
+
+/// A file that has got the sizes that were decided for it keeps them.
+pub fn law_settled()
+    ensures settled { DecidedSizesStay }
 {}
