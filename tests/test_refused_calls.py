@@ -1,10 +1,11 @@
 #!/usr/bin/env python3
 """Refuses each growth of memory, read, write and other system call in turn, in small runs of each command.
 
-Each run has one call refused: the first of its kind, the second, and so on to the last. The program must end by itself
-with one of its statuses, print what it prints without the fault or the beginning of it, and keep what it reported as
-stored. Needs what tracer.py needs. The program is the first argument, or the one of this repository; with `--tests` the
-crates' tests of refused growths are run like this too. Prints what differs, and last 'N runs, M failed'.
+Each run has one call refused: the first of its kind, the second, and so on to the last (but one of seven growths of a
+server with a status port). The program must end by itself with one of its statuses, print what it prints without the
+fault or the beginning of it, and keep what it reported as stored. Needs what tracer.py needs. The program is the first
+argument, or the one of this repository; with `--tests` the crates' tests of refused growths are run like this too.
+Prints what differs, and last 'N runs, M failed'.
 """
 import contextlib
 import os
@@ -19,87 +20,15 @@ import tempfile
 import threading
 
 sys.dont_write_bytecode = True  # nothing is left beside this script
-from cases.recordings import SENT, STEREO
+from cases.recordings import STEREO
 from kit.hints import hinted
 from kit.network import connect, free_port, hear_batch, hear_until_it_breaks, LOCAL, PROGRAM
+from kit.refused_commands import STEREO_FILE, try_file_senders, try_pictures, try_repairs, try_takes
+from kit.refused_runs import KINDS, LONGEST_RUN, PIPES, Runs, what_a_pack_breaks, what_a_run_breaks, what_an_upload_breaks
 from kit.refuser import Refused
 from kit.repository import ROOT
 from kit.takes import BYE_FRAME, message, STORED, Take, verdict
 from kit.worked import BLOCK, CLOSE, EXCHANGE, EXCHANGE_1, held, no_room, OPEN, Case, SMALL_FILE, stored
-
-LONGEST_RUN = 20  # seconds, for one run
-MOST_CALLS = 5_000  # of one kind in one run
-MADE_BY_ALL = ("growth", "read", "write", "receive", "send", "connect", "sync")  # where such a kind is refused
-
-PIPES = {"stdout": subprocess.PIPE, "stderr": subprocess.PIPE}
-
-
-class Runs:
-    """Counts the runs, and prints what differs."""
-
-    def __init__(self, work):
-        self.work = work
-        self.count = 0
-        self.failed = 0
-        self.seen = 0  # calls of the kind, in the last run
-
-    def end(self, running, given=None):
-        """The status, standard output and standard error of a run, which is killed if it doesn't end."""
-        try:
-            out, errors = running.communicate(given, timeout=LONGEST_RUN)
-        except subprocess.TimeoutExpired:
-            running.kill()
-            out, errors = running.communicate()
-        self.seen = running.seen
-        return running.returncode, out, errors
-
-    def one(self, words, given, kind, number):
-        """A run with this call refused, or none if the number is 0; its status and both streams."""
-        with Refused(words, kind, number, stdin=subprocess.PIPE, **PIPES) as running:
-            return self.end(running, given)
-
-    def each(self, name, kind, run, fault_in):
-        """Refuses each call of a kind in turn; `fault_in` says what is wrong with how a run ended, if anything."""
-        wanted = run(kind, 0)
-        calls = self.seen
-        if wanted[0] < 0:
-            raise SystemExit(f"{name}: the program doesn't end by itself where nothing is refused")
-        if not calls and kind in MADE_BY_ALL:
-            raise SystemExit(f"{name}: no {kind} is seen")
-        if calls > MOST_CALLS:
-            raise SystemExit(f"{name}: {calls} calls are more than are tried")
-        for number in range(1, calls + 1):
-            self.count += 1
-            found = run(kind, number)
-            wrong = fault_in(kind, found, wanted)
-            if wrong:
-                self.failed += 1
-                print(f"{name}: with {kind} {number} refused: {wrong}: {found}"[:400], flush=True)
-
-
-def is_prefix(found, wanted):
-    return wanted.startswith(found)
-
-
-def what_a_run_breaks(kind, found, wanted):
-    """Of a command that reads and then prints: a fault is status 3 or 4, and nothing else is printed."""
-    if found[:2] == wanted[:2]:
-        return None
-    status, out, _ = found
-    if kind == "growth":
-        return None if status == 4 and not out else "neither out of memory nor the wanted text"
-    if status != 3:
-        return "another status"
-    return None if is_prefix(out, wanted[1]) and (kind == "write" or not out) else "another text"
-
-
-def what_a_pack_breaks(kind, found, wanted):
-    """Of a command that prints as it reads: a fault is status 3 or 4, and what was read before it is printed."""
-    if found[:2] == wanted[:2]:
-        return None
-    if found[0] != (4 if kind == "growth" else 3):
-        return "another status"
-    return None if is_prefix(found[1], wanted[1]) else "another text"
 
 
 def last_exchange(out):
@@ -140,26 +69,6 @@ def what_a_sender_breaks(kind, found, wanted):
         return None
     settled, stored = (int(line.split()[1]) for line in out.splitlines()[:2])
     return None if stored == settled <= int(wanted[1].split()[1]) else "other counts"
-
-
-def what_an_upload_breaks(kind, found, wanted):
-    """What a link breaks is made good over the next one; anything else ends it with a cause, and true counts."""
-    if found[:2] == wanted[:2]:
-        return None
-    status, out, said = found
-    if kind in ("connect", "send", "receive"):
-        return "it doesn't go on over another link"
-    if status != (4 if kind == "growth" else 3):
-        return "another status"
-    if not said:
-        return "no cause"
-    if not out or kind == "write" and is_prefix(out, wanted[1]):
-        return None
-    settled, stored = (int(line.split()[1]) for line in out.splitlines()[:2])
-    return None if stored == settled <= int(wanted[1].split()[1]) else "other counts"
-
-
-KINDS = ("growth", "read", "write", "seek", "open")
 
 
 def try_replays(runs, program, take):
@@ -240,7 +149,7 @@ def try_inspections(runs, program, take):
 
 def try_packs(runs, program):
     path = str(runs.work / "two blocks.wav")
-    pathlib.Path(path).write_bytes(next(case.file for case in SENT if case.recording is STEREO))
+    pathlib.Path(path).write_bytes(STEREO_FILE)
     for kind in KINDS:
         run = lambda kind, number: runs.one([program, "pack", path], b"", kind, number)
         runs.each("pack", kind, run, what_a_pack_breaks)
@@ -315,7 +224,7 @@ class Taking(Recorded):
 def try_uploads(runs, program):
     """A recording of a file, which a server takes."""
     path = str(runs.work / "sent.wav")
-    pathlib.Path(path).write_bytes(next(case.file for case in SENT if case.recording is STEREO))
+    pathlib.Path(path).write_bytes(STEREO_FILE)
     taking = Taking("a1", STEREO.requests())
     words = [program, "send", "--connect", taking.address, "--name", "a1", "--file", path, "--timeout", "1"]
     for kind in (*KINDS, "receive", "send", "connect"):
@@ -331,28 +240,59 @@ def heard_by(port, said):
     return b""
 
 
+def ask_status(port):
+    """Asks a status port for all that it shows of takes; it may not be there."""
+    with contextlib.suppress(OSError), connect(port) as peer:
+        peer.sendall(b"GET /takes.json HTTP/1.1\r\nHost: here\r\n\r\n")
+        hear_until_it_breaks(peer)
+
+
+def opening_of(server):
+    """What a server says up to that it listens."""
+    said = server.stdout.readline() if select.select([server.stdout], [], [], LONGEST_RUN)[0] else b""
+    return said + server.stdout.readline() if said.startswith(b"resumed") else said
+
+
+def heard_by_the_next(program, folder, take):
+    """What a recorder that sends all of a take hears of the next server with journals over a folder."""
+    port = free_port()
+    words = [program, "serve", "--listen", f"{LOCAL}:{port}", "--folder", folder, "--exchanges", "1", "--journal"]
+    with subprocess.Popen(words, stdout=subprocess.PIPE, stderr=subprocess.DEVNULL) as server:
+        heard = heard_by(port, b"".join(take.messages()) + BYE_FRAME) if opening_of(server) else b""
+        server.kill()
+    return heard
+
+
 def serve_thrice(runs, program, take, options, kind, number):
     """Runs a server over an empty folder, with this call refused, to which recorders send all of a take until it ends.
 
     It serves three exchanges, without those of recorders that a server of many drops for lack of memory. The result has
     its status, its streams, the take's file, and whether the first or the last accepted recorder got the verdicts that
-    all is stored: one exchange may have the fault, and the next one the replies that it delayed.
+    all is stored: one exchange may have the fault, and the next one the replies that it delayed. With journals a name
+    may be put off until the next start: the next server is asked.
     """
     folder = runs.work / "served"
     shutil.rmtree(folder, ignore_errors=True)
     folder.mkdir()
     port = free_port()
-    words = [program, "serve", "--listen", f"{LOCAL}:{port}", "--folder", folder, "--exchanges", "3", "--log", *options]
+    status_port = free_port() if "--status" in options else None
+    shown = [f"{LOCAL}:{status_port}"] if status_port else []
+    words = [program, "serve", "--listen", f"{LOCAL}:{port}", "--folder", folder, "--exchanges", "3", "--log"]
+    words += [*options, *shown]
     heard = []
     with Refused(words, kind, number, **PIPES) as server:
-        begun = server.stdout.readline() if select.select([server.stdout], [], [], LONGEST_RUN)[0] else b""
+        begun = opening_of(server)
         for _ in range(5 if begun else 0):
             if server.poll() is not None:
                 break
+            if status_port:
+                ask_status(status_port)
             heard.append(heard_by(port, b"".join(take.messages()) + BYE_FRAME))
         status, out, errors = runs.end(server)
     path, accepted = folder / f"{take.name}.wav", [it for it in heard if it]
     verdicts = b"".join(verdict(take.name, at, STORED) for at in range(len(take.requests())))
+    if "--journal" in options:
+        accepted = [heard_by_the_next(program, folder, take)]
     is_stored = verdicts in accepted[:1] + accepted[-1:]
     return status, begun + out, errors, path.read_bytes() if path.exists() else b"", is_stored
 
@@ -373,16 +313,35 @@ def what_a_server_breaks(kind, found, wanted):
     if status not in (3, 4) or (status == 4) != (kind == "growth"):
         return "another status"
     ends = rb"Bye|EndOfInput|BadFrame|ReadFault|WriteFault|Memory"
-    is_text = re.fullmatch(rb"(listening \S+\n(exchange \d (" + ends + rb")\n)*)?", out)
+    is_text = re.fullmatch(rb"((resumed 0 takes\n)?(listening \S+\n(exchange \d (" + ends + rb")\n)*)?)?", out)
     return None if errors and is_text else "no fault is reported, or another text"
 
 
+SERVERS = {
+    (): ("growth", "write", "seek", "open", "sync", "receive", "send"),
+    ("--recorders", "2"): ("growth", "write", "seek", "open", "sync", "receive", "send"),
+    ("--journal", "--sync"): ("growth", "write", "open", "sync", "list", "lock"),
+    ("--recorders", "2", "--status"): ("growth", "receive", "send"),
+}
+
+
+def what_a_kept_server_breaks(_kind, found, wanted):
+    """Whatever was refused, the next server over the folder has what was answered, and stores the rest."""
+    status, _, errors, file, is_stored = found
+    if not is_stored or file != wanted[3]:
+        return "the next server hasn't stored the take"
+    return None if status == 0 or status in (3, 4) and errors else "another status, or no fault is reported"
+
+
 def try_servers(runs, program, take):
-    """Servers of both kinds: each call on a take's file, and each on a link."""
-    for options in ([], ["--recorders", "2"]):
-        for kind in ("growth", "write", "seek", "open", "sync", "receive", "send"):
+    """Servers of each kind: each call on files of a take, and each on a link."""
+    for options, kinds in SERVERS.items():
+        breaks = what_a_kept_server_breaks if "--journal" in options else what_a_server_breaks
+        for kind in kinds:
             run = lambda kind, number: serve_thrice(runs, program, take, options, kind, number)
-            runs.each(" ".join(["serve", *options]), kind, run, what_a_server_breaks)
+            # Nearly all growths of a server with a status port are those of one without it.
+            step = 7 if kind == "growth" and "--status" in options else 1
+            runs.each(" ".join(["serve", *options]), kind, run, breaks, step)
 
 
 TESTS = (
@@ -417,8 +376,12 @@ def main():
         try_rehearsal(runs, PROGRAM)
         try_inspections(runs, PROGRAM, take)
         try_packs(runs, PROGRAM)
+        try_pictures(runs, PROGRAM)
+        try_repairs(runs, PROGRAM)
+        try_takes(runs, PROGRAM)
         try_senders(runs, PROGRAM, take)
         try_uploads(runs, PROGRAM)
+        try_file_senders(runs, PROGRAM)
         try_servers(runs, PROGRAM, take)
         if "--tests" in sys.argv:
             try_tests(runs)

@@ -1,0 +1,102 @@
+"""The commands over files and folders, with calls refused in turn: pictures, repairs, takes, and senders of files."""
+import shutil
+import signal
+import subprocess
+
+from cases.recordings import SENT, STEREO
+from kit.folders import folder_in, left_by, small_take
+from kit.network import LOCAL, Server
+from kit.refused_runs import is_prefix, KINDS, what_a_pack_breaks, what_a_run_breaks, what_an_upload_breaks
+from kit.repository import ROOT
+
+STEREO_FILE = next(case.file for case in SENT if case.recording is STEREO)
+
+
+def try_pictures(runs, program):
+    path = ROOT / "examples/a1.wav"
+    for kind in KINDS:
+        run = lambda kind, number: runs.one([program, "picture", path], b"", kind, number)
+        runs.each("picture", kind, run, what_a_pack_breaks)
+
+
+def repaired(runs, program, left, kind, number):
+    """Repairs a file, with this call refused, and once more: how both ended, and the file after each."""
+    path = runs.work / "killed.wav"
+    path.write_bytes(left)
+    words = [program, "repair", "--write", path]
+    first = *runs.one(words, b"", kind, number), path.read_bytes()
+    again = subprocess.run(words, capture_output=True, check=False).returncode
+    return *first, again, path.read_bytes()
+
+
+def try_repairs(runs, program):
+    """A file is as it was, or has the size of its samples, or both sizes; the next repair gives what it lacks."""
+    whole = STEREO_FILE
+    place = whole.index(b"data") + 4
+    left = whole[:4] + b"\xff" * 4 + whole[8:place] + b"\xff" * 4 + whole[place + 4 :]
+    parts = left, whole[:4] + b"\xff" * 4 + whole[8:], whole
+
+    def wrong(kind, found, wanted):
+        status, out, _, file, again, then = found
+        if (again, then) != (0, whole) or file not in parts:
+            return "another file"
+        if wanted[3] != whole or found[:2] != wanted[:2] and status != (4 if kind == "growth" else 3):
+            return "another status"
+        return None if is_prefix(out, wanted[1]) else "another text"
+
+    for kind in (*KINDS, "sync"):
+        run = lambda kind, number: repaired(runs, program, left, kind, number)
+        runs.each("repair", kind, run, wrong)
+
+
+def try_takes(runs, program):
+    """What can't be read of a take is named, and the others are listed; a list that breaks off isn't taken for whole."""
+    folder = left_by(folder_in(runs.work, "listed"), [(small_take(name), 5) for name in ("a1", "b2")])
+    files = [f"{folder}/{name}.{end} can't be read" for name in ("a1", "b2") for end in ("wav", "journal", "closed")]
+
+    def wrong(kind, found, wanted):
+        status, out, errors = found
+        if kind == "growth" or kind == "write":
+            return what_a_run_breaks(kind, found, wanted)
+        if status == 3 and kind in ("list", "open") and errors.decode() == f"{folder} can't be read\n":
+            return None if not out else "a text"
+        if status != 3 or errors.decode().rstrip("\n") not in files:
+            return "no file is named"
+        lines = out.splitlines()
+        return None if len(lines) == 1 and lines[0] in wanted[1].splitlines() else "the other take isn't listed"
+
+    for depth, kinds in (((), (*KINDS, "list")), (("--check",), ("read", "open"))):
+        for kind in kinds:
+            run = lambda kind, number: runs.one([program, "takes", "--folder", folder, *depth], b"", kind, number)
+            runs.each(" ".join(["takes", *depth]), kind, run, wrong)
+
+
+def try_file_senders(runs, program):
+    """Senders of samples without a header, of files that grow, of standard input and with a state, to one server."""
+    samples, end = runs.work / "samples", runs.work / "ended"
+    samples.write_bytes(bytes(range(200)) * 30)
+    end.write_bytes(b"")
+    sound, spool, kept = runs.work / "sound.wav", runs.work / "spool", runs.work / "state"
+    sound.write_bytes(STEREO_FILE)
+    pcm = ["--pcm", "8000,1,16", "--block", "1000"]
+    files = {
+        "--pcm": ([*pcm, "--file", samples], ("growth", "read", "open", "seek")),
+        "--follow": ([*pcm, "--file", samples, "--follow", "--until", end], ("growth", "read", "open", "stat", "seek")),
+        "--spool": ([*pcm, "--spool", spool], ("growth", "read", "write", "open", "seek")),
+        "--state": (["--file", sound, "--state", kept], ("growth", "read", "write", "open", "sync", "rename")),
+    }
+    folder = folder_in(runs.work, "taken")
+    server = Server(folder, "--until-stopped", "--recorders", "4")
+    for name, (options, kinds) in files.items():
+        given = samples.read_bytes() if name == "--spool" else b""
+        words = [program, "send", "--connect", f"{LOCAL}:{server.port}", "--name", f"a{name}", *options]
+
+        def run(kind, number):
+            for path in (spool, kept):
+                path.unlink(missing_ok=True)
+            return runs.one([*words, "--timeout", "1"], given, kind, number)
+
+        for kind in kinds:
+            runs.each(f"send {name}", kind, run, what_an_upload_breaks)
+    server.stop(signal.SIGKILL)
+    shutil.rmtree(folder, ignore_errors=True)
