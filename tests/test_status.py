@@ -23,13 +23,15 @@ import threading
 import time
 
 sys.dont_write_bytecode = True  # nothing is left beside this script
-from kit.network import connect, ends_by_signal, free_port, LOCAL, LONGEST_WAIT, run, run_cases, same_file, same_settled
+from kit.network import connect, ends_by_signal, free_port, LOCAL, LONGEST_WAIT, narrow, run, run_cases, same_file, same_settled
 from kit.network import send, send_all, Server, stopped, TALLY
 from kit.takes import ASK, BYE_FRAME, message, Take
 
 LONGEST_RUN = 240  # seconds, for all of it
 LONGEST_REQUEST = 8_192
-OPERATORS = 4
+OPERATORS = 32
+STRANGERS = 4  # who ask at once
+ENDED = 900  # connections, of whose lines a narrow pipe has no room for all
 FIELDS = {
     "x-content-type-options": "nosniff",
     "x-frame-options": "DENY",
@@ -181,6 +183,7 @@ def same_counts(closed, begun, values):
     TALLY.same("values: messages", sum(kinds.values()) - kinds.get("ASK", 0), sent)
     TALLY.same("values: blocks", kinds["BLOCK"], len(closed.blocks) + len(begun) - 3)
     TALLY.same("values: health", values["health"], "ready")
+    TALLY.same("values: lines left out", values["lines_dropped"], 0)
     TALLY.same("values: ended", values["ended"], 1)
 
 
@@ -196,6 +199,7 @@ def same_metrics(server, values):
         ("bwingest_message_bytes_total", values["bytes"]),
         ('bwingest_verdicts_total{verdict="Stored"}', counts(values, "verdicts")["Stored"]),
         ("process_start_time_seconds", values["since"]),
+        ("bwingest_lines_dropped_total", 0),
     ):
         TALLY.same(f"metrics: {name}", found.get(name), wanted)
     if promtool := shutil.which("promtool"):
@@ -267,6 +271,10 @@ def case_each_path(folder):
         told = {key: value for key, value in others.items() if key != "content-length"}
         wanted = {key: value for key, value in fields.items() if key != "content-length"}
         TALLY.same(f"HEAD {path}: the fields", told, wanted)
+        status, fields, _ = server.ask(path + "?x=1")
+        TALLY.same(f"GET {path} with a query", (status, fields["content-type"]), ("200 OK", kind))
+    with_query = json.loads(server.ask("/takes.json?x=/metrics")[2])
+    TALLY.same("a query changes nothing", with_query.keys(), server.values().keys())
     stopped("each path", server)
 
 
@@ -279,7 +287,8 @@ REFUSED = (
     ("a TLS greeting", bytes.fromhex("1603010200010001fc0303"), "400 Bad Request"),
     ("another path", b"GET /takes HTTP/1.1\r\n" + HOST + b"\r\n", "404 Not Found"),
     ("a path upwards", b"GET /../etc/passwd HTTP/1.1\r\n" + HOST + b"\r\n", "404 Not Found"),
-    ("a query", b"GET /?a HTTP/1.1\r\n" + HOST + b"\r\n", "404 Not Found"),
+    ("a query of another path", b"GET /x?/ HTTP/1.1\r\n" + HOST + b"\r\n", "404 Not Found"),
+    ("a query alone", b"GET ?a HTTP/1.1\r\n" + HOST + b"\r\n", "404 Not Found"),
     ("a whole address", b"GET http://x/ HTTP/1.1\r\n" + HOST + b"\r\n", "404 Not Found"),
     ("POST", b"POST / HTTP/1.1\r\n" + HOST + b"Content-Length: 3\r\n\r\nabc", "405 Method Not Allowed"),
     ("DELETE", b"DELETE /takes.json HTTP/1.1\r\n" + HOST + b"\r\n", "405 Method Not Allowed"),
@@ -320,7 +329,7 @@ def case_named_statuses(folder):
 
 
 def case_slow(folder):
-    """Those who send too slowly are closed after five seconds, and hold up only the other operators."""
+    """Those who send too slowly are closed after five seconds, or once their places are wanted: they hold up nobody."""
     server = Shown(folder, "--until-stopped", "--recorders", "2")
     take = Take("meanwhile", 60_000, 5)
     with contextlib.ExitStack() as peers:
@@ -329,11 +338,58 @@ def case_slow(folder):
         for peer in slow:
             peer.sendall(b"GET / HTTP/1.1\r\n")
         same_settled("slow: a sender meanwhile", send(server.port, take), *2 * [len(take.requests())], 0)
-        TALLY.same("slow: one more waits", server.ask("/healthz")[0], "200 OK")
-        TALLY.holds("slow: as long", 4 < time.monotonic() - began < 12, f"{time.monotonic() - began} seconds")
-        for peer in slow:
+        TALLY.same("slow: one more", server.ask("/healthz")[0], "200 OK")
+        TALLY.same("slow: the first makes room", all_of(slow[0]), b"")
+        TALLY.holds("slow: at once", time.monotonic() - began < 4, f"{time.monotonic() - began} seconds")
+        slow[-1].sendall(f"Host: {LOCAL}\r\n\r\n".encode())
+        TALLY.same("slow: the last is answered", parts(all_of(slow[-1]))[0], "200 OK")
+        for peer in slow[1:-1]:
             TALLY.same("slow: closed", all_of(peer), b"")
+        TALLY.holds("slow: as long", 4 < time.monotonic() - began < 12, f"{time.monotonic() - began} seconds")
     ends_by_signal("slow", server)
+
+
+def case_idle(folder):
+    """Many who say nothing, and many who got their response and stay, hold up no one who asks."""
+    server = Shown(folder, "--until-stopped", "--recorders", "2")
+    asked = f"GET /healthz HTTP/1.1\r\nHost: {LOCAL}\r\n\r\n".encode()
+    with contextlib.ExitStack() as peers:
+        began = time.monotonic()
+        for round_of in range(3):
+            for _ in range(2 * OPERATORS):
+                peers.enter_context(connect(server.status))
+            asking = [peers.enter_context(connect_asking(server.status, asked)) for _ in range(OPERATORS // 2)]
+            found = [peer.recv(12) for peer in asking]
+            TALLY.same(f"idle {round_of}: each who asks is answered", found, len(asking) * [b"HTTP/1.1 200"])
+        TALLY.holds("idle: at once", time.monotonic() - began < 4, f"{time.monotonic() - began} seconds")
+    ends_by_signal("idle", server)
+
+
+def connect_asking(port, request):
+    peer = connect(port)
+    peer.sendall(request)
+    return peer
+
+
+def case_unread(folder):
+    """Lines that nobody reads are left out and counted; what is shown says how many."""
+    server = Shown(folder, "--until-stopped", "--recorders", "4")
+    narrow(server.process.stdout)
+    for _ in range(ENDED):
+        connect(server.port).close()
+    wait_for(lambda: server.values()["ended"] == ENDED, "unread: each connection ends")
+    dropped = server.values()["lines_dropped"]
+    TALLY.holds("unread: some are left out", 0 < dropped < ENDED, f"{dropped} of {ENDED}")
+    found = metrics(server.ask("/metrics")[2].decode()).get("bwingest_lines_dropped_total")
+    TALLY.same("unread: the metric", found, dropped)
+    row = f"<dt>Lines left out</dt><dd>{dropped}</dd>"
+    TALLY.holds("unread: the page", row in server.ask("/")[2].decode(), "says another number")
+    lines = server.lines(ENDED - dropped)
+    TALLY.same("unread: the others", lines, [f"exchange {at} EndOfInput" for at in range(ENDED - dropped)])
+    connect(server.port).close()
+    said = [f"left out {dropped} lines", f"exchange {ENDED} EndOfInput"]
+    TALLY.same("unread: how many, and the next", server.lines(2), said)
+    ends_by_signal("unread", server)
 
 
 def case_folder(folder):
@@ -373,7 +429,7 @@ def made_up_request(chance):
 def case_made_up(folder):
     """Made-up requests never hold, end or change the exchange of a recorder."""
     server = Shown(folder, "--until-stopped", "--recorders", "8")
-    strangers = [threading.Thread(target=bother, args=(server, at)) for at in range(OPERATORS)]
+    strangers = [threading.Thread(target=bother, args=(server, at)) for at in range(STRANGERS)]
     for stranger in strangers:
         stranger.start()
     for batch in itertools.cycle(range(32)):  # of eight names each, as many as a server takes; then they are sent again
@@ -390,7 +446,7 @@ def case_made_up(folder):
 
 def bother(server, seed):
     chance = random.Random(seed)
-    for _ in range(REQUESTS // OPERATORS):
+    for _ in range(REQUESTS // STRANGERS):
         request = made_up_request(chance)
         with contextlib.suppress(OSError), connect(server.status) as peer:
             peer.sendall(request)
@@ -401,5 +457,5 @@ def bother(server, seed):
 
 
 if __name__ == "__main__":
-    cases = (case_values, case_refused, case_each_path, case_named_statuses, case_slow, case_folder, case_unbound, case_made_up)
+    cases = (case_values, case_refused, case_each_path, case_named_statuses, case_slow, case_idle, case_unread, case_folder, case_unbound, case_made_up)
     sys.exit(run_cases(cases, LONGEST_RUN))

@@ -4,7 +4,7 @@
 use bw_causes::CauseCell;
 use bw_disk::SystemDisk;
 use bw_machine::{TcpNetwork, Terminal};
-use bw_net::{ClockStopwatch, Host, HostRecordings, SpoolCell, SpoolPause};
+use bw_net::{ClockStopwatch, Host, HostRecordings, LineCell, LineSink, SpoolCell, SpoolPause};
 use bw_one_name::FilteredNetwork;
 use bw_outages::{LastOutage, OutageReports};
 use bw_program::{Outside, start};
@@ -18,6 +18,7 @@ use std::process::ExitCode;
 fn main(rt: HostRuntime) -> ExitCode {
     let spool = SpoolCell::new();
     let causes = CauseCell::new();
+    let lines = LineCell::new();
     let terminal = Terminal::new(&rt);
     let screen = terminal.again(&rt);
     let line = SharedProgress::new(rt.alloc(), screen, ClockStopwatch::new(&rt));
@@ -25,18 +26,18 @@ fn main(rt: HostRuntime) -> ExitCode {
         system: Host::new(&rt),
         files: HostRecordings::new(&rt, &spool),
         disk: SystemDisk::new(&rt),
-        network: FilteredNetwork::new(TcpNetwork::new(&rt, &spool, &causes)),
+        network: FilteredNetwork::new(TcpNetwork::new(&rt, &spool, &causes, &lines)),
         pause: RenewingPause {
             inner: SpoolPause::new(&rt, &spool),
             line: LineHandle { shared: &line },
         },
         input: StdIo::new(rt.stdin()),
         out: ClearingSink {
-            inner: StdIo::new(rt.stdout()),
+            inner: LineSink::new(rt.alloc(), &lines, rt.stdout()),
             line: LineHandle { shared: &line },
         },
         faults: ClearingSink {
-            inner: StdIo::new(rt.stderr()),
+            inner: LineSink::new(rt.alloc(), &lines, rt.stderr()),
             line: LineHandle { shared: &line },
         },
         watch: OutageReports {

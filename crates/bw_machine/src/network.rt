@@ -8,7 +8,7 @@ use crate::locked::KeptStart;
 use bw_causes::CauseCell;
 use bw_disk::SystemDisk;
 use bw_folder::FolderStore;
-use bw_net::{FolderLock, SpoolCell, TcpDial, TcpPeers, TcpReactor, check_folder};
+use bw_net::{FolderLock, LineCell, SpoolCell, TcpDial, TcpPeers, TcpReactor, check_folder};
 use bw_pace::PacedNetwork;
 use bw_ports::{ListenerSetup, Network, StartRefusal};
 use std::alloc::Global;
@@ -25,6 +25,8 @@ pub struct TcpNetwork<'a> {
     pub(crate) spool: &'a SpoolCell,
     /// Is told why a link to a server can't be made, or breaks off.
     pub(crate) causes: &'a CauseCell,
+    /// What the process prints: once a server listens, its lines don't wait.
+    pub(crate) lines: &'a LineCell,
     pub(crate) failures: u64,
     /// What is kept of the latest start of a server with journals.
     pub(crate) kept: Option<KeptStart<FolderLock>>,
@@ -37,7 +39,8 @@ impl<'a> TcpNetwork<'a> {
     ghost use Rattle.bw_net.specs.SeenLinks.{peers_address, peers_folder, peers_timeout};
 
     /// The network of this runtime, which has not failed yet. This spool is filled while the calls of
-    /// a link to a server wait, and this cell is told why they fail.
+    /// a link to a server wait, this cell is told why they fail, and these lines no longer wait once it
+    /// listens.
     ///
     /// # Not specified
     /// - That its runtime is the one that was given.
@@ -47,6 +50,7 @@ impl<'a> TcpNetwork<'a> {
         rt: &'a HostRuntime,
         spool: &'a SpoolCell,
         causes: &'a CauseCell,
+        lines: &'a LineCell,
     ) -> TcpNetwork<'a>
         ensures { network_failures result ≡ 0 }
     {
@@ -54,6 +58,7 @@ impl<'a> TcpNetwork<'a> {
             rt,
             spool,
             causes,
+            lines,
             failures: 0,
             kept: None,
         }
@@ -71,6 +76,7 @@ impl<'a> TcpNetwork<'a> {
             ≡ option_map (λ s. s * 1_000_000_000) timeout)) }
     {
         let folder = String::from_str(self.rt.alloc(), folder)?;
+        self.lines.open(self.rt)?;
         TcpPeers::listen(self.rt, address, folder, span(timeout))
     }
 
@@ -86,7 +92,8 @@ impl<'a> TcpNetwork<'a> {
             × (reactor_waits reactor ≡ 0)) }
     {
         let folder = String::from_str(self.rt.alloc(), folder)?;
-        TcpReactor::listen(self.rt, address, folder, places)
+        self.lines.open(self.rt)?;
+        TcpReactor::listen(self.rt, self.lines, address, folder, places)
     }
 }
 

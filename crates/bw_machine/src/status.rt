@@ -24,7 +24,7 @@ impl<'a> StatusSetup<TcpReactor<'a>> for TcpNetwork<'a> {
         address: SocketAddr,
         folder: &str,
     ) -> io::Result<TcpStatusPort<'a>> {
-        let port = TcpStatusPort::listen(self.rt, reactor, address, folder);
+        let port = TcpStatusPort::listen(self.rt, self.lines, reactor, address, folder);
         if port.is_err() {
             self.failures = self.failures.saturating_add(1);
         }

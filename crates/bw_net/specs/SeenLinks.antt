@@ -1,9 +1,13 @@
 -- What is seen of links over TCP.
-use Rattle.std.specs.Prelude.{ℕ, List, Option, String, string_bytes}
+use Rattle.std.specs.Prelude.{ℕ, ℤ, ◌++◌, Bool, true, false, List, Option, Some, None, String, codes}
+use Rattle.std.specs.Prelude.{decimal, string_bytes, pos, ◌||◌}
+use Rattle.std.specs.Ordering.{int_eq}
 use Rattle.std.specs.declared.alloc.Global.{Global}
 use Rattle.std.specs.declared.net.socket_addr.SocketAddr.{SocketAddr}
 use Rattle.std.specs.declared.time.Duration.{Duration}
 use Rattle.mio.specs.Events.{capacity}
+use Rattle.bw_stream.specs.Shown.{std_flushed}
+use Rattle.bw_net.specs.declared.lines.LineSink.{LineSink}
 use Rattle.bw_net.specs.declared.reactor.TcpReactor.{TcpReactor}
 use Rattle.bw_net.specs.declared.status.TcpStatusPort.{TcpStatusPort}
 use Rattle.bw_net.specs.declared.tcp.TcpDial.{TcpDial}
@@ -53,6 +57,15 @@ port_time p = p.now
 abbrev pub port_since : TcpStatusPort → ℕ
 port_since p = p.since
 
+-- the line that says how many lines were left out
+abbrev pub left_out_text : ℕ → List ℕ
+left_out_text count = codes "left out " ++ decimal count ++ codes " lines\n"
+
+-- a call failed since the process, or the system, had no handle left
+abbrev pub is_short_of_handles : Option ℤ → Bool
+is_short_of_handles None = false
+is_short_of_handles (Some code) = int_eq code (pos 24) || int_eq code (pos 23)
+
 -- the address to which links are opened
 abbrev pub dial_address : TcpDial → SocketAddr
 dial_address d = d.address
@@ -68,6 +81,15 @@ dial_rate d = d.rate
 -- how many calls failed
 abbrev pub dial_failures : TcpDial → ℕ
 dial_failures d = d.failures
+
+module _ {W : Type 0} where
+  -- how many calls failed, as a writer of lines counted them
+  abbrev pub lines_failures : LineSink W → ℕ
+  lines_failures s = s.failures
+
+  -- whether it holds nothing back
+  abbrev pub lines_flushed : LineSink W → Bool
+  lines_flushed s = std_flushed s.inner
 
 module _ {R L : Type 0} where
   -- the address that peers are accepted at

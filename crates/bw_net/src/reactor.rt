@@ -4,6 +4,7 @@ ghost use Rattle.mio.specs.Event.{event_token, is_error, is_readable, is_read_cl
 ghost use Rattle.mio.specs.Event.{is_writable, is_write_closed};
 
 use crate::folder::has_folder;
+use crate::lines::LineCell;
 use crate::socket::Socket;
 use bw_ports::{Accepted, Reactor, Ready, TryAcceptFault, WaitFault};
 use mio::event::Event;
@@ -23,6 +24,7 @@ pub(crate) const STATUS: Token = Token(usize::MAX - 1);
 #[derive(Drop)]
 pub struct TcpReactor<'a> {
     rt: &'a HostRuntime,
+    lines: &'a LineCell,
     /// Where it listens.
     address: SocketAddr,
     folder: String,
@@ -46,7 +48,7 @@ impl<'a> TcpReactor<'a> {
     ghost use Rattle.bw_net.specs.SeenLinks.{reactor_failures, reactor_waits};
 
     /// Listens at an address for those who connect to a server over this folder, with `places`
-    /// places.
+    /// places. That no handle is left for one of them is said on standard error, once.
     ///
     /// # Errors
     /// Why the system refuses; `OutOfMemory` if memory was refused. The folder's text isn't given
@@ -59,6 +61,7 @@ impl<'a> TcpReactor<'a> {
     ///   what time it is.
     pub fn listen(
         rt: &'a HostRuntime,
+        lines: &'a LineCell,
         address: SocketAddr,
         folder: String,
         places: usize,
@@ -79,6 +82,7 @@ impl<'a> TcpReactor<'a> {
             .register(&mut listener, LISTENER, Interest::READABLE)?;
         Ok(TcpReactor {
             rt,
+            lines,
             address,
             folder,
             listener,
@@ -156,8 +160,12 @@ impl Reactor for TcpReactor<'_> {
             self.failures = self.failures.saturating_add(1);
             return Err(TryAcceptFault::Closed);
         }
-        let Ok((stream, address)) = accepted else {
-            return Err(TryAcceptFault::Gone);
+        let (stream, address) = match accepted {
+            Ok(accepted) => accepted,
+            Err(error) => {
+                self.lines.note(self.rt, &error);
+                return Err(TryAcceptFault::Gone);
+            }
         };
         let Ok(link) = self.link_at(place, stream) else {
             return Err(TryAcceptFault::Gone);

@@ -2,6 +2,7 @@
 ghost use Rattle.std.specs.Prelude.{◌≡◌, IfOk, ⊤};
 
 use crate::folder::has_folder;
+use crate::lines::LineCell;
 use crate::reactor::{STATUS, TcpReactor};
 use crate::socket::Socket;
 use bw_operators::StatusPort;
@@ -19,6 +20,7 @@ const PAGE: u64 = 4_096;
 #[derive(Drop)]
 pub struct TcpStatusPort<'a> {
     rt: &'a HostRuntime,
+    lines: &'a LineCell,
     /// Where it listens.
     address: SocketAddr,
     folder: String,
@@ -47,6 +49,7 @@ impl<'a> TcpStatusPort<'a> {
     /// - Who is accepted, what time it is, and when it was started.
     pub fn listen(
         rt: &'a HostRuntime,
+        lines: &'a LineCell,
         reactor: &TcpReactor<'_>,
         address: SocketAddr,
         folder: &str,
@@ -61,6 +64,7 @@ impl<'a> TcpStatusPort<'a> {
         let waker = Waker::new(&registry, STATUS)?;
         Ok(TcpStatusPort {
             rt,
+            lines,
             address,
             folder: String::from_str(rt.alloc(), folder)?,
             listener,
@@ -92,13 +96,18 @@ impl StatusPort for TcpStatusPort<'_> {
 
     ghost usable = { λ _ _. ⊤ };
 
+    ghost dropped = { λ _ _. ⊤ };
+
     ghost used = { λ _ _. ⊤ };
 
     fn accept(&mut self) -> Option<Socket> {
-        let Ok((stream, _address)) = self.listener.accept() else {
-            return None;
-        };
-        self.link_over(stream).ok()
+        match self.listener.accept() {
+            Ok((stream, _address)) => self.link_over(stream).ok(),
+            Err(error) => {
+                self.lines.note(self.rt, &error);
+                None
+            }
+        }
     }
 
     fn wake(&mut self) {
@@ -118,6 +127,10 @@ impl StatusPort for TcpStatusPort<'_> {
 
     fn has_folder(&mut self) -> bool {
         has_folder(self.rt, self.folder.as_str())
+    }
+
+    fn lines_dropped(&mut self) -> u64 {
+        self.lines.left_out()
     }
 
     fn memory(&mut self) -> Option<u64> {

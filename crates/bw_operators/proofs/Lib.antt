@@ -1,2 +1,3 @@
 pub mod ConnectedLemmas
 pub mod PlacedLemmas
+pub mod SilentLemmas

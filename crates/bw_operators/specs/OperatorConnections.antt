@@ -1,5 +1,5 @@
 -- An operator's connection: what its link gave is a request, and what it took is the response.
-use Rattle.std.specs.Prelude.{◌≡◌, ◌⊎◌, ◌≤◌, ℕ, List, [], ◌++◌, length, take, Option, Some, None}
+use Rattle.std.specs.Prelude.{◌≡◌, ◌⊎◌, ◌≤◌, ℕ, Bool, true, false, List, [], ◌++◌, length, take, Option, Some, None}
 use Rattle.bw_status.specs.declared.answer.Answer.{Answer}
 use Rattle.bw_status.specs.declared.snapshot.Snapshot.{Snapshot}
 use Rattle.bw_status.specs.Answers.{AnswersRequest}
@@ -20,6 +20,13 @@ asked_in Reading = None
 asked_in (Asking a) = Some a
 asked_in Answering = None
 asked_in Draining = None
+
+-- nothing is to be answered or sent: the request isn't whole, or the response is sent
+abbrev pub is_silent_in : Phase → Bool
+is_silent_in Reading = true
+is_silent_in (Asking a) = false
+is_silent_in Answering = false
+is_silent_in Draining = true
 
 -- these bytes respond to the request that those are, with what a server was doing at one moment
 abbrev pub Responds : List ℕ → List ℕ → Type 0

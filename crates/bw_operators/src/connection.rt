@@ -47,6 +47,7 @@ pub(crate) struct Connection<L> {
 
 impl<L: Link> Connection<L> {
     ghost use Rattle.bw_operators.specs.OperatorConnections.{HasHeld, IsConnection, asked_in};
+    ghost use Rattle.bw_operators.specs.OperatorConnections.{is_silent_in};
     ghost use Rattle.bw_operators.specs.OperatorConnections.{longest_connection};
     ghost use Rattle.bw_operators.specs.Steps.{DrainsOn, EndsIn, Finishes, ReadsRequestOn};
     ghost use Rattle.bw_operators.specs.Steps.{SendsResponseOn, WorksIn};
@@ -80,6 +81,18 @@ impl<L: Link> Connection<L> {
             Phase::Asking(answer) => Some(answer),
             Phase::Answering => None,
             Phase::Draining => None,
+        }
+    }
+
+    /// Whether nothing is to be answered or sent: its request isn't whole, or its response is sent.
+    pub(crate) fn is_silent(&self) -> bool
+        ensures { result ≡ is_silent_in self.now.phase }
+    {
+        match self.phase {
+            Phase::Reading => true,
+            Phase::Asking(_answer) => false,
+            Phase::Answering => false,
+            Phase::Draining => true,
         }
     }
 

@@ -1,6 +1,6 @@
-//! The connections of operators: four at most.
+//! The connections of operators: 32 at most.
 ghost use Rattle.std.specs.Prelude.{◌≡◌, ◌<◌, ℕ, [], slice_get, vec_len, None, Some, IfNone};
-ghost use Rattle.std.specs.Prelude.{IfOk, IfSome};
+ghost use Rattle.std.specs.Prelude.{IfOk, IfSome, true, false};
 ghost use Rattle.bw_operators.specs.Places.{PutsAt};
 ghost use Rattle.bw_status.specs.Responses.{response_text};
 ghost use Rattle.bw_status.specs.declared.answer.Answer.{Answer};
@@ -12,7 +12,7 @@ use bw_status::Answer;
 use std::alloc::{AllocError, Global};
 
 /// The most operators that are connected at once.
-pub const OPERATORS: usize = 4;
+pub const OPERATORS: usize = 32;
 
 /// The places of operators' connections.
 #[derive(Drop)]
@@ -22,18 +22,19 @@ pub struct Operators<L> {
 
 impl<L: Link + Drop> Operators<L> {
     ghost use Rattle.bw_operators.specs.OperatorPlaces.{AdmitsAt, AreConnections, IsFreeAt, LastsLongest};
-    ghost use Rattle.bw_operators.specs.OperatorPlaces.{LeavesOtherPlaces};
+    ghost use Rattle.bw_operators.specs.OperatorPlaces.{HasNoNextPlace, IsNextPlace, LastsLongestSilent};
+    ghost use Rattle.bw_operators.specs.OperatorPlaces.{LeavesOtherPlaces, is_silent_at, oldest_silent_of};
     ghost use Rattle.bw_operators.specs.OperatorPlaces.{RespondsAt, StepsAt, asked_at, lowest_free_place};
     ghost use Rattle.bw_operators.specs.OperatorPlaces.{place_count};
     ghost use Rattle.bw_operators.specs.OperatorPlaces.{oldest_of, since_at};
 
-    /// Four free places.
+    /// Free places, 32 of them.
     ///
     /// # Errors
     /// `AllocError` if memory was refused.
     pub fn new(alloc: Global) -> Result<Operators<L>, AllocError>
-        ensures places { IfOk result (λ o. place_count o ≡ 4) }
-        ensures free { IfOk result (λ o. (place : ℕ) → place < 4 → IsFreeAt o place) }
+        ensures places { IfOk result (λ o. place_count o ≡ 32) }
+        ensures free { IfOk result (λ o. (place : ℕ) → place < 32 → IsFreeAt o place) }
         ensures connections { IfOk result (AreConnections L.Link) }
     {
         let mut places = Vec::with_capacity(alloc, OPERATORS)?;
@@ -51,9 +52,63 @@ impl<L: Link + Drop> Operators<L> {
         self.places.iter().position(|place| place.is_none())
     }
 
-    /// Puts a connection over this link at a free place, from this time on, in milliseconds.
+    /// The place for one operator more at this time, in milliseconds: the first free one. If there is
+    /// none, that of the connection that has lasted for longest of those to which nothing is to be
+    /// answered or sent; one that was let in at this time isn't among these, since it wasn't read
+    /// from yet.
+    pub fn next_place(&self, now: u64) -> Option<usize>
+        ensures next { IfSome result (IsNextPlace self.now now) }
+        ensures none { IfNone result (HasNoNextPlace self.now now) }
+    {
+        match self.free_place() {
+            Some(place) => Some(place),
+            None => self.longest_silent(now),
+        }
+    }
+
+    /// The place of the connection that has lasted for longest of those that were let in before this
+    /// time and to which nothing is to be answered or sent.
+    fn longest_silent(&self, now: u64) -> Option<usize>
+        ensures longest { IfSome result (LastsLongestSilent self.now now) }
+        ensures none { IfNone result ((place : ℕ) → is_silent_at self.now now place ≡ false) }
+    {
+        let mut oldest = None;
+        for place in 0..self.places.len() {
+            oldest = self.older_silent(now, oldest, place);
+        }
+        oldest
+    }
+
+    /// The oldest place so far, or this one if it is silent and its connection has lasted longer.
+    fn older_silent(&self, now: u64, oldest: Option<usize>, place: usize) -> Option<usize>
+        ensures { result ≡ oldest_silent_of self.now now oldest place }
+    {
+        if !self.is_silent_at(now, place) {
+            return oldest;
+        }
+        let Some(before) = oldest else {
+            return Some(place);
+        };
+        if self.since_at(place) < self.since_at(before) {
+            Some(place)
+        } else {
+            Some(before)
+        }
+    }
+
+    fn is_silent_at(&self, now: u64, place: usize) -> bool
+        ensures { result ≡ is_silent_at self.now now place }
+    {
+        let Some(Some(connection)) = self.places.get(place) else {
+            return false;
+        };
+        connection.since() < now && connection.is_silent()
+    }
+
+    /// Puts a connection over this link at the next place, from this time on, in milliseconds. One
+    /// that is there is closed.
     pub fn admit(&mut self, alloc: Global, place: usize, link: L, now: u64)
-        requires free { IsFreeAt self.old place }
+        requires next { IsNextPlace self.old now place }
         requires given { L.given link [] }
         requires taken { L.taken link [] }
         ensures connections { AreConnections L.Link self.old → AreConnections L.Link self.new }

@@ -23,6 +23,9 @@ pub trait StatusPort {
     /// This may have been reported: whether the server's folder can be used.
     ghost usable: { Self → Bool → Type 0 };
 
+    /// This may have been reported: how many lines were left out.
+    ghost dropped: { Self → ℕ → Type 0 };
+
     /// This may have been reported: how many bytes of memory the process uses, if that is known.
     ghost used: { Self → Option ℕ → Type 0 };
 
@@ -62,6 +65,15 @@ pub trait StatusPort {
     /// When it can.
     fn has_folder(&mut self) -> bool
         ensures usable { usable self.new result }
+        ensures time { time self.new ≡ time self.old }
+        ensures started { started self.new ≡ started self.old };
+
+    /// How many lines of the server were left out, since they couldn't be written at once.
+    ///
+    /// # Not specified
+    /// How many these are.
+    fn lines_dropped(&mut self) -> u64
+        ensures dropped { dropped self.new result }
         ensures time { time self.new ≡ time self.old }
         ensures started { started self.new ≡ started self.old };
 

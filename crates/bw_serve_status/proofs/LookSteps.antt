@@ -1,19 +1,18 @@
 -- What an observer's calls make of it, one after another.
-use Rattle.std.proofs.Common.{◌≡◌, ◌≢◌, ◌==◌, ◌⊎◌, ◌∙◌, ◌++◌, [], inl, inr, ℕ, true, false, List, refl, sym, subst, ap}
+use Rattle.std.proofs.Common.{◌≡◌, ◌∙◌, ◌++◌, [], inr, ℕ, suc, List, refl, sym, subst, ap}
 use Rattle.std.proofs.Common.{arith, append-nil, drop, drop_of_length-le, length, take, take_all}
 use Rattle.std.specs.Prelude.{Result, Ok, Err, IfOk, Some}
-use Rattle.std.proofs.lemmas.Bool.Decides.{eqb_tells}
 use Rattle.bw_ports.specs.declared.link.Link.{Ghosts as LinkGhosts}
 use Rattle.bw_store.specs.declared.store.TakeStore.{Ghosts as StoreGhosts}
 use Rattle.bw_journal.specs.declared.journal.Journal.{Ghosts as JournalGhosts}
 use Rattle.bw_session.specs.declared.server.Server.{Server}
 use Rattle.bw_serve.specs.declared.observing.RoundReport.{RoundReport}
 use Rattle.bw_status.specs.declared.answer.Answer.{Answer}
-use Rattle.bw_operators.specs.OperatorPlaces.{AdmitsAt, IsFreeAt, LastsLongest, LeavesOtherPlaces, StepsAt}
+use Rattle.bw_operators.specs.OperatorPlaces.{AdmitsAt, IsNextPlace, LastsLongest, LeavesOtherPlaces, StepsAt}
 use Rattle.bw_operators.specs.OperatorPlaces.{asked_at}
 use Rattle.bw_operators.specs.declared.port.StatusPort.{Ghosts as PortGhosts}
 use Rattle.bw_operators.specs.declared.operators.Operators.{Operators}
-use Rattle.bw_serve_status.specs.Looks.{AcceptsAt, Moment, RespondsToOne, ShowsOrCloses}
+use Rattle.bw_serve_status.specs.Looks.{Accepts, Moment, RespondsToOne, ShowsOrCloses}
 use Rattle.bw_serve_status.specs.declared.growth.Growth.{Growth}
 use Rattle.bw_serve_status.specs.declared.tallied.Tallied.{Tallied}
 
@@ -26,36 +25,26 @@ pub same_moment : (now now' since since' resumed : ℕ) (growth : List Growth) �
     moment_with now' since' resumed growth ≡ moment_with now since resumed growth
 same_moment now now' since since' resumed growth e f = rw (e, f) refl
 
--- one more operator is accepted, at a place that was free
+-- one more operator is accepted
 pub accepts_one : {L : Type 0} (now : ℕ) (o between o' : Operators L) (place : ℕ) (link : L) →
-    IsFreeAt between place → AdmitsAt place link now o' → LeavesOtherPlaces place between o' →
-    ((j : ℕ) → AcceptsAt now o between j) → (j : ℕ) → AcceptsAt now o o' j
-accepts_one {L} now o between o' place link free admits others before j = go (eqb_tells j place)
-  where
-    was_free : AcceptsAt now o between place → IsFreeAt o place
-    was_free (inl same) = sym same ∙ free
-    was_free (inr new) = new.0
-
-    later : j ≢ place → AcceptsAt now o between j → AcceptsAt now o o' j
-    later other (inl same) = inl (others.others j other ∙ same)
-    later other (inr new) = inr (
-      new.0,
-      (
-        new.1.0,
-        record {
-          connection = new.1.1.connection;
-          there = others.others j other ∙ new.1.1.there;
-          link = new.1.1.link;
-          phase = new.1.1.phase;
-          since = new.1.1.since;
-          held = new.1.1.held;
-        },
-      ),
-    )
-
-    go : (((j == place) ≡ true) × (j ≡ place)) ⊎ (((j == place) ≡ false) × (j ≢ place)) → AcceptsAt now o o' j
-    go (inl y) = subst (AcceptsAt now o o') (sym y.1) (inr (was_free (before place), (link, admits)))
-    go (inr n) = later n.1 (before j)
+    IsNextPlace between now place → AdmitsAt place link now o' → LeavesOtherPlaces place between o' →
+    Accepts now o between → Accepts now o o'
+accepts_one now o between o' place link next admits others before = (
+  suc before.0,
+  (
+    between,
+    (
+      before.1,
+      record {
+        place = place;
+        next = next;
+        link = link;
+        admits = admits;
+        others = others;
+      },
+    ),
+  ),
+)
 
 -- a list that is written over another one of its length
 pub written_over : {X : Type 0} (xs ys : List X) (n : ℕ) → length ys ≡ length xs → n ≡ length xs →

@@ -10,8 +10,8 @@ use Rattle.bw_ports.specs.declared.link.Link.{Ghosts as LinkGhosts}
 use Rattle.bw_status.specs.Responses.{response_text}
 use Rattle.bw_status.specs.declared.answer.Answer.{Answer}
 use Rattle.bw_status.specs.declared.snapshot.Snapshot.{Snapshot}
-use Rattle.bw_operators.specs.OperatorPlaces.{AdmitsAt, AreConnections, IsFreeAt, LastsLongest}
-use Rattle.bw_operators.specs.OperatorPlaces.{LeavesOtherPlaces, RespondsAt, StepsAt, asked_at, operator_at}
+use Rattle.bw_operators.specs.OperatorPlaces.{AreConnections, IsFreeAt, LastsLongest, LetsIn}
+use Rattle.bw_operators.specs.OperatorPlaces.{LeavesOtherPlaces, RespondsAt, StepsAt, asked_at}
 use Rattle.bw_operators.specs.declared.operators.Operators.{Operators}
 use Rattle.bw_operators.specs.declared.port.StatusPort.{Ghosts as PortGhosts}
 use Rattle.bw_serve.specs.declared.observing.RoundReport.{RoundReport}
@@ -23,11 +23,9 @@ use Rattle.bw_serve_status.specs.declared.observer.StatusObserver.{StatusObserve
 use Rattle.bw_serve_status.specs.declared.snapshots.Surroundings.{Surroundings}
 use Rattle.bw_serve_status.specs.declared.tallied.Tallied.{Tallied}
 
--- at a place everything is as it was; or it was free, and has a new connection from this time on
-abbrev pub AcceptsAt : {L : Type 0} → ℕ → Operators L → Operators L → ℕ → Type 0
-AcceptsAt {L} now o o' place =
-    (operator_at o' place ≡ operator_at o place)
-    ⊎ (IsFreeAt o place × ((link : L) × AdmitsAt place link now o'))
+-- operators were let in from this time on, each at the place that was the next one then
+abbrev pub Accepts : {L : Type 0} → ℕ → Operators L → Operators L → Type 0
+Accepts now o o' = (count : ℕ) × LetsIn now count o o'
 
 -- what an observer responds by: the time that its port reported last, when it was started, how many
 -- takes were resumed then, and when each name grew last
@@ -55,6 +53,7 @@ pub record Surrounds {P L : Type 0} (port : PortGhosts P L) (m : Moment) (around
   pub growth : around.growth.now ≡ m.growth
   pub has_folder : (p : P) × port.usable p around.has_folder
   pub memory : (p : P) × port.used p around.memory
+  pub lines_dropped : (p : P) × port.dropped p around.lines_dropped
 
 module _ {X Y : Type 0} (S : StoreGhosts X) (J : JournalGhosts Y) where
   -- this is what the server is doing: what was counted, and of each take what every book that it holds
@@ -115,6 +114,6 @@ module _ {X Y : Type 0} (S : StoreGhosts X) (J : JournalGhosts Y) where
         pub worked : Operators L
         pub steps : (place : ℕ) → StepsAt G (port.time o'.port) o.operators worked place
         pub accepted : Operators L
-        pub accepts : (place : ℕ) → AcceptsAt (port.time o'.port) worked accepted place
+        pub accepts : Accepts (port.time o'.port) worked accepted
         pub responds : RespondsToOne server round (moment_of port o') accepted o'.operators
         pub connections : AreConnections G o.operators → AreConnections G o'.operators

@@ -37,8 +37,8 @@ module _ {X Y : Type 0} (S : StoreGhosts X) (J : JournalGhosts Y) where
   pub record BeginsToShow {P K : Type 0} (opened : P) (server : Server X Y S J)
       (observer : StatusObserver P K) : Type 0 where
     pub port : observer.port ≡ opened
-    pub places : place_count observer.operators ≡ 4
-    pub free : (place : ℕ) → place < 4 → IsFreeAt observer.operators place
+    pub places : place_count observer.operators ≡ 32
+    pub free : (place : ℕ) → place < 32 → IsFreeAt observer.operators place
     pub resumed : (first : List ℕ → Option (List ℕ)) (book : Book) →
         HoldsBook S J first server book → observer.resumed ≡ length book
     pub growth : observer.growth.items ≡ no_growth

@@ -28,6 +28,7 @@ pub record CopiesCounts (tally : Tally) (round : RoundReport) (around : Surround
   pub ended : s.ended ≡ round.ended
   pub bytes : s.bytes ≡ tally.bytes
   pub memory : s.memory ≡ around.memory
+  pub lines_dropped : s.lines_dropped ≡ around.lines_dropped
   pub messages : map kind_and_count s.messages.items ≡ message_counts tally.kinds
   pub verdicts : map kind_and_count s.verdicts.items ≡ verdict_counts tally.verdicts
   pub notices : map kind_and_count s.notices.items ≡ notice_counts tally.notices

@@ -29,7 +29,7 @@ impl<P: StatusPort + Drop> StatusObserver<P> {
     ghost use Rattle.bw_operators.specs.OperatorPlaces.{AreConnections, IsFreeAt, LeavesOtherPlaces, asked_at};
     ghost use Rattle.bw_operators.specs.OperatorPlaces.{place_count};
     ghost use Rattle.bw_serve_status.specs.Growths.{no_growth};
-    ghost use Rattle.bw_serve_status.specs.Looks.{AcceptsAt, RespondsToOne, ShowsIn, ShowsOrCloses};
+    ghost use Rattle.bw_serve_status.specs.Looks.{Accepts, RespondsToOne, ShowsIn, ShowsOrCloses};
     ghost use Rattle.bw_serve_status.specs.Looks.{moment_of};
 
     /// An observer that serves those who connect to this port.
@@ -40,8 +40,8 @@ impl<P: StatusPort + Drop> StatusObserver<P> {
         ensures connections { IfOk result (λ o. AreConnections P.Link.Link o.operators) }
         ensures port { IfOk result (λ o. o.port ≡ port) }
         ensures resumed { IfOk result (λ o. o.resumed ≡ resumed) }
-        ensures places { IfOk result (λ o. place_count o.operators ≡ 4) }
-        ensures free { IfOk result (λ o. (place : ℕ) → place < 4 → IsFreeAt o.operators place) }
+        ensures places { IfOk result (λ o. place_count o.operators ≡ 32) }
+        ensures free { IfOk result (λ o. (place : ℕ) → place < 32 → IsFreeAt o.operators place) }
         ensures growth { IfOk result (λ o. o.growth.items ≡ no_growth) }
     {
         let none = Growth {
@@ -57,15 +57,16 @@ impl<P: StatusPort + Drop> StatusObserver<P> {
         })
     }
 
-    /// Accepts operators as long as there are free places, at this time, in milliseconds.
+    /// Accepts operators as long as there are places for them, at this time, in milliseconds: free
+    /// ones first, then those of connections to which nothing is to be sent.
     fn accept(&mut self, now: u64)
         ensures kept { moment_of P.StatusPort self.new ≡ moment_of P.StatusPort self.old }
-        ensures accepts { (place : ℕ) → AcceptsAt now self.old.operators self.new.operators place }
+        ensures accepts { Accepts now self.old.operators self.new.operators }
         ensures connections { AreConnections P.Link.Link self.old.operators →
             AreConnections P.Link.Link self.new.operators }
     {
         for _operator in 0..OPERATORS {
-            let Some(place) = self.operators.free_place() else {
+            let Some(place) = self.operators.next_place(now) else {
                 return;
             };
             let Some(link) = self.port.accept() else {
@@ -145,6 +146,7 @@ impl<P: StatusPort + Drop> StatusObserver<P> {
             since: self.port.since(),
             resumed: self.resumed,
             memory: self.port.memory(),
+            lines_dropped: self.port.lines_dropped(),
             has_folder: self.port.has_folder(),
             growth: self.growth.as_slice(),
         };

@@ -29,6 +29,8 @@ pub(crate) struct Surroundings<'a> {
     pub(crate) resumed: u64,
     /// How much memory the process uses, in bytes, if that is known.
     pub(crate) memory: Option<u64>,
+    /// How many lines were left out.
+    pub(crate) lines_dropped: u64,
     /// Whether the folder can be used.
     pub(crate) has_folder: bool,
     /// When each name grew last, at the place of its counts.
@@ -66,6 +68,7 @@ pub(crate) fn snapshot_of<S: TakeStore, J: Journal>(
         ended: round.ended,
         bytes: tallies.bytes(),
         memory: around.memory,
+        lines_dropped: around.lines_dropped,
         messages: message_counts(alloc, tallies.kinds())?,
         verdicts: verdict_counts(alloc, tallies.verdicts())?,
         notices: notice_counts(alloc, tallies.notices())?,

@@ -83,6 +83,6 @@ snapshot-depth s =
     let ts : items_depth (items_of (map take_data s.takes.items)) ≤ 1 = takes_depth s.takes.items in
     let vs : items_depth (items_of (map count_data s.verdicts.items)) ≤ 1 = counts_depth s.verdicts.items in
     below _ (max-le (lit≤ tt) (max-le (lit≤ tt) (max-le (lit≤ tt) (max-le (lit≤ tt)
-    (max-le (flat 3 _ (number_depth s.memory)) (max-le (omega (arith, ms)) (max-le (omega (arith, ns))
+    (max-le (lit≤ tt) (max-le (flat 3 _ (number_depth s.memory)) (max-le (omega (arith, ms)) (max-le (omega (arith, ns))
     (max-le (lit≤ tt) (max-le (lit≤ tt) (max-le (lit≤ tt) (max-le (omega (arith, ts)) (max-le (lit≤ tt)
-    (max-le (omega (arith, vs)) (lit≤ tt))))))))))))))
+    (max-le (omega (arith, vs)) (lit≤ tt)))))))))))))))

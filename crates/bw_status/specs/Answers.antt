@@ -1,7 +1,7 @@
 -- What is answered to a request (RFC 9110, RFC 9112).
 use Rattle.std.specs.Prelude.{◌≡◌, ◌⊎◌, ◌≤◌, ◌<◌, ◌==◌, ◌&&◌, ◌||◌, ℕ, Bool, List, map, length}
-use Rattle.std.specs.Prelude.{Option, Some, None, codes, nat_lt, if◌then◌else◌}
-use Rattle.std.specs.List.{count_by}
+use Rattle.std.specs.Prelude.{not, take, Option, Some, None, codes, nat_lt, if◌then◌else◌}
+use Rattle.std.specs.List.{count_by, prefix_len}
 use Rattle.std.specs.Str.{bytes_eq}
 use Rattle.std.specs.Char.{to_ascii_lowercase}
 use Rattle.httparse.specs.Grammar.{RequestHead, ReadsRequest, HasNoRequest, MayBecomeRequest}
@@ -33,14 +33,18 @@ is_host name = bytes_eq (map to_ascii_lowercase name) (codes "host")
 abbrev pub is_hosted : ℕ → ℕ → Bool
 is_hosted minor hosts = (hosts == 1) || ((minor == 0) && (hosts == 0))
 
--- what is at a target
-abbrev pub target_content : List ℕ → Option Content
-target_content target =
-    if bytes_eq target (codes "/") then Some Page
-    else if bytes_eq target (codes "/takes.json") then Some Takes
-    else if bytes_eq target (codes "/metrics") then Some Metrics
-    else if bytes_eq target (codes "/healthz") then Some Health
+-- what is at a path
+abbrev pub path_content : List ℕ → Option Content
+path_content path =
+    if bytes_eq path (codes "/") then Some Page
+    else if bytes_eq path (codes "/takes.json") then Some Takes
+    else if bytes_eq path (codes "/metrics") then Some Metrics
+    else if bytes_eq path (codes "/healthz") then Some Health
     else None
+
+-- what is at a target: what is at its path, which ends where a question mark begins its query
+abbrev pub target_content : List ℕ → Option Content
+target_content target = path_content (take (prefix_len (λ c. not (c == 63)) target) target)
 
 -- a method that only reads
 abbrev pub is_reading : List ℕ → Bool

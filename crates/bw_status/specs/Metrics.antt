@@ -98,7 +98,11 @@ memory_metric (Some bytes) =
 abbrev pub process_metrics : Snapshot → List ℕ
 process_metrics s =
     metric (codes "process_start_time_seconds") (codes "When the process began.") (codes "gauge")
-    s.since ++ memory_metric s.memory
+    s.since
+    ++ metric (codes "bwingest_lines_dropped_total")
+    (codes "Lines left out, since they couldn't be written at once.") (codes "counter")
+    s.lines_dropped
+    ++ memory_metric s.memory
 
 -- the metrics
 abbrev pub metrics : Snapshot → List ℕ

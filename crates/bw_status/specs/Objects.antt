@@ -93,6 +93,7 @@ snapshot_object s memory messages notices takes verdicts = object
     (member (codes "connections") (unsigned_data s.connections)
     (member (codes "ended") (unsigned_data s.ended)
     (member (codes "health") (string (health_text s.health))
+    (member (codes "lines_dropped") (unsigned_data s.lines_dropped)
     (member (codes "memory") memory
     (member (codes "messages") messages
     (member (codes "notices") notices
@@ -101,7 +102,7 @@ snapshot_object s memory messages notices takes verdicts = object
     (member (codes "since") (unsigned_data s.since)
     (member (codes "takes") takes
     (member (codes "uptime_ms") (unsigned_data s.uptime_ms)
-    (member (codes "verdicts") verdicts no_members)))))))))))))
+    (member (codes "verdicts") verdicts no_members))))))))))))))
 
 -- how often each of these happened
 abbrev pub counts_data : List Count → Data
@@ -123,9 +124,10 @@ with_lists s members = put (codes "messages") (counts_data s.messages.items)
 -- members with how the server is, and for how long it has been running
 abbrev pub with_server : Snapshot → Members → Members
 with_server s members = put (codes "health") (string (health_text s.health))
+    (put (codes "lines_dropped") (unsigned_data s.lines_dropped)
     (put (codes "memory") (unsigned_or_null s.memory)
     (put (codes "since") (unsigned_data s.since)
-    (put (codes "uptime_ms") (unsigned_data s.uptime_ms) members)))
+    (put (codes "uptime_ms") (unsigned_data s.uptime_ms) members))))
 
 -- members with the counts of connections, of takes that were resumed and of bytes
 abbrev pub with_links : Snapshot → Members → Members

@@ -34,6 +34,7 @@ server_facts s = fact_start (codes "Server") ++ html_escaped (health_text s.heal
 abbrev pub facts : Snapshot → List ℕ
 facts s = server_facts s ++ places_fact s.connections s.places ++ count_fact (codes "Ended") s.ended
     ++ count_fact (codes "Resumed") s.resumed ++ count_fact (codes "Bytes") s.bytes
+    ++ count_fact (codes "Lines left out") s.lines_dropped
 
 -- how many messages came, and what was replied
 abbrev pub all_counts : Snapshot → List ℕ

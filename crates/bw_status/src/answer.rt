@@ -1,6 +1,7 @@
 //! What is answered to a request, by its parts.
-ghost use Rattle.std.specs.Prelude.{◌≡◌};
-ghost use Rattle.bw_status.specs.Answers.{answer_for, target_content, content_for, part_for};
+ghost use Rattle.std.specs.Prelude.{◌≡◌, length, not, ◌==◌, ◌≤◌};
+ghost use Rattle.std.specs.List.{prefix_len};
+ghost use Rattle.bw_status.specs.Answers.{answer_for, path_content, target_content, content_for, part_for};
 ghost use Rattle.bw_status.specs.Answers.{is_hosted, is_reading};
 
 /// What a response contains.
@@ -91,20 +92,35 @@ fn is_hosted(minor: u8, hosts: usize) -> bool
     hosts == 1 || (minor == 0 && hosts == 0)
 }
 
-/// What is at a target.
+/// What is at a target: what is at its path. Its query, if it has one, says nothing.
 fn target_content(target: &[u8]) -> Option<Content>
     ensures { result ≡ target_content target.now }
 {
-    if target == b"/".as_slice() {
+    path_content(&target[..path_len(target)])
+}
+
+/// How long the path of a target is, before a query.
+fn path_len(target: &[u8]) -> usize
+    ensures value { result ≡ prefix_len (λ c. not (c == 63)) target.now }
+    ensures within { result ≤ length target.now }
+{
+    target.iter().take_while(|c| **c != b'?').count()
+}
+
+/// What is at a path.
+fn path_content(path: &[u8]) -> Option<Content>
+    ensures { result ≡ path_content path.now }
+{
+    if path == b"/".as_slice() {
         return Some(Content::Page);
     }
-    if target == b"/takes.json".as_slice() {
+    if path == b"/takes.json".as_slice() {
         return Some(Content::Takes);
     }
-    if target == b"/metrics".as_slice() {
+    if path == b"/metrics".as_slice() {
         return Some(Content::Metrics);
     }
-    if target == b"/healthz".as_slice() {
+    if path == b"/healthz".as_slice() {
         return Some(Content::Health);
     }
     None

@@ -82,6 +82,12 @@ fn put_server(
     put(
         members,
         alloc,
+        "lines_dropped",
+        Value::from(snapshot.lines_dropped),
+    )?;
+    put(
+        members,
+        alloc,
         "health",
         health_text(snapshot.health).to_value(alloc)?,
     )

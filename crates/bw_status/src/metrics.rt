@@ -122,6 +122,13 @@ fn put_process(out: &mut Vec<u8>, snapshot: &Snapshot) -> Result<(), AllocError>
         "gauge",
         snapshot.since,
     )?;
+    put_metric(
+        out,
+        "bwingest_lines_dropped_total",
+        "Lines left out, since they couldn't be written at once.",
+        "counter",
+        snapshot.lines_dropped,
+    )?;
     put_memory(out, snapshot.memory)
 }
 

@@ -38,7 +38,8 @@ fn put_facts(out: &mut Vec<u8>, snapshot: &Snapshot) -> Result<(), AllocError>
     put_places(out, snapshot.connections, snapshot.places)?;
     put_count(out, "Ended", snapshot.ended)?;
     put_count(out, "Resumed", snapshot.resumed)?;
-    put_count(out, "Bytes", snapshot.bytes)
+    put_count(out, "Bytes", snapshot.bytes)?;
+    put_count(out, "Lines left out", snapshot.lines_dropped)
 }
 
 /// Appends whether the server is well, and how long it has been running.

@@ -97,6 +97,8 @@ pub struct Snapshot {
     pub bytes: u64,
     /// How much memory the process uses, in bytes, if that is known.
     pub memory: Option<u64>,
+    /// How many of its lines were left out, since they couldn't be written at once.
+    pub lines_dropped: u64,
     /// How many messages and asks came, by their kind.
     pub messages: Vec<Count>,
     /// How many verdicts were sent, by verdict; those of repeats count again.

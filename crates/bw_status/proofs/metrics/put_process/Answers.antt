@@ -1,7 +1,7 @@
 use Rattle.std.proofs.lemmas.Result.{on_ok_weaker}
-use Rattle.bw_status.proofs.Appended.{two}
+use Rattle.bw_status.proofs.Appended.{three}
 use Rattle.bw_status.proofs.metrics.put_process.Goals as goal
 
 pub returns : goal.returns
 returns c = on_ok_weaker c.put_memory.result
-    (λ is. two _ _ _ _ _ c.in_ok-put_metric.ensures is) c.put_memory.ensures
+    (λ is. three _ _ _ _ _ _ _ c.in_ok-put_metric.ensures c.in_ok-put_metric-2.ensures is) c.put_memory.ensures

@@ -3,19 +3,20 @@ use Rattle.bw_serve_status.proofs.LookSteps.{if_ok, same_moment}
 use Rattle.bw_serve_status.proofs.observer.StatusObserver.response_of.Goals as goal
 
 pub returns-clause-kept : goal.returns-clause-kept
-returns-clause-kept g c = same_moment _ _ _ _ _ _ (c.has_folder.ensures.time ∙ c.memory.ensures.time)
-    (c.has_folder.ensures.started ∙ c.memory.ensures.started)
+returns-clause-kept g c = same_moment _ _ _ _ _ _ (c.has_folder.ensures.time ∙ (c.lines_dropped.ensures.time ∙ c.memory.ensures.time))
+    (c.has_folder.ensures.started ∙ (c.lines_dropped.ensures.started ∙ c.memory.ensures.started))
 
 pub returns-clause-shows : goal.returns-clause-shows
 returns-clause-shows g c = if_ok _ _ c.response.result (λ bytes is. record {
   around = _;
   surrounds = record {
-    now = c.requires ∙ sym (c.has_folder.ensures.time ∙ c.memory.ensures.time);
-    since = c.since.ensures ∙ sym (c.has_folder.ensures.started ∙ c.memory.ensures.started);
+    now = c.requires ∙ sym (c.has_folder.ensures.time ∙ (c.lines_dropped.ensures.time ∙ c.memory.ensures.time));
+    since = c.since.ensures ∙ sym (c.has_folder.ensures.started ∙ (c.lines_dropped.ensures.started ∙ c.memory.ensures.started));
     resumed = refl;
     growth = c.as_slice.ensures.value;
     has_folder = (_, c.has_folder.ensures.usable);
     memory = (_, c.memory.ensures.used);
+    lines_dropped = (_, c.lines_dropped.ensures.dropped);
   };
   snapshot = c.in_ok-snapshot.snapshot;
   shows = record {

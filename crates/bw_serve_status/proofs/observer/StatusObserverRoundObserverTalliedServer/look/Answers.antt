@@ -1,7 +1,7 @@
 use Rattle.std.proofs.Common.{◌≡◌, ◌∙◌, ℕ, sym, subst, ap, length, rules, vec_len}
 use Rattle.bw_operators.specs.OperatorPlaces.{StepsAt}
 use Rattle.bw_serve_status.specs.Growths.{NotesGrowth}
-use Rattle.bw_serve_status.specs.Looks.{AcceptsAt, Moment}
+use Rattle.bw_serve_status.specs.Looks.{Accepts, Moment}
 use Rattle.bw_serve_status.proofs.LookSteps.{written_over}
 use Rattle.bw_serve_status.proofs.observer.StatusObserverRoundObserverTalliedServer.look.Goals as goal
 
@@ -31,7 +31,7 @@ returns g c =
       steps = subst (λ n. (place : ℕ) → StepsAt g.P.Link.Link n c.args.self.now.operators c.work.new.self place) at
           c.work.ensures.steps;
       accepted = c.accept.new.self.operators;
-      accepts = subst (λ n. (place : ℕ) → AcceptsAt n c.work.new.self c.accept.new.self.operators place) at
+      accepts = subst (λ n. Accepts n c.work.new.self c.accept.new.self.operators) at
           c.accept.ensures.accepts;
       responds = c.respond_to_oldest.ensures.responds;
       connections = λ is. c.respond_to_oldest.ensures.connections
