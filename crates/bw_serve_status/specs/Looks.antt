@@ -10,7 +10,7 @@ use Rattle.bw_ports.specs.declared.link.Link.{Ghosts as LinkGhosts}
 use Rattle.bw_status.specs.Responses.{response_text}
 use Rattle.bw_status.specs.declared.answer.Answer.{Answer}
 use Rattle.bw_status.specs.declared.snapshot.Snapshot.{Snapshot}
-use Rattle.bw_operators.specs.OperatorPlaces.{AreConnections, IsFreeAt, LastsLongest, LetsIn}
+use Rattle.bw_operators.specs.OperatorPlaces.{AreConnections, IsFreeAt, LastsLongest, LetsOperatorIn}
 use Rattle.bw_operators.specs.OperatorPlaces.{LeavesOtherPlaces, RespondsAt, StepsAt, asked_at}
 use Rattle.bw_operators.specs.declared.operators.Operators.{Operators}
 use Rattle.bw_operators.specs.declared.port.StatusPort.{Ghosts as PortGhosts}
@@ -25,7 +25,7 @@ use Rattle.bw_serve_status.specs.declared.tallied.Tallied.{Tallied}
 
 -- operators were let in from this time on, each at the place that was the next one then
 abbrev pub Accepts : {L : Type 0} → ℕ → Operators L → Operators L → Type 0
-Accepts now o o' = (count : ℕ) × LetsIn now count o o'
+Accepts now o o' = (count : ℕ) × LetsOperatorIn now count o o'
 
 -- what an observer responds by: the time that its port reported last, when it was started, how many
 -- takes were resumed then, and when each name grew last
