@@ -5,7 +5,7 @@ use Rattle.bw_plan.specs.Recordings as recording
 use Rattle.bw_plan.specs.declared.fault.RecordingKind.{RecordingKind}
 use Rattle.bw_plan.specs.declared.fault.RecordingKind.TheVariants.{Unread, NotPcm, Bits, ValidBits}
 use Rattle.bw_plan.specs.declared.fault.RecordingKind.TheVariants.{Align, Rate, Channels, PartFrame}
-use Rattle.bw_plan.specs.declared.fault.RecordingKind.TheVariants.{Unclean, TooLong}
+use Rattle.bw_plan.specs.declared.fault.RecordingKind.TheVariants.{Empty, Unclean, TooLong}
 use Rattle.bw_plan.specs.declared.fault.RecordingFault.{RecordingFault}
 
 -- the name of a kind, as it is printed
@@ -18,6 +18,7 @@ kind_text Align = codes "Align"
 kind_text Rate = codes "Rate"
 kind_text Channels = codes "Channels"
 kind_text PartFrame = codes "PartFrame"
+kind_text Empty = codes "Empty"
 kind_text Unclean = codes "Unclean"
 kind_text TooLong = codes "TooLong"
 
@@ -35,6 +36,7 @@ kind_meaning Align = Some recording.Align
 kind_meaning Rate = Some recording.Rate
 kind_meaning Channels = Some recording.Channels
 kind_meaning PartFrame = Some recording.PartFrame
+kind_meaning Empty = Some recording.Empty
 kind_meaning Unclean = Some recording.Unclean
 kind_meaning TooLong = Some recording.TooLong
 

@@ -69,6 +69,8 @@ pub data RecordingFault : Type 0 where
   Channels : RecordingFault
   -- the data end inside a frame
   PartFrame : RecordingFault
+  -- headerless samples have no frame at all
+  Empty : RecordingFault
   -- something has to be cleaned, and may not be
   Unclean : RecordingFault
   -- a sender doesn't have so many numbers

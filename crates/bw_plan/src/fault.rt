@@ -25,6 +25,8 @@ pub enum RecordingKind {
     Channels,
     /// The data end inside a frame.
     PartFrame,
+    /// Headerless samples have no frame at all.
+    Empty,
     /// Something has to be cleaned, and may not be.
     Unclean,
     /// More than 16,777,216 requests.
@@ -55,6 +57,7 @@ impl RecordingKind {
             RecordingKind::Rate => "Rate",
             RecordingKind::Channels => "Channels",
             RecordingKind::PartFrame => "PartFrame",
+            RecordingKind::Empty => "Empty",
             RecordingKind::Unclean => "Unclean",
             RecordingKind::TooLong => "TooLong",
         }

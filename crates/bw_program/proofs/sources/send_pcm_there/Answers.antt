@@ -17,8 +17,8 @@ returns-then-is_odd g c =
       }),
     )
 
-pub returns-then-log : goal.returns-then-log
-returns-then-log g c = (
+pub returns-then-sender : goal.returns-then-log
+returns-then-sender g c = (
   c.kind_at-kind.result,
   rw c.as_str-path.ensures.value at c.kind_at-kind.ensures,
   inr (sym c.is_odd.ensures ∙ c.if-is_odd.false, c.send_pcm_as.ensures),
