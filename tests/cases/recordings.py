@@ -95,6 +95,11 @@ SENT = [
         lost="left out: channel mask\n",
     ),
     Sent(
+        "an extensible format whose mask is 0, which says nothing",
+        riff(extensible(STEREO, mask=0), data(STEREO.samples)),
+        STEREO,
+    ),
+    Sent(
         "fields of version 2, a history and cue points",
         riff(fmt(PLAIN), SECOND, data(PLAIN.samples), cue([(1, 0, 0), (7, 9, 4_800), (2, 1, 100)])),
         of(PLAIN, fields=FIELDS, history=HISTORY, markers=[(1, 0), (7, 4_800), (2, 100)]),

@@ -1,7 +1,8 @@
 -- What a recording loses of its file: what was cleaned, and what was left out.
 use Rattle.std.specs.Prelude.{ℕ, suc, ◌-◌, Bool, not, ◌&&◌, ◌||◌, ◌==◌, List, [], ◌∷◌, ◌++◌, length, fold}
-use Rattle.std.specs.Prelude.{codes, is_none, nat_lt, if◌then◌else◌}
+use Rattle.std.specs.Prelude.{codes, is_none, nat_le, nat_lt, if◌then◌else◌}
 use Rattle.std.specs.Str.{bytes_eq}
+use Rattle.bw_model.specs.Bytes.{u32_at}
 use Rattle.bw_model.specs.Take.{field_fault}
 use Rattle.bw_model.specs.Reading.{Entry}
 use Rattle.bw_plan.specs.CleanedContents.{text_cleaned_of, is_like, is_history_kept}
@@ -55,6 +56,12 @@ is_carried id =
 abbrev pub chunk_warned : List Warning → Entry → List Warning
 chunk_warned ws e = warned ws (not (is_carried e.id)) (ChunkLeftOut e)
 
+-- an extensible format says which speakers its channels are for: a mask of 0 says nothing
+abbrev pub has_mask : FileNotes → Bool
+has_mask n =
+    (n.report.fmt.tag == extensible)
+    && (nat_le 8 (length n.extension) && not (u32_at n.extension 4 == 0))
+
 -- the warnings of what isn't a chunk: the texts by tag, the history, the cue points, the mask
 abbrev pub content_warnings : FileNotes → Outline → List Warning
 content_warnings n r =
@@ -62,7 +69,7 @@ content_warnings n r =
     let history = warned texts (not (is_history_kept n.history)) HistoryCleaned in
     let lost = length n.report.cues - length r.markers in
     let cues = warned history (nat_lt 0 lost) (CuesLeftOut lost) in
-    warned cues (n.report.fmt.tag == extensible) MaskLeftOut
+    warned cues (has_mask n) MaskLeftOut
 
 -- all warnings of a recording, the chunks at last
 abbrev pub warnings_of : FileNotes → Outline → List Warning

@@ -1,8 +1,9 @@
 //! What a recording loses of its file.
-ghost use Rattle.std.specs.Prelude.{◌≡◌, ℕ, List, option_map, fold, IfOk, OnOk};
+ghost use Rattle.std.specs.Prelude.{◌≡◌, ◌==◌, ◌&&◌, not, nat_le, length, option_map, fold, IfOk, OnOk};
+ghost use Rattle.bw_model.specs.Bytes.{u32_at};
 ghost use Rattle.bw_inspect.specs.Reports.{bext_by};
 ghost use Rattle.bw_plan.specs.Notes.{notes_by};
-ghost use Rattle.bw_plan.specs.Recordings.{bext_texts};
+ghost use Rattle.bw_plan.specs.Recordings.{bext_texts, extensible};
 ghost use Rattle.bw_plan.specs.Warnings.{warned, loss, field_warned, texts_warned, chunk_warned};
 ghost use Rattle.bw_plan.specs.Warnings.{is_carried as is_carried_id, is_other_form as has_other_form};
 ghost use Rattle.bw_plan.specs.Warnings.{content_warnings, warnings_of};
@@ -13,7 +14,7 @@ use crate::format::EXTENSIBLE;
 use crate::kept::{can_set, is_history};
 use crate::outline::Outline;
 use bw_inspect::{BextChunk, ListedChunk, Report};
-use bw_layout::{ChunkId, RawBext};
+use bw_layout::{ChunkId, RawBext, read_u32};
 use std::alloc::{AllocError, Global};
 
 /// What a recording loses of its file.
@@ -27,29 +28,29 @@ pub enum Warning {
     HistoryCleaned,
     /// So many cue points are left out.
     CuesLeftOut { count: usize },
-    /// The channel mask of an extensible format is left out.
+    /// The channel mask of an extensible format is left out; one of 0 says nothing.
     MaskLeftOut,
     /// A chunk that isn't carried.
     ChunkLeftOut { chunk: ListedChunk },
 }
 
-/// What a recording with this outline loses of the file with this report and this coding history,
-/// as it stands there: first the texts of `bext` by tag, last the chunks. A setting in place of a
-/// text or of the history doesn't change the warnings.
+/// What a recording with this outline loses of the file with this report, this extension of its
+/// format and this coding history, as they stand there: first the texts of `bext` by tag, last the
+/// chunks. A setting in place of a text or of the history doesn't change the warnings.
 ///
 /// # Errors
 /// `AllocError` where memory was refused.
 pub fn warnings(
     alloc: Global,
     report: &Report,
+    extension: &[u8],
     history: &[u8],
     outline: &Outline,
 ) -> Result<Vec<Warning>, AllocError>
-    ensures { (extension : List ℕ) → IfOk result (λ v.
-        warning_meanings v.items
-        ≡ warnings_of (notes_by report.now extension history.now) outline.now) }
+    ensures { IfOk result (λ v. warning_meanings v.items
+        ≡ warnings_of (notes_by report.now extension.now history.now) outline.now) }
 {
-    let mut out = content_losses(alloc, report, history, outline)?;
+    let mut out = content_losses(alloc, report, extension, history, outline)?;
     warn_of_chunks(&mut out, report.chunks.as_slice())?;
     Ok(out)
 }
@@ -61,12 +62,12 @@ pub fn warnings(
 fn content_losses(
     alloc: Global,
     report: &Report,
+    extension: &[u8],
     history: &[u8],
     outline: &Outline,
 ) -> Result<Vec<Warning>, AllocError>
-    ensures { (extension : List ℕ) → IfOk result (λ v.
-        warning_meanings v.items
-        ≡ content_warnings (notes_by report.now extension history.now) outline.now) }
+    ensures { IfOk result (λ v. warning_meanings v.items
+        ≡ content_warnings (notes_by report.now extension.now history.now) outline.now) }
 {
     let mut out = Vec::new(alloc);
     warn_of_bext(&mut out, &report.bext)?;
@@ -77,8 +78,20 @@ fn content_losses(
         .len()
         .saturating_sub(outline.markers().len());
     warn_if(&mut out, count > 0, Warning::CuesLeftOut { count })?;
-    warn_if(&mut out, report.fmt.tag == EXTENSIBLE, Warning::MaskLeftOut)?;
+    warn_if(
+        &mut out,
+        has_mask(report.fmt.tag, extension),
+        Warning::MaskLeftOut,
+    )?;
     Ok(out)
+}
+
+/// Whether an extensible format says which speakers its channels are for.
+fn has_mask(tag: u16, extension: &[u8]) -> bool
+    ensures { result ≡ ((tag == extensible)
+        && (nat_le 8 (length extension.now) && not (u32_at extension.now 4 == 0))) }
+{
+    tag == EXTENSIBLE && extension.len() >= 8 && read_u32(extension, 4) != 0
 }
 
 /// Puts a warning after the others, where the test holds.

@@ -234,6 +234,12 @@ fn lines_of_losses(
     ensures { IfOk result (λ v. v.items ≡ warning_lines (warnings_of
         (notes_by report.now extras.now.extension.items extras.now.history.items) outline.now)) }
 {
-    let losses = warnings(alloc, report, extras.history.as_slice(), outline)?;
+    let losses = warnings(
+        alloc,
+        report,
+        extras.extension.as_slice(),
+        extras.history.as_slice(),
+        outline,
+    )?;
     warning_text(alloc, losses.as_slice())
 }

@@ -4,7 +4,7 @@ use Rattle.bw_plan.specs.Warnings.{Warning, chunk_warned}
 use Rattle.bw_plan.proofs.warning.warnings.Goals as goal
 
 pub returns : goal.returns
-returns c = λ extension.
+returns c =
     c.in_ok-warn_of_chunks.ensures
-    ∙ ap (λ (ws : List Warning). fold chunk_warned ws c.as_slice.result.now) (c.in_ok-out.ensures extension)
+    ∙ ap (λ (ws : List Warning). fold chunk_warned ws c.as_slice.result.now) c.in_ok-out.ensures
     ∙ ap (fold chunk_warned _) c.as_slice.ensures
