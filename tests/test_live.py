@@ -10,7 +10,6 @@ import contextlib
 import hashlib
 import os
 import random
-import re
 import select
 import shutil
 import signal
@@ -282,13 +281,66 @@ def case_ended_before(folder):
         for more in (1, 5):
             path = written(folder, samples + bytes(more))
             found = upload(server.port, f"odd-{more}", path, "48000,2,24", "--follow", "--until", str(end))
-            status, out, said = found
             place = len(samples)
-            is_so = status == 1 and said == f"send: PartFrame at {place}\n" and re.match(r"settled \d+\nstored", out)
-            TALLY.holds(f"{more} bytes of a frame", is_so, f"{found}")
+            # all whole frames have their verdicts before that is said: all but CLOSE
+            sent = (1, settled(requests_of(samples, 6) - 1), f"send: PartFrame at {place}\n")
+            TALLY.same(f"{more} bytes of a frame", found, sent)
+            holds_samples(folder, f"odd-{more}", samples, FORMATS[1][2])
+        # more requests than are under way at once, so that some have no verdict yet as the end is found
+        samples = random.Random(22).randbytes(6 * 83_333)
+        path = written(folder, samples + bytes(1))
+        found = upload(server.port, "many", path, "48000,2,24", "--block", "2000", "--follow", "--until", str(end))
+        said = f"send: PartFrame at {len(samples)}\n"
+        TALLY.same("a part of a frame after many", found, (1, settled(requests_of(samples, 6, 2_000) - 1), said))
+        holds_samples(folder, "many", samples, FORMATS[1][2])
+        samples = random.Random(15).randbytes(6 * 9_000)
         folder_end = folder / "takes"
         found = upload(server.port, "by-folder", written(folder, samples), "48000,2,24", "--follow", "--until", str(folder_end))
         TALLY.same("a folder says that it has ended", found, (0, settled(requests_of(samples, 6)), ""))
+
+
+def case_end_unknown(folder):
+    """An END that can't be looked for isn't one: the take isn't closed."""
+    samples = random.Random(23).randbytes(2 * 40_000)
+    with serving(folder) as server:
+        path = written(folder, samples)
+        for name, end in (("long", folder / ("x" * 300)), ("below", path / "end")):
+            found = upload(server.port, name, path, "48000,1,16", "--follow", "--until", str(end))
+            TALLY.same(f"an end that is {name}", (found[0], found[2]), (3, "send: Read at 0\n"))
+            TALLY.holds(f"an end that is {name}", not (folder / "takes" / f"{name}.wav").exists(), "it was made")
+
+
+class Changing:
+    """Changes a file as soon as a program that is traced has opened it."""
+
+    def __init__(self, path, change):
+        self.path, self.change, self.opened = str(path), change, False
+
+    def before(self, call):
+        pass
+
+    def after(self, call):
+        if self.opened or call.number not in (2, 257):  # open, openat
+            return
+        place = call.words[0] if call.number == 2 else call.words[1]
+        if call.result >= 0 and call.text_at(place) == self.path:
+            self.opened = True
+            self.change()
+
+
+def case_changed_once_opened(folder):
+    """A file that changes right after it was opened, before any of it is read, isn't closed: its stamp is older."""
+    samples = random.Random(24).randbytes(2 * 40_000)
+    with serving(folder) as server:
+        whole = riff(fmt(Recording()), data(samples))
+        for name, content, options in (("raw", samples, ("--pcm", "48000,1,16")), ("wav", whole, ())):
+            path = written(folder, content, name)
+            words = ("send", "--connect", f"{LOCAL}:{server.port}", "--name", name, "--file", str(path), *options)
+            observer = Changing(path, lambda path=path: os.utime(path, ns=(1, 1)))
+            status, _out, said = finish(start_with_pipes(*words, observer=observer), b"", name)
+            TALLY.holds(f"{name}: changed", observer.opened, "it wasn't opened")
+            changed = (1, "Changed: the file isn't any more what it was\n")
+            TALLY.same(f"{name}, changed once it was opened", (status, said), changed)
 
 
 def serve_again(port, folder):
@@ -418,6 +470,8 @@ CASES = [
     case_no_frame,
     case_followed,
     case_ended_before,
+    case_end_unknown,
+    case_changed_once_opened,
     case_link_down,
     case_rerun,
     case_no_server,

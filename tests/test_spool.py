@@ -3,8 +3,9 @@
 
 What arrives is compared with the samples by their SHA-256, and the spool with what was written into the input. Whoever
 writes it must never wait for the link: it is timed while there is no server, while one doesn't answer, and while a
-connection can't be made. A disk is filled where this script may mount one. The program is the first argument, or the
-one of this repository. Prints what differs, and last 'N passed, M failed'.
+connection can't be made. Where nothing more is sent, all that is written has to be in the spool. A disk is filled where
+this script may mount one. The program is the first argument, or the one of this repository. Prints what differs, and
+last 'N passed, M failed'.
 """
 import contextlib
 import hashlib
@@ -25,6 +26,8 @@ LONGEST_BLOCK = 32_768
 PIPE = 65_536  # bytes that a pipe holds
 SOON = 2.0  # seconds in which an input is taken that needn't wait
 DOWN = 10.0  # seconds for which there is no server
+FRUITLESS = "Fruitless: as many links in a row as are allowed settled nothing"
+KEEPS = "send: the input is kept in the spool until it ends"
 
 
 def words_of(port, name, spool, pcm, *options):
@@ -63,6 +66,14 @@ def samples_of(folder, name):
 
 def digest(samples):
     return hashlib.sha256(samples).hexdigest()
+
+
+def holds_line(spool, count):
+    """What is said of a spool that isn't sent on."""
+    return (
+        f"send: {spool} holds {count} bytes; run this with '--file' in the place of '--spool' to send them,"
+        " with another '--name' if this one was refused"
+    )
 
 
 class Writer(threading.Thread):
@@ -228,8 +239,11 @@ def case_part_of_a_frame(folder):
     spool = folder / "odd.raw"
     with serving(folder) as server:
         words = words_of(server.port, "odd", spool, "48000,2,24")
-        status, _out, said = run(*words, given=samples + bytes(5))
-        TALLY.same("a part of a frame", (status, said), (1, f"send: PartFrame at {len(samples)}\n"))
+        status, out, said = run(*words, given=samples + bytes(5))
+        lines = [f"send: PartFrame at {len(samples)}", holds_line(spool, len(samples) + 5)]
+        # all whole frames are sent before that is said: all but CLOSE
+        TALLY.same("a part of a frame", (status, out), (1, settled(requests_of(samples, 6) - 1)))
+        TALLY.same("a part of a frame: said", said.splitlines(), lines)
         TALLY.same("a part of a frame: the spool", spool.read_bytes(), samples + bytes(5))
         found = run(*words, given=samples)
         TALLY.same("after a part of a frame", found, (1, "", f"send: PartFrame at {len(samples)}\n"))
@@ -273,6 +287,105 @@ def case_refusals(folder):
     TALLY.holds("usage", not (folder / "x").exists(), "a spool was made")
 
 
+def keeps_all(name, folder, port, take, first, status, *options):
+    """A sender that can't send on says why while its input goes on, and keeps all of that; what it says to run is right."""
+    samples = random.Random(43).randbytes(2 * 200_000)
+    spool = folder / f"{name}.raw"
+    sender = start_with_pipes(*words_of(port, take, spool, "48000,1,16", *options))
+    writer = Writer(sender, samples, 44, 0.25)  # some five seconds
+    writer.start()
+    said = [sender.stderr.readline().decode(), sender.stderr.readline().decode()]
+    is_early = writer.written < len(samples) // 2
+    TALLY.same(f"{name}: said at once", said, [f"{first}\n", f"{KEEPS}\n"])
+    TALLY.holds(f"{name}: said at once", is_early, f"after {writer.written} bytes")
+    writer.join(LONGEST_WAIT)
+    found = finish_written(sender)
+    TALLY.same(f"{name}: ends", (found[0], found[2]), (status, holds_line(spool, len(samples)) + "\n"))
+    TALLY.same(f"{name}: the spool", digest(spool.read_bytes()), digest(samples))
+    return spool, samples
+
+
+def case_refused_name(folder):
+    """While the server refuses, the whole input is kept, and can be sent under another name."""
+    with serving(folder) as server:
+        other = random.Random(45).randbytes(2 * 60_000)
+        TALLY.same("taken", run(*words_of(server.port, "taken", folder / "other.raw", "48000,1,16"), given=other)[0], 0)
+        first = "Conflict: another request was sent under number 1"
+        spool, samples = keeps_all("conflict", folder, server.port, "taken", first, 1)
+        words = ["--file" if word == "--spool" else word for word in words_of(server.port, "free", spool, "48000,1,16")]
+        TALLY.same("sent under another name", run(*words), (0, settled(requests_of(samples, 2)), ""))
+        TALLY.same("sent under another name", digest(samples_of(folder, "free")), digest(samples))
+
+
+def case_given_up(folder):
+    """A sender that gives up keeps the whole input too; so it is with a server that never answers."""
+    keeps_all("fruitless", folder, free_port(), "x", FRUITLESS, 3, "--fruitless", "2")
+    with socket.create_server((LOCAL, 0)) as listener:
+        port = listener.getsockname()[1]
+        keeps_all("silent", folder, port, "x", FRUITLESS, 3, "--fruitless", "1", "--timeout", "1")
+
+
+def case_one_sender(folder):
+    """A spool is used by one sender at a time."""
+    samples = random.Random(46).randbytes(2 * 50_000)
+    with serving(folder) as server:
+        spool = folder / "one.raw"
+        words = words_of(server.port, "one", spool, "48000,1,16")
+        sender = start_with_pipes(*words)
+        sender.stdin.write(samples)
+        sender.stdin.flush()
+        time.sleep(1.0)
+        found = run(*words, given=bytes(1_000))
+        TALLY.same("a second sender", found, (3, "", f"{spool} can't be opened: another sender uses it\n"))
+        sender.stdin.close()
+        is_whole("one", folder, spool, samples, 2, finish_written(sender))
+
+
+def case_other_use(folder):
+    """A spool goes on for the name and the format that it was begun for, and isn't used for others."""
+    samples = random.Random(47).randbytes(4 * 30_000)
+    with serving(folder) as server:
+        spool, side = folder / "bound.raw", folder / "bound.raw.for"
+        words = words_of(server.port, "bound", spool, "48000,2,16")
+        is_whole("bound", folder, spool, samples, 4, run(*words, given=samples))
+        line = "name=bound pcm=48000,2,16 skip=0"
+        TALLY.same("bound: the line", side.read_text(), f"{line}\n")
+        refused = (3, "", f"{spool} can't be opened: it was begun for {line}\n")
+        for name, pcm, options in (
+            ("other", "48000,2,16", ()),
+            ("bound", "44100,2,16", ()),
+            ("bound", "48000,1,16", ()),
+            ("bound", "48000,2,24", ()),
+            ("bound", "48000,2,16", ("--skip", "4")),
+        ):
+            found = run(*words_of(server.port, name, spool, pcm, *options), given=bytes(4_000))
+            TALLY.same(f"bound, used for {name} {pcm} {options}", found, refused)
+        TALLY.same("bound: as it was", digest(spool.read_bytes()), digest(samples))
+        TALLY.same("bound: the line", side.read_text(), f"{line}\n")
+        found = run(*words)
+        TALLY.same("bound: goes on", found, (0, settled(requests_of(samples, 4)), ""))
+        # a spool of an earlier release has no line: it goes on, and is bound
+        side.unlink()
+        TALLY.same("without a line", run(*words), (0, settled(requests_of(samples, 4)), ""))
+        TALLY.same("without a line", side.read_text(), f"{line}\n")
+        # one that holds nothing may be used for anything
+        os.truncate(spool, 0)
+        found = run(*words_of(server.port, "anew", spool, "44100,1,16"), given=samples)
+        is_whole("anew", folder, spool, samples, 2, found)
+        TALLY.same("anew", side.read_text(), "name=anew pcm=44100,1,16 skip=0\n")
+
+
+def case_no_file(folder):
+    """A spool that is a pipe or a device is refused, and isn't waited for."""
+    pipe = folder / "pipe"
+    os.mkfifo(pipe)
+    for path in (pipe, "/dev/null"):
+        begun = time.monotonic()
+        found = run(*words_of(free_port(), "x", path, "48000,1,16"), given=bytes(8))
+        TALLY.same(f"{path} as a spool", found, (3, "", f"{path} can't be opened: it isn't a file\n"))
+        TALLY.holds(f"{path} as a spool", time.monotonic() - begun < SOON, "it was waited for")
+
+
 def case_full_disk(folder):
     """A disk that is full: a line says so, what the spool holds is sent, and nothing after it."""
     disk = folder / "disk"
@@ -295,6 +408,8 @@ def case_full_disk(folder):
             TALLY.holds("a full disk", status == 3 and is_said and lines[1].startswith("send: Read at "), f"{status}, {said!r}")
             kept = spool.read_bytes()
             TALLY.holds("a full disk: the spool", len(kept) > 400_000 and samples.startswith(kept), f"{len(kept)} bytes")
+            # its whole blocks have their verdicts before that is said
+            TALLY.same("a full disk: sent", out, settled(1 + len(kept) // LONGEST_BLOCK))
     finally:
         subprocess.run(["umount", str(disk)], check=False)
 
@@ -306,6 +421,11 @@ CASES = [
     case_part_of_a_frame,
     case_no_samples,
     case_refusals,
+    case_refused_name,
+    case_given_up,
+    case_one_sender,
+    case_other_use,
+    case_no_file,
     case_no_answer,
     case_full_disk,
     case_link_down,

@@ -85,5 +85,6 @@ module _ {F P D R W : Type 0} (feed : FeedGhosts F FeedFault) (pause : PauseGhos
         all = append-nil sent.went.last.filling.sender.offered ∙ all.offered;
         stored = λ n below. all.stored n (subst (λ (rs : List Request). n < length rs) (sym all.offered) below);
       }
-  done_feeds e f f' old new did (inr nothing) done requests left =
+  done_feeds e f f' old new did (inr (inl failed)) done requests left = absurd (failed.undone done)
+  done_feeds e f f' old new did (inr (inr nothing)) done requests left =
       absurd (memory_ends (sym nothing.ends.exit_is ∙ done))

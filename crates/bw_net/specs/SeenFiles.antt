@@ -23,16 +23,24 @@ abbrev pub stamped_failures : StampedFile → ℕ
 stamped_failures s = s.failures
 
 -- as a file did that is followed
-abbrev pub followed_failures : FollowedFile → ℕ
+abbrev pub followed_failures : {R : Type 0} → FollowedFile R → ℕ
 followed_failures f = f.failures
 
 -- whether nothing more is written to it
-abbrev pub followed_has_ended : FollowedFile → Bool
+abbrev pub followed_has_ended : {R : Type 0} → FollowedFile R → Bool
 followed_has_ended f = f.has_ended
 
+-- the reader that it is read by
+abbrev pub followed_reader : {R : Type 0} → FollowedFile R → R
+followed_reader f = f.file
+
 -- as a spool's file did
-abbrev pub spool_failures : SpoolFile → ℕ
+abbrev pub spool_failures : {W : Type 0} → SpoolFile W → ℕ
 spool_failures f = f.failures
+
+-- the writer that it writes to
+abbrev pub spool_writer : {W : Type 0} → SpoolFile W → W
+spool_writer f = f.file
 
 -- as the files of states did
 abbrev pub states_failures : HostStates → ℕ

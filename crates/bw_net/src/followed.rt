@@ -1,7 +1,9 @@
 //! A file that another program is still writing.
-ghost use Rattle.std.specs.Prelude.{◌≡◌, None, IfOk, false};
+ghost use Rattle.std.specs.Prelude.{◌≡◌, IfOk, false};
 
+use crate::counting::counted;
 use crate::kinds::kind_of;
+use crate::meaning::ended;
 use crate::spool::SpoolCell;
 use bw_kind::FileKind;
 use bw_ports::Followed;
@@ -29,17 +31,18 @@ enum Ending<'a> {
 }
 
 /// A file that another program writes until a file stands at a path, or that standard input is
-/// appended to until its end. It reports no bytes, since no clause of std says what a file holds.
+/// appended to until its end. What is to come is what its reader has, where that reports it: of a file
+/// no clause of std does.
 #[derive(Drop)]
-pub struct FollowedFile<'a> {
+pub struct FollowedFile<'a, R> {
     rt: &'a HostRuntime,
-    file: File,
+    file: R,
     ending: Ending<'a>,
     has_ended: bool,
     failures: u64,
 }
 
-impl<'a> FollowedFile<'a> {
+impl<'a> FollowedFile<'a, File> {
     /// The file at a path, after its first `skip` bytes. One that isn't there yet is waited for, up
     /// to five seconds, unless the recording has ended.
     pub(crate) fn open(
@@ -47,7 +50,7 @@ impl<'a> FollowedFile<'a> {
         path: &str,
         skip: u64,
         until: &str,
-    ) -> io::Result<FollowedFile<'a>>
+    ) -> io::Result<FollowedFile<'a, File>>
         ensures { IfOk result (λ file. (file.has_ended ≡ false) × (file.failures ≡ 0)) }
     {
         let until = String::from_str(rt.alloc(), until)?;
@@ -69,7 +72,7 @@ impl<'a> FollowedFile<'a> {
         path: &str,
         skip: u64,
         spool: &'a SpoolCell,
-    ) -> io::Result<FollowedFile<'a>>
+    ) -> io::Result<FollowedFile<'a, File>>
         ensures { IfOk result (λ file. (file.has_ended ≡ false) × (file.failures ≡ 0)) }
     {
         spool.begin(rt, path)?;
@@ -84,6 +87,9 @@ impl<'a> FollowedFile<'a> {
         })
     }
 
+}
+
+impl<R> FollowedFile<'_, R> {
     /// Whether all is written, as far as that is known now.
     fn looks_ended(&self) -> io::Result<bool> {
         match &self.ending {
@@ -125,35 +131,33 @@ fn open_file(rt: &HostRuntime, path: &str) -> io::Result<File> {
     }
 }
 
-impl Followed for FollowedFile<'_> {
-    ghost use Rattle.bw_net.specs.SeenFiles.{followed_failures, followed_has_ended};
+impl<R: Read> Followed for FollowedFile<'_, R> {
+    ghost use Rattle.bw_net.specs.SeenFiles.{followed_failures, followed_has_ended, followed_reader};
 
-    ghost to_come = { λ f. None };
+    ghost to_come = { λ f. R.remaining (followed_reader f) };
 
     ghost is_complete = { followed_has_ended };
 
     ghost failures = { followed_failures };
 
     fn has_ended(&mut self) -> io::Result<bool> {
-        match self.looks_ended() {
-            Ok(stands) => {
-                self.has_ended = self.has_ended || stands;
-                Ok(self.has_ended)
-            }
-            Err(error) => {
-                self.failures = self.failures.saturating_add(1);
-                Err(error)
-            }
+        let ended = ended(self.has_ended, self.looks_ended());
+        if let Ok(is_known) = &ended {
+            self.has_ended = *is_known;
         }
+        counted(ended, &mut self.failures)
     }
 
     fn read_more(&mut self, buf: &mut [u8]) -> Result<usize, IoFailed> {
-        match self.file.read(buf) {
-            Ok(count) if count > 0 || buf.is_empty() || !self.is_broken() => Ok(count),
-            _ => {
-                self.failures = self.failures.saturating_add(1);
-                Err(IoFailed)
-            }
+        let room = buf.len();
+        let Ok(count) = self.file.read(buf) else {
+            self.failures = self.failures.saturating_add(1);
+            return Err(IoFailed);
+        };
+        if count == 0 && room > 0 && self.is_broken() {
+            self.failures = self.failures.saturating_add(1);
+            return Err(IoFailed);
         }
+        Ok(count)
     }
 }

@@ -1,6 +1,7 @@
 //! Standard input, no read of which waits.
 ghost use Rattle.std.specs.Prelude.{⊤};
 
+use crate::meaning::received;
 use bw_ports::{Link, Received, Sent};
 use mio::unix::SourceFd;
 use mio::{Events, Interest, Poll, Token};
@@ -94,14 +95,7 @@ impl Link for InputLink {
         if buffer.is_empty() || !self.is_ready() {
             return Received::Nothing;
         }
-        match self.stdin.read(buffer) {
-            Ok(0) => Received::Ended,
-            Ok(count) => Received::Bytes(count),
-            Err(error) => match error.kind() {
-                ErrorKind::Interrupted | ErrorKind::WouldBlock => Received::Nothing,
-                _ => Received::Failed,
-            },
-        }
+        received(self.stdin.read(buffer))
     }
 
     fn send(&mut self, _bytes: &[u8]) -> Sent {

@@ -56,9 +56,6 @@ impl Pause for SpoolPause<'_> {
 
     fn pause(&mut self, milliseconds: u32) {
         let span = Duration::from_millis(u64::from(milliseconds));
-        if self.spool.is_open() && self.spool.wait(self.rt, span, false).is_ok() {
-            return;
-        }
-        thread::sleep(self.rt, span);
+        self.spool.wait_or_sleep(self.rt, span);
     }
 }

@@ -23,7 +23,7 @@ use std::os::unix::fs::MetadataExt;
 pub struct HostRecordings<'a> {
     pub(crate) rt: &'a HostRuntime,
     /// Takes standard input where that is followed.
-    spool: &'a SpoolCell,
+    pub(crate) spool: &'a SpoolCell,
     pub(crate) failures: u64,
 }
 
@@ -51,7 +51,7 @@ impl<'a> RecordingFiles for HostRecordings<'a> {
 
     type File = SeekSource<File>;
 
-    type Growing = FollowedFile<'a>;
+    type Growing = FollowedFile<'a, File>;
 
     type Stamped = StampedFile<'a>;
 
@@ -70,7 +70,7 @@ impl<'a> RecordingFiles for HostRecordings<'a> {
         path: &str,
         skip: u64,
         until: Option<&str>,
-    ) -> io::Result<FollowedFile<'a>> {
+    ) -> io::Result<FollowedFile<'a, File>> {
         let followed = match until {
             Some(until) => FollowedFile::open(self.rt, path, skip, until),
             None => FollowedFile::spool(self.rt, path, skip, self.spool),

@@ -5,7 +5,9 @@ use bw_spool::{Drawn, Spool, SpoolState};
 use mio::net::TcpStream;
 use mio::{Events, Interest, Poll, Token};
 use std::cell::RefCell;
+use std::fs::File;
 use std::io::{self, ErrorKind};
+use std::thread;
 use std::time::{Duration, Instant};
 
 /// The token of a link.
@@ -14,6 +16,9 @@ const LINK: Token = Token(1);
 /// How many pieces are drawn before something else is looked at: an input that is faster than the
 /// link doesn't hold it up.
 const PIECES: u32 = 16;
+
+/// The milliseconds for which input is waited for before it is looked at whether that has ended.
+const BETWEEN_LOOKS: u64 = 100;
 
 /// The spool of the process, if it has one. All parts of a sender that wait share it, and fill it
 /// while they do: so no writer into standard input waits for the link.
@@ -55,6 +60,39 @@ impl SpoolCell {
         };
         spooling.draw();
         Some(spooling.spool.state())
+    }
+
+    /// Whether there is a spool into which something was to be drawn already.
+    pub(crate) fn is_drawn(&self) -> bool {
+        let Ok(guard) = self.spooling.try_borrow() else {
+            return false;
+        };
+        match guard.as_ref() {
+            Some(spooling) => spooling.is_drawn,
+            None => false,
+        }
+    }
+
+    /// Appends all that comes until no more does. Returns whether the spool has all of it.
+    pub(crate) fn drain(&self, rt: &HostRuntime) -> bool {
+        for _wait in 0..u64::MAX {
+            match self.draw() {
+                Some(SpoolState::Open) => {
+                    self.wait_or_sleep(rt, Duration::from_millis(BETWEEN_LOOKS));
+                }
+                Some(SpoolState::Ended) => return true,
+                Some(SpoolState::Failed) | None => return false,
+            }
+        }
+        false
+    }
+
+    /// Waits so long, and appends what comes meanwhile, if there is a spool and more may come.
+    pub(crate) fn wait_or_sleep(&self, rt: &HostRuntime, span: Duration) {
+        if self.is_open() && self.wait(rt, span, false).is_ok() {
+            return;
+        }
+        thread::sleep(rt, span);
     }
 
     /// Whether there is a spool, and more may come.
@@ -107,12 +145,14 @@ impl SpoolCell {
 /// A spool, and what its waits look at.
 #[derive(Drop)]
 struct Spooling {
-    spool: Spool<InputLink, SpoolFile>,
+    spool: Spool<InputLink, SpoolFile<File>>,
     poll: Poll,
     /// Room for the input and a link.
     events: Events,
     /// Whether the poll reports the input; it doesn't if that is a file.
     is_told: bool,
+    /// Something was to be drawn already.
+    is_drawn: bool,
 }
 
 impl Spooling {
@@ -125,11 +165,13 @@ impl Spooling {
             poll,
             events: Events::with_capacity(rt.alloc(), 2)?,
             is_told,
+            is_drawn: false,
         })
     }
 
     /// Appends some of what has come. Returns whether there may be more now.
     fn draw(&mut self) -> bool {
+        self.is_drawn = true;
         for _piece in 0..PIECES {
             if self.spool.draw() != Drawn::Bytes {
                 return false;

@@ -1,25 +1,27 @@
 //! The file of a spool, by the calls of std.
-ghost use Rattle.std.specs.Prelude.{◌≡◌, ◌≤◌, IfOk, None, length, true};
+ghost use Rattle.std.specs.Prelude.{◌≡◌, true};
+ghost use Rattle.std.specs.Io.{WritesAtMost};
+ghost use Rattle.std.specs.Io.KnownBytes.{WriteAppends};
 
 use bw_stream::{IoFailed, Sink, StdIo, write_all};
 use std::alloc::Global;
 use std::fs::{File, OpenOptions};
 use std::io::{self, Stderr, Write};
 
-/// A file that is appended to. Why it fails is reported in a line on standard error, since the reader
-/// of the file learns only that it fails. It reports no bytes, since no clause of std says what a file
-/// holds.
+/// A file that is appended to, or another writer of std. Why it fails is reported in a line on
+/// standard error, since the reader of the file learns only that it fails. It holds what the writer
+/// says of itself, which is nothing of a file.
 #[derive(Drop)]
-pub struct SpoolFile {
+pub struct SpoolFile<W> {
     alloc: Global,
-    file: File,
+    file: W,
     faults: StdIo<Stderr>,
     failures: u64,
 }
 
-impl SpoolFile {
+impl SpoolFile<File> {
     /// The file at a path, which is made if it isn't there.
-    pub(crate) fn open(rt: &HostRuntime, path: &str) -> io::Result<SpoolFile> {
+    pub(crate) fn open(rt: &HostRuntime, path: &str) -> io::Result<SpoolFile<File>> {
         let file = OpenOptions::new().append(true).create(true).open(rt, path)?;
         Ok(SpoolFile {
             alloc: rt.alloc(),
@@ -28,10 +30,13 @@ impl SpoolFile {
             failures: 0,
         })
     }
+}
 
-    /// Writes with one call of the system, and reports why it fails.
+impl<W: Write> SpoolFile<W> {
+    /// Writes with one call of the writer, and reports why it fails.
     fn write_once(&mut self, bytes: &[u8]) -> io::Result<usize>
-        ensures within { IfOk result (λ n. n ≤ length bytes.now) }
+        ensures within { WritesAtMost result bytes.now }
+        ensures bytes { WriteAppends (W.contents self.old.file) (W.contents self.new.file) result bytes.now }
         ensures kept { self.new.failures ≡ self.old.failures }
     {
         let written = self.file.write(bytes);
@@ -49,10 +54,10 @@ fn report(alloc: Global, faults: &mut StdIo<Stderr>, error: &io::Error) {
     }
 }
 
-impl Sink for SpoolFile {
-    ghost use Rattle.bw_net.specs.SeenFiles.{spool_failures};
+impl<W: Write> Sink for SpoolFile<W> {
+    ghost use Rattle.bw_net.specs.SeenFiles.{spool_failures, spool_writer};
 
-    ghost written = { λ f. None };
+    ghost written = { λ f. W.contents (spool_writer f) };
 
     ghost failures = { spool_failures };
 

@@ -45,7 +45,7 @@ impl StateFiles for HostStates<'_> {
     }
 
     fn begin(&mut self, path: &str, bytes: &[u8]) -> io::Result<StateFile> {
-        counted(begin(self.rt, path, bytes), &mut self.failures)
+        counted(begin_file(self.rt, path, bytes), &mut self.failures)
     }
 
     fn go_on(&mut self, path: &str) -> io::Result<StateFile> {
@@ -83,7 +83,7 @@ fn at_the_end() -> OpenOptions
 }
 
 /// The first bytes of the file at a path; none where there is no file.
-fn first_bytes(rt: &HostRuntime, path: &str, most: usize) -> io::Result<Vec<u8>> {
+pub(crate) fn first_bytes(rt: &HostRuntime, path: &str, most: usize) -> io::Result<Vec<u8>> {
     let mut bytes = Vec::new(rt.alloc());
     let file = match as_it_is().open(rt, path) {
         Ok(file) => without_pipes(file, "it is a pipe")?,
@@ -95,7 +95,7 @@ fn first_bytes(rt: &HostRuntime, path: &str, most: usize) -> io::Result<Vec<u8>>
 }
 
 /// A file with just these bytes, which are synced, and its folder too.
-fn begin(rt: &HostRuntime, path: &str, bytes: &[u8]) -> io::Result<StateFile> {
+pub(crate) fn begin_file(rt: &HostRuntime, path: &str, bytes: &[u8]) -> io::Result<StateFile> {
     let mut file = emptied().open(rt, path)?;
     file.write_all(bytes)?;
     file.sync_data()?;

@@ -8,4 +8,5 @@ pub mod Sides
 pub mod Sources
 pub mod Uploads
 pub mod PcmUploads
+pub mod PcmCommands
 pub mod RepairCommands

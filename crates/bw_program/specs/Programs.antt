@@ -32,7 +32,7 @@ use Rattle.bw_program.specs.RecordingCommands.{Packs}
 use Rattle.bw_program.specs.RepairCommands.{RepairsFile}
 use Rattle.bw_program.specs.Remote.{SendsTyped, ServesByRule}
 use Rattle.bw_program.specs.Sources.{IfFile}
-use Rattle.bw_program.specs.PcmUploads.{SendsPcm}
+use Rattle.bw_program.specs.PcmCommands.{SendsPcmCommand}
 use Rattle.bw_program.specs.Uploads.{SendsByState}
 use Rattle.bw_program.specs.Sides.{HostSide, SenderSide, ServerSide, UploadSide, StartSide}
 use Rattle.bw_program.specs.declared.outside.Outside.{Outside}
@@ -101,7 +101,7 @@ abbrev pub IsUnread : Bool → Outcome → Type 0
 IsUnread true did = IsOutOfMemory did
 IsUnread false did = (kind : ErrorKind) × IsBadArgv kind did
 
-module _ {S T F H G M SB SL Ed LK DK DF N X Y Z P R W L K SP SK D A B U J Q I O E V C VR : Type 0} (host : HostSide S T F H G M SB SL Ed LK DK DF I O E)
+module _ {S T F H G M SB SL KP Ed LK DK DF N X Y Z P R W L K SP SK D A B U J Q I O E V C VR : Type 0} (host : HostSide S T F H G M SB SL KP Ed LK DK DF I O E)
     (server_side : ServerSide X Y Z P R W L K N SP SK) (sender_side : SenderSide D A B)
     (upload_side : UploadSide U J Q) (network : NetworkGhosts N X P D R W A B) (listener_setup : ListenerSetupGhosts N L K)
     (starts : StartSide server_side.store server_side.journal N VR) where
@@ -143,7 +143,7 @@ module _ {S T F H G M SB SL Ed LK DK DF N X Y Z P R W L K SP SK D A B U J Q I O 
   IsDoneFor file_at failed (Run (SendPcm sender)) exit x x' =
       IfFile host.kinds host.reported (string_bytes sender.source.path) sender.pcm.is_spooled exit
       x.files x'.files x.pause x'.pause x.out x'.out x.faults x'.faults
-      (SendsPcm upload_side sender_side network host.files host.out host.reported sender exit
+      (SendsPcmCommand upload_side sender_side network host.files host.spools host.out host.reported sender exit
       x.files x'.files x.network x.pause x'.pause x.out x'.out x.faults x'.faults)
       × IsHostWell failed x' × (x'.network ≡ x.network) × (x'.input ≡ x.input) × (x'.disk ≡ x.disk)
   IsDoneFor file_at failed (Run (Pack source)) exit x x' =

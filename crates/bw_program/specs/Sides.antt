@@ -24,6 +24,7 @@ use Rattle.bw_resume.specs.declared.state_files.StateFiles.{Ghosts as StateGhost
 use Rattle.bw_resume.specs.declared.state_files.StateLog.{Ghosts as LogGhosts}
 use Rattle.bw_send_file.specs.declared.fault.FeedFault.{FeedFault}
 use Rattle.bw_serve_status.specs.Shown.{StatusSide}
+use Rattle.bw_spool.specs.declared.keeper.SpoolKeeper.{Ghosts as KeeperGhosts}
 use Rattle.bw_upload.specs.declared.feed.Feed.{Ghosts as FeedGhosts}
 
 -- what the states of senders have, and the files that they are kept in
@@ -36,13 +37,22 @@ abbrev pub state_side : {F B L : Type 0} → (F → List ℕ → Option (List �
     StateSide F B L
 state_side kept_at files log = record { kept_at = kept_at; files = files; log = log }
 
--- the system, the files of recordings, the states of their senders, how files are changed in place,
--- the locks of servers' folders, what is at each path, the disk of these folders, and the process's
--- streams
-pub record HostSide (S T F H G M SB SL J LK DK DF I O E : Type 0) : Type 1 where
+-- what senders hold their spools by
+pub record SpoolSide (F K : Type 0) : Type 1 where
+  pub lends : F → K → Type 0
+  pub keeper : KeeperGhosts K
+
+abbrev pub spool_side : {F K : Type 0} → (F → K → Type 0) → KeeperGhosts K → SpoolSide F K
+spool_side lends keeper = record { lends = lends; keeper = keeper }
+
+-- the system, the files of recordings, the states and the spools of their senders, how files are
+-- changed in place, the locks of servers' folders, what is at each path, the disk of these folders,
+-- and the process's streams
+pub record HostSide (S T F H G M SB SL KP J LK DK DF I O E : Type 0) : Type 1 where
   pub system : SystemGhosts S T
   pub files : FileGhosts F H G M
   pub states : StateSide F SB SL
+  pub spools : SpoolSide F KP
   pub edits : EditGhosts F J
   pub locks : LockGhosts F LK
   pub kinds : KindGhosts F
@@ -51,13 +61,14 @@ pub record HostSide (S T F H G M SB SL J LK DK DF I O E : Type 0) : Type 1 where
   pub out : Writer O
   pub reported : Writer E
 
-abbrev pub host_side : {S T F H G M SB SL J LK DK DF I O E : Type 0} → SystemGhosts S T → FileGhosts F H G M →
-    StateSide F SB SL → EditGhosts F J → LockGhosts F LK → KindGhosts F → DiskGhosts DK DF → Reader I →
-    Writer O → Writer E → HostSide S T F H G M SB SL J LK DK DF I O E
-host_side system files states edits locks kinds disk input out reported = record {
+abbrev pub host_side : {S T F H G M SB SL KP J LK DK DF I O E : Type 0} → SystemGhosts S T → FileGhosts F H G M →
+    StateSide F SB SL → SpoolSide F KP → EditGhosts F J → LockGhosts F LK → KindGhosts F → DiskGhosts DK DF → Reader I →
+    Writer O → Writer E → HostSide S T F H G M SB SL KP J LK DK DF I O E
+host_side system files states spools edits locks kinds disk input out reported = record {
   system = system;
   files = files;
   states = states;
+  spools = spools;
   edits = edits;
   locks = locks;
   kinds = kinds;

@@ -8,7 +8,7 @@ ghost use Rattle.bw_console.specs.declared.exit.Exit.{Exit};
 ghost use Rattle.bw_console.specs.Exits.{status_of};
 ghost use Rattle.bw_send_file.specs.FileLooks.{LooksAt};
 ghost use Rattle.bw_program.specs.Programs.{IsDoneFor, IsProgram, IsReporting};
-ghost use Rattle.bw_program.specs.Sides.{host_side, sender_side, server_side, start_side, state_side, upload_side};
+ghost use Rattle.bw_program.specs.Sides.{host_side, sender_side, server_side, spool_side, start_side, state_side, upload_side};
 ghost use Rattle.bw_serve_status.specs.Shown.{status_side};
 
 use crate::folders::work_on_takes;
@@ -41,6 +41,7 @@ use bw_resume::StateKeeping;
 use bw_send_file::PlanFeed;
 use bw_send_pcm::PcmFeed;
 use bw_session::Server;
+use bw_spool::SpoolKeeping;
 use bw_stream::{Sink, Source};
 use bw_upload::{Feed, Observer};
 use clap::Error;
@@ -56,7 +57,7 @@ use std::process::ExitCode;
 /// - The texts of help, version and usage errors.
 pub fn start<
     S: System,
-    F: RecordingFiles + StateKeeping + EditedFiles + FolderLocks + FileKinds,
+    F: RecordingFiles + StateKeeping + SpoolKeeping + EditedFiles + FolderLocks + FileKinds,
     D: Volume,
     J: BecomesResting,
     N: PacedNetwork
@@ -75,6 +76,7 @@ pub fn start<
     // Commands without the network leave it alone, and each text goes to its stream.
     ensures { (exit : Exit) × (exit_status result ≡ status_of exit) × IsProgram
         (host_side S.System F.RecordingFiles (state_side F.kept_at F.States.StateFiles F.States.Log.StateLog)
+        (spool_side F.lends F.Keeper.SpoolKeeper)
         F.EditedFiles F.FolderLocks F.FileKinds D.Disk R.Source W.Sink E.Sink)
         (server_side N.Store.TakeStore J.Journal ⟦<NoJournal as Journal>⟧ N.Peers.Peers
         N.Peers.Reader.Source N.Peers.Writer.Sink N.Reactor.Reactor N.Reactor.Link.Link N.NameRule
@@ -91,7 +93,7 @@ pub fn start<
 /// Reads the command line, and does what it asks for.
 fn obey<
     S: System,
-    F: RecordingFiles + StateKeeping + EditedFiles + FolderLocks + FileKinds,
+    F: RecordingFiles + StateKeeping + SpoolKeeping + EditedFiles + FolderLocks + FileKinds,
     D: Volume,
     J: BecomesResting,
     N: PacedNetwork
@@ -108,6 +110,7 @@ fn obey<
     G: Observer,
 >(alloc: Global, outside: &mut Outside<S, F, D, N, P, R, W, E, V, G>) -> Exit
     ensures { IsProgram (host_side S.System F.RecordingFiles (state_side F.kept_at F.States.StateFiles F.States.Log.StateLog)
+        (spool_side F.lends F.Keeper.SpoolKeeper)
         F.EditedFiles F.FolderLocks F.FileKinds D.Disk R.Source W.Sink E.Sink)
         (server_side N.Store.TakeStore J.Journal ⟦<NoJournal as Journal>⟧ N.Peers.Peers
         N.Peers.Reader.Source N.Peers.Writer.Sink N.Reactor.Reactor N.Reactor.Link.Link N.NameRule
@@ -127,7 +130,7 @@ fn obey<
 /// Does what these words ask for.
 fn answer<
     S: System,
-    F: RecordingFiles + StateKeeping + EditedFiles + FolderLocks + FileKinds,
+    F: RecordingFiles + StateKeeping + SpoolKeeping + EditedFiles + FolderLocks + FileKinds,
     D: Volume,
     J: BecomesResting,
     N: PacedNetwork
@@ -144,6 +147,7 @@ fn answer<
     G: Observer,
 >(alloc: Global, words: &[String], outside: &mut Outside<S, F, D, N, P, R, W, E, V, G>) -> Exit
     ensures { IsProgram (host_side S.System F.RecordingFiles (state_side F.kept_at F.States.StateFiles F.States.Log.StateLog)
+        (spool_side F.lends F.Keeper.SpoolKeeper)
         F.EditedFiles F.FolderLocks F.FileKinds D.Disk R.Source W.Sink E.Sink)
         (server_side N.Store.TakeStore J.Journal ⟦<NoJournal as Journal>⟧ N.Peers.Peers
         N.Peers.Reader.Source N.Peers.Writer.Sink N.Reactor.Reactor N.Reactor.Link.Link N.NameRule
@@ -163,7 +167,7 @@ fn answer<
 /// Does what a command line asks for.
 fn perform<
     S: System,
-    F: RecordingFiles + StateKeeping + EditedFiles + FolderLocks + FileKinds,
+    F: RecordingFiles + StateKeeping + SpoolKeeping + EditedFiles + FolderLocks + FileKinds,
     D: Volume,
     J: BecomesResting,
     N: PacedNetwork
@@ -181,6 +185,7 @@ fn perform<
 >(alloc: Global, line: &CommandLine, outside: &mut Outside<S, F, D, N, P, R, W, E, V, G>) -> Exit
     requires { HasNumbersInRange line.now }
     ensures { IsDoneFor (host_side S.System F.RecordingFiles (state_side F.kept_at F.States.StateFiles F.States.Log.StateLog)
+        (spool_side F.lends F.Keeper.SpoolKeeper)
         F.EditedFiles F.FolderLocks F.FileKinds D.Disk R.Source W.Sink E.Sink)
         (server_side N.Store.TakeStore J.Journal ⟦<NoJournal as Journal>⟧ N.Peers.Peers
         N.Peers.Reader.Source N.Peers.Writer.Sink N.Reactor.Reactor N.Reactor.Link.Link N.NameRule
@@ -205,7 +210,7 @@ fn perform<
 /// Runs a task.
 fn run<
     S: System,
-    F: RecordingFiles + StateKeeping + EditedFiles + FolderLocks + FileKinds,
+    F: RecordingFiles + StateKeeping + SpoolKeeping + EditedFiles + FolderLocks + FileKinds,
     D: Volume,
     J: BecomesResting,
     N: PacedNetwork
@@ -223,6 +228,7 @@ fn run<
 >(alloc: Global, task: &Task, outside: &mut Outside<S, F, D, N, P, R, W, E, V, G>) -> Exit
     requires { HasNumbersInRange (CommandLine.Run task.now) }
     ensures { IsDoneFor (host_side S.System F.RecordingFiles (state_side F.kept_at F.States.StateFiles F.States.Log.StateLog)
+        (spool_side F.lends F.Keeper.SpoolKeeper)
         F.EditedFiles F.FolderLocks F.FileKinds D.Disk R.Source W.Sink E.Sink)
         (server_side N.Store.TakeStore J.Journal ⟦<NoJournal as Journal>⟧ N.Peers.Peers
         N.Peers.Reader.Source N.Peers.Writer.Sink N.Reactor.Reactor N.Reactor.Link.Link N.NameRule

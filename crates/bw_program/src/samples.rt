@@ -1,11 +1,14 @@
 //! The command that sends headerless samples, as a command line asks for it.
-ghost use Rattle.std.specs.Prelude.{◌≡◌, is_some, min, option_map};
+ghost use Rattle.std.specs.Prelude.{◌≡◌, ◌⊎◌, is_some, min, option_map};
 ghost use Rattle.bw_send_file.specs.FileLooks.{LooksAt};
 ghost use Rattle.bw_program.specs.PcmUploads.{IsPcmFileOf, IsPcmRecorderOf, SendsPcm, awaited_end, most_in_field};
-ghost use Rattle.bw_program.specs.Sides.{sender_side, upload_side};
+ghost use Rattle.bw_program.specs.PcmCommands.{RefusesSpool, SendsPcmCommand, SendsSpool, spool_line};
+ghost use Rattle.bw_program.specs.Sides.{sender_side, spool_side, upload_side};
+ghost use Rattle.bw_spool.specs.Purposes.{line_of};
 
 use bw_args::PcmSender;
 use bw_console::Exit;
+use bw_keep::{hold_spool, keep_unless_done};
 use bw_pace::PacedNetwork;
 use bw_plan::Pcm;
 use bw_ports::{Network, Pause, RecordingFiles};
@@ -13,20 +16,103 @@ use bw_progress::{Extent, SamplesSent, UploadWatch};
 use bw_recorder::RecordingFile;
 use bw_send_file::{PlanFeed, Recorder};
 use bw_send_pcm::{PcmFeed, PcmFile, follow_samples, send_samples};
+use bw_spool::{Purpose, SpoolKeeper, SpoolKeeping};
 use bw_stream::Sink;
 use bw_upload::{Feed, Observer};
 use std::alloc::Global;
 
 /// Sends the headerless samples that the command line names, and reports each change of the link to
-/// the observer.
+/// the observer. A spool is held first, and what still comes is kept in it unless all is stored.
 pub(crate) fn send_pcm_as<
-    F: RecordingFiles,
+    F: RecordingFiles + SpoolKeeping,
     N: PacedNetwork,
     P: Pause,
     G: Observer,
     W: Sink,
     E: Sink,
 >(
+    alloc: Global,
+    sender: &PcmSender,
+    files: &mut F,
+    network: &N,
+    pause: &mut P,
+    observer: &mut G,
+    out: &mut W,
+    faults: &mut E,
+) -> Exit
+    ensures { SendsPcmCommand
+        (upload_side ⟦<PlanFeed<F::File, F::Stamped> as Feed>⟧ (LooksAt F.Stamped.Stamped)
+        ⟦<PcmFeed<F::Growing> as Feed>⟧ P.Pause)
+        (sender_side N.Dial.Dial N.Dial.Reader.Source N.Dial.Writer.Sink) N.Network
+        F.RecordingFiles (spool_side F.lends F.Keeper.SpoolKeeper) W.Sink E.Sink
+        sender.now result files.old files.new network.now
+        pause.old pause.new out.old out.new faults.old faults.new }
+{
+    if sender.pcm.is_spooled {
+        send_spool(alloc, sender, files, network, pause, observer, out, faults)
+    } else {
+        send_samples_as(alloc, sender, files, network, pause, observer, out, faults)
+    }
+}
+
+/// Sends the samples of a spool, which is held as long as that takes.
+fn send_spool<
+    F: RecordingFiles + SpoolKeeping,
+    N: PacedNetwork,
+    P: Pause,
+    G: Observer,
+    W: Sink,
+    E: Sink,
+>(
+    alloc: Global,
+    sender: &PcmSender,
+    files: &mut F,
+    network: &N,
+    pause: &mut P,
+    observer: &mut G,
+    out: &mut W,
+    faults: &mut E,
+) -> Exit
+    ensures { SendsSpool
+        (upload_side ⟦<PlanFeed<F::File, F::Stamped> as Feed>⟧ (LooksAt F.Stamped.Stamped)
+        ⟦<PcmFeed<F::Growing> as Feed>⟧ P.Pause)
+        (sender_side N.Dial.Dial N.Dial.Reader.Source N.Dial.Writer.Sink) N.Network
+        F.RecordingFiles (spool_side F.lends F.Keeper.SpoolKeeper) W.Sink E.Sink
+        sender.now result files.old files.new network.now
+        pause.old pause.new out.old out.new faults.old faults.new
+        ⊎ RefusesSpool
+        (upload_side ⟦<PlanFeed<F::File, F::Stamped> as Feed>⟧ (LooksAt F.Stamped.Stamped)
+        ⟦<PcmFeed<F::Growing> as Feed>⟧ P.Pause)
+        (sender_side N.Dial.Dial N.Dial.Reader.Source N.Dial.Writer.Sink) N.Network
+        F.RecordingFiles (spool_side F.lends F.Keeper.SpoolKeeper) W.Sink E.Sink
+        sender.now result files.old files.new
+        pause.old pause.new out.old out.new faults.old faults.new }
+{
+    let mut keeper = files.keeper();
+    let path = sender.source.path.as_str();
+    if let Err(exit) = hold_spool(alloc, path, &purpose_of(sender), &mut keeper, faults) {
+        return exit;
+    }
+    let exit = send_samples_as(alloc, sender, files, network, pause, observer, out, faults);
+    keep_unless_done(alloc, path, exit, &mut keeper, faults);
+    exit
+}
+
+/// What the spool of a sender is held for.
+fn purpose_of(sender: &PcmSender) -> Purpose<'_>
+    ensures { line_of result ≡ spool_line sender.now }
+{
+    Purpose {
+        name: sender.name.as_bytes(),
+        rate: sender.pcm.rate,
+        channels: sender.pcm.channels,
+        bits: sender.pcm.bits,
+        skip: sender.pcm.skip,
+    }
+}
+
+/// Sends the samples in the file that the command line names.
+fn send_samples_as<F: RecordingFiles, N: PacedNetwork, P: Pause, G: Observer, W: Sink, E: Sink>(
     alloc: Global,
     sender: &PcmSender,
     files: &mut F,
@@ -59,7 +145,7 @@ pub(crate) fn send_pcm_as<
 /// Sends the headerless samples that the command line names as `send_pcm_as` does, and has its
 /// progress shown.
 pub(crate) fn send_pcm_watched<
-    F: RecordingFiles,
+    F: RecordingFiles + SpoolKeeping,
     N: PacedNetwork,
     P: Pause,
     V: UploadWatch,
@@ -75,11 +161,12 @@ pub(crate) fn send_pcm_watched<
     out: &mut W,
     faults: &mut E,
 ) -> Exit
-    ensures { SendsPcm
+    ensures { SendsPcmCommand
         (upload_side ⟦<PlanFeed<F::File, F::Stamped> as Feed>⟧ (LooksAt F.Stamped.Stamped)
         ⟦<PcmFeed<F::Growing> as Feed>⟧ P.Pause)
         (sender_side N.Dial.Dial N.Dial.Reader.Source N.Dial.Writer.Sink) N.Network
-        F.RecordingFiles W.Sink E.Sink sender.now result files.old files.new network.now
+        F.RecordingFiles (spool_side F.lends F.Keeper.SpoolKeeper) W.Sink E.Sink
+        sender.now result files.old files.new network.now
         pause.old pause.new out.old out.new faults.old faults.new }
 {
     let file = pcm_file_of(sender);

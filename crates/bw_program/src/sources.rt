@@ -1,8 +1,8 @@
 //! The commands that send what a path names, once it is known that no pipe, folder or device is there.
 ghost use Rattle.std.specs.Prelude.{false, string_bytes};
 ghost use Rattle.bw_send_file.specs.FileLooks.{LooksAt};
-ghost use Rattle.bw_program.specs.PcmUploads.{SendsPcm};
-ghost use Rattle.bw_program.specs.Sides.{sender_side, state_side, upload_side};
+ghost use Rattle.bw_program.specs.PcmCommands.{SendsPcmCommand};
+ghost use Rattle.bw_program.specs.Sides.{sender_side, spool_side, state_side, upload_side};
 ghost use Rattle.bw_program.specs.Sources.{IfFile};
 ghost use Rattle.bw_program.specs.Uploads.{SendsByState};
 
@@ -17,6 +17,7 @@ use bw_progress::UploadWatch;
 use bw_resume::StateKeeping;
 use bw_send_file::PlanFeed;
 use bw_send_pcm::PcmFeed;
+use bw_spool::SpoolKeeping;
 use bw_stream::Sink;
 use bw_upload::{Feed, Observer};
 use std::alloc::Global;
@@ -65,7 +66,7 @@ pub(crate) fn send_file_there<
 /// Sends the headerless samples that the command line names, if a file is there. Each change of the
 /// link is logged, or the progress shown.
 pub(crate) fn send_pcm_there<
-    F: RecordingFiles + FileKinds,
+    F: RecordingFiles + SpoolKeeping + FileKinds,
     N: PacedNetwork,
     P: Pause,
     V: UploadWatch,
@@ -85,10 +86,11 @@ pub(crate) fn send_pcm_there<
 ) -> Exit
     ensures { IfFile F.FileKinds E.Sink (string_bytes sender.now.source.path) sender.now.pcm.is_spooled result
         files.old files.new pause.old pause.new out.old out.new faults.old faults.new
-        (SendsPcm (upload_side ⟦<PlanFeed<F::File, F::Stamped> as Feed>⟧ (LooksAt F.Stamped.Stamped)
+        (SendsPcmCommand (upload_side ⟦<PlanFeed<F::File, F::Stamped> as Feed>⟧ (LooksAt F.Stamped.Stamped)
         ⟦<PcmFeed<F::Growing> as Feed>⟧ P.Pause)
         (sender_side N.Dial.Dial N.Dial.Reader.Source N.Dial.Writer.Sink) N.Network
-        F.RecordingFiles W.Sink E.Sink sender.now result files.old files.new network.now
+        F.RecordingFiles (spool_side F.lends F.Keeper.SpoolKeeper) W.Sink E.Sink
+        sender.now result files.old files.new network.now
         pause.old pause.new out.old out.new faults.old faults.new) }
 {
     let path = sender.source.path.as_str();

@@ -15,7 +15,7 @@ use Rattle.bw_upload.specs.Links.{says_done}
 use Rattle.bw_upload.specs.declared.outcome.Outcome.{Outcome}
 use Rattle.bw_upload.specs.declared.outcome.Outcome.TheVariants as outcomes
 use Rattle.bw_send_file.specs.Endings.{EndsAfter, IsFileReport, IsOutcomeReport}
-use Rattle.bw_send_file.specs.Sendings.{StoresAll}
+use Rattle.bw_send_file.specs.Sendings.{StoresAll, outcome_after}
 use Rattle.bw_send_file.specs.declared.fault.FeedFault.{FeedFault}
 use Rattle.bw_send_file.specs.declared.fault.FeedFault.TheVariants.{Unread, Unstamped, Changed, Unsendable, Memory, Refused}
 
@@ -62,3 +62,20 @@ stores_after path first requests s outcome did ends feeds done =
           ∙ ap (λ (rest : List Request). feeds.given ++ rest) (sym (feeds.none_left says)) ∙ sym feeds.all);
       stored = feeds.stored says;
     }
+
+-- a feed that failed is no success, however sending on ended
+fault_undone : (fault : FeedFault) (rest : Outcome FeedFault) → says_done (outcome_after fault rest) ≡ true → ⊥
+fault_undone fault outcomes.Done e = absurd cc
+fault_undone fault (outcomes.Refused n v) e = absurd cc
+fault_undone fault (outcomes.Conflict n) e = absurd cc
+fault_undone fault (outcomes.TooFar n) e = absurd cc
+fault_undone fault (outcomes.NotOffered error) e = absurd cc
+fault_undone fault outcomes.Fruitless e = absurd cc
+fault_undone fault (outcomes.Feed other) e = absurd cc
+fault_undone fault outcomes.Memory e = absurd cc
+fault_undone fault outcomes.Limit e = absurd cc
+
+pub fault_ends : (path : List ℕ) (fault : FeedFault) (rest : Outcome FeedFault) (s : Sender) (outcome : Outcome FeedFault)
+    (did : Did) → outcome ≡ outcome_after fault rest → EndsAfter path s outcome did → did.exit ≡ exits.Done → ⊥
+fault_ends path fault rest s outcome did told ends done =
+    fault_undone fault rest (sym (ap says_done told) ∙ command_ends path s outcome did ends done)

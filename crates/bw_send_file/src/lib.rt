@@ -11,6 +11,7 @@ mod job;
 mod link_log;
 mod resuming;
 mod sending;
+mod settling;
 
 pub use ending::report_file_fault;
 pub use fault::FeedFault;

@@ -8,18 +8,22 @@ ghost use Rattle.bw_send_file.specs.Sendings.{IsFeedSent, IsFeedSentAfter};
 use crate::ending::report_end;
 use crate::fault::FeedFault;
 use crate::job::Recorder;
+use crate::settling::{feed_fault, settle};
 use bw_console::print::give_up;
 use bw_console::{Exit, Fault};
 use bw_ports::{Dial, Pause};
 use bw_sender::Sender;
 use bw_stream::Sink;
-use bw_upload::{Feed, Observer, upload};
+use bw_upload::{Feed, Observer, Uploaded, upload};
 use std::alloc::{AllocError, Global};
 
 /// Sends what a feed gives of the file at a path, as a recorder, and prints how many requests are
 /// settled and stored, and which are refused. Unless all are stored or one is refused, a line on
 /// `faults` begins with the cause: Conflict, TooFar, NotOffered, Fruitless, Limit, Changed,
 /// Unsendable, or what the file lacks. A failure to write it is ignored.
+///
+/// Where the feed fails, the requests that it gave before are sent on first, until all of them are
+/// stored, one is refused, or no more links are made.
 ///
 /// `Done` only if the feed has ended, and each of its requests was offered and is stored.
 /// `Refused` for a refused request, Conflict, TooFar, NotOffered, Changed and Unsendable; `Device`
@@ -77,7 +81,7 @@ pub(crate) fn send_by<X: Feed<Fault = FeedFault>, P: Pause, D: Dial, V: Observer
     let Ok(sender) = sender else {
         return give_up(faults, &Fault::Memory);
     };
-    let uploaded = upload(
+    let Uploaded { sender, outcome } = upload(
         alloc,
         sender,
         recorder.fruitless,
@@ -86,5 +90,15 @@ pub(crate) fn send_by<X: Feed<Fault = FeedFault>, P: Pause, D: Dial, V: Observer
         dial,
         observer,
     );
-    report_end(alloc, path, &uploaded, out, faults)
+    match feed_fault(outcome) {
+        Ok(fault) => {
+            let most = recorder.fruitless;
+            let uploaded = settle(alloc, sender, fault, most, pause, dial, observer);
+            report_end(alloc, path, &uploaded, out, faults)
+        }
+        Err(outcome) => {
+            let uploaded = Uploaded { sender, outcome };
+            report_end(alloc, path, &uploaded, out, faults)
+        }
+    }
 }

@@ -53,7 +53,9 @@ module _ {F P D R W : Type 0} (feed : FeedGhosts F FeedFault) (pause : PauseGhos
         (whole_again count requests skips.given skips.rest s.offered skips.all skips.many before.first)
         (x.done done skips.rest skips.to_come);
   }
-  rest_sent e count requests s g g' old new did skips before (inr x) done = absurd (memory_ends (sym x.ends.exit_is ∙ done))
+  rest_sent e count requests s g g' old new did skips before (inr (inl x)) done = absurd (x.undone done)
+  rest_sent e count requests s g g' old new did skips before (inr (inr x)) done =
+      absurd (memory_ends (sym x.ends.exit_is ∙ done))
 
 module _ {F P D R W : Type 0} (side : SendingSide F P D R W) (job : Job) where
   -- the file was opened again, but its first requests can't be passed over, for this fault

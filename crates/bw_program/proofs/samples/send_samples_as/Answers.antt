@@ -1,5 +1,5 @@
 use Rattle.std.proofs.Common.{sym}
-use Rattle.bw_program.proofs.samples.send_pcm_as.Goals as goal
+use Rattle.bw_program.proofs.samples.send_samples_as.Goals as goal
 
 pub returns-in-Some : goal.returns-in-Some
 returns-in-Some g c =

@@ -1,0 +1,101 @@
+//! What was offered is sent on after the feed has failed.
+ghost use Rattle.std.specs.Prelude.{◌≡◌, false, IfOk, IfErr};
+ghost use Rattle.bw_model.specs.World.{Sender as Defined};
+ghost use Rattle.bw_sender.specs.Senders.{IsSender};
+ghost use Rattle.bw_upload.specs.declared.outcome.Outcome.TheVariants as outcomes;
+ghost use Rattle.bw_send_file.specs.Sendings.{Settles, is_feed_fault, outcome_after as told_after};
+
+use crate::fault::FeedFault;
+use bw_ports::{Dial, Pause};
+use bw_sender::Sender;
+use bw_upload::{Feed, Given, Observer, Outcome, Uploaded, upload};
+use std::alloc::Global;
+
+/// A feed that has ended.
+#[derive(Drop)]
+pub(crate) struct NoMore;
+
+impl Feed for NoMore {
+    ghost use Rattle.std.specs.Prelude.{Ok, []};
+    ghost use Rattle.bw_upload.specs.declared.feed.Given.TheVariants.{End};
+
+    type Fault = FeedFault;
+
+    ghost left = { λ f requests. requests ≡ [] };
+
+    ghost gives = { λ f given g. given ≡ Ok End };
+
+    fn next(&mut self) -> Result<Given, FeedFault> {
+        Ok(Given::End)
+    }
+}
+
+/// The fault of the feed, if an upload ended by one.
+///
+/// # Errors
+/// How it ended else.
+pub(crate) fn feed_fault(outcome: Outcome<FeedFault>) -> Result<FeedFault, Outcome<FeedFault>>
+    ensures ok { IfOk result (λ fault. outcome ≡ outcomes.Feed fault) }
+    ensures err { IfErr result (λ other. (outcome ≡ other) × (is_feed_fault other ≡ false)) }
+{
+    match outcome {
+        Outcome::Done => Err(Outcome::Done),
+        Outcome::Refused(number, verdict) => Err(Outcome::Refused(number, verdict)),
+        Outcome::Conflict(number) => Err(Outcome::Conflict(number)),
+        Outcome::TooFar(number) => Err(Outcome::TooFar(number)),
+        Outcome::NotOffered(error) => Err(Outcome::NotOffered(error)),
+        Outcome::Fruitless => Err(Outcome::Fruitless),
+        Outcome::Feed(fault) => Ok(fault),
+        Outcome::Memory => Err(Outcome::Memory),
+        Outcome::Limit => Err(Outcome::Limit),
+    }
+}
+
+/// Sends on what a sender was offered before its feed failed: over links of its own, since the
+/// upload has left its link. Once all of it is stored, the fault ends the upload; it ends otherwise
+/// if a request is refused, or no more links are made.
+pub(crate) fn settle<P: Pause, D: Dial, V: Observer>(
+    alloc: Global,
+    sender: Sender,
+    fault: FeedFault,
+    fruitless: Option<u32>,
+    pause: &mut P,
+    dial: &mut D,
+    observer: &mut V,
+) -> Uploaded<FeedFault>
+    ensures { (s : Defined) → IsSender s sender →
+        Settles P.Pause D.Dial D.Reader.Source D.Writer.Sink fruitless fault s result.sender
+        result.outcome pause.old pause.new dial.old dial.new }
+{
+    let mut no_more = NoMore;
+    let Uploaded { sender, outcome } = upload(
+        alloc,
+        sender,
+        fruitless,
+        &mut no_more,
+        pause,
+        dial,
+        observer,
+    );
+    Uploaded {
+        sender,
+        outcome: outcome_after(fault, outcome),
+    }
+}
+
+/// How an upload ends whose feed failed, where sending on ended so.
+fn outcome_after(fault: FeedFault, outcome: Outcome<FeedFault>) -> Outcome<FeedFault>
+    ensures { result ≡ told_after fault outcome }
+{
+    match outcome {
+        Outcome::Done => Outcome::Feed(fault),
+        Outcome::Refused(number, verdict) => Outcome::Refused(number, verdict),
+        Outcome::Conflict(number) => Outcome::Conflict(number),
+        Outcome::TooFar(number) => Outcome::TooFar(number),
+        Outcome::NotOffered(error) => Outcome::NotOffered(error),
+        Outcome::Fruitless => Outcome::Fruitless,
+        Outcome::Feed(other) => Outcome::Feed(other),
+        Outcome::Memory => Outcome::Memory,
+        Outcome::Limit => Outcome::Limit,
+    }
+}
