@@ -19,6 +19,6 @@ received_by (Ok count) = if count == 0 then Ended else Bytes count
 received_by (Err error) = received_at (error_kind error)
 
 -- whether something has ended, by what was known before and what was found
-abbrev pub ended_by : Bool → Result Bool IoError → Result Bool IoError
-ended_by before (Ok found) = Ok (before || found)
-ended_by before (Err error) = Err error
+abbrev pub end_found : Bool → Result Bool IoError → Result Bool IoError
+end_found before (Ok found) = Ok (before || found)
+end_found before (Err error) = Err error

@@ -1,6 +1,6 @@
 //! What answers of the system mean.
 ghost use Rattle.std.specs.Prelude.{◌≡◌};
-ghost use Rattle.bw_net.specs.Meanings.{received_by, ended_by};
+ghost use Rattle.bw_net.specs.Meanings.{received_by, end_found};
 
 use bw_ports::Received;
 use std::io::{self, ErrorKind};
@@ -32,7 +32,7 @@ pub(crate) fn received(read: io::Result<usize>) -> Received
 /// # Errors
 /// Why the look failed.
 pub(crate) fn ended(before: bool, found: io::Result<bool>) -> io::Result<bool>
-    ensures { result ≡ ended_by before found }
+    ensures { result ≡ end_found before found }
 {
     match found {
         Ok(is_found) => Ok(before || is_found),

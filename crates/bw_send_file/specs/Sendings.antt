@@ -68,7 +68,7 @@ outcome_after fault outcomes.Limit = outcomes.Limit
 module _ {P D R W : Type 0} (pause : PauseGhosts P) (dial : DialGhosts D R W) (reader : Reader R)
     (writer : Writer W) where
   -- what this sender was offered was sent on after its feed failed so, and nothing else
-  pub record Settles (most : Option ℕ) (fault : FeedFault) (s : Defined) (sender : Sender)
+  pub record SettlesOffered (most : Option ℕ) (fault : FeedFault) (s : Defined) (sender : Sender)
       (outcome : Outcome FeedFault) (p p' : P) (d d' : D) : Type 0 where
     pub ended : NoMore
     pub ended' : NoMore
@@ -109,7 +109,7 @@ module _ {F P D R W : Type 0} (feed : FeedGhosts F FeedFault) (pause : PauseGhos
     pub failed : ended ≡ outcomes.Feed fault
     pub outcome : Outcome FeedFault
     pub sender : Sender
-    pub settles : Settles pause dial reader writer e.most fault went.last.filling.sender sender outcome
+    pub settles : SettlesOffered pause dial reader writer e.most fault went.last.filling.sender sender outcome
         between.pause new.pause between.dial new.dial
     pub ends : EndsAfter e.path settles.went.last.filling.sender outcome did
     pub undone : did.exit ≢ exits.Done

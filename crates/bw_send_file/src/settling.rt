@@ -3,7 +3,7 @@ ghost use Rattle.std.specs.Prelude.{◌≡◌, false, IfOk, IfErr};
 ghost use Rattle.bw_model.specs.World.{Sender as Defined};
 ghost use Rattle.bw_sender.specs.Senders.{IsSender};
 ghost use Rattle.bw_upload.specs.declared.outcome.Outcome.TheVariants as outcomes;
-ghost use Rattle.bw_send_file.specs.Sendings.{Settles, is_feed_fault, outcome_after as told_after};
+ghost use Rattle.bw_send_file.specs.Sendings.{SettlesOffered, is_feed_fault, outcome_after as defined_outcome};
 
 use crate::fault::FeedFault;
 use bw_ports::{Dial, Pause};
@@ -64,7 +64,7 @@ pub(crate) fn settle<P: Pause, D: Dial, V: Observer>(
     observer: &mut V,
 ) -> Uploaded<FeedFault>
     ensures { (s : Defined) → IsSender s sender →
-        Settles P.Pause D.Dial D.Reader.Source D.Writer.Sink fruitless fault s result.sender
+        SettlesOffered P.Pause D.Dial D.Reader.Source D.Writer.Sink fruitless fault s result.sender
         result.outcome pause.old pause.new dial.old dial.new }
 {
     let mut no_more = NoMore;
@@ -85,7 +85,7 @@ pub(crate) fn settle<P: Pause, D: Dial, V: Observer>(
 
 /// How an upload ends whose feed failed, where sending on ended so.
 fn outcome_after(fault: FeedFault, outcome: Outcome<FeedFault>) -> Outcome<FeedFault>
-    ensures { result ≡ told_after fault outcome }
+    ensures { result ≡ defined_outcome fault outcome }
 {
     match outcome {
         Outcome::Done => Outcome::Feed(fault),
