@@ -33,16 +33,14 @@ accepts_one now o between o' place link next admits others before = (
   suc before.0,
   (
     between,
-    (
-      before.1,
-      record {
-        place = place;
-        next = next;
-        link = link;
-        admits = admits;
-        others = others;
-      },
-    ),
+    before.1,
+    record {
+      place = place;
+      next = next;
+      link = link;
+      admits = admits;
+      others = others;
+    },
   ),
 )
 
