@@ -23,8 +23,8 @@ from cases.states import CASES as CASES_OF_STATES
 from kit.hints import hinted
 from kit.network import CANT_GO_ON, connect, finish, free_port, hear_all, hear_batch, LOCAL, reason, run_cases, TALLY
 from kit.takes import bad_frame, BYE_FRAME, DELAYED_STORE, message, notice, verdict
-from kit.watched import accepted_at, accepted_in_turn, BLOCK, CLOSE, CLOSE_EMPTY, CLOSE_MARKED, DESCRIBE, ENDED, FIRST_LOOK
-from kit.watched import IN_TURN, is_waiting, MANY, MARK, OPEN, OTHER_BLOCK, same_calls, Watched, written
+from kit.watched import accepted_at, accepted_in_turn, BLOCK, CLOSE, CLOSE_EMPTY, CLOSE_MARKED, DESCRIBE, ENDED
+from kit.watched import FIRST_LOOK, IN_TURN, is_waiting, MANY, MARK, OPEN, OTHER_BLOCK, same_calls, Watched, written
 from kit.watcher import Fault, Watcher
 from kit.worked import EMPTY, SMALL
 

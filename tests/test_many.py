@@ -22,8 +22,8 @@ import time
 sys.dont_write_bytecode = True  # nothing is left beside this script
 from kit.network import CANT_GO_ON, close_at_once, connect, connect_deaf, ends_by_signal, free_port, hear, hear_all
 from kit.network import hear_until_it_breaks, LOCAL, LONGEST_WAIT, MANY_ASKS, narrow, reason, Relay, run, run_cases
-from kit.network import same_exchanges, same_file, same_port_in_use, same_settled, send, send_all, Server, start, stopped
-from kit.network import TALLY
+from kit.network import same_exchanges, same_file, same_port_in_use, same_settled, send, send_all, Server, start
+from kit.network import stopped, TALLY
 from kit.takes import ASK, BYE_FRAME, CONFLICT, NEXT, OPEN, STORED
 from kit.takes import bad_frame, little, message, notice, Take, verdict
 
@@ -214,7 +214,8 @@ def case_all_places(folder):
 
 
 def case_few_files(folder):
-    """When no more files can be opened, accepted peers are served, and the others are accepted later. It is said once."""
+    """When no more files can be opened, accepted peers are served, and the others are accepted later; it is said once.
+    """
     server = Server(folder, "--until-stopped", "--recorders", "64", "--idle", "60")
     most = len(os.listdir(f"/proc/{server.process.pid}/fd")) + 8
     resource.prlimit(server.process.pid, resource.RLIMIT_NOFILE, (most, most))

@@ -23,8 +23,8 @@ import threading
 import time
 
 sys.dont_write_bytecode = True  # nothing is left beside this script
-from kit.network import connect, ends_by_signal, free_port, LOCAL, LONGEST_WAIT, narrow, run, run_cases, same_file, same_settled
-from kit.network import send, send_all, Server, stopped, TALLY
+from kit.network import connect, ends_by_signal, free_port, LOCAL, LONGEST_WAIT, narrow, run, run_cases, same_file
+from kit.network import same_settled, send, send_all, Server, stopped, TALLY
 from kit.takes import ASK, BYE_FRAME, message, Take
 
 LONGEST_RUN = 240  # seconds, for all of it
@@ -457,5 +457,8 @@ def bother(server, seed):
 
 
 if __name__ == "__main__":
-    cases = (case_values, case_refused, case_each_path, case_named_statuses, case_slow, case_idle, case_unread, case_folder, case_unbound, case_made_up)
+    cases = (
+        *(case_values, case_refused, case_each_path, case_named_statuses, case_slow, case_idle, case_unread),
+        *(case_folder, case_unbound, case_made_up),
+    )
     sys.exit(run_cases(cases, LONGEST_RUN))

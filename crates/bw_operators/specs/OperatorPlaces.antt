@@ -123,7 +123,8 @@ pub record LetsInOne {L : Type 0} (now : ℕ) (o o' : Operators L) : Type 0 wher
 -- so many were let in, one after another
 abbrev pub LetsOperatorIn : {L : Type 0} → ℕ → ℕ → Operators L → Operators L → Type 0
 LetsOperatorIn now zero o o' = o' ≡ o
-LetsOperatorIn {L} now (suc n) o o' = (between : Operators L) × LetsOperatorIn now n o between × LetsInOne now between o'
+LetsOperatorIn {L} now (suc n) o o' =
+    (between : Operators L) × LetsOperatorIn now n o between × LetsInOne now between o'
 
 -- the connection at a place sends this response from its start
 pub record RespondsAt {L : Type 0} (place : ℕ) (text : List ℕ) (o o' : Operators L) : Type 0 where
