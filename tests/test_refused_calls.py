@@ -23,7 +23,7 @@ sys.dont_write_bytecode = True  # nothing is left beside this script
 from cases.recordings import STEREO
 from kit.hints import hinted
 from kit.network import connect, free_port, hear_batch, hear_until_it_breaks, LOCAL, PROGRAM
-from kit.refused_commands import STEREO_FILE, try_file_senders, try_pictures, try_repairs
+from kit.refused_commands import STEREO_FILE, try_file_senders, try_pictures, try_repairs, try_takes
 from kit.refused_runs import KINDS, LONGEST_RUN, PIPES, Runs, what_a_pack_breaks, what_a_run_breaks, what_an_upload_breaks
 from kit.refuser import Refused
 from kit.repository import ROOT
@@ -378,6 +378,7 @@ def main():
         try_packs(runs, PROGRAM)
         try_pictures(runs, PROGRAM)
         try_repairs(runs, PROGRAM)
+        try_takes(runs, PROGRAM)
         try_senders(runs, PROGRAM, take)
         try_uploads(runs, PROGRAM)
         try_file_senders(runs, PROGRAM)

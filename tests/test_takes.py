@@ -216,15 +216,32 @@ def case_mended(place):
 
 
 def case_unread(place):
-    """A folder that isn't there, or is none, and a file that is a folder."""
+    """A folder that isn't there, or is none."""
     missing = place / "missing"
     TALLY.same("no folder", listed(missing), (3, "", f"{missing} can't be read\n"))
     file = place / "file"
     file.write_bytes(b"")
     TALLY.same("a file", listed(file), (3, "", f"{file} can't be read\n"))
-    folder = folder_in(place)
-    (folder / "a1.journal").mkdir()
-    TALLY.same("a folder as a journal", listed(folder), (3, "", f"{folder} can't be read\n"))
+
+
+def case_odd_entries(place):
+    """An entry that can't be read is named, and the other takes are listed: folders, and links that lead to themselves."""
+    take = small_take("sound")
+    folder = left_by(folder_in(place), [(take, 5)])
+    (folder / "b-stood.wav").write_bytes(b"something else")
+    odd = ("a1.journal", "c3.wav", "t4.closed", "z5.wav", "z6.journal")
+    for name in odd[:3]:
+        (folder / name).mkdir()
+    for name in odd[3:]:
+        (folder / name).symlink_to(name)
+    lines = f"b-stood stood next 0\n{line_of(take, 5)}\n"
+    unread = "".join(f"{folder}/{name} can't be read\n" for name in odd)
+    TALLY.same("odd entries", listed(folder), (3, lines, unread))
+    TALLY.same("odd entries, compared", run("takes", "--check", "--folder", str(folder)), (3, lines, unread))
+    status, out, faults = run("takes", "--json", "--folder", str(folder))
+    TALLY.same("odd entries, JSON", (status, out.count("\n"), faults), (3, 2, unread))
+    (folder / "sound.wav").write_bytes(b"")
+    TALLY.same("odd entries beside a damaged take", listed(folder)[::2], (3, unread))
 
 
 def case_unwritten(place):

@@ -1,53 +1,71 @@
 -- The lines of one take after another.
-use Rattle.std.proofs.Common.{◌≡◌, ℕ, Bool, true, ◌&&◌, List, [], ◌∷◌, ◌++◌, map, sym, ◌∙◌, ap, subst, IsTrue, Bor, arith}
-use Rattle.std.specs.List.{flat_map, list_all}
+use Rattle.std.proofs.Common.{◌≡◌, ℕ, Bool, ◌&&◌, List, [], ◌∷◌, ◌++◌, map, refl, sym, ◌∙◌, ap, subst, IsTrue, Bor}
+use Rattle.std.proofs.Common.{Option, Some, None}
+use Rattle.std.specs.Prelude.{fold, Result, OnOk, Ok, Err}
 use Rattle.std.proofs.Math.Path.{fun_ext}
-use Rattle.std.proofs.lemmas.List.{map-append, append-nil}
-use Rattle.std.proofs.lemmas.List.Concat.{flat_map-append}
-use Rattle.std.proofs.lemmas.List.Folds.{list_all-append}
+use Rattle.std.proofs.lemmas.List.{map-append}
+use Rattle.std.proofs.lemmas.List.Sums.{fold-append}
 use Rattle.bw_disk.specs.DiskSteps.{StaysWhole}
 use Rattle.bw_disk.specs.declared.disk.Disk.{Ghosts}
 use Rattle.bw_takes.specs.declared.listing.LineStyle.{LineStyle}
 use Rattle.bw_takes.specs.declared.comparing.Depth.{Depth}
-use Rattle.bw_takes.specs.TakeReports.{line_in, is_sound_in}
+use Rattle.bw_takes.specs.declared.unread.TakeEntry.{TakeEntry}
+use Rattle.bw_takes.specs.TakeReports.{Told, TellsTake, told_after, nothing_told}
 
 -- the names that were lent so far
 abbrev pub lent : List (Bor (List ℕ)) → List (List ℕ)
 lent ys = map (λ y. y.now) ys
 
-more_lines : (f : List ℕ → List ℕ) (ys : List (Bor (List ℕ))) (y : Bor (List ℕ)) →
-    flat_map f (lent (ys ++ y ∷ [])) ≡ flat_map f (lent ys) ++ f y.now
-more_lines f ys y =
-    ap (flat_map f) (map-append (λ (b : Bor (List ℕ)). b.now) ys (y ∷ [])) ∙ flat_map-append f (lent ys) (y.now ∷ [])
-    ∙ ap (λ (z : List ℕ). flat_map f (lent ys) ++ z) (append-nil (f y.now))
+-- the names of takes
+abbrev pub names_of : List (List ℕ × Option TakeEntry) → List (List ℕ)
+names_of takes = map (λ take. take.0) takes
 
-and_true : (b : Bool) → (b && true) ≡ b
-and_true b = grind arith
+-- what is told of these takes
+pub record TellsOf (style : LineStyle) (depth : Depth) (folder : List ℕ) (contents : List ℕ → Option (List ℕ))
+    (names : List (List ℕ)) (told : Told) : Type 0 where
+  pub takes : List (List ℕ × Option TakeEntry)
+  pub named : names_of takes ≡ names
+  pub tells : told ≡ fold (told_after style depth folder contents) nothing_told takes
 
-more_sound : (p : List ℕ → Bool) (ys : List (Bor (List ℕ))) (y : Bor (List ℕ)) →
-    list_all p (lent (ys ++ y ∷ [])) ≡ (list_all p (lent ys) && p y.now)
-more_sound p ys y =
-    ap (list_all p) (map-append (λ (b : Bor (List ℕ)). b.now) ys (y ∷ [])) ∙ list_all-append p (lent ys) (y.now ∷ [])
-    ∙ ap (λ (v : Bool). list_all p (lent ys) && v) (and_true (p y.now))
+-- nothing of none
+pub tells_none : (style : LineStyle) (depth : Depth) (folder : List ℕ) (contents : List ℕ → Option (List ℕ)) →
+    TellsOf style depth folder contents [] nothing_told
+tells_none style depth folder contents = record { takes = []; named = refl; tells = refl }
 
-module _ {D F : Type 0} (G : Ghosts D F) (style : LineStyle) (depth : Depth) (folder : List ℕ) (d e : D)
-    (same : StaysWhole G d e) (honest : IsTrue (G.honest d)) (ys : List (Bor (List ℕ))) (y : Bor (List ℕ)) where
-  -- one more line, on a disk that is as it was
-  pub line_next : (before after : List ℕ) → before ≡ flat_map (line_in style depth folder (G.contents d)) (lent ys) →
-      (IsTrue (G.honest e) → after ≡ before ++ line_in style depth folder (G.contents e) y.now) →
-      after ≡ flat_map (line_in style depth folder (G.contents d)) (lent (ys ++ y ∷ []))
-  line_next before after so next =
-      next (subst IsTrue (sym same.honest) honest)
-      ∙ ap (λ (c : List ℕ → _). before ++ line_in style depth folder c y.now) (fun_ext (same.contents honest))
-      ∙ ap (λ (z : List ℕ). z ++ line_in style depth folder (G.contents d) y.now) so
-      ∙ sym (more_lines (line_in style depth folder (G.contents d)) ys y)
+-- and one more
+tells_more : (style : LineStyle) (depth : Depth) (folder : List ℕ) (contents : List ℕ → Option (List ℕ))
+    (ys : List (Bor (List ℕ))) (y : Bor (List ℕ)) (before after : Told) →
+    TellsOf style depth folder contents (lent ys) before → TellsTake style depth folder contents y.now before after →
+    TellsOf style depth folder contents (lent (ys ++ y ∷ [])) after
+tells_more style depth folder contents ys y before after so next =
+    let take : List ℕ × Option TakeEntry = (y.now, next.0) in
+    let f = told_after style depth folder contents in
+    record {
+      takes = so.takes ++ take ∷ [];
+      named = map-append (λ (t : List ℕ × Option TakeEntry). t.0) so.takes (take ∷ [])
+          ∙ ap (λ (ns : List (List ℕ)). ns ++ y.now ∷ []) so.named
+          ∙ sym (map-append (λ (b : Bor (List ℕ)). b.now) ys (y ∷ []));
+      tells = next.1 ∙ ap (λ (t : Told). f t take) so.tells ∙ sym (fold-append f nothing_told so.takes (take ∷ []));
+    }
 
-  -- and one more take with which nothing is wrong, or something is
-  pub sound_next : (before after : Bool) → before ≡ list_all (is_sound_in depth folder (G.contents d)) (lent ys) →
-      (IsTrue (G.honest e) → after ≡ (before && is_sound_in depth folder (G.contents e) y.now)) →
-      after ≡ list_all (is_sound_in depth folder (G.contents d)) (lent (ys ++ y ∷ []))
-  sound_next before after so next =
-      next (subst IsTrue (sym same.honest) honest)
-      ∙ ap (λ (c : List ℕ → _). before && is_sound_in depth folder c y.now) (fun_ext (same.contents honest))
-      ∙ ap (λ (v : Bool). v && is_sound_in depth folder (G.contents d) y.now) so
-      ∙ sym (more_sound (is_sound_in depth folder (G.contents d)) ys y)
+-- on a disk that is as it was
+pub tells_next : {D F : Type 0} (G : Ghosts D F) (style : LineStyle) (depth : Depth) (folder : List ℕ) (d e : D) →
+    StaysWhole G d e → IsTrue (G.honest d) → (ys : List (Bor (List ℕ))) (y : Bor (List ℕ)) (before after : Told) →
+    TellsOf style depth folder (G.contents d) (lent ys) before →
+    (IsTrue (G.honest e) → TellsTake style depth folder (G.contents e) y.now before after) →
+    TellsOf style depth folder (G.contents d) (lent (ys ++ y ∷ [])) after
+tells_next G style depth folder d e same honest ys y before after so next =
+    tells_more style depth folder (G.contents d) ys y before after so
+    (subst (λ (c : List ℕ → Option (List ℕ)). TellsTake style depth folder c y.now before after)
+    (fun_ext (same.contents honest)) (next (subst IsTrue (sym same.honest) honest)))
+
+pub told_same : (l m u v : List ℕ) (s t : Bool) → l ≡ m → u ≡ v → s ≡ t →
+    ◌≡◌ {A = Told} (record { lines = l; unread = u; sound = s }) (record { lines = m; unread = v; sound = t })
+told_same l m u v s t p q r =
+    let told : List ℕ → List ℕ → Bool → Told = λ l u s. record { lines = l; unread = u; sound = s } in
+    ap (λ (x : List ℕ). told x u s) p ∙ ap (λ (x : List ℕ). told m x s) q ∙ ap (λ (x : Bool). told m v x) r
+
+-- a success that says something else too
+pub on_ok : {X E P Q : Type 0} (r : Result X E) → (P → Q) → OnOk r P → OnOk r Q
+on_ok (Ok x) f p = f p
+on_ok (Err e) f p = tt

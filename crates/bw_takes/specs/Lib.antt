@@ -3,6 +3,7 @@ pub mod TakeFindings
 pub mod TakeLines
 pub mod TakeSummaries
 pub mod TakeObjects
+pub mod UnreadEntries
 pub mod TakeReports
 pub mod Showings
 pub mod GiveUpShowings

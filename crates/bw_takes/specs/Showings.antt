@@ -1,23 +1,21 @@
 -- What the command `takes` prints and reports, and how it ends.
-use Rattle.std.specs.Prelude.{◌≡◌, ◌⊎◌, ℕ, Bool, true, Option, List, ◌++◌, codes, IsTrue, if◌then◌else◌}
+use Rattle.std.specs.Prelude.{◌≡◌, ◌⊎◌, ◌<◌, ℕ, Bool, true, Option, List, length, IsTrue, if◌then◌else◌}
 use Rattle.bw_console.specs.Faults.{input_fault_text}
 use Rattle.bw_console.specs.Outcomes.{Outcome, IsOutOfMemory}
-use Rattle.bw_console.specs.Prints.{Nothing, Whole, Part, IsOf}
+use Rattle.bw_console.specs.Prints.{Print, Nothing, Whole, Part, IsOf, IsPrint}
 use Rattle.bw_console.specs.Text.{as_line}
+use Rattle.bw_stream.specs.declared.sink.Sink.{Ghosts as Writer}
 use Rattle.bw_console.specs.declared.exit.Exit.{Exit}
 use Rattle.bw_console.specs.declared.exit.Exit.TheVariants as exits
 use Rattle.bw_console.specs.declared.fault.Fault.TheVariants as faults
 use Rattle.bw_takes.specs.declared.listing.LineStyle.{LineStyle}
-use Rattle.bw_takes.specs.TakeReports.{ReportsTakes}
+use Rattle.bw_takes.specs.TakeReports.{ReportsTakes, Told}
+use Rattle.bw_takes.specs.UnreadEntries.{unread_text}
 use Rattle.bw_takes.specs.declared.comparing.Depth.{Depth}
 
 -- how the command ends that has printed its lines
 abbrev pub exit_for : Bool → Exit
 exit_for sound = if sound then exits.Done else exits.Refused
-
--- what is reported of a folder that can't be read
-abbrev pub unread_text : List ℕ → List ℕ
-unread_text folder = folder ++ codes " can't be read\n"
 
 -- these lines are printed
 pub record PrintsAll (lines : List ℕ) (sound : Bool) (did : Outcome) : Type 0 where
@@ -31,13 +29,31 @@ pub record PrintsPart (lines : List ℕ) (did : Outcome) : Type 0 where
   pub reports : IsOf (as_line (input_fault_text faults.Unwritable)) did.faults
   pub exit_is : did.exit ≡ exits.Device
 
+-- these lines are printed, and then reported which files can't be read
+pub record PrintsReadable (lines unread : List ℕ) (did : Outcome) : Type 0 where
+  pub prints : did.out ≡ Whole lines
+  pub reports : IsOf unread did.faults
+  pub exit_is : did.exit ≡ exits.Device
+
+-- the lines are printed, or the writer fails
+abbrev pub PrintsTold : Told → Outcome → Type 0
+PrintsTold told did = ((length told.unread ≡ 0) × PrintsAll told.lines told.sound did)
+    ⊎ ((0 < length told.unread) × PrintsReadable told.lines told.unread did)
+    ⊎ PrintsPart told.lines did
+
+-- after the lines it is reported which files can't be read, if there are any, and the command ends so
+abbrev pub ReportsUnread : {E : Type 0} → Writer E → Told → Exit → E → E → Type 0
+ReportsUnread reported told exit e e' =
+    ((length told.unread ≡ 0) × (exit ≡ exit_for told.sound) × (e' ≡ e))
+    ⊎ ((0 < length told.unread) × (exit ≡ exits.Device)
+    × ((print : Print) × IsOf told.unread print × IsPrint reported print e e'))
+
 -- the takes of a folder are reported
 pub record ShowsReport (style : LineStyle) (depth : Depth) (honest : Bool) (folder : List ℕ)
     (contents : List ℕ → Option (List ℕ)) (did : Outcome) : Type 0 where
-  pub lines : List ℕ
-  pub sound : Bool
-  pub is : IsTrue honest → ReportsTakes style depth folder contents lines sound
-  pub printed : PrintsAll lines sound did ⊎ PrintsPart lines did
+  pub told : Told
+  pub is : IsTrue honest → ReportsTakes style depth folder contents told
+  pub printed : PrintsTold told did
   pub reads : did.reads_all ≡ true
 
 -- the folder can't be read

@@ -1,10 +1,11 @@
 -- What is reported of the takes of a folder.
-use Rattle.std.specs.Prelude.{◌≡◌, ℕ, Bool, true, false, Option, List, codes, flat_map, if◌then◌else◌}
-use Rattle.std.specs.List.{list_all}
+use Rattle.std.specs.Prelude.{◌≡◌, ℕ, Bool, true, false, ◌&&◌, Option, Some, None, List, [], ◌++◌, map, fold}
+use Rattle.std.specs.Prelude.{codes, if◌then◌else◌}
 use Rattle.serde_json.specs.Written.{compact_text}
 use Rattle.bw_console.specs.Text.{as_line}
 use Rattle.bw_journal.specs.Rows.{row_count}
 use Rattle.bw_takes.specs.declared.listing.LineStyle.{LineStyle}
+use Rattle.bw_takes.specs.declared.listing.TakesReport.{TakesReport}
 use Rattle.bw_takes.specs.declared.listing.LineStyle.TheVariants.{Words, Json}
 use Rattle.bw_start.specs.FaultLines.{journal_text, file_cause_text}
 use Rattle.bw_start.specs.Paths.{wave_path}
@@ -18,9 +19,11 @@ use Rattle.bw_takes.specs.TakeSummaries.{TakeSummary, Stands, Unopened, Opened, 
 use Rattle.bw_takes.specs.TakeSummaries.{is_sound_summary, story_summary, take_summary}
 use Rattle.bw_takes.specs.declared.comparing.Depth.{Depth}
 use Rattle.bw_takes.specs.declared.comparing.Depth.TheVariants.{Journals, Samples}
+use Rattle.bw_takes.specs.UnreadEntries.{entry_path, unread_text}
 use Rattle.bw_takes.specs.declared.finding.TakeFinding.{TakeFinding}
 use Rattle.bw_takes.specs.declared.finding.TakeFinding.TheVariants.{Stood, Unbegun, Refused, Begun, Twice}
 use Rattle.bw_takes.specs.declared.finding.TakeFinding.TheVariants.{Changed as HasChanged}
+use Rattle.bw_takes.specs.declared.unread.TakeEntry.{TakeEntry}
 
 -- a cause in one word
 abbrev pub cause_word : Fault → List ℕ
@@ -72,12 +75,50 @@ line_in style depth folder contents name =
 abbrev pub is_sound_in : Depth → List ℕ → (List ℕ → Option (List ℕ)) → List ℕ → Bool
 is_sound_in depth folder contents name = is_sound_summary (summary_in depth folder contents name)
 
--- A line for each take of a folder, in the order of their names' bytes, and whether nothing is wrong
--- with any.
+-- what is told of takes: a line for each that can be read, one for each file that can't, and whether
+-- nothing is wrong with any that can
+pub record Told : Type 0 where
+  pub lines : List ℕ
+  pub unread : List ℕ
+  pub sound : Bool
+
+-- what a report tells
+abbrev pub told_by : TakesReport → Told
+told_by r = record { lines = r.lines.items; unread = r.unread.items; sound = r.sound }
+
+-- nothing yet
+abbrev pub nothing_told : Told
+nothing_told = record { lines = []; unread = []; sound = true }
+
+-- what is told after one more take, of which a file may be one that can't be read
+abbrev pub told_after : LineStyle → Depth → List ℕ → (List ℕ → Option (List ℕ)) → Told →
+    List ℕ × Option TakeEntry → Told
+told_after style depth folder contents told (name, None) = record {
+  lines = told.lines ++ line_in style depth folder contents name;
+  unread = told.unread;
+  sound = told.sound && is_sound_in depth folder contents name;
+}
+told_after style depth folder contents told (name, Some entry) = record {
+  lines = told.lines;
+  unread = told.unread ++ unread_text (entry_path entry folder name);
+  sound = told.sound;
+}
+
+-- one more take is told of
+abbrev pub TellsTake : LineStyle → Depth → List ℕ → (List ℕ → Option (List ℕ)) → List ℕ → Told → Told →
+    Type 0
+TellsTake style depth folder contents name before after = (unread : Option TakeEntry)
+    × (after ≡ told_after style depth folder contents before (name, unread))
+
+-- the line on a file of a take is added
+abbrev pub TellsUnreadEntry : List ℕ → List ℕ → List ℕ → List ℕ → Type 0
+TellsUnreadEntry folder name before after =
+    (entry : TakeEntry) × (after ≡ before ++ unread_text (entry_path entry folder name))
+
+-- This is told of the takes of a folder, in the order of their names' bytes.
 pub record ReportsTakes (style : LineStyle) (depth : Depth) (folder : List ℕ)
-    (contents : List ℕ → Option (List ℕ)) (lines : List ℕ) (sound : Bool) : Type 0 where
-  pub names : List (List ℕ)
-  pub ordered : AreNamesInOrder names
-  pub lists : ListsTakes folder contents names
-  pub text : lines ≡ flat_map (line_in style depth folder contents) names
-  pub clear : sound ≡ list_all (is_sound_in depth folder contents) names
+    (contents : List ℕ → Option (List ℕ)) (told : Told) : Type 0 where
+  pub takes : List (List ℕ × Option TakeEntry)
+  pub ordered : AreNamesInOrder (map (λ take. take.0) takes)
+  pub lists : ListsTakes folder contents (map (λ take. take.0) takes)
+  pub tells : told ≡ fold (told_after style depth folder contents) nothing_told takes

@@ -15,6 +15,7 @@ mod printing;
 mod progress;
 mod row;
 mod screen;
+mod unread;
 mod watching;
 
 pub use comparing::{Depth, examine_take};
@@ -26,4 +27,5 @@ pub use naming::{take_of, takes_in};
 pub use printing::show_takes;
 pub use progress::{ProgressReader, ProgressState, TakeProgress};
 pub use screen::{Row, ScreenStyle};
+pub use unread::TakeEntry;
 pub use watching::{watch_by_reader, watch_takes};

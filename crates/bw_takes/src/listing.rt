@@ -2,15 +2,19 @@
 ghost use Rattle.std.specs.Prelude.{◌≡◌, ◌++◌, ◌&&◌, IsTrue, IfOk, OnOk};
 ghost use Rattle.bw_console.specs.Text.{as_line};
 ghost use Rattle.bw_disk.specs.DiskSteps.{StaysWhole};
-ghost use Rattle.bw_takes.specs.TakeReports.{ReportsTakes, finding_summary, line_in, is_sound_in, styled_line};
+ghost use Rattle.bw_takes.specs.TakeReports.{ReportsTakes, TellsTake, finding_summary, styled_line};
+ghost use Rattle.bw_takes.specs.TakeReports.{TellsUnreadEntry, told_by};
 ghost use Rattle.bw_takes.specs.TakeSummaries.{is_sound_summary};
 
 use crate::comparing::{Depth, examine_take};
 use crate::finding::TakeFinding;
 use crate::json::take_json;
 use crate::naming::takes_in;
+use crate::printing::unread_line;
+use crate::unread::{ending, find_unread};
 use bw_disk::{ReadFault, Volume};
 use bw_request::Name;
+use bw_start::path_in;
 use std::alloc::{AllocError, Global};
 
 /// How a take is reported.
@@ -25,17 +29,19 @@ pub enum LineStyle {
 /// What is reported of a folder's takes.
 #[derive(Drop)]
 pub struct TakesReport {
-    /// A line for each, ended by a line feed.
+    /// A line for each that can be read, ended by a line feed.
     pub lines: Vec<u8>,
-    /// Whether nothing is wrong with any.
+    /// A line for each file that can't be read.
+    pub unread: Vec<u8>,
+    /// Whether nothing is wrong with any that can be read.
     pub sound: bool,
 }
 
-/// A line for each take of a folder, of words or of JSON, in the order of their names' bytes. Nothing
-/// is changed.
+/// A line for each take of a folder that can be read, of words or of JSON, in the order of their
+/// names' bytes, and a line on each file that can't. Nothing is changed.
 ///
 /// # Errors
-/// `Disk` if a call of the disk failed; `Memory` if memory was refused.
+/// `Disk` if the folder can't be listed; `Memory` if memory was refused.
 ///
 /// # Not specified
 /// When memory is refused.
@@ -49,11 +55,12 @@ pub fn report_takes<D: Volume>(
     ensures disk { StaysWhole D.Disk disk.old disk.new }
     // A line follows from the journal's bytes and the file's alone.
     ensures report { IsTrue (D.honest disk.old) → IfOk result (λ report.
-        ReportsTakes style depth folder.now (D.contents disk.old) report.lines.items report.sound) }
+        ReportsTakes style depth folder.now (D.contents disk.old) (told_by report)) }
 {
     let names = takes_in(alloc, disk, folder)?;
     let mut report = TakesReport {
         lines: Vec::new(alloc),
+        unread: Vec::new(alloc),
         sound: true,
     };
     for name in &names {
@@ -62,7 +69,7 @@ pub fn report_takes<D: Volume>(
     Ok(report)
 }
 
-/// Adds the line of a take.
+/// Adds the line of a take, or that on its file that can't be read.
 fn put_take<D: Volume>(
     alloc: Global,
     disk: &mut D,
@@ -73,14 +80,57 @@ fn put_take<D: Volume>(
     report: &mut TakesReport,
 ) -> Result<(), ReadFault>
     ensures disk { StaysWhole D.Disk disk.old disk.new }
-    ensures line { IsTrue (D.honest disk.old) → OnOk result (report.new.lines.items
-        ≡ report.old.lines.items ++ line_in style depth folder.now (D.contents disk.old) name.now) }
-    ensures sound { IsTrue (D.honest disk.old) → OnOk result (report.new.sound
-        ≡ (report.old.sound && is_sound_in depth folder.now (D.contents disk.old) name.now)) }
+    ensures told { IsTrue (D.honest disk.old) → OnOk result (TellsTake style depth folder.now
+        (D.contents disk.old) name.now (told_by report.old) (told_by report.new)) }
 {
-    let finding = examine_take(alloc, disk, folder, name, depth)?;
-    report.sound = report.sound && is_sound(&finding);
-    match put_entry(alloc, style, name, &finding, report) {
+    match examine_take(alloc, disk, folder, name, depth) {
+        Ok(finding) => put_found(alloc, style, name, &finding, report),
+        Err(ReadFault::Disk) => put_unread(alloc, disk, folder, name, report),
+        Err(ReadFault::Memory) => Err(ReadFault::Memory),
+    }
+}
+
+/// Adds the line of a take of which this is found.
+fn put_found(
+    alloc: Global,
+    style: LineStyle,
+    name: &Name,
+    finding: &TakeFinding,
+    report: &mut TakesReport,
+) -> Result<(), ReadFault>
+    ensures line { OnOk result (report.new.lines.items
+        ≡ report.old.lines.items ++ styled_line style name.now (finding_summary finding.now)) }
+    ensures unread { report.new.unread ≡ report.old.unread }
+    ensures sound { report.new.sound
+        ≡ (report.old.sound && is_sound_summary (finding_summary finding.now)) }
+{
+    report.sound = report.sound && is_sound(finding);
+    match put_entry(alloc, style, name, finding, report) {
+        Ok(()) => Ok(()),
+        Err(_) => Err(ReadFault::Memory),
+    }
+}
+
+/// Adds the line on the file of a take that can't be read.
+fn put_unread<D: Volume>(
+    alloc: Global,
+    disk: &mut D,
+    folder: &str,
+    name: &Name,
+    report: &mut TakesReport,
+) -> Result<(), ReadFault>
+    ensures disk { StaysWhole D.Disk disk.old disk.new }
+    ensures unread { OnOk result (TellsUnreadEntry folder.now name.now
+        report.old.unread.items report.new.unread.items) }
+    ensures lines { report.new.lines ≡ report.old.lines }
+    ensures sound { report.new.sound ≡ report.old.sound }
+{
+    let entry = find_unread(alloc, disk, folder, name)?;
+    let path = path_in(alloc, folder, name, ending(entry))?;
+    let Ok(line) = unread_line(alloc, path.as_str()) else {
+        return Err(ReadFault::Memory);
+    };
+    match report.unread.extend_from_slice(line.as_bytes()) {
         Ok(()) => Ok(()),
         Err(_) => Err(ReadFault::Memory),
     }
@@ -96,6 +146,7 @@ fn put_entry(
 ) -> Result<(), AllocError>
     ensures line { OnOk result (report.new.lines.items
         ≡ report.old.lines.items ++ styled_line style name.now (finding_summary finding.now)) }
+    ensures unread { report.new.unread ≡ report.old.unread }
     ensures sound { report.new.sound ≡ report.old.sound }
 {
     match style {

@@ -3,8 +3,10 @@ ghost use Rattle.std.specs.Prelude.{◌≡◌, ◌⊎◌, true, IfOk, string_byt
 ghost use Rattle.bw_console.specs.Outcomes.{Outcome, HasWritten, IsOutOfMemory};
 ghost use Rattle.bw_console.specs.Prints.{IsPrint};
 ghost use Rattle.bw_disk.specs.DiskSteps.{StaysWhole};
-ghost use Rattle.bw_takes.specs.Showings.{IsShowing, IsFolderUnread, PrintsAll, PrintsPart};
-ghost use Rattle.bw_takes.specs.Showings.{exit_for as exit_when, unread_text};
+ghost use Rattle.bw_takes.specs.Showings.{IsShowing, IsFolderUnread, PrintsTold, ReportsUnread};
+ghost use Rattle.bw_takes.specs.Showings.{exit_for as exit_when};
+ghost use Rattle.bw_takes.specs.TakeReports.{told_by};
+ghost use Rattle.bw_takes.specs.UnreadEntries.{unread_text};
 
 use crate::comparing::Depth;
 use crate::listing::{LineStyle, TakesReport, report_takes};
@@ -17,9 +19,10 @@ use std::alloc::{AllocError, Global};
 /// Prints a line for each take of a folder, of words or of JSON, in the order of their names' bytes.
 /// Nothing is locked, and nothing changed.
 ///
-/// `Done` if nothing is wrong with any take, `Refused` if something is; `Device` if the folder can't
-/// be read, which is a line on `faults` and nothing else, or the lines can't be written; `Memory` if
-/// memory was refused.
+/// `Done` if nothing is wrong with any take, `Refused` if something is; `Device` if a file of a take
+/// can't be read, which is a line on `faults` after the lines of the others, or the folder, which is
+/// a line on `faults` and nothing else, or if the lines can't be written; `Memory` if memory was
+/// refused.
 ///
 /// # Not specified
 /// - When memory is refused.
@@ -48,13 +51,24 @@ pub fn show_takes<D: Volume, W: Sink, E: Sink>(
 /// Prints what is reported of takes.
 fn print_report<W: Sink, E: Sink>(report: &TakesReport, out: &mut W, faults: &mut E) -> Exit
     ensures { (did : Outcome) × (did.exit ≡ result) × (did.reads_all ≡ true)
-        × (PrintsAll report.now.lines.items report.now.sound did ⊎ PrintsPart report.now.lines.items did)
+        × PrintsTold (told_by report.now) did
         × HasWritten W.Sink E.Sink did out.old out.new faults.old faults.new }
 {
     match print(out, report.lines.as_slice()) {
-        Ok(()) => exit_for(report.sound),
+        Ok(()) => report_entries(report, faults),
         Err(_) => give_up(faults, &Fault::Unwritable),
     }
+}
+
+/// Reports which files can't be read. Returns how the command ends that has printed its lines.
+fn report_entries<E: Sink>(report: &TakesReport, faults: &mut E) -> Exit
+    ensures { ReportsUnread E.Sink (told_by report.now) result faults.old faults.new }
+{
+    if report.unread.is_empty() {
+        return exit_for(report.sound);
+    }
+    print_diagnostic(faults, report.unread.as_slice());
+    Exit::Device
 }
 
 /// How the command ends that has printed its lines.
@@ -77,8 +91,9 @@ pub(crate) fn report_unread<E: Sink>(alloc: Global, folder: &str, faults: &mut E
     Exit::Device
 }
 
-fn unread_line(alloc: Global, folder: &str) -> Result<String, AllocError>
-    ensures { IfOk result (λ line. string_bytes line ≡ unread_text folder.now) }
+/// The line of a path that can't be read.
+pub(crate) fn unread_line(alloc: Global, path: &str) -> Result<String, AllocError>
+    ensures { IfOk result (λ line. string_bytes line ≡ unread_text path.now) }
 {
-    format!(in alloc; "{folder} can't be read\n")
+    format!(in alloc; "{path} can't be read\n")
 }

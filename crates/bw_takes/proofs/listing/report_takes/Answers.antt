@@ -1,10 +1,23 @@
-use Rattle.std.proofs.Common.{◌≡◌, ◌∙◌, rules, ap}
-use Rattle.std.specs.List.{flat_map, list_all}
+use Rattle.std.proofs.Common.{◌≡◌, ◌∙◌, [], true, refl, rules, subst, sym}
 use Rattle.std.proofs.lemmas.Map.Iter.{iter_end}
 use Rattle.bw_start.proofs.LookForms.{whole_next}
-use Rattle.bw_takes.specs.TakeReports.{line_in, is_sound_in}
-use Rattle.bw_takes.proofs.ListingLemmas.{lent, line_next, sound_next}
+use Rattle.bw_takes.specs.TakeNames.{AreNamesInOrder, ListsTakes}
+use Rattle.bw_takes.proofs.ListingLemmas.{TellsOf, lent, names_of, tells_next, tells_none, told_same}
 use Rattle.bw_takes.proofs.listing.report_takes.Goals as goal
+
+pub loop-name-init : goal.loop-name-init
+loop-name-init g c =
+    let a = c.args in
+    let contents = g.D.Disk.contents a.disk.now in
+    let lines : c.new.result.items ≡ [] = search rules in
+    let unread : c.new-2.result.items ≡ [] = search rules in
+    record {
+      disk = search rules;
+      tells = λ honest.
+          subst (TellsOf a.style a.depth a.folder.now contents [])
+          (sym (told_same c.new.result.items [] c.new-2.result.items [] true true lines unread refl))
+          (tells_none a.style a.depth a.folder.now contents);
+    }
 
 pub loop-name-preserved : goal.loop-name-preserved
 loop-name-preserved g c =
@@ -13,21 +26,20 @@ loop-name-preserved g c =
     let a = c.args in
     record {
       disk = whole_next g.D.Disk _ _ _ i.disk r.disk;
-      lines = λ honest. line_next g.D.Disk a.style a.depth a.folder.now a.disk.now c.loop-name.disk i.disk honest
-          c.loop-name.yielded c.in-Some.name _ _ (i.lines honest) r.line;
-      sound = λ honest. sound_next g.D.Disk a.style a.depth a.folder.now a.disk.now c.loop-name.disk i.disk honest
-          c.loop-name.yielded c.in-Some.name _ _ (i.sound honest) r.sound;
+      tells = λ honest. tells_next g.D.Disk a.style a.depth a.folder.now a.disk.now c.loop-name.disk i.disk honest
+          c.loop-name.yielded c.in-Some.name _ _ (i.tells honest) r.told;
     }
 
 pub returns-clause-report : goal.returns-clause-report
 returns-clause-report g c = λ honest.
     let i = c.loop-name.invariant in
-    let a = c.args in
+    let t = i.tells honest in
     let all : lent c.loop-name.yielded ≡ c.in_ok-names.names.keys = search (rules, iter_end) in
+    let named : names_of t.takes ≡ c.in_ok-names.names.keys = t.named ∙ all in
     record {
-      names = c.in_ok-names.names.keys;
-      ordered = c.in_ok-names.ensures.ordered;
-      lists = c.in_ok-names.ensures.each honest;
-      text = i.lines honest ∙ ap (flat_map (line_in a.style a.depth a.folder.now (g.D.Disk.contents a.disk.now))) all;
-      clear = i.sound honest ∙ ap (list_all (is_sound_in a.depth a.folder.now (g.D.Disk.contents a.disk.now))) all;
+      takes = t.takes;
+      ordered = subst AreNamesInOrder (sym named) c.in_ok-names.ensures.ordered;
+      lists = subst (ListsTakes c.args.folder.now (g.D.Disk.contents c.args.disk.now)) (sym named)
+          (c.in_ok-names.ensures.each honest);
+      tells = t.tells;
     }

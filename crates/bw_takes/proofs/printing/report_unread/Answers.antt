@@ -1,7 +1,7 @@
 use Rattle.std.proofs.Common.{inl, inr, true, refl, sym}
 use Rattle.bw_console.specs.Prints.{Nothing, IsOf}
 use Rattle.bw_console.specs.declared.exit.Exit.TheVariants.{Device}
-use Rattle.bw_takes.specs.Showings.{unread_text}
+use Rattle.bw_takes.specs.UnreadEntries.{unread_text}
 use Rattle.bw_takes.proofs.EndLemmas.{is_out_of_memory, out_of_memory}
 use Rattle.bw_takes.proofs.printing.report_unread.Goals as goal
 

@@ -1,6 +1,17 @@
-use Rattle.std.proofs.Common.{inr, refl, sym}
+use Rattle.std.proofs.Common.{inl, inr, refl, sym}
+use Rattle.bw_takes.specs.TakeReports.{told_by}
 use Rattle.bw_takes.proofs.EndLemmas.{is_out_of_memory, out_of_memory}
 use Rattle.bw_takes.proofs.printing.show_takes.Goals as goal
+
+pub returns-in-Ok : goal.returns-in-Ok
+returns-in-Ok g c =
+    let p = c.print_report.ensures in (
+      p.0,
+      p.1,
+      inl (record { told = told_by c.in-Ok.report; is = c.in-Ok.ensures.report; printed = p.3; reads = p.2 }),
+      c.report_takes.ensures.disk,
+      p.4,
+    )
 
 pub returns-in-Err-Memory : goal.returns-in-Err-Memory
 returns-in-Err-Memory g c =
