@@ -20,11 +20,10 @@ mod resuming;
 mod starting;
 mod watch;
 
-pub use bw_session::JOURNAL_MAX;
-
 pub use adoption::{
     Adoption, FileFacts, Mending, data_end, data_place, file_len, header_of, judge_file,
 };
+pub use bw_session::JOURNAL_MAX;
 pub use ending::{Ending, list_files};
 pub use fault::FileFault;
 pub use finding::{Begun, Finding, NameFault, header_if, is_take, look};

@@ -11,8 +11,11 @@ returns-in-Ok-clause-told g c honest =
     let before = c.args.report.now in
     let line : TakeSummary → _ = λ s. before.lines.items ++ styled_line c.args.style c.args.name.now s in
     on_ok c.put_found.result
-    (λ is. (None, told_same _ _ _ _ _ _ (is ∙ ap line found) (ap (λ v. v.items) f.unread)
-    (f.sound ∙ ap (λ (s : TakeSummary). before.sound && is_sound_summary s) found)))
+    (λ is. (
+      None,
+      told_same _ _ _ _ _ _ (is ∙ ap line found) (ap (λ v. v.items) f.unread)
+          (f.sound ∙ ap (λ (s : TakeSummary). before.sound && is_sound_summary s) found),
+    ))
     f.line
 
 pub returns-in-Err-Disk-clause-told : goal.returns-in-Err-Disk-clause-told
