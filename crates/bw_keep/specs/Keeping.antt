@@ -1,5 +1,5 @@
 -- What a sender does with its spool, besides sending what it holds.
-use Rattle.std.specs.Prelude.{◌≡◌, ◌⊎◌, ◌++◌, ℕ, Bool, true, false, Option, Some, None, List, Result, Ok, Err, codes, decimal}
+use Rattle.std.specs.Prelude.{◌≡◌, ◌⊎◌, ◌++◌, ℕ, zero, suc, Bool, true, false, Option, Some, None, List, Result, Ok, Err, codes, decimal}
 use Rattle.std.specs.IoError.{error_kind}
 use Rattle.std.specs.declared.io.Error.{Error as IoError}
 use Rattle.bw_stream.specs.declared.sink.Sink.{Ghosts as Writer}
@@ -25,10 +25,11 @@ abbrev pub SaysDrawing : Bool → Print → Type 0
 SaysDrawing true print = IsOf drawing_text print
 SaysDrawing false print = print ≡ Nothing
 
--- what a spool holds is said, if it is known and memory isn't refused
+-- what a spool holds is said, if it is known, it holds something, and memory isn't refused
 abbrev pub SaysKept : List ℕ → Option ℕ → Print → Type 0
 SaysKept path None print = print ≡ Nothing
-SaysKept path (Some bytes) print = IsOf (kept_text path bytes) print ⊎ (print ≡ Nothing)
+SaysKept path (Some zero) print = print ≡ Nothing
+SaysKept path (Some (suc n)) print = IsOf (kept_text path (suc n)) print ⊎ (print ≡ Nothing)
 
 module _ {K E : Type 0} (keeper : KeeperGhosts K) (reported : Writer E) where
   -- the spool at a path is held for this line, and nothing is said; or it isn't, which is reported

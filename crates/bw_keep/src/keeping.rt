@@ -95,7 +95,7 @@ fn say_drawing<E: Sink>(is_open: bool, faults: &mut E)
     }
 }
 
-/// Says how many bytes the spool at a path holds, if that is known.
+/// Says how many bytes the spool at a path holds, if that is known and it holds any.
 fn say_kept<E: Sink>(alloc: Global, path: &str, kept: Option<u64>, faults: &mut E)
     ensures { (print : Print) × SaysKept path.now kept print
         × IsPrint E.Sink print faults.old faults.new }
@@ -103,6 +103,9 @@ fn say_kept<E: Sink>(alloc: Global, path: &str, kept: Option<u64>, faults: &mut 
     let Some(bytes) = kept else {
         return;
     };
+    if bytes == 0 {
+        return;
+    }
     let Ok(text) = kept_line(alloc, path, bytes) else {
         return;
     };
