@@ -20,6 +20,7 @@ import threading
 import time
 
 sys.dont_write_bytecode = True  # nothing is left beside this script
+from kit.hints import hinted
 from kit.network import finish, free_port, LOCAL, LONGEST_WAIT, prepare_child, reason, run, run_cases, Server
 from kit.network import start, start_with_pipes, STARTED, TALLY
 from kit.recordings import data, fmt, Recording, riff
@@ -178,10 +179,10 @@ def case_refusals(folder):
         for length, pcm, options, said in REFUSED:
             path = written(folder, bytes(length))
             found = upload(port, "x", path, pcm, *options)
-            TALLY.same(f"{length} bytes as {pcm}", found, (1, "", f"send: {said}\n"))
+            TALLY.same(f"{length} bytes as {pcm}", found, (1, "", hinted("send", said)))
         for pcm, said in (("48000,1,20", "Bits at 0"), ("0,1,16", "Rate at 0"), ("48000,99,16", "Channels at 0")):
             found = upload(port, "x", path, pcm, "--follow", "--until", str(folder / "end"))
-            TALLY.same(f"{pcm}, followed", found, (1, "", f"send: {said}\n"))
+            TALLY.same(f"{pcm}, followed", found, (1, "", hinted("send", said)))
         none = folder / "none.raw"
         missing = (3, "", f"{none} can't be opened: {reason(2)}\n")
         TALLY.same("no file", upload(port, "x", none, "48000,1,16"), missing)
@@ -225,7 +226,7 @@ def case_no_frame(folder):
             path = written(folder, bytes(length))
             followed = ("--follow", "--until", str(end), *options)
             found = upload(server.port, "none", path, "48000,2,16", *followed)
-            TALLY.same(f"{length} bytes followed", found, (1, settled(0), f"send: {said}\n"))
+            TALLY.same(f"{length} bytes followed", found, (1, settled(0), hinted("send", said)))
         left = [file.name for file in (folder / "takes").iterdir() if file.name.startswith("none")]
         TALLY.same("no frame: the takes", left, [])
         path = written(folder, bytes(range(8)))
@@ -306,7 +307,7 @@ def case_end_unknown(folder):
         path = written(folder, samples)
         for name, end in (("long", folder / ("x" * 300)), ("below", path / "end")):
             found = upload(server.port, name, path, "48000,1,16", "--follow", "--until", str(end))
-            TALLY.same(f"an end that is {name}", (found[0], found[2]), (3, "send: Read at 0\n"))
+            TALLY.same(f"an end that is {name}", (found[0], found[2]), (3, hinted("send", "Read at 0")))
             TALLY.holds(f"an end that is {name}", not (folder / "takes" / f"{name}.wav").exists(), "it was made")
 
 

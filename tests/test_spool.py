@@ -19,6 +19,7 @@ import threading
 import time
 
 sys.dont_write_bytecode = True  # nothing is left beside this script
+from kit.hints import OUTAGES, without_outages
 from kit.network import finish, free_port, LOCAL, LONGEST_WAIT, run, run_cases, Server, start, start_with_pipes, TALLY
 
 LONGEST_RUN = 170  # seconds, for all of it
@@ -103,7 +104,7 @@ class Writer(threading.Thread):
 def finish_written(sender):
     """Waits until a sender ends whose input somebody else writes; status, standard output and standard error."""
     out, faults = sender.stdout.read(), sender.stderr.read()
-    return sender.wait(LONGEST_WAIT), out.decode(errors="replace"), faults.decode(errors="replace")
+    return sender.wait(LONGEST_WAIT), out.decode(errors="replace"), without_outages(faults.decode(errors="replace"))
 
 
 def is_whole(name, folder, spool, samples, align, found):
@@ -263,7 +264,8 @@ def case_no_samples(folder):
         is_whole("none", folder, spool, samples, 4, run(*words, given=samples))
         spool = folder / "few.raw"
         found = run(*words_of(server.port, "few", spool, "48000,2,16"), given=bytes(3))
-        TALLY.same("a part of a frame alone", found, (1, settled(0), "send: PartFrame at 0\n"))
+        said = f"send: PartFrame at 0\n{holds_line(spool, 3)}\n"
+        TALLY.same("a part of a frame alone", found, (1, settled(0), said))
         left = [file.name for file in (folder / "takes").iterdir() if file.name.startswith("few")]
         TALLY.same("a part of a frame alone: the takes", left, [])
 
@@ -287,6 +289,14 @@ def case_refusals(folder):
     TALLY.holds("usage", not (folder / "x").exists(), "a spool was made")
 
 
+def next_line(sender):
+    """The next line on a sender's standard error but for hints, and why nothing goes."""
+    for line in sender.stderr:
+        if line.decode() not in OUTAGES and not line.startswith(b"hint: "):
+            return line.decode()
+    return ""
+
+
 def keeps_all(name, folder, port, take, first, status, *options):
     """A sender that can't send on says why while its input goes on, and keeps all of that; what it says to run is right."""
     samples = random.Random(43).randbytes(2 * 200_000)
@@ -294,7 +304,7 @@ def keeps_all(name, folder, port, take, first, status, *options):
     sender = start_with_pipes(*words_of(port, take, spool, "48000,1,16", *options))
     writer = Writer(sender, samples, 44, 0.25)  # some five seconds
     writer.start()
-    said = [sender.stderr.readline().decode(), sender.stderr.readline().decode()]
+    said = [next_line(sender), next_line(sender)]
     is_early = writer.written < len(samples) // 2
     TALLY.same(f"{name}: said at once", said, [f"{first}\n", f"{KEEPS}\n"])
     TALLY.holds(f"{name}: said at once", is_early, f"after {writer.written} bytes")
@@ -375,17 +385,6 @@ def case_other_use(folder):
         TALLY.same("anew", side.read_text(), "name=anew pcm=44100,1,16 skip=0\n")
 
 
-def case_no_file(folder):
-    """A spool that is a pipe or a device is refused, and isn't waited for."""
-    pipe = folder / "pipe"
-    os.mkfifo(pipe)
-    for path in (pipe, "/dev/null"):
-        begun = time.monotonic()
-        found = run(*words_of(free_port(), "x", path, "48000,1,16"), given=bytes(8))
-        TALLY.same(f"{path} as a spool", found, (3, "", f"{path} can't be opened: it isn't a file\n"))
-        TALLY.holds(f"{path} as a spool", time.monotonic() - begun < SOON, "it was waited for")
-
-
 def case_full_disk(folder):
     """A disk that is full: a line says so, what the spool holds is sent, and nothing after it."""
     disk = folder / "disk"
@@ -425,7 +424,6 @@ CASES = [
     case_given_up,
     case_one_sender,
     case_other_use,
-    case_no_file,
     case_no_answer,
     case_full_disk,
     case_link_down,
