@@ -90,9 +90,16 @@ pub joined : IsJoined a1 small_take worked_links worked_trace
 joined = record {
   own_links = λ n l has. each-contains (λ x. IsOwnLink a1 small_take (own x.0 worked_trace) x.1) worked_links (n, l)
       (cut, (whole, tt)) has;
-  alone = λ k a m has e same. each-contains (λ t. IsLinked t.0 t.1.frame) worked_trace (k, a)
-      (cut_linked (says 0 (Open mono [])), (other_linked, (whole_linked (says 0 (Open mono [])),
-      (whole_linked (says 1 (Block two_frames)), (whole_linked (says 2 (Close 2)), tt))))) has m e same;
+  alone = λ k a m has e same. each-contains (λ t. IsLinked t.0 t.1.frame) worked_trace (k, a) (
+    cut_linked (says 0 (Open mono [])),
+    (
+      other_linked,
+      (
+        whole_linked (says 0 (Open mono [])),
+        (whole_linked (says 1 (Block two_frames)), (whole_linked (says 2 (Close 2)), tt)),
+      ),
+    ),
+  ) has m e same;
 }
 
 pub worked : WorkedDeliveryExample

@@ -17,7 +17,8 @@ use std::alloc::{AllocError, Global};
 const DRAWING: &[u8] = b"send: the input is kept in the spool until it ends\n";
 
 /// What is said after the count of the bytes that a spool holds.
-const HELD: &[u8] = b" bytes; run this with '--file' in the place of '--spool' to send them, with another '--name' if this one was refused\n";
+const HELD: &[u8] =
+    b" bytes; run this with '--file' in the place of '--spool' to send them, with another '--name' if this one was refused\n";
 
 /// Holds the spool at a path for a purpose.
 ///
@@ -72,12 +73,7 @@ pub fn keep_unless_done<K: SpoolKeeper, E: Sink>(
 }
 
 /// Keeps what still comes, and says what the spool holds then.
-fn keep_rest<K: SpoolKeeper, E: Sink>(
-    alloc: Global,
-    path: &str,
-    keeper: &mut K,
-    faults: &mut E,
-)
+fn keep_rest<K: SpoolKeeper, E: Sink>(alloc: Global, path: &str, keeper: &mut K, faults: &mut E)
     ensures { KeepsRest K.SpoolKeeper E.Sink path.now keeper.old keeper.new faults.old faults.new }
 {
     say_drawing(keeper.is_open(), faults);

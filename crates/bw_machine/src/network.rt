@@ -168,7 +168,14 @@ impl<'a> Network for TcpNetwork<'a> {
     }
 
     fn dial(&self, address: SocketAddr, timeout: Option<u32>) -> TcpDial<'a> {
-        TcpDial::new(self.rt, self.spool, self.causes, address, span(timeout), None)
+        TcpDial::new(
+            self.rt,
+            self.spool,
+            self.causes,
+            address,
+            span(timeout),
+            None,
+        )
     }
 }
 
@@ -179,7 +186,14 @@ impl<'a> PacedNetwork for TcpNetwork<'a> {
         timeout: Option<u32>,
         rate: Option<u32>,
     ) -> TcpDial<'a> {
-        TcpDial::new(self.rt, self.spool, self.causes, address, span(timeout), rate)
+        TcpDial::new(
+            self.rt,
+            self.spool,
+            self.causes,
+            address,
+            span(timeout),
+            rate,
+        )
     }
 }
 

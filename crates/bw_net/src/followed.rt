@@ -86,7 +86,6 @@ impl<'a> FollowedFile<'a, File> {
             failures: 0,
         })
     }
-
 }
 
 impl<R> FollowedFile<'_, R> {

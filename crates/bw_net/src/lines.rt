@@ -155,7 +155,11 @@ impl Room {
         if self.watch(fd, token).is_err() {
             return true;
         }
-        if self.poll.poll(&mut self.events, Some(Duration::ZERO)).is_err() {
+        if self
+            .poll
+            .poll(&mut self.events, Some(Duration::ZERO))
+            .is_err()
+        {
             return true;
         }
         for event in self.events.iter() {

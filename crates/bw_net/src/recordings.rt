@@ -2,9 +2,9 @@
 ghost use Rattle.std.specs.Prelude.{◌≡◌, ◌+◌, ◌*◌, ◌-◌, ◌^◌, min, None};
 
 use crate::counting::counted;
-use crate::kinds::kind_of;
 use crate::followed::FollowedFile;
 use crate::host::open_source;
+use crate::kinds::kind_of;
 use crate::spool::SpoolCell;
 use crate::states::HostStates;
 use crate::stopwatch::ClockStopwatch;

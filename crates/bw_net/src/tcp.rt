@@ -73,11 +73,7 @@ impl<'a> TcpDial<'a> {
 type ServerStream<'a> = StdIo<NotedStream<'a, LinkStream<'a>>>;
 
 /// Writes to a server, no faster than the rate that is asked for, if there is one.
-type PacedStream<'a> = PacedSink<
-    ServerStream<'a>,
-    SpoolPause<'a>,
-    ClockStopwatch<&'a HostRuntime>,
->;
+type PacedStream<'a> = PacedSink<ServerStream<'a>, SpoolPause<'a>, ClockStopwatch<&'a HostRuntime>>;
 
 impl<'a> Dial for TcpDial<'a> {
     ghost use Rattle.bw_net.specs.SeenLinks.{dial_address, dial_timeout, dial_rate, dial_failures};
@@ -96,11 +92,20 @@ impl<'a> Dial for TcpDial<'a> {
 
     fn dial(&mut self) -> Result<Duplex<ServerStream<'a>, PacedStream<'a>>, DialFault> {
         let causes = self.causes;
-        match noted(connect(self.rt, self.spool, self.address, self.timeout), causes) {
+        match noted(
+            connect(self.rt, self.spool, self.address, self.timeout),
+            causes,
+        ) {
             Ok((reader, writer)) => {
                 causes.note(None);
-                let reader = StdIo::new(NotedStream { stream: reader, causes });
-                let writer = StdIo::new(NotedStream { stream: writer, causes });
+                let reader = StdIo::new(NotedStream {
+                    stream: reader,
+                    causes,
+                });
+                let writer = StdIo::new(NotedStream {
+                    stream: writer,
+                    causes,
+                });
                 let pause = SpoolPause::new(self.rt, self.spool);
                 let stopwatch = ClockStopwatch::new(self.rt);
                 let writer = PacedSink::new(writer, self.rate, pause, stopwatch);

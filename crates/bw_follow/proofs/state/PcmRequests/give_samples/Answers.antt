@@ -142,12 +142,15 @@ returns-clause-left g c rest e =
     )
 
 pub returns-clause-by : goal.returns-clause-by
-returns-clause-by g c = (λ ends.
-    let held : length c.bytes-held.result.now ≡ length c.read_on.new.self.held = ap length c.bytes-held.ensures.value in
-    let part = c.if-part-held.false in
-    let zero_part = c.if-part-gt0.false in
-    record {
-      close = c.in-Ok-copy_of.ensures.ok;
-      none = omega (arith, held, part, zero_part);
-      complete = c.read_on.ensures.stays (search rules);
-    }, tt)
+returns-clause-by g c = (
+  λ ends.
+      let held : length c.bytes-held.result.now ≡ length c.read_on.new.self.held = ap length c.bytes-held.ensures.value in
+      let part = c.if-part-held.false in
+      let zero_part = c.if-part-gt0.false in
+      record {
+        close = c.in-Ok-copy_of.ensures.ok;
+        none = omega (arith, held, part, zero_part);
+        complete = c.read_on.ensures.stays (search rules);
+      },
+  tt,
+)
