@@ -58,8 +58,8 @@ reported-help texts.DisplayVersion outcome text out reported n p t =
     record { outcome = outcome; exit_is = refl; reads = refl; text = text; prints = p; reports = t }
 reported-help _ outcome text out reported n p t = absurd (n ((λ e. cc), (λ e. cc)))
 
-module _ {S T F H G M SB SL Ed LK DK DF N X Y Z P R W L K SP SK D A B U J Q I O E V C VR : Type 0}
-    (host : HostSide S T F H G M SB SL Ed LK DK DF I O E)
+module _ {S T F H G M SB SL KP Ed LK DK DF N X Y Z P R W L K SP SK D A B U J Q I O E V C VR : Type 0}
+    (host : HostSide S T F H G M SB SL KP Ed LK DK DF I O E)
     (server_side : ServerSide X Y Z P R W L K N SP SK) (sender_side : SenderSide D A B)
     (upload_side : UploadSide U J Q) (network : NetworkGhosts N X P D R W A B)
     (listener_setup : ListenerSetupGhosts N L K)

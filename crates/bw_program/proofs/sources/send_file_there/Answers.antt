@@ -17,7 +17,7 @@ returns-then-is_odd g c =
       }),
     )
 
-pub returns-then-sender : goal.returns-then-log
+pub returns-then-sender : goal.returns-then-sender
 returns-then-sender g c = (
   c.kind_at-kind.result,
   rw c.as_str-path.ensures.value at c.kind_at-kind.ensures,
