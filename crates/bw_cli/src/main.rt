@@ -4,7 +4,7 @@
 use bw_causes::CauseCell;
 use bw_disk::SystemDisk;
 use bw_machine::{TcpNetwork, Terminal};
-use bw_net::{ClockStopwatch, Host, HostRecordings, LineCell, LineSink, SpoolCell, SpoolPause};
+use bw_net::{ClockStopwatch, Host, HostRecordings, LineCell, SpoolCell, SpoolPause};
 use bw_one_name::FilteredNetwork;
 use bw_outages::{LastOutage, OutageReports};
 use bw_program::{Outside, start};
@@ -33,11 +33,11 @@ fn main(rt: HostRuntime) -> ExitCode {
         },
         input: StdIo::new(rt.stdin()),
         out: ClearingSink {
-            inner: LineSink::new(rt.alloc(), &lines, rt.stdout()),
+            inner: StdIo::new(rt.stdout()),
             line: LineHandle { shared: &line },
         },
         faults: ClearingSink {
-            inner: LineSink::new(rt.alloc(), &lines, rt.stderr()),
+            inner: StdIo::new(rt.stderr()),
             line: LineHandle { shared: &line },
         },
         watch: OutageReports {
