@@ -21,7 +21,7 @@ import time
 sys.dont_write_bytecode = True  # nothing is left beside this script
 from kit.network import CANT_GO_ON, close_at_once, connect, connect_deaf, ends_by_signal, free_port, hear, hear_all
 from kit.network import hear_until_it_breaks, LOCAL, LONGEST_WAIT, MANY_ASKS, reason, Relay, run, run_cases
-from kit.network import same_exchanges, same_file, same_port_in_use, same_settled, send, send_all, Server, start
+from kit.network import same_exchanges, same_file, same_port_in_use, same_settled, send, send_all, Server
 from kit.network import stopped, TALLY
 from kit.takes import ASK, BYE_FRAME, CONFLICT, NEXT, OPEN, STORED
 from kit.takes import bad_frame, little, message, notice, Take, verdict
