@@ -20,7 +20,7 @@ import time
 sys.dont_write_bytecode = True  # nothing is left beside this script
 from cases.disks import case_bad_folder, case_folder_goes_away, case_full_disk, case_name_taken
 from cases.peers import case_bad_servers, case_cut_client, case_deaf_peer, case_garbage, case_silent_peer
-from kit.hints import hinted
+from kit.hints import hinted, REFUSED
 from kit.network import connect, ends_by_signal, Fault, finish, free_port, hear_all, LEAST_LIMIT, LOCAL, LONGEST_WAIT, Relay
 from kit.network import run, run_cases, same_exchanges, same_file, same_port_in_use, same_replay, same_settled, send
 from kit.network import send_all, send_words, Server, start, start_with_pipes, stopped, TALLY, UNSETTLED, WINDOW
@@ -112,7 +112,7 @@ def case_progress(folder):
     TALLY.same("progress", output, (0, f"settled {count}\nstored {count}\n", progress_lines(take, settled)))
     for options, rounds in (((), 16), (("--rounds", "2"), 2)):
         output = send_on_terminal(free_port(), take, *options)
-        wanted = progress_lines(take, [0] * rounds) + UNSETTLED
+        wanted = REFUSED + progress_lines(take, [0] * rounds) + UNSETTLED
         TALLY.same(f"no progress in {rounds} rounds", output, (3, "settled 0\nstored 0\n", wanted))
     ends_by_signal("progress", server)
 
