@@ -24,7 +24,7 @@ from cases.recordings import STEREO
 from kit.hints import hinted
 from kit.network import connect, free_port, hear_batch, hear_until_it_breaks, LOCAL, PROGRAM
 from kit.refused_commands import STEREO_FILE, try_file_senders, try_pictures, try_repairs, try_takes
-from kit.refused_runs import KINDS, LONGEST_RUN, PIPES, Runs, what_a_pack_breaks, what_a_run_breaks, what_an_upload_breaks
+from kit.refused_runs import is_prefix, KINDS, LONGEST_RUN, PIPES, Runs, what_a_pack_breaks, what_a_run_breaks, what_an_upload_breaks
 from kit.refuser import Refused
 from kit.repository import ROOT
 from kit.takes import BYE_FRAME, message, STORED, Take, verdict

@@ -1,5 +1,6 @@
 """Runs of the program that must end as the documents say, whatever they are given."""
 import os
+import re
 import subprocess
 from collections import namedtuple
 
@@ -57,8 +58,8 @@ def is_well_ended(ended):
         lines = ended.faults.split("\n")
         is_named = lines[0].startswith("error: ") or lines[0] == "the command line can't be read"
         return is_named and ended.out == b"" and "panic" not in ended.faults
-    one_line = ended.faults.count("\n") == 1 and ended.faults.endswith("\n")
-    return ended.status in (1, 3) and one_line and ended.out == b"" and "panic" not in ended.faults
+    is_line = re.fullmatch(r"[^\n]*\n(hint: [^\n]*\n)?", ended.faults) is not None  # and a hint below it
+    return ended.status in (1, 3) and is_line and ended.out == b"" and "panic" not in ended.faults
 
 
 def done_well(ended):
