@@ -23,7 +23,7 @@ sys.dont_write_bytecode = True  # nothing is left beside this script
 from cases.recordings import STEREO
 from kit.hints import hinted
 from kit.network import connect, free_port, hear_batch, hear_until_it_breaks, LOCAL, PROGRAM
-from kit.refused_commands import STEREO_FILE, try_file_senders, try_pictures, try_repairs, try_takes
+from kit.refused_commands import STEREO_FILE, try_pictures, try_repairs
 from kit.refused_runs import is_prefix, KINDS, LONGEST_RUN, PIPES, Runs, what_a_pack_breaks, what_a_run_breaks, what_an_upload_breaks
 from kit.refuser import Refused
 from kit.repository import ROOT
@@ -169,7 +169,8 @@ def what_a_prefix_breaks(kind, found, wanted):
     """A refused read is reported with the place of the next byte, which is 690 at the pipe's end."""
     if wanted != (1, b"", hinted("inspect", "Truncated at 682").encode(), 690):
         return "the end of the pipe isn't found"
-    return None if found == (3, b"", b"inspect: Read at %d\n" % found[3], found[3]) else "another fault"
+    wanted = hinted("inspect", f"Read at {found[3]}").encode()
+    return None if found == (3, b"", wanted, found[3]) else "another fault"
 
 
 class Recorded:
@@ -378,10 +379,7 @@ def main():
         try_packs(runs, PROGRAM)
         try_pictures(runs, PROGRAM)
         try_repairs(runs, PROGRAM)
-        try_takes(runs, PROGRAM)
         try_senders(runs, PROGRAM, take)
-        try_uploads(runs, PROGRAM)
-        try_file_senders(runs, PROGRAM)
         try_servers(runs, PROGRAM, take)
         if "--tests" in sys.argv:
             try_tests(runs)

@@ -228,6 +228,10 @@ def changed_while_sent(folder, name, change):
         with connect(server.port) as there, contextlib.suppress(OSError):
             pass_both_ways({peer: there, there: peer}, {peer: 1 << 40, there: 1 << 40})
         peer.close()
+        last, _ = listener.accept()  # what was read before is settled over another link
+        with connect(server.port) as there, contextlib.suppress(OSError):
+            pass_both_ways({last: there, there: last}, {last: 1 << 40, there: 1 << 40})
+        last.close()
         status, out, said = finish(sender)
     counts = re.fullmatch(r"settled (\d+)\nstored (\d+)\n", out)
     is_so = status == 1 and said == CHANGED and counts and int(counts[1]) == int(counts[2]) < 102
