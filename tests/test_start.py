@@ -7,19 +7,23 @@ Needs the tools of a POSIX system. Takes no argument. Prints what differs, and l
 """
 import contextlib
 import hashlib
+import os
 import pathlib
 import shutil
 import subprocess
 import sys
 import tempfile
+import time
 
 sys.dont_write_bytecode = True  # nothing is left beside this script
 from kit.processes import seconds_of_children
 from kit.repository import ROOT
 from kit.tally import Tally
 
-TOOLS = "sh awk cat cp cut dirname env find mkdir printf readlink sed sha256sum sort xargs".split()
+TOOLS = "sh awk cat cmp cp cut dirname env find mkdir mv printf readlink rm sed sha256sum sort xargs".split()
 LONGEST_START = 1.0  # processor seconds, since others may use the machine too
+LONGEST_NEXT_START = 0.2  # where no file has changed, so that nothing is digested
+SETTLED = 2.5  # seconds after a change from which a start is noted
 BUILD_FAILED = 125
 NO_TOOLCHAIN = "rt is not on the PATH"
 ELF_MACHINE = 18  # the place of the two bytes that name a program's processor
@@ -101,6 +105,22 @@ def try_changes(copy, path):
             starts_at_once(f"another {name}", program, path)
 
 
+def try_next_starts(copy, path):
+    """A start after which no file has changed digests nothing; a file that has is seen, also with its times put back."""
+    program, noted = copy / "bwingest", copy / "out/taken"
+    time.sleep(SETTLED)
+    starts_at_once("a start that is noted", program, path)
+    TALLY.holds("a start that is noted", noted.exists(), "out/taken isn't there")
+    seconds = min(started(program, path, "--version")[3] for _ in range(3))
+    TALLY.holds("the next start", seconds < LONGEST_NEXT_START, f"it took {seconds:.2f} s")
+    file = copy / "crates/bw_layout/src/lib.rt"
+    was = file.stat()
+    with changed(file, lambda content: content.replace(b"//!", b"//?", 1)):
+        os.utime(file, ns=(was.st_atime_ns, was.st_mtime_ns))
+        builds("another file of the same size and time", program, path, "was built from other sources")
+    starts_at_once("the file as it was", program, path)
+
+
 def try_another_machine(copy, path):
     """A program for a processor of another kind, which no kernel here runs."""
     release = copy / "release"
@@ -150,6 +170,7 @@ def main():
         starts_at_once("a fresh copy", copy / "bwingest", path)
         (work / "linked").symlink_to(copy / "bwingest")
         starts_at_once("through a link", work / "linked", path)
+        try_next_starts(copy, with_python)
         try_changes(copy, with_python)
         try_another_machine(copy, with_python)
         try_second(copy, path)
