@@ -85,6 +85,14 @@ class Journaled(Watched):
         samples = [f"sync-data {name}.wav"] * (name in self.made)
         return [take, *samples, *calls, f"sync-data {name}.journal", *self.folder_calls(name)]
 
+    def begin_calls(self, name):
+        """The calls that begin the journal of a new name: with `--sync` it is on the disk before its take's file is made."""
+        calls = [*looked_up(name), *begun(name)]
+        if not self.is_synced:
+            return calls
+        self.listed[name] = False
+        return [*calls, f"sync-data {name}.journal", *FOLDER_SYNCED]
+
     def folder_calls(self, name):
         """The folder is synced if the journal or the take's file is new in it."""
         has_take = name in self.made
@@ -97,7 +105,7 @@ class Journaled(Watched):
         self.numbers[name] += 1
         content = bytes.fromhex(request[0])
         if before is None:
-            before = [*looked_up(name), *begun(name)] if number == 0 else []
+            before = self.begin_calls(name) if number == 0 else []
         file_calls = request[1](name) if code == STORED else []
         self.made |= {name} if request is OPEN and code == STORED else set()
         noted = entry(name, number, content, code)
@@ -152,20 +160,29 @@ def case_noted_again(folder):
     it.ends("failed notes", [0])
 
 
-def case_stopped(folder):
-    """After a failed sync a name has no note more, and another name has."""
-    it = Journaled(folder, "--sync", faults=[Fault("sync-data a1.journal")])
+def stops_at(folder, file):
+    """After a failed sync of this file a name has no note more, and another name has."""
+    it = Journaled(folder, "--sync", faults=[Fault(f"sync-data {file}")])
     peer = it.comes(accepted_in_turn(7))
     it.made.add("a1")
-    calls = it.note_calls("a1", entry("a1", 0, bytes.fromhex(OPEN[0])))
-    until = calls.index("sync-data a1.journal")
-    before = [*looked_up("a1"), *begun("a1"), *OPEN[1]("a1")]
-    it.is_delayed(peer, "a1", OPEN, [*before, *calls[:until], f"sync-data a1.journal fails {errno.EIO}"])
+    noted = entry("a1", 0, bytes.fromhex(OPEN[0]))
+    calls = [*it.begin_calls("a1"), *OPEN[1]("a1"), *it.note_calls("a1", noted)]
+    until = calls.index(f"sync-data {file}")
+    it.is_delayed(peer, "a1", OPEN, [*calls[:until], f"sync-data {file} fails {errno.EIO}"])
     again = ["seek a1.journal 0", f"read a1.journal {header('a1').hex()}"]
     it.is_delayed(peer, "a1", OPEN, again)
     it.asks(peer, "b2", OPEN)
     it.goes(peer, 0)
-    it.ends("a failed sync", [0])
+    it.ends(f"a failed sync of {file}", [0])
+
+
+def case_stopped_at_its_header(folder):
+    """No take's file is made beside a journal whose header isn't on the disk."""
+    stops_at(folder, "a1.journal")
+
+
+def case_stopped_at_its_samples(folder):
+    stops_at(folder, "a1.wav")
 
 
 def goes_on(folder, what, *options):
@@ -217,5 +234,7 @@ def case_set_aside(folder):
     it.ends("a file that is set aside", [0])
 
 
-CASES = [case_noted, case_noted_and_synced, case_noted_again, case_stopped, case_resumed, case_resumed_and_synced,
-    case_set_aside]
+CASES = [
+    *(case_noted, case_noted_and_synced, case_noted_again, case_stopped_at_its_header, case_stopped_at_its_samples),
+    *(case_resumed, case_resumed_and_synced, case_set_aside),
+]

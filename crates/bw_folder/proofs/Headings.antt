@@ -1,7 +1,7 @@
 -- What putting a header at the start of a file leaves.
 use Rattle.std.proofs.Common.{◌≡◌, ◌∙◌, ℕ, ◌+◌, ◌<◌, ◌≤◌, List, ◌++◌, length, take, drop, Option, Some, None, refl, sym, ap, subst}
-use Rattle.std.proofs.Common.{arith, inl, inr, IsSome, true, false}
-use Rattle.std.specs.Prelude.{min, option_map}
+use Rattle.std.proofs.Common.{arith, inl, inr, IsSome, true, false, ◌⊎◌}
+use Rattle.std.specs.Prelude.{min, option_map, OnErr, Result, Ok, Err}
 use Rattle.std.proofs.lemmas.List.{take_all, take-append-drop, length-append}
 use Rattle.bw_model.proofs.Elements.{some_inj}
 use Rattle.bw_store.specs.Stores.{Written, overwritten}
@@ -84,3 +84,22 @@ module _ (h room : List ℕ) (count : ℕ) (content : Option (List ℕ)) (n : �
           let eq : h ++ rest ≡ found = some_inj (sym e ∙ is) in
           let size : length h + length rest ≡ length found = sym (length-append h rest) ∙ ap length eq in
           omega (arith, size, counted, less, long)
+
+-- it is there whole, and stays
+pub started_in_part : (h : List ℕ) (before mid after : Option (List ℕ)) → Starts h before mid → after ≡ mid →
+    StartsInPart h before after
+started_in_part h before mid after starts same = record {
+  prefix = λ p. inr (length h, same ∙ starts.written p ∙ ap Some (sym (take_all (length h) h (omega arith))));
+  kept = λ w. same ∙ starts.kept w;
+  only = kept_or starts.only;
+}
+  where
+    kept_or : (mid ≡ before) ⊎ IsPrefixOf h before → (after ≡ before) ⊎ IsPrefixOf h before
+    kept_or (inl is) = inl (same ∙ is)
+    kept_or (inr p) = inr p
+
+-- the same if what followed failed
+pub failed_started : {T E : Type 0} (r : Result T E) (h : List ℕ) (before mid after : Option (List ℕ)) →
+    Starts h before mid → after ≡ mid → OnErr r (StartsInPart h before after)
+failed_started (Ok x) h before mid after starts same = tt
+failed_started (Err e) h before mid after starts same = started_in_part h before mid after starts same

@@ -1,5 +1,6 @@
 -- In which order a note and what it speaks of are synced.
-use Rattle.std.specs.Prelude.{◌≡◌, ◌⊎◌, ℕ, List, IsSome, IsTrue, OnOk, Result, Option}
+use Rattle.std.specs.Prelude.{◌≡◌, ◌⊎◌, ℕ, Bool, false, List, IsSome, IsTrue, OnOk, Result, Option}
+use Rattle.bw_store.specs.Stores.{KeepsOthers}
 use Rattle.bw_disk.specs.Disks.{AsksOnce}
 use Rattle.bw_disk.specs.Volumes.{KeepsEach}
 use Rattle.bw_disk.specs.declared.disk.Disk.{Ghosts}
@@ -7,6 +8,16 @@ use Rattle.bw_disk.specs.declared.disk.Disk.{Ghosts}
 -- what is at a path, if anything, is synced as it is
 abbrev pub IsSyncedAt : (List ℕ → Option (List ℕ)) → (List ℕ → Option (List ℕ)) → List ℕ → Type 0
 IsSyncedAt contents synced path = IsSome (contents path) → synced path ≡ contents path
+
+-- The journal of a name begins: no other file changes. Without syncs nothing is synced; with them the
+-- journal is, if the call succeeds.
+pub record BeginsFile {D F T E : Type 0} (G : Ghosts D F) (sync : Bool) (answer : Result T E)
+    (journal_path : List ℕ) (old new : D) : Type 0 where
+  pub honest : G.honest new ≡ G.honest old
+  pub others : IsTrue (G.honest old) → KeepsOthers (G.contents old) (G.contents new) journal_path
+  pub plain : sync ≡ false → IsTrue (G.honest old) → KeepsEach (G.synced old) (G.synced new)
+  pub journal : IsTrue sync → IsTrue (G.honest old) →
+      OnOk answer (IsSyncedAt (G.contents new) (G.synced new) journal_path)
 
 -- A note without syncs: one call of the disk, or none if it fails, and nothing more is synced.
 pub record NotesPlainly {D F T E : Type 0} (G : Ghosts D F) (answer : Result T E) (old new : D) :

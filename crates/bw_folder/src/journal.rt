@@ -5,13 +5,13 @@ ghost use Rattle.std.specs.Prelude.{OnOk, OnErr, string_bytes, is_err, false, tr
 ghost use Rattle.std.specs.List.{All};
 ghost use Rattle.bw_store.specs.Stores.{Counts, KeepsOthers};
 ghost use Rattle.bw_disk.specs.Disks.{AsksOnce};
-ghost use Rattle.bw_disk.specs.DiskSteps.{StaysWhole, ChangesAt};
+ghost use Rattle.bw_disk.specs.DiskSteps.{StaysWhole};
 ghost use Rattle.bw_journal.specs.Notes.{BeginsNotes, BeginsInPart, Notes, NotesInPart};
 ghost use Rattle.bw_journal.specs.Notes.{KeepsHeaders};
 ghost use Rattle.bw_folder.specs.Folders.{take_path as path_of_take};
 ghost use Rattle.bw_folder.specs.Journals.{journal_path as path_of_journal, existence_of};
 ghost use Rattle.bw_folder.specs.Journals.{adopted_by, adopted_header};
-ghost use Rattle.bw_folder.specs.SyncOrders.{NotesPlainly, SyncsInOrder};
+ghost use Rattle.bw_folder.specs.SyncOrders.{BeginsFile, NotesPlainly, SyncsInOrder};
 
 use crate::noting::find;
 use crate::paths::journal_path;
@@ -63,9 +63,10 @@ impl<F: Drop> OpenJournal<F> {
 /// and `note` for a name that was neither begun nor adopted. A note that fails leaves a prefix of
 /// its bytes, which the next note of the same bytes writes over.
 ///
-/// With `sync` a note is made in steps: the take's file is synced, the bytes are appended, and the
-/// journal is synced. The folder is synced too after the first note since the journal was opened,
-/// and after the first that finds the take's file. So no note of this journal survives a loss of power
+/// With `sync` a journal that begins is synced, and the folder, before any file of its take is made.
+/// A note is made in steps: the take's file is synced, the bytes are appended, and the journal is
+/// synced. The folder is synced too after the first note since an adopted journal was opened, and
+/// after the first that finds the take's file. So no note of this journal survives a loss of power
 /// without its samples, and none that it reported is lost. After a note whose sync failed each `note` of
 /// the name fails: another try could succeed although bytes are lost. Without `sync` nothing is synced.
 #[derive(Drop)]
@@ -262,14 +263,15 @@ impl<D: Volume> Journal for FolderJournal<D> {
     ghost folder = { journals_folder };
 
     /// Writes the header into the file of the name's journal, which is opened, or made if nothing is
-    /// there. Nothing is synced.
+    /// there. With `sync` that file and the folder are synced then.
     ///
     /// # Errors
-    /// `StoreFault` if a call of the disk failed, memory was refused before any change, or other
-    /// bytes are there.
+    /// `StoreFault` if a call of the disk failed, memory was refused before any change, other bytes
+    /// are there, or a sync failed in an earlier call for this name.
     ///
     /// # Not specified
-    /// When memory is refused.
+    /// - When memory is refused.
+    /// - When the folder is synced.
     #[tactic(auto, using(crate::proofs::JournalPaths::journal_path_injective))]
     fn begin(&mut self, name: &Name) -> Result<(), StoreFault>
         ensures failures { Counts (journals_failures self.old) (journals_failures self.new)
@@ -291,8 +293,9 @@ impl<D: Volume> Journal for FolderJournal<D> {
             (noted_in_folder self.new name.now)) }
         ensures others { IsTrue (D.honest (journals_disk self.old)) → KeepsOthers
             (noted_in_folder self.old) (noted_in_folder self.new) name.now }
-        // No other file changes, on errors too, and nothing is synced.
-        ensures rest { ChangesAt D.Disk (path_of_journal (journals_folder self.old) name.now)
+        // No other file changes, on errors too; with `sync` the journal is synced.
+        ensures rest { BeginsFile D.Disk (journals_sync self.old) result
+            (path_of_journal (journals_folder self.old) name.now)
             (journals_disk self.old) (journals_disk self.new) }
     {
         let answer = self.begin_file(name);

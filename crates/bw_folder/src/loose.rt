@@ -184,6 +184,9 @@ impl<D: Volume> RestingFolderJournal<D> {
         ensures files { IsTrue (D.honest self.old.inner.disk) → KeepsOthers
             (D.contents self.old.inner.disk) (D.contents self.new.inner.disk)
             (path_of_journal (string_bytes self.old.inner.folder) name.now) }
+        ensures synced { IsTrue (D.honest self.old.inner.disk) → IsTrue self.old.inner.sync → OnOk result
+            (IsSyncedAt (D.contents self.new.inner.disk) (D.synced self.new.inner.disk)
+            (path_of_journal (string_bytes self.old.inner.folder) name.now)) }
     {
         if self.loose.contains(name) {
             return Err(StoreFault);

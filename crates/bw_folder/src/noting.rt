@@ -10,20 +10,54 @@ ghost use Rattle.bw_journal.specs.Notes.{KeepsHeaders};
 ghost use Rattle.bw_folder.specs.Folders.{take_path as path_of_take};
 ghost use Rattle.bw_folder.specs.Journals.{journal_path as path_of_journal, notes_at, existences};
 ghost use Rattle.bw_folder.specs.Journals.{existence_of, header_at, failure_of, IsOpenAt};
-ghost use Rattle.bw_folder.specs.SyncOrders.{NotesPlainly, SyncsInOrder};
+ghost use Rattle.bw_folder.specs.SyncOrders.{BeginsFile, NotesPlainly, SyncsInOrder};
 
 use crate::heading::{append, exists, open_or_make, put_header};
 use crate::journal::{FolderJournal, OpenJournal};
 use crate::paths::{journal_path, take_path};
-use crate::syncing::append_synced;
+use crate::syncing::{append_synced, sync_begun};
 use bw_disk::Volume;
 use bw_journal::JournalHeader;
 use bw_request::Name;
 use bw_store::StoreFault;
 
 impl<D: Volume> FolderJournal<D> {
-    /// Writes the header into the file of a name's journal.
+    /// Writes the header into the file of a name's journal. With `sync` that file and the folder are
+    /// synced then, before any take's file is made.
     pub(crate) fn begin_file(&mut self, name: &Name) -> Result<(), StoreFault>
+        ensures failures { self.new.failures ≡ self.old.failures }
+        ensures settings { (self.new.limit ≡ self.old.limit) × (self.new.sync ≡ self.old.sync)
+            × (self.new.folder ≡ self.old.folder) }
+        ensures headers { IsTrue (D.honest self.old.disk) → KeepsHeaders
+            (header_at self.old.limit (existences self.old.journals.items) (D.contents self.old.disk)
+            (string_bytes self.old.folder))
+            (header_at self.new.limit (existences self.new.journals.items) (D.contents self.new.disk)
+            (string_bytes self.new.folder)) }
+        ensures begun { IsTrue (D.honest self.old.disk) → OnOk result (BeginsNotes name.now
+            (header_at self.old.limit (existences self.old.journals.items) (D.contents self.old.disk)
+            (string_bytes self.old.folder) name.now)
+            (notes_at (D.contents self.old.disk) (string_bytes self.old.folder) name.now)
+            (notes_at (D.contents self.new.disk) (string_bytes self.old.folder) name.now)) }
+        ensures failed { IsTrue (D.honest self.old.disk) → OnErr result (BeginsInPart name.now
+            (header_at self.old.limit (existences self.old.journals.items) (D.contents self.old.disk)
+            (string_bytes self.old.folder) name.now)
+            (notes_at (D.contents self.old.disk) (string_bytes self.old.folder) name.now)
+            (notes_at (D.contents self.new.disk) (string_bytes self.old.folder) name.now)) }
+        ensures rest { BeginsFile D.Disk self.old.sync result
+            (path_of_journal (string_bytes self.old.folder) name.now) self.old.disk self.new.disk }
+    {
+        self.write_header(name)?;
+        if !self.sync {
+            return Ok(());
+        }
+        let Some(place) = find(&self.journals, name) else {
+            return Err(StoreFault);
+        };
+        sync_begun(&mut self.disk, &mut self.journals[place], &self.folder)
+    }
+
+    /// Writes the header into the file of a name's journal, which is opened or made.
+    fn write_header(&mut self, name: &Name) -> Result<(), StoreFault>
         ensures failures { self.new.failures ≡ self.old.failures }
         ensures settings { (self.new.limit ≡ self.old.limit) × (self.new.sync ≡ self.old.sync)
             × (self.new.folder ≡ self.old.folder) }

@@ -136,6 +136,10 @@ impl<D: Volume> Journal for RestingFolderJournal<D> {
         ensures files { IsTrue (D.honest (disk_of_all self.old)) → KeepsOthers
             (D.contents (disk_of_all self.old)) (D.contents (disk_of_all self.new))
             (path_of_journal (folder_of_all self.old) name.now) }
+        // With `sync` the journal is synced.
+        ensures synced { IsTrue (D.honest (disk_of_all self.old)) → IsTrue (syncs_all self.old) →
+            OnOk result (IsSyncedAt (D.contents (disk_of_all self.new))
+            (D.synced (disk_of_all self.new)) (path_of_journal (folder_of_all self.old) name.now)) }
     {
         let answer = self.begin_free(name);
         self.inner.count(answer.is_err());

@@ -1,5 +1,5 @@
 //! Notes that survive a loss of power: the samples are synced, then the note is written and synced.
-ghost use Rattle.std.specs.Prelude.{◌≡◌, ◌≢◌, ◌⊎◌, IsTrue, OnOk, OnErr, true};
+ghost use Rattle.std.specs.Prelude.{◌≡◌, ◌≢◌, ◌⊎◌, IsTrue, IsErr, OnOk, OnErr, true};
 ghost use Rattle.bw_store.specs.Stores.{Written, KeepsOthers};
 ghost use Rattle.bw_disk.specs.Disks.{Syncs};
 ghost use Rattle.bw_disk.specs.DiskSteps.{StaysWhole};
@@ -47,6 +47,35 @@ pub(crate) fn append_synced<D: Volume>(
     sync_take(disk, journal, take)?;
     disk.append(&mut journal.file, offset, bytes)
         .map_err(|_| StoreFault)?;
+    sync_file(disk, &journal.file, &mut journal.failed)?;
+    sync_names(disk, journal, folder)
+}
+
+/// Syncs a journal that has its header, and the folder, unless it was synced since the journal was
+/// opened: so no loss of power leaves a take's file beside a journal without its header.
+///
+/// # Errors
+/// `StoreFault` if a call of the disk failed, or a sync of the journal did before: the journal is
+/// marked, so that nothing is noted any more.
+pub(crate) fn sync_begun<D: Volume>(
+    disk: &mut D,
+    journal: &mut OpenJournal<D::File>,
+    folder: &str,
+) -> Result<(), StoreFault>
+    ensures name { journal.new.name ≡ journal.old.name }
+    ensures existed { journal.new.existed ≡ journal.old.existed }
+    ensures file { journal.new.file ≡ journal.old.file }
+    ensures marked { OnErr result (journal.new.failed ≡ true) }
+    ensures stopped { journal.old.failed ≡ true → IsErr result × (disk.new ≡ disk.old) }
+    ensures listed { OnOk result (journal.new.listed ≡ true) }
+    ensures honest { D.honest disk.new ≡ D.honest disk.old }
+    ensures contents { IsTrue (D.honest disk.old) → KeepsEach (D.contents disk.old) (D.contents disk.new) }
+    ensures synced { IsTrue (D.honest disk.old) → OnOk result (IsSyncedAt (D.contents disk.new)
+        (D.synced disk.new) (D.path_of journal.old.file)) }
+{
+    if journal.failed {
+        return Err(StoreFault);
+    }
     sync_file(disk, &journal.file, &mut journal.failed)?;
     sync_names(disk, journal, folder)
 }
