@@ -1,6 +1,6 @@
 -- What is kept and held of a name, and what draining its next number leaves.
 use Rattle.std.specs.Prelude.{◌≡◌, ℕ, ◌+◌, ◌≤◌, Bool, true, false, IsTrue, Option, Some, None}
-use Rattle.std.specs.Prelude.{IsSome, is_some, List, length, Result, Ok, Err}
+use Rattle.std.specs.Prelude.{IsSome, is_some, List, length}
 use Rattle.std.specs.List.{list_all}
 use Rattle.bw_model.specs.Bytes.{at}
 use Rattle.bw_model.specs.Take.{Parts, Verdict}
@@ -9,15 +9,15 @@ use Rattle.bw_model.specs.ReadBack.{is_admitted}
 use Rattle.bw_model.specs.Book.{Log, made, verdict_at}
 use Rattle.bw_model.specs.Holds.{Kept, HoldsName, HasFile}
 use Rattle.bw_request.specs.Verdicts.{verdict_meaning}
-use Rattle.bw_request.specs.declared.verdict.Verdict.{Verdict as Judgement}
 use Rattle.bw_file.specs.GrowingFiles.{Growing}
-use Rattle.bw_store.specs.declared.store.StoreFault.{StoreFault}
 use Rattle.bw_wire.specs.Bodies.{message_in}
 use Rattle.bw_session.specs.Windows.{count_held}
 use Rattle.bw_session.specs.Executions.{Touches}
 use Rattle.bw_session.specs.KeptParts.{Part}
 use Rattle.bw_session.specs.Prefixes.{StandsAhead}
 use Rattle.bw_session.specs.NextNumbers.{with_done}
+use Rattle.bw_session.specs.declared.borrowing.Tried.{Tried}
+use Rattle.bw_session.specs.declared.borrowing.Tried.TheVariants as tries
 use Rattle.bw_session.specs.declared.drains.Drained.{Drained}
 use Rattle.bw_session.specs.declared.drains.Drained.TheVariants.{Idle, Done, Stopped}
 
@@ -65,9 +65,9 @@ pub record IsAllDone (log : Log) : Type 0 where
   pub all : length log.admitted ≤ log.done
 
 -- a number that was tried
-abbrev pub drained_by : Result Judgement StoreFault → Drained
-drained_by (Ok v) = Done v
-drained_by (Err fault) = Stopped
+abbrev pub drained_by : Tried → Drained
+drained_by (tries.Done v) = Done v
+drained_by tries.Held = Stopped
 
 -- draining stopped at a fault
 abbrev pub is_stopped : Drained → Bool

@@ -1,14 +1,13 @@
 -- What calls on a name promise alike, over a store and its journal.
-use Rattle.std.specs.Prelude.{◌≡◌, ◌≤◌, ◌+◌, ℕ, Bool, IsTrue, Option, List, length, Result, is_err}
+use Rattle.std.specs.Prelude.{◌≡◌, ◌≤◌, ◌+◌, ℕ, Bool, IsTrue, Option, List, length}
 use Rattle.bw_model.specs.Book.{Log}
 use Rattle.bw_model.specs.Wire.{Message}
 use Rattle.bw_model.specs.Turn.{is_admissible}
 use Rattle.bw_store.specs.declared.store.TakeStore.{Ghosts as StoreGhosts}
 use Rattle.bw_journal.specs.declared.journal.Journal.{Ghosts as JournalGhosts}
 use Rattle.bw_wire.specs.declared.reply.Reply.{Reply}
-use Rattle.bw_request.specs.declared.verdict.Verdict.{Verdict as Judgement}
-use Rattle.bw_store.specs.declared.store.StoreFault.{StoreFault}
-use Rattle.bw_session.specs.Drains.{drained_by, drained_count}
+use Rattle.bw_session.specs.Drains.{is_stopped, drained_count}
+use Rattle.bw_session.specs.declared.drains.Drained.{Drained}
 use Rattle.bw_session.specs.NextNumbers.{KeepsBoth, failed_calls}
 use Rattle.bw_session.specs.NameNotes.{NotesOn}
 use Rattle.bw_session.specs.ConsecutiveCalls.{DoesRun}
@@ -80,12 +79,12 @@ module _ {X Y : Type 0} (S : StoreGhosts X) (J : JournalGhosts Y) where
 
   -- The next number was tried: a failure is counted if it isn't done, and all else is kept; the store
   -- was called four times at most.
-  pub record TriesNumber (answer : Result Judgement StoreFault) (before : Session)
+  pub record TriesNumber (drained : Drained) (before : Session)
       (old : Stores X Y S J) (after : Session) (new : Stores X Y S J) : Type 0 where
-    pub both : KeepsStores (is_err answer) before.progress.name old new
+    pub both : KeepsStores (is_stopped drained) before.progress.name old new
     pub calls : S.calls new.store ≤ S.calls old.store + 4
     pub done : length after.progress.ledger.outcomes
-        ≡ length before.progress.ledger.outcomes + drained_count (drained_by answer)
+        ≡ length before.progress.ledger.outcomes + drained_count drained
 
   -- Numbers of a name were done in a row, from this part: at most this many, to their end, or to a
   -- fault.

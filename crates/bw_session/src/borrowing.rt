@@ -13,9 +13,18 @@ use crate::numbering::Stores;
 use crate::session::Session;
 use bw_journal::Journal;
 use bw_request::Verdict;
-use bw_store::{StoreFault, TakeStore};
+use bw_store::TakeStore;
 use bw_wire::Message;
 use std::alloc::AllocError;
+
+/// How a number went that was tried as its message came.
+#[derive(Clone, Copy, Drop)]
+pub(crate) enum Tried {
+    /// It is done, with this verdict.
+    Done(Verdict),
+    /// A call of the store or of the journal failed: the message is held.
+    Held,
+}
 
 impl Session {
     ghost use Rattle.bw_session.specs.Sessions.{KeepsTake, part_of};
@@ -27,35 +36,34 @@ impl Session {
     /// buffer allocated before, only if a call failed.
     ///
     /// # Errors
-    /// `AllocError` if a growth was refused; inside, `StoreFault` if the store or the journal
-    /// failed: the message is held then.
+    /// `AllocError` if a growth was refused.
     pub(crate) fn do_next<S: TakeStore, J: Journal>(
         &mut self,
         stores: &mut Stores<S, J>,
         message: &Message<'_>,
         digest: [u8; 32],
-    ) -> Result<Result<Verdict, StoreFault>, AllocError>
+    ) -> Result<Tried, AllocError>
         requires name { (message_of message.now).name ≡ self.old.progress.name }
         requires digest { digest ≡ sha256 (message_body (message_of message.now)) }
         requires next { (message_of message.now).number
             ≡ length self.old.progress.ledger.outcomes }
         requires free { at self.old.window 0 ≡ None }
         requires slots { length self.old.window ≡ 16 }
-        ensures tried { IfOk result (λ answer. TriesNumber S.TakeStore J.Journal answer
+        ensures tried { IfOk result (λ tried. TriesNumber S.TakeStore J.Journal (drained_by tried)
             self.old stores.old self.new stores.new) }
-        ensures asked { IfOk result (λ answer. AsksNext S.TakeStore (drained_by answer)
+        ensures asked { IfOk result (λ tried. AsksNext S.TakeStore (drained_by tried)
             (holding (part_of self.old) (message_of message.now)) stores.old.store
             (part_of self.new) stores.new.store) }
         ensures take { KeepsTake self.old self.new }
         ensures refused { OnErr result (RefusesMessage S.TakeStore J.Journal
             (message_of message.now) self.old stores.old self.new stores.new) }
-        ensures drained { IfOk result (λ answer. ForSessionLogs S.TakeStore J.Journal
-            self.old stores.old (λ first log. DrainsPart (drained_by answer) first
+        ensures drained { IfOk result (λ tried. ForSessionLogs S.TakeStore J.Journal
+            self.old stores.old (λ first log. DrainsPart (drained_by tried) first
             (with_message log (message_of message.now)) (part_of self.new)
             (S.contents stores.new.store self.old.progress.name))) }
-        ensures noted { IfOk result (λ answer. KeepsSessionNotes S.TakeStore J.Journal
+        ensures noted { IfOk result (λ tried. KeepsSessionNotes S.TakeStore J.Journal
             self.old stores.old self.new stores.new
-            (λ log. drained_log (drained_by answer) (with_message log (message_of message.now)))) }
+            (λ log. drained_log (drained_by tried) (with_message log (message_of message.now)))) }
         ensures ordered { OnOk result (OrdersSession S.TakeStore J.Journal
             self.old stores.old self.new stores.new) }
     {
@@ -64,11 +72,11 @@ impl Session {
         match self.progress.number_done(stores, &request, &digest) {
             Ok(verdict) => {
                 self.window.advance();
-                Ok(Ok(verdict))
+                Ok(Tried::Done(verdict))
             }
-            Err(fault) => {
+            Err(_fault) => {
                 self.window.put(0, HeldBody::copy_to(room, message, digest));
-                Ok(Err(fault))
+                Ok(Tried::Held)
             }
         }
     }

@@ -11,6 +11,7 @@ ghost use Rattle.bw_wire.specs.Replies.{HasWireNumbers, reply_of};
 ghost use Rattle.bw_session.specs.AdmittedMessages.{with_message};
 ghost use Rattle.bw_session.specs.ConsecutiveCalls.{holding, AsksInTurn};
 
+use crate::borrowing::Tried;
 use crate::numbering::Stores;
 use crate::session::Session;
 use arrayvec::ArrayVec;
@@ -153,7 +154,7 @@ impl Session {
             return Ok(self.drain(stores, out));
         }
         match self.do_next(stores, message, digest)? {
-            Ok(verdict) => {
+            Tried::Done(verdict) => {
                 out.push(Reply::Verdict {
                     name: message.name(),
                     number: message.number(),
@@ -161,7 +162,7 @@ impl Session {
                 });
                 Ok(self.drain(stores, out))
             }
-            Err(_fault) => Ok(true),
+            Tried::Held => Ok(true),
         }
     }
 }

@@ -1,14 +1,12 @@
 use Rattle.std.proofs.lemmas.Result.{err_from_is_err_and}
-use Rattle.std.specs.Prelude.{is_err}
-use Rattle.std.proofs.Common.{rules, ◌≡◌, ◌+◌, Result, length, refl, sym, ◌∙◌, ap, subst, arith}
+use Rattle.std.proofs.Common.{rules, ◌≡◌, ◌+◌, length, refl, sym, ◌∙◌, ap, subst, arith}
 use Rattle.bw_model.specs.Wire.{Message}
-use Rattle.bw_request.specs.declared.verdict.Verdict.{Verdict}
+use Rattle.bw_session.specs.declared.borrowing.Tried.{Tried}
 use Rattle.bw_file.specs.GrowingFiles.{Growing}
-use Rattle.bw_store.specs.declared.store.StoreFault.{StoreFault}
 use Rattle.bw_wire.specs.Frames.{message_of}
 use Rattle.bw_session.specs.AdmittedMessages.{with_message}
 use Rattle.bw_session.specs.NextNumbers.{KeepsBoth}
-use Rattle.bw_session.specs.Drains.{DrainsNext, drained_by, drained_log, drained_count}
+use Rattle.bw_session.specs.Drains.{DrainsNext, drained_by, drained_log, drained_count, is_stopped}
 use Rattle.bw_session.specs.NameNotes.{IsNoted}
 use Rattle.bw_session.specs.Sessions.{part_of}
 use Rattle.bw_session.specs.Runs.{with_more_done}
@@ -51,50 +49,50 @@ returns-then-is_held-clause-noted g c = λ honest honest_notes first log h exist
     (noted_start _ c.args.self.now.progress.name (with_message log m) c.admit.new.self.progress.noted _
     c.args.out.now.items c.requires.empty (c.in_ok-admit.ensures.noted first log _ _ _ h noted))
 
-pub returns-in-Ok-clause-drained : goal.returns-in-Ok-clause-drained
-returns-in-Ok-clause-drained g c = λ honest first log h.
+pub returns-in-Done-clause-drained : goal.returns-in-Done-clause-drained
+returns-in-Done-clause-drained g c = λ honest first log h.
     let m : Message = message_of c.args.message.now in
     let take = c.in_ok-verdict.ensures.take in
     let both = c.in_ok-verdict.ensures.tried.both in
-    let next = subst (λ (a : Result Verdict StoreFault). DrainsNext (drained_by a) first (with_message log m)
+    let next = subst (λ (a : Tried). DrainsNext (drained_by a) first (with_message log m)
     c.do_next.new.self.progress.state.parts c.do_next.new.self.progress.ledger.outcomes c.do_next.new.self.window
     c.do_next.new.self.progress.growing
-    (g.S.TakeStore.contents c.do_next.new.stores.store c.args.self.now.progress.name)) c.in-Ok.is
+    (g.S.TakeStore.contents c.do_next.new.stores.store c.args.self.now.progress.name)) c.in-Done.is
     (c.in_ok-verdict.ensures.drained honest first log h) in
-    ends_under first (with_message log m) c.drain-in-Ok.result _ _
-    (g.S.TakeStore.contents c.drain-in-Ok.new.stores.store) c.do_next.new.self.progress.name _ take.name
-    (c.drain-in-Ok.ensures.drained (both.honest ∙ honest) first (with_message log m)
-    (starts_done first log m (part_of c.args.self.now) _ h c.get.ensures.slots c.number-in-Ok.result c.in-Ok.verdict
+    ends_under first (with_message log m) c.drain-in-Done.result _ _
+    (g.S.TakeStore.contents c.drain-in-Done.new.stores.store) c.do_next.new.self.progress.name _ take.name
+    (c.drain-in-Done.ensures.drained (both.honest ∙ honest) first (with_message log m)
+    (starts_done first log m (part_of c.args.self.now) _ h c.get.ensures.slots c.number-in-Done.result c.in-Done.verdict
     c.name.result c.push.new.self.items c.args.out.now.items (part_of c.do_next.new.self)
     (g.S.TakeStore.contents c.do_next.new.stores.store) c.args.self.now.progress.name
     c.do_next.new.self.progress.name c.requires.empty c.push.ensures.items
     (ap (λ (x : Growing). x.name) take.growing ∙ c.args.self.now.progress.same_name ∙ sym c.requires.name
     ∙ sym c.name.ensures) (search rules) (sym take.name) next))
 
-pub returns-in-Ok-clause-noted : goal.returns-in-Ok-clause-noted
-returns-in-Ok-clause-noted g c = λ honest honest_notes first log h existed noted.
+pub returns-in-Done-clause-noted : goal.returns-in-Done-clause-noted
+returns-in-Done-clause-noted g c = λ honest honest_notes first log h existed noted.
     let m : Message = message_of c.args.message.now in
     let take = c.in_ok-verdict.ensures.take in
     let both = c.in_ok-verdict.ensures.tried.both in
-    let next = subst (λ (a : Result Verdict StoreFault). DrainsNext (drained_by a) first (with_message log m)
+    let next = subst (λ (a : Tried). DrainsNext (drained_by a) first (with_message log m)
     c.do_next.new.self.progress.state.parts c.do_next.new.self.progress.ledger.outcomes c.do_next.new.self.window
     c.do_next.new.self.progress.growing
-    (g.S.TakeStore.contents c.do_next.new.stores.store c.args.self.now.progress.name)) c.in-Ok.is
+    (g.S.TakeStore.contents c.do_next.new.stores.store c.args.self.now.progress.name)) c.in-Done.is
     (c.in_ok-verdict.ensures.drained honest first log h) in
-    let one = subst (λ (a : Result Verdict StoreFault).
+    let one = subst (λ (a : Tried).
     IsNoted (g.J.Journal.header c.args.stores.now.journal c.args.self.now.progress.name)
     c.args.self.now.progress.name (drained_log (drained_by a) (with_message log m))
     c.do_next.new.self.progress.noted
-    (g.J.Journal.notes c.do_next.new.stores.journal c.args.self.now.progress.name)) c.in-Ok.is
+    (g.J.Journal.notes c.do_next.new.stores.journal c.args.self.now.progress.name)) c.in-Done.is
     (c.in_ok-verdict.ensures.noted honest honest_notes first log h existed noted) in
     noted_then c.do_next.new.self.progress.name c.args.self.now.progress.name
     (g.J.Journal.header c.do_next.new.stores.journal) _ first
     (with_more_done (with_message log m) (length c.push.new.self.items))
-    (with_more_done (with_message log m) (length c.drain-in-Ok.new.out.items)) c.do_next.new.self.progress.noted _
-    (g.J.Journal.notes c.do_next.new.stores.journal) (g.J.Journal.notes c.drain-in-Ok.new.stores.journal) take.name
+    (with_more_done (with_message log m) (length c.drain-in-Done.new.out.items)) c.do_next.new.self.progress.noted _
+    (g.J.Journal.notes c.do_next.new.stores.journal) (g.J.Journal.notes c.drain-in-Done.new.stores.journal) take.name
     (both.headers honest_notes c.args.self.now.progress.name)
-    (c.drain-in-Ok.ensures.noted (both.honest ∙ honest) (both.honest_notes ∙ honest_notes) first (with_message log m)
-    (starts_done first log m (part_of c.args.self.now) _ h c.get.ensures.slots c.number-in-Ok.result c.in-Ok.verdict
+    (c.drain-in-Done.ensures.noted (both.honest ∙ honest) (both.honest_notes ∙ honest_notes) first (with_message log m)
+    (starts_done first log m (part_of c.args.self.now) _ h c.get.ensures.slots c.number-in-Done.result c.in-Done.verdict
     c.name.result c.push.new.self.items c.args.out.now.items (part_of c.do_next.new.self)
     (g.S.TakeStore.contents c.do_next.new.stores.store) c.args.self.now.progress.name
     c.do_next.new.self.progress.name c.requires.empty c.push.ensures.items
@@ -104,28 +102,28 @@ returns-in-Ok-clause-noted g c = λ honest honest_notes first log h existed note
     (noted_one _ c.args.self.now.progress.name (with_message log m) c.do_next.new.self.progress.noted _ _
     c.push.new.self.items c.args.out.now.items c.requires.empty c.push.ensures.items one)
 
-pub returns-in-Err-clause-drained : goal.returns-in-Err-clause-drained
-returns-in-Err-clause-drained g c = λ honest first log h.
+pub returns-in-Held-clause-drained : goal.returns-in-Held-clause-drained
+returns-in-Held-clause-drained g c = λ honest first log h.
     let m : Message = message_of c.args.message.now in
     stops_at_once first log m (part_of c.args.self.now) _ h c.get.ensures.slots c.args.out.now.items
     (part_of c.do_next.new.self) (g.S.TakeStore.contents c.do_next.new.stores.store) c.args.self.now.progress.name
     c.args.self.now.progress.name c.requires.empty refl
-    (subst (λ (a : Result Verdict StoreFault). DrainsNext (drained_by a) first (with_message log m)
+    (subst (λ (a : Tried). DrainsNext (drained_by a) first (with_message log m)
     c.do_next.new.self.progress.state.parts c.do_next.new.self.progress.ledger.outcomes c.do_next.new.self.window
     c.do_next.new.self.progress.growing
-    (g.S.TakeStore.contents c.do_next.new.stores.store c.args.self.now.progress.name)) c.in-Err.is
+    (g.S.TakeStore.contents c.do_next.new.stores.store c.args.self.now.progress.name)) c.in-Held.is
     (c.in_ok-verdict.ensures.drained honest first log h))
 
-pub returns-in-Err-clause-noted : goal.returns-in-Err-clause-noted
-returns-in-Err-clause-noted g c = λ honest honest_notes first log h existed noted.
+pub returns-in-Held-clause-noted : goal.returns-in-Held-clause-noted
+returns-in-Held-clause-noted g c = λ honest honest_notes first log h existed noted.
     let m : Message = message_of c.args.message.now in
     noted_start _ c.args.self.now.progress.name (with_message log m) c.do_next.new.self.progress.noted _
     c.args.out.now.items c.requires.empty
-    (subst (λ (a : Result Verdict StoreFault).
+    (subst (λ (a : Tried).
     IsNoted (g.J.Journal.header c.args.stores.now.journal c.args.self.now.progress.name)
     c.args.self.now.progress.name (drained_log (drained_by a) (with_message log m))
     c.do_next.new.self.progress.noted
-    (g.J.Journal.notes c.do_next.new.stores.journal c.args.self.now.progress.name)) c.in-Err.is
+    (g.J.Journal.notes c.do_next.new.stores.journal c.args.self.now.progress.name)) c.in-Held.is
     (c.in_ok-verdict.ensures.noted honest honest_notes first log h existed noted))
 
 pub do_next-requires-clause-free : goal.do_next-requires-clause-free
@@ -141,49 +139,49 @@ returns-then-is_held-clause-run g c =
     (runs_from_none g.S.TakeStore g.J.Journal c.args.out.now.items c.drain.result (part_of c.admit.new.self)
     c.admit.new.self c.drain.new.self c.args.stores.now c.drain.new.stores c.requires.empty c.drain.ensures.run)
 
-pub returns-in-Ok-clause-run : goal.returns-in-Ok-clause-run
-returns-in-Ok-clause-run g c =
+pub returns-in-Done-clause-run : goal.returns-in-Done-clause-run
+returns-in-Done-clause-run g c =
     let m : Message = message_of c.args.message.now in
-    let first = subst (λ (a : Result Verdict StoreFault). AsksNext g.S.TakeStore (drained_by a)
+    let first = subst (λ (a : Tried). AsksNext g.S.TakeStore (drained_by a)
     (holding (part_of c.args.self.now) m) c.args.stores.now.store (part_of c.do_next.new.self)
-    c.do_next.new.stores.store) c.in-Ok.is c.in_ok-verdict.ensures.asked in
-    let done = subst (λ (a : Result Verdict StoreFault). length c.do_next.new.self.progress.ledger.outcomes
-    ≡ length c.args.self.now.progress.ledger.outcomes + drained_count (drained_by a)) c.in-Ok.is
+    c.do_next.new.stores.store) c.in-Done.is c.in_ok-verdict.ensures.asked in
+    let done = subst (λ (a : Tried). length c.do_next.new.self.progress.ledger.outcomes
+    ≡ length c.args.self.now.progress.ledger.outcomes + drained_count (drained_by a)) c.in-Done.is
     c.in_ok-verdict.ensures.tried.done in
-    let both = subst (λ (a : Result Verdict StoreFault). KeepsBoth g.S.TakeStore g.J.Journal (is_err a)
+    let both = subst (λ (a : Tried). KeepsBoth g.S.TakeStore g.J.Journal (is_stopped (drained_by a))
     c.args.self.now.progress.name c.args.stores.now.store c.do_next.new.stores.store c.args.stores.now.journal
-    c.do_next.new.stores.journal) c.in-Ok.is c.in_ok-verdict.ensures.tried.both in
-    let run = c.drain-in-Ok.ensures.run in
+    c.do_next.new.stores.journal) c.in-Done.is c.in_ok-verdict.ensures.tried.both in
+    let run = c.drain-in-Done.ensures.run in
     let before = c.in_ok-verdict.ensures.tried.calls in
     let later = run.calls in
     record {
       both = both_then g.S.TakeStore g.J.Journal _ _ _ _ _ _ _ _ _ c.in_ok-verdict.ensures.take.name both run.both;
       calls = omega (arith, done, before, later);
-      asked = run_after g.S.TakeStore 15 c.drain-in-Ok.result (holding (part_of c.args.self.now) m)
-          (part_of c.do_next.new.self) (part_of c.drain-in-Ok.new.self) c.args.stores.now.store
-          c.do_next.new.stores.store c.drain-in-Ok.new.stores.store first
-          (run_from_one g.S.TakeStore c.args.out.now.items c.push.new.self.items _ c.drain-in-Ok.result
-          (part_of c.do_next.new.self) (part_of c.drain-in-Ok.new.self) c.do_next.new.stores.store
-          c.drain-in-Ok.new.stores.store c.requires.empty c.push.ensures.items run.asked);
+      asked = run_after g.S.TakeStore 15 c.drain-in-Done.result (holding (part_of c.args.self.now) m)
+          (part_of c.do_next.new.self) (part_of c.drain-in-Done.new.self) c.args.stores.now.store
+          c.do_next.new.stores.store c.drain-in-Done.new.stores.store first
+          (run_from_one g.S.TakeStore c.args.out.now.items c.push.new.self.items _ c.drain-in-Done.result
+          (part_of c.do_next.new.self) (part_of c.drain-in-Done.new.self) c.do_next.new.stores.store
+          c.drain-in-Done.new.stores.store c.requires.empty c.push.ensures.items run.asked);
     }
 
-pub returns-in-Err-clause-run : goal.returns-in-Err-clause-run
-returns-in-Err-clause-run g c =
+pub returns-in-Held-clause-run : goal.returns-in-Held-clause-run
+returns-in-Held-clause-run g c =
     let m : Message = message_of c.args.message.now in
-    let done = subst (λ (a : Result Verdict StoreFault). length c.do_next.new.self.progress.ledger.outcomes
-    ≡ length c.args.self.now.progress.ledger.outcomes + drained_count (drained_by a)) c.in-Err.is
+    let done = subst (λ (a : Tried). length c.do_next.new.self.progress.ledger.outcomes
+    ≡ length c.args.self.now.progress.ledger.outcomes + drained_count (drained_by a)) c.in-Held.is
     c.in_ok-verdict.ensures.tried.done in
     let before = c.in_ok-verdict.ensures.tried.calls in
     record {
-      both = subst (λ (a : Result Verdict StoreFault). KeepsBoth g.S.TakeStore g.J.Journal (is_err a)
+      both = subst (λ (a : Tried). KeepsBoth g.S.TakeStore g.J.Journal (is_stopped (drained_by a))
           c.args.self.now.progress.name c.args.stores.now.store c.do_next.new.stores.store c.args.stores.now.journal
-          c.do_next.new.stores.journal) c.in-Err.is c.in_ok-verdict.ensures.tried.both;
+          c.do_next.new.stores.journal) c.in-Held.is c.in_ok-verdict.ensures.tried.both;
       calls = omega (arith, done, before);
       asked = run_tried g.S.TakeStore 16 (holding (part_of c.args.self.now) m) (part_of c.do_next.new.self)
           c.args.stores.now.store c.do_next.new.stores.store
-          (subst (λ (a : Result Verdict StoreFault). AsksNext g.S.TakeStore (drained_by a)
+          (subst (λ (a : Tried). AsksNext g.S.TakeStore (drained_by a)
           (holding (part_of c.args.self.now) m) c.args.stores.now.store (part_of c.do_next.new.self)
-          c.do_next.new.stores.store) c.in-Err.is c.in_ok-verdict.ensures.asked);
+          c.do_next.new.stores.store) c.in-Held.is c.in_ok-verdict.ensures.asked);
     }
 
 pub returns-in_err-admit-clause-refused : goal.returns-in_err-admit-clause-refused
@@ -224,30 +222,30 @@ returns-then-is_held-clause-ordered g c = λ honest honest_notes first log h exi
     (order_as _ _ _ _ _ _ _ _ (holding_carried (part_of c.args.self.now) (part_of c.admit.new.self)
     (length c.args.self.now.progress.ledger.outcomes) m held) order))
 
-pub returns-in-Ok-clause-ordered : goal.returns-in-Ok-clause-ordered
-returns-in-Ok-clause-ordered g c = λ honest honest_notes first log h existed noted order.
+pub returns-in-Done-clause-ordered : goal.returns-in-Done-clause-ordered
+returns-in-Done-clause-ordered g c = λ honest honest_notes first log h existed noted order.
     let m : Message = message_of c.args.message.now in
     let take = c.in_ok-verdict.ensures.take in
     let both = c.in_ok-verdict.ensures.tried.both in
-    let next = subst (λ (a : Result Verdict StoreFault). DrainsNext (drained_by a) first (with_message log m)
+    let next = subst (λ (a : Tried). DrainsNext (drained_by a) first (with_message log m)
     c.do_next.new.self.progress.state.parts c.do_next.new.self.progress.ledger.outcomes c.do_next.new.self.window
     c.do_next.new.self.progress.growing
-    (g.S.TakeStore.contents c.do_next.new.stores.store c.args.self.now.progress.name)) c.in-Ok.is
+    (g.S.TakeStore.contents c.do_next.new.stores.store c.args.self.now.progress.name)) c.in-Done.is
     (c.in_ok-verdict.ensures.drained honest first log h) in
-    let one = subst (λ (a : Result Verdict StoreFault).
+    let one = subst (λ (a : Tried).
     IsNoted (g.J.Journal.header c.args.stores.now.journal c.args.self.now.progress.name)
     c.args.self.now.progress.name (drained_log (drained_by a) (with_message log m))
     c.do_next.new.self.progress.noted
-    (g.J.Journal.notes c.do_next.new.stores.journal c.args.self.now.progress.name)) c.in-Ok.is
+    (g.J.Journal.notes c.do_next.new.stores.journal c.args.self.now.progress.name)) c.in-Done.is
     (c.in_ok-verdict.ensures.noted honest honest_notes first log h existed noted) in
     order_then c.do_next.new.self.progress.name c.args.self.now.progress.name
     (g.J.Journal.header c.do_next.new.stores.journal) _ first
     (with_more_done (with_message log m) (length c.push.new.self.items)) c.do_next.new.self.progress.noted _ _ _
-    (g.J.Journal.notes c.do_next.new.stores.journal) (g.J.Journal.notes c.drain-in-Ok.new.stores.journal)
-    (g.S.TakeStore.contents c.do_next.new.stores.store) (g.S.TakeStore.contents c.drain-in-Ok.new.stores.store) take.name
+    (g.J.Journal.notes c.do_next.new.stores.journal) (g.J.Journal.notes c.drain-in-Done.new.stores.journal)
+    (g.S.TakeStore.contents c.do_next.new.stores.store) (g.S.TakeStore.contents c.drain-in-Done.new.stores.store) take.name
     (both.headers honest_notes c.args.self.now.progress.name)
-    (c.drain-in-Ok.ensures.ordered (both.honest ∙ honest) (both.honest_notes ∙ honest_notes) first (with_message log m)
-    (starts_done first log m (part_of c.args.self.now) _ h c.get.ensures.slots c.number-in-Ok.result c.in-Ok.verdict
+    (c.drain-in-Done.ensures.ordered (both.honest ∙ honest) (both.honest_notes ∙ honest_notes) first (with_message log m)
+    (starts_done first log m (part_of c.args.self.now) _ h c.get.ensures.slots c.number-in-Done.result c.in-Done.verdict
     c.name.result c.push.new.self.items c.args.out.now.items (part_of c.do_next.new.self)
     (g.S.TakeStore.contents c.do_next.new.stores.store) c.args.self.now.progress.name
     c.do_next.new.self.progress.name c.requires.empty c.push.ensures.items
@@ -258,5 +256,5 @@ returns-in-Ok-clause-ordered g c = λ honest honest_notes first log h existed no
     c.push.new.self.items c.args.out.now.items c.requires.empty c.push.ensures.items one)
     (c.in_ok-verdict.ensures.ordered honest honest_notes first log h existed noted order)
 
-pub returns-in-Err-clause-ordered : goal.returns-in-Err-clause-ordered
-returns-in-Err-clause-ordered g c = c.in_ok-verdict.ensures.ordered
+pub returns-in-Held-clause-ordered : goal.returns-in-Held-clause-ordered
+returns-in-Held-clause-ordered g c = c.in_ok-verdict.ensures.ordered
