@@ -19,6 +19,8 @@ use Rattle.bw_engine.specs.declared.talk.Listened.TheVariants as listens
 use Rattle.bw_engine.specs.Talks.{HasHeard, Listens}
 use Rattle.bw_stream.specs.declared.source.Source.{Ghosts as Reader}
 use Rattle.bw_engine.specs.declared.stop.Stop.{Stop}
+use Rattle.bw_engine.specs.declared.talk.NextReply.{NextReply}
+use Rattle.bw_engine.specs.declared.talk.NextReply.TheVariants as nexts
 use Rattle.bw_engine.specs.declared.talk.Talk.{Talk}
 use Rattle.bw_engine.proofs.ReplyRuns.{fresh_quiet, gave_none, gave_fed, gave_counted}
 use Rattle.bw_engine.proofs.ReplyRuns.{gave_follows}
@@ -138,9 +140,9 @@ module _ {R : Type 0} (reader : Reader R) where
   listens_stopped faults.TurnLimit t t' x r r' stops count = absurd stops
 
 -- a reply was there
-pub next_heard : (x y : Sender) (p q : Pending) (o : Option (Option Stop)) (stop : Option Stop) → o ≡ Some stop →
-    HearsNext (Ok o) x y p q → (r : Reply) × HearsThese (r ∷ []) x y p q × NotesStop stop (r ∷ []) x
-next_heard x y p q None stop e h = absurd cc
-next_heard x y p q (Some a) stop e h =
+pub next_heard : (x y : Sender) (p q : Pending) (n : NextReply) (stop : Option Stop) → n ≡ nexts.Heard stop →
+    HearsNext (Ok n) x y p q → (r : Reply) × HearsThese (r ∷ []) x y p q × NotesStop stop (r ∷ []) x
+next_heard x y p q nexts.NoneLeft stop e h = absurd cc
+next_heard x y p q (nexts.Heard a) stop e h =
     let same : a ≡ stop = cc in
-    subst (λ (z : Option Stop). HearsNext (Ok (Some z)) x y p q) same h
+    subst (λ (z : Option Stop). HearsNext (Ok (nexts.Heard z)) x y p q) same h

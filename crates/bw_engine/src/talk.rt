@@ -1,6 +1,6 @@
 //! A link that is kept: what a sender says over it, piece by piece, and what it hears.
-ghost use Rattle.std.specs.Prelude.{◌≡◌, ◌+◌, ◌≤◌, ◌<◌, List, [], ◌∷◌, length, vec_len};
-ghost use Rattle.std.specs.Prelude.{IfOk, IfErr, OnOk, OnErr, IfSome};
+ghost use Rattle.std.specs.Prelude.{◌≡◌, ◌+◌, ◌≤◌, List, [], ◌∷◌, length, vec_len};
+ghost use Rattle.std.specs.Prelude.{IfOk, IfErr, OnOk, OnErr};
 ghost use Rattle.bw_model.specs.Replies.{Reply as Answer};
 ghost use Rattle.bw_model.specs.World.{Sender as Defined};
 ghost use Rattle.bw_model.specs.Wire.{Second, last_number};
@@ -12,7 +12,7 @@ ghost use Rattle.bw_engine.specs.declared.send_fault.SendFault.TheVariants.{BadR
 ghost use Rattle.bw_engine.specs.Batches.{BreaksBatch, WritesMessages, messages, sends_failed};
 ghost use Rattle.bw_engine.specs.Hears.{ReportsFault};
 ghost use Rattle.bw_engine.specs.SaidMessages.{numbered_from, unsaid_messages, BreaksOffSaying};
-ghost use Rattle.bw_engine.specs.LinkReplies.{HearsThese, HearsNext, NotesStop};
+ghost use Rattle.bw_engine.specs.LinkReplies.{HearsThese, HearsNext, NotesStop, ShortensIfHeard};
 ghost use Rattle.bw_engine.specs.Stops.{first_of};
 ghost use Rattle.bw_engine.specs.LinkReplies.{PartsWith};
 
@@ -40,6 +40,15 @@ pub enum Listened {
     Heard(Option<Stop>),
     /// No more will come.
     Ended,
+}
+
+/// What was next among the replies that are there.
+#[derive(Clone, Copy)]
+pub(crate) enum NextReply {
+    /// A reply, and how it stops the talk if it does.
+    Heard(Option<Stop>),
+    /// No whole reply is left.
+    NoneLeft,
 }
 
 /// A sender's talk with a server over one link.
@@ -232,7 +241,7 @@ fn hear_whole(sender: &mut Sender, framer: &mut ReplyFramer) -> Result<Option<St
     ensures why { IfErr result (λ fault. fault ≡ BadReply) }
 {
     let mut first = None;
-    while let Some(stop) = hear_one(sender, framer)? {
+    while let NextReply::Heard(stop) = hear_one(sender, framer)? {
         first = earlier(first, stop);
     }
     Ok(first)
@@ -252,21 +261,17 @@ fn earlier(first: Option<Stop>, then: Option<Stop>) -> Option<Stop>
 ///
 /// # Errors
 /// `BadReply` if what is next is no reply.
-fn hear_one(
-    sender: &mut Sender,
-    framer: &mut ReplyFramer,
-) -> Result<Option<Option<Stop>>, SendFault>
+fn hear_one(sender: &mut Sender, framer: &mut ReplyFramer) -> Result<NextReply, SendFault>
     ensures hears { HearsNext result sender.old sender.new framer.old framer.new }
-    ensures some { IfOk result (λ next. IfSome next (λ _stop.
-        length framer.new.bytes < length framer.old.bytes)) }
+    ensures some { IfOk result (λ next. ShortensIfHeard next framer.old framer.new) }
     ensures bad { OnErr result (ReportsFault framer.new) }
     ensures why { IfErr result (λ fault. fault ≡ BadReply) }
 {
     match framer.next_frame() {
-        Ok(None) => Ok(None),
+        Ok(None) => Ok(NextReply::NoneLeft),
         Ok(Some(reply)) => {
             let heard = sender.on_reply(&reply);
-            Ok(Some(stop_by(heard, &reply)))
+            Ok(NextReply::Heard(stop_by(heard, &reply)))
         }
         Err(_fault) => Err(SendFault::BadReply),
     }
