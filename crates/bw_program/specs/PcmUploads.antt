@@ -1,5 +1,6 @@
 -- What is done for the command lines that send headerless samples.
-use Rattle.std.specs.Prelude.{◌≡◌, ℕ, Bool, true, false, Option, Some, None, map, min, string_bytes}
+use Rattle.std.specs.Prelude.{◌≡◌, ℕ, Bool, true, false, Option, Some, None, is_some}
+use Rattle.std.specs.Prelude.{map, min, string_bytes}
 use Rattle.bw_stream.specs.declared.sink.Sink.{Ghosts as Writer}
 use Rattle.bw_args.specs.declared.recordings.PcmSender.{PcmSender}
 use Rattle.bw_console.specs.Prints.{failures_if}
@@ -11,6 +12,8 @@ use Rattle.bw_send_file.specs.Sendings.{Ways}
 use Rattle.bw_send_file.specs.declared.job.Recorder.{Recorder}
 use Rattle.bw_send_pcm.specs.PcmSendings.{FollowsFile, IsPcmSent, OpensSamples}
 use Rattle.bw_send_pcm.specs.declared.job.PcmFile.{PcmFile}
+use Rattle.bw_program.specs.declared.samples.Ending.{Ending}
+use Rattle.bw_program.specs.declared.samples.Ending.TheVariants as endings
 use Rattle.bw_program.specs.Sides.{SenderSide, UploadSide}
 
 -- the recorder that a command line asks for
@@ -41,9 +44,14 @@ awaited_end true until = Some false
 awaited_end false (Some until) = Some true
 awaited_end false None = None
 
+-- the same, of what awaits the end
+abbrev pub end_of : Ending → Option Bool
+end_of endings.Past = None
+end_of (endings.Awaited until) = Some (is_some until)
+
 module _ {U J F H G M Q N X P R W D A B O E : Type 0} (upload : UploadSide U J Q)
-    (side : SenderSide D A B) (network : NetworkGhosts N X P D R W A B) (files : FileGhosts F H G M) (out : Writer O)
-    (reported : Writer E) where
+    (side : SenderSide D A B) (network : NetworkGhosts N X P D R W A B) (files : FileGhosts F H G M)
+    (out : Writer O) (reported : Writer E) where
   -- the samples were sent: of a file as it is; or, of a recording that is still made, of one that is
   -- still being written, by another program or from standard input
   abbrev pub SendsSamples : Option Bool → Recorder → PcmFile → F → Ways Q D → Ways Q D → Packing →

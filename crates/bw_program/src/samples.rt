@@ -1,8 +1,8 @@
 //! The command that sends headerless samples, as a command line asks for it.
-ghost use Rattle.std.specs.Prelude.{◌≡◌, ◌⊎◌, is_some, min, option_map};
+ghost use Rattle.std.specs.Prelude.{◌≡◌, min, true};
 ghost use Rattle.bw_send_file.specs.FileLooks.{LooksAt};
-ghost use Rattle.bw_program.specs.PcmUploads.{IsPcmFileOf, IsPcmRecorderOf, SendsPcm, awaited_end, most_in_field};
-ghost use Rattle.bw_program.specs.PcmCommands.{RefusesSpool, SendsPcmCommand, SendsSpool, spool_line};
+ghost use Rattle.bw_program.specs.PcmUploads.{IsPcmFileOf, IsPcmRecorderOf, SendsPcm, awaited_end, end_of, most_in_field};
+ghost use Rattle.bw_program.specs.PcmCommands.{SendsBySpool, SendsPcmCommand, spool_line};
 ghost use Rattle.bw_program.specs.Sides.{sender_side, spool_side, upload_side};
 ghost use Rattle.bw_spool.specs.Purposes.{line_of};
 
@@ -20,6 +20,15 @@ use bw_spool::{Purpose, SpoolKeeper, SpoolKeeping};
 use bw_stream::Sink;
 use bw_upload::{Feed, Observer};
 use std::alloc::Global;
+
+/// When all of a recording is written.
+#[derive(Clone, Copy)]
+enum Ending<'a> {
+    /// Before it is sent.
+    Past,
+    /// Once a file is at this path or, without one, once standard input ends.
+    Awaited(Option<&'a str>),
+}
 
 /// Sends the headerless samples that the command line names, and reports each change of the link to
 /// the observer. A spool is held first, and what still comes is kept in it unless all is stored.
@@ -73,19 +82,12 @@ fn send_spool<
     out: &mut W,
     faults: &mut E,
 ) -> Exit
-    ensures { SendsSpool
+    ensures { SendsBySpool
         (upload_side ⟦<PlanFeed<F::File, F::Stamped> as Feed>⟧ (LooksAt F.Stamped.Stamped)
         ⟦<PcmFeed<F::Growing> as Feed>⟧ P.Pause)
         (sender_side N.Dial.Dial N.Dial.Reader.Source N.Dial.Writer.Sink) N.Network
         F.RecordingFiles (spool_side F.lends F.Keeper.SpoolKeeper) W.Sink E.Sink
-        sender.now result files.old files.new network.now
-        pause.old pause.new out.old out.new faults.old faults.new
-        ⊎ RefusesSpool
-        (upload_side ⟦<PlanFeed<F::File, F::Stamped> as Feed>⟧ (LooksAt F.Stamped.Stamped)
-        ⟦<PcmFeed<F::Growing> as Feed>⟧ P.Pause)
-        (sender_side N.Dial.Dial N.Dial.Reader.Source N.Dial.Writer.Sink) N.Network
-        F.RecordingFiles (spool_side F.lends F.Keeper.SpoolKeeper) W.Sink E.Sink
-        sender.now result files.old files.new
+        true sender.now result files.old files.new network.now
         pause.old pause.new out.old out.new faults.old faults.new }
 {
     let mut keeper = files.keeper();
@@ -133,10 +135,10 @@ fn send_samples_as<F: RecordingFiles, N: PacedNetwork, P: Pause, G: Observer, W:
     let file = pcm_file_of(sender);
     let recorder = recorder_of(sender);
     match ending_of(sender) {
-        Some(until) => follow_samples(
+        Ending::Awaited(until) => follow_samples(
             alloc, &recorder, &file, until, files, pause, &mut dial, observer, out, faults,
         ),
-        None => send_samples(
+        Ending::Past => send_samples(
             alloc, &recorder, &file, files, pause, &mut dial, observer, out, faults,
         ),
     }
@@ -171,8 +173,8 @@ pub(crate) fn send_pcm_watched<
 {
     let file = pcm_file_of(sender);
     let extent = match ending_of(sender) {
-        Some(_until) => Extent::Growing,
-        None => Extent::Whole,
+        Ending::Awaited(_until) => Extent::Growing,
+        Ending::Past => Extent::Whole,
     };
     let samples = SamplesSent {
         file: &file.file,
@@ -185,18 +187,16 @@ pub(crate) fn send_pcm_watched<
     exit
 }
 
-/// What says that the recording has ended: `Some(Some(path))` if a file at that path does,
-/// `Some(None)` if the end of standard input does; `None` if it has ended already.
-fn ending_of(sender: &PcmSender) -> Option<Option<&str>>
-    ensures { option_map (λ until. is_some until) result
-        ≡ awaited_end sender.now.pcm.is_spooled sender.now.pcm.until }
+/// When the recording that a command line names has ended.
+fn ending_of(sender: &PcmSender) -> Ending<'_>
+    ensures { end_of result ≡ awaited_end sender.now.pcm.is_spooled sender.now.pcm.until }
 {
     if sender.pcm.is_spooled {
-        return Some(None);
+        return Ending::Awaited(None);
     }
     match &sender.pcm.until {
-        Some(until) => Some(Some(until.as_str())),
-        None => None,
+        Some(until) => Ending::Awaited(Some(until.as_str())),
+        None => Ending::Past,
     }
 }
 

@@ -1,8 +1,8 @@
 use Rattle.std.proofs.Common.{sym}
 use Rattle.bw_program.proofs.samples.send_samples_as.Goals as goal
 
-pub returns-in-Some : goal.returns-in-Some
-returns-in-Some g c =
+pub returns-in-Awaited : goal.returns-in-Awaited
+returns-in-Awaited g c =
     let s = c.follow_samples.ensures in
     record {
       first = c.dial_paced-dial.result;
@@ -14,7 +14,7 @@ returns-in-Some g c =
       file_is = c.pcm_file_of-file.ensures;
       did = s.0;
       ends = s.1;
-      is = rw (sym c.ending_of.ensures, c.in-Some.is) s.2;
+      is = rw (sym c.ending_of.ensures, c.in-Awaited.is) s.2;
       failures = s.3;
       writes = s.4;
     }
@@ -32,7 +32,7 @@ returns g c =
       file_is = c.pcm_file_of-file.ensures;
       did = s.0;
       ends = s.1;
-      is = rw (sym c.ending_of.ensures, c.in-None.is) s.2;
+      is = rw (sym c.ending_of.ensures, c.in-Past.is) s.2;
       failures = s.3;
       writes = s.4;
     }
