@@ -50,7 +50,8 @@ module _ {D E F H : Type 0} (G : DiskGhosts D F) (K : DiskGhosts E H)
       WasStarted G K S J limit the_folder false first book (disk_content folder.notes) s
 
   -- its disks have what the folder has
-  pub record LeavesTakes (s : Server (FolderStore D F G) (FolderJournal E H K) S J) (left : Folder) : Type 0 where
+  pub record LeavesTakes (s : Server (FolderStore D F G) (FolderJournal E H K) S J) (left : Folder)
+      : Type 0 where
     pub takes : G.contents (takes_disk (server_store s)) ≡ disk_content left.takes
     pub notes : K.contents (journals_disk (server_journal s)) ≡ disk_content left.notes
 

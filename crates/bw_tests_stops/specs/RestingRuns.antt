@@ -91,11 +91,12 @@ module _ {D E F H : Type 0} (G : DiskGhosts D F) (K : DiskGhosts E H)
 
   -- A server ran over a folder, gave these answers, and left this: as `RanResting` asks, but for what
   -- comes after it.
-  pub record RanOver (limit : ℕ) (folder : Folder) (answers : List GivenAnswer) (left : Folder) : Type 0 where
+  pub record RanOver (limit : ℕ) (folder : Folder) (answers : List GivenAnswer) (left : Folder)
+      : Type 0 where
     pub began : Server (FolderStore D F G) (RestingFolderJournal E H K) S R
     pub ended : Server (FolderStore D F G) (RestingFolderJournal E H K) S R
-    pub started : WasStartedResting G K S J R (settings_with limit true) the_folder (disk_content folder.notes)
-        (disk_content folder.takes) began
+    pub started : WasStartedResting G K S J R (settings_with limit true) the_folder
+        (disk_content folder.notes) (disk_content folder.takes) began
     pub honest : IsTrue (S.honest (server_store began))
     pub honest_notes : IsTrue (R.honest (server_journal began))
     pub went : AnswersAll (RestingTurn S R) began (map answered_of answers) ended

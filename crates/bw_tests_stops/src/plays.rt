@@ -59,14 +59,19 @@ pub(crate) fn add(
     Ok(())
 }
 
-/// Plays the events for the name `a1`.
-pub(crate) fn play(
-    alloc: Global,
-    events: &[StopEvent],
-) -> Result<Result<Rehearsed, StopsFault>, Fail> {
+/// The greatest size of a take's file, in bytes.
+pub(crate) fn limit() -> Result<Limit, Fail> {
+    Ok(Limit::new(8_192).ok_or("a limit")?)
+}
+
+/// Plays the events for the name `a1`. None if a start failed.
+pub(crate) fn play(alloc: Global, events: &[StopEvent]) -> Result<Option<Rehearsed>, Fail> {
     let name = Name::new(b"a1").ok_or("a name")?;
-    let limit = Limit::new(8_192).ok_or("a limit")?;
-    Ok(rehearse_stops(alloc, name, limit, events))
+    match rehearse_stops(alloc, name, limit()?, events) {
+        Ok(it) => Ok(Some(it)),
+        Err(StopsFault::Start) => Ok(None),
+        Err(StopsFault::Memory) => Err("memory")?,
+    }
 }
 
 /// Whether so many numbers are done on a server that runs, and counted by the sender.

@@ -1,9 +1,9 @@
 //! Servers of more takes than a table has places for: of 257 names one rests, and wakes at its next
 //! message. What a run shows, `two_runs` states for every run: these are some that end well.
 use crate::answering::GivenAnswer;
-use crate::runs::{TestRunFault, TwoRuns, two_runs};
+use crate::plays::limit;
+use crate::runs::{TestRunFault, two_runs};
 use bw_disk::MemoryDisk;
-use bw_layout::Limit;
 use bw_request::Verdict;
 use bw_stops::Lives;
 use bw_wire::Reply;
@@ -57,12 +57,6 @@ fn second(alloc: Global) -> Result<Vec<Vec<u8>>, AllocError> {
     Ok(bodies)
 }
 
-/// Both servers, and a start between them by disks that die so.
-fn run(alloc: Global, failing: &Lives) -> Result<Result<TwoRuns, TestRunFault>, Fail> {
-    let limit = Limit::new(8_192).ok_or("a limit")?;
-    Ok(two_runs(alloc, limit, first(alloc)?, failing, second(alloc)?))
-}
-
 /// Whether the one reply to a message is the verdict Stored on its number.
 pub(crate) fn is_stored(answer: &GivenAnswer) -> bool {
     let body = answer.body.as_slice();
@@ -93,7 +87,7 @@ pub(crate) fn is_whole(takes: &MemoryDisk) -> bool {
 /// Fails the test unless a start failed, each message was stored, and again so when it came again, and
 /// both takes rest.
 fn is_right(rt: &impl Abort, alloc: Global, failing: &Lives) -> Result<(), Fail> {
-    let Ok(it) = run(alloc, failing)? else {
+    let Ok(it) = two_runs(alloc, limit()?, first(alloc)?, failing, second(alloc)?) else {
         return Err("no two servers ran")?;
     };
     assert!(rt; it.first.len() == 261 && it.first.iter().all(is_stored));
@@ -139,7 +133,8 @@ fn a_start_by_disks_that_live_does_not_fail(rt: HostRuntime) -> Result<(), Fail>
         notes: u64::MAX,
         reached: 0,
     };
-    let answer = run(rt.alloc(), &failing)?;
+    let alloc = rt.alloc();
+    let answer = two_runs(alloc, limit()?, first(alloc)?, &failing, second(alloc)?);
     assert!(rt; matches!(answer, Err(TestRunFault::Start)));
     Ok(())
 }

@@ -75,7 +75,7 @@ fn starts_after(alloc: Global, first: Lives, starts: &[Lives]) -> Result<Vec<Sto
 /// What becomes of the take by these starts.
 fn fate_of(alloc: Global, first: Lives, starts: &[Lives]) -> Result<Fate, Fail> {
     let events = starts_after(alloc, first, starts)?;
-    let Ok(it) = play(alloc, events.as_slice())? else {
+    let Some(it) = play(alloc, events.as_slice())? else {
         return Ok(Fate::Lost);
     };
     if !stands(&it) {
@@ -93,7 +93,7 @@ fn is_finished(alloc: Global, first: Lives, starts: &[Lives]) -> Result<bool, Fa
     events.push(StopEvent::Stop)?;
     events.push(StopEvent::Start(ENDLESS))?;
     add(alloc, &mut events, &AGAIN)?;
-    let Ok(it) = play(alloc, events.as_slice())? else {
+    let Some(it) = play(alloc, events.as_slice())? else {
         return Ok(false);
     };
     Ok(has_done(&it, 3) && is_whole(alloc, &it)?)
@@ -162,8 +162,8 @@ fn outlives_starts(alloc: Global, first: Lives, reached: usize) -> Result<bool, 
 fn heard(alloc: Global, first: Lives) -> Result<u32, Fail> {
     let events = starts_after(alloc, first, &[])?;
     match play(alloc, events.as_slice())? {
-        Ok(it) => Ok(it.sender.settled()),
-        Err(_) => Err("a rehearsal")?,
+        Some(it) => Ok(it.sender.settled()),
+        None => Err("a rehearsal")?,
     }
 }
 

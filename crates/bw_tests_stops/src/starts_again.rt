@@ -1,36 +1,32 @@
 //! A take whose server stops, and the server that starts after one that couldn't. What a run shows,
 //! `restart` states for every run: these are some that end well.
-use crate::restarts::{Restarted, restart};
+use crate::plays::limit;
+use crate::restarts::restart;
 use crate::rests::{TAKE, is_stored};
 use crate::runs::TestRunFault;
-use bw_layout::Limit;
 use bw_request::Name;
 use bw_stops::Lives;
-use std::alloc::Global;
+use std::alloc::{AllocError, Global};
 use std::process::Abort;
 use std::test::Fail;
 
 /// How many messages the take has; the last is its CLOSE.
 const REQUESTS: u32 = 3;
 
-/// A restart over the first messages of the take, by disks that die so.
-fn run(
-    alloc: Global,
-    count: usize,
-    failing: &Lives,
-) -> Result<Result<Restarted, TestRunFault>, Fail> {
-    let limit = Limit::new(8_192).ok_or("a limit")?;
+/// The first messages of the take.
+fn messages(alloc: Global, count: usize) -> Result<Vec<Vec<u8>>, AllocError> {
     let mut bodies = Vec::new(alloc);
     for body in TAKE.iter().take(count) {
         bodies.push(body.to_vec(alloc)?)?;
     }
-    Ok(restart(alloc, limit, bodies, failing))
+    Ok(bodies)
 }
 
 /// Fails the test unless a start failed by disks that die so, each of the take's first messages was
 /// stored, and the last server has these, and no more.
 fn has_each(rt: &impl Abort, alloc: Global, count: u32, failing: &Lives) -> Result<(), Fail> {
-    let Ok(it) = run(alloc, count as usize, failing)? else {
+    let bodies = messages(alloc, count as usize)?;
+    let Ok(it) = restart(alloc, limit()?, bodies, failing) else {
         return Err("no server started")?;
     };
     let name = Name::new(b"a1").ok_or("a name")?;
@@ -75,7 +71,8 @@ fn a_start_by_disks_that_live_succeeds(rt: HostRuntime) -> Result<(), Fail> {
         notes: u64::MAX,
         reached: 0,
     };
-    let answer = run(rt.alloc(), TAKE.len(), &failing)?;
+    let bodies = messages(rt.alloc(), TAKE.len())?;
+    let answer = restart(rt.alloc(), limit()?, bodies, &failing);
     assert!(rt; matches!(answer, Err(TestRunFault::Start)));
     Ok(())
 }
@@ -83,7 +80,6 @@ fn a_start_by_disks_that_live_succeeds(rt: HostRuntime) -> Result<(), Fail> {
 #[test]
 fn a_body_that_is_no_message_is_refused(rt: HostRuntime) -> Result<(), Fail> {
     let alloc = rt.alloc();
-    let limit = Limit::new(8_192).ok_or("a limit")?;
     let mut bodies = Vec::new(alloc);
     bodies.push(b"\x09".to_vec(alloc)?)?;
     let failing = Lives {
@@ -91,7 +87,7 @@ fn a_body_that_is_no_message_is_refused(rt: HostRuntime) -> Result<(), Fail> {
         notes: 0,
         reached: 0,
     };
-    let answer = restart(alloc, limit, bodies, &failing);
+    let answer = restart(alloc, limit()?, bodies, &failing);
     assert!(rt; matches!(answer, Err(TestRunFault::Message)));
     Ok(())
 }

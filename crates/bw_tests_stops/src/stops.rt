@@ -1,7 +1,7 @@
 //! A take of three messages whose server stops, in each call of its disks and between turns, and is
 //! finished by the next one.
 use crate::plays::{CALLS, ENDLESS, FIRST, add, has_done, lives_of, play};
-use bw_stops::{Lives, Rehearsed, StopEvent, StopsFault};
+use bw_stops::{Lives, Rehearsed, StopEvent};
 use std::alloc::Global;
 use std::process::Abort;
 use std::test::Fail;
@@ -29,8 +29,8 @@ const SPLIT: [&str; 6] = [
     "bring 0",
 ];
 
-/// Two servers, of which the first has disks that die so.
-fn two_lives(alloc: Global, first: Lives) -> Result<Result<Rehearsed, StopsFault>, Fail> {
+/// Two servers, of which the first has disks that die so. None if a start failed.
+fn two_lives(alloc: Global, first: Lives) -> Result<Option<Rehearsed>, Fail> {
     let mut events = Vec::new(alloc);
     events.push(StopEvent::Start(first))?;
     add(alloc, &mut events, &FIRST)?;
@@ -45,7 +45,7 @@ fn two_lives(alloc: Global, first: Lives) -> Result<Result<Rehearsed, StopsFault
 fn is_always_finished(alloc: Global, reached: usize, of_takes: bool) -> Result<bool, Fail> {
     for life in 0..CALLS {
         let lives = lives_of(of_takes, life, reached);
-        let Ok(it) = two_lives(alloc, lives)? else {
+        let Some(it) = two_lives(alloc, lives)? else {
             // The first server died in its start.
             continue;
         };
@@ -91,13 +91,13 @@ fn what_comes_while_no_server_runs_is_lost(rt: HostRuntime) -> Result<(), Fail> 
     events.push(StopEvent::Stop)?;
     add(alloc, &mut events, &["deliver 1"])?;
     events.push(StopEvent::Start(ENDLESS))?;
-    let Ok(before) = play(alloc, events.as_slice())? else {
+    let Some(before) = play(alloc, events.as_slice())? else {
         return Err("a rehearsal")?;
     };
     assert!(rt; before.replies == 1);
     assert!(rt; has_done(&before, 1));
     add(alloc, &mut events, &["deliver 1", "bring 1"])?;
-    let Ok(after) = play(alloc, events.as_slice())? else {
+    let Some(after) = play(alloc, events.as_slice())? else {
         return Err("a rehearsal")?;
     };
     assert!(rt; after.replies == 2);

@@ -5,10 +5,11 @@ use crate::tests::journals::{Noting, played, send_first};
 use crate::tests::play::a1;
 use bw_session::WakeFault;
 use bw_store::StoreFault;
+use std::process::Abort;
 use std::test::Fail;
 
-/// Wakes the name, if it isn't known and there is room.
-fn woken(server: &mut Noting) -> Result<Result<bool, WakeFault>, Fail> {
+/// Wakes the name, and fails the test unless that gives the result wanted.
+fn wakes(rt: &impl Abort, server: &mut Noting, want: &Result<bool, WakeFault>) -> Result<(), Fail> {
     let name = a1()?;
     if server.is_known(&name) {
         return Err("it is known")?;
@@ -16,7 +17,8 @@ fn woken(server: &mut Noting) -> Result<Result<bool, WakeFault>, Fail> {
     if server.is_full() {
         return Err("no room")?;
     }
-    Ok(server.wake(&name))
+    same(rt, "wake", &server.wake(&name), want);
+    Ok(())
 }
 
 /// Whether a name rests, if that could be seen.
@@ -43,7 +45,7 @@ fn a_closed_take_rests_and_wakes_with_its_verdicts(rt: HostRuntime) -> Result<()
     same(&rt, "rest", &server.rest(&a1()?), &Ok(true));
     same(&rt, "names", &server.names(), &0);
     same(&rt, "rests", &rests(&mut server)?, &Some(true));
-    same(&rt, "wake", &woken(&mut server)?, &Ok(true));
+    wakes(&rt, &mut server, &Ok(true))?;
     send_first(&rt, &mut server, 6)?;
     same(&rt, "rests", &rests(&mut server)?, &Some(false));
     same(&rt, "rest", &server.rest(&a1()?), &Ok(true));
@@ -55,7 +57,7 @@ fn a_journal_that_is_cut_short_does_not_wake(rt: HostRuntime) -> Result<(), Fail
     for len in 0..JOURNAL.len() {
         let mut server = played(&rt, rt.alloc(), 6, len)?;
         same(&rt, "rest", &server.rest(&a1()?), &Ok(true));
-        same(&rt, "wake", &woken(&mut server)?, &Err(WakeFault::Unfit));
+        wakes(&rt, &mut server, &Err(WakeFault::Unfit))?;
         same(&rt, "names", &server.names(), &0);
     }
     Ok(())
@@ -66,13 +68,13 @@ fn a_journal_that_cannot_be_read_does_not_wake(rt: HostRuntime) -> Result<(), Fa
     let mut server = played(&rt, rt.alloc(), 6, JOURNAL.len() + 1)?;
     same(&rt, "rest", &server.rest(&a1()?), &Ok(true));
     same(&rt, "rests", &rests(&mut server)?, &None);
-    same(&rt, "wake", &woken(&mut server)?, &Err(WakeFault::Journal));
+    wakes(&rt, &mut server, &Err(WakeFault::Journal))?;
     Ok(())
 }
 
 #[test]
 fn a_name_that_does_not_rest_does_not_wake(rt: HostRuntime) -> Result<(), Fail> {
     let mut server = played(&rt, rt.alloc(), 0, JOURNAL.len())?;
-    same(&rt, "wake", &woken(&mut server)?, &Ok(false));
+    wakes(&rt, &mut server, &Ok(false))?;
     Ok(())
 }
