@@ -101,9 +101,11 @@ abbrev pub IsUnread : Bool → Outcome → Type 0
 IsUnread true did = IsOutOfMemory did
 IsUnread false did = (kind : ErrorKind) × IsBadArgv kind did
 
-module _ {S T F H G M SB SL KP Ed LK DK DF N X Y Z P R W L K SP SK D A B U J Q I O E V C VR : Type 0} (host : HostSide S T F H G M SB SL KP Ed LK DK DF I O E)
+module _ {S T F H G M SB SL KP Ed LK DK DF N X Y Z P R W L K SP SK D A B U J Q I O E V C VR : Type 0}
+    (host : HostSide S T F H G M SB SL KP Ed LK DK DF I O E)
     (server_side : ServerSide X Y Z P R W L K N SP SK) (sender_side : SenderSide D A B)
-    (upload_side : UploadSide U J Q) (network : NetworkGhosts N X P D R W A B) (listener_setup : ListenerSetupGhosts N L K)
+    (upload_side : UploadSide U J Q) (network : NetworkGhosts N X P D R W A B)
+    (listener_setup : ListenerSetupGhosts N L K)
     (starts : StartSide server_side.store server_side.journal N VR) where
   -- this is done without the network, recordings and folders, where so many calls of the system
   -- had failed
@@ -137,14 +139,14 @@ module _ {S T F H G M SB SL KP Ed LK DK DF N X Y Z P R W L K SP SK D A B U J Q I
   IsDoneFor file_at failed (Run (SendFile sender)) exit x x' =
       IfFile host.kinds host.reported (string_bytes sender.source.path) false exit
       x.files x'.files x.pause x'.pause x.out x'.out x.faults x'.faults
-      (SendsByState upload_side sender_side network host.files host.states host.out host.reported sender exit
-      x.files x'.files x.network x.pause x'.pause x.out x'.out x.faults x'.faults)
+      (SendsByState upload_side sender_side network host.files host.states host.out host.reported
+      sender exit x.files x'.files x.network x.pause x'.pause x.out x'.out x.faults x'.faults)
       × IsHostWell failed x' × (x'.network ≡ x.network) × (x'.input ≡ x.input) × (x'.disk ≡ x.disk)
   IsDoneFor file_at failed (Run (SendPcm sender)) exit x x' =
       IfFile host.kinds host.reported (string_bytes sender.source.path) sender.pcm.is_spooled exit
       x.files x'.files x.pause x'.pause x.out x'.out x.faults x'.faults
-      (SendsPcmCommand upload_side sender_side network host.files host.spools host.out host.reported sender exit
-      x.files x'.files x.network x.pause x'.pause x.out x'.out x.faults x'.faults)
+      (SendsPcmCommand upload_side sender_side network host.files host.spools host.out host.reported
+      sender exit x.files x'.files x.network x.pause x'.pause x.out x'.out x.faults x'.faults)
       × IsHostWell failed x' × (x'.network ≡ x.network) × (x'.input ≡ x.input) × (x'.disk ≡ x.disk)
   IsDoneFor file_at failed (Run (Pack source)) exit x x' =
       Packs host.out host.reported (host.files.file_at x.files) source exit

@@ -179,7 +179,7 @@ module _ {N X P R W D A B I O E : Type 0} (network : NetworkGhosts N X P D R W A
     pub reads : input.failures i' ≡ failures_if did.reads_all (input.failures i)
     pub writes : HasWritten out reported did o o' e e'
 
-  -- .. after who types them was told what is read
+  -- .. after it was reported what is read, if a user types it
   pub record SendsTyped (typed : Bool) (sender : Send) (exit : Exit) (n : N) (i i' : I) (o o' : O)
       (e e' : E) : Type 0 where
     pub between : E

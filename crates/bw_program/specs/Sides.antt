@@ -61,9 +61,10 @@ pub record HostSide (S T F H G M SB SL KP J LK DK DF I O E : Type 0) : Type 1 wh
   pub out : Writer O
   pub reported : Writer E
 
-abbrev pub host_side : {S T F H G M SB SL KP J LK DK DF I O E : Type 0} → SystemGhosts S T → FileGhosts F H G M →
-    StateSide F SB SL → SpoolSide F KP → EditGhosts F J → LockGhosts F LK → KindGhosts F → DiskGhosts DK DF → Reader I →
-    Writer O → Writer E → HostSide S T F H G M SB SL KP J LK DK DF I O E
+abbrev pub host_side : {S T F H G M SB SL KP J LK DK DF I O E : Type 0} → SystemGhosts S T →
+    FileGhosts F H G M → StateSide F SB SL → SpoolSide F KP → EditGhosts F J → LockGhosts F LK →
+    KindGhosts F → DiskGhosts DK DF → Reader I → Writer O → Writer E →
+    HostSide S T F H G M SB SL KP J LK DK DF I O E
 host_side system files states spools edits locks kinds disk input out reported = record {
   system = system;
   files = files;

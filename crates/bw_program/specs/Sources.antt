@@ -1,4 +1,5 @@
--- What is done where a command line names what to send, by what is there; and who types it is told.
+-- What is done where a command line names what to send, by what is there; and what is reported to a
+-- user who types it.
 use Rattle.std.specs.Prelude.{◌≡◌, ◌⊎◌, ℕ, [], ◌∷◌, ◌++◌, Bool, true, false, List, codes}
 use Rattle.bw_stream.specs.declared.sink.Sink.{Ghosts as Writer}
 use Rattle.bw_console.specs.Prints.{Print, IsOf, IsPrint}
@@ -7,12 +8,12 @@ use Rattle.bw_kind.specs.Kinds.{IsKindReport, is_odd_kind}
 use Rattle.bw_kind.specs.declared.kind.FileKind.{FileKind}
 use Rattle.bw_kind.specs.declared.kind.FileKinds.{Ghosts as KindGhosts}
 
--- what is told to who types what is sent
+-- what is reported to a user who types what is sent
 abbrev pub typed_note : List ℕ
 typed_note = codes "send: reads requests from standard input, each a line of hex, to its end (Ctrl-D)\n"
 
 module _ {E : Type 0} (reported : Writer E) where
-  -- it is told where somebody types
+  -- it is reported if a user types
   abbrev pub NotesInput : Bool → E → E → Type 0
   NotesInput true e e' = (print : Print) × IsOf typed_note print × IsPrint reported print e e'
   NotesInput false e e' = e' ≡ e

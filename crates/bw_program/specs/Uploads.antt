@@ -30,8 +30,8 @@ pub record IsJobOf (sender : FileSender) (path : List ℕ) (job : Job) : Type 0 
   pub address : job.place.address.now ≡ socket_text sender.connect
 
 module _ {U J F H G M Q N X P R W D A B O E : Type 0} (upload : UploadSide U J Q)
-    (side : SenderSide D A B) (network : NetworkGhosts N X P D R W A B) (files : FileGhosts F H G M) (out : Writer O)
-    (reported : Writer E) where
+    (side : SenderSide D A B) (network : NetworkGhosts N X P D R W A B) (files : FileGhosts F H G M)
+    (out : Writer O) (reported : Writer E) where
   -- the recording was sent over links that are made so, after such pauses
   pub record SendsRecording (sender : FileSender) (exit : Exit) (f f' : F) (n : N) (q q' : Q)
       (o o' : O) (e e' : E) : Type 0 where
@@ -66,12 +66,14 @@ module _ {U J F H G M S L Q N X P R W D A B O E : Type 0} (upload : UploadSide U
     pub left : S
     pub did : Continuation
     pub ends : did.exit ≡ exit
-    pub is : IsFileSentOn (sending_side upload.feed upload.looks_at upload.pause side.dial side.replies side.requests)
+    pub is : IsFileSentOn
+        (sending_side upload.feed upload.looks_at upload.pause side.dial side.replies side.requests)
         job states.log (outside_of (known_file_of job (files.file_at f) (files.stamp_at f))
         (states.files.state_at opened) (states.files.state_at left))
         (record { pause = q; dial = first }) (record { pause = q'; dial = last }) did
     pub failures : files.failures f' ≡ failures_if did.sent.is_system_well (files.failures f)
-    pub state_failures : states.files.failures left ≡ failures_if did.is_state_well (states.files.failures opened)
+    pub state_failures : states.files.failures left
+        ≡ failures_if did.is_state_well (states.files.failures opened)
     pub writes : HasContinued out reported did o o' e e'
 
   -- memory was refused before anything was done

@@ -76,8 +76,7 @@ pub fn start<
     // Commands without the network leave it alone, and each text goes to its stream.
     ensures { (exit : Exit) × (exit_status result ≡ status_of exit) × IsProgram
         (host_side S.System F.RecordingFiles (state_side F.kept_at F.States.StateFiles F.States.Log.StateLog)
-        (spool_side F.lends F.Keeper.SpoolKeeper)
-        F.EditedFiles F.FolderLocks F.FileKinds D.Disk R.Source W.Sink E.Sink)
+        (spool_side F.lends F.Keeper.SpoolKeeper) F.EditedFiles F.FolderLocks F.FileKinds D.Disk R.Source W.Sink E.Sink)
         (server_side N.Store.TakeStore J.Journal ⟦<NoJournal as Journal>⟧ N.Peers.Peers
         N.Peers.Reader.Source N.Peers.Writer.Sink N.Reactor.Reactor N.Reactor.Link.Link N.NameRule
         (status_side N.StatusSetup N.Port.StatusPort N.Port.Link.Link))
@@ -110,8 +109,7 @@ fn obey<
     G: Observer,
 >(alloc: Global, outside: &mut Outside<S, F, D, N, P, R, W, E, V, G>) -> Exit
     ensures { IsProgram (host_side S.System F.RecordingFiles (state_side F.kept_at F.States.StateFiles F.States.Log.StateLog)
-        (spool_side F.lends F.Keeper.SpoolKeeper)
-        F.EditedFiles F.FolderLocks F.FileKinds D.Disk R.Source W.Sink E.Sink)
+        (spool_side F.lends F.Keeper.SpoolKeeper) F.EditedFiles F.FolderLocks F.FileKinds D.Disk R.Source W.Sink E.Sink)
         (server_side N.Store.TakeStore J.Journal ⟦<NoJournal as Journal>⟧ N.Peers.Peers
         N.Peers.Reader.Source N.Peers.Writer.Sink N.Reactor.Reactor N.Reactor.Link.Link N.NameRule
         (status_side N.StatusSetup N.Port.StatusPort N.Port.Link.Link))
@@ -147,8 +145,7 @@ fn answer<
     G: Observer,
 >(alloc: Global, words: &[String], outside: &mut Outside<S, F, D, N, P, R, W, E, V, G>) -> Exit
     ensures { IsProgram (host_side S.System F.RecordingFiles (state_side F.kept_at F.States.StateFiles F.States.Log.StateLog)
-        (spool_side F.lends F.Keeper.SpoolKeeper)
-        F.EditedFiles F.FolderLocks F.FileKinds D.Disk R.Source W.Sink E.Sink)
+        (spool_side F.lends F.Keeper.SpoolKeeper) F.EditedFiles F.FolderLocks F.FileKinds D.Disk R.Source W.Sink E.Sink)
         (server_side N.Store.TakeStore J.Journal ⟦<NoJournal as Journal>⟧ N.Peers.Peers
         N.Peers.Reader.Source N.Peers.Writer.Sink N.Reactor.Reactor N.Reactor.Link.Link N.NameRule
         (status_side N.StatusSetup N.Port.StatusPort N.Port.Link.Link))
@@ -185,8 +182,7 @@ fn perform<
 >(alloc: Global, line: &CommandLine, outside: &mut Outside<S, F, D, N, P, R, W, E, V, G>) -> Exit
     requires { HasNumbersInRange line.now }
     ensures { IsDoneFor (host_side S.System F.RecordingFiles (state_side F.kept_at F.States.StateFiles F.States.Log.StateLog)
-        (spool_side F.lends F.Keeper.SpoolKeeper)
-        F.EditedFiles F.FolderLocks F.FileKinds D.Disk R.Source W.Sink E.Sink)
+        (spool_side F.lends F.Keeper.SpoolKeeper) F.EditedFiles F.FolderLocks F.FileKinds D.Disk R.Source W.Sink E.Sink)
         (server_side N.Store.TakeStore J.Journal ⟦<NoJournal as Journal>⟧ N.Peers.Peers
         N.Peers.Reader.Source N.Peers.Writer.Sink N.Reactor.Reactor N.Reactor.Link.Link N.NameRule
         (status_side N.StatusSetup N.Port.StatusPort N.Port.Link.Link))
@@ -228,8 +224,7 @@ fn run<
 >(alloc: Global, task: &Task, outside: &mut Outside<S, F, D, N, P, R, W, E, V, G>) -> Exit
     requires { HasNumbersInRange (CommandLine.Run task.now) }
     ensures { IsDoneFor (host_side S.System F.RecordingFiles (state_side F.kept_at F.States.StateFiles F.States.Log.StateLog)
-        (spool_side F.lends F.Keeper.SpoolKeeper)
-        F.EditedFiles F.FolderLocks F.FileKinds D.Disk R.Source W.Sink E.Sink)
+        (spool_side F.lends F.Keeper.SpoolKeeper) F.EditedFiles F.FolderLocks F.FileKinds D.Disk R.Source W.Sink E.Sink)
         (server_side N.Store.TakeStore J.Journal ⟦<NoJournal as Journal>⟧ N.Peers.Peers
         N.Peers.Reader.Source N.Peers.Writer.Sink N.Reactor.Reactor N.Reactor.Link.Link N.NameRule
         (status_side N.StatusSetup N.Port.StatusPort N.Port.Link.Link))

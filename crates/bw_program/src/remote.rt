@@ -318,11 +318,11 @@ fn exchanges(end: End) -> u64
     }
 }
 
-/// What is told to who types requests.
+/// Reported to a user who types requests.
 const TYPED: &str =
     "send: reads requests from standard input, each a line of hex, to its end (Ctrl-D)\n";
 
-/// Says what is read, where somebody types it.
+/// Reports what is read, if a user types it.
 fn note_input<E: Sink>(is_typed: bool, faults: &mut E)
     ensures { NotesInput E.Sink is_typed faults.old faults.new }
 {
@@ -331,7 +331,7 @@ fn note_input<E: Sink>(is_typed: bool, faults: &mut E)
     }
 }
 
-/// Sends as `send_as` does, and says before what is read, where somebody types it.
+/// Sends as `send_as` does. It first reports what is read, if a user types it.
 pub(crate) fn send_typed<N: Network, R: Source, W: Sink, E: Sink, V: Watch>(
     alloc: Global,
     sender: &Send,
