@@ -16,3 +16,4 @@ pub mod PcmLemmas
 pub mod PictureLemmas
 pub mod RepairLemmas
 pub mod FolderLemmas
+pub mod AllCommandLemmas

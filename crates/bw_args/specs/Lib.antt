@@ -16,3 +16,4 @@ pub mod InspectedFiles
 pub mod PictureForms
 pub mod RepairForms
 pub mod FolderForms
+pub mod CommandForms

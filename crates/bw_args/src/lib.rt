@@ -5,14 +5,8 @@
 ghost use Rattle.std.specs.Prelude.{◌≡◌, ◌↔◌, map, IfOk, IsErr, string_bytes};
 ghost use Rattle.clap.specs.Words.{kind_of};
 ghost use Rattle.bw_args.specs.Lines.{HasNumbersInRange, IsLineOf};
-ghost use Rattle.bw_args.specs.Forms.{RefusesValues, RunsInspect, RunsRehearsal, RunsReplay};
+ghost use Rattle.bw_args.specs.CommandForms.{RefusesLines, RunsCommands};
 ghost use Rattle.bw_args.specs.Forms.{ReportsHelp};
-ghost use Rattle.bw_args.specs.PeerForms.{RefusesPeers, RunsSender, RunsServer, WantsPeers};
-ghost use Rattle.bw_args.specs.FileForms.{RefusesFiles, RunsFileSender, RunsPack};
-ghost use Rattle.bw_args.specs.PcmForms.{RefusesSamples, RunsPcmSender};
-ghost use Rattle.bw_args.specs.FolderForms.{RunsTakes};
-ghost use Rattle.bw_args.specs.PictureForms.{RunsPicture};
-ghost use Rattle.bw_args.specs.RepairForms.{RunsRepair};
 
 mod addresses;
 mod bad_value;
@@ -80,12 +74,10 @@ pub enum CommandLine {
 /// Parses a command line, whose first word is the program's own name.
 ///
 /// Which words run a task, and of what kind an error is, follows from `clap`'s own contract
-/// (`line`). In plain terms the contract says of seventy-five forms that they run (`replay`,
-/// `rehearse`, `inspect`, `pack`, `picture`, `repair`, `serve`, `send`, `send_file`, `send_pcm`,
-/// `takes`), of fifty-five which value is a fault (`values`, `inspect`, `peers`, `files`,
-/// `samples`, `takes`) and of seventeen what they print (`help`, `rehearse`, `inspect`, `pack`,
-/// `picture`, `repair`, `wanted`, `takes`). Examples test that options may be given in all their
-/// forms and orders, and that all else is refused, except `--` at the end or before a file.
+/// (`line`). In plain terms the contract says of seventy-five forms that they run, of fifty-five
+/// which value is a fault and of seventeen what they print (`runs`, `refuses`, `help`). Examples
+/// test that options may be given in all their forms and orders, and that all else is refused,
+/// except `--` at the end or before a file.
 ///
 /// # Errors
 /// `AllocError` if memory was refused.
@@ -99,37 +91,10 @@ pub fn parse(alloc: Global, words: &[String]) -> Result<CommandLine, AllocError>
     // words.
     ensures line { IfOk result (IsLineOf (map string_bytes words.now)) }
     ensures ranges { IfOk result HasNumbersInRange }
-    // `--limit N` and `--fuse K`, joined or in two words; both in two words, or none.
-    ensures replay { IfOk result (RunsReplay (map string_bytes words.now)) }
-    // `--name NAME`, which may begin with `-`, and `--limit N`; without a name none runs.
-    ensures rehearse { IfOk result (RunsRehearsal (map string_bytes words.now)) }
-    // A NAME, N or K of another form is a bad name, limit or fuse, the name first, then the limit.
-    ensures values { IfOk result (RefusesValues (map string_bytes words.now)) }
-    // A file, `-`, or two files; `--json`, `--human` and `--digest`; what can't be combined.
-    ensures inspect { IfOk result (RunsInspect (map string_bytes words.now)) }
-    // Each option of `serve` alone, beside an address and a folder that isn't empty.
-    ensures serve { IfOk result (RunsServer (map string_bytes words.now)) }
-    // Each option of `send` alone, beside an address and a name.
-    ensures send { IfOk result (RunsSender (map string_bytes words.now)) }
-    // A bad address, name or number, and options of `serve` that don't go together.
-    ensures peers { IfOk result (RefusesPeers (map string_bytes words.now)) }
-    // A missing address, folder or name is a missing argument.
-    ensures wanted { IfOk result (WantsPeers (map string_bytes words.now)) }
-    // One file that doesn't begin with `-`; `--strict`, or settings in their order, unread here.
-    ensures pack { IfOk result (RunsPack (map string_bytes words.now)) }
-    ensures picture { IfOk result (RunsPicture (map string_bytes words.now)) }
-    ensures repair { IfOk result (RunsRepair (map string_bytes words.now)) }
-    // Each option of `send --file` alone; unless set, 30 seconds and 10 fruitless links.
-    ensures send_file { IfOk result (RunsFileSender (map string_bytes words.now)) }
-    // Options of `--file` without it, `--rounds` beside it, and bad numbers of it.
-    ensures files { IfOk result (RefusesFiles (map string_bytes words.now)) }
-    // `--pcm` with each option; `--follow` and `--spool` never give up unless `--fruitless` is
-    // there.
-    ensures send_pcm { IfOk result (RunsPcmSender (map string_bytes words.now)) }
-    // Bad values of `--pcm`, `--skip` and `--block`, and options that don't go together.
-    ensures samples { IfOk result (RefusesSamples (map string_bytes words.now)) }
-    // A folder that isn't empty, each flag of `takes`, and which of them can't be combined.
-    ensures takes { IfOk result (RunsTakes (map string_bytes words.now)) }
+    // Each command runs in each of its forms, which its record lists.
+    ensures runs { IfOk result (RunsCommands (map string_bytes words.now)) }
+    // Bad values are refused, missing ones, and options that don't go together.
+    ensures refuses { IfOk result (RefusesLines (map string_bytes words.now)) }
     // Help and version are printed.
     ensures help { IfOk result (ReportsHelp (map string_bytes words.now)) }
 {
