@@ -1,9 +1,9 @@
 """What a power cut may leave of a folder whose calls were recorded (watcher.py).
 
-A file is found with bytes that each place has had since the file was last synced, as if sectors were written one by one,
-and with a length that it has had since then. A name may be missing if the folder wasn't synced since it was made. So a
-file system writes data before lengths (`data=ordered` of ext4); where a length may come first, and its bytes read as
-zeros, more is possible, which is left out here.
+A file is found with bytes that each place has had since the file was last synced, as if sectors were written one by
+one, and with a length that it has had since then. A name may be missing if the folder wasn't synced since it was made.
+So a file system writes data before lengths (`data=ordered` of ext4); where a length may come first, and its bytes read
+as zeros, more is possible, which is left out here.
 """
 
 SECTOR = 512  # bytes
