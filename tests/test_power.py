@@ -1,7 +1,7 @@
 #!/usr/bin/env python3
 """Cuts the power of a server with `--journal --sync` at its calls, and starts a server over what may be left.
 
-The calls of a server are recorded while takes are opened, stored and closed over several connections. At each of them
+The calls of a server are recorded while takes are opened, stored and closed in turns. At each of them
 folders are made as a power cut may leave them (kit/power.py). Each start must serve: no folder is refused, each
 verdict that was sent is there, and each take goes on to its CLOSE and its whole file. Needs what tracer.py needs. The
 program is the first argument, or the one of this repository. Prints what differs, and last 'N passed, M failed'.
