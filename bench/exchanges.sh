@@ -1,6 +1,6 @@
 #!/bin/sh
 # How long `replay` takes over whole runs, and the most memory that it has: large blocks of one name, and small ones of
-# 256 names in turn, eight numbers in an exchange, the last first, and each exchange twice. Each input stands beside one
+# 256 names in turn, eight numbers in an exchange, the last first, and each exchange twice. Each input is beside one
 # of half its length, to show that the time grows as the input does. Needs awk, and GNU time for the memory.
 
 here=$(dirname -- "$(readlink -f -- "$0")") || exit

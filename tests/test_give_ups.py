@@ -84,7 +84,7 @@ def case_parts(place):
 
 
 def case_in_the_way(place):
-    """Something that stands where a file would go is never overwritten, and nothing is renamed then."""
+    """Something that is where a file would go is never overwritten, and nothing is renamed then."""
     folder = left_by(folder_in(place), [(small_take(), 5)])
     saved = contents(folder)
     for name in ("a1.journal.given-up", "a1.wav.given-up"):

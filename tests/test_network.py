@@ -278,7 +278,7 @@ def same_stopped_file(name, path, take, stored, limit):
 
 
 def case_typed(_folder):
-    """Who types requests is told that they are read, before the first; who gives them otherwise isn't."""
+    """A line says before the first request that they are read, if they are typed, and only then."""
     terminal, end = pty.openpty()
     pipe = subprocess.PIPE
     words = ("send", "--connect", f"{LOCAL}:{free_port()}", "--name", "a1")

@@ -86,7 +86,7 @@ class Sender:
         TALLY.holds(what, False, f"no such line after {[line for _, line in self.lines[-3:]]}")
 
     def end(self):
-        """Waits until it ends; its status, and what stands on the terminal then but for why nothing went."""
+        """Waits until it ends; its status, and what is on the terminal then but for why nothing was settled."""
         status = self.process.wait(2 * LONGEST_WAIT)
         self.reader.join(LONGEST_WAIT)
         os.close(self.terminal)
@@ -167,7 +167,7 @@ def case_file(folder):
 
 
 def case_fast(folder):
-    """A small file may be sent before anything is shown; what it prints stands alone."""
+    """A small file may be sent before anything is shown; what it prints is alone on its line."""
     with serving(folder) as server:
         path = written(folder, slow_recording(2)[1])
         status, shown = Sender(*words_of(server.port, "fast", path)).end()
@@ -236,7 +236,7 @@ def case_log(folder):
 
 
 def case_refused(folder):
-    """What is said of a file that isn't sent, or not to its end, stands alone."""
+    """What is said of a file that isn't sent, or not to its end, is alone on its line."""
     _recording, file = slow_recording(40)
     bad = written(folder, file[:20] + b"\3\0" + file[22:], "bad.wav")
     port = free_port()

@@ -37,7 +37,7 @@ SAMPLES = bytes(range(256)) * 40
 
 @dataclass
 class Left:
-    """What a writer leaves: its name, the sizes in its header, what stands before the samples, and these."""
+    """What a writer leaves: its name, the sizes in its header, what comes before the samples, and these."""
 
     writer: str
     form: int

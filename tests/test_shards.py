@@ -1,12 +1,12 @@
 #!/usr/bin/env python3
-"""Runs four shards behind HAProxy, by the files of deploy/, with senders of files, and kills one of them under load.
+"""Runs four shards and HAProxy, by the files of deploy/, with senders of files, and kills one of them under load.
 
   tests/test_shards.py [PROGRAM [SENDERS [--rates]]]   the program of this repository, and 40 senders, if they aren't given
 
 Each shard is a server with journals over a folder of its own. The first has a standby over the same folder, which is
 started again each half second, as the systemd unit does, until the folder's lock is free. While files are sent the
 first shard is killed, so its standby goes on. Afterwards each sender has ended with status 0, each file is closed, has
-the samples that were sent and stands in one folder alone, that of its slot. Then slots that no name has used are given
+the samples that were sent and is in one folder alone, that of its slot. Then slots that no name has used are given
 to a fifth shard while HAProxy runs, and a name of one of them goes there; and a slot moves with a name's files.
 
 By TLS a recorder sends under the names of its certificate, and no others; through the balancer, too, a second name ends
@@ -52,7 +52,7 @@ def send_all(work, port, count):
 
 
 def check_files(shards, senders):
-    """Compares each file with what was sent, and prints how many stand in each shard."""
+    """Compares each file with what was sent, and prints how many are in each shard."""
     for name, (process, samples) in senders.items():
         status, _, faults = finish(process, name=f"send {name}")
         TALLY.same(f"status of {name}", (status, faults), (0, ""))

@@ -210,7 +210,7 @@ def case_no_answer(folder):
 
 
 def case_rerun(folder):
-    """A sender that is killed: its spool holds a front of what was written, and the same call goes on with it."""
+    """A sender that is killed: its spool holds a prefix of what was written, and the same call goes on with it."""
     samples = random.Random(38).randbytes(4 * 120_000)
     spool = folder / "again.raw"
     with serving(folder) as server:

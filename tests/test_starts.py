@@ -1,7 +1,7 @@
 #!/usr/bin/env python3
 """Starts `serve --journal` over folders that earlier servers left, and that something else has changed.
 
-What was answered stands after each stop; what can't be resumed is refused by name, and nothing of the folder changes.
+What was answered holds after each stop; what can't be resumed is refused by name, and nothing of the folder changes.
 Journals are cut at many of their bytes, and single bits of them are turned. Calls of the system are refused while a
 verdict is noted and while a server starts. With `--sync` samples, note and reply come in this order. Needs what
 tracer.py needs. The program is the first argument, or the one of this repository. Prints what differs, and last 'N

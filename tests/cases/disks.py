@@ -1,4 +1,4 @@
-"""What `serve` does where its folder can't be used, goes away or gets full, and where a take's file stands there."""
+"""What `serve` does where its folder can't be used, goes away or gets full, and where a take's file is there."""
 import contextlib
 import os
 import shutil

@@ -54,7 +54,7 @@ def hinted(command, fault):
 
 
 def without_outages(text):
-    """What stands on standard error but for why nothing goes: that comes and goes with the time."""
+    """What is on standard error but for why nothing is settled, which depends on the time."""
     return "".join(line for line in text.splitlines(keepends=True) if line not in OUTAGES)
 
 

@@ -100,5 +100,5 @@ def long_data(samples):
 
 
 def place_of(file, identifier):
-    """Where the head of the first chunk with an identifier stands."""
+    """The place of the head of the first chunk with an identifier."""
     return file.index(identifier)

@@ -1,4 +1,4 @@
-"""Shards behind HAProxy, by the files of deploy/: servers with standbys, the balancer, certificates, and senders of files."""
+"""Shards and HAProxy, by the files of deploy/: servers with standbys, the balancer, certificates, and senders of files."""
 import socket
 import ssl
 import subprocess
@@ -14,7 +14,7 @@ from kit.takes import ASK, BYE_FRAME, message
 SHARDS = 4
 SLOTS = 1024
 DEPLOY = ROOT / "deploy"
-INSTALLED = "/etc/haproxy/"  # where the files of deploy/ stand once they are installed
+INSTALLED = "/etc/haproxy/"  # where the files of deploy/ are once they are installed
 RECORDER = "rec1"  # the common name of the certificate that is tried
 
 

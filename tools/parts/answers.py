@@ -41,8 +41,8 @@ class Answers:
                     file.parent.rmdir()
 
     def keep_proved(self, body):
-        """Writes those that prove their goals in the crate as it stands; the others are left out. A body of the crate
-        stands for each function, without a change."""
+        """Writes those that prove their goals in the crate as it is; the others are left out. A body of the crate
+        is made for each function, without a change."""
         self.write()
         right = [
             replace(body, changes=(), refused=frozenset([path]), changed=frozenset([path]), items=frozenset())

@@ -21,7 +21,7 @@ UNNAMED = "()"  # a type without a name, as a tuple: what a check names its func
 class Body:
     """A wrong body: its file, what it changes, as (file, old, new), and the functions that must refuse it.
 
-    changed are the functions whose text it changes, items the constants and enums. Where it stands in a copy of its
+    changed are the functions whose text it changes, items the constants and enums. Where it is in a copy of its
     function, copy_of is the function, and the copy is what it changes; clauses are those that the copy has, or none
     where it has all."""
 
@@ -111,7 +111,7 @@ def functions_of(text, module, homes):
 
 
 def without_body(lines):
-    """The lines of a function with a body that never ends; as they are if that is `const`, or stands in a line."""
+    """The lines of a function with a body that never ends; as they are if that is `const`, or is in a line."""
     at = next(number for number, line in enumerate(lines) if FUNCTION.match(line))
     indent = lines[at][: len(lines[at]) - len(lines[at].lstrip())]
     if "const fn" in lines[at] or lines[-1] != indent + "}":
@@ -142,7 +142,7 @@ def name_of(path):
 
 
 def function_of(path):
-    """The function itself, or the one that a closure stands in."""
+    """The function itself, or the one that a closure is in."""
     return re.sub(r"(^|::)fn::(\w+).*", r"\1\2", path)
 
 
@@ -187,7 +187,7 @@ class Sources:
         return texts
 
     def with_copy(self, file, text, body):
-        """The text of a file with a copy of the body's function after the function, in which the body stands."""
+        """The text of a file with a copy of the body's function after the function, which has the body."""
         (copy,) = body.changed
         made = self.text_of(body.copy_of)
         for _, old, new in body.changes:
@@ -206,14 +206,14 @@ class Sources:
         return "\n".join(self.texts[file].splitlines()[first : last + 1])
 
     def owner(self, path):
-        """The head of the `impl` or the trait that a function stands in; nothing elsewhere."""
+        """The head of the `impl` or the trait that a function is in; nothing elsewhere."""
         if not self.text_of(path).startswith(" "):
             return ""
         above = self.texts[self.files[path]].partition(self.text_of(path))[0].splitlines()
         return next(filter(None, (owner_line(above, it) for it in reversed(range(len(above))))), "")
 
     def is_generic(self, path):
-        """Whether a function, or the block that it stands in, has a type parameter."""
+        """Whether a function, or the block that it is in, has a type parameter."""
         heads = rf"\bfn {name_of(path)}<[^(]*\b[A-Z]|^ *(?:unsafe )?impl<[^>]*\b[A-Z]"
         return bool(re.search(heads, self.text_of(path))) or bool(re.match(heads, self.owner(path)))
 
@@ -241,7 +241,7 @@ class Sources:
         return {it for text in texts for it in re.findall(r"\breturns[\w-]*-clause-(\w+)", text)}
 
     def can_be_copied(self, body):
-        """Whether a copy of the function that a body changes can stand beside it, and be what refuses the body: not of
+        """Whether a copy of the function that a body changes can be beside it, and be what refuses the body: not of
         a trait's method, nor where the function calls itself."""
         if body.items or body.refused != body.changed or len(body.changed) != 1:
             return False
@@ -287,7 +287,7 @@ def read(path, sources):
         if file not in sources.texts or not old:
             return "a change names no text of a file of src/"
         if (count := sources.texts[file].count(old)) != 1:
-            return f"an old text stands {count} times in {file}"
+            return f"an old text is {count} times in {file}"
         function, item = sources.place(file, sources.texts[file].index(old) + len(old) - len(old.lstrip()))
         changed |= {function} - {None}
         items |= {item} - {None}
@@ -306,7 +306,7 @@ def read(path, sources):
 
 def batches_of(bodies, sources):
     """Batches, each body in the first that can hold it, itself or in a copy of its function; first those that can't
-    stand in a copy, and then those with the most rivals."""
+    are in a copy, and then those with the most rivals."""
     rivals = {body: sum(not sources.can_stand(body, [it]) for it in bodies) for body in bodies}
     copied = {body: sources.can_be_copied(body) for body in bodies}
     batches = []

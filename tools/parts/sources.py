@@ -142,7 +142,7 @@ def implemented(line):
 
 
 class FileWalk:
-    """A walk over one file: the trait or implementation in which it stands, and the comment above the next item."""
+    """A walk over one file: the trait or implementation that it is in, and the comment above the next item."""
 
     def __init__(self, path, module, seen):
         """The module is what comes before a function that is seen there, or nothing if none is."""

@@ -1,4 +1,4 @@
-"""The toolchain's own Python: the file `rt` on the PATH, and what stands beside it."""
+"""The toolchain's own Python: the file `rt` on the PATH, and what is beside it."""
 import importlib.machinery
 import importlib.util
 import os
