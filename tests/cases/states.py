@@ -1,4 +1,4 @@
-"""The calls that a sender makes for its state, which no clause covers: cases of run_calls."""
+"""The calls that a sender makes for its state, which no clause covers: cases of tests/test_calls.py."""
 from kit.network import finish, start_with_pipes, TALLY
 from kit.uploads import long_recording, serving, settled, words_of, written
 from kit.watched import same_calls

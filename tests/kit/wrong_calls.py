@@ -1,7 +1,7 @@
 """Wrong bodies of the functions that no clause covers, each given as the system calls that it would make.
 
 The program stays as it is: the tracer changes its calls, leaves them out, or changes their results. Each body names the
-case of run_calls that must fail with it.
+case of tests/test_calls.py that must fail with it.
 """
 import contextlib
 import io
