@@ -287,7 +287,7 @@ def read(path, sources):
         if file not in sources.texts or not old:
             return "a change names no text of a file of src/"
         if (count := sources.texts[file].count(old)) != 1:
-            return f"an old text is {count} times in {file}"
+            return f"an old text occurs {count} times in {file}"
         function, item = sources.place(file, sources.texts[file].index(old) + len(old) - len(old.lstrip()))
         changed |= {function} - {None}
         items |= {item} - {None}

@@ -64,7 +64,7 @@ def modules():
 
 
 def defined(known, module, name):
-    """The module and name of what a name in a module means that is given by its whole path, if it is ours."""
+    """The module and name of what a name means in a module that is given by its whole path, if it is ours."""
     parts = module.split(".")
     there = known.get((parts[1], parts[-1])) if len(parts) > 2 and "declared" not in parts else None
     while there and not there.own(name) and name in there.imports:
