@@ -11,7 +11,7 @@ IsSyncedAt contents synced path = IsSome (contents path) → synced path ≡ con
 
 -- The journal of a name begins: no other file changes. Without syncs nothing is synced; with them the
 -- journal is, if the call succeeds.
-pub record BeginsFile {D F T E : Type 0} (G : Ghosts D F) (sync : Bool) (answer : Result T E)
+pub record BeginsJournal {D F T E : Type 0} (G : Ghosts D F) (sync : Bool) (answer : Result T E)
     (journal_path : List ℕ) (old new : D) : Type 0 where
   pub honest : G.honest new ≡ G.honest old
   pub others : IsTrue (G.honest old) → KeepsOthers (G.contents old) (G.contents new) journal_path

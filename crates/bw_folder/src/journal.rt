@@ -11,7 +11,7 @@ ghost use Rattle.bw_journal.specs.Notes.{KeepsHeaders};
 ghost use Rattle.bw_folder.specs.Folders.{take_path as path_of_take};
 ghost use Rattle.bw_folder.specs.Journals.{journal_path as path_of_journal, existence_of};
 ghost use Rattle.bw_folder.specs.Journals.{adopted_by, adopted_header};
-ghost use Rattle.bw_folder.specs.SyncOrders.{BeginsFile, NotesPlainly, SyncsInOrder};
+ghost use Rattle.bw_folder.specs.SyncOrders.{BeginsJournal, NotesPlainly, SyncsInOrder};
 
 use crate::noting::find;
 use crate::paths::journal_path;
@@ -294,7 +294,7 @@ impl<D: Volume> Journal for FolderJournal<D> {
         ensures others { IsTrue (D.honest (journals_disk self.old)) → KeepsOthers
             (noted_in_folder self.old) (noted_in_folder self.new) name.now }
         // No other file changes, on errors too; with `sync` the journal is synced.
-        ensures rest { BeginsFile D.Disk (journals_sync self.old) result
+        ensures rest { BeginsJournal D.Disk (journals_sync self.old) result
             (path_of_journal (journals_folder self.old) name.now)
             (journals_disk self.old) (journals_disk self.new) }
     {

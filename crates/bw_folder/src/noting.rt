@@ -10,7 +10,7 @@ ghost use Rattle.bw_journal.specs.Notes.{KeepsHeaders};
 ghost use Rattle.bw_folder.specs.Folders.{take_path as path_of_take};
 ghost use Rattle.bw_folder.specs.Journals.{journal_path as path_of_journal, notes_at, existences};
 ghost use Rattle.bw_folder.specs.Journals.{existence_of, header_at, failure_of, IsOpenAt};
-ghost use Rattle.bw_folder.specs.SyncOrders.{BeginsFile, NotesPlainly, SyncsInOrder};
+ghost use Rattle.bw_folder.specs.SyncOrders.{BeginsJournal, NotesPlainly, SyncsInOrder};
 
 use crate::heading::{append, exists, open_or_make, put_header};
 use crate::journal::{FolderJournal, OpenJournal};
@@ -43,7 +43,7 @@ impl<D: Volume> FolderJournal<D> {
             (string_bytes self.old.folder) name.now)
             (notes_at (D.contents self.old.disk) (string_bytes self.old.folder) name.now)
             (notes_at (D.contents self.new.disk) (string_bytes self.old.folder) name.now)) }
-        ensures rest { BeginsFile D.Disk self.old.sync result
+        ensures rest { BeginsJournal D.Disk self.old.sync result
             (path_of_journal (string_bytes self.old.folder) name.now) self.old.disk self.new.disk }
     {
         self.write_header(name)?;

@@ -45,9 +45,9 @@ awaited_end false (Some until) = Some true
 awaited_end false None = None
 
 -- the same, of what awaits the end
-abbrev pub end_of : Ending → Option Bool
-end_of endings.Past = None
-end_of (endings.Awaited until) = Some (is_some until)
+abbrev pub file_awaited : Ending → Option Bool
+file_awaited endings.Past = None
+file_awaited (endings.Awaited until) = Some (is_some until)
 
 module _ {U J F H G M Q N X P R W D A B O E : Type 0} (upload : UploadSide U J Q)
     (side : SenderSide D A B) (network : NetworkGhosts N X P D R W A B) (files : FileGhosts F H G M)

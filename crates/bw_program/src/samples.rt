@@ -1,7 +1,7 @@
 //! The command that sends headerless samples, as a command line asks for it.
 ghost use Rattle.std.specs.Prelude.{◌≡◌, min, true};
 ghost use Rattle.bw_send_file.specs.FileLooks.{LooksAt};
-ghost use Rattle.bw_program.specs.PcmUploads.{IsPcmFileOf, IsPcmRecorderOf, SendsPcm, awaited_end, end_of, most_in_field};
+ghost use Rattle.bw_program.specs.PcmUploads.{IsPcmFileOf, IsPcmRecorderOf, SendsPcm, awaited_end, file_awaited, most_in_field};
 ghost use Rattle.bw_program.specs.PcmCommands.{SendsBySpool, SendsPcmCommand, spool_line};
 ghost use Rattle.bw_program.specs.Sides.{sender_side, spool_side, upload_side};
 ghost use Rattle.bw_spool.specs.Purposes.{line_of};
@@ -189,7 +189,7 @@ pub(crate) fn send_pcm_watched<
 
 /// When the recording that a command line names has ended.
 fn ending_of(sender: &PcmSender) -> Ending<'_>
-    ensures { end_of result ≡ awaited_end sender.now.pcm.is_spooled sender.now.pcm.until }
+    ensures { file_awaited result ≡ awaited_end sender.now.pcm.is_spooled sender.now.pcm.until }
 {
     if sender.pcm.is_spooled {
         return Ending::Awaited(None);
