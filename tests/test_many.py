@@ -14,20 +14,22 @@ import select
 import shutil
 import signal
 import socket
+import subprocess
 import sys
 import threading
 import time
 
 sys.dont_write_bytecode = True  # nothing is left beside this script
 from kit.network import CANT_GO_ON, close_at_once, connect, connect_deaf, ends_by_signal, free_port, hear, hear_all
-from kit.network import hear_until_it_breaks, LOCAL, LONGEST_WAIT, MANY_ASKS, reason, Relay, run, run_cases
-from kit.network import same_exchanges, same_file, same_port_in_use, same_settled, send, send_all, Server
+from kit.network import hear_until_it_breaks, LOCAL, LONGEST_WAIT, MANY_ASKS, narrow, reason, Relay, run, run_cases
+from kit.network import same_exchanges, same_file, same_port_in_use, same_settled, send, send_all, Server, start
 from kit.network import stopped, TALLY
 from kit.takes import ASK, BYE_FRAME, CONFLICT, NEXT, OPEN, STORED
 from kit.takes import bad_frame, little, message, notice, Take, verdict
 
 LONGEST_RUN = 170  # seconds, for all of it
 RECORDERS = 64
+ENDED = 600  # connections, of whose lines a narrow pipe has no room for all
 ASKED = message("zz", 0, bytes([ASK]))
 ANSWER = notice("zz", 0, NEXT, 0)
 
@@ -293,6 +295,43 @@ def still(server):
     time.sleep(0.1)
 
 
+def case_unread_lines(folder):
+    """No recorder waits for those who read lines: of lines that nobody reads some are left out, and how many is said
+    once lines are read again.
+    """
+    for at, options in enumerate((("--recorders", "4"), (), ("--recorders", "4", "--log"))):
+        place = folder / str(at)
+        place.mkdir()
+        unread_lines(f"unread lines, {' '.join(options) or 'in turn'}", place, options)
+
+
+def unread_lines(name, folder, options):
+    address = f"{LOCAL}:{free_port()}"
+    port, pipe = int(address.partition(":")[2]), subprocess.PIPE
+    words = ("serve", "--listen", address, "--folder", str(folder), "--until-stopped", *options)
+    server = start(*words, stdout=pipe, stderr=pipe)
+    streams = [server.stdout, *[server.stderr] * ("--log" in options)]
+    TALLY.same(name, server.stdout.readline(), f"listening {address}\n".encode())
+    for stream in streams:
+        narrow(stream)
+    for _ in range(ENDED):
+        end_at(port)
+    take = Take("unread", 30_000, 20)
+    same_settled(f"{name}: a sender", send(port, take, "--timeout", "20"), *2 * [len(take.requests())], 0)
+    printed = [lines_there(stream) for stream in streams]
+    wanted = [f"exchange {index} EndOfInput" for index in range(len(printed[0]))]
+    TALLY.same(f"{name}: those that were printed", printed[0], wanted)
+    end_at(port)
+    for stream, lines in zip(streams, printed):
+        TALLY.holds(f"{name}: some are left out", 100 < len(lines) < ENDED or stream is server.stderr, f"{len(lines)}")
+        found = next_lines(stream, 2)
+        TALLY.same(f"{name}: how many", found[0], f"left out {ENDED + 1 - len(lines)} lines")
+        last = f"exchange {ENDED + 1} EndOfInput" if stream is server.stdout else "end EndOfInput messages 0 bytes 0"
+        TALLY.same(f"{name}: the next", found[1][-len(last) :], last)
+    server.terminate()
+    TALLY.same(f"{name}: the end", server.wait(LONGEST_WAIT), -signal.SIGTERM)
+
+
 def end_at(port):
     """A peer that says nothing: its exchange ends at once."""
     with connect(port) as peer:
@@ -349,6 +388,7 @@ CASES = [
     case_few_files,
     case_log,
     case_goes_on,
+    case_unread_lines,
     case_folder_goes_away,
     case_unusable,
 ]

@@ -23,7 +23,7 @@ import threading
 import time
 
 sys.dont_write_bytecode = True  # nothing is left beside this script
-from kit.network import connect, ends_by_signal, free_port, LOCAL, LONGEST_WAIT, run, run_cases, same_file
+from kit.network import connect, ends_by_signal, free_port, LOCAL, LONGEST_WAIT, narrow, run, run_cases, same_file
 from kit.network import same_settled, send, send_all, Server, stopped, TALLY
 from kit.takes import ASK, BYE_FRAME, message, Take
 
@@ -31,6 +31,7 @@ LONGEST_RUN = 240  # seconds, for all of it
 LONGEST_REQUEST = 8_192
 OPERATORS = 32
 STRANGERS = 4  # who ask at once
+ENDED = 900  # connections, of whose lines a narrow pipe has no room for all
 FIELDS = {
     "x-content-type-options": "nosniff",
     "x-frame-options": "DENY",
@@ -370,6 +371,27 @@ def connect_asking(port, request):
     return peer
 
 
+def case_unread(folder):
+    """Lines that nobody reads are left out and counted; what is shown says how many."""
+    server = Shown(folder, "--until-stopped", "--recorders", "4")
+    narrow(server.process.stdout)
+    for _ in range(ENDED):
+        connect(server.port).close()
+    wait_for(lambda: server.values()["ended"] == ENDED, "unread: each connection ends")
+    dropped = server.values()["lines_dropped"]
+    TALLY.holds("unread: some are left out", 0 < dropped < ENDED, f"{dropped} of {ENDED}")
+    found = metrics(server.ask("/metrics")[2].decode()).get("bwingest_lines_dropped_total")
+    TALLY.same("unread: the metric", found, dropped)
+    row = f"<dt>Lines left out</dt><dd>{dropped}</dd>"
+    TALLY.holds("unread: the page", row in server.ask("/")[2].decode(), "says another number")
+    lines = server.lines(ENDED - dropped)
+    TALLY.same("unread: the others", lines, [f"exchange {at} EndOfInput" for at in range(ENDED - dropped)])
+    connect(server.port).close()
+    said = [f"left out {dropped} lines", f"exchange {ENDED} EndOfInput"]
+    TALLY.same("unread: how many, and the next", server.lines(2), said)
+    ends_by_signal("unread", server)
+
+
 def case_folder(folder):
     """A folder that is gone is shown."""
     (folder / "takes").mkdir()
@@ -436,7 +458,7 @@ def bother(server, seed):
 
 if __name__ == "__main__":
     cases = (
-        *(case_values, case_refused, case_each_path, case_named_statuses, case_slow, case_idle),
+        *(case_values, case_refused, case_each_path, case_named_statuses, case_slow, case_idle, case_unread),
         *(case_folder, case_unbound, case_made_up),
     )
     sys.exit(run_cases(cases, LONGEST_RUN))

@@ -4,6 +4,7 @@ The program is the first argument of the script, or the one of this repository.
 """
 import contextlib
 import ctypes
+import fcntl
 import math
 import os
 import random
@@ -163,6 +164,11 @@ class Server:
     def stop(self, number=signal.SIGTERM):
         self.process.send_signal(number)
         return self.end()
+
+
+def narrow(pipe):
+    """Leaves a pipe two pages: some 170 lines of exchanges."""
+    fcntl.fcntl(pipe, fcntl.F_SETPIPE_SZ, 8_192)
 
 
 def end_all():

@@ -4,7 +4,7 @@
 use bw_causes::CauseCell;
 use bw_disk::SystemDisk;
 use bw_machine::{TcpNetwork, Terminal};
-use bw_net::{ClockStopwatch, Host, HostRecordings, LineCell, SpoolCell, SpoolPause};
+use bw_net::{ClockStopwatch, Host, HostRecordings, LineCell, LineSink, SpoolCell, SpoolPause};
 use bw_one_name::FilteredNetwork;
 use bw_outages::{LastOutage, OutageReports};
 use bw_program::{Outside, start};
@@ -21,7 +21,9 @@ fn main(rt: HostRuntime) -> ExitCode {
     let lines = LineCell::new();
     let terminal = Terminal::new(&rt);
     let screen = terminal.again(&rt);
-    let line = SharedProgress::new(rt.alloc(), screen, ClockStopwatch::new(&rt));
+    // A copy of the runtime, since the prover refuses a reference here beside the sinks of lines.
+    let stopwatch = ClockStopwatch::new(rt);
+    let line = SharedProgress::new(rt.alloc(), screen, stopwatch);
     let mut outside = Outside {
         system: Host::new(&rt),
         files: HostRecordings::new(&rt, &spool),
@@ -33,11 +35,11 @@ fn main(rt: HostRuntime) -> ExitCode {
         },
         input: StdIo::new(rt.stdin()),
         out: ClearingSink {
-            inner: StdIo::new(rt.stdout()),
+            inner: LineSink::new(rt.alloc(), &lines, rt.stdout()),
             line: LineHandle { shared: &line },
         },
         faults: ClearingSink {
-            inner: StdIo::new(rt.stderr()),
+            inner: LineSink::new(rt.alloc(), &lines, rt.stderr()),
             line: LineHandle { shared: &line },
         },
         watch: OutageReports {
