@@ -24,7 +24,8 @@ from kit.hints import hinted
 from kit.network import CANT_GO_ON, connect, finish, free_port, hear_all, hear_batch, LOCAL, reason, run_cases, TALLY
 from kit.takes import bad_frame, BYE_FRAME, DELAYED_STORE, message, notice, verdict
 from kit.watched import accepted_at, accepted_in_turn, BLOCK, CLOSE, CLOSE_EMPTY, CLOSE_MARKED, DESCRIBE, ENDED
-from kit.watched import FIRST_LOOK, IN_TURN, is_waiting, MANY, MARK, OPEN, OTHER_BLOCK, same_calls, Watched, written
+from kit.watched import FIRST_LOOK, IN_TURN, is_waiting, MANY, MARK, OPEN, OTHER_BLOCK, said_to_a_file, same_calls
+from kit.watched import store_fails, Watched, written
 from kit.watcher import Fault, Watcher
 from kit.worked import EMPTY, SMALL
 
@@ -92,16 +93,21 @@ def case_shut(folder):
 
 
 def case_refused_disk(folder):
-    """A take whose file can't be opened, or whose sync fails, gets its verdict when the same is asked again."""
+    """A take whose file can't be opened, or whose sync fails, gets its verdict when the same is asked again. Why is said
+    once within a minute.
+    """
     opening = Fault(f"open {folder}/takes/a1.wav")
     it = Watched(folder, "--exchanges", "1", *IN_TURN, faults=[opening, Fault("sync a1.wav")])
     peer = it.comes(accepted_in_turn(7))
-    for number, request, before in ((0, OPEN, []), (1, CLOSE_EMPTY, written("a1", 0, EMPTY))):
+    why = store_fails(it.folder / "a1.wav")
+    wrong = (0, OPEN, [], said_to_a_file(why)), (1, CLOSE_EMPTY, written("a1", 0, EMPTY), [])
+    for number, request, before, printed in wrong:
         said, calls = message("a1", number, bytes.fromhex(request[0])), request[1]("a1")
-        it.says(peer, said, [f"{calls[0]} fails {errno.EIO}"], notice("a1", number, DELAYED_STORE, number))
+        failed = [f"{calls[0]} fails {errno.EIO}", *printed]
+        it.says(peer, said, failed, notice("a1", number, DELAYED_STORE, number))
         it.says(peer, said, [*before, *calls], verdict("a1", number, 0))
     it.goes(peer, 0)
-    it.ends("a refused disk", [0])
+    it.ends("a refused disk", [0], why)
 
 
 def is_dropped(folder, options, fault, exchange):

@@ -157,7 +157,10 @@ class Notes:
     def end(self, name):
         self.peer.sendall(BYE_FRAME)
         self.peer.close()
-        TALLY.same(f"{name}: the server", self.server.end(), (0, ["exchange 0 Bye"], ""))
+        status, lines, said = self.server.end()
+        TALLY.same(f"{name}: the server", (status, lines), (0, ["exchange 0 Bye"]))
+        fails = said.startswith(f"the store fails: {self.folder}/{name}.wav: ") and said.count("\n") == 1
+        TALLY.same(f"{name}: it says that its store fails", fails, bool(said))
 
 
 # Takes

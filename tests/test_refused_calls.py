@@ -305,7 +305,7 @@ UNREADABLE = b"the server can't start: its folder can't be read or written\n"
 def what_a_server_breaks(kind, found, wanted):
     """One that serves to its end has stored and reported the whole take: what was refused is stored when sent again."""
     status, out, errors, file, is_stored = found
-    if found[:3] == (3, b"", UNREADABLE):
+    if (status, out) == (3, b"") and errors.startswith(UNREADABLE):
         return "a file" if file else None
     if status == 0 and not is_stored:
         return "other replies"

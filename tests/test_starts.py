@@ -28,6 +28,8 @@ LIMIT = 65_536  # bytes
 JOURNAL = ("--until-stopped", "--journal", "--limit", str(LIMIT))
 MANY = (*JOURNAL, "--recorders", "4")
 HEADER_LEN = 29  # of a journal, in bytes
+UNREADABLE = b"the server can't start: its folder can't be read or written\n"
+BROKEN = f"{reason(errno.EIO)}\n".encode()
 CHANCE = random.Random(1)
 
 
@@ -247,6 +249,28 @@ def case_no_folder(place):
     TALLY.same("the server then", server.end(), (3, [], CANT_GO_ON))
 
 
+def case_odd_entry(place):
+    """A start that can't open a file names it, and what is wrong with it."""
+    for kind, why in (("wav", errno.EISDIR), ("journal", errno.EISDIR), ("wav", errno.ELOOP)):
+        home = place / f"{kind}-{why}"
+        home.mkdir()
+        folder = left_by(home, small_take("a1"), small_take("b2"), count=4)
+        odd = folder / f"b2.{kind}"
+        odd.unlink()
+        if why == errno.EISDIR:
+            odd.mkdir()
+        else:
+            odd.symlink_to(odd.name)
+        words = ("serve", "--listen", f"{LOCAL}:{free_port()}", "--folder", str(folder), *JOURNAL)
+        said = UNREADABLE.decode() + f"{odd}: {reason(why)}\n"
+        TALLY.same(f"an odd {kind}: {reason(why)}", run(*words), (3, "", said))
+    folder = folder_in(place)
+    (folder / ".bwingest-lock").mkdir()
+    words = ("serve", "--listen", f"{LOCAL}:{free_port()}", "--folder", str(folder), *JOURNAL)
+    said = f"{folder} can't be opened: .bwingest-lock: {reason(errno.EISDIR)}\n"
+    TALLY.same("an odd lock", run(*words), (3, "", said))
+
+
 # Journals that were cut, or changed
 
 
@@ -370,7 +394,11 @@ def refuse_each(place, kind):
         is_refused = status == 3 or status == 4 and kind == "growth"
         # the end of a folder's list isn't taken for granted
         is_served = status == -signal.SIGKILL and kind != "list"
-        is_so = is_served or is_refused and out == b"" and faults.count(b"\n") == 1
+        said = faults.removeprefix(UNREADABLE)
+        # A disk's fault doesn't distinguish lack of memory, for which no path is to blame.
+        is_named = said == faults or kind == "growth" or said.startswith(f"{folder}/".encode()) and said.endswith(BROKEN)
+        is_reported = is_named and said.count(b"\n") <= 1 and faults
+        is_so = is_served or is_refused and out == b"" and is_reported
         TALLY.holds(name, is_so, f"{status}, {out!r}, {faults!r}")
         server = journaled(folder, 2)
         has_next(f"{name}: a1", server, takes[0], 5)
@@ -389,12 +417,11 @@ def case_refused_at_a_start(place):
         refuse_each(place / kind, kind)
 
 
-def fails(name, folder, fault, *options):
-    """A start in which this call fails reports it."""
+def fails(name, folder, fault, path, *options):
+    """A start in which this call fails reports it, and names this path."""
     words = ("serve", "--listen", f"{LOCAL}:{free_port()}", "--folder", str(folder), *JOURNAL, *options)
     ended = finish(start(*words, observer=Watcher(fault), stdout=subprocess.PIPE, stderr=subprocess.PIPE))
-    wanted = "the server can't start: its folder can't be read or written\n"
-    TALLY.same(name, ended, (3, "", wanted))
+    TALLY.same(name, ended, (3, "", UNREADABLE.decode() + f"{path}: {reason(fault.number)}\n"))
 
 
 def case_unsynced_at_a_start(place):
@@ -402,8 +429,9 @@ def case_unsynced_at_a_start(place):
     _, folder, saved = torn(place)
     restored(folder, saved)
     before = state(folder)
-    for call in ("sync-data a1.wav", "sync-data b2.journal", f"sync {folder.name}"):
-        fails(f"{call} at a start", folder, Fault(call), "--sync")
+    paths = folder / "a1.wav", folder / "b2.journal", folder
+    for call, path in zip(("sync-data a1.wav", "sync-data b2.journal", f"sync {folder.name}"), paths):
+        fails(f"{call} at a start", folder, Fault(call), path, "--sync")
         TALLY.same(f"{call} at a start: the folder", state(folder), before)
 
 
@@ -411,7 +439,7 @@ def case_full_at_a_start(place):
     """A disk that is full at a start is reported, and the next start mends what this one didn't."""
     takes, folder, saved = torn(place)
     restored(folder, saved)
-    fails("a full disk at a start", folder, Fault("write b2.wav", errno.ENOSPC))
+    fails("a full disk at a start", folder, Fault("write b2.wav", errno.ENOSPC), folder / "b2.wav")
     server = journaled(folder, 2)
     for take in takes:
         says(f"a start after a full disk: {take.name}", server, take, range(len(take.messages())))

@@ -1,5 +1,6 @@
 """What `serve` does where its folder can't be used, goes away or gets full, and where a take's file is there."""
 import contextlib
+import errno
 import os
 import shutil
 import subprocess
@@ -76,6 +77,9 @@ def fill_up(disk):
         wanted = notice(take.name, first_unstored, DELAYED_STORE, first_unstored)
         TALLY.same("a full disk: the notice", hear_all(peer), wanted)
     same_exchanges("a full disk: one more exchange", server.lines(1), ["Bye"], 3)
+    server.faults.seek(0)
+    said = f"the store fails: {disk}/{take.name}.wav: {reason(errno.ENOSPC)}\n"
+    TALLY.same("a full disk: why, once", server.faults.read().decode(), said)
     filler.unlink()
     same_settled("room again", send(server.port, take), count, count, 0)
     same_file("room again", disk, take)

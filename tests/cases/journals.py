@@ -7,7 +7,7 @@ import hashlib
 
 from kit.takes import BLOCK as BLOCK_KIND, DELAYED_STORE, LARGEST_LIMIT, little, message, notice, STORED, verdict
 from kit.watched import accepted_in_turn, BLOCK, CLOSE, CLOSE_EMPTY, CLOSE_MARKED, IN_TURN, LISTED, MARK, OPEN
-from kit.watched import Watched
+from kit.watched import said_to_a_file, store_fails, Watched
 from kit.watcher import Fault
 from kit.worked import EMPTY, SMALL
 
@@ -149,7 +149,8 @@ def case_noted_again(folder):
     it = Journaled(folder, faults=[Fault("write a1.journal"), Fault("write a1.journal 26")])
     peer = it.comes(accepted_in_turn(7))
     first = [*looked_up("a1"), *begun("a1")]
-    it.is_delayed(peer, "a1", OPEN, [*first[:-1], f"{first[-1]} fails {errno.EIO}"])
+    why = store_fails(it.folder / "a1.journal")
+    it.is_delayed(peer, "a1", OPEN, [*first[:-1], f"{first[-1]} fails {errno.EIO}", *said_to_a_file(why)])
     it.asks(peer, "a1", OPEN, before=begun("a1"))
     content = entry("a1", 1, bytes.fromhex(BLOCK[0]))
     seek, write = it.note_calls("a1", content)
@@ -157,7 +158,7 @@ def case_noted_again(folder):
     it.asks(peer, "a1", (BLOCK[0], lambda name: []))
     it.asks(peer, "a1", CLOSE)
     it.goes(peer, 0)
-    it.ends("failed notes", [0])
+    it.ends("failed notes", [0], why)
 
 
 def stops_at(folder, file):
@@ -168,12 +169,14 @@ def stops_at(folder, file):
     noted = entry("a1", 0, bytes.fromhex(OPEN[0]))
     calls = [*it.begin_calls("a1"), *OPEN[1]("a1"), *it.note_calls("a1", noted)]
     until = calls.index(f"sync-data {file}")
-    it.is_delayed(peer, "a1", OPEN, [*calls[:until], f"sync-data {file} fails {errno.EIO}"])
+    why = store_fails(it.folder / file)
+    failed = [f"sync-data {file} fails {errno.EIO}", *said_to_a_file(why)]
+    it.is_delayed(peer, "a1", OPEN, [*calls[:until], *failed])
     again = ["seek a1.journal 0", f"read a1.journal {header('a1').hex()}"]
     it.is_delayed(peer, "a1", OPEN, again)
     it.asks(peer, "b2", OPEN)
     it.goes(peer, 0)
-    it.ends(f"a failed sync of {file}", [0])
+    it.ends(f"a failed sync of {file}", [0], why)
 
 
 def case_stopped_at_its_header(folder):

@@ -5,7 +5,7 @@ Bytes are worked out by hand from docs/FORMATS.md.
 import collections
 import errno
 
-from kit.network import connect, hear, hear_all, LOCAL, Server, TALLY
+from kit.network import connect, hear, hear_all, LOCAL, reason, Server, TALLY
 from kit.takes import BYE_FRAME, message, NEXT, notice, verdict
 from kit.watcher import Watcher
 from kit.worked import EMPTY, MARKER
@@ -18,6 +18,16 @@ LOOK = ["register again out"]
 
 IN_TURN = ("--timeout", "7")
 MANY = ("--recorders", "2", "--idle", "9")
+
+
+def store_fails(path, number=errno.EIO):
+    """The line of a call for a path that fails in a server's store."""
+    return f"the store fails: {path}: {reason(number)}\n"
+
+
+def said_to_a_file(line):
+    """The calls that print a line on standard error, if that is a file: such a descriptor can't be asked for room."""
+    return [f"register again faults fails {errno.EPERM}", f"write faults {line.encode().hex()}"]
 
 
 def written(name, place, content):
@@ -124,9 +134,11 @@ class Watched:
     def lines(self):
         return [line.replace(str(self.folder), "FOLDER") for line in self.server.observer.lines]
 
-    def ends(self, name, exchanges):
-        """The server has ended by itself, and made just the calls that it should; the waits among them."""
-        wanted = 0, [f"exchange {index} Bye" for index in exchanges], ""
+    def ends(self, name, exchanges, said=""):
+        """The server has ended by itself, said this on standard error, and made just the calls that it should; the waits
+        among them.
+        """
+        wanted = 0, [f"exchange {index} Bye" for index in exchanges], said
         TALLY.same(f"{name}: the server", self.server.end(), wanted)
         lines = self.lines()
         same_calls(name, [line for line in lines if not is_waiting(line)], self.wanted + ENDED)

@@ -66,7 +66,9 @@ fn main(rt: HostRuntime) -> ExitCode {
         screens: screen_style(&rt),
         is_typed: rt.stdin().is_terminal(),
     };
-    start(rt.alloc(), &mut outside)
+    let exit = start(rt.alloc(), &mut outside);
+    lines.report_start(&rt);
+    exit
 }
 
 /// How screens are shown on standard output: on a terminal in place, else as lines.

@@ -1,5 +1,6 @@
 //! Whether an earlier server kept journals in a folder.
 use bw_disk::{ReadFault, SystemDisk, Volume};
+use bw_net::NotedFiles;
 use bw_ports::StartRefusal;
 use bw_request::Name;
 use bw_start::{Ending, list_files};
@@ -17,17 +18,14 @@ use std::io::ErrorKind;
 ///
 /// # Not specified
 /// Anything: it has no contract. What is refused is tested.
-pub(crate) fn refuse_journals(
-    rt: &HostRuntime,
-    alloc: Global,
-    folder: &str,
-) -> Result<(), StartRefusal> {
-    let mut disk = SystemDisk::new(rt);
+pub(crate) fn refuse_journals(files: NotedFiles<'_>, folder: &str) -> Result<(), StartRefusal> {
+    let alloc = files.alloc();
+    let mut disk = SystemDisk::new(files);
     match lines_of_folder(alloc, &mut disk, folder) {
         Ok(lines) if lines.is_empty() => Ok(()),
         Ok(lines) => Err(StartRefusal::Unfit(lines)),
         Err(ReadFault::Memory) => Err(StartRefusal::Memory),
-        Err(ReadFault::Disk) if may_list(rt, folder) => Err(StartRefusal::Device),
+        Err(ReadFault::Disk) if may_list(&files, folder) => Err(StartRefusal::Device),
         Err(ReadFault::Disk) => Ok(()),
     }
 }
@@ -49,8 +47,8 @@ fn lines_of_folder<E: Volume>(
 }
 
 /// Whether this process may list a folder.
-fn may_list(rt: &HostRuntime, folder: &str) -> bool {
-    match fs::read_dir(rt, folder) {
+fn may_list(files: &NotedFiles<'_>, folder: &str) -> bool {
+    match fs::read_dir(files, folder) {
         Ok(_) => true,
         Err(error) => error.kind() != ErrorKind::PermissionDenied,
     }

@@ -8,7 +8,9 @@ use crate::locked::KeptStart;
 use bw_causes::CauseCell;
 use bw_disk::SystemDisk;
 use bw_folder::FolderStore;
-use bw_net::{FolderLock, LineCell, SpoolCell, TcpDial, TcpPeers, TcpReactor, check_folder};
+use bw_net::{
+    FolderLock, LineCell, NotedFiles, SpoolCell, TcpDial, TcpPeers, TcpReactor, check_folder,
+};
 use bw_pace::PacedNetwork;
 use bw_ports::{ListenerSetup, Network, StartRefusal};
 use std::alloc::Global;
@@ -64,6 +66,11 @@ impl<'a> TcpNetwork<'a> {
         }
     }
 
+    /// The files of servers' folders: what fails of their calls is a line of the process.
+    pub(crate) fn files(&self) -> NotedFiles<'a> {
+        NotedFiles::new(self.rt, self.lines)
+    }
+
     fn open_peers(
         &self,
         address: SocketAddr,
@@ -98,9 +105,9 @@ impl<'a> TcpNetwork<'a> {
 }
 
 /// Tests a folder for a server without journals.
-fn check_plain(rt: &HostRuntime, alloc: Global, folder: &str) -> Result<(), StartRefusal> {
-    check_folder(rt, alloc, folder).map_err(StartRefusal::Unusable)?;
-    refuse_journals(rt, alloc, folder)
+fn check_plain(rt: &HostRuntime, files: NotedFiles<'_>, folder: &str) -> Result<(), StartRefusal> {
+    check_folder(rt, rt.alloc(), folder).map_err(StartRefusal::Unusable)?;
+    refuse_journals(files, folder)
 }
 
 /// The duration of a timeout, if there is one.
@@ -118,7 +125,7 @@ impl<'a> Network for TcpNetwork<'a> {
     ghost use Rattle.bw_net.specs.SeenLinks.{dial_address, dial_timeout};
     ghost use Rattle.bw_net.specs.SeenLinks.{peers_address, peers_folder, peers_timeout};
 
-    type Store = FolderStore<SystemDisk<&'a HostRuntime>>;
+    type Store = FolderStore<SystemDisk<NotedFiles<'a>>>;
 
     type Peers = TcpPeers<'a, HostRuntime, TcpListener>;
 
@@ -139,13 +146,13 @@ impl<'a> Network for TcpNetwork<'a> {
     fn store(
         &mut self,
         folder: &str,
-    ) -> Result<FolderStore<SystemDisk<&'a HostRuntime>>, StartRefusal> {
+    ) -> Result<FolderStore<SystemDisk<NotedFiles<'a>>>, StartRefusal> {
         let alloc = self.rt.alloc();
-        if let Err(refusal) = check_plain(self.rt, alloc, folder) {
+        if let Err(refusal) = check_plain(self.rt, self.files(), folder) {
             self.failures = self.failures.saturating_add(1);
             return Err(refusal);
         }
-        match FolderStore::new(self.rt, alloc, folder) {
+        match FolderStore::new(self.files(), alloc, folder) {
             Ok(store) => Ok(store),
             Err(error) => {
                 self.failures = self.failures.saturating_add(1);

@@ -10,24 +10,24 @@ use crate::terminal::Terminal;
 use bw_disk::{SystemDisk, Volume};
 use bw_folder::{FolderJournal, FolderStore};
 use bw_layout::Limit;
-use bw_net::{HostRecordings, check_folder};
+use bw_net::{HostRecordings, NotedFiles, check_folder};
 use bw_ports::{StartRefusal, Starts, StartsResting};
 use bw_session::Server;
 use bw_start::Settings;
 
 /// A disk on which the folders of this machine are.
 pub trait MachineDisk<'a>: Volume {
-    /// The disk that a runtime gives.
+    /// The disk that has these files.
     ///
     /// # Not specified
     /// That it shows the folders of this machine: that is a premise.
-    fn of_machine(rt: &'a HostRuntime) -> Self
+    fn of_machine(files: NotedFiles<'a>) -> Self
         ensures unused { Self.calls result ≡ 0 };
 }
 
-impl<'a> MachineDisk<'a> for SystemDisk<&'a HostRuntime> {
-    fn of_machine(rt: &'a HostRuntime) -> SystemDisk<&'a HostRuntime> {
-        SystemDisk::new(rt)
+impl<'a> MachineDisk<'a> for SystemDisk<NotedFiles<'a>> {
+    fn of_machine(files: NotedFiles<'a>) -> SystemDisk<NotedFiles<'a>> {
+        SystemDisk::new(files)
     }
 }
 
@@ -35,7 +35,7 @@ impl<'a> MachineDisk<'a> for SystemDisk<&'a HostRuntime> {
 type ServerOver<D> = Server<FolderStore<D>, FolderJournal<D>>;
 
 /// A server over a folder of this machine, with journals beside the takes.
-pub type FolderServer<'a> = ServerOver<SystemDisk<&'a HostRuntime>>;
+pub type FolderServer<'a> = ServerOver<SystemDisk<NotedFiles<'a>>>;
 
 impl<'a> Starts<FolderServer<'a>> for TcpNetwork<'a> {
     ghost use Rattle.bw_machine.specs.SeenMachine.{network_failures};
@@ -140,7 +140,8 @@ fn start_in<'a, D: MachineDisk<'a>>(
         return Err(StartRefusal::Unusable(error));
     }
     let mut locks = HostRecordings::new(network.rt, network.spool);
-    let (takes, notes) = (D::of_machine(network.rt), D::of_machine(network.rt));
+    let files = network.files();
+    let (takes, notes) = (D::of_machine(files), D::of_machine(files));
     let mut watch = Terminal::new(network.rt);
     match start_locked(
         alloc, &mut locks, takes, notes, folder, settings, &mut watch,

@@ -1,3 +1,4 @@
+pub mod Faults
 pub mod Meanings
 pub mod SeenFiles
 pub mod SeenLinks

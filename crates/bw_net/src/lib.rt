@@ -5,6 +5,7 @@
 
 mod counting;
 mod edits;
+mod faults;
 mod folder;
 mod followed;
 mod host;
@@ -15,6 +16,7 @@ mod link_stream;
 mod lock;
 mod locks;
 mod meaning;
+mod noted_files;
 mod noted_stream;
 mod pause;
 mod reactor;
@@ -36,6 +38,7 @@ pub use input::InputLink;
 pub use lines::{LineCell, LineSink};
 pub use link_stream::LinkStream;
 pub use lock::FolderLock;
+pub use noted_files::{NotedFile, NotedFiles};
 pub use noted_stream::NotedStream;
 pub use pause::{ClockPause, SpoolPause};
 pub use reactor::TcpReactor;

@@ -3,6 +3,7 @@ ghost use Rattle.std.specs.Prelude.{◌≡◌, ◌<◌, ◌≤◌, length, None,
 ghost use Rattle.bw_net.specs.SeenLinks.{is_short_of_handles, left_out_text};
 
 use crate::counting::counted;
+use crate::faults::{FaultNotes, fault_line, is_fault};
 use bw_stream::{IoFailed, Sink, StdIo, write_all};
 use mio::unix::SourceFd;
 use mio::{Events, Interest, Poll, Token};
@@ -49,6 +50,8 @@ pub struct LineCell {
     is_told: Cell<bool>,
     /// Reports which descriptors have room, once a server listens.
     room: RefCell<Option<Room>>,
+    /// Which calls of the server's store failed.
+    faults: FaultNotes,
 }
 
 impl LineCell {
@@ -59,10 +62,11 @@ impl LineCell {
             left_out: Cell::new(0),
             is_told: Cell::new(false),
             room: RefCell::new(None),
+            faults: FaultNotes::new(),
         }
     }
 
-    /// A server listens: after the next line none waits.
+    /// A server is to listen: after the next line none waits. What failed before isn't said any more.
     ///
     /// # Errors
     /// If the system refuses what reports room.
@@ -70,12 +74,42 @@ impl LineCell {
     /// # Not specified
     /// When it does, and that lines are left out from then on.
     pub fn open(&self, rt: &HostRuntime) -> io::Result<()> {
+        let _unsaid = self.faults.take();
         let room = Room::new(rt)?;
         if self.room.try_replace(Some(room)).is_err() {
             return Err(io::Error::from(ErrorKind::AlreadyExists));
         }
         self.phase.set(LinePhase::Opening);
         Ok(())
+    }
+
+    /// Prints on standard error which call of a start failed first, if one did and no server listens.
+    ///
+    /// # Not specified
+    /// Anything: it has no contract.
+    pub fn report_start(&self, rt: &HostRuntime) {
+        if let Some(line) = self.faults.take() {
+            let _ = write_all(&mut StdIo::new(rt.stderr()), line.as_bytes());
+        }
+    }
+
+    /// A call of the store failed. Before a server listens the first one is kept; after that it is a line
+    /// on standard error, once a minute at most.
+    pub(crate) fn note_fault(&self, rt: &HostRuntime, path: &str, error: &io::Error) {
+        if !is_fault(error.kind()) {
+            return;
+        }
+        if self.phase.get() == LinePhase::Waiting {
+            self.faults.keep(rt.alloc(), path, error);
+            return;
+        }
+        if !self.faults.may_print(rt) || !self.has_room(FAULTS) {
+            return;
+        }
+        if let Ok(line) = fault_line(rt.alloc(), path, error) {
+            self.faults.printed(rt);
+            let _ = write_all(&mut StdIo::new(rt.stderr()), line.as_bytes());
+        }
     }
 
     /// How many lines were left out.

@@ -43,5 +43,16 @@ impl FolderLock {
 fn open_lock(rt: &HostRuntime, path: &str) -> io::Result<File> {
     let mut options = OpenOptions::new();
     options.read(true).write(true).create(true);
-    without_pipes(options.open(rt, path)?, ".bwingest-lock is a pipe")
+    match options.open(rt, path) {
+        Ok(file) => without_pipes(file, ".bwingest-lock is a pipe"),
+        Err(error) => Err(named(rt.alloc(), error)),
+    }
+}
+
+/// Why the lock's file can't be opened, with its name, unless memory is refused for that.
+fn named(alloc: Global, error: io::Error) -> io::Error {
+    match format!(in alloc; "{LOCK}: {error}") {
+        Ok(words) => io::Error::new(error.kind(), words.as_str()),
+        Err(_) => error,
+    }
 }

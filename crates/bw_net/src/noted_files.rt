@@ -1,0 +1,177 @@
+//! The files of this machine, whose failed calls are noted.
+ghost use Rattle.std.specs.Prelude.{◌≡◌};
+
+use crate::lines::LineCell;
+use std::alloc::{Allocator, Global};
+use std::fs::{Files, Metadata, OpenFile, OpenOptions};
+use std::io::{self, Read, Seek, SeekFrom, Write};
+
+/// What a file is called whose path there was no memory for.
+const SOME_FILE: &str = "a file";
+
+/// The files of this machine. Each call that fails is noted with its path, for the lines of a server.
+/// No clause says what the calls do, nor what is noted.
+#[derive(Clone, Copy)]
+pub struct NotedFiles<'a> {
+    rt: &'a HostRuntime,
+    lines: &'a LineCell,
+}
+
+impl<'a> NotedFiles<'a> {
+    /// The files of this runtime, whose failed calls are noted there.
+    ///
+    /// # Not specified
+    /// Anything: it has no contract.
+    pub fn new(rt: &'a HostRuntime, lines: &'a LineCell) -> NotedFiles<'a> {
+        NotedFiles { rt, lines }
+    }
+
+    /// What a call for a path gave. If it failed, that is noted.
+    fn noted<T>(&self, path: &str, given: io::Result<T>) -> io::Result<T>
+        ensures { result ≡ given }
+    {
+        if let Err(error) = &given {
+            self.lines.note_fault(self.rt, path, error);
+        }
+        given
+    }
+
+    /// What was opened at a path, whose failed calls are noted too.
+    fn opened<F>(&self, path: &str, given: io::Result<F>) -> io::Result<NotedFile<'a, F>> {
+        let inner = self.noted(path, given)?;
+        Ok(NotedFile {
+            inner,
+            path: String::from_str(self.rt.alloc(), path).ok(),
+            files: *self,
+        })
+    }
+}
+
+impl Alloc for NotedFiles<'_> {
+    type A = Global;
+
+    fn alloc(&self) -> Global {
+        self.rt.alloc()
+    }
+}
+
+impl<'a> Files for NotedFiles<'a> {
+    type File = NotedFile<'a, <HostRuntime as Files>::File>;
+
+    type Dir = NotedFile<'a, <HostRuntime as Files>::Dir>;
+
+    fn open_file(&self, how: &OpenOptions, path: &str) -> io::Result<Self::File> {
+        self.opened(path, self.rt.open_file(how, path))
+    }
+
+    fn open_dir(&self, path: &str) -> io::Result<Self::Dir> {
+        self.opened(path, self.rt.open_dir(path))
+    }
+
+    fn metadata(&self, path: &str) -> io::Result<Metadata> {
+        self.noted(path, self.rt.metadata(path))
+    }
+
+    fn symlink_metadata(&self, path: &str) -> io::Result<Metadata> {
+        self.noted(path, self.rt.symlink_metadata(path))
+    }
+
+    fn copy(&self, from: &str, to: &str) -> io::Result<u64> {
+        self.noted(from, self.rt.copy(from, to))
+    }
+
+    fn rename(&self, from: &str, to: &str) -> io::Result<()> {
+        self.noted(from, self.rt.rename(from, to))
+    }
+
+    fn remove_file(&self, path: &str) -> io::Result<()> {
+        self.noted(path, self.rt.remove_file(path))
+    }
+
+    fn create_dir(&self, path: &str) -> io::Result<()> {
+        self.noted(path, self.rt.create_dir(path))
+    }
+
+    fn remove_dir(&self, path: &str) -> io::Result<()> {
+        self.noted(path, self.rt.remove_dir(path))
+    }
+
+    fn remove_dir_all<B: Allocator>(&self, alloc: B, path: &str) -> io::Result<()> {
+        self.noted(path, self.rt.remove_dir_all(alloc, path))
+    }
+}
+
+/// An open file or folder, whose failed calls are noted. What it gives and takes is what its own file
+/// does.
+#[derive(Drop)]
+pub struct NotedFile<'a, F> {
+    inner: F,
+    /// None if memory was refused for it.
+    path: Option<String>,
+    files: NotedFiles<'a>,
+}
+
+impl<F> NotedFile<'_, F> {
+    /// What a call gave. If it failed, that is noted.
+    fn noted<T>(&self, given: io::Result<T>) -> io::Result<T>
+        ensures { result ≡ given }
+    {
+        let path = match &self.path {
+            Some(path) => path.as_str(),
+            None => SOME_FILE,
+        };
+        self.files.noted(path, given)
+    }
+}
+
+impl<F: Read> Read for NotedFile<'_, F> {
+    ghost remaining = { λ f. F.remaining f.inner };
+
+    fn read(&mut self, buf: &mut [u8]) -> io::Result<usize> {
+        let given = self.inner.read(buf);
+        self.noted(given)
+    }
+}
+
+impl<F: Write> Write for NotedFile<'_, F> {
+    ghost contents = { λ f. F.contents f.inner };
+
+    fn write(&mut self, buf: &[u8]) -> io::Result<usize> {
+        let given = self.inner.write(buf);
+        self.noted(given)
+    }
+
+    fn flush(&mut self) -> io::Result<()> {
+        let given = self.inner.flush();
+        self.noted(given)
+    }
+}
+
+impl<F: Seek> Seek for NotedFile<'_, F> {
+    ghost stream_position = { λ f. F.stream_position f.inner };
+
+    ghost stream_bytes = { λ f. F.stream_bytes f.inner };
+
+    fn seek(&mut self, to: SeekFrom) -> io::Result<u64> {
+        let given = self.inner.seek(to);
+        self.noted(given)
+    }
+}
+
+impl<F: OpenFile> OpenFile for NotedFile<'_, F> {
+    fn metadata(&self) -> io::Result<Metadata> {
+        self.noted(self.inner.metadata())
+    }
+
+    fn set_len(&self, size: u64) -> io::Result<()> {
+        self.noted(self.inner.set_len(size))
+    }
+
+    fn sync_all(&self) -> io::Result<()> {
+        self.noted(self.inner.sync_all())
+    }
+
+    fn sync_data(&self) -> io::Result<()> {
+        self.noted(self.inner.sync_data())
+    }
+}
