@@ -23,7 +23,7 @@ sys.dont_write_bytecode = True  # nothing is left beside this script
 from cases.recordings import STEREO
 from kit.hints import hinted
 from kit.network import connect, free_port, hear_batch, hear_until_it_breaks, LOCAL, PROGRAM
-from kit.refused_commands import STEREO_FILE, try_pictures, try_repairs
+from kit.refused_commands import STEREO_FILE, try_file_senders, try_pictures, try_repairs
 from kit.refused_runs import is_prefix, KINDS, LONGEST_RUN, PIPES, Runs, what_a_pack_breaks, what_a_run_breaks, what_an_upload_breaks
 from kit.refuser import Refused
 from kit.repository import ROOT
@@ -380,6 +380,8 @@ def main():
         try_pictures(runs, PROGRAM)
         try_repairs(runs, PROGRAM)
         try_senders(runs, PROGRAM, take)
+        try_uploads(runs, PROGRAM)
+        try_file_senders(runs, PROGRAM)
         try_servers(runs, PROGRAM, take)
         if "--tests" in sys.argv:
             try_tests(runs)

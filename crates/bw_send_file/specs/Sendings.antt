@@ -1,5 +1,5 @@
 -- What the requests of a feed are sent by, and how that ends.
-use Rattle.std.specs.Prelude.{◌≡◌, ◌≢◌, ◌⊎◌, ◌++◌, ℕ, Bool, true, false, List, [], Option, Ok}
+use Rattle.std.specs.Prelude.{◌≡◌, ◌≢◌, ◌⊎◌, ◌++◌, ℕ, Bool, true, false, List, [], Option, Some, Ok}
 use Rattle.bw_model.specs.Take.{Request}
 use Rattle.bw_model.specs.World.{Sender as Defined}
 use Rattle.bw_stream.specs.declared.sink.Sink.{Ghosts as Writer}
@@ -18,6 +18,8 @@ use Rattle.bw_upload.specs.declared.outcome.Outcome.{Outcome}
 use Rattle.bw_upload.specs.declared.outcome.Outcome.TheVariants as outcomes
 use Rattle.bw_send_file.specs.Endings.{EndsAfter}
 use Rattle.bw_send_file.specs.declared.fault.FeedFault.{FeedFault}
+use Rattle.bw_send_file.specs.declared.fault.FeedFault.TheVariants.{Unread, Unstamped, Refused, Changed}
+use Rattle.bw_send_file.specs.declared.fault.FeedFault.TheVariants.{Unsendable, Memory}
 use Rattle.bw_send_file.specs.declared.settling.NoMore.{NoMore}
 
 -- the name of a take, its file's path, and how many links in a row may settle nothing
@@ -52,15 +54,25 @@ is_feed_fault (outcomes.Feed fault) = true
 is_feed_fault outcomes.Memory = false
 is_feed_fault outcomes.Limit = false
 
+-- how many links in a row may settle nothing while what was offered before this fault is sent on: no
+-- link is made after memory was refused, and one is enough after a failed call of the system
+abbrev pub settling_most : FeedFault → Option ℕ → Option ℕ
+settling_most (Unread f) most = Some 1
+settling_most (Unstamped error) most = Some 1
+settling_most (Refused f) most = most
+settling_most Changed most = most
+settling_most Unsendable most = most
+settling_most Memory most = Some 0
+
 -- how an upload ends whose feed failed, where what it had given was sent on, and that ended so: by
--- the fault, once all of it is stored
+-- the fault, once all of it is stored, or too many links settle nothing
 abbrev pub outcome_after : FeedFault → Outcome FeedFault → Outcome FeedFault
 outcome_after fault outcomes.Done = outcomes.Feed fault
 outcome_after fault (outcomes.Refused n v) = outcomes.Refused n v
 outcome_after fault (outcomes.Conflict n) = outcomes.Conflict n
 outcome_after fault (outcomes.TooFar n) = outcomes.TooFar n
 outcome_after fault (outcomes.NotOffered error) = outcomes.NotOffered error
-outcome_after fault outcomes.Fruitless = outcomes.Fruitless
+outcome_after fault outcomes.Fruitless = outcomes.Feed fault
 outcome_after fault (outcomes.Feed other) = outcomes.Feed other
 outcome_after fault outcomes.Memory = outcomes.Memory
 outcome_after fault outcomes.Limit = outcomes.Limit
@@ -73,7 +85,8 @@ module _ {P D R W : Type 0} (pause : PauseGhosts P) (dial : DialGhosts D R W) (r
     pub ended : NoMore
     pub ended' : NoMore
     pub rest : Outcome FeedFault
-    pub went : Uploads no_more pause dial reader writer most s sender rest ended ended' p p' d d'
+    pub went : Uploads no_more pause dial reader writer (settling_most fault most) s sender rest
+        ended ended' p p' d d'
     pub told : outcome ≡ outcome_after fault rest
 
 module _ {F P D R W : Type 0} (feed : FeedGhosts F FeedFault) (pause : PauseGhosts P)

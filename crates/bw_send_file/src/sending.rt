@@ -23,7 +23,8 @@ use std::alloc::{AllocError, Global};
 /// Unsendable, or what the file lacks. A failure to write it is ignored.
 ///
 /// Where the feed fails, the requests that it gave before are sent on first, until all of them are
-/// stored, one is refused, or no more links are made.
+/// stored, one is refused, or as many links in a row settle nothing as `fruitless` allows. After a
+/// failed call of the system one such link is enough, and after refused memory no link is made.
 ///
 /// `Done` only if the feed has ended, and each of its requests was offered and is stored.
 /// `Refused` for a refused request, Conflict, TooFar, NotOffered, Changed and Unsendable; `Device`

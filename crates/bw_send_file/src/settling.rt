@@ -3,7 +3,8 @@ ghost use Rattle.std.specs.Prelude.{◌≡◌, false, IfOk, IfErr};
 ghost use Rattle.bw_model.specs.World.{Sender as Defined};
 ghost use Rattle.bw_sender.specs.Senders.{IsSender};
 ghost use Rattle.bw_upload.specs.declared.outcome.Outcome.TheVariants as outcomes;
-ghost use Rattle.bw_send_file.specs.Sendings.{SettlesOffered, is_feed_fault, outcome_after as defined_outcome};
+ghost use Rattle.bw_send_file.specs.Sendings.{SettlesOffered, is_feed_fault};
+ghost use Rattle.bw_send_file.specs.Sendings.{outcome_after as defined_outcome, settling_most as most_settling};
 
 use crate::fault::FeedFault;
 use bw_ports::{Dial, Pause};
@@ -52,8 +53,8 @@ pub(crate) fn feed_fault(outcome: Outcome<FeedFault>) -> Result<FeedFault, Outco
 }
 
 /// Sends on what a sender was offered before its feed failed: over links of its own, since the
-/// upload has left its link. Once all of it is stored, the fault ends the upload; it ends otherwise
-/// if a request is refused, or no more links are made.
+/// upload has left its link. Once all of it is stored, or too many links in a row settle nothing, the
+/// fault ends the upload; it ends otherwise if a request is refused.
 pub(crate) fn settle<P: Pause, D: Dial, V: Observer>(
     alloc: Global,
     sender: Sender,
@@ -68,10 +69,11 @@ pub(crate) fn settle<P: Pause, D: Dial, V: Observer>(
         result.outcome pause.old pause.new dial.old dial.new }
 {
     let mut no_more = NoMore;
+    let most = settling_most(&fault, fruitless);
     let Uploaded { sender, outcome } = upload(
         alloc,
         sender,
-        fruitless,
+        most,
         &mut no_more,
         pause,
         dial,
@@ -80,6 +82,21 @@ pub(crate) fn settle<P: Pause, D: Dial, V: Observer>(
     Uploaded {
         sender,
         outcome: outcome_after(fault, outcome),
+    }
+}
+
+/// How many links in a row may settle nothing while what was offered before this fault is sent on.
+/// Who has no memory, or can't read its file, doesn't wait for a server that is gone.
+fn settling_most(fault: &FeedFault, fruitless: Option<u32>) -> Option<u32>
+    ensures { result ≡ most_settling fault.now fruitless }
+{
+    match fault {
+        FeedFault::Unread(_) => Some(1),
+        FeedFault::Unstamped(_) => Some(1),
+        FeedFault::Refused(_) => fruitless,
+        FeedFault::Changed => fruitless,
+        FeedFault::Unsendable => fruitless,
+        FeedFault::Memory => Some(0),
     }
 }
 
@@ -93,7 +110,7 @@ fn outcome_after(fault: FeedFault, outcome: Outcome<FeedFault>) -> Outcome<FeedF
         Outcome::Conflict(number) => Outcome::Conflict(number),
         Outcome::TooFar(number) => Outcome::TooFar(number),
         Outcome::NotOffered(error) => Outcome::NotOffered(error),
-        Outcome::Fruitless => Outcome::Fruitless,
+        Outcome::Fruitless => Outcome::Feed(fault),
         Outcome::Feed(other) => Outcome::Feed(other),
         Outcome::Memory => Outcome::Memory,
         Outcome::Limit => Outcome::Limit,
