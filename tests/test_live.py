@@ -307,7 +307,7 @@ def case_end_unknown(folder):
         path = written(folder, samples)
         for name, end in (("long", folder / ("x" * 300)), ("below", path / "end")):
             found = upload(server.port, name, path, "48000,1,16", "--follow", "--until", str(end))
-            TALLY.same(f"an end that is {name}", (found[0], found[2]), (3, hinted("send", "Read at 0")))
+            TALLY.same(f"an end that is {name}", (found[0], found[2]), (3, "send: Read at 0\n"))
             TALLY.holds(f"an end that is {name}", not (folder / "takes" / f"{name}.wav").exists(), "it was made")
 
 

@@ -9,7 +9,7 @@ use Rattle.bw_console.specs.Outcomes.{IsOutOfMemory, Outcome as Did}
 use Rattle.bw_console.specs.Prints.{Print}
 use Rattle.bw_console.specs.declared.exit.Exit.{Exit}
 use Rattle.bw_console.specs.declared.exit.Exit.TheVariants as exits
-use Rattle.bw_recorder.proofs.Statuses.{device_ends, kind_ends, memory_ends, refused_ends, unopened_ends, unread_ends}
+use Rattle.bw_recorder.proofs.Statuses.{device_ends, kind_ends, memory_ends, refused_ends, unopened_ends}
 use Rattle.bw_upload.specs.OfferedFeeds.{OffersFeed}
 use Rattle.bw_upload.specs.Links.{says_done}
 use Rattle.bw_upload.specs.declared.outcome.Outcome.{Outcome}
@@ -26,7 +26,7 @@ opening_ends path kind did (inr x) done = memory_ends (sym x.exit_is ∙ done)
 
 file_ends : (path : List ℕ) (fault : FeedFault) (exit : Exit) (print : Print) → IsFileReport path fault exit print →
     exit ≡ exits.Done → ⊥
-file_ends path (Unread f) exit print h done = unread_ends f.kind (sym h.0 ∙ done)
+file_ends path (Unread f) exit print h done = device_ends (sym h.0 ∙ done)
 file_ends path (Unstamped error) exit print h done = opening_ends path (error_kind error) h.0 h.3 (h.1 ∙ done)
 file_ends path (Refused f) exit print h done = kind_ends f.kind (sym h.0 ∙ done)
 file_ends path Changed exit print h done = refused_ends (sym h.0 ∙ done)

@@ -8,7 +8,8 @@ use Rattle.bw_console.specs.Text.{as_line}
 use Rattle.bw_console.specs.declared.exit.Exit.{Exit}
 use Rattle.bw_console.specs.declared.exit.Exit.TheVariants as exits
 use Rattle.bw_console.specs.declared.fault.Fault.TheVariants as faults
-use Rattle.bw_plan.specs.declared.fault.RecordingKind.TheVariants as kinds
+use Rattle.bw_inspect.specs.Faults.{inspect_fault_text}
+use Rattle.bw_inspect.specs.declared.fault.InspectFault.{InspectFault}
 use Rattle.bw_recorder.specs.Packs.{IsOpenReport}
 use Rattle.bw_recorder.specs.declared.fault.OpenFault.TheVariants as opens
 use Rattle.bw_send.specs.SenderText.{sender_text}
@@ -36,6 +37,9 @@ fruitless_line = as_line (codes "Fruitless: as many links in a row as are allowe
 abbrev pub limit_line : List ℕ
 limit_line = as_line (codes "Limit: no more links are made")
 
+abbrev pub unread_line : InspectFault → List ℕ
+unread_line f = as_line (codes "send: " ++ inspect_fault_text f)
+
 abbrev pub altered_line : List ℕ
 altered_line = as_line (codes "Changed: the file isn't any more what it was")
 
@@ -51,9 +55,7 @@ EndsWithLine line end exit print = (exit ≡ end) × IsOf line print
 
 -- what is reported where the file at a path gives no more requests
 abbrev pub IsFileReport : List ℕ → FeedFault → Exit → Print → Type 0
-IsFileReport path (Unread f) exit print =
-    IsOpenReport (codes "send") path
-    (opens.Refused (record { kind = kinds.Unread f.kind; offset = f.offset })) exit print
+IsFileReport path (Unread f) exit print = EndsWithLine (unread_line f) exits.Device exit print
 IsFileReport path (Unstamped error) exit print =
     IsOpenReport (codes "send") path (opens.Unopened error) exit print
 IsFileReport path (Refused f) exit print = IsOpenReport (codes "send") path (opens.Refused f) exit print

@@ -6,12 +6,14 @@ ghost use Rattle.bw_console.specs.Text.{as_line};
 ghost use Rattle.bw_model.specs.World.{Sender as Defined};
 ghost use Rattle.bw_sender.specs.Senders.{IsSender};
 ghost use Rattle.bw_send_file.specs.Endings.{EndsAfter, IsFileReport, IsOutcomeReport};
+ghost use Rattle.bw_send_file.specs.Endings.{unread_line as defined_unread_line};
 
 use crate::fault::FeedFault;
 use arrayvec::ArrayString;
 use bw_console::print::{give_up, print, print_diagnostic};
 use bw_console::{Exit, Fault, report_unopened};
-use bw_recorder::{OpenFault, report_open_fault, unread};
+use bw_inspect::InspectFault;
+use bw_recorder::{OpenFault, report_open_fault};
 use bw_send::text_of_sender;
 use bw_stream::Sink;
 use bw_upload::{Outcome, Uploaded};
@@ -103,8 +105,8 @@ pub fn report_file_fault<E: Sink>(
 {
     match fault {
         FeedFault::Unread(fault) => {
-            let fault = OpenFault::Refused(unread(*fault));
-            report_open_fault(alloc, "send", path, &fault, faults)
+            let line = unread_line(fault);
+            end_by(line.as_str().as_bytes(), Exit::Device, faults)
         }
         FeedFault::Unstamped(error) => report_unopened(alloc, path, error, faults),
         FeedFault::Refused(fault) => {
@@ -115,6 +117,21 @@ pub fn report_file_fault<E: Sink>(
         FeedFault::Unsendable => end_by(UNSENDABLE, Exit::Refused, faults),
         FeedFault::Memory => give_up(faults, &Fault::Memory),
     }
+}
+
+/// The line of a read that failed. It has no hint: the file was opened, or it is the path that says
+/// that a recording has ended which can't be looked for.
+fn unread_line(fault: &InspectFault) -> ArrayString<64>
+    ensures { result.bytes ≡ defined_unread_line fault.now }
+{
+    let mut digits = Buffer::new();
+    let mut line = ArrayString::new();
+    line.push_str("send: ");
+    line.push_str(fault.kind.name());
+    line.push_str(" at ");
+    line.push_str(digits.format(fault.offset));
+    line.push_str("\n");
+    line
 }
 
 /// Reports a line. Returns how the command ends.
