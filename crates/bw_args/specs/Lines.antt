@@ -350,7 +350,7 @@ IsFirstBad (first ∷ later) given value = (¬ IsGood first given × (value ≡ 
     ⊎ (IsGood first given × IsFirstBad later given value)
 
 -- what is bad of a command of which no value is looked at: of `inspect`, what is asked for
--- together; elsewhere a limit stands for what `clap` doesn't let through
+-- together; elsewhere a limit is there for what `clap` doesn't let through
 abbrev pub bad_unlooked : Text → BadValue
 bad_unlooked command = if bytes_eq command (codes "inspect") then Inspection else Limit
 

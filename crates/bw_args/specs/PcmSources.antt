@@ -49,7 +49,7 @@ plain_samples s = record {
 abbrev pub is_comma : ℕ → Bool
 is_comma c = c == 44
 
--- what stands before the first comma, and after it
+-- what comes before the first comma, and after it
 abbrev pub at_comma : Text → Option (Text × Text)
 at_comma text = if nat_lt (position_or_len is_comma text) (length text)
     then Some (before_first is_comma text, after_first is_comma text) else None

@@ -49,7 +49,7 @@ pub enum BadValue {
     Mixed,
     /// The format of headerless samples.
     Pcm,
-    /// How many bytes stand before headerless samples.
+    /// How many bytes come before headerless samples.
     Skip,
     /// How many frames a block of headerless samples has.
     Block,

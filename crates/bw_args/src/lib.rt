@@ -35,7 +35,7 @@ pub enum Task {
     /// `limit` bytes is written as BW64. With a `fuse`, the call of the store with that number
     /// fails, the first being number 0.
     Replay { limit: u64, fuse: Option<u32> },
-    /// Play a recorder and a server by hand, by the events on standard input. The take has this
+    /// Play a recorder and a server, by the events on standard input. The take has this
     /// name; `limit` is as for a replay.
     Rehearse { name: Name, limit: u64 },
     /// Report what is in the file at this path.

@@ -24,7 +24,7 @@ pub struct PcmSource {
     pub channels: u32,
     /// Bits per sample.
     pub bits: u32,
-    /// How many bytes of the file stand before the first sample.
+    /// How many bytes of the file come before the first sample.
     pub skip: u32,
     /// How many frames a block has at most, where that is given: at least 1.
     pub block: Option<u32>,

@@ -1,4 +1,4 @@
-//! A link that is kept: what a sender says over it, piece by piece, and what it hears.
+//! A link that is kept: what a sender sends over it, piece by piece, and what it receives.
 ghost use Rattle.std.specs.Prelude.{◌≡◌, ◌+◌, ◌≤◌, List, [], ◌∷◌, length, vec_len};
 ghost use Rattle.std.specs.Prelude.{IfOk, IfErr, OnOk, OnErr};
 ghost use Rattle.bw_model.specs.Replies.{Reply as Answer};
@@ -143,8 +143,8 @@ impl Talk {
         Ok(Listened::Heard(stop))
     }
 
-    /// Ends the talk: writes `Bye`, and then reads what still comes, which is dropped. If the writer
-    /// fails, nothing is read.
+    /// Ends the talk: writes `Bye`, and then reads what still comes, which is dropped. If the
+    /// writer fails, nothing is read.
     ///
     /// # Not specified
     /// What is read.

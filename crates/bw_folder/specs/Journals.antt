@@ -25,7 +25,7 @@ abbrev pub existence_of : List (List ℕ × Bool) → List ℕ → Option Bool
 existence_of known name = option_map (λ it. it.1) (find (λ it. bytes_eq it.0 name) known)
 
 -- What the journal of a name begins with: of an open one, what is known; else whether something
--- stands now where the take's file is to be.
+-- is now where the take's file is to be.
 abbrev pub header_at : ℕ → List (List ℕ × Bool) → (List ℕ → Option (List ℕ)) → List ℕ → List ℕ → Header
 header_at limit known contents folder name = record {
   limit = limit;

@@ -28,7 +28,7 @@ module _ {D F : Type 0} (G : Ghosts D F) where
     pub stays : StaysOpen old new
     pub disk : StaysWhole G old.disk new.disk
 
-  -- A file was moved, or something stood in its way; a failure moved it, or didn't.
+  -- A file was moved, or something was in its way; a failure moved it, or didn't.
   pub record MovesFile {E : Type 0} (from to : List ℕ) (answer : Result Bool E)
       (old new : FolderJournal D F G) : Type 0 where
     pub stays : StaysOpen old new
@@ -80,7 +80,7 @@ module _ {D F : Type 0} {G : Ghosts D F} where
   abbrev pub sync_failed_of_all : RestingFolderJournal D F G → List ℕ → Option Bool
   sync_failed_of_all j name = failure_of j.inner.journals.items name
 
-  -- where the journal of a name stands that doesn't rest
+  -- where the journal of a name that doesn't rest is
   abbrev pub stands_in_all : RestingFolderJournal D F G → List ℕ → Standing
   stands_in_all j name =
       standing_at (is_loose j.loose name) (G.contents j.inner.disk) (string_bytes j.inner.folder) name
@@ -89,7 +89,7 @@ module _ {D F : Type 0} {G : Ghosts D F} where
   abbrev pub is_loose_in : RestingFolderJournal D F G → List ℕ → Bool
   is_loose_in j name = is_loose j.loose name
 
-  -- a journal that isn't apart stands where it stood, and has what it had
+  -- a journal that isn't apart is where it was, and has what it had
   abbrev pub KeepsStandings : RestingFolderJournal D F G → RestingFolderJournal D F G → Type 0
   KeepsStandings old new = KeepsStanding (stands_in_all old) (stands_in_all new)
       (all_journals G old).noted (all_journals G new).noted

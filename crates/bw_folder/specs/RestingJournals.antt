@@ -19,7 +19,7 @@ closed_path folder name = folder ++ codes "/" ++ name ++ codes ".closed"
 abbrev pub is_loose : {H : Type 0} → HashSet (List ℕ) H → List ℕ → Bool
 is_loose loose name = contains bytes_eq loose name
 
--- what is noted under a name: under a loose one, what stands at either path
+-- what is noted under a name: under a loose one, what is at either path
 abbrev pub noted_at : Bool → (List ℕ → Option (List ℕ)) → List ℕ → List ℕ → Option (List ℕ)
 noted_at loose contents folder name =
     if loose then option_or (contents (journal_path folder name)) (contents (closed_path folder name))
@@ -29,7 +29,7 @@ noted_at loose contents folder name =
 abbrev pub resting_at : Bool → (List ℕ → Option (List ℕ)) → List ℕ → List ℕ → Option (List ℕ)
 resting_at loose contents folder name = if loose then None else contents (closed_path folder name)
 
--- Where the journal of a name stands that doesn't rest: only a loose one can be at its place of rest.
+-- Where the journal of a name that doesn't rest is: only a loose one can be at its place of rest.
 abbrev pub standing_at : Bool → (List ℕ → Option (List ℕ)) → List ℕ → List ℕ → Standing
 standing_at loose contents folder name =
     if not (loose && is_some (contents (closed_path folder name))) then Apart

@@ -44,7 +44,7 @@ impl<D: Volume> FolderJournal<D> {
         self.journals.retain(|journal| journal.name != *name);
     }
 
-    /// Whether something stands at a path.
+    /// Whether something is at a path.
     pub(crate) fn stands(&mut self, path: &str) -> Result<bool, StoreFault>
         ensures value { IsTrue (D.honest self.old.disk) → IfOk result (λ found.
             found ≡ is_some (D.contents self.old.disk path.now)) }
@@ -62,9 +62,9 @@ impl<D: Volume> FolderJournal<D> {
         read_file(&mut self.disk, self.alloc, path).map_err(|_| StoreFault)
     }
 
-    /// Moves a file of the folder, and returns true; false if something stands in its way. With `sync` the
-    /// folder is synced then: what is written to the file from now on is found at its new path, even after a
-    /// loss of power.
+    /// Moves a file of the folder, and returns true; false if something is in its way. With `sync`
+    /// the folder is synced then: what is written to the file from now on is found at its new path,
+    /// even after a loss of power.
     pub(crate) fn move_file(&mut self, from: &str, to: &str) -> Result<bool, StoreFault>
         ensures moves { MovesFile D.Disk from.now to.now result self.old self.new }
         ensures others { IsTrue (D.honest self.old.disk) → KeepsAllBut from.now to.now
@@ -77,8 +77,9 @@ impl<D: Volume> FolderJournal<D> {
         Ok(moved)
     }
 
-    /// Syncs the folder, with `sync`: a file that was moved before is found at its new path from now on,
-    /// even after a loss of power. That move may have been reported as failed, or not been synced.
+    /// Syncs the folder, with `sync`: a file that was moved before is found at its new path from
+    /// now on, even after a loss of power. That move may have been reported as failed, or not been
+    /// synced.
     pub(crate) fn sync_moves(&mut self) -> Result<(), StoreFault>
         ensures { OnlyReads D.Disk self.old self.new }
     {

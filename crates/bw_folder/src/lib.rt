@@ -1,6 +1,6 @@
 //! What a server keeps in a folder: the files of takes, and their journals.
-//! Not stated: at which of its two paths a journal stands that woke, or whose move failed; when the
-//! folder itself is synced.
+//! Not stated: at which of its two paths the journal of a name that woke, or whose move failed, is;
+//! when the folder itself is synced.
 #![tactic(auto)]
 
 mod closing;

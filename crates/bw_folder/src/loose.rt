@@ -21,7 +21,7 @@ impl<D: Volume> RestingFolderJournal<D> {
     ghost use Rattle.bw_folder.specs.RestingFolders.{all_journals, OnlyReads, StaysOpen, KeepsSettings};
     ghost use Rattle.bw_folder.specs.RestingFolders.{KeepsStandings, MayMoveToRest, StandingsIf};
 
-    /// Whether something stands at the `NAME.closed` of a name.
+    /// Whether something is at the `NAME.closed` of a name.
     fn stands_closed(&mut self, name: &Name) -> Result<bool, StoreFault>
         ensures value { IsTrue (D.honest self.old.inner.disk) → IfOk result (λ found.
             found ≡ is_some (D.contents self.old.inner.disk
@@ -33,7 +33,7 @@ impl<D: Volume> RestingFolderJournal<D> {
         self.inner.stands(&path)
     }
 
-    /// Whether something stands at the `NAME.journal` of a name.
+    /// Whether something is at the `NAME.journal` of a name.
     fn stands_noted(&mut self, name: &Name) -> Result<bool, StoreFault>
         ensures value { IsTrue (D.honest self.old.inner.disk) → IfOk result (λ found.
             found ≡ is_some (D.contents self.old.inner.disk
@@ -104,7 +104,7 @@ impl<D: Volume> RestingFolderJournal<D> {
         Ok(true)
     }
 
-    /// Moves a loose journal to where it rests, unless it is there; false if one stands at each of
+    /// Moves a loose journal to where it rests, unless it is there; false if one is at each of
     /// its paths.
     fn move_to_rest(&mut self, name: &Name) -> Result<bool, StoreFault>
         requires { IsTrue (is_loose self.old.loose name.now) }
@@ -252,8 +252,8 @@ impl<D: Volume> RestingFolderJournal<D> {
         Ok(())
     }
 
-    /// Moves a loose journal back to `NAME.journal`, unless it is there. With `sync` the folder is synced in
-    /// either case, before anything is noted.
+    /// Moves a loose journal back to `NAME.journal`, unless it is there. With `sync` the folder is
+    /// synced in either case, before anything is noted.
     fn move_back(&mut self, name: &Name) -> Result<(), StoreFault>
         requires { IsTrue (is_loose self.old.loose name.now) }
         ensures stays { StaysOpen D.Disk self.old.inner self.new.inner }

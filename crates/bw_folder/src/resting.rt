@@ -25,7 +25,7 @@ use std::collections::HashSet;
 /// The journals of a folder, `NAME.journal`, of which some rest: `NAME.closed`.
 ///
 /// A journal that woke stays where it rested until something is noted under its name, so that a
-/// repeat writes nothing. Until then it is loose: it isn't open, and stands at one of its two
+/// repeat writes nothing. Until then it is loose: it isn't open, and is at one of its two
 /// paths. A journal is also loose after a call of the disk that was to move it failed: it may have
 /// been moved. Only the names of loose ones are kept in memory; what rests is looked for on the
 /// disk.
@@ -63,8 +63,8 @@ impl<D: Volume> RestingFolderJournal<D> {
         }
     }
 
-    /// The journals that don't rest, by value. What is noted under a name that woke, and under which
-    /// nothing was noted since, goes on resting.
+    /// The journals that don't rest, by value. What is noted under a name that woke, and under
+    /// which nothing was noted since, goes on resting.
     pub fn into_inner(self) -> FolderJournal<D>
         ensures inner { result ≡ awake_journals self }
         ensures notes { (name : List ℕ) → is_loose_in self name ≡ false →
@@ -101,8 +101,8 @@ impl<D: Volume> Journal for RestingFolderJournal<D> {
 
     ghost stands = { stands_in_all };
 
-    /// Begins the journal of a name as a `FolderJournal` does, unless one rests under the name or is
-    /// loose.
+    /// Begins the journal of a name as a `FolderJournal` does, unless one rests under the name or
+    /// is loose.
     ///
     /// # Errors
     /// `StoreFault` if a call of the disk failed, memory was refused before any change, other bytes
@@ -146,8 +146,8 @@ impl<D: Volume> Journal for RestingFolderJournal<D> {
         answer
     }
 
-    /// Notes bytes as a `FolderJournal` does. A loose journal is opened first, and moved back before
-    /// that if it stands where it rested.
+    /// Notes bytes as a `FolderJournal` does. A loose journal is opened first, and moved back
+    /// before that if it is where it rested.
     ///
     /// # Errors
     /// `StoreFault` as by a `FolderJournal`, or if a loose journal couldn't be moved or opened.
@@ -166,7 +166,7 @@ impl<D: Volume> Journal for RestingFolderJournal<D> {
         // What rests goes on resting, and headers stay, whether or not the call fails.
         ensures resting { IsTrue (D.honest (disk_of_all self.old)) → KeepsResting
             (all_journals D.Disk self.old).resting (all_journals D.Disk self.new).resting }
-        // The bytes follow the first ones, wherever the journal stands.
+        // The bytes follow the first ones, wherever the journal is.
         ensures noted { IsTrue (D.honest (disk_of_all self.old)) →
             OnOk result (Notes offset bytes.now
             ((all_journals D.Disk self.old).noted name.now)
@@ -205,7 +205,7 @@ impl<D: Volume> RestingJournal for RestingFolderJournal<D> {
     /// Moves the journal to `NAME.closed`, unless it is there already; it isn't open afterwards.
     ///
     /// It returns false if the journal is neither open nor loose, a file of the name existed before
-    /// it, one rests under the name, a sync failed for it, or files stand at both of its paths.
+    /// it, one rests under the name, a sync failed for it, or files are at both of its paths.
     ///
     /// # Errors
     /// `StoreFault` if a call of the disk failed, or memory was refused: the file may have been

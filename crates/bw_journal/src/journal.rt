@@ -36,7 +36,7 @@ pub trait Journal: Drop {
     /// implementation doesn't define it.
     ghost folder: { Self → List ℕ } = { λ _. [] };
 
-    /// Where the journal of each name stands that doesn't rest; apart from those that rest where
+    /// Where the journal of each name that doesn't rest is; apart from those that rest where
     /// an implementation doesn't define it.
     ghost stands: { Self → List ℕ → Standing } = { λ _ _. Apart };
 

@@ -18,7 +18,7 @@ pub trait RestingJournal: Journal {
     ///
     /// # Errors
     /// `StoreFault` if the journal failed: what is noted and what rests is the same, but the
-    /// journal of the name may stand at its place of rest by then, as `stands` says.
+    /// journal of the name may be at its place of rest by then, as `stands` says.
     ///
     /// # Not specified
     /// - When the journal fails.

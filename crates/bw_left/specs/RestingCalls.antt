@@ -17,7 +17,7 @@ use Rattle.bw_rest.specs.TurnsAtRest.{FolderTurn, RestingTurn, HasPlace, NoneMay
 use Rattle.bw_left.specs.LeftFolders.{EachIsInOrder, HasNoForeignFile, IsOwnFolder}
 use Rattle.bw_left.specs.RestingStops.{RestsApart}
 
--- A journal that stands at its place of rest stands there alone, and its name may wake by it.
+-- A journal at its place of rest is alone there, and its name may wake by it.
 pub record MayStandThere (limit : ℕ) (name : List ℕ) (standing : Standing) (noted : Option (List ℕ)) :
     Type 0 where
   pub alone : standing ≡ AtBoth → ⊥
@@ -26,7 +26,7 @@ pub record MayStandThere (limit : ℕ) (name : List ℕ) (standing : Standing) (
 module _ {X Y : Type 0} (S : StoreGhosts X) (J : JournalGhosts Y) where
   -- The server holds a book of its folder over an honest store, and an honest journal has what the book
   -- says, in the order that each call keeps; what is noted is of names, and what rests is apart. No file
-  -- that begins as this server's existed under a name of which nothing is done. What stands at its place
+  -- that begins as this server's existed under a name of which nothing is done. What is at its place
   -- of rest may wake.
   pub record RestsHonestly (first : List ℕ → Option (List ℕ)) (s : Server X Y S J) (book : Book) :
       Type 0 where

@@ -48,7 +48,7 @@ module _ {X Y : Type 0} (S : StoreGhosts X) (J : JournalGhosts Y) where
 
 module _ {D E F H : Type 0} (G : DiskGhosts D F) (K : DiskGhosts E H)
     (S : StoreGhosts (FolderStore D F G)) (R : JournalGhosts (RestingFolderJournal E H K)) where
-  -- The server's store and journals are of one folder. The journal of a loose name that stands at its place
+  -- The server's store and journals are of one folder. The journal of a loose name that is at its place
   -- of rest is alone, and its name may wake by it.
   pub record IsOverRestingFolder (s : Server (FolderStore D F G) (RestingFolderJournal E H K) S R)
       (folder : List ℕ) : Type 0 where
@@ -71,7 +71,7 @@ module _ {D E F H : Type 0} (G : DiskGhosts D F) (K : DiskGhosts E H)
     pub apart : RestsApart S R s
     pub over : IsOverRestingFolder s folder
 
-  -- So each leaves what the next start takes over, also while journals of names in the table stand where
+  -- So each leaves what the next start takes over, also while journals of names in the table are where
   -- they rested: on any two disks that show the folder as it was left.
   abbrev pub RestingServersAreLeft : Type 0
   RestingServersAreLeft = (folder : List ℕ) (first : List ℕ → Option (List ℕ)) (book : Book)

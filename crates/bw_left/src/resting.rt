@@ -17,27 +17,29 @@ use bw_folder::{FolderJournal, FolderStore, RestingFolderJournal};
 use bw_journal::Journal;
 use bw_store::TakeStore;
 
-/// A server that is started over a folder in which names rest, and lets them rest, over honest disks,
-/// holds with what rests the book of the folder: from every book that an earlier one may have left
-/// there.
+/// A server that is started over a folder in which names rest, and lets them rest, over honest
+/// disks, holds with what rests the book of the folder: from every book that an earlier one may
+/// have left there.
 pub fn law_resting_starts<D: Volume, E: Volume>()
     ensures { RestingStartsHoldFolders D.Disk E.Disk ⟦<FolderStore<D> as TakeStore>⟧
         ⟦<FolderJournal<E> as Journal>⟧ ⟦<RestingFolderJournal<E> as Journal>⟧ }
 {}
 
-/// A server whose names rest leaves, wherever it is stopped, a folder that the next one takes over, by
-/// `law_resting_starts`: from its book, or from one in which numbers that waited are done. What is asked
-/// of the server is in `StopsResting`, and holds of every one that ran: `law_resting_lives`. In such a
-/// folder each name that rests has no other journal, so that none is in the next server's way, and
-/// each may wake.
+/// A server whose names rest leaves, wherever it is stopped, a folder that the next one takes over,
+/// by
+/// `law_resting_starts`: from its book, or from one in which numbers that waited are done. What is
+/// asked of the server is in `StopsResting`, and holds of every one that ran: `law_resting_lives`.
+/// In such a folder each name that rests has no other journal, so that none is in the next server's
+/// way, and each may wake.
 pub fn law_resting_stops<D: Volume, E: Volume>()
     ensures left { RestingServersAreLeft D.Disk E.Disk ⟦<FolderStore<D> as TakeStore>⟧
         ⟦<RestingFolderJournal<E> as Journal>⟧ }
     ensures wake { LeftNamesMayWake }
 {}
 
-/// `RestsHonestly` holds of a server that is started over what an earlier one left, over honest disks, if
-/// no file that begins as a server's existed at first under a name of which no number is done.
+/// `RestsHonestly` holds of a server that is started over what an earlier one left, over honest
+/// disks, if no file that begins as a server's existed at first under a name of which no number is
+/// done.
 pub fn law_resting_begins<D: Volume, E: Volume>()
     ensures { RestingStartsAreHonest D.Disk E.Disk ⟦<FolderStore<D> as TakeStore>⟧
         ⟦<FolderJournal<E> as Journal>⟧ ⟦<RestingFolderJournal<E> as Journal>⟧ }
@@ -61,7 +63,7 @@ pub fn law_resting_calls<S: TakeStore, J: Journal>()
 pub fn law_new_folders()
     ensures new { NewFoldersAreLeft }
     ensures empty { EmptyFoldersAreNew }
-    // If nothing stands at a `NAME.closed`.
+    // If nothing is at a `NAME.closed`.
     ensures without_rest { FoldersWithoutRestAreLeft }
 {}
 

@@ -22,7 +22,7 @@ module _ {L : Type 0} (F : LinkGhosts (FilteredLink L)) (G : LinkGhosts L) where
     pub frames : IsTrue (are_bytes came) →
         under_one_name (stream_of Second came).0 ≡ answered_frames answered ++ later
 
-  -- so are those of each connection, whose link was to have one name, that stands or is over
+  -- so are those of each connection, whose link was to have one name, that is there or is over
   pub record EachAnswersOneName (m : Connections (FilteredLink L)) (over : List (Closed (FilteredLink L)))
       (trace : List Tagged) : Type 0 where
     pub stands : (i : ℕ) (c : Connection (FilteredLink L)) → HoldsConnectionAt m i c →

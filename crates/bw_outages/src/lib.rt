@@ -1,4 +1,4 @@
-//! Why nothing of an upload goes, as a line on standard error, once for each change.
+//! Why an upload makes no progress, as a line on standard error, once for each change.
 #![tactic(auto)]
 
 mod outage;

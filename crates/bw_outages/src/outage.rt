@@ -1,4 +1,4 @@
-//! Why nothing goes.
+//! Why an upload makes no progress.
 ghost use Rattle.std.specs.Prelude.{◌≡◌};
 ghost use Rattle.bw_outages.specs.Outages.{broken_by as breaks_by, missed_by as misses_by};
 ghost use Rattle.bw_outages.specs.Outages.{outage_after as comes_after, outage_line, outage_number};
@@ -63,8 +63,8 @@ impl Outage {
     }
 }
 
-/// Why nothing goes after a change of the link, if that is so; `cause` is why the latest call of the
-/// system for a link failed. What ends the upload is no outage.
+/// Why nothing goes after a change of the link, if that is so; `cause` is why the latest call of
+/// the system for a link failed. What ends the upload is no outage.
 pub fn outage_after(event: LinkEvent, cause: Option<LinkCause>) -> Option<Outage>
     ensures { result ≡ comes_after event cause }
 {

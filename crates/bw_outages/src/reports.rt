@@ -1,4 +1,4 @@
-//! An observer that reports why nothing goes.
+//! An observer that reports why an upload makes no progress.
 use crate::outage::{Outage, missed_by, outage_after};
 use crate::repeats::LastOutage;
 use bw_causes::CauseCell;
@@ -12,8 +12,8 @@ use bw_stream::Sink;
 use bw_upload::{LinkEvent, Observer};
 use std::alloc::Global;
 
-/// Writes a line for each change of why nothing goes, and passes all reports on to a watcher. A failure
-/// to write a line is ignored.
+/// Writes a line for each change of why nothing goes, and passes all reports on to a watcher. A
+/// failure to write a line is ignored.
 ///
 /// No clause says what is written: the lines are tested.
 #[derive(Drop)]

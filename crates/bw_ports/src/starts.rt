@@ -39,7 +39,7 @@ pub trait Starts<T> {
     /// after it.
     ghost starts: { Self → List ℕ → ℕ → Bool → Result T StartRefusal → Self → Type 0 };
 
-    /// A server with this limit over what stands in the folder, and its journals; with `sync` each
+    /// A server with this limit over what is in the folder, and its journals; with `sync` each
     /// verdict is on the disk before it is answered. No other server starts over the folder while
     /// `self` lives.
     ///

@@ -11,11 +11,11 @@ pub trait StartsResting<T> {
     /// How many calls failed; the count stays at 2^64 - 1.
     ghost rest_failures: { Self → ℕ };
 
-    /// What a call of `start_resting` for this folder, limit and choice of syncs may return, and the
-    /// state after it.
+    /// What a call of `start_resting` for this folder, limit and choice of syncs may return, and
+    /// the state after it.
     ghost starts_resting: { Self → List ℕ → ℕ → Bool → Result T StartRefusal → Self → Type 0 };
 
-    /// A server with this limit over what stands in the folder but for the names that rest, and its
+    /// A server with this limit over what is in the folder but for the names that rest, and its
     /// journals; with `sync` each verdict is on the disk before it is answered. No other server
     /// starts over the folder while `self` lives.
     ///

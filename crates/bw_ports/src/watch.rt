@@ -1,4 +1,4 @@
-//! Whoever follows a sender's progress.
+//! Observers of a sender's progress.
 use bw_stream::Sink;
 
 /// A sender's progress after a round. No clause here says what its numbers are; those of the

@@ -22,7 +22,7 @@ use Rattle.bw_report.specs.declared.entry.Wanted.{Wanted}
 abbrev pub style_of : Bool → Bool → Style
 style_of json human = if json then Json else if human then Human else Plain
 
--- .. and what is wanted of each: several stand below lines with their names
+-- .. and what is wanted of each: several are below lines with their names
 abbrev pub wanted_of : Inspection → Wanted
 wanted_of i = record {
   style = style_of i.json i.human;

@@ -23,7 +23,7 @@ pub trait Screen {
     fn show(&mut self, line: &[u8])
         ensures { shows self.old line.now self.new };
 
-    /// Clears the line, so that what is written next stands alone.
+    /// Clears the line, so that what is written next is alone on its line.
     ///
     /// # Not specified
     /// What a screen shows.

@@ -2,8 +2,8 @@
 use crate::screen::ProgressLine;
 use bw_stream::{IoFailed, Sink};
 
-/// A writer that clears a line before each write, so that what it writes stands alone. What is
-/// written is what its own writer gets.
+/// A writer that clears a line before each write, so that what it writes is alone on its line. What
+/// is written is what its own writer gets.
 #[derive(Drop)]
 pub struct ClearingSink<W, L> {
     /// Takes the bytes.

@@ -1,4 +1,4 @@
-//! Rehearsals: loss and reordering played by hand, between a real sender and a real server.
+//! Rehearsals: loss and reordering played event by event, between a real sender and a real server.
 //! Not stated: what an error leaves of a stage, which is dropped.
 #![tactic(auto)]
 

@@ -43,13 +43,13 @@ pub record IsPassedAt (b : List ℕ) (p : ℕ) (e : Entry) : Type 0 where
 abbrev pub align_with : List ℕ → Entry → ℕ → ℕ
 align_with b e align = if is_id e.id (codes "fmt ") then u16_at b (e.place + 20) else align
 
--- these chunks stand from the first place up to the second, and change the block align so
+-- these chunks follow from the first place up to the second, and change the block align so
 abbrev pub StandBetween : List ℕ → ℕ → ℕ → List Entry → ℕ → ℕ → Type 0
 StandBetween b p align [] p' align' = (p ≡ p') × (align ≡ align')
 StandBetween b p align (e ∷ es) p' align' =
     IsPassedAt b p e × StandBetween b (place_following e) (align_with b e align) es p' align'
 
--- so many chunks stand before a place, and the last `fmt ` among them has this block align, or
+-- so many chunks come before a place, and the last `fmt ` among them has this block align, or
 -- there is none and it is 0
 pub record StandBefore (b : List ℕ) (count p align : ℕ) : Type 0 where
   pub entries : List Entry

@@ -1,4 +1,4 @@
--- How a file stands: sound, or without its sizes, or neither.
+-- Whether a file is sound, or without its sizes, or neither.
 use Rattle.std.specs.Prelude.{◌≡◌, ◌⊎◌, ◌^◌, ◌<◌, ℕ, Bool, true, false, List, Result, Ok, Err}
 use Rattle.bw_model.specs.Report.{frames_of}
 use Rattle.bw_inspect.specs.declared.fault.InspectFault.{InspectFault}
@@ -46,7 +46,7 @@ pub record LacksSizes (b : List ℕ) (p : SizePlan) : Type 0 where
   pub old : p.old ≡ given_sizes head
   pub reads : HasFrames (with_sizes b p.place p.new) p.frames
 
--- how the bytes stand
+-- which of these the bytes are
 abbrev pub IsSoundness : List ℕ → Soundness → Type 0
 IsSoundness b (Sound n) = StandsAsItIs b × HasFrames b n
 IsSoundness b (Lacking p) = LacksSizes b p

@@ -22,7 +22,7 @@ found_data name (Read r digest) = report_data name digest (reported_by r)
 found_data name (Faulty f) = fault_data name (name_of f.kind) (Some f.offset)
 found_data name (Unopened exit) = fault_data name (codes "Open") None
 
--- the line that stands for a report where the file has a fault
+-- the line in place of a report where the file has a fault
 abbrev pub fault_entry : InspectFault → List ℕ
 fault_entry f = as_line (codes "fault " ++ inspect_fault_text f)
 

@@ -1,4 +1,4 @@
--- A report as JSON. The members of an object stand in the order of their keys, as they are printed.
+-- A report as JSON. The members of an object are in the order of their keys, as they are printed.
 use Rattle.std.specs.Prelude.{ℕ, ◌==◌, not, List, [], ◌∷◌, map, take_while, slice_index}
 use Rattle.std.specs.Prelude.{slice_index_or, Option, Some, None, codes, true, false}
 use Rattle.bw_model.specs.Reading.{Entry}

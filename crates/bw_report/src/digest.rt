@@ -60,7 +60,7 @@ pub fn samples_digest<R: Source>(
     digest_from(reader, place, size, cut)
 }
 
-/// The SHA-256 of this many bytes of a reader that stands at their place.
+/// The SHA-256 of this many bytes of a reader that is at their place.
 ///
 /// # Errors
 /// `cut` if the reader's bytes end before; Read.

@@ -34,7 +34,7 @@ pub enum Style {
 pub struct Wanted {
     /// How it is printed.
     pub style: Style,
-    /// Whether its lines stand below a line with its name. In JSON the name is in the object.
+    /// Whether its lines are below a line with its name. In JSON the name is in the object.
     pub named: bool,
     /// Whether the SHA-256 of its samples is among it.
     pub digest: bool,

@@ -16,7 +16,7 @@ module _ {X Y : Type 0} (S : StoreGhosts X) (J : JournalGhosts Y) where
     pub honest : J.honest (server_journal new) ≡ J.honest (server_journal old)
     pub folder : J.folder (server_journal new) ≡ J.folder (server_journal old)
 
-  -- no journal stands at its place of rest that didn't before
+  -- no journal is at its place of rest that wasn't before
   abbrev pub NoneMovesToRest : Server X Y S J → Server X Y S J → Type 0
   NoneMovesToRest old new = IsTrue (J.honest (server_journal old)) → KeepsStanding
       (J.stands (server_journal old)) (J.stands (server_journal new))

@@ -1,4 +1,4 @@
-//! What a reply is to a sender.
+//! What a reply means for a sender.
 ghost use Rattle.std.specs.Prelude.{◌≡◌, ◌≤◌};
 ghost use Rattle.bw_sender.specs.HeardReplies.{heard_number};
 

@@ -1,4 +1,4 @@
-//! The recorder's half: what is sent again, and what counts as stored.
+//! A recorder's sender: what is sent again, and what counts as stored.
 #![tactic(auto)]
 
 mod counting;

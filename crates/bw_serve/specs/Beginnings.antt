@@ -50,12 +50,12 @@ abbrev pub store_calls : {N X P D R W A B : Type 0} → NetworkGhosts N X P D R 
 store_calls network folder =
     record { returns = λ n. network.stores n folder; failures = network.failures }
 
--- the calls for a server over what stands in the folder
+-- the calls for a server over what is in the folder
 abbrev pub start_calls : {N T : Type 0} → StartGhosts N T → List ℕ → ℕ → Bool → Calls N T StartRefusal
 start_calls starter folder limit sync =
     record { returns = λ n. starter.starts n folder limit sync; failures = starter.failures }
 
--- the calls for a server over what stands in the folder, in which names may rest
+-- the calls for a server over what is in the folder, in which names may rest
 abbrev pub rest_calls : {N T : Type 0} → RestGhosts N T → List ℕ → ℕ → Bool → Calls N T StartRefusal
 rest_calls starter folder limit sync = record {
   returns = λ n. starter.starts_resting n folder limit sync;

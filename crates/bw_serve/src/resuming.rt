@@ -24,7 +24,7 @@ use std::net::SocketAddr;
 /// anything is printed. Then `resumed N takes` and `listening ADDRESS` are printed, and the rest is
 /// as `serve_from` says.
 ///
-/// `Refused` if what stands in the folder can't be resumed; `Device` if another server runs there,
+/// `Refused` if what is in the folder can't be resumed; `Device` if another server runs there,
 /// the folder or the address can't be used, or as `serve_from` says; `Memory` if memory was refused
 /// before the first line, or as `serve_from` says.
 ///
@@ -80,7 +80,8 @@ fn serve_started<S: TakeStore, J: Journal, P: Peers, O: Sink, E: Sink>(
 /// Serves a number of exchanges, many at once, from what an earlier server left in the folder; with
 /// `sync` each verdict is on the disk before it is answered.
 ///
-/// What is reported and printed, and how it ends, is as `serve_journaled` and `serve_many_from` say.
+/// What is reported and printed, and how it ends, is as `serve_journaled` and `serve_many_from`
+/// say.
 ///
 /// # Not specified
 /// - When a start is refused: what the network's `starts` says.

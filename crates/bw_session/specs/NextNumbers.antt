@@ -28,7 +28,7 @@ use Rattle.bw_session.specs.Prefixes.{take_done, FileFollows, HoldsPrefix}
 abbrev pub failed_calls : ℕ → ℕ → ℕ
 failed_calls of_store of_journal = min (of_store + of_journal) last_count
 
--- Store and journal are of the folders that they were of, and each journal stands where it stood, or
+-- Store and journal are of the folders that they were of, and each journal is where it was, or
 -- apart from those that rest.
 pub record StaysInPlace {X Y : Type 0} (S : StoreGhosts X) (J : JournalGhosts Y) (store store' : X)
     (journal journal' : Y) : Type 0 where
@@ -38,7 +38,7 @@ pub record StaysInPlace {X Y : Type 0} (S : StoreGhosts X) (J : JournalGhosts Y)
       KeepsStanding (J.stands journal) (J.stands journal') (J.notes journal) (J.notes journal')
 
 -- A failure of the journal is counted, it is as honest as it was and of the same folder, each name's
--- notes begin as they began, what rests goes on resting, each journal stands where it stood or apart,
+-- notes begin as they began, what rests goes on resting, each journal is where it was or apart,
 -- and each other name has what it had.
 pub record KeepsJournal {Y : Type 0} (J : JournalGhosts Y) (fails : Bool) (name : List ℕ)
     (old new : Y) : Type 0 where

@@ -85,7 +85,7 @@ impl<S: TakeStore, J: RestingJournal> Server<S, J> {
     ///
     /// # Errors
     /// The fault: what is known of each name, and what its journal says, stays as it was, and the
-    /// name may still rest. But the journal's file may by then stand where one that rests does.
+    /// name may still rest. But the journal's file may by then be where one that rests is.
     ///
     /// # Not specified
     /// When memory is refused.

@@ -48,12 +48,12 @@ paths_of places = record {
   wave_to = string_bytes places.wave_to;
 }
 
--- what stood at a path is at another, where nothing stood; if nothing stood there, nothing has changed
+-- what was at a path is at another, where nothing was; if nothing was there, nothing has changed
 abbrev pub IsPutAside : Option (List ℕ) → Option (List ℕ) → Option (List ℕ) → Option (List ℕ) → Type 0
 IsPutAside None aside from to = (from ≡ None) × (to ≡ aside)
 IsPutAside (Some found) aside from to = (aside ≡ None) × (from ≡ None) × (to ≡ Some found)
 
--- What stood at a path was put aside at another; all else is as it was.
+-- What was at a path was put aside at another; all else is as it was.
 pub record PutsAside (from to : List ℕ) (before after : List ℕ → Option (List ℕ)) : Type 0 where
   pub moved : IsPutAside (before from) (before to) (after from) (after to)
   pub others : KeepsAllBut from to before after
@@ -65,12 +65,12 @@ pub record PutsBothAside (p : TakePaths) (before after : List ℕ → Option (Li
   pub others : (path : List ℕ) → path ≢ p.notes → path ≢ p.notes_to → path ≢ p.wave → path ≢ p.wave_to →
       after path ≡ before path
 
--- A take of which a journal or a file stands is given up.
+-- A take of which a journal or a file exists is given up.
 pub record PutsTakeAsideAt (p : TakePaths) (before after : List ℕ → Option (List ℕ)) : Type 0 where
   pub known : IsSome (before p.notes) ⊎ IsSome (before p.wave)
   pub both : PutsBothAside p before after
 
--- what is to be put aside stands, and something stands where it would go
+-- what is to be put aside exists, and something is where it would go
 abbrev pub IsBarred : List ℕ → List ℕ → (List ℕ → Option (List ℕ)) → Type 0
 IsBarred from to contents = IsSome (contents from) × IsSome (contents to)
 
@@ -115,7 +115,7 @@ IsPlainGiveUp Earlier = ⊥
 IsPlainGiveUp Disk = Unit {0}
 IsPlainGiveUp Memory = Unit {0}
 
--- whether something stands at a path was seen; where it would go nothing stands then
+-- whether something is at a path was seen; nothing is then where it would go
 abbrev pub IsWayClear : Bool → Option (List ℕ) → Option (List ℕ) → Type 0
 IsWayClear true from to = IsSome from × (to ≡ None)
 IsWayClear false from to = from ≡ None
@@ -126,7 +126,7 @@ pub record AreWaysClear (standing : Standing) (p : TakePaths) (contents : List �
   pub notes : IsWayClear standing.notes (contents p.notes) (contents p.notes_to)
   pub wave : IsWayClear standing.wave (contents p.wave) (contents p.wave_to)
 
--- why it wasn't: something stands where it would go too, or the disk failed
+-- why it wasn't: something is where it would go too, or the disk failed
 abbrev pub ForbidsAside : GiveUpFault → Type 0 → Type 0
 ForbidsAside Unknown barred = ⊥
 ForbidsAside Earlier barred = barred

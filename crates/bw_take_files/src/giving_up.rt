@@ -18,7 +18,7 @@ use thiserror::Error;
 /// Why a take isn't given up.
 #[derive(Clone, Copy, Debug, Drop, Error, PartialEq, Eq)]
 pub enum GiveUpFault {
-    /// Neither a journal, at rest or not, nor a file of the name stands.
+    /// Neither a journal, at rest or not, nor a file of the name exists.
     #[error("no take of this name")]
     Unknown,
     /// What was given up earlier under the name is where its files would go.
@@ -41,7 +41,7 @@ pub enum GiveUpFault {
 /// starts over what a kill leaves. After an error the call may be made again.
 ///
 /// # Errors
-/// `Unknown` if neither stands, `Earlier` if something stands where one of them would go: nothing has
+/// `Unknown` if neither exists, `Earlier` if something is where one of them would go: nothing has
 /// changed then. `Disk` if a call of the disk failed: nothing, the journal, or both have been put
 /// aside. `Memory` if memory was refused: nothing has changed.
 ///
@@ -131,14 +131,14 @@ fn journal_endings(rests: bool) -> (&'static str, &'static str)
     }
 }
 
-/// Which of a take's files stand.
+/// Which of a take's files exist.
 #[derive(Clone, Copy)]
 struct Standing {
     notes: bool,
     wave: bool,
 }
 
-/// Puts journal and file of a take aside, if one of them stands and nothing is in the way.
+/// Puts journal and file of a take aside, if one of them exists and nothing is in the way.
 fn put_aside_all<D: Volume>(disk: &mut D, folder: &str, places: &Places) -> Result<(), GiveUpFault>
     requires apart { AreTakePathsApart (paths_of places.now) }
     ensures honest { D.honest disk.new ≡ D.honest disk.old }
@@ -155,7 +155,7 @@ fn put_aside_all<D: Volume>(disk: &mut D, folder: &str, places: &Places) -> Resu
     put_both_aside(disk, folder, places, standing)
 }
 
-/// Which of a take's files stand, where nothing is in the way of those that do.
+/// Which of a take's files exist, where nothing is in the way of those that do.
 ///
 /// # Errors
 /// `Earlier` if something is, `Disk` if a call of the disk failed.
@@ -173,7 +173,7 @@ fn look_at_places<D: Volume>(disk: &mut D, places: &Places) -> Result<Standing, 
     Ok(Standing { notes, wave })
 }
 
-/// Puts aside what stands of a journal and a file, first the journal.
+/// Puts aside what there is of a journal and a file, first the journal.
 ///
 /// # Errors
 /// `Disk` if a call of the disk failed.
@@ -198,10 +198,10 @@ fn put_both_aside<D: Volume>(
     put_aside(disk, folder, wave, wave_to, standing.wave)
 }
 
-/// Whether something stands at a path, and can be put aside at another.
+/// Whether something is at a path, and can be put aside at another.
 ///
 /// # Errors
-/// `Earlier` if something stands there too, `Disk` if a call of the disk failed.
+/// `Earlier` if something is there too, `Disk` if a call of the disk failed.
 fn may_put_aside<D: Volume>(disk: &mut D, from: &str, to: &str) -> Result<bool, GiveUpFault>
     ensures disk { StaysWhole D.Disk disk.old disk.new }
     ensures failures { Counts (D.failures disk.old) (D.failures disk.new) (is_disk_failure result) }
@@ -219,7 +219,7 @@ fn may_put_aside<D: Volume>(disk: &mut D, from: &str, to: &str) -> Result<bool, 
     Ok(true)
 }
 
-/// Whether something stands at a path.
+/// Whether something is at a path.
 fn stands<D: Volume>(disk: &mut D, path: &str) -> Result<bool, GiveUpFault>
     ensures disk { StaysWhole D.Disk disk.old disk.new }
     ensures failures { Counts (D.failures disk.old) (D.failures disk.new) (is_err result) }
@@ -233,7 +233,7 @@ fn stands<D: Volume>(disk: &mut D, path: &str) -> Result<bool, GiveUpFault>
     }
 }
 
-/// Puts what stands at a path aside at another, where nothing stands, if anything does.
+/// Puts what is at a path aside at another, where nothing is, if anything does.
 ///
 /// # Errors
 /// `Disk` if a call of the disk failed: nothing has changed, or it is put aside.

@@ -39,7 +39,7 @@ pub(crate) struct JournalRef<'a> {
     pub(crate) zeros: &'a [u8],
 }
 
-/// Where an entry stands.
+/// The place of an entry.
 #[derive(Clone, Copy)]
 pub(crate) struct EntryPlace {
     /// Its number.

@@ -1,4 +1,4 @@
-//! What tests of several crates compare with. No test stands here, so that it is proved only once.
+//! What tests of several crates compare with. It has no tests, so that it is proved only once.
 #![tactic(auto)]
 
 use std::alloc::{AllocError, Global};

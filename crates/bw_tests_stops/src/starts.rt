@@ -1,5 +1,5 @@
-//! A start over what a death left, in which a disk dies too: in each of its calls, and in many starts,
-//! one after the other.
+//! A start over what a death left, in which a disk dies too: in each of its calls, and in many
+//! starts, one after the other.
 use crate::plays::{CALLS, ENDLESS, FIRST, add, has_done, lives_of, play};
 use bw_stops::{Lives, Machine, Rehearsed, StopEvent};
 use std::alloc::Global;
@@ -28,11 +28,11 @@ const LENGTH: usize = 694;
 /// What became of a take whose server's disk died, by starts in which a disk was to die.
 #[derive(Clone, Copy, PartialEq, Eq)]
 enum Fate {
-    /// A verdict that was answered doesn't stand.
+    /// A verdict that was answered no longer holds.
     Lost,
-    /// Each of these starts failed, and each verdict stands.
+    /// Each of these starts failed, and each verdict still holds.
     Failed,
-    /// A server ran after them, and each verdict stands.
+    /// A server ran after them, and each verdict still holds.
     Started,
 }
 
@@ -56,8 +56,8 @@ fn is_whole(alloc: Global, it: &Rehearsed) -> Result<bool, Fail> {
     )
 }
 
-/// The events of a server that dies, and of these starts after it. An ask is answered if one of them
-/// left a server; then one starts in any case.
+/// The events of a server that dies, and of these starts after it. An ask is answered if one of
+/// them left a server; then one starts in any case.
 fn starts_after(alloc: Global, first: Lives, starts: &[Lives]) -> Result<Vec<StopEvent>, Fail> {
     let mut events = Vec::new(alloc);
     events.push(StopEvent::Start(first))?;

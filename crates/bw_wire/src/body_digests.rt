@@ -1,4 +1,4 @@
-//! Digests of bodies that stand in a block of bytes, made in the lanes of vectors.
+//! Digests of bodies in a block of bytes, made in the lanes of vectors.
 ghost use Rattle.std.specs.Prelude.{◌≡◌, ◌≤◌, ℕ, List, length, take, drop, IfSome, nat_lt};
 ghost use Rattle.std.specs.List.{list_any};
 ghost use Rattle.sha2.specs.Sha256.{sha256};
@@ -13,7 +13,7 @@ use bw_digest::{LANES, digests};
 /// Hashing in lanes takes as long as hashing so many of the longest body one after another.
 const LANES_TAKE: usize = 5;
 
-/// Where a body stands in a block of bytes; one of length 0 is none.
+/// The place of a body in a block of bytes; one of length 0 is none.
 #[derive(Clone, Copy, Debug)]
 pub(crate) struct Span {
     pub(crate) at: usize,
@@ -77,7 +77,7 @@ pub(crate) fn kept_digest(digests: &Option<BodyDigests>, at: usize, len: usize) 
     }
 }
 
-/// Where the bodies of the first frames stand, from a place on.
+/// The places of the bodies of the first frames, from a place on.
 fn spans_of(block: &[u8], start: usize) -> [Span; LANES]
     requires { start ≤ length block.now }
     ensures { InEachLane (λ j. IsSpanIn block.now (span_at result j)) }

@@ -147,7 +147,7 @@ impl Buffer {
     }
 }
 
-/// A block of so many zeros. It is a value of this function's own while it is filled: behind a
+/// A block of so many zeros. It is a value of this function's own while it is filled: through a
 /// `&mut` each byte would be stored by itself.
 fn zeros(alloc: Global, size: usize) -> Result<Vec<u8>, AllocError>
     ensures len { IfOk result (λ block. vec_len block ≡ size) }

@@ -16,7 +16,7 @@ use std::marker::Model;
 #[derive(Drop)]
 pub struct Framer {
     intake: Intake,
-    /// Digests of bodies that stand in the block.
+    /// Digests of bodies in the block.
     digests: Option<BodyDigests>,
 }
 

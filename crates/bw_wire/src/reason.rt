@@ -24,7 +24,7 @@ pub enum Reason {
 }
 
 impl Reason {
-    /// The byte that stands for it in a reply.
+    /// Its byte in a reply.
     pub fn code(self) -> u8
         ensures value { result ≡ reason_code (reason_meaning self) }
         ensures range { result ≤ 6 }

@@ -28,7 +28,7 @@ pub enum Notice {
 }
 
 impl Notice {
-    /// The byte that stands for it in a reply.
+    /// Its byte in a reply.
     pub fn code(self) -> u8
         ensures value { result ≡ notice_code (notice_meaning self) }
         ensures range { result ≤ 39 }

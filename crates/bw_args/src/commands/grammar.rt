@@ -105,7 +105,7 @@ fn rehearse<'a>(alloc: Global) -> Result<Command<'a>, AllocError>
     named(
         alloc,
         "rehearse",
-        "Plays a recorder and a server by hand, by the events on standard input",
+        "Plays a recorder and a server, event by event, from standard input",
     )
     .after_help("Example: bwingest rehearse --name a1 < events.txt")
     .arg(name_option(alloc))?
@@ -127,7 +127,7 @@ fn inspect_texts<'a>(alloc: Global) -> Result<Command<'a>, AllocError>
     named(
         alloc,
         "inspect",
-        "Tells what is in files, or their first faults and where these are",
+        "Reports what is in files, or their first faults and where these are",
     )
     .after_help("Examples: bwingest inspect --human take.wav; bwingest inspect --json takes/*.wav")
     .arg(files_argument(alloc))?

@@ -106,7 +106,7 @@ fn format_written(text: &str) -> Option<WrittenFormat>
     })
 }
 
-/// What stands before the first comma of a text, and after it.
+/// What comes before the first comma of a text, and after it.
 fn split_at_comma(text: &str) -> Option<(&str, &str)>
     ensures { option_map (λ parts. (parts.0.now, parts.1.now)) result ≡ at_comma text.now }
 {
@@ -142,8 +142,9 @@ fn are_mixed(options: &ArgMatches<'_>) -> bool
         || options.get_str("spool").is_some()
 }
 
-/// Whether options are given that don't say in one way when the recording has ended: beside `--spool`
-/// another file, `--follow` or `--until`, and without it one of these two without the other.
+/// Whether options are given that don't say in one way when the recording has ended: beside
+/// `--spool` another file, `--follow` or `--until`, and without it one of these two without the
+/// other.
 fn is_unpaired(options: &ArgMatches<'_>) -> bool
     ensures { result ≡ is_unpaired (first_value (found_of options.now)) }
 {

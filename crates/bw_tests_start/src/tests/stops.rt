@@ -1,5 +1,5 @@
-//! What a kill leaves, whichever call it falls in: each verdict that was answered stands, and the
-//! take is finished by whoever sends its messages again.
+//! What a kill leaves, whichever call it falls in: each verdict that was answered still holds, and
+//! the take is finished by whoever sends its messages again.
 use crate::tests::lives::{Answers, Death, Verdicts, live};
 use crate::tests::script::COUNT;
 use bw_disk::MemoryDisk;
