@@ -824,7 +824,7 @@ static TEXTS: [(&[&str], &str); 17] = [
     ),
     (
         &["/tmp/x", "serve", "--help"],
-        "Tells each connection in a line on standard error\n",
+        "Reports each connection in a line on standard error\n",
     ),
     (
         &["/tmp/x", "send", "--help"],
