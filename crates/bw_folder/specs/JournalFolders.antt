@@ -1,5 +1,5 @@
 -- What is seen of the journals in a folder.
-use Rattle.std.specs.Prelude.{ℕ, Bool, List, Option, string_bytes}
+use Rattle.std.specs.Prelude.{◌≡◌, ℕ, Bool, List, Option, string_bytes}
 use Rattle.bw_disk.specs.declared.disk.Disk.{Ghosts}
 use Rattle.bw_journal.specs.JournalHeaders.{Header}
 use Rattle.bw_folder.specs.Journals.{notes_at, existences, header_at, failure_of}
@@ -21,6 +21,12 @@ module _ {D F : Type 0} {G : Ghosts D F} where
   -- whether notes are synced
   abbrev pub journals_sync : FolderJournal D F G → Bool
   journals_sync j = j.sync
+
+  -- limit and folder are as before, and whether notes are synced
+  abbrev pub SameSettings : FolderJournal D F G → FolderJournal D F G → Type 0
+  SameSettings old new =
+      (journals_limit new ≡ journals_limit old) × (journals_sync new ≡ journals_sync old)
+      × (journals_folder new ≡ journals_folder old)
 
   -- the names of open journals, each with whether a file of it existed before
   abbrev pub open_journals : FolderJournal D F G → List (List ℕ × Bool)

@@ -118,7 +118,7 @@ impl<D: Volume> FolderJournal<D> {
     ghost use Rattle.bw_folder.specs.JournalFolders.{journals_disk, journals_folder};
     ghost use Rattle.bw_folder.specs.JournalFolders.{journals_limit, journals_sync, open_journals};
     ghost use Rattle.bw_folder.specs.JournalFolders.{journals_failures, noted_in_folder};
-    ghost use Rattle.bw_folder.specs.JournalFolders.{header_in_folder};
+    ghost use Rattle.bw_folder.specs.JournalFolders.{header_in_folder, SameSettings};
 
     /// The journals of a folder of a disk, for a server of this limit. None is open yet.
     ///
@@ -213,9 +213,7 @@ impl<D: Volume> FolderJournal<D> {
     /// When memory is refused: an error without a call of the disk has no other cause.
     pub fn adopt(&mut self, name: &Name, existed: bool) -> Result<bool, StoreFault>
         ensures failures { journals_failures self.new ≡ journals_failures self.old }
-        ensures settings { (journals_limit self.new ≡ journals_limit self.old)
-            × (journals_sync self.new ≡ journals_sync self.old)
-            × (journals_folder self.new ≡ journals_folder self.old) }
+        ensures settings { SameSettings self.old self.new }
         ensures known { open_journals self.new
             ≡ adopted_by result name.now existed (open_journals self.old) }
         ensures headers { IsTrue (D.honest (journals_disk self.old)) → (other : List ℕ) →
@@ -248,7 +246,7 @@ impl<D: Volume> Journal for FolderJournal<D> {
     ghost use Rattle.bw_folder.specs.JournalFolders.{journals_disk, journals_folder};
     ghost use Rattle.bw_folder.specs.JournalFolders.{journals_limit, journals_sync, open_journals};
     ghost use Rattle.bw_folder.specs.JournalFolders.{sync_failed_in, journals_failures};
-    ghost use Rattle.bw_folder.specs.JournalFolders.{noted_in_folder, header_in_folder};
+    ghost use Rattle.bw_folder.specs.JournalFolders.{noted_in_folder, header_in_folder, SameSettings};
 
     ghost notes = { noted_in_folder };
 
@@ -274,11 +272,8 @@ impl<D: Volume> Journal for FolderJournal<D> {
     /// - When the folder is synced.
     #[tactic(auto, using(crate::proofs::JournalPaths::journal_path_injective))]
     fn begin(&mut self, name: &Name) -> Result<(), StoreFault>
-        ensures failures { Counts (journals_failures self.old) (journals_failures self.new)
-            (is_err result) }
-        ensures settings { (journals_limit self.new ≡ journals_limit self.old)
-            × (journals_sync self.new ≡ journals_sync self.old)
-            × (journals_folder self.new ≡ journals_folder self.old) }
+        ensures failures { Counts (journals_failures self.old) (journals_failures self.new) (is_err result) }
+        ensures settings { SameSettings self.old self.new }
         ensures honest { D.honest (journals_disk self.new) ≡ D.honest (journals_disk self.old) }
         ensures headers { IsTrue (D.honest (journals_disk self.old)) → KeepsHeaders
             (header_in_folder self.old) (header_in_folder self.new) }
@@ -316,21 +311,16 @@ impl<D: Volume> Journal for FolderJournal<D> {
     /// - When the folder is synced.
     #[tactic(auto, using(crate::proofs::JournalPaths::journal_path_injective))]
     fn note(&mut self, name: &Name, offset: u64, bytes: &[u8]) -> Result<(), StoreFault>
-        ensures failures { Counts (journals_failures self.old) (journals_failures self.new)
-            (is_err result) }
-        ensures settings { (journals_limit self.new ≡ journals_limit self.old)
-            × (journals_sync self.new ≡ journals_sync self.old)
-            × (journals_folder self.new ≡ journals_folder self.old) }
+        ensures failures { Counts (journals_failures self.old) (journals_failures self.new) (is_err result) }
+        ensures settings { SameSettings self.old self.new }
         ensures honest { D.honest (journals_disk self.new) ≡ D.honest (journals_disk self.old) }
         ensures known { open_journals self.new ≡ open_journals self.old }
         ensures headers { IsTrue (D.honest (journals_disk self.old)) → KeepsHeaders
             (header_in_folder self.old) (header_in_folder self.new) }
         // The bytes follow the first ones, over any prefix of them that is there.
-        ensures noted { IsTrue (D.honest (journals_disk self.old)) →
-            OnOk result (Notes offset bytes.now
+        ensures noted { IsTrue (D.honest (journals_disk self.old)) → OnOk result (Notes offset bytes.now
             (noted_in_folder self.old name.now) (noted_in_folder self.new name.now)) }
-        ensures failed { IsTrue (D.honest (journals_disk self.old)) →
-            OnErr result (NotesInPart offset bytes.now
+        ensures failed { IsTrue (D.honest (journals_disk self.old)) → OnErr result (NotesInPart offset bytes.now
             (noted_in_folder self.old name.now) (noted_in_folder self.new name.now)) }
         ensures others { IsTrue (D.honest (journals_disk self.old)) → KeepsOthers
             (noted_in_folder self.old) (noted_in_folder self.new) name.now }

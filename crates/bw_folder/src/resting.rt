@@ -156,8 +156,7 @@ impl<D: Volume> Journal for RestingFolderJournal<D> {
     /// - When memory is refused.
     /// - When the folder is synced.
     fn note(&mut self, name: &Name, offset: u64, bytes: &[u8]) -> Result<(), StoreFault>
-        ensures failures { Counts (failures_of_all self.old) (failures_of_all self.new)
-            (is_err result) }
+        ensures failures { Counts (failures_of_all self.old) (failures_of_all self.new) (is_err result) }
         ensures honest { D.honest (disk_of_all self.new) ≡ D.honest (disk_of_all self.old) }
         ensures folder { folder_of_all self.new ≡ folder_of_all self.old }
         ensures standing { IsTrue (D.honest (disk_of_all self.old)) → KeepsStandings self.old self.new }
@@ -167,12 +166,10 @@ impl<D: Volume> Journal for RestingFolderJournal<D> {
         ensures resting { IsTrue (D.honest (disk_of_all self.old)) → KeepsResting
             (all_journals D.Disk self.old).resting (all_journals D.Disk self.new).resting }
         // The bytes follow the first ones, wherever the journal is.
-        ensures noted { IsTrue (D.honest (disk_of_all self.old)) →
-            OnOk result (Notes offset bytes.now
+        ensures noted { IsTrue (D.honest (disk_of_all self.old)) → OnOk result (Notes offset bytes.now
             ((all_journals D.Disk self.old).noted name.now)
             ((all_journals D.Disk self.new).noted name.now)) }
-        ensures failed { IsTrue (D.honest (disk_of_all self.old)) →
-            OnErr result (NotesInPart offset bytes.now
+        ensures failed { IsTrue (D.honest (disk_of_all self.old)) → OnErr result (NotesInPart offset bytes.now
             ((all_journals D.Disk self.old).noted name.now)
             ((all_journals D.Disk self.new).noted name.now)) }
         ensures others { IsTrue (D.honest (disk_of_all self.old)) → KeepsOthers
@@ -184,8 +181,7 @@ impl<D: Volume> Journal for RestingFolderJournal<D> {
             (D.contents (disk_of_all self.old)) (D.contents (disk_of_all self.new)) }
         // With `sync` the take's file, if any, and the journal are synced, even if moved back.
         ensures synced { IsTrue (D.honest (disk_of_all self.old)) → IsTrue (syncs_all self.old) →
-            OnOk result
-            (IsSyncedAt (D.contents (disk_of_all self.new)) (D.synced (disk_of_all self.new))
+            OnOk result (IsSyncedAt (D.contents (disk_of_all self.new)) (D.synced (disk_of_all self.new))
             (path_of_take (folder_of_all self.old) name.now)
             × IsSyncedAt (D.contents (disk_of_all self.new)) (D.synced (disk_of_all self.new))
             (path_of_journal (folder_of_all self.old) name.now)) }
