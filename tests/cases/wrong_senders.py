@@ -102,6 +102,14 @@ class TakesOthersVerdicts(PythonSender):
         return super().hear(reply and reply._replace(name=self.name))
 
 
+class IgnoresConflicts(PythonSender):
+    """Goes on after a Conflict, and takes the verdict of the other message for that of its own."""
+
+    def hear(self, reply):
+        super().hear(reply)
+        return False
+
+
 class EndsWithClose(PythonSender):
     """Ends with 0 once CLOSE is sent, whether or not it has a verdict."""
 
@@ -125,6 +133,7 @@ WRONG_SENDERS = (
     (ForgetsRefusals, "one block is refused"),
     (TakesNoticesForVerdicts, "notices"),
     (TakesOthersVerdicts, "verdicts under another name"),
+    (IgnoresConflicts, "another block under a number"),
     (EndsWithClose, "the verdict of CLOSE is lost"),
     (SendsTooMuch, "verdicts in another order"),
 )

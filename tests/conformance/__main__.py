@@ -28,6 +28,7 @@ from takes import LARGEST_LIMIT
 
 LANES = 10  # runs of a sender at once; a server gets one case after another
 
+
 def arguments():
     plain = argparse.RawDescriptionHelpFormatter
     parser = argparse.ArgumentParser("conformance", usage=argparse.SUPPRESS, description=__doc__, formatter_class=plain)

@@ -131,13 +131,13 @@ class Lost(Sending):
         """A verdict is the number's own, and the number that comes next never falls."""
         found = reply_of(reply)
         if found is None or found.name != self.name or found.number >= len(self.requests):
-            raise Failed(f"{words_of(reply) if reply else 'no reply'} to the messages of {self.name.decode()}")
+            raise Failed(f"it replies {words_of(reply) if reply else 'nothing'} to {self.name.decode()}")
         if found.following is None:
             self.verdicts[found.number] = found.code
             if found.code != self.wanted[found.number]:
-                raise Failed(f"{words_of(reply)}, not {CODES[self.wanted[found.number]]}")
+                raise Failed(f"it replies {words_of(reply)}, not {CODES[self.wanted[found.number]]}")
         elif found.code not in (HELD, TOO_FAR, NEXT) or found.following < self.following:
-            raise Failed(f"{words_of(reply)} where {self.following} came next")
+            raise Failed(f"it replies {words_of(reply)}, though {self.following} came next")
         else:
             self.following = found.following
 

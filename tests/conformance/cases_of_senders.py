@@ -3,7 +3,7 @@ import functools
 import time
 
 from cases_of_servers import Case
-from frames import BAD_BLOCK, bad_frame, CLOSE, CONFLICT, DELAYED_STORE, NO_ROOM, notice, reply_of, STORED, TABLE_FULL
+from frames import BAD_BLOCK, bad_frame, CLOSE, DELAYED_STORE, NO_ROOM, notice, reply_of, STORED, TABLE_FULL
 from frames import verdict, WRONG_TOTAL
 from links import Failed
 from senders import Broken, Play
@@ -158,12 +158,13 @@ def refusing(is_it, code, play, link):
 
 
 def conflicting(play, link):
-    """Has another body under number 2."""
+    """Has got another block of the same length under number 2 from somebody else, before the sender's own."""
     for message in link.messages():
-        if message.number < 2:
+        if link.number > 0 or message.number == 0:
             link.send(play.replies(message))
-        else:
-            link.send([notice(play.name, message.number, CONFLICT, 3)])
+        elif message.number == 2:
+            play.replies(message._replace(payload=bytes(255 - byte for byte in message.payload)))
+            raise Broken
 
 
 # How the sender ends
@@ -180,9 +181,12 @@ def stores(sender, serve):
 
 def is_refused(sender, serve, existed=False):
     """It ends, but not with 0."""
-    status = sender.run(Play(serve, existed))
+    play = Play(serve, existed)
+    status = sender.run(play)
     if not status:
         raise Failed("it doesn't end" if status is None else "it ends with 0, though a message is refused")
+    if not play.has_refused:
+        raise Failed(f"it ends with {status} before a message is refused")
 
 
 def is_honest(sender, serve, longest=None):
@@ -226,7 +230,7 @@ ENDS = (
         is_refused,
         functools.partial(refusing, lambda _, request: request[0] == CLOSE, WRONG_TOTAL),
     ),
-    ("another recording under the name", "Replies: 34 Conflict", is_refused, conflicting),
+    ("another block under a number", "Replies: 34 Conflict", is_refused, conflicting),
     ("killed, and run again", "Replies: 34 Conflict: the same body again", stores, killed),
 )
 

@@ -156,4 +156,4 @@ def words_of(whole):
     if reply is None:
         return f"the bytes {whole.hex()}"
     following = "" if reply.following is None else f", next {reply.following}"
-    return f"{CODES.get(reply.code, reply.code)} of {reply.name.decode(errors='replace')} {reply.number}{following}"
+    return f"{CODES.get(reply.code, reply.code)} ({reply.name.decode(errors='replace')} {reply.number}{following})"

@@ -75,15 +75,15 @@ class Link:
     def hears(self, wanted):
         """Receives these replies next."""
         for whole in frames_of(wanted):
-            if whole[4:6] == [BAD_FRAME, CUT]:
+            if [*whole[4:6]] == [BAD_FRAME, CUT]:
                 self.say_no_more()  # only then is it known that no more comes
             try:
                 found = self.reply()
             except Failed as fault:
                 raise Failed(f"{words_of(whole)} is missing: {fault}") from None
             if not matches(whole, found):
-                said = words_of(found) if found else "the end of the exchange"
-                raise Failed(f"{said}, not {words_of(whole)}")
+                said = words_of(found) if found else "nothing, and closes"
+                raise Failed(f"it replies {said}, not {words_of(whole)}")
 
     def say_no_more(self):
         with contextlib.suppress(OSError):
@@ -98,7 +98,7 @@ class Link:
     def finish(self):
         """The server replies no more, and closes."""
         for more in self.rest():
-            raise Failed(f"{words_of(more)}, not the end of the exchange")
+            raise Failed(f"it replies {words_of(more)} too")
 
     def lose(self):
         """Breaks the connection: what is under way in either direction may be lost."""

@@ -16,7 +16,7 @@ import time
 from dataclasses import dataclass
 
 from book import Book, WINDOW
-from frames import ASK, BadFrame, BYE, CLOSE, CODES, little, OPEN, REASONS, reply_of, STORED, Stream
+from frames import ASK, BadFrame, BYE, CLOSE, CODES, CONFLICT, little, OPEN, REASONS, reply_of, STORED, Stream
 from links import Failed
 from servers import fresh_name
 from takes import chunk, Take
@@ -111,7 +111,7 @@ class Play:
         self.chance = random.Random(7)
         self.requests, self.verdicts = {}, {}
         self.lock, self.fault = threading.Lock(), None
-        self.is_to_be_killed = self.was_killed = False
+        self.has_refused = self.is_to_be_killed = self.was_killed = False
 
     @property
     def settled(self):
@@ -124,11 +124,13 @@ class Play:
             return self.book.replies(message)
 
     def notes(self, replies):
-        """Keeps the verdicts that are sent."""
+        """Keeps the verdicts that are sent, and whether one of them, or a Conflict, refuses something."""
         with self.lock:
             for reply in map(reply_of, replies):
                 if reply and reply.following is None and reply.name == self.name:
                     self.verdicts[reply.number] = reply.code
+                    self.has_refused |= reply.code != STORED
+                self.has_refused |= bool(reply) and reply.code == CONFLICT
 
     def watch(self, message):
         """Looks at a message: its name, its number, and that it is the same as before."""

@@ -89,11 +89,18 @@ class Run:
         self.said = bytes(bytes_)
         self.link.send(self.said)
 
-    def end(self, how):
+    def end(self, how=Link.finish):
+        """Sends no more over the link, if there is one; this is how it ends."""
         link, self.link = self.link, None
-        if not self.said.endswith(BYE_FRAME):
-            link.say_no_more()
-        how(link)
+        if link:
+            if not self.said.endswith(BYE_FRAME):
+                link.say_no_more()
+            how(link)
+
+    def lose(self, _bytes=()):
+        if self.link:
+            self.link.lose()
+        self.link = None
 
     def plant(self, bytes_):
         (self.server.folder / f"{self.names[FIRST_NAME].decode()}.wav").write_bytes(bytes(bytes_))
@@ -104,9 +111,9 @@ class Run:
             ">": self.send,
             "<": lambda wanted: self.link.hears(wanted),
             "pause": lambda _: time.sleep(PAUSE),
-            "link": lambda _: self.end(Link.finish),
+            "link": lambda _: self.end(),
             "unheard": lambda _: self.end(lambda link: [*link.rest()]),
-            "lost": lambda _: self.end(Link.lose),
+            "lost": self.lose,
             "file": lambda wanted: self.server.has_file(first, bytes(wanted)),
             "file-b": lambda wanted: self.server.has_file(second, bytes(wanted)),
             "no-file": lambda _: self.server.has_file(first, None),
@@ -122,7 +129,6 @@ class Run:
         try:
             for word, bytes_ in self.vector.steps:
                 steps[word](self.named(bytes_))
-            self.end(Link.finish)
+            self.end()
         finally:
-            if self.link:
-                self.link.lose()
+            self.lose()
