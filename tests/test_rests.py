@@ -147,9 +147,9 @@ def case_moved_back_with_syncs(place):
         f"rename {name}.closed",
         "sync takes",
         f"sync-data {name}.wav",
+        "sync takes",
         f"write {name}.journal",
         f"sync-data {name}.journal",
-        "sync takes",
     ]
     calls = [" ".join(line.replace(f"{folder}/", "").split(" ")[:2]) for line in server.observer.lines[before:]]
     moved = calls.index(wanted[0])  # another name rested before that
@@ -173,7 +173,7 @@ def case_moved_back_unsynced(place):
     TALLY.same("the same once more", exchange(server, said), verdict(name, number, CLOSED))
     kinds = [f"sync {folder.name}", f"write {name}.journal", f"rename {name}.closed"]
     calls = [" ".join(line.replace(f"{folder}/", "").split(" ")[:2]) for line in server.observer.lines[before:]]
-    TALLY.same("the order", [call for call in calls if call in kinds], [kinds[0], kinds[1], kinds[0]])
+    TALLY.same("the order", [call for call in calls if call in kinds], [kinds[0], kinds[0], kinds[1]])
     server.stop(signal.SIGKILL)
 
 

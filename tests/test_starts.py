@@ -467,7 +467,7 @@ def has_order(name, lines, samples, synced):
     """The take's file is written and then synced, then the journal is, and then the reply is sent.
 
     For an OPEN the journal's header is written first, and it and the folder are synced before anything is written to
-    the take's file; the folder is synced once more before the reply.
+    the take's file; the folder is synced once more before the note.
     """
     wave, wave_synced = places(lines, "write a1.wav"), places(lines, "sync-data a1.wav")
     notes, notes_synced = places(lines, "write a1.journal"), places(lines, "sync-data a1.journal")
@@ -477,7 +477,7 @@ def has_order(name, lines, samples, synced):
     wanted = (samples, synced, 1 + is_open, synced * (1 + is_open), 2 * (synced and is_open), 1)
     TALLY.same(f"{name}: how often", counts, wanted)
     begun = [*notes[:-1], *notes_synced[:-1], *folder_synced[:-1], *wave[:1]]
-    in_order = [*begun, *wave[-1:], *wave_synced, *notes[-1:], *notes_synced[-1:], *folder_synced[-1:], *reply]
+    in_order = [*begun, *wave[-1:], *wave_synced, *folder_synced[-1:], *notes[-1:], *notes_synced[-1:], *reply]
     TALLY.same(f"{name}: the order", in_order, sorted(in_order))
 
 

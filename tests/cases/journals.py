@@ -83,7 +83,7 @@ class Journaled(Watched):
             return calls
         take = opened(f"{name}.wav", *[MISSING] * (name not in self.made))
         samples = [f"sync-data {name}.wav"] * (name in self.made)
-        return [take, *samples, *calls, f"sync-data {name}.journal", *self.folder_calls(name)]
+        return [take, *samples, *self.folder_calls(name), *calls, f"sync-data {name}.journal"]
 
     def begin_calls(self, name):
         """The calls that begin the journal of a new name: with `--sync` it is on the disk before its take's file is made."""

@@ -64,11 +64,11 @@ impl<F: Drop> OpenJournal<F> {
 /// its bytes, which the next note of the same bytes writes over.
 ///
 /// With `sync` a journal that begins is synced, and the folder, before any file of its take is made.
-/// A note is made in steps: the take's file is synced, the bytes are appended, and the journal is
-/// synced. The folder is synced too after the first note since an adopted journal was opened, and
-/// after the first that finds the take's file. So no note of this journal survives a loss of power
-/// without its samples, and none that it reported is lost. After a note whose sync failed each `note` of
-/// the name fails: another try could succeed although bytes are lost. Without `sync` nothing is synced.
+/// A note is made in steps: the take's file is synced, then the folder if this is the first note since
+/// an adopted journal was opened or the first that finds the take's file, the bytes are appended, and
+/// the journal is synced. So no note of this journal survives a loss of power without its samples, and
+/// none that it reported is lost. After a note whose sync failed each `note` of the name fails: another
+/// try could succeed although bytes are lost. Without `sync` nothing is synced.
 #[derive(Drop)]
 pub struct FolderJournal<D: Volume> {
     pub(crate) disk: D,

@@ -10,8 +10,8 @@ use crate::journal::OpenJournal;
 use bw_disk::Volume;
 use bw_store::StoreFault;
 
-/// Syncs a take's file, if there is one, appends to its name's journal, and syncs that, and the
-/// folder, unless it was synced since the journal was opened and the take's file found.
+/// Syncs a take's file, if there is one, and the folder, unless it was synced since the journal was
+/// opened and the take's file found; then appends to its name's journal, and syncs that.
 ///
 /// # Errors
 /// `StoreFault` if a call of the disk failed. If that was a sync the journal is marked, so that
@@ -45,10 +45,10 @@ pub(crate) fn append_synced<D: Volume>(
         (D.synced disk.new) (D.path_of journal.old.file)) }
 {
     sync_take(disk, journal, take)?;
+    sync_names(disk, journal, folder)?;
     disk.append(&mut journal.file, offset, bytes)
         .map_err(|_| StoreFault)?;
-    sync_file(disk, &journal.file, &mut journal.failed)?;
-    sync_names(disk, journal, folder)
+    sync_file(disk, &journal.file, &mut journal.failed)
 }
 
 /// Syncs a journal that has its header, and the folder, unless it was synced since the journal was

@@ -3,16 +3,9 @@ use Rattle.bw_store.specs.Stores.{Written}
 use Rattle.bw_folder.proofs.Appended.{failed_whole}
 use Rattle.bw_folder.proofs.syncing.append_synced.Goals as goal
 
-pub returns-in_err-sync_file-clause-failed : goal.returns-in_err-sync_file-clause-failed
-returns-in_err-sync_file-clause-failed g c = λ honest.
-    let w : Written (g.D.Disk.contents c.args.disk.now (g.D.Disk.path_of c.args.journal.now.file)) c.args.offset
-    c.args.bytes.now (g.D.Disk.contents c.sync_file.new.disk (g.D.Disk.path_of c.args.journal.now.file)) = search rules
-    in
-    failed_whole c.from_residual-in_err-sync_file.result _ _ _ _ w
-
 pub returns-clause-failed : goal.returns-clause-failed
 returns-clause-failed g c = λ honest.
     let w : Written (g.D.Disk.contents c.args.disk.now (g.D.Disk.path_of c.args.journal.now.file)) c.args.offset
-    c.args.bytes.now (g.D.Disk.contents c.sync_names.new.disk (g.D.Disk.path_of c.args.journal.now.file)) = search rules
+    c.args.bytes.now (g.D.Disk.contents c.sync_file.new.disk (g.D.Disk.path_of c.args.journal.now.file)) = search rules
     in
-    failed_whole c.sync_names.result _ _ _ _ w
+    failed_whole c.sync_file.result _ _ _ _ w
