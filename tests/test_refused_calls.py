@@ -20,11 +20,10 @@ import tempfile
 import threading
 
 sys.dont_write_bytecode = True  # nothing is left beside this script
-from cases.recordings import STEREO
 from kit.hints import hinted
 from kit.network import connect, free_port, hear_batch, hear_until_it_breaks, LOCAL, PROGRAM
-from kit.refused_commands import STEREO_FILE, try_file_senders, try_pictures, try_repairs
-from kit.refused_runs import is_prefix, KINDS, LONGEST_RUN, PIPES, Runs, what_a_pack_breaks, what_a_run_breaks, what_an_upload_breaks
+from kit.refused_commands import STEREO_FILE, try_file_senders, try_pictures, try_repairs, try_takes
+from kit.refused_runs import is_prefix, KINDS, LONGEST_RUN, PIPES, Runs, what_a_pack_breaks, what_a_run_breaks
 from kit.refuser import Refused
 from kit.repository import ROOT
 from kit.takes import BYE_FRAME, message, STORED, Take, verdict
@@ -207,32 +206,6 @@ def try_senders(runs, program, take):
         runs.each("send", kind, run, what_a_sender_breaks)
 
 
-class Taking(Recorded):
-    """A server that takes all requests of a recording over one link, and then gives their verdicts."""
-
-    def __init__(self, name, requests):
-        self.length = sum(len(message(name, number, request)) for number, request in enumerate(requests))
-        super().__init__(b"".join(verdict(name, number, STORED) for number in range(len(requests))))
-
-    def answer(self, peer):
-        """Replies once all was sent, and ends the link after BYE."""
-        peer.settimeout(LONGEST_RUN)
-        if len(hear_batch(peer, self.length)) >= self.length:
-            peer.sendall(self.replies)
-            hear_batch(peer)
-
-
-def try_uploads(runs, program):
-    """A recording of a file, which a server takes."""
-    path = str(runs.work / "sent.wav")
-    pathlib.Path(path).write_bytes(STEREO_FILE)
-    taking = Taking("a1", STEREO.requests())
-    words = [program, "send", "--connect", taking.address, "--name", "a1", "--file", path, "--timeout", "1"]
-    for kind in (*KINDS, "receive", "send", "connect"):
-        run = lambda kind, number: runs.one(words, b"", kind, number)
-        runs.each("send --file", kind, run, what_an_upload_breaks)
-
-
 def heard_by(port, said):
     """What a recorder that sends this receives until its link ends or breaks: nothing if it isn't accepted."""
     with contextlib.suppress(ConnectionError), connect(port) as peer:
@@ -379,8 +352,8 @@ def main():
         try_packs(runs, PROGRAM)
         try_pictures(runs, PROGRAM)
         try_repairs(runs, PROGRAM)
+        try_takes(runs, PROGRAM)
         try_senders(runs, PROGRAM, take)
-        try_uploads(runs, PROGRAM)
         try_file_senders(runs, PROGRAM)
         try_servers(runs, PROGRAM, take)
         if "--tests" in sys.argv:

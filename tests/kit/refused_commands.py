@@ -56,10 +56,10 @@ def try_takes(runs, program):
 
     def wrong(kind, found, wanted):
         status, out, errors = found
-        if kind == "growth" or kind == "write":
+        if status == 3 and kind in ("list", "open", "growth") and errors.decode() == f"{folder} can't be read\n":
+            return None if not out else "a text"  # a disk's fault doesn't distinguish lack of memory
+        if kind in ("growth", "write"):
             return what_a_run_breaks(kind, found, wanted)
-        if status == 3 and kind in ("list", "open") and errors.decode() == f"{folder} can't be read\n":
-            return None if not out else "a text"
         if status != 3 or errors.decode().rstrip("\n") not in files:
             return "no file is named"
         lines = out.splitlines()
@@ -72,7 +72,7 @@ def try_takes(runs, program):
 
 
 def try_file_senders(runs, program):
-    """Senders of samples without a header, of files that grow, of standard input and with a state, to one server."""
+    """Senders of files, of samples without a header, of files that grow, of standard input, and with a state."""
     samples, end = runs.work / "samples", runs.work / "ended"
     samples.write_bytes(bytes(range(200)) * 30)
     end.write_bytes(b"")
@@ -80,6 +80,7 @@ def try_file_senders(runs, program):
     sound.write_bytes(STEREO_FILE)
     pcm = ["--pcm", "8000,1,16", "--block", "1000"]
     files = {
+        "--file": (["--file", sound], (*KINDS, "receive", "send", "connect")),
         "--pcm": ([*pcm, "--file", samples], ("growth", "read", "open", "seek")),
         "--follow": ([*pcm, "--file", samples, "--follow", "--until", end], ("growth", "read", "open", "stat", "seek")),
         "--spool": ([*pcm, "--spool", spool], ("growth", "read", "write", "open", "seek")),
