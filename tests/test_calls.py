@@ -19,6 +19,7 @@ from kit import network
 from kit import wrong_calls
 from cases.faults import RETRIES
 from cases.journals import CASES as CASES_OF_JOURNALS
+from cases.spools import CASES as CASES_OF_SPOOLS
 from cases.states import CASES as CASES_OF_STATES
 from kit.hints import hinted
 from kit.network import CANT_GO_ON, connect, finish, free_port, hear_all, hear_batch, LOCAL, reason, run_cases, TALLY
@@ -381,6 +382,7 @@ CASES = [
     case_streams_and_statuses,
     case_inspected,
     *CASES_OF_JOURNALS,
+    *CASES_OF_SPOOLS,
     *CASES_OF_STATES,
 ]
 

@@ -7,13 +7,13 @@ import contextlib
 import io
 import os
 import struct
-from errno import EAGAIN, ECONNABORTED, EEXIST, EINTR, EIO
+from errno import EAGAIN, ECONNABORTED, EEXIST, EINTR, EIO, EISDIR
 
 from kit import network
 from kit.network import run_case, TALLY
 from kit.watcher import Watcher
 
-WRITE, POLL, SEEK, CONNECT, SEND, RECEIVE, SHUTDOWN, BIND, SET = 1, 7, 8, 42, 44, 45, 48, 49, 54
+READ, WRITE, POLL, SEEK, CONNECT, SEND, RECEIVE, SHUTDOWN, BIND, SET = 0, 1, 7, 8, 42, 44, 45, 48, 49, 54
 SYNC, TRUNCATE, REMOVE, EXIT, WAIT, REGISTER, OPEN, ACCEPT, STAT = 74, 77, 87, 231, 232, 233, 257, 288, 332
 NODELAY, RECEIVE_TIMEOUT, SEND_TIMEOUT = (6, 1), (1, 20), (1, 21)  # level and number of an option
 WITHOUT_END = -1
@@ -192,6 +192,12 @@ BODIES = [
     Body("a state isn't cut where it is begun", "state", with_word(OPEN, 2, opened_uncut)),
     Body("no sync of a state", "state", left_out(SYNC_DATA)),
     Body("no sync of a state's folder", "state", left_out(SYNC)),
+    # The spool of a sender
+    Body("a spool without a lock", "spool", left_out(LOCK)),
+    Body("no sync of what a spool is for", "spool", left_out(SYNC_DATA)),
+    Body("a short write of a spool is taken for whole", "spool", when(WRITE, take_half, is_file), seem_whole),
+    Body("a failed read of the input is taken for its end", "unread_input", after=when(READ, taken_for(EISDIR, 0))),
+    Body("a failed read of the input is taken for none", "unread_input", after=when(READ, taken_for(EISDIR, EAGAIN))),
     # Links one after another, and those of a sender
     Body("no timeout of reads", "in_turn", left_out(SET, is_option(RECEIVE_TIMEOUT))),
     Body("no timeout of writes", "in_turn", left_out(SET, is_option(SEND_TIMEOUT))),
