@@ -56,10 +56,10 @@ def try_takes(runs, program):
 
     def wrong(kind, found, wanted):
         status, out, errors = found
-        if status == 3 and kind in ("list", "open", "growth") and errors.decode() == f"{folder} can't be read\n":
-            return None if not out else "a text"  # a disk's fault doesn't distinguish lack of memory
         if kind in ("growth", "write"):
             return what_a_run_breaks(kind, found, wanted)
+        if status == 3 and kind in ("list", "open") and errors.decode() == f"{folder} can't be read\n":
+            return None if not out else "a text"
         if status != 3 or errors.decode().rstrip("\n") not in files:
             return "no file is named"
         lines = out.splitlines()

@@ -13,8 +13,9 @@ ghost use Rattle.bw_disk.specs.Disks.{IsOneCall};
 
 use crate::disk::DiskFault;
 use crate::memory_disk::{MemoryDisk, MemoryFile, StoredFile, find, keep, write};
+use crate::reading::ReadFault;
 use crate::volume::Volume;
-use std::alloc::Global;
+use std::alloc::{AllocError, Global};
 use std::str;
 
 impl Volume for MemoryDisk {
@@ -64,8 +65,8 @@ impl Volume for MemoryDisk {
         answer
     }
 
-    fn list(&mut self, folder: &str) -> Result<Vec<String>, DiskFault> {
-        let answer = list(&self.files, self.alloc, folder);
+    fn list(&mut self, folder: &str) -> Result<Vec<String>, ReadFault> {
+        let answer = list(&self.files, self.alloc, folder).map_err(|_| ReadFault::Memory);
         self.call_counter.count(answer.is_err());
         answer
     }
@@ -217,7 +218,7 @@ fn remove(files: &mut Vec<StoredFile>, path: &str)
 }
 
 /// The names in a folder, each once.
-fn list(files: &[StoredFile], alloc: Global, folder: &str) -> Result<Vec<String>, DiskFault>
+fn list(files: &[StoredFile], alloc: Global, folder: &str) -> Result<Vec<String>, AllocError>
     ensures { IfOk result (λ names.
         Lists folder.now (content_at files.now) (map string_bytes names.items)) }
 {
@@ -236,7 +237,7 @@ fn add_listed(
     alloc: Global,
     folder: &str,
     path: &str,
-) -> Result<(), DiskFault>
+) -> Result<(), AllocError>
     ensures { OnOk result (AddsListed folder.now path.now
         (map string_bytes names.old.items) (map string_bytes names.new.items)) }
 {
@@ -293,15 +294,15 @@ fn has_no_slash(name: &[u8]) -> bool
 }
 
 /// Adds a name, unless it is there already.
-fn add_name(names: &mut Vec<String>, alloc: Global, name: &str) -> Result<(), DiskFault>
+fn add_name(names: &mut Vec<String>, alloc: Global, name: &str) -> Result<(), AllocError>
     ensures { OnOk result (AddsFileName (map string_bytes names.old.items) (Some name.now)
         (map string_bytes names.new.items)) }
 {
     if has_name(names, name) {
         return Ok(());
     }
-    let name = String::from_str(alloc, name).map_err(|_| DiskFault)?;
-    names.push(name).map_err(|_| DiskFault)?;
+    let name = String::from_str(alloc, name)?;
+    names.push(name)?;
     Ok(())
 }
 

@@ -108,7 +108,7 @@ impl<D: Volume> MortalDisk<D> {
     }
 
     /// Counts a call with its answer, and returns the answer.
-    pub(crate) fn counted<T>(&mut self, answer: Result<T, DiskFault>) -> Result<T, DiskFault>
+    pub(crate) fn counted<T, E>(&mut self, answer: Result<T, E>) -> Result<T, E>
         ensures answer { result ≡ answer }
         ensures counted { IsCallCounted self.old self.new (is_err answer) }
     {

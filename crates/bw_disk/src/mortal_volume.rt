@@ -8,6 +8,7 @@ ghost use Rattle.bw_disk.specs.Volumes.{Moves, Renames, Lists, KeepsEach, KeepsA
 
 use crate::disk::DiskFault;
 use crate::mortal::MortalDisk;
+use crate::reading::ReadFault;
 use crate::volume::Volume;
 
 impl<D: Volume> Volume for MortalDisk<D> {
@@ -149,15 +150,17 @@ impl<D: Volume> Volume for MortalDisk<D> {
     /// The names in a folder of the inner disk, as long as this one lives.
     ///
     /// # Errors
-    /// `DiskFault` if the inner call failed, or the disk dies or is dead: the inner disk isn't
-    /// called then.
-    fn list(&mut self, folder: &str) -> Result<Vec<String>, DiskFault>
+    /// `Memory` if memory was refused to the inner disk; `Disk` if the inner call failed else, or the
+    /// disk dies or is dead: the inner disk isn't called then.
+    fn list(&mut self, folder: &str) -> Result<Vec<String>, ReadFault>
         ensures call { IsMortalCall D.Disk self.old self.new (is_err result) }
         ensures names { IsTrue (D.honest self.old.inner) → IfOk result (λ names.
             Lists folder.now (D.contents self.old.inner) (map string_bytes names.items)) }
         ensures rest { StaysWhole D.Disk self.old.inner self.new.inner }
     {
-        self.live()?;
+        if let Err(_dead) = self.live() {
+            return Err(ReadFault::Disk);
+        }
         let answer = self.inner.list(folder);
         self.counted(answer)
     }

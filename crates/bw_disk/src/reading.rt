@@ -10,7 +10,7 @@ use crate::volume::Volume;
 use std::alloc::Global;
 use thiserror::Error;
 
-/// Why a file couldn't be read whole.
+/// Why a file couldn't be read whole, or a folder listed.
 #[derive(Clone, Copy, Debug, Drop, Error, PartialEq, Eq)]
 pub enum ReadFault {
     /// A call of the disk failed.

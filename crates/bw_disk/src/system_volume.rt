@@ -4,6 +4,7 @@ ghost use Rattle.bw_disk.specs.Disks.{IsOneCall};
 ghost use Rattle.bw_disk.specs.FileWrites.{PutsFrom};
 
 use crate::disk::{Disk, DiskFault};
+use crate::reading::ReadFault;
 use crate::system::SystemDisk;
 use crate::volume::Volume;
 use std::alloc::Global;
@@ -77,8 +78,12 @@ impl<R: Files + AllocGlobal + Clone + Drop> Volume for SystemDisk<R> {
         answer
     }
 
-    fn list(&mut self, folder: &str) -> Result<Vec<String>, DiskFault> {
-        let answer = names_in(&self.rt, self.rt.alloc(), folder).map_err(|_| DiskFault);
+    fn list(&mut self, folder: &str) -> Result<Vec<String>, ReadFault> {
+        let answer = match names_in(&self.rt, self.rt.alloc(), folder) {
+            Ok(names) => Ok(names),
+            Err(e) if e.kind() == ErrorKind::OutOfMemory => Err(ReadFault::Memory),
+            Err(_) => Err(ReadFault::Disk),
+        };
         self.call_counter.count(answer.is_err());
         answer
     }

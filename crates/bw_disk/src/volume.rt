@@ -7,6 +7,7 @@ ghost use Rattle.bw_disk.specs.Volumes.{Finds, ReadsFrom, WrittenInPart, IsCutTo
 ghost use Rattle.bw_disk.specs.Volumes.{Moves, Renames, Lists, KeepsEach, KeepsAllBut};
 
 use crate::disk::{Disk, DiskFault};
+use crate::reading::ReadFault;
 
 /// A disk whose files can be found, read, cut and renamed, too.
 ///
@@ -150,12 +151,12 @@ pub trait Volume: Disk {
     /// out.
     ///
     /// # Errors
-    /// `DiskFault` if the disk failed, or there is no folder at the path.
+    /// `Disk` if the disk failed, or there is no folder at the path; `Memory` if memory was refused.
     ///
     /// # Not specified
-    /// - When the disk fails, and why: the error doesn't distinguish lack of memory.
+    /// - When the disk fails, and why; when memory is refused.
     /// - The order of the names.
-    fn list(&mut self, folder: &str) -> Result<Vec<String>, DiskFault>
+    fn list(&mut self, folder: &str) -> Result<Vec<String>, ReadFault>
         ensures call { IsOneCall Self.calls Self.failures self.old self.new (is_err result) }
         ensures honest { Self.honest self.new ≡ Self.honest self.old }
         ensures names { IsTrue (Self.honest self.old) → IfOk result (λ names.

@@ -67,9 +67,7 @@ fn names_with<E: Volume>(
     ensures each { IsTrue (E.honest notes.old) → IfOk result (λ names.
         ListsFiles (ending_text ending) folder.now (E.contents notes.old) names.keys) }
 {
-    let Ok(listed) = notes.list(folder) else {
-        return Err(ReadFault::Disk);
-    };
+    let listed = notes.list(folder)?;
     let mut names = BTreeSet::new(alloc);
     for file in &listed {
         add_name(file.as_str(), ending, &mut names)?;

@@ -28,9 +28,7 @@ pub fn takes_in<D: Volume>(
     ensures each { IsTrue (D.honest disk.old) →
         IfOk result (λ names. ListsTakes folder.now (D.contents disk.old) names.keys) }
 {
-    let Ok(listed) = disk.list(folder) else {
-        return Err(ReadFault::Disk);
-    };
+    let listed = disk.list(folder)?;
     let mut names = BTreeSet::new(alloc);
     for file in &listed {
         add_take(file.as_str(), &mut names)?;

@@ -2,7 +2,7 @@
 //! that is killed.
 ghost use Rattle.std.specs.Prelude.{None, [], false};
 
-use bw_disk::{Disk, DiskFault, Volume};
+use bw_disk::{Disk, DiskFault, ReadFault, Volume};
 use bw_store::CallCounter;
 use std::cell::RefCell;
 use std::rc::Rc;
@@ -93,8 +93,13 @@ impl<D: Volume> Volume for SharedDisk<D> {
         answer_of!(self, disk => disk.rename(from, to))
     }
 
-    fn list(&mut self, folder: &str) -> Result<Vec<String>, DiskFault> {
-        answer_of!(self, disk => disk.list(folder))
+    fn list(&mut self, folder: &str) -> Result<Vec<String>, ReadFault> {
+        let answer = match self.disk.try_borrow_mut() {
+            Ok(mut disk) => disk.list(folder),
+            Err(_) => Err(ReadFault::Disk),
+        };
+        self.call_counter.count(answer.is_err());
+        answer
     }
 
     fn sync_data(&mut self, file: &D::File) -> Result<(), DiskFault> {

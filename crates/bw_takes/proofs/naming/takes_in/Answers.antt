@@ -29,4 +29,4 @@ returns-clause-each g c = λ honest.
     let all : length files ≤ c.loop-file.file-index = rw length-map c.loop-file-test.false in
     listed_all c.args.folder.now (g.D.Disk.contents c.args.disk.now) files c.loop-file.names.keys c.loop-file.file-index
     all (subst (λ (xs : List _). Lists c.args.folder.now (g.D.Disk.contents c.args.disk.now) (map string_bytes xs))
-    (sym c.deref-file-items.ensures.value) (c.in-Ok.ensures.names honest)) i.only i.each
+    (sym c.deref-file-items.ensures.value) (c.in_ok-listed.ensures.names honest)) i.only i.each
