@@ -10,7 +10,7 @@ ROOT = pathlib.Path(__file__).resolve().parent.parent.parent
 
 
 PUB = r"(?:pub(?:\([a-z]+\))? )?"
-FUNCTION = re.compile(rf" *{PUB}(?:const |unsafe |final )*fn (\w+)")
+FUNCTION = re.compile(rf' *{PUB}(?:const |unsafe |final |extern "C" )*fn (\w+)')
 OWNER = re.compile(r" *(?:unsafe )?impl\b| *" + PUB + r"trait\b")
 ITEM = re.compile(rf"(?m)^ *{PUB}(?:const|static|enum|struct) (\w+)")
 MOST = 48  # bodies of a batch, so that their check stays small
@@ -219,7 +219,7 @@ class Sources:
 
     def is_for_others(self, path):
         """Whether other crates can call a function: it is `pub`, or a method of a trait."""
-        is_pub = re.search(rf"(?m)^ *pub (?:const |unsafe |final )*fn {name_of(path)}\b", self.text_of(path))
+        is_pub = re.search(rf'(?m)^ *pub (?:const |unsafe |final |extern "C" )*fn {name_of(path)}\b', self.text_of(path))
         return bool(is_pub or re.search(r"\btrait\b| for ", self.owner(path)))
 
     def clauses(self, path):

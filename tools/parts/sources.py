@@ -12,7 +12,7 @@ ROOT = pathlib.Path(__file__).resolve().parent.parent.parent
 # Of an implementation of these each method is a call, with the meaning that it gives to the trait's contract as
 # its clauses; of one of the project's own traits only a method with clauses of its own.
 STD_TRAITS = ("Default", "Display", "From", "TryFrom")
-FN = re.compile(r"( *)(pub(?:\([a-z]+\))? )?(?:const |final )?fn ([a-z_0-9]+)")
+FN = re.compile(r'( *)(pub(?:\([a-z]+\))? )?(?:const |final |extern "C" )?fn ([a-z_0-9]+)')
 CLAUSE = re.compile(r" *ensures\*? ?([a-z_0-9]*) ?\{")
 
 
@@ -41,7 +41,7 @@ class Test:
 def edges():
     """The crates in the order of crates.txt, each with what it may use."""
     lines = [it for it in (ROOT / "crates.txt").read_text().splitlines() if it and not it.startswith("#")]
-    return {name: below.split() for name, _, below in (line.partition(":") for line in lines)}
+    return {name.split()[0]: below.split() for name, _, below in (line.partition(":") for line in lines)}
 
 
 def crates():
