@@ -1,0 +1,19 @@
+use Rattle.std.proofs.Common.{◌+◌, ◌++◌, length, List, ℕ, sym, ap, subst, ◌∙◌}
+use Rattle.bw_model.specs.Bytes.{le32}
+use Rattle.bw_model.specs.Wire.{payload, addressed}
+use Rattle.bw_request.specs.Requests.{meaning}
+use Rattle.bw_wire.specs.EncodedFrames.{IsFrameOf, said}
+use Rattle.bw_wire.proofs.Encoding.{message_frame}
+use Rattle.bw_c.proofs.head.head_of.Goals as goal
+
+pub returns-clause-frame : goal.returns-clause-frame
+returns-clause-frame c =
+    let name = c.args.name.now in
+    let request = meaning c.args.request.now in
+    let written = c.push_numbers.ensures.payload ∙ ap (λ (x : List ℕ). x ++ payload request) c.address-head.ensures.items
+    ∙ ap (λ (n : ℕ). le32 (6 + length name + n) ++ addressed c.kind.result name c.args.number ++ payload request)
+    c.payload_len.ensures.value
+    ∙ ap (λ (k : ℕ). le32 (6 + length name + length (payload request)) ++ addressed k name c.args.number
+    ++ payload request) c.kind.ensures in
+    subst (IsFrameOf (said name c.args.number request)) (sym written)
+    (message_frame name c.args.number request c.address-head.ensures.named c.requires.number c.requires.fits)

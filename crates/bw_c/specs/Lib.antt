@@ -1,0 +1,4 @@
+pub mod PlainSenders
+pub mod Heads
+pub mod FirstReplies
+pub mod ShownReplies
