@@ -13,14 +13,14 @@ is_fault kinds.Interrupted = false
 is_fault _ = true
 
 -- whether a line may be printed so long after the last one, if that is known
-abbrev pub is_due : Option Duration → Bool
-is_due None = true
-is_due (Some passed) = nat_le 60 (as_nanos passed / 1_000_000_000)
+abbrev pub is_line_due : Option Duration → Bool
+is_line_due None = true
+is_line_due (Some passed) = nat_le 60 (as_nanos passed / 1_000_000_000)
 
 -- the line of a call that failed at a start
 abbrev pub start_fault_text : List ℕ → List ℕ → List ℕ
 start_fault_text path reason = path ++ codes ": " ++ reason ++ codes "\n"
 
 -- .. and while a server runs
-abbrev pub fault_text : List ℕ → List ℕ → List ℕ
-fault_text path reason = codes "the store fails: " ++ start_fault_text path reason
+abbrev pub store_fault_text : List ℕ → List ℕ → List ℕ
+store_fault_text path reason = codes "the store fails: " ++ start_fault_text path reason

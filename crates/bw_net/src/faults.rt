@@ -1,6 +1,6 @@
 //! Which calls of a server's store failed, as far as its lines say it.
 ghost use Rattle.std.specs.Prelude.{◌≡◌, ℕ, List, IfOk, string_bytes};
-ghost use Rattle.bw_net.specs.Faults.{fault_text, is_due, is_fault, start_fault_text};
+ghost use Rattle.bw_net.specs.Faults.{store_fault_text, is_line_due, is_fault, start_fault_text};
 
 use std::alloc::{AllocError, Global};
 use std::cell::{Cell, RefCell};
@@ -50,7 +50,7 @@ impl FaultNotes {
     /// Whether a line may be printed.
     pub(crate) fn may_print(&self, rt: &HostRuntime) -> bool {
         match self.last.get() {
-            Some(last) => is_due(last.elapsed(rt).ok()),
+            Some(last) => is_line_due(last.elapsed(rt).ok()),
             None => true,
         }
     }
@@ -75,8 +75,8 @@ pub(crate) fn is_fault(kind: ErrorKind) -> bool
 }
 
 /// Whether a line may be printed so long after the last one; a clock that fails puts none off.
-fn is_due(passed: Option<Duration>) -> bool
-    ensures { result ≡ is_due passed }
+fn is_line_due(passed: Option<Duration>) -> bool
+    ensures { result ≡ is_line_due passed }
 {
     match passed {
         Some(passed) => passed.as_secs() >= BETWEEN_FAULTS,
@@ -87,14 +87,14 @@ fn is_due(passed: Option<Duration>) -> bool
 /// The line of a call that failed while a server runs.
 pub(crate) fn fault_line(alloc: Global, path: &str, error: &io::Error) -> Result<String, AllocError>
     ensures { IfOk result (λ line. (reason : List ℕ) ×
-        (string_bytes line ≡ fault_text path.now reason)) }
+        (string_bytes line ≡ store_fault_text path.now reason)) }
 {
     let reason = format!(in alloc; "{error}")?;
     fault_line_with(alloc, path, reason.as_str())
 }
 
 fn fault_line_with(alloc: Global, path: &str, reason: &str) -> Result<String, AllocError>
-    ensures { IfOk result (λ line. string_bytes line ≡ fault_text path.now reason.now) }
+    ensures { IfOk result (λ line. string_bytes line ≡ store_fault_text path.now reason.now) }
 {
     format!(in alloc; "the store fails: {path}: {reason}\n")
 }
