@@ -16,7 +16,7 @@ abbrev pub KeepsAllBut : List ℕ → List ℕ → (List ℕ → Option (List �
 KeepsAllBut one two before after =
     (path : List ℕ) → path ≢ one → path ≢ two → after path ≡ before path
 
--- A file is found exactly where something stands, and it is the file at this path.
+-- A file is found exactly where something exists, and it is the file at this path.
 abbrev pub Finds : {F : Type 0} → (F → List ℕ) → List ℕ → Option F → Option (List ℕ) → Type 0
 Finds path_of path found content =
     MatchOption found (content ≡ None) (λ file. IsSome content × (path_of file ≡ path))
@@ -45,7 +45,7 @@ abbrev pub IsCutInPart : Option (List ℕ) → ℕ → Option (List ℕ) → Typ
 IsCutInPart before len after =
     (count : ℕ) × (len ≤ count) × (after ≡ option_map (take count) before)
 
--- A file went from one path to another, where nothing stood; all else is as it was.
+-- A file went from one path to another, where nothing was; all else is as it was.
 pub record Moves (from to : List ℕ) (before after : List ℕ → Option (List ℕ)) : Type 0 where
   pub stood : IsSome (before from)
   pub free : before to ≡ None
@@ -53,7 +53,7 @@ pub record Moves (from to : List ℕ) (before after : List ℕ → Option (List 
   pub left : after from ≡ None
   pub others : KeepsAllBut from to before after
 
--- what a `rename` that succeeds reports: the file has moved, or something stood in its way
+-- what a `rename` that succeeds reports: the file has moved, or something was in its way
 abbrev pub Renames : Bool → List ℕ → List ℕ → (List ℕ → Option (List ℕ)) →
     (List ℕ → Option (List ℕ)) → Type 0
 Renames true from to before after = Moves from to before after
@@ -73,7 +73,7 @@ abbrev pub AreDistinct : List (List ℕ) → Type 0
 AreDistinct [] = Unit
 AreDistinct (name ∷ names) = (Contains names name → ⊥) × AreDistinct names
 
--- These are the names in UTF-8 at which something stands in a folder, each once.
+-- These are the names in UTF-8 at which something exists in a folder, each once.
 pub record Lists (folder : List ℕ) (contents : List ℕ → Option (List ℕ))
     (names : List (List ℕ)) : Type 0 where
   pub stand : All (λ name. IsTrue (is_listed name) × IsSome (contents (in_folder folder name))) names

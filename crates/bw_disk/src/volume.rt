@@ -123,14 +123,14 @@ pub trait Volume: Disk {
         ensures synced { IsTrue (Self.honest self.old) →
             KeepsEach (Self.synced self.old) (Self.synced self.new) };
 
-    /// Moves the file at one path to another, and returns true; if something stands there already,
+    /// Moves the file at one path to another, and returns true; if something is there already,
     /// nothing changes, and it returns false.
     ///
     /// No file may be open at either path: an open file that is used afterwards needn't be that of
     /// its path.
     ///
     /// # Errors
-    /// `DiskFault` if the disk failed, or nothing stands at the first path: the file has moved, or
+    /// `DiskFault` if the disk failed, or nothing is at the first path: the file has moved, or
     /// nothing changed.
     ///
     /// # Not specified
@@ -151,7 +151,8 @@ pub trait Volume: Disk {
     /// out.
     ///
     /// # Errors
-    /// `Disk` if the disk failed, or there is no folder at the path; `Memory` if memory was refused.
+    /// `Disk` if the disk failed, or there is no folder at the path; `Memory` if memory was
+    /// refused.
     ///
     /// # Not specified
     /// - When the disk fails, and why; when memory is refused.

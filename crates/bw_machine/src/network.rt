@@ -25,7 +25,7 @@ pub struct TcpNetwork<'a> {
     pub(crate) rt: &'a HostRuntime,
     /// The spool, if there is one, is filled while a link's calls wait.
     pub(crate) spool: &'a SpoolCell,
-    /// Is told why a link to a server can't be made, or breaks off.
+    /// Gets the reason why a link to a server can't be made, or breaks off.
     pub(crate) causes: &'a CauseCell,
     /// What the process prints: once a server listens, its lines don't wait.
     pub(crate) lines: &'a LineCell,
@@ -40,9 +40,9 @@ impl<'a> TcpNetwork<'a> {
     ghost use Rattle.bw_net.specs.SeenLinks.{reactor_room, reactor_failures, reactor_waits};
     ghost use Rattle.bw_net.specs.SeenLinks.{peers_address, peers_folder, peers_timeout};
 
-    /// The network of this runtime, which has not failed yet. This spool is filled while the calls of
-    /// a link to a server wait, this cell is told why they fail, and these lines no longer wait once it
-    /// listens.
+    /// The network of this runtime, which has not failed yet. This spool is filled while the calls
+    /// of a link to a server wait, this cell gets the reason why they fail, and these lines no
+    /// longer wait once it listens.
     ///
     /// # Not specified
     /// - That its runtime is the one that was given.

@@ -11,12 +11,13 @@ use std::io::{IsTerminal, Stderr};
 /// A start over fewer journals than this reports its end alone.
 const JOURNALS_A_LINE: usize = 32;
 
-/// What stands before a line that is shown in place of another: the cursor goes to the line's start,
-/// and the terminal doesn't wrap, so that a line that is too long is cut (ECMA-48, and DEC's for
-/// wrapping).
+/// What is written before a line that is shown in place of another: the cursor goes to the line's
+/// start, and the terminal doesn't wrap, so that a line that is too long is cut (ECMA-48, and DEC's
+/// for wrapping).
 const LINE_START: &[u8] = b"\r\x1b[?7l";
 
-/// What stands after it: what is left of the line before is cleared, and the terminal wraps again.
+/// What is written after it: what is left of the line before is cleared, and the terminal wraps
+/// again.
 const LINE_END: &[u8] = b"\x1b[K\x1b[?7h";
 
 /// Clears a line, and leaves the cursor at its start.
@@ -96,7 +97,7 @@ impl Screen for Terminal {
     }
 }
 
-/// A line with what stands before and after it on a terminal.
+/// A line with what is written before and after it on a terminal.
 fn shown_line(alloc: Global, line: &[u8]) -> Result<Vec<u8>, AllocError>
     ensures { IfOk result (λ text. text.items
         ≡ 13 ∷ 27 ∷ codes "[?7l" ++ line.now ++ 27 ∷ codes "[K" ++ 27 ∷ codes "[?7h") }

@@ -14,8 +14,8 @@ use std::io::{self, ErrorKind, Read, Seek, SeekFrom};
 use std::thread;
 use std::time::Duration;
 
-/// How often a file that isn't there yet is looked for again: a recorder that is started at the same
-/// time makes it a moment later.
+/// How often a file that isn't there yet is looked for again: a recorder that is started at the
+/// same time makes it a moment later.
 const LOOKS: u32 = 50;
 
 /// The milliseconds between two such looks.
@@ -30,9 +30,9 @@ enum Ending<'a> {
     Input(&'a SpoolCell),
 }
 
-/// A file that another program writes until a file stands at a path, or that standard input is
-/// appended to until its end. What is to come is what its reader has, where that reports it: of a file
-/// no clause of std does.
+/// A file that another program writes until a file is at a path, or that standard input is
+/// appended to until its end. What is to come is what its reader has, where that reports it: of a
+/// file no clause of std does.
 #[derive(Drop)]
 pub struct FollowedFile<'a, R> {
     rt: &'a HostRuntime,
@@ -65,8 +65,8 @@ impl<'a> FollowedFile<'a, File> {
         })
     }
 
-    /// The file at a path, after its first `skip` bytes, to which standard input is appended from now
-    /// on. It is made if it isn't there.
+    /// The file at a path, after its first `skip` bytes, to which standard input is appended from
+    /// now on. It is made if it isn't there.
     pub(crate) fn spool(
         rt: &'a HostRuntime,
         path: &str,

@@ -64,7 +64,7 @@ fn as_it_is() -> OpenOptions
     options
 }
 
-/// How a state is begun: made if it isn't there, and empty, whatever stood there.
+/// How a state is begun: made if it isn't there, and empty, whatever was there.
 fn emptied() -> OpenOptions
     ensures { result ≡ with_truncate (with_create (with_write new_options true) true) true }
 {
@@ -99,8 +99,8 @@ pub(crate) fn begin_file(rt: &HostRuntime, path: &str, bytes: &[u8]) -> io::Resu
     let mut file = emptied().open(rt, path)?;
     file.write_all(bytes)?;
     file.sync_data()?;
-    // Some file systems can't sync a folder. Without it a loss of power may take the state away, and
-    // all is sent again.
+    // Some file systems can't sync a folder. Without it a loss of power may take the state away,
+    // and all is sent again.
     let _ = sync_folder_of(rt, path);
     Ok(StateFile { file, failures: 0 })
 }

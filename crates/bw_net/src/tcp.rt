@@ -25,7 +25,7 @@ pub struct TcpDial<'a> {
     rt: &'a HostRuntime,
     /// The spool, if there is one, is filled while a call waits.
     spool: &'a SpoolCell,
-    /// Is told why a call failed.
+    /// Gets the reason why a call failed.
     causes: &'a CauseCell,
     address: SocketAddr,
     /// How long a call may wait, if there is a limit.
@@ -39,10 +39,11 @@ impl<'a> TcpDial<'a> {
     ghost use Rattle.bw_net.specs.SeenLinks.{dial_address, dial_timeout, dial_rate, dial_failures};
 
     /// Opens links to this address, over each of which so many bytes a second go at most, if a rate
-    /// is given; it has not failed yet. The cell is told why one can't be made, or breaks off.
+    /// is given; it has not failed yet. The cell gets the reason why one can't be made, or breaks
+    /// off.
     ///
     /// # Not specified
-    /// - That its runtime is the one that was given, and what the cell is told.
+    /// - That its runtime is the one that was given, and what the cell gets.
     /// - That its links go to the address, and what they give.
     pub fn new(
         rt: &'a HostRuntime,

@@ -22,7 +22,7 @@ pub record AreToCome (left : Option (List ℕ)) (p : Progress) (requests : List 
   pub stands : Stands bytes p left
   pub are : requests ≡ remaining p bytes
 
--- how a feed stands: what its reader has left, its plan, the file's stamp, if it is reported, and the
+-- the state of a feed: what its reader has left, its plan, the file's stamp, if it is reported, and the
 -- stamp before the file was opened
 pub record FeedState : Type 0 where
   pub left : Option (List ℕ)

@@ -34,7 +34,7 @@ impl<R: Source + Drop, S: Stamped + Drop> PlanFeed<R, S> {
     ghost use Rattle.bw_send_file.specs.FileLooks.{LooksAt};
     ghost use Rattle.bw_send_file.specs.PlanFeeds.{feed_stamp};
 
-    /// Gives the requests of a plan whose reader stands where the next block does, of a file that
+    /// Gives the requests of a plan whose reader is where the next block is, of a file that
     /// had this stamp before it was opened.
     pub fn new(alloc: Global, plan: Plan, reader: R, stamped: S, stamp: FileStamp) -> PlanFeed<R, S>
         ensures left { (requests : List Message) → AreToCome (R.left reader) plan requests →

@@ -22,7 +22,7 @@ pub record IsSeen (p : Parts) (found : List ℕ) (facts : FileFacts) : Type 0 wh
   pub front : facts.front.now ≡ take (data_place (length p.history)) found
   pub after : facts.after ≡ slice_get found (data_end p)
 
--- this was read of what stands under a take's name, if anything does
+-- this was read of what is under a take's name, if anything does
 abbrev pub Sees : Parts → Option (List ℕ) → Option FileFacts → Type 0
 Sees p None None = Unit {0}
 Sees p None (Some facts) = ⊥
@@ -48,7 +48,7 @@ with_pad false found = found
 abbrev pub patched : Mending → List ℕ → List ℕ → List ℕ
 patched m header found = with_pad m.pad (shortened m.cut (with_header m.header header found))
 
--- what stands under the name after this
+-- what is under the name after this
 abbrev pub adopted : Adoption → List ℕ → Option (List ℕ) → Option (List ℕ)
 adopted Keep header found = found
 adopted SetAside header found = None

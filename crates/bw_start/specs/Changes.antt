@@ -30,7 +30,7 @@ abbrev pub ChangesTake : List ℕ → List ℕ → (List ℕ → Option (List �
 ChangesTake folder name before after =
     KeepsOthers before after (wave_path folder name) ⊎ IsAside folder name before after
 
--- What stands under a name has become this. A file that is set aside or mended was there.
+-- What is under a name has become this. A file that is set aside or mended was there.
 abbrev pub BecomesAs : (Option (List ℕ) → Option (List ℕ)) → Option (List ℕ) →
     Option (List ℕ) → Type 0
 BecomesAs f before after = after ≡ f before

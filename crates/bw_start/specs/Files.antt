@@ -46,7 +46,7 @@ fault_by_format limit p None found = None
 fault_by_format limit p (Some f) None = Some Lost
 fault_by_format limit p (Some f) (Some found) = opened_fault limit p f found
 
--- what is wrong with what stands under a name: a file that stood before its journal must still be
+-- what is wrong with what is under a name: a file that existed before its journal must still be
 -- there, and a take that is opened must have its file
 abbrev pub file_fault : ℕ → Parts → Option (List ℕ) → Option FileFault
 file_fault limit p found =
@@ -59,12 +59,12 @@ mended limit p f found =
     header_by limit p f
     ++ (take p.samples_len (drop (data_place (length p.history)) found) ++ pad p.samples_len)
 
--- what stands under the name of a take of this format afterwards; a file without one is set aside
+-- what is under the name of a take of this format afterwards; a file without one is set aside
 abbrev pub mended_by_format : ℕ → Parts → Option Format → Option (List ℕ) → Option (List ℕ)
 mended_by_format limit p None found = None
 mended_by_format limit p (Some f) found = option_map (mended limit p f) found
 
--- what stands under a name afterwards: a file that stood before its journal, and that of a closed
+-- what is under a name afterwards: a file that existed before its journal, and that of a closed
 -- take, is left as it is
 abbrev pub file_after : ℕ → Parts → Option (List ℕ) → Option (List ℕ)
 file_after limit p found =

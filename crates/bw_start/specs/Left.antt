@@ -20,13 +20,13 @@ IsLeftOpen t limit None found = IfSome found (λ bytes. length bytes ≤ data_pl
 IsLeftOpen t limit (Some f) None = ⊥
 IsLeftOpen t limit (Some f) (Some found) = IsMendable t f limit found
 
--- the file of a take by what stood under its name: that stays, and a closed take's file is whole
+-- the file of a take by what was under its name: that stays, and a closed take's file is whole
 abbrev pub IsLeftFile : Option (List ℕ) → Take → ℕ → Option (List ℕ) → Type 0
 IsLeftFile (Some stood) t limit found = found ≡ Some stood
 IsLeftFile None t limit found =
     MatchBool t.closed (found ≡ file_of t limit) (IsLeftOpen t limit t.format found)
 
--- what is to stand under the name: what stood, or the file of the take
+-- what is to be under the name: what was, or the file of the take
 abbrev pub wanted_file : Option (List ℕ) → Take → ℕ → Option (List ℕ)
 wanted_file (Some stood) t limit = Some stood
 wanted_file None t limit = file_of t limit

@@ -10,7 +10,7 @@ use Rattle.bw_journal.specs.Replays.{replay}
 use Rattle.bw_start.specs.Left.{IsLeftFile, wanted_file}
 use Rattle.bw_start.specs.Names.{begins_take, name_fault, kept_journal, file_beside}
 
--- the header of the journal of a name, by what stood under it
+-- the header of the journal of a name, by what was under it
 abbrev pub header_beside : ℕ → Option (List ℕ) → Header
 header_beside limit first = record { limit = limit; existed = is_some first }
 
@@ -33,7 +33,7 @@ pub record IsLeftTorn (limit : ℕ) (first : Option (List ℕ)) (name : List ℕ
   pub file : found ≡ first
   pub foreign : IfSome found (λ bytes. begins_take bytes ≡ false)
 
--- what a stop leaves of a name, by what stood under it and its log
+-- what a stop leaves of a name, by what was under it and its log
 abbrev pub IsLeftName : ℕ → Option (List ℕ) → List ℕ → Log → Option (List ℕ) →
     Option (List ℕ) → Type 0
 IsLeftName limit first name log None found = (log.done ≡ 0) × (found ≡ first)

@@ -26,7 +26,7 @@ pub data NameFault : Type 0 where
   -- what its file is
   OfFile : FileFault → NameFault
 
--- what is wrong with a name, by what its journal says and what stands as its file: a journal that
+-- what is wrong with a name, by what its journal says and what its file is: a journal that
 -- isn't begun has no file of this server, so that one shows that the journal was cut otherwise
 abbrev pub fault_beside : ℕ → Result Story JournalFault → Option (List ℕ) → Option NameFault
 fault_beside limit (Ok s) found = option_map OfFile (file_fault limit s.parts found)
@@ -44,7 +44,7 @@ kept_journal (Ok s) journal = take s.used journal
 kept_journal (Err NotBegun) journal = []
 kept_journal (Err f) journal = journal
 
--- what stands as the file afterwards
+-- what the file is afterwards
 abbrev pub file_beside : ℕ → Result Story JournalFault → Option (List ℕ) → Option (List ℕ)
 file_beside limit (Ok s) found = file_after limit s.parts found
 file_beside limit (Err f) found = found

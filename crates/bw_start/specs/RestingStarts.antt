@@ -21,7 +21,7 @@ use Rattle.bw_start.specs.declared.resting.FolderFault.{FolderFault}
 use Rattle.bw_start.specs.declared.resting.FolderFault.TheVariants.{Start, Rests, Twice}
 use Rattle.bw_start.specs.declared.resting.Settings.{Settings}
 
--- A name that rests stands in a server's way: without rest each does, with it each that has a journal
+-- A name that rests keeps a server from starting: without rest each does, with it each that has a journal
 -- that doesn't rest.
 abbrev pub StandsInTheWay : Bool → List ℕ → (List ℕ → Option (List ℕ)) → List ℕ → Type 0
 StandsInTheWay false folder notes name = IsSome (notes (rest_path folder name))
@@ -84,7 +84,7 @@ IsFolderUnchanged Same (Rests names) = Same
 IsFolderUnchanged Same (Twice names) = Same
 
 -- A server was started over this folder: from each book that an earlier one may have left there, of
--- names that don't rest. Nothing was wrong with these, and none stood in its way.
+-- names that don't rest. Nothing was wrong with these, and none kept it from starting.
 pub record StartsOver {D E F H : Type 0} {G : DiskGhosts D F} {K : DiskGhosts E H}
     {S : StoreGhosts (FolderStore D F G)} {J : JournalGhosts (FolderJournal E H K)} (settings : Settings)
     (folder : List ℕ) (notes takes : List ℕ → Option (List ℕ))

@@ -92,10 +92,10 @@ fn put_line(
     text.extend_from_slice(line.as_bytes())
 }
 
-/// Starts a server over what an earlier one left in a folder, as `start` does, if no name that rests
-/// stands in its way. With `rest`, names that rest go on resting: their files are left alone, unread,
-/// and they don't count among the 256; a start only lists them, and compares each with the names that
-/// don't rest. Without it each is refused.
+/// Starts a server over what an earlier one left in a folder, as `start` does, if no name that
+/// rests keeps it from starting. With `rest`, names that rest go on resting: their files are left
+/// alone, unread, and they don't count among the 256; a start only lists them, and compares each
+/// with the names that don't rest. Without it each is refused.
 ///
 /// # Errors
 /// The fault, with both disks. `Rests` if names rest, and the server lets none rest; `Twice` if it
@@ -114,12 +114,12 @@ pub fn start_over<D: Volume, E: Volume, W: StartWatch>(
     ensures started { IsTrue (D.honest takes) → IsTrue (E.honest notes) → IfOk result
         (StartsOver settings folder.now (E.contents notes) (D.contents takes)) }
     ensures settings { IfOk result (IsSetTo settings.limit folder.now settings.sync) }
-    // Of `start` so; it isn't refused only if no name stands in its way.
+    // Of `start` so; it isn't refused only if no name keeps it from starting.
     ensures admits { IsTrue (D.honest takes) → IsTrue (E.honest notes) → IfErr result (λ e.
         OfEachBookLeft settings.limit folder.now (E.contents notes) (D.contents takes) (λ first book.
         HasFewDone settings.limit folder.now (E.contents notes) →
         NoneStandsInTheWay settings.rest folder.now (E.contents notes) → IsPlainFolderFault e.0)) }
-    // Each name that stands in its way, and no other.
+    // Each name that keeps it from starting, and no other.
     ensures refused { IsTrue (D.honest takes) → IsTrue (E.honest notes) → IfErr result
         (λ e. RefusesStart settings folder.now (E.contents notes) (D.contents takes) e.0) }
     // Both disks are as they were.
@@ -152,7 +152,7 @@ pub fn start_over<D: Volume, E: Volume, W: StartWatch>(
     }
 }
 
-/// Checks that no name that rests stands in a server's way.
+/// Checks that no name that rests keeps a server from starting.
 ///
 /// # Errors
 /// `Rests` or `Twice` with each name that does; the disk's fault, or refused memory.
@@ -177,7 +177,7 @@ fn judge_rest<E: Volume>(
     }
 }
 
-/// The same of the names that stand in its way.
+/// The same of the names that keep it from starting.
 fn judge_names(names: Vec<Name>, rest: bool) -> Result<(), FolderFault>
     ensures none { OnOk result (length names.items ≡ 0) }
     ensures some { IfErr result (IsListOf rest names.items) }
@@ -192,7 +192,7 @@ fn judge_names(names: Vec<Name>, rest: bool) -> Result<(), FolderFault>
     }
 }
 
-/// The names that stand in a server's way.
+/// The names that keep a server from starting.
 ///
 /// # Errors
 /// `Disk` if a call of the disk failed; `Memory` if memory was refused.

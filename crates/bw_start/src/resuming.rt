@@ -188,7 +188,7 @@ fn cut_at<E: Volume>(notes: &mut E, path: &str, len: u64) -> Result<(), ReadFaul
 /// Does with the file of a name what was judged of it, with its header.
 ///
 /// A file that is kept isn't opened; nothing is deleted: one that is set aside becomes `NAME.torn`,
-/// or if that stands, `NAME.torn1`, or the next number up to 255.
+/// or if that exists, `NAME.torn1`, or the next number up to 255.
 ///
 /// # Errors
 /// `Disk` if a call of the disk failed, the file isn't there, or each of those names is taken;

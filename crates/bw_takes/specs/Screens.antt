@@ -65,7 +65,7 @@ growth_text (Some count) rate =
 unfoldable pub age_text : ℕ → List ℕ
 age_text n = decimal n ++ codes " s"
 
--- the text of a column of this width, at most twelve, and what stands before the next
+-- the text of a column of this width, at most twelve, and what comes before the next
 abbrev pub cell : ℕ → List ℕ → List ℕ
 cell width text = text ++ (take (width - length text) (codes "            ") ++ codes "  ")
 
@@ -113,7 +113,7 @@ text_if false = other_text
 abbrev pub open_count : List Row → ℕ
 open_count rows = count_by (λ row. is_open_state row.take.state) rows
 
--- what stands after the number of the open takes, and after that of all
+-- what follows the number of the open takes, and that of all
 unfoldable pub open_word : List ℕ
 open_word = codes " open, "
 

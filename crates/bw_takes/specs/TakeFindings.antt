@@ -40,7 +40,7 @@ IsFoundBy reported fault Twice = ⊥
 abbrev pub IsFoundBeside : ℕ → Result Story JournalFault → Option (List ℕ) → TakeFinding → Type 0
 IsFoundBeside limit reported file found = IsFoundBy reported (fault_beside limit reported file) found
 
--- nothing but that a file stands
+-- nothing but that a file exists
 abbrev pub IsStood : TakeFinding → Type 0
 IsStood found = found ≡ Stood
 
@@ -50,7 +50,7 @@ IsTakeFound name None file found = IsStood found
 IsTakeFound name (Some journal) file found =
     IsFoundBeside (own_limit journal) (replay (own_limit journal) name journal) file found
 
--- the same of a take with these two journals, of which one may stand
+-- the same of a take with these two journals, of which one may exist
 abbrev pub IsTakeFoundOf : List ℕ → Option (List ℕ) → Option (List ℕ) → Option (List ℕ) → TakeFinding →
     Type 0
 IsTakeFoundOf name (Some journal) (Some resting) file found = found ≡ Twice

@@ -1,4 +1,4 @@
--- A take as JSON. The members of an object stand in the order of their keys, as they are printed.
+-- A take as JSON. The members of an object are in the order of their keys, as they are printed.
 use Rattle.std.specs.Prelude.{ℕ, ◌*◌, ◌/◌, ◌^◌, nat_lt, true, false, if◌then◌else◌}
 use Rattle.std.specs.Prelude.{List, Option, Some, None, codes}
 use Rattle.serde_json.specs.Data.{Data, null, boolean, number, string, unsigned, object, member, no_members}

@@ -75,14 +75,14 @@ line_in style depth folder contents name =
 abbrev pub is_sound_in : Depth → List ℕ → (List ℕ → Option (List ℕ)) → List ℕ → Bool
 is_sound_in depth folder contents name = is_sound_summary (summary_in depth folder contents name)
 
--- what is told of takes: a line for each that can be read, one for each file that can't, and whether
+-- what is reported of takes: a line for each that can be read, one for each file that can't, and whether
 -- nothing is wrong with any that can
 pub record Told : Type 0 where
   pub lines : List ℕ
   pub unread : List ℕ
   pub sound : Bool
 
--- what a report tells
+-- what a report says
 abbrev pub told_by : TakesReport → Told
 told_by r = record { lines = r.lines.items; unread = r.unread.items; sound = r.sound }
 
@@ -90,7 +90,7 @@ told_by r = record { lines = r.lines.items; unread = r.unread.items; sound = r.s
 abbrev pub nothing_told : Told
 nothing_told = record { lines = []; unread = []; sound = true }
 
--- what is told after one more take, of which a file may be one that can't be read
+-- what is reported after one more take, of which a file may be one that can't be read
 abbrev pub told_after : LineStyle → Depth → List ℕ → (List ℕ → Option (List ℕ)) → Told →
     List ℕ × Option TakeEntry → Told
 told_after style depth folder contents told (name, None) = record {
@@ -104,7 +104,7 @@ told_after style depth folder contents told (name, Some entry) = record {
   sound = told.sound;
 }
 
--- one more take is told of
+-- one more take is reported
 abbrev pub TellsTake : LineStyle → Depth → List ℕ → (List ℕ → Option (List ℕ)) → List ℕ → Told → Told →
     Type 0
 TellsTake style depth folder contents name before after = (unread : Option TakeEntry)
@@ -115,7 +115,7 @@ abbrev pub TellsUnreadEntry : List ℕ → List ℕ → List ℕ → List ℕ �
 TellsUnreadEntry folder name before after =
     (entry : TakeEntry) × (after ≡ before ++ unread_text (entry_path entry folder name))
 
--- This is told of the takes of a folder, in the order of their names' bytes.
+-- This is reported of the takes of a folder, in the order of their names' bytes.
 pub record ReportsTakes (style : LineStyle) (depth : Depth) (folder : List ℕ)
     (contents : List ℕ → Option (List ℕ)) (told : Told) : Type 0 where
   pub takes : List (List ℕ × Option TakeEntry)

@@ -14,10 +14,10 @@ use std::alloc::{AllocError, Global};
 
 impl TakeFinding {
     /// Appends the line of the take of this name of which this was found, ended by a line feed: its
-    /// name; whether it is open, closed or not opened, or stood before the server's; of one with
+    /// name; whether it is open, closed or not opened, or existed before the server's; of one with
     /// samples of the server's its frames and seconds; and its next number. Of one with which
-    /// something is wrong it is the name and the cause, and of one with other samples than its journal
-    /// has the digests of, the first such number.
+    /// something is wrong it is the name and the cause, and of one with other samples than its
+    /// journal has the digests of, the first such number.
     ///
     /// # Errors
     /// `AllocError` if memory was refused.

@@ -26,7 +26,7 @@ pub enum ProgressState {
     Closed,
     /// It isn't opened.
     Unopened,
-    /// A file of its name stood before the server's.
+    /// A file of its name existed before the server's.
     Stood,
     /// This is wrong with its journal or its file.
     Faulty(NameFault),

@@ -15,7 +15,7 @@ use std::alloc::{AllocError, Global};
 /// What screens are written to.
 #[derive(Clone, Copy, Debug, PartialEq, Eq)]
 pub enum ScreenStyle {
-    /// A terminal: each screen stands in the place of the one before, and what doesn't fit is cut.
+    /// A terminal: each screen replaces the one before, and what doesn't fit is cut.
     Terminal,
     /// Anything else: the lines of one screen after those of another, and an empty line between.
     Lines,
