@@ -26,12 +26,12 @@ history_byte c = if is_history_byte c then c else 63
 abbrev pub history_of : List ℕ → List ℕ
 history_of bytes = map history_byte (take longest_history (text_cleaned_of bytes))
 
--- what may stand between the numbers of a date and of a time (EBU Tech 3285, OriginationDate and
+-- what may come between the numbers of a date and of a time (EBU Tech 3285, OriginationDate and
 -- OriginationTime)
 abbrev pub is_separator : ℕ → Bool
 is_separator c = list_any (λ s. s == c) (codes "-_: .")
 
--- the byte may stand where the form has this byte: a digit for `d`, and else a separator
+-- the byte may be where the form has this byte: a digit for `d`, and else a separator
 abbrev pub is_like_at : ℕ → ℕ → Bool
 is_like_at f c = if f == 100 then is_ascii_digit c else is_separator c
 
@@ -72,7 +72,7 @@ values_of [] fields = []
 values_of (s ∷ ss) [] = [] ∷ values_of ss []
 values_of (s ∷ ss) (bytes ∷ fields) = value_of s bytes ∷ values_of ss fields
 
--- each of these fields, from a tag on, may have its text as it stands
+-- each of these fields, from a tag on, may have its text as it is
 abbrev pub are_texts_kept : ℕ → List (List ℕ) → Bool
 are_texts_kept tag [] = true
 are_texts_kept tag (bytes ∷ fields) =

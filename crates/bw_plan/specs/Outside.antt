@@ -7,6 +7,6 @@ use Rattle.bw_model.specs.Reading.{Entry}
 abbrev pub IsOutOfBytes : List ℕ → Entry → Type 0
 IsOutOfBytes b e = (length b < e.place + 8 + e.size) ⊎ (largest < e.place + e.size)
 
--- .. or it is too small for what stands before a coding history
+-- .. or it is too small for what comes before a coding history
 abbrev pub HasNoHistory : List ℕ → Entry → Type 0
 HasNoHistory b e = IsOutOfBytes b e ⊎ (e.size < 602)

@@ -18,7 +18,7 @@ use Rattle.bw_plan.specs.declared.pcm.Pcm.{Pcm}
 abbrev pub pcm_format : Pcm → Format
 pcm_format p = record { rate = p.rate; channels = p.channels; bits = p.bits }
 
--- the faults of a format that stands in no file: at its start
+-- the faults of a format that isn't from a file: at its start
 abbrev pub pcm_format_faults : Pcm → List (Bool × FaultAt)
 pcm_format_faults p =
     chain_line (not ((p.bits == 16) || (p.bits == 24) || (p.bits == 32))) Bits 0

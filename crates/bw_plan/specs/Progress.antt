@@ -1,4 +1,4 @@
--- Where the giver of a plan's requests stands, and which requests are still to come.
+-- How far the giver of a plan's requests is, and which requests are still to come.
 use Rattle.std.specs.Prelude.{◌≡◌, ℕ, suc, ◌+◌, ◌/◌, min, List, [], ◌∷◌, ◌++◌, map, drop}
 use Rattle.std.specs.Prelude.{slice_range, Option, Some, None}
 use Rattle.bw_model.specs.Take.{Request, Open, Block, Mark, SetField, Close, block_align}
@@ -14,9 +14,9 @@ pub record Samples : Type 0 where
   pub size : ℕ
   -- the block that was read last
   pub block : List ℕ
-  -- where in the file the next one stands
+  -- where in the file the next one is
   pub place : ℕ
-  -- how many bytes of samples stand from there on
+  -- how many bytes of samples there are from there on
   pub left : ℕ
 
 -- which request is the next
@@ -84,7 +84,7 @@ abbrev pub after_next : List Request → List Request
 after_next [] = []
 after_next (r ∷ rs) = rs
 
--- these requests are still to come, and the reader stands where the next block does
+-- these requests are still to come, and the reader is where the next block is
 pub record GoesOn (b : List ℕ) (requests : List Request) (p : Progress) (left : Option (List ℕ)) :
     Type 0 where
   pub requests_are : remaining p b ≡ requests
@@ -106,7 +106,7 @@ abbrev pub IsSoundPlan : Stage → Type 0
 IsSoundPlan (AtFault f) = ⊥
 IsSoundPlan _ = Unit {0}
 
--- these requests were given one after the other, each where the giver stood after the one before,
+-- these requests were given one after the other, each where the giver was after the one before,
 -- and after the last one none was given
 abbrev pub IsPlanRun : List ℕ → Progress → List (Request × Progress) → Type 0
 IsPlanRun b p [] = next_step_of (remaining p b) ≡ None

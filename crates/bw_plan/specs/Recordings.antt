@@ -112,7 +112,7 @@ notes_of b form entries = record {
   history = history_at b (entry_of (codes "bext") entries);
 }
 
--- where the head of the first chunk with an id stands
+-- the place of the head of the first chunk with an id
 abbrev pub head_place : List ℕ → List Entry → ℕ
 head_place id entries = unwrap_or (option_map (λ (e : Entry). e.place) (entry_of id entries)) 0
 
@@ -132,7 +132,7 @@ is_pcm f extension =
     (f.tag == 1)
     || ((f.tag == extensible) && bytes_eq (slice_range extension 8 24) pcm_subformat)
 
--- the faults of a `fmt ` chunk whose head stands at p (RIFF WAVE, `fmt `)
+-- the faults of a `fmt ` chunk whose head is at p (RIFF WAVE, `fmt `)
 abbrev pub format_faults : RawFmt → List ℕ → ℕ → List (Bool × FaultAt)
 format_faults f extension p =
     chain_line (not (is_pcm f extension)) NotPcm p
@@ -192,7 +192,7 @@ abbrev pub bext_texts : Option (RawBext × ℕ) → List (List ℕ)
 bext_texts None = []
 bext_texts (Some b) = b.0.texts
 
--- the texts and the history stay as they stand
+-- the texts and the history stay as they are
 abbrev pub is_bext_kept : FileNotes → Bool
 is_bext_kept n = are_texts_kept 1 (bext_texts n.report.bext) && is_history_kept n.history
 
@@ -242,7 +242,7 @@ recording_faults o n =
 unfoldable pub outline_of : Options → FileNotes → Result Outline FaultAt
 outline_of o n = unless (first_that_holds (recording_faults o n)) (set_outline o n)
 
--- the samples stand where the report says
+-- the samples are where the report says
 abbrev pub samples_of : List ℕ → Report → List ℕ
 samples_of b r = slice_range b r.data_at (r.data_at + r.data_size)
 

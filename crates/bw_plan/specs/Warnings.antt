@@ -32,7 +32,7 @@ is_other_form tag text =
     ((tag == 4) && not (is_like (codes "dddd-dd-dd") text))
     || ((tag == 5) && not (is_like (codes "dd:dd:dd") text))
 
--- the warning of a text that may not stay as it stands
+-- the warning of a text that may not stay as it is
 abbrev pub loss : ℕ → List ℕ → Warning
 loss tag text = if is_other_form tag text then FieldLeftOut tag else FieldCleaned tag
 

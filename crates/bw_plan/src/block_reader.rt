@@ -17,9 +17,9 @@ pub(crate) struct BlockReader {
     block: Vec<u8>,
     /// How many bytes a block has.
     size: usize,
-    /// Where the next block stands, in bytes from the file's start.
+    /// The place of the next block, in bytes from the file's start.
     place: u64,
-    /// How many bytes of samples stand from there on.
+    /// How many bytes of samples there are from there on.
     left: u64,
 }
 

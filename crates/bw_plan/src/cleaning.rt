@@ -67,7 +67,7 @@ fn history_byte(c: u8) -> u8
     }
 }
 
-/// The text of a date or a time with the separators of this form, where `d` stands for a digit;
+/// The text of a date or a time with the separators of this form, where `d` is a digit;
 /// nothing where it has another form.
 ///
 /// # Errors

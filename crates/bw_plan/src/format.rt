@@ -11,10 +11,10 @@ use bw_layout::{RawFmt, read_u16};
 /// The format tag of WAVE_FORMAT_EXTENSIBLE.
 pub(crate) const EXTENSIBLE: u16 = 0xfffe;
 
-/// KSDATAFORMAT_SUBTYPE_PCM, as it stands in a file.
+/// KSDATAFORMAT_SUBTYPE_PCM, as a file has it.
 const PCM_SUBFORMAT: [u8; 16] = [1, 0, 0, 0, 0, 0, 16, 0, 128, 0, 0, 170, 0, 56, 155, 113];
 
-/// The first fault of a `fmt ` chunk whose head stands at a place; `extension` is what follows its
+/// The first fault of a `fmt ` chunk whose head is at a place; `extension` is what follows its
 /// first 16 bytes: 24 bytes, or none where it is shorter.
 pub(crate) fn format_fault(fmt: RawFmt, extension: &[u8], place: u64) -> Option<RecordingFault>
     ensures { found result ≡ first_that_holds (format_faults fmt extension.now place) }

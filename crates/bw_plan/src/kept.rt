@@ -1,4 +1,4 @@
-//! Whether texts may stay as they stand.
+//! Whether texts may stay as they are.
 ghost use Rattle.std.specs.Prelude.{◌≡◌, ◌&&◌, is_none, option_map};
 ghost use Rattle.std.specs.List.{list_all};
 ghost use Rattle.bw_model.specs.Take.{field_fault, is_history_byte as is_byte_of_history};

@@ -14,7 +14,8 @@ use bw_inspect::InspectKind;
 use bw_layout::Fmt;
 use std::alloc::{AllocError, Global};
 
-/// The format of headerless samples, which are PCM as a WAVE file has it, and their place in a file.
+/// The format of headerless samples, which are PCM as a WAVE file has it, and their place in a
+/// file.
 #[derive(Clone, Copy, Debug, PartialEq, Eq)]
 pub struct Pcm {
     /// In Hz, 1 to 768,000.
@@ -23,7 +24,7 @@ pub struct Pcm {
     pub channels: u16,
     /// Of a sample: 16, 24 or 32.
     pub bits: u16,
-    /// How many bytes of the file stand before the first sample.
+    /// How many bytes of the file come before the first sample.
     pub skip: u64,
 }
 

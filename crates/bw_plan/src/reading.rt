@@ -1,4 +1,5 @@
-//! What a report doesn't keep of a file: the prefix of an extensible format, and the coding history.
+//! What a report doesn't keep of a file: the prefix of an extensible format, and the coding
+//! history.
 ghost use Rattle.std.specs.Prelude.{◌≡◌, ◌⊎◌, ◌+◌, ◌<◌, ◌≤◌, codes, length, slice_range, Some, IsTrue, IfOk, IfErr, OnOk};
 ghost use Rattle.bw_model.specs.Reading.{Entry, entry_of};
 ghost use Rattle.bw_model.specs.Report.{content_of};
@@ -19,7 +20,7 @@ use std::alloc::Global;
 const LARGEST: u64 = 1 << 62;
 
 /// Reads what an extensible `fmt ` chunk has after its first 16 bytes, to the end of the
-/// subformat: 24 bytes, or none where the chunk is shorter. The reader stands at the file's start.
+/// subformat: 24 bytes, or none where the chunk is shorter. The reader is at the file's start.
 ///
 /// # Errors
 /// Truncated where the input ends before these bytes do; Read; Memory.
@@ -45,7 +46,7 @@ pub fn read_extension<R: Source>(
 }
 
 /// Reads a `bext` chunk's coding history: none where there is no chunk, and at most 4,097 bytes,
-/// which show whether it is too long. The reader stands at the file's start.
+/// which show whether it is too long. The reader is at the file's start.
 ///
 /// # Errors
 /// Truncated where the input ends before these bytes do, or the chunk has fewer than 602 bytes;
@@ -81,7 +82,7 @@ fn cut(chunk: ListedChunk) -> InspectFault
     }
 }
 
-/// Reads `len` bytes of a chunk's content from a place in it on. The reader stands at the file's
+/// Reads `len` bytes of a chunk's content from a place in it on. The reader is at the file's
 /// start.
 ///
 /// # Errors

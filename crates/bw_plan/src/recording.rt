@@ -27,7 +27,7 @@ use std::alloc::{AllocError, Global};
 const REQUESTS_MAX: u64 = 16_777_216;
 
 /// The recording that a report gives without its samples, with `extension` of `fmt ` and `history`
-/// of `bext`, as they stand in the file.
+/// of `bext`, as they are in the file.
 ///
 /// # Errors
 /// The first fault of the recording, at the place of its chunk; Unread(Memory) where memory was
@@ -62,7 +62,7 @@ pub fn outline_of(
     }
 }
 
-/// The format of a `fmt ` chunk whose head stands at a place.
+/// The format of a `fmt ` chunk whose head is at a place.
 ///
 /// # Errors
 /// Its first fault.
@@ -138,7 +138,7 @@ fn has_whole_frames(len: u64, format: Fmt) -> bool
     len % u64::from(format.block_align()) == 0
 }
 
-/// Where the head of the first chunk with an id stands, 0 where there is none.
+/// The place of the head of the first chunk with an id, 0 where there is none.
 fn head_place(chunks: &[ListedChunk], id: ChunkId) -> u64
     ensures { result ≡ place_of_head id chunks.now }
 {

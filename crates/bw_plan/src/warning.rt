@@ -35,7 +35,7 @@ pub enum Warning {
 }
 
 /// What a recording with this outline loses of the file with this report, this extension of its
-/// format and this coding history, as they stand there: first the texts of `bext` by tag, last the
+/// format and this coding history, as they are there: first the texts of `bext` by tag, last the
 /// chunks. A setting in place of a text or of the history doesn't change the warnings.
 ///
 /// # Errors
@@ -139,7 +139,7 @@ fn warn_of_field(out: &mut Vec<Warning>, tag: u8, bytes: &[u8]) -> Result<(), Al
     warn_if(out, !can_set(tag, text), loss_of(tag, text))
 }
 
-/// The warning of a text that may not stay as it stands.
+/// The warning of a text that may not stay as it is.
 fn loss_of(tag: u8, text: &[u8]) -> Warning
     ensures { warning_meaning result ≡ loss tag text.now }
 {

@@ -11,7 +11,7 @@ use Rattle.bw_recorder.specs.declared.opening.Extras.{Extras}
 abbrev pub HasReport : List ℕ → Report → Type 0
 HasReport b r = (left : Option (List ℕ)) × GivesReport b r left
 
--- what the report doesn't keep is as it stands there
+-- what the report doesn't keep is as it is there
 pub record HasExtras (b : List ℕ) (r : Report) (x : Extras) : Type 0 where
   pub extension : x.extension.items ≡ extension_at b (entry_of (codes "fmt ") r.chunks)
   pub history : x.history.items ≡ history_at b (entry_of (codes "bext") r.chunks)

@@ -74,7 +74,7 @@ abbrev pub is_system_well : {X : Type 0} → Result X OpenFault → Bool
 is_system_well (Ok x) = true
 is_system_well (Err fault) = is_well_at fault
 
--- The bytes have a recording. All requests of its plan are to come, the reader stands at the
+-- The bytes have a recording. All requests of its plan are to come, the reader is at the
 -- samples, which the bytes have, and the text says what the recording loses.
 pub record IsOpenedAt (b : List ℕ) (o : Options) (p : Progress) (text : List ℕ) (left : Option (List ℕ))
     : Type 0

@@ -16,7 +16,7 @@ use Rattle.bw_recorder.specs.declared.packing.PackFault.{PackFault}
 use Rattle.bw_recorder.specs.declared.packing.PackFault.TheVariants.{Unread, Altered, Unsendable}
 use Rattle.bw_recorder.specs.declared.packing.PackFault.TheVariants.{Unwritable, Memory}
 
--- the reader stands where the plan goes on, in bytes that have its samples
+-- the reader is where the plan goes on, in bytes that have its samples
 pub record Stands (b : List ℕ) (p : Progress) (left : Option (List ℕ)) : Type 0 where
   pub sound : IsSoundPlan p.stage
   pub at : left ≡ Some (drop p.samples.place b)
