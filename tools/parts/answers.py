@@ -6,6 +6,7 @@ from dataclasses import replace
 # Within few steps a goal that holds is still proved, and one that doesn't is refused before its declaration is tried
 # again with more definitions opened. That the call itself broke off at the limit is no refusal: nothing is known then.
 CALL = "search rules steps 300000"
+LEAST = 1  # processor seconds that a function's answers save, or they aren't worth their lines
 RULES = "use Rattle.std.proofs.Common.{rules}\n"
 REFUSED = re.compile(r"(?m)^(?:\./)?proofs/(\S+)/Answers\.antt:\d+:\d+: error: `([^`]+)`")
 
@@ -56,3 +57,11 @@ class Answers:
             self.goals = dict.fromkeys(self.goals, set())
         self.write()
         return fault
+
+    def keep_cheaper(self, before, after):
+        """Leaves out those of each function whose bodies took no second more before they were written, or of which one
+        is no longer refused."""
+        for path in self.goals:
+            if not before.get(path, 0) - after.get(path, 0) >= LEAST:
+                self.goals[path] = set()
+        self.write()
