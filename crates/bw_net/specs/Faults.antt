@@ -1,5 +1,5 @@
 -- Which failed calls of a server's store are reported, and how.
-use Rattle.std.specs.Prelude.{◌++◌, ◌/◌, ℕ, nat_le, Bool, true, false, List, Option, Some, None, codes}
+use Rattle.std.specs.Prelude.{◌++◌, ◌/◌, [], ◌∷◌, ℕ, nat_le, Bool, true, false, List, Option, Some, None, codes}
 use Rattle.std.specs.Duration.{as_nanos}
 use Rattle.std.specs.declared.io.ErrorKind.{ErrorKind}
 use Rattle.std.specs.declared.io.ErrorKind.TheVariants as kinds
@@ -19,7 +19,7 @@ is_line_due (Some passed) = nat_le 60 (as_nanos passed / 1_000_000_000)
 
 -- the line of a call that failed at a start
 abbrev pub start_fault_text : List ℕ → List ℕ → List ℕ
-start_fault_text path reason = path ++ codes ": " ++ reason ++ codes "\n"
+start_fault_text path reason = path ++ (codes ": " ++ (reason ++ 10 ∷ []))
 
 -- .. and while a server runs
 abbrev pub store_fault_text : List ℕ → List ℕ → List ℕ
