@@ -4,7 +4,6 @@ import os
 import random
 import subprocess
 
-from kit.hints import hinted
 from kit.network import finish, LOCAL, start, start_with_pipes, TALLY
 from kit.uploads import samples_of, serving, settled
 from kit.watcher import Watcher
@@ -66,7 +65,7 @@ def case_unread_input(folder):
         ends.callback(os.close, descriptor)
         words, pipe = words_of(server, "unread", folder / SPOOL), subprocess.PIPE
         found = finish(start(*words, observer=Watcher(), stdin=descriptor, stdout=pipe, stderr=pipe))
-    TALLY.same("input that can't be read", (found[0], found[2]), (3, hinted("send", "Read at 0")))
+    TALLY.same("input that can't be read", (found[0], found[2]), (3, "send: Read at 0\n"))
     TALLY.holds("input that can't be read", not (folder / "takes" / "unread.wav").exists(), "a take was begun")
 
 
