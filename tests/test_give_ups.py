@@ -145,7 +145,7 @@ def case_names(place):
 def case_unread(place):
     """A folder that isn't there, or is none, or a file that is a folder."""
     missing = place / "missing"
-    wanted = (3, "", f"{missing} can't be opened: No such file or directory (os error 2)\n")
+    wanted = (3, "", f"{missing} can't be opened: .bwingest-lock: No such file or directory (os error 2)\n")
     TALLY.same("no folder", gives_up(missing, "a1"), wanted)
     folder = folder_in(place)
     (folder / "a1.journal").mkdir()

@@ -83,7 +83,7 @@ def fill_up(disk):
     filler.unlink()
     same_settled("room again", send(server.port, take), count, count, 0)
     same_file("room again", disk, take)
-    ends_by_signal("room again", server)
+    ends_by_signal("room again", server, said)
 
 
 def same_sizes(name, folder, take, blocks):

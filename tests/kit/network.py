@@ -324,10 +324,10 @@ def stopped(name, server, number=signal.SIGTERM):
     TALLY.same(name, server.stop(number), (-number, [], ""))
 
 
-def ends_by_signal(name, server):
-    """Stops the server, which may have printed more lines; the signal alone ends it, and it reports no fault."""
+def ends_by_signal(name, server, said=""):
+    """Stops the server, which may have printed more lines; the signal alone ends it, and it reports these faults."""
     status, _lines, faults = server.stop()
-    TALLY.same(f"{name}: the server", (status, faults), (-signal.SIGTERM, ""))
+    TALLY.same(f"{name}: the server", (status, faults), (-signal.SIGTERM, said))
 
 
 def same_file(name, folder, take, blocks=None, limit=LARGEST_LIMIT):
