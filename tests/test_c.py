@@ -82,12 +82,12 @@ def client(words, port, name, path):
 def send_with_kills(case, words, folder, seed):
     """A client that is killed twice sends a take over a relay that cuts within frames."""
     name, chance = f"take-{seed}", random.Random(seed)
-    samples = samples_of(3_000_000, seed)
+    samples = samples_of(800_000, seed)
     path = folder / "samples"
     path.write_bytes(samples)
     store = folder / name
     store.mkdir()
-    server = Server(store)
+    server = Server(store, "--until-stopped")
     relay = Relay(server.port, seed)
     for _ in range(2):
         process = client(words, relay.port, name, path)
@@ -125,7 +125,7 @@ def case_refusals(folder):
     store = folder / "store"
     store.mkdir()
     (store / "held.wav").write_bytes(b"another file")
-    server = Server(store)
+    server = Server(store, "--until-stopped")
     TALLY.same("a taken name", client(words, server.port, "held", path).wait(LONGEST_RUN), 1)
     ends_by_signal("a taken name", server)
     TALLY.same("a taken name: the file", (store / "held.wav").read_bytes(), b"another file")
