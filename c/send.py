@@ -1,8 +1,7 @@
 #!/usr/bin/env python3
 """A recorder's client with libbwi's shared library: sends a file of samples as a take, over as many links as it takes.
 
-  cc -shared -o libbwi.so -Wl,--whole-archive libbwi.a
-  send.py LIBRARY HOST PORT NAME RATE CHANNELS BITS FILE
+  send.py ../release/c/x86-64/libbwi.so.1 HOST PORT NAME RATE CHANNELS BITS FILE
 
 It does what send.c does, and has its statuses.
 """

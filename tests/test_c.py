@@ -1,13 +1,18 @@
 #!/usr/bin/env python3
-"""Compiles the clients of c/ with the library, and sends takes with them to the built program.
+"""Compiles the clients of c/ with the C library, and sends takes with them to the built program.
 
-Over a relay that cuts connections within frames a client is killed and started again: the file has to be the one that
-`replay` makes. What no clause says of the library is compared too: its names with those of c/bwi.h, what it needs of
-others, how long it is, that structs are laid out alike, and that random calls touch no byte that they aren't given.
-The program is the first argument, or the one of this repository; the library the second, or the one that is built.
-Prints what differs, and last 'N passed, M failed'. Without a C compiler or a library nothing is tried, and it says so.
+tests/conformance tries c/send.c. Over a relay that cuts connections within frames a client is killed and started again:
+the file has to be the one that `replay` makes. What no clause says of the library is compared too: its names with those
+of c/bwi.h, what it needs of others, how long it is, that structs are laid out alike, and that random calls touch no byte
+that they aren't given.
+
+The program is the first argument, or the one of this repository; the archive of the library the second, or the one of
+release/c for this kind of processor. One for aarch64 is tried on x86-64 too, with a cross compiler and qemu-user.
+Prints what differs, and last 'N passed, M failed'. It says what isn't tried where there is no compiler or no emulator.
 """
+import os
 import pathlib
+import platform
 import random
 import re
 import shutil
@@ -25,31 +30,52 @@ CALLS = 20_000  # random ones
 LARGEST_TEXT = 16_384
 RATE, CHANNELS, BITS, ALIGN = 48_000, 2, 24, 6
 ALLOWED = {"memcpy", "memmove", "memset"}  # which a library without a heap may need of others
-BUILT = ("release/c/x86-64/libbwi.a", "crates/bw_c/out/libbw_c.a")
+HERE = platform.machine().replace("_", "-")
+MACHINES = {62: "x86-64", 183: "aarch64"}  # by the number in an ELF file
+COMPILERS = {HERE: ("cc", "gcc", "clang"), "aarch64": ("aarch64-linux-gnu-gcc",)}
+SHARED = "libbwi.so.1"
 
 
 def library():
-    """The library to try, or None."""
+    """The archive to try, or None."""
     given = [word for word in sys.argv[1:] if not word.startswith("--")][1:]
-    found = [path for path in (*map(pathlib.Path, given), *(ROOT / it for it in BUILT)) if path.exists()]
-    return found[0].resolve() if found else None
+    found = pathlib.Path(*given[:1] or [ROOT / "release/c" / HERE / "libbwi.a"])
+    return found.resolve() if found.exists() else None
+
+
+def machine():
+    """The kind of processor that the library is for."""
+    content = library().read_bytes()
+    place = content.index(b"\x7fELF") + 18
+    return MACHINES[int.from_bytes(content[place : place + 2], "little")]
 
 
 def compiler():
-    """A C compiler, or None."""
-    return next(filter(None, map(shutil.which, ("cc", "gcc", "clang"))), None)
+    """A C compiler for it, or None."""
+    names = COMPILERS[HERE] if machine() == HERE else COMPILERS[machine()]
+    return next(filter(None, map(shutil.which, names)), None)
 
 
-def output_of(*words):
-    return subprocess.run(words, stdout=subprocess.PIPE, text=True, check=True).stdout
+def runner():
+    """The words before a program of the library's kind of processor, or None if it can't run here."""
+    if machine() == HERE:
+        return []
+    if emulator := shutil.which(f"qemu-{machine()}"):
+        loader = pathlib.Path(output_of(compiler(), f"-print-file-name=ld-linux-{machine()}.so.1").strip())
+        return [emulator, "-L", str(loader.resolve().parent.parent)]
+    return None
 
 
-def compiled(folder, source, *flags):
-    """The program of a C source and the library."""
+def output_of(*words, **how):
+    return subprocess.run(words, stdout=subprocess.PIPE, text=True, check=True, **how).stdout
+
+
+def compiled(folder, source, *flags, linked=None):
+    """The words that run the program of a C source and the library."""
     path = folder / source.partition(".")[0]
     words = ["-std=c11", "-Wall", "-Wextra", "-Werror", "-O1", *flags, "-o", str(path)]
-    subprocess.run([compiler(), *words, str(ROOT / "c" / source), str(library())], check=True)
-    return path
+    subprocess.run([compiler(), *words, str(ROOT / "c" / source), *(linked or [str(library())])], check=True)
+    return [*runner(), str(path)]
 
 
 def samples_of(length, seed):
@@ -104,24 +130,64 @@ def send_with_kills(case, words, folder, seed):
 
 def case_send_c(folder):
     """c/send.c sends takes, killed and resumed, three times."""
-    words = [compiled(folder, "send.c")]
+    words = compiled(folder, "send.c")
     for seed in range(3):
         send_with_kills("send.c", words, folder, seed)
 
 
+def case_shared(folder):
+    """It does the same with the shared library beside the archive."""
+    shared = library().parent / SHARED
+    if not shared.exists():
+        return
+    (folder / SHARED).symlink_to(shared)
+    (folder / "libbwi.so").symlink_to(shared)
+    linked = [f"-L{folder}", "-lbwi", f"-Wl,-rpath,{folder}"]
+    send_with_kills("send.c, shared", compiled(folder, "send.c", linked=linked), folder, 5)
+    TALLY.same("the shared library's names", names_of(shared, "-D")[0], names_of(library())[0])
+
+
+def case_pkg_config(folder):
+    """pkg-config finds the header and the archive in release/c, wherever that is."""
+    if not shutil.which("pkg-config") or not (library().parent / "bwi.pc").exists():
+        return
+    moved = folder / "moved"
+    shutil.copytree(library().parent.parent, moved)
+    words = ["pkg-config", "--cflags", "--libs", "bwi"]
+    found = output_of(*words, env={**os.environ, "PKG_CONFIG_PATH": str(moved / library().parent.name)})
+    source = folder / "send.c"  # not beside the header
+    source.write_bytes((ROOT / "c/send.c").read_bytes())
+    subprocess.run([compiler(), str(source), "-o", str(folder / "send"), *found.split()], check=True)
+    done = subprocess.run([*runner(), str(folder / "send")], capture_output=True, check=False)
+    TALLY.same("a client that pkg-config linked", done.returncode, 2)
+
+
 def case_send_py(folder):
     """c/send.py does the same, by a shared library."""
-    shared = folder / "libbwi.so"
-    whole = ["-Wl,--whole-archive", str(library()), "-Wl,--no-whole-archive"]
-    subprocess.run([compiler(), "-shared", "-o", str(shared), *whole], check=True)
+    if machine() != HERE:
+        return
+    shared = library().parent / SHARED
+    if not shared.exists():
+        shared = folder / SHARED
+        whole = ["-Wl,--whole-archive", str(library()), "-Wl,--no-whole-archive"]
+        subprocess.run([compiler(), "-shared", "-o", str(shared), *whole], check=True)
     send_with_kills("send.py", [sys.executable, "-B", ROOT / "c/send.py", shared], folder, 7)
+
+
+def case_conformance(folder):
+    """tests/conformance finds nothing wrong with c/send.c."""
+    sender = " ".join([*compiled(folder, "send.c"), "{host} {port} {name} 48000 1 24 {raw}"])
+    words = [sys.executable, "-B", ROOT / "tests/conformance", "--sender", sender]
+    done = subprocess.run(words, capture_output=True, text=True, check=False)
+    faults = [line for line in done.stdout.splitlines() if not line.startswith("passed ")]
+    TALLY.holds("the conformance of send.c", not done.returncode, "\n".join(faults) + done.stderr)
 
 
 def case_refusals(folder):
     """A client ends with status 1 where a request is refused: another take has the name."""
     path = folder / "samples"
     path.write_bytes(samples_of(100_000, 1))
-    words = [compiled(folder, "send.c")]
+    words = compiled(folder, "send.c")
     store = folder / "store"
     store.mkdir()
     (store / "held.wav").write_bytes(b"another file")
@@ -131,43 +197,52 @@ def case_refusals(folder):
     TALLY.same("a taken name: the file", (store / "held.wav").read_bytes(), b"another file")
 
 
-def case_names(folder):
+def names_of(path, *options):
+    """The names that an archive or a shared library exports, and those that it needs of others."""
+    lines = [line.split() for line in output_of("nm", *options, str(path)).splitlines()]
+    symbols = {(words[-2], words[-1]) for words in lines if len(words) >= 2}
+    defined = {it for kind, it in symbols if kind not in "Uw"}
+    exported = {it for kind, it in symbols if kind in "TDBCRVW"}
+    return sorted(exported), sorted({it for kind, it in symbols if kind == "U"} - defined)
+
+
+def case_names(_):
     """The header and the library have the same names; the library needs nothing else, and isn't long."""
     header = set(re.findall(r"^(?:bool|size_t)\s+(bwi_\w+)\(", (ROOT / "c/bwi.h").read_text(), re.M))
-    lines = [line.split() for line in output_of("nm", str(library())).splitlines()]
-    symbols = {(words[-2], words[-1]) for words in lines if len(words) >= 2}
-    TALLY.same("the library's names", sorted(it for kind, it in symbols if kind == "T" and it.startswith("bwi_")),
-               sorted(header))
-    others = {it for kind, it in symbols if kind in "TDBC" and not it.startswith("bwi_")}
-    TALLY.same("other names that it exports", sorted(others), [])
-    defined = {it for kind, it in symbols if kind != "U"}
-    needed = {it for kind, it in symbols if kind == "U"} - defined - ALLOWED
-    TALLY.same("what it needs of others", sorted(needed), [])
-    program = compiled(folder, "send.c", "-Wl,--gc-sections")
-    TALLY.holds("the client", program.exists(), "isn't there")
+    exported, needed = names_of(library())
+    TALLY.same("the library's names", exported, sorted(header))
+    TALLY.same("what it needs of others", sorted({*needed} - ALLOWED), [])
     sizes = [line.split() for line in output_of("size", str(library())).splitlines()[1:]]
     text = sum(int(words[0]) for words in sizes)
     TALLY.holds("the library's text", 0 < text <= LARGEST_TEXT, f"has {text} bytes")
     TALLY.same("its data", sum(int(words[1]) + int(words[2]) for words in sizes), 0)
+    version = re.search(r"(?m)^Version: (.+)$", (ROOT / "c/bwi.pc").read_text())[1]
+    TALLY.same("the version that pkg-config is given", f"bwingest {version}\n", run("--version")[1])
 
 
 def case_random_calls(folder):
     """Random calls and replies do what the account beside them says, and touch nothing else."""
-    program = compiled(folder, "random_calls.c", "-g", "-fsanitize=address,undefined")
+    checked = ["-fsanitize=address,undefined"] if machine() == HERE else []  # no emulator runs it
+    words = compiled(folder, "random_calls.c", "-g", *checked)
     for seed in range(2):
-        done = subprocess.run([program, str(CALLS), str(seed)], capture_output=True, text=True, check=False)
+        done = subprocess.run([*words, str(CALLS), str(seed)], capture_output=True, text=True, check=False)
         found = re.fullmatch(rf"{CALLS} calls, (\d+) heads, (\d+) replies, (\d+) counted\n", done.stdout)
         TALLY.same(f"random calls {seed}", (done.returncode, done.stderr), (0, ""))
         TALLY.holds(f"random calls {seed}", found and all(int(it) > 100 for it in found.groups()), done.stdout)
 
 
 def main():
-    for missing, what in ((compiler(), "no C compiler"), (library(), "no library, neither built nor given")):
-        if not missing:
-            print(f"{what}: nothing is tried\n0 passed, 0 failed")
-            return 0
+    if not library():
+        print("no library, neither in release/c nor given: nothing is tried\n0 passed, 0 failed")
+        return 0
+    cases = [case_names] if shutil.which("nm") else []
+    if compiler() and runner() is not None:
+        cases += [case_random_calls, case_refusals, case_conformance, case_pkg_config]
+        cases += [case_send_c, case_shared, case_send_py]
+    else:
+        print(f"no C compiler for {machine()}, or no emulator: only names are compared", flush=True)
     try:
-        return run_cases([case_names, case_random_calls, case_refusals, case_send_c, case_send_py], LONGEST_RUN)
+        return run_cases(cases, LONGEST_RUN)
     finally:
         end_all()
 

@@ -148,7 +148,8 @@ def case_cut_journals(place):
     folder = left_by(folder_in(place), [(take, 6)])
     saved = {path.name: path.read_bytes() for path in folder.iterdir()}
     changed = turned(saved["a1.wav"], 8 * (DATA_PLACE + 66))  # the third block, of number 5
-    ends = [len(saved["a1.journal"]) - 50, len(saved["a1.journal"]) - 1, len(saved["a1.journal"])]
+    journal = saved["a1.journal"]
+    ends = [journal.rindex(2, 0, -1) + 1, len(journal) - 1, len(journal)]
     for length, line in zip(ends, (line_of(take, 5), line_of(take, 5), "a1 ChangedBlock number 5")):
         restored(folder, {**saved, "a1.journal": saved["a1.journal"][:length], "a1.wav": changed})
         shows(f"a journal of {length} bytes", folder, [line], int("Changed" in line))
@@ -179,7 +180,7 @@ def case_while_sending(place):
 
 # Limits
 
-MANY = 1_100_000  # frames, one a block: more than 2^20 and than a million numbers, in a journal of 55 MB
+MANY = 1_100_000  # frames, one a block: more than 2^20 and than a million numbers, in a journal of 58 MB
 
 
 def sends_many(name, server, path):

@@ -145,10 +145,10 @@ def case_reads(folder):
 
 
 def case_writes(folder):
-    """A write fails after this many writes of at most five bytes; a verdict has 13 bytes."""
-    for calls, count in enumerate((0, 5, 10, 13, 18, 23, 26, 31, 36)):
+    """A write fails after this many writes of at most five bytes; the verdicts on a piece are written together."""
+    for calls in range(len(VERDICTS) // 5 + 1):
         breaks = Breaks("send", 5, calls)
-        same_broken(f"{calls} writes", folder / str(calls), breaks, "WriteFault", VERDICTS[:count])
+        same_broken(f"{calls} writes", folder / str(calls), breaks, "WriteFault", VERDICTS[: 5 * calls])
 
 
 def case_broken_send(folder):

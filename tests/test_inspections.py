@@ -150,6 +150,16 @@ def case_one(folder):
     TALLY.same("one file", run("inspect", path), (1, "", hinted("inspect", "NotWave at 0")))
 
 
+def case_other_formats(folder):
+    """A file of another format is refused as ever, and the hint names the format."""
+    for of, file, hint in cases_of_inspections.OTHER_FORMATS:
+        path = written(folder, file, "a.wav")
+        for command in ("inspect", "pack", "picture"):
+            TALLY.same(f"{command}, {of}", run(command, path), (1, "", hinted(command, "NotWave at 0", hint)))
+        TALLY.same(f"inspect -, {of}", run("inspect", "-", given=file), (1, "", hinted("inspect", "NotWave at 0", hint)))
+        TALLY.same(f"several, {of}", run("inspect", path, path)[1], f"file {path}\nfault NotWave at 0\n" * 2)
+
+
 def case_digest(folder):
     """With --digest the SHA-256 of the samples alone is there, as hashlib computes it."""
     for at, (of, file) in enumerate(READABLE):
@@ -324,6 +334,7 @@ CASES = [
     case_faults,
     case_several,
     case_one,
+    case_other_formats,
     case_digest,
     case_digest_compares,
     case_digest_of_a_pipe,

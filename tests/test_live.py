@@ -20,7 +20,7 @@ import threading
 import time
 
 sys.dont_write_bytecode = True  # nothing is left beside this script
-from kit.hints import hinted
+from kit.hints import hinted, SHORT
 from kit.network import finish, free_port, LOCAL, LONGEST_WAIT, prepare_child, reason, run, run_cases, Server
 from kit.network import start, start_with_pipes, STARTED, TALLY
 from kit.recordings import data, fmt, Recording, riff
@@ -179,7 +179,8 @@ def case_refusals(folder):
         for length, pcm, options, said in REFUSED:
             path = written(folder, bytes(length))
             found = upload(port, "x", path, pcm, *options)
-            TALLY.same(f"{length} bytes as {pcm}", found, (1, "", hinted("send", said)))
+            hint = SHORT if said.startswith("Truncated") else ""
+            TALLY.same(f"{length} bytes as {pcm}", found, (1, "", hinted("send", said, hint)))
         for pcm, said in (("48000,1,20", "Bits at 0"), ("0,1,16", "Rate at 0"), ("48000,99,16", "Channels at 0")):
             found = upload(port, "x", path, pcm, "--follow", "--until", str(folder / "end"))
             TALLY.same(f"{pcm}, followed", found, (1, "", hinted("send", said)))

@@ -107,7 +107,7 @@ def case_refusals(folder):
     for case in REFUSED:
         if not case.options:
             found = run("picture", written(folder, case.file))
-            TALLY.same(f"picture, {case.of}", found, (1, "", hinted("picture", case.said)))
+            TALLY.same(f"picture, {case.of}", found, (1, "", hinted("picture", case.said, case.hint)))
     for of, file, said in (*FAULTS[::7], *FAULTS[-16:]):
         TALLY.same(f"picture, {of}", run("picture", written(folder, file)), (1, "", hinted("picture", said)))
 

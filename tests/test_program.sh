@@ -399,11 +399,13 @@ if [ -c /dev/full ]; then
     ends_with 'faults on a full device' 1 ''
 fi
 
-# Out of memory: the longest input fits, but not its bytes beside it.
-head -c 16777216 /dev/zero | tr '\0' '0' >input
-(ulimit -v 16384 && exec "$program" replay <input >out 2>faults)
-status=$?
-ends_with 'an input without room' 4 'out of memory'
+# Out of memory: the longest input fits, but not its bytes beside it. An emulator doesn't fit into such room itself.
+if [ "$(basename -- "$program")" != on_aarch64 ]; then
+    head -c 16777216 /dev/zero | tr '\0' '0' >input
+    (ulimit -v 16384 && exec "$program" replay <input >out 2>faults)
+    status=$?
+    ends_with 'an input without room' 4 'out of memory'
+fi
 
 echo "$passed passed, $failed failed"
 [ "$failed" = 0 ]

@@ -16,7 +16,7 @@ import threading
 import time
 
 sys.dont_write_bytecode = True  # nothing is left beside this script
-from kit.hints import CLOSED, hinted, OUTAGES, REFUSED
+from kit.hints import CLOSED, floats, hinted, OUTAGES, REFUSED
 from kit.network import Fault, free_port, LOCAL, LONGEST_WAIT, run, run_cases, start, TALLY
 from kit.recordings import data, fmt, Recording, riff
 from kit.terminals import Glass, open_terminal, pieces_of
@@ -241,7 +241,7 @@ def case_refused(folder):
     bad = written(folder, file[:20] + b"\3\0" + file[22:], "bad.wav")
     port = free_port()
     sender = Sender(*words_of(port, "bad", bad))
-    TALLY.same("no PCM", (*sender.end(), sender.lines), (1, hinted("send", "NotPcm at 12").splitlines(), []))
+    TALLY.same("no PCM", (*sender.end(), sender.lines), (1, hinted("send", "NotPcm at 12", floats(16)).splitlines(), []))
     path = written(folder, file)
     sender = Sender(*words_of(port, "unheard", path, "--fruitless", "3"))
     TALLY.same("no server", sender.end(), (3, [*settled(0).splitlines(), FRUITLESS]))

@@ -12,7 +12,7 @@ import sys
 
 sys.dont_write_bytecode = True  # nothing is left beside this script
 from cases.recordings import FIELDS, HISTORY, REFUSED, SECOND, SENT, TONE_FILE
-from kit.hints import BAD_SETTING, hinted
+from kit.hints import bad_setting, hinted
 from kit.network import finish, LOCAL, reason, run, run_cases, Server, start, TALLY
 from kit.recordings import cue, data, fmt, Recording, riff
 from kit.repository import ROOT
@@ -68,7 +68,7 @@ def case_refusals(folder):
     """Each file that isn't taken is refused before anything is printed."""
     for case in REFUSED:
         path = written(folder, case.file)
-        TALLY.same(f"pack, {case.of}", run("pack", str(path), *case.options), (1, "", hinted("pack", case.said)))
+        TALLY.same(f"pack, {case.of}", run("pack", str(path), *case.options), (1, "", hinted("pack", case.said, case.hint)))
 
 
 def case_settings(folder):
@@ -77,7 +77,10 @@ def case_settings(folder):
     for text in BAD_SETTINGS:
         for file in (path, folder / "none.wav"):
             words = ("pack", str(file), "--set", "umid=", f"--set={text}")
-            TALLY.same(f"pack --set={text[:30]!r}", run(*words), (2, "", BAD_SETTING))
+            TALLY.same(f"pack --set={text[:30]!r}", run(*words), (2, "", bad_setting(text.split("=")[0])))
+    for text, key in (("x" * 40 + "=1", "x" * 32), ("a\nb=1", "a?b"), ("é=1", "??"), ("x" * 31 + "é", "x" * 31 + "?")):
+        found = run("pack", str(path), f"--set={text}", "--set=none")
+        TALLY.same(f"pack --set={text!r}", found, (2, "", bad_setting(key)))
 
 
 def case_no_file(folder):

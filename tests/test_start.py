@@ -9,6 +9,7 @@ import contextlib
 import hashlib
 import os
 import pathlib
+import platform
 import shutil
 import subprocess
 import sys
@@ -20,7 +21,7 @@ from kit.processes import seconds_of_children
 from kit.repository import ROOT
 from kit.tally import Tally
 
-TOOLS = "sh awk cat cmp cp cut dirname env find mkdir mv printf readlink rm sed sha256sum sort xargs".split()
+TOOLS = "sh awk cat cmp cp cut dirname env find mkdir mv printf readlink rm sed sha256sum sort uname xargs".split()
 LONGEST_START = 1.0  # processor seconds, since others may use the machine too
 LONGEST_NEXT_START = 0.2  # where no file has changed, so that nothing is digested
 SETTLED = 2.5  # seconds after a change from which a start is noted
@@ -133,6 +134,15 @@ def try_another_machine(copy, path):
         builds("a program for another processor", copy / "bwingest", path, "can't run on this machine")
 
 
+def try_aarch64(copy, work):
+    """On a machine that says it is an aarch64 the program for that is tried, which no kernel of another kind runs."""
+    folder = tools_in(work / "aarch64", "python3")
+    (folder / "uname").unlink()
+    (folder / "uname").write_text("#!/bin/sh\necho aarch64\n")
+    (folder / "uname").chmod(0o755)
+    builds("another machine", copy / "bwingest", folder, "release/bwingest-aarch64 can't run on this machine")
+
+
 def has_level_3():
     """Whether the processor lists the features of x86-64-v3."""
     wanted = {"avx", "avx2", "bmi1", "bmi2", "f16c", "fma", "abm", "movbe"}
@@ -174,6 +184,8 @@ def main():
         try_changes(copy, with_python)
         try_another_machine(copy, with_python)
         try_second(copy, path)
+        if platform.machine() != "aarch64":
+            try_aarch64(copy, work)
         builds("BWINGEST_BUILD=1", copy / "bwingest", with_python, "proving and building", BWINGEST_BUILD="1")
     return TALLY.end()
 

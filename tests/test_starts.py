@@ -21,13 +21,13 @@ from kit.network import CANT_GO_ON, connect, finish, free_port, hear_all, LOCAL,
 from kit.network import run_cases, Server, start, stopped, TALLY
 from kit.refuser import Refused
 from kit.takes import ASK, BYE_FRAME, CONFLICT, DELAYED_STORE, message, NEXT, notice, STORED, Take, verdict
-from kit.watcher import Fault, Watcher
+from kit.watcher import ClosingWatcher, Fault, Watcher
 
 LONGEST_RUN = 240  # seconds, for all of it
 LIMIT = 65_536  # bytes
 JOURNAL = ("--until-stopped", "--journal", "--limit", str(LIMIT))
 MANY = (*JOURNAL, "--recorders", "4")
-HEADER_LEN = 29  # of a journal, in bytes
+HEADER_LEN = 47  # of a journal, in bytes
 UNREADABLE = b"the server can't start: its folder can't be read or written\n"
 BROKEN = f"{reason(errno.EIO)}\n".encode()
 CHANCE = random.Random(1)
@@ -283,10 +283,7 @@ def restored(folder, saved):
 
 def ends_of(journal):
     """Where the header and each entry of a journal end."""
-    ends = [HEADER_LEN]
-    while ends[-1] < len(journal):
-        ends.append(ends[-1] + 4 + int.from_bytes(journal[ends[-1] : ends[-1] + 2], "little") + 8)
-    return ends
+    return [place + 1 for place, byte in enumerate(journal) if byte == 2]
 
 
 def case_cuts(place):
@@ -317,13 +314,16 @@ def case_cuts(place):
 
 
 def case_turned_bits(place):
-    """With one bit turned a journal is refused by name, whatever the bit."""
+    """With one bit turned a journal is refused by name, whatever the bit, unless it ends there: at a zero, or without
+    its last byte."""
     folder = left_by(place, small_take(), count=6)
     saved = {path.name: path.read_bytes() for path in folder.iterdir()}
     journal = saved["a1.journal"]
     for bit in CHANCE.sample(range(8 * len(journal)), 60):
         turned = bytearray(journal)
         turned[bit // 8] ^= 1 << bit % 8
+        if 0 in turned or turned[-1] != journal[-1]:
+            continue
         restored(folder, {**saved, "a1.journal": bytes(turned)})
         before = state(folder)
         words = ("serve", "--listen", f"{LOCAL}:{free_port()}", "--folder", str(folder), *JOURNAL)
@@ -418,10 +418,15 @@ def case_refused_at_a_start(place):
 
 
 def fails(name, folder, fault, path, *options):
-    """A start in which this call fails reports it, and names this path."""
+    """A start in which this call fails reports it, names this path, and lets the lock go after it."""
+    watcher, failing = ClosingWatcher(fault), fault.line
     words = ("serve", "--listen", f"{LOCAL}:{free_port()}", "--folder", str(folder), *JOURNAL, *options)
-    ended = finish(start(*words, observer=Watcher(fault), stdout=subprocess.PIPE, stderr=subprocess.PIPE))
+    ended = finish(start(*words, observer=watcher, stdout=subprocess.PIPE, stderr=subprocess.PIPE))
     TALLY.same(name, ended, (3, "", UNREADABLE.decode() + f"{path}: {reason(fault.number)}\n"))
+    kinds = ("lock ", "close .bwingest-lock")
+    order = [next(kind for kind in (*kinds, failing) if line.startswith(kind)) for line in watcher.lines
+             if line.startswith((*kinds, failing))]
+    TALLY.same(f"{name}: under the lock", (order[0], {*order[1:-1]}, order[-1]), (kinds[0], {failing}, kinds[1]))
 
 
 def case_unsynced_at_a_start(place):

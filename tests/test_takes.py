@@ -16,7 +16,7 @@ from kit.network import connect, hear_all, run, run_cases, send_words, Server, s
 from kit.takes import BYE_FRAME, message, Take, verdict
 
 LONGEST_RUN = 180  # seconds, for all of it
-HEADER_LEN = 29  # of a journal, in bytes
+HEADER_LEN = 47  # of a journal, in bytes
 NAME_TAKEN, NOT_OPEN = 1, 3  # verdicts
 CHANCE = random.Random(1)
 USAGE = "\nUsage: bwingest <COMMAND>\n\nFor more information, try '--help'.\n"
@@ -39,10 +39,7 @@ def shows(name, folder, lines, status=0):
 
 def ends_of(journal):
     """Where the header and each entry of a journal end."""
-    ends = [HEADER_LEN]
-    while ends[-1] < len(journal):
-        ends.append(ends[-1] + 4 + int.from_bytes(journal[ends[-1] : ends[-1] + 2], "little") + 8)
-    return ends
+    return [place + 1 for place, byte in enumerate(journal) if byte == 2]
 
 
 # What servers leave
@@ -163,8 +160,33 @@ def case_cuts(place):
             shows(f"a journal of {length} bytes", folder, [line_of(take, done)])
 
 
+def case_zeros(place):
+    """A journal ends at its first zero byte, whatever follows it; one that ends within its header is as one cut there."""
+    take = small_take()
+    folder = left_by(folder_in(place), [(take, 6)])
+    saved = {path.name: path.read_bytes() for path in folder.iterdir()}
+    journal = saved["a1.journal"]
+    ends = ends_of(journal)
+    for at in range(len(journal)):
+        for torn in (journal[:at] + bytes(len(journal) - at), journal[:at] + bytes(1) + journal[at + 1 :]):
+            if at < HEADER_LEN:
+                restored(folder, {"a1.journal": torn})
+                shows(f"a header with a zero at {at}", folder, ["a1 unopened next 0"])
+            else:
+                restored(folder, {**saved, "a1.journal": torn})
+                shows(f"a zero at {at}", folder, [line_of(take, sum(end <= at for end in ends) - 1)])
+
+
+def case_old_format(place):
+    """A journal of the format before is no journal."""
+    folder = folder_in(place)
+    (folder / "a1.journal").write_bytes(bytes((17, 0, 238, 255)) + b"BWJ1" + bytes(21))
+    shows("an old journal", folder, ["a1 NotAJournal"], 1)
+
+
 def case_turned_bits(place):
-    """With one bit turned a journal has a named fault, whatever the bit, and so has its take alone."""
+    """With one bit turned a journal has a named fault, whatever the bit, unless it ends there: at a zero, or without its
+    last byte; and so has its take alone."""
     folder = left_by(folder_in(place), [(small_take(), 6), (small_take("b2"), 4)])
     saved = {path.name: path.read_bytes() for path in folder.iterdir()}
     journal = saved["a1.journal"]
@@ -172,6 +194,8 @@ def case_turned_bits(place):
     for bit in CHANCE.sample(range(8 * len(journal)), 200):
         turned = bytearray(journal)
         turned[bit // 8] ^= 1 << bit % 8
+        if 0 in turned or turned[-1] != journal[-1]:
+            continue
         restored(folder, {**saved, "a1.journal": bytes(turned)})
         status, out, faults = listed(folder)
         first, _, rest = out.partition("\n")

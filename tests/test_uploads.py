@@ -19,7 +19,7 @@ import time
 
 sys.dont_write_bytecode = True  # nothing is left beside this script
 from cases.recordings import CUT, FIELDS, HISTORY, PLAIN, REFUSED, SECOND, SENT, TONE, TONE_FILE
-from kit.hints import BAD_SETTING, hinted, OTHER_NAME
+from kit.hints import bad_setting, hinted, OTHER_NAME
 from kit.network import connect, finish, free_port, hear, hear_batch, LOCAL, LONGEST_WAIT, pass_both_ways
 from kit.network import reason, run, run_cases, Server, start, start_with_pipes, TALLY
 from kit.recordings import cue, data, DESCRIPTION, fmt, Recording, riff
@@ -94,7 +94,7 @@ def case_refusals(folder):
     with unseen("refusals") as port:
         for case in REFUSED:
             found = upload(port, "x", written(folder, case.file), *case.options)
-            TALLY.same(f"send --file, {case.of}", found, (1, "", hinted("send", case.said)))
+            TALLY.same(f"send --file, {case.of}", found, (1, "", hinted("send", case.said, case.hint)))
         path = folder / "none.wav"
         TALLY.same("no file", upload(port, "x", path), (3, "", f"{path} can't be opened: {reason(2)}\n"))
         pipe = folder / "pipe.wav"
@@ -106,7 +106,7 @@ def case_refusals(folder):
         TALLY.same("a pipe as input", run(*words, given=TONE_FILE), (3, "", "/dev/stdin is a pipe: use --spool\n"))
         for file in (path, written(folder, TONE_FILE)):
             for text in ("description", "other=x", "date=2024_05_17"):
-                TALLY.same(f"--set={text}", upload(port, "x", file, f"--set={text}"), (2, "", BAD_SETTING))
+                TALLY.same(f"--set={text}", upload(port, "x", file, f"--set={text}"), (2, "", bad_setting(text.split("=")[0])))
 
 
 def case_garbage(folder):

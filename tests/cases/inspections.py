@@ -4,7 +4,7 @@ The files with faults are worked ones in which some bytes are changed.
 """
 from typing import NamedTuple
 
-from kit.hints import hinted
+from kit.hints import CONVERT, converted, hinted
 from kit.takes import little
 from kit.worked import SMALL
 
@@ -144,6 +144,22 @@ FAULTS = [
     ("data twice", changed(MARKED, (48, b"data")), "Twice at 682"),
     ("4,096 chunks, and no `fmt `", empty_chunks(4_096), "NoFmt at 32780"),
     ("4,097 chunks", empty_chunks(4_097), "TooMany at 32780"),
+]
+
+# Files of other formats by their first bytes, and the hint: a FLAC file (RFC 9639, D.1), AIFF and AIFF-C, Wave64 (its GUID
+# `riff`), and what only begins as they do.
+WAVE64 = bytes.fromhex("726966662e91cf11a5d628db04c10000")
+OTHER_FORMATS = [
+    ("FLAC", bytes.fromhex("664c614380000022100010000000"), converted("a FLAC")),
+    ("12 bytes of FLAC", b"fLaC" + bytes(8), converted("a FLAC")),
+    ("11 bytes of FLAC", b"fLaC" + bytes(7), CONVERT),
+    ("AIFF", b"FORM\0\0\0\x2eAIFFCOMM", converted("an AIFF")),
+    ("AIFF-C", b"FORM\0\0\0\x2eAIFCFVER", converted("an AIFF")),
+    ("another FORM", b"FORM\0\0\0\x2e8SVXVHDR", CONVERT),
+    ("AIFF in RIFF's order", b"FIRM\0\0\0\x2eAIFFCOMM", CONVERT),
+    ("Wave64", WAVE64 + (1_000).to_bytes(8, "little"), converted("a Wave64")),
+    ("another GUID", WAVE64[:11] + bytes(13), CONVERT),
+    ("OggS", b"OggS" + bytes(24), CONVERT),
 ]
 
 # What is given in pieces: reports, and a file that is cut off.

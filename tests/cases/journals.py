@@ -21,12 +21,15 @@ def digest(content):
 
 
 def sealed(content):
-    return little(len(content), 2) + little(65_535 - len(content), 2) + content + digest(content)[:8]
+    """The line of a content and its check, with the byte that ends it."""
+    plain = content + digest(content)[:8]
+    return b"".join(bytes([1, byte + 3]) if byte < 3 else bytes([byte]) for byte in plain) + bytes([2])
 
 
 def header(name):
     """The header of the journal of a name that is new."""
-    return sealed(b"BWJ1" + little(LARGEST_LIMIT, 4) + bytes(1) + digest(name.encode())[:8])
+    content = little(LARGEST_LIMIT, 4) + bytes(1) + digest(name.encode())[:8]
+    return b"BWJ2" + (content + digest(content)[:8]).hex().encode() + bytes([2])
 
 
 def entry(name, number, request, code=STORED):
@@ -146,13 +149,13 @@ def case_noted_and_synced(folder):
 
 def case_noted_again(folder):
     """A header or an entry that can't be written is written again at its place, and the file of its request isn't."""
-    it = Journaled(folder, faults=[Fault("write a1.journal"), Fault("write a1.journal 26")])
+    content = entry("a1", 1, bytes.fromhex(BLOCK[0]))
+    it = Journaled(folder, faults=[Fault("write a1.journal"), Fault(f"write a1.journal {content.hex()}")])
     peer = it.comes(accepted_in_turn(7))
     first = [*looked_up("a1"), *begun("a1")]
     why = store_fails(it.folder / "a1.journal")
     it.is_delayed(peer, "a1", OPEN, [*first[:-1], f"{first[-1]} fails {errno.EIO}", *said_to_a_file(why)])
     it.asks(peer, "a1", OPEN, before=begun("a1"))
-    content = entry("a1", 1, bytes.fromhex(BLOCK[0]))
     seek, write = it.note_calls("a1", content)
     it.is_delayed(peer, "a1", BLOCK, [*BLOCK[1]("a1"), seek, f"{write} fails {errno.EIO}"])
     it.asks(peer, "a1", (BLOCK[0], lambda name: []))

@@ -7,6 +7,7 @@ import random
 from typing import NamedTuple
 
 from kit import recordings as rec
+from kit.hints import CUES_LEFT, floats, LONG_HISTORY, NOT_PCM, unclean_byte, unclean_form
 from kit.recordings import bext, cue, data, extensible, fmt, long_data, long_form, place_of, Recording, riff
 from kit.takes import chunk
 
@@ -22,12 +23,13 @@ class Sent(NamedTuple):
 
 
 class Refused(NamedTuple):
-    """A file that isn't taken, the options beside it, and what is said: `KIND at OFFSET`."""
+    """A file that isn't taken, what is said: `KIND at OFFSET`, the options beside it, and the hint if it is special."""
 
     of: str
     file: bytes
     said: str
     options: tuple = ()
+    hint: str = ""
 
 
 def noise(length, seed=1):
@@ -167,11 +169,29 @@ UTF8 = riff(fmt(PLAIN), bext(("é".encode(),)), data(PLAIN.samples))
 CUES = riff(fmt(PLAIN), data(PLAIN.samples), cue([(1, 0, 0), (1, 0, 1)]))
 CUT = riff(fmt(PLAIN), data(PLAIN.samples))[:-100]
 
+
+def with_bext(texts=(), history=b""):
+    """A file with these texts, and this coding history."""
+    return riff(fmt(PLAIN), bext(texts, history=history), data(PLAIN.samples))
+
+
+def strict(of, file, chunk_id, hint):
+    """A file that isn't taken with --strict, at the chunk with this id."""
+    return Refused(f"{of}, strict", file, f"Unclean at {place_of(file, chunk_id)}", ("--strict",), hint)
+
+
+
 REFUSED = [
-    Refused("floating point", FLOATS, "NotPcm at 12"),
-    Refused("A-law", riff(fmt(Recording(bits=8), tag=rec.ALAW), data(bytes(8))), "NotPcm at 12"),
-    Refused("extensible floating point", riff(extensible(Recording(bits=32), subformat=rec.FLOAT_SUBFORMAT), data(bytes(8))), "NotPcm at 12"),
-    Refused("an extensible format of 16 bytes", riff(fmt(PLAIN, tag=rec.EXTENSIBLE), data(bytes(8))), "NotPcm at 12"),
+    Refused("floating point", FLOATS, "NotPcm at 12", hint=floats(32)),
+    Refused("64-bit floating point", riff(fmt(Recording(bits=64), tag=rec.FLOAT), data(bytes(8))), "NotPcm at 12", hint=floats(64)),
+    Refused("A-law", riff(fmt(Recording(bits=8), tag=rec.ALAW), data(bytes(8))), "NotPcm at 12", hint=NOT_PCM),
+    Refused(
+        "extensible floating point",
+        riff(extensible(Recording(bits=32), subformat=rec.FLOAT_SUBFORMAT), data(bytes(8))),
+        "NotPcm at 12",
+        hint=floats(32),
+    ),
+    Refused("an extensible format of 16 bytes", riff(fmt(PLAIN, tag=rec.EXTENSIBLE), data(bytes(8))), "NotPcm at 12", hint=NOT_PCM),
     Refused("8 bits", riff(fmt(Recording(bits=8)), data(bytes(8))), "Bits at 12"),
     Refused("20 bits", riff(fmt(PLAIN, bits=20, align=3), data(bytes(9))), "Bits at 12"),
     Refused("20 valid bits", riff(extensible(Recording(bits=24), valid=20), data(bytes(9))), "ValidBits at 12"),
@@ -181,8 +201,15 @@ REFUSED = [
     Refused("no channel", riff(fmt(Recording(channels=0)), data(bytes(8))), "Channels at 12"),
     Refused("65 channels", riff(fmt(Recording(channels=65)), data(bytes(130))), "Channels at 12"),
     Refused("a part of a frame", PART, f"PartFrame at {place_of(PART, b'data')}"),
-    Refused("UTF-8, strict", UTF8, f"Unclean at {place_of(UTF8, b'bext')}", ("--strict",)),
-    Refused("a repeated identifier, strict", CUES, f"Unclean at {place_of(CUES, b'cue ')}", ("--strict",)),
+    strict("UTF-8", UTF8, b"bext", unclean_byte("description", 0, 0xC3)),
+    strict("a tab in the third byte", with_bext((b"", b"12\t")), b"bext", unclean_byte("originator", 2, 9)),
+    strict("the last byte of a field", with_bext((b"", b"", b"x" * 31 + b"\x7f")), b"bext", unclean_byte("reference", 31, 0x7F)),
+    strict("two fields", with_bext((b"\x01", b"\x02")), b"bext", unclean_byte("description", 0, 1)),
+    strict("a date with other separators", with_bext((b"", b"", b"", b"2024_05_17")), b"bext", unclean_form("date")),
+    strict("a short time", with_bext((b"", b"", b"", b"", b"05:31")), b"bext", unclean_form("clock")),
+    strict("a byte of the history", with_bext(history=b"A=PCM\r\n\xff"), b"bext", unclean_byte("history", 7, 0xFF)),
+    strict("a long history", with_bext(history=b"x" * 4_097), b"bext", LONG_HISTORY),
+    strict("a repeated identifier", CUES, b"cue ", CUES_LEFT),
     Refused("no file at all", b"", "NotWave at 0"),
     Refused("a text", b"a text\n", "NotWave at 0"),
     Refused("a cut file", CUT, f"Truncated at {place_of(CUT, b'data')}"),

@@ -4,10 +4,12 @@ import re
 CONVERT = "hint: no WAVE file: convert FLAC, AIFF, W64 and others: ffmpeg -i OLD -c:a pcm_s24le NEW.wav\n"
 NO_BYTES = "hint: nothing of it can be read: it may be a directory\n"
 MEND = "hint: its sizes are wrong, as where a recorder was cut off: see bwingest repair FILE\n"
-NOT_PCM = "hint: float and compressed samples aren't taken: ffmpeg -i OLD -c:a pcm_s24le NEW.wav\n"
-UNCLEAN = "hint: without --strict it is cleaned, and bwingest pack FILE names each field that would be\n"
+NOT_PCM = "hint: samples that are no PCM aren't taken: ffmpeg -i OLD -c:a pcm_s24le NEW.wav\n"
+SHORT = "hint: --skip passes over more bytes than the file has\n"
+LONG_HISTORY = "hint: history has more than 4096 bytes: without --strict it is cut\n"
+CUES_LEFT = "hint: not all cue points are kept: without --strict the others are left out\n"
 KEYS = (
-    "hint: KEY is description, originator, reference, date, clock, time, umid, history, value, range, peak, momentary"
+    "': KEY is description, originator, reference, date, clock, time, umid, history, value, range, peak, momentary"
     " or short\n"
 )
 OTHER_NAME = (
@@ -20,10 +22,7 @@ HINTS = (
     (r"NotWave at 0", CONVERT),
     (r"NotWave at 4|NoSize at \d+|Truncated at \d+", MEND),
     (r"Read at 0", NO_BYTES),
-    (r"NotPcm at \d+", NOT_PCM),
-    (r"Unclean at \d+", UNCLEAN),
 )
-BAD_SETTING = "a value of '--set' isn't KEY=VALUE, or isn't allowed\n" + KEYS
 
 REFUSED = "send: connection refused\n"
 TIMED_OUT = "send: timed out: the server doesn't answer\n"
@@ -45,8 +44,32 @@ OUTAGES = (
 )
 
 
-def hinted(command, fault):
-    """The line of a fault, and the hint below it, if it has one. To `repair` sizes are no news."""
+def converted(what):
+    """The hint for a file of another format."""
+    return f"hint: {what} file: convert it: ffmpeg -i OLD -c:a pcm_s24le NEW.wav\n"
+
+
+def floats(bits):
+    return f"hint: {bits}-bit float samples aren't taken: ffmpeg -i OLD -c:a pcm_s24le NEW.wav\n"
+
+
+def unclean_byte(key, offset, byte):
+    return f"hint: {key} has byte {byte} at {offset}: without --strict it is cleaned\n"
+
+
+def unclean_form(key):
+    return f"hint: {key} has another form: without --strict it is cleaned or left out\n"
+
+
+def bad_setting(key):
+    """What is said of a text that is no setting, whose key is shown so."""
+    return f"a value of '--set' isn't KEY=VALUE, or isn't allowed\nhint: in '{key}{KEYS}"
+
+
+def hinted(command, fault, given=""):
+    """The line of a fault, and below it the given hint, or that of the fault. To `repair` sizes are no news."""
+    if given:
+        return f"{command}: {fault}\n{given}"
     for pattern, hint in HINTS:
         if re.fullmatch(pattern, fault) and not (command == "repair" and hint == MEND):
             return f"{command}: {fault}\n{hint}"

@@ -3,7 +3,6 @@
 The program is the first argument of the script, or the one of this repository.
 """
 import contextlib
-import ctypes
 import fcntl
 import math
 import os
@@ -19,7 +18,7 @@ import threading
 import time
 
 from kit.hints import without_outages
-from kit.processes import end_after
+from kit.processes import end_after, prepare_child
 from kit.repository import program
 from kit.takes import ASK, BYE_FRAME, LARGEST_LIMIT, message, Take
 from kit.tally import Tally
@@ -27,7 +26,6 @@ from kit.tracer import Traced
 
 LOCAL = "127.0.0.1"
 LONGEST_WAIT = 30  # seconds, for any single event
-SYSTEM = ctypes.CDLL(None)
 STARTED = []
 
 WINDOW = 16
@@ -44,12 +42,6 @@ TALLY = Tally()
 
 
 # Processes
-
-
-def prepare_child():
-    """A child is killed when this script ends, however it ends; SIGINT ends it even if the script ignores SIGINT."""
-    SYSTEM.prctl(1, signal.SIGKILL)
-    signal.signal(signal.SIGINT, signal.SIG_DFL)
 
 
 def start(*words, observer=None, **streams):

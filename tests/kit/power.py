@@ -2,8 +2,8 @@
 
 A file is found with bytes that each place has had since the file was last synced, as if sectors were written one by
 one, and with a length that it has had since then. A name may be missing if the folder wasn't synced since it was made.
-So a file system writes data before lengths (`data=ordered` of ext4); where a length may come first, and its bytes read
-as zeros, more is possible, which is left out here.
+So a file system writes data before lengths (`data=ordered` of ext4). Of a journal the length may come first: zeros are
+found then from some place on that wasn't synced. Of other files that is left out here.
 """
 
 SECTOR = 512  # bytes
@@ -12,9 +12,10 @@ SECTOR = 512  # bytes
 class File:
     """The contents of a file since its last sync, the latest last, and whether its name is certainly there."""
 
-    def __init__(self):
+    def __init__(self, has_zeros):
         self.had = [b""]
         self.listed = False
+        self.has_zeros = has_zeros
 
     def write(self, place, written):
         now = self.had[-1].ljust(place, b"\0")
@@ -31,6 +32,10 @@ class File:
             stood = [content for content in self.had if len(content) > place]
             sector = chance.choice(stood)[place : place + SECTOR]
             found += sector + longest[place + len(sector) : place + SECTOR]
+        synced = len(self.had[0])
+        if self.has_zeros and synced < length and chance.random() < 0.5:
+            length_there = chance.randrange(synced, length)
+            return found[:length_there] + bytes(length - length_there)
         return found[:length]
 
 
@@ -47,7 +52,8 @@ class Folder:
         if " fails " in line:
             return
         if kind == "open" and "new" in words and words[0].startswith(self.path + "/"):
-            self.files[words[0].rpartition("/")[2]] = File()
+            name = words[0].rpartition("/")[2]
+            self.files[name] = File(name.endswith(".journal"))
         elif kind == "sync" and words[0] == self.path.rpartition("/")[2]:
             for file in self.files.values():
                 file.listed = True

@@ -1,9 +1,12 @@
 """What scripts that start processes share: when the script itself ends, and what its children cost."""
+import ctypes
 import os
 import pathlib
 import resource
 import signal
 import sys
+
+SYSTEM = ctypes.CDLL(None)
 
 
 def end_after(seconds):
@@ -15,6 +18,12 @@ def end_after(seconds):
     for number in (signal.SIGALRM, signal.SIGTERM, signal.SIGINT, signal.SIGHUP):
         signal.signal(number, give_up)
     signal.alarm(seconds)
+
+
+def prepare_child():
+    """A child is killed when this script ends, however it ends; SIGINT ends it even if the script ignores SIGINT."""
+    SYSTEM.prctl(1, signal.SIGKILL)
+    signal.signal(signal.SIGINT, signal.SIG_DFL)
 
 
 def seconds_of_children():

@@ -69,7 +69,7 @@ def clauses_of_all():
 def names_of_all():
     """Every name of the sources, and of files and folders."""
     names = set()
-    for path in ROOT.glob("crates/*/src/**/*.rt"):
+    for path in [*ROOT.glob("crates/*/src/**/*.rt"), ROOT / "c/bwi.h"]:
         names.update(re.findall(r"[A-Za-z_][A-Za-z0-9_]*", path.read_text()))
     for path in [*ROOT.glob("crates/*/specs/**/*.antt"), *ROOT.glob("crates/*/proofs/**/*.antt")]:
         names.update(re.findall(r"[A-Za-z_][A-Za-z0-9_-]*", path.read_text()))

@@ -7,6 +7,8 @@ use Rattle.bw_stream.specs.Readers.{Of}
 use Rattle.bw_inspect.specs.Readings.{Refuses, GivesReport}
 use Rattle.bw_inspect.specs.Reports.{reported_by}
 use Rattle.bw_inspect.specs.Faults.{is_failed_read}
+use Rattle.bw_inspect.specs.OtherFormats.{other_format_of}
+use Rattle.bw_inspect.specs.declared.other.OtherFormat.{OtherFormat}
 use Rattle.bw_inspect.specs.declared.fault.InspectFault.{InspectFault}
 use Rattle.bw_inspect.specs.declared.report.Report.{Report}
 use Rattle.bw_console.specs.Outcomes.{Outcome}
@@ -31,19 +33,22 @@ report-reported file r left outcome out faults reports prints reported = inl (re
 })
 
 -- an inspection that resulted in a fault
-pub fault-reported : (file : Option (List ℕ)) (f : InspectFault) (left : Option (List ℕ)) (faults : Print)
-    → Of file (λ b. Refuses b f left) → IsOf (fault_line f) faults
+pub fault-reported : (file : Option (List ℕ)) (f : InspectFault) (other : Option OtherFormat)
+    (left : Option (List ℕ)) (faults : Print) → Of file (λ b. Refuses b f left)
+    → (is_failed_read f.kind ≡ false → Of file (λ b. other ≡ other_format_of b)) → IsOf (fault_line f other) faults
     → IsInspection file (record {
       reads_all = not (is_failed_read f.kind);
       out = Nothing;
       faults = faults;
       exit = exit_for_fault f.kind;
     })
-fault-reported file f left faults refuses reported = inr (record {
+fault-reported file f other left faults refuses named reported = inr (record {
   fault = f;
   exit_is = refl;
   reads = refl;
   right = λ b e met same. (refuses b e).fault met same;
+  other = other;
+  named = named;
   prints = refl;
   reports = reported;
 })
@@ -70,6 +75,8 @@ inspected-at file left did keeps (inr r) = inr (record {
   exit_is = r.exit_is;
   reads = r.reads;
   right = λ b e. r.right b (keeps b e);
+  other = r.other;
+  named = λ kept b e. r.named kept b (keeps b e);
   prints = r.prints;
   reports = r.reports;
 })

@@ -86,6 +86,7 @@ named ends.EndOfInput end is = ap end_name (some_inj is)
 named (ends.BadFrame fault) end is = ap end_name (some_inj is)
 named ends.ReadFault end is = absurd (cc)
 named ends.WriteFault end is = absurd (cc)
+named (ends.NotKept cause) end is = absurd (cc)
 named ends.TurnLimit end is = absurd (cc)
 named ends.Memory end is = absurd (cc)
 

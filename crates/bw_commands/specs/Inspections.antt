@@ -1,10 +1,12 @@
 -- What an inspection writes, and how it ends.
 use Rattle.std.specs.Prelude.{◌≡◌, ◌⊎◌, ℕ, List, ◌∷◌, ◌++◌, Option, Some, Result, Ok, Err, not}
-use Rattle.std.specs.Prelude.{true, codes}
+use Rattle.std.specs.Prelude.{true, false, codes}
 use Rattle.bw_model.specs.Reading.{Fault, IsFault}
 use Rattle.bw_model.specs.Report.{report_of, report_text}
-use Rattle.bw_hints.specs.Hints.{file_hint}
+use Rattle.bw_hints.specs.Hints.{start_hint}
 use Rattle.bw_inspect.specs.Faults.{bytes_fault, inspect_fault_text, is_failed_read}
+use Rattle.bw_inspect.specs.OtherFormats.{other_format_of}
+use Rattle.bw_inspect.specs.declared.other.OtherFormat.{OtherFormat}
 use Rattle.bw_stream.specs.Readers.{Of}
 use Rattle.bw_inspect.specs.Readings.{HasReading}
 use Rattle.bw_inspect.specs.declared.fault.InspectFault.{InspectFault}
@@ -21,9 +23,9 @@ use Rattle.bw_console.specs.declared.exit.Exit.TheVariants.{Refused, Device, Mem
 use Rattle.bw_console.specs.declared.fault.Fault.{Fault as Failure}
 use Rattle.bw_console.specs.declared.fault.Fault.TheVariants as failures
 
--- the line of a fault, and the hint below it
-abbrev pub fault_line : InspectFault → List ℕ
-fault_line f = codes "inspect: " ++ inspect_fault_text f ++ 10 ∷ file_hint f.kind f.offset
+-- the line of a fault, and the hint below it, where the bytes name this other format, if any
+abbrev pub fault_line : InspectFault → Option OtherFormat → List ℕ
+fault_line f other = codes "inspect: " ++ inspect_fault_text f ++ 10 ∷ start_hint f.kind f.offset other
 
 -- how an inspection ends after a fault of this kind
 abbrev pub exit_for_fault : InspectKind → Exit
@@ -76,8 +78,10 @@ pub record IsFinding (file : Option (List ℕ)) (did : Outcome) : Type 0 where
   pub exit_is : did.exit ≡ exit_for_fault fault.kind
   pub reads : did.reads_all ≡ not (is_failed_read fault.kind)
   pub right : Of file (λ b. (met : Fault) → bytes_fault fault ≡ Some met → IsFault b met)
+  pub other : Option OtherFormat
+  pub named : is_failed_read fault.kind ≡ false → Of file (λ b. other ≡ other_format_of b)
   pub prints : did.out ≡ Nothing
-  pub reports : IsOf (fault_line fault) did.faults
+  pub reports : IsOf (fault_line fault other) did.faults
 
 -- an inspection of this file did this
 abbrev pub IsInspection : Option (List ℕ) → Outcome → Type 0

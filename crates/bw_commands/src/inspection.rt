@@ -10,8 +10,10 @@ ghost use Rattle.bw_console.specs.Prints.{IsPrint, Print, failures_if};
 use arrayvec::ArrayString;
 use bw_console::print::{give_up, print, print_diagnostic};
 use bw_console::{Exit, Fault, report_unopened};
-use bw_hints::hint_of;
-use bw_inspect::{InspectFault, InspectKind, Report, inspect, write_report};
+use bw_hints::hint_of_start;
+use bw_inspect::{
+    InspectFault, InspectKind, OtherFormat, Report, inspect_recognizing, write_report,
+};
 use bw_ports::System;
 use bw_stream::{MemorySink, Sink, Source};
 use itoa::Buffer;
@@ -38,13 +40,14 @@ pub fn inspect_run<R: Source, W: Sink, E: Sink>(
         × (R.failures file.new ≡ failures_if did.reads_all (R.failures file.old))
         × HasWritten W.Sink E.Sink did out.old out.new faults.old faults.new }
 {
-    match inspect(alloc, file) {
+    let mut other = None;
+    match inspect_recognizing(alloc, file, &mut other) {
         Ok(report) => match print_report(alloc, &report, out) {
             Ok(()) => Exit::Done,
             Err(fault) => give_up(faults, &fault),
         },
         Err(fault) => {
-            print_diagnostic(faults, line_of(&fault).as_str().as_bytes());
+            print_diagnostic(faults, line_of(&fault, other).as_str().as_bytes());
             exit_on(fault.kind)
         }
     }
@@ -98,10 +101,10 @@ fn print_report<W: Sink>(alloc: Global, report: &Report, out: &mut W) -> Result<
     }
 }
 
-/// The line of a fault, and below it what to do about it, where that is known. It allocates nothing,
-/// since memory may be what is lacking.
-fn line_of(fault: &InspectFault) -> ArrayString<256>
-    ensures { result.bytes ≡ fault_line fault.now }
+/// The line of a fault, and below it what to do about it, where that is known, and of which other
+/// format the file is. It allocates nothing, since memory may be what is lacking.
+fn line_of(fault: &InspectFault, other: Option<OtherFormat>) -> ArrayString<256>
+    ensures { result.bytes ≡ fault_line fault.now other }
 {
     let mut digits = Buffer::new();
     let mut line = ArrayString::new();
@@ -110,7 +113,7 @@ fn line_of(fault: &InspectFault) -> ArrayString<256>
     line.push_str(" at ");
     line.push_str(digits.format(fault.offset));
     line.push_str("\n");
-    line.push_str(hint_of(fault.kind, fault.offset));
+    line.push_str(hint_of_start(fault.kind, fault.offset, other));
     line
 }
 

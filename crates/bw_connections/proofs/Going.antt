@@ -13,6 +13,7 @@ use Rattle.bw_wire.specs.Reasons.{reason_meaning}
 use Rattle.bw_wire.specs.Held.{longest_message_piece, longest_stream}
 use Rattle.bw_exchange.specs.declared.exchange.Exchange.{Exchange}
 use Rattle.bw_exchange.specs.declared.serving.ExchangeEnd.TheVariants as ends
+use Rattle.bw_exchange.specs.declared.turns.NotKept.{NotKept}
 use Rattle.bw_exchange.specs.declared.step.StreamEnd.{StreamEnd}
 use Rattle.bw_exchange.specs.declared.step.StreamEnd.TheVariants as streams
 use Rattle.bw_exchange.specs.AnsweredFrames.{Answered, AnswersAll, replies_of}
@@ -33,7 +34,7 @@ use Rattle.bw_connections.specs.Lives.{EndsDrained, EndsServed, IsNoSilence, IsU
 use Rattle.bw_connections.specs.Lives.{Moved, ReadsLink, SendsWaiting, EndsWithFault, Works}
 use Rattle.bw_connections.specs.Lives.{EndsAs, Proceeds, IsInPhase, IsOpen, IsConnectionOver, KeepsPeer, Lives, Settles, Steps}
 use Rattle.bw_connections.specs.Lives.{AnswersHeld, BeginsConnection, expired_at, expired_by, longest_drain, quantum, quiet_since}
-use Rattle.bw_connections.specs.Lives.{HadToWait, IsDry, IsFinished, IsFull, Learns, StillReported, ReportsFinish, WhereDrained}
+use Rattle.bw_connections.specs.Lives.{HoldsReplies, LeavesNone, LeavesOf, IsDry, IsFinished, IsFull, Learns, StillReported, ReportsFinish, WhereDrained}
 
 -- what a link did: it gave these bytes more, took these more, and stayed at its end, and finished
 pub record Moves {L : Type 0} (G : LinkGhosts L) (in_bytes out_bytes : List ℕ) (l l' : L) : Type 0 where
@@ -86,6 +87,7 @@ served_unfinished (Over ends.EndOfInput) finished h = tt
 served_unfinished (Over (ends.BadFrame fault)) finished h = inl h
 served_unfinished (Over ends.ReadFault) finished h = tt
 served_unfinished (Over ends.WriteFault) finished h = tt
+served_unfinished (Over (ends.NotKept cause)) finished h = tt
 served_unfinished (Over ends.TurnLimit) finished h = tt
 served_unfinished (Over ends.Memory) finished h = tt
 served_unfinished Idle finished h = tt
@@ -275,142 +277,103 @@ fed_reads G (Ok x) c c' piece writable readable full none some most f = record {
 }
 fed_reads G (Err end) c c' piece writable readable full none some most f = tt
 
--- What was reported of room as a quantum sends, and of bytes before it answers, still holds at its
--- end.
-full_still : {L : Type 0} (G : LinkGhosts L) (d e : Connection L) → e.writable ≡ d.writable →
-    StillReported G d.link e.link → IsFull G d → IsFull G e
-full_still G d e room reported none = (room ∙ none.0, reported.full none.1)
-
+-- What a quantum's calls reported of room and bytes still holds at its end.
 dry_still : {L S : Type 0} (G : LinkGhosts L) (answers : S → Frame → List Reply → S → Type 0) (now : ℕ) (s s' : S)
-    (b c d e : Connection L) → AnswersHeld G answers now b c s s' → SendsWaiting G c d → e.readable ≡ d.readable →
-    StillReported G d.link e.link → IsDry G b → IsDry G e
-dry_still G answers now s s' b c d e h f bytes reported none = (
-  bytes ∙ (f.readable ∙ (h.readable ∙ none.0)),
-  reported.dry (f.dry (subst (λ l. G.dry l) (sym h.link) none.1)),
+    (c d e : Connection L) → AnswersHeld G answers now c d s s' → e.readable ≡ d.readable →
+    StillReported G d.link e.link → IsDry G c → IsDry G e
+dry_still G answers now s s' c d e h bytes reported none =
+    (bytes ∙ (h.readable ∙ none.0), reported.dry (subst (λ l. G.dry l) (sym h.link) none.1))
+
+full_still : {L S : Type 0} (G : LinkGhosts L) (answers : S → Frame → List Reply → S → Type 0) (now : ℕ) (s s' : S)
+    (b c d e : Connection L) → ReadsLink G b c → AnswersHeld G answers now c d s s' → e.writable ≡ d.writable →
+    StillReported G d.link e.link → IsFull G b → IsFull G e
+full_still G answers now s s' b c d e g h room reported none = (
+  room ∙ (h.writable ∙ (g.writable ∙ none.0)),
+  reported.full (subst (λ l. G.full l) (sym h.link) (g.full none.1)),
 )
 
--- a piece was fed, then frames were answered, then bytes were taken
-does_in_turn : (a b c d : Exchange) (piece bytes : List ℕ) (answered : List Answered) → DoesMore a piece [] [] b →
-    DoesMore b [] answered [] c → DoesMore c [] [] bytes d → DoesMore a piece answered bytes d
-does_in_turn a b c d piece bytes answered f g h =
+-- bytes were taken, then a piece was fed, then frames were answered
+does_in_turn : (a b c d : Exchange) (bytes piece : List ℕ) (answered : List Answered) → DoesMore a [] [] bytes b →
+    DoesMore b piece [] [] c → DoesMore c [] answered [] d → DoesMore a piece answered bytes d
+does_in_turn a b c d bytes piece answered f g h =
     subst (λ (x : List ℕ). DoesMore a x answered bytes d) (append-nil piece)
-    (subst (λ (xs : List Answered). DoesMore a (piece ++ []) xs bytes d) (append-nil answered)
-    (does_on a b d piece [] [] (answered ++ []) [] bytes f (does_on b c d [] [] answered [] [] bytes g h)))
+    (subst (λ (x : List ℕ). DoesMore a (piece ++ []) answered x d) (append-nil bytes)
+    (does_on a b d [] (piece ++ []) [] answered bytes [] f (does_on b c d piece [] [] answered [] [] g h)))
 
--- one that had to wait before it sent
-had_to_wait : {L : Type 0} (G : LinkGhosts L) (c d : Connection L) (f : SendsWaiting G c d) → MustWait c.exchange →
-    HadToWait f.bytes d.exchange
-had_to_wait G c d f (inl (inl wants)) = inl (inl (f.wants_read ∙ wants))
-had_to_wait G c d f (inl (inr over)) = inl (inr (ap (λ (x : Option StreamEnd). is_some x) f.ended ∙ over))
-had_to_wait G c d f (inr connections) = inr (subst (λ (x : List ℕ). most_before_answer < length x) f.left connections)
+-- what left, and nothing after it
+pub leaves_on : {L : Type 0} (G : LinkGhosts L) (waiting : List ℕ) (x y z : L) → LeavesOf G waiting x y → LeavesNone G y z →
+    LeavesOf G waiting x z
+leaves_on G waiting x y z f g = record {
+  bytes = f.bytes;
+  left = f.left;
+  waited = f.waited;
+  taken = λ ys p. g (ys ++ f.bytes) (f.taken ys p);
+}
 
--- some of what waited went, or nothing waits
-sent_or_none : (waiting bytes left : List ℕ) (Full Room : Type 0) → waiting ≡ bytes ++ left → Room →
-    (Room → 1 ≤ length waiting → (1 ≤ length bytes) ⊎ Full) → (left ≡ []) ⊎ (1 ≤ length bytes) ⊎ Full
-sent_or_none waiting [] [] Full Room is room some = inl refl
-sent_or_none waiting [] (x ∷ left) Full Room is room some =
-    inr (some room (omega (arith, ap (λ (x : List ℕ). length x) is)))
-sent_or_none waiting (x ∷ bytes) left Full Room is room some = inr (inl (omega arith))
+pub leaves_same : {L : Type 0} (G : LinkGhosts L) (x y : L) → y ≡ x → LeavesNone G x y
+leaves_same G x y same ys p = subst (λ l. G.taken l ys) (sym same) p
 
--- replies that wait go on waiting while frames are answered
-more_wait : (a b : Exchange) (answered : List Answered) (fed gone : List ℕ) (before : List Answered) →
-    HasDone fed before gone a → (is_some (end_of a) ≡ true → b ≡ a) → DoesMore a [] answered [] b →
-    length (waiting_in a) ≤ length (waiting_in b)
-more_wait a b answered fed gone before d over does = go (end_of a) refl
-  where
-    grown : (more : List Reply) (x y z : List ℕ) → gone ++ x ≡ replies_bytes (replies_of before ++ []) →
-        (gone ++ []) ++ y ≡ replies_bytes (replies_of (before ++ answered) ++ more) → length x ≤ length y
-    grown more x y z e f =
-        let n = ap (λ (v : List ℕ). length v) e in
-        let m = ap (λ (v : List ℕ). length v) f in
-        let one = ap (λ (v : List Reply). length (replies_bytes v)) (append-nil (replies_of before)) in
-        let two = ap (λ (v : List Reply). length (replies_bytes (v ++ more)))
-        (flat_map-append (λ (v : Answered). v.replies) before answered) in
-        let three = ap (λ (v : List Reply). length (replies_bytes v))
-        (append_assoc (replies_of before) (replies_of answered) more) in
-        let four = ap (λ (v : List ℕ). length v)
-        (flat_map-append (λ (r : Reply). framed (reply_body r)) (replies_of before) (replies_of answered ++ more)) in
-        let five = length-append gone x in
-        let six = length-append (gone ++ []) y in
-        let seven = ap (λ (v : List ℕ). length v) (append-nil gone) in
-        let eight = length-append (replies_bytes (replies_of before)) (replies_bytes (replies_of answered ++ more)) in
-        omega (arith, n, m, one, two, three, four, five, six, seven, eight)
+pub leaves_of_none : {L : Type 0} (G : LinkGhosts L) (waiting : List ℕ) (x y : L) → LeavesNone G x y →
+    LeavesOf G waiting x y
+leaves_of_none G waiting x y f = record { bytes = []; left = waiting; waited = refl; taken = no_more G.taken x y f }
 
-    go : (e : Option StreamEnd) → end_of a ≡ e → length (waiting_in a) ≤ length (waiting_in b)
-    go (Some end) is =
-        subst (λ (x : Exchange). length (waiting_in a) ≤ length (waiting_in x))
-        (sym (over (ap (λ (x : Option StreamEnd). is_some x) is))) (omega arith)
-    go None is =
-        grown (last_of (end_so_far (end_of b))) (waiting_in a) (waiting_in b) []
-        (d.written ∙ ap (λ (x : Option StreamEnd). replies_bytes (replies_of before ++ last_of (end_so_far x))) is)
-        (does fed before gone d).written
-
--- a quantum reads, answers, sends, and looks at the end
+-- a quantum sends, reads, answers, and looks at the end
 pub moved_on : {L S : Type 0} (G : LinkGhosts L) (answers : S → Frame → List Reply → S → Type 0) (now : ℕ) (s s' : S)
-    (r : Result (Unit {0}) ConnectionEnd) (a b c d e : Connection L) → ReadsLink G a b →
-    (h : AnswersHeld G answers now b c s s') → SendsWaiting G c d → Settles now r d e → StillReported G d.link e.link →
+    (r : Result (Unit {0}) ConnectionEnd) (a b c d e : Connection L) → SendsWaiting G a b → ReadsLink G b c →
+    (h : AnswersHeld G answers now c d s s') → Settles now r d e → StillReported G d.link e.link →
     OnOk r (Moved G a h.answered e)
-moved_on G answers now s s' (Err end) a b c d e g h f k reported = tt
-moved_on G answers now s s' (Ok x) a b c d e g h f k reported = record {
+moved_on G answers now s s' (Err end) a b c d e f g h k reported = tt
+moved_on G answers now s s' (Ok x) a b c d e f g h k reported = record {
   piece = g.piece;
   bytes = f.bytes;
+  left = waiting_in b.exchange;
+  waited = f.left;
   most = g.most;
   does = subst (DoesMore a.exchange g.piece h.answered f.bytes) (sym k.1)
-      (does_in_turn a.exchange b.exchange c.exchange d.exchange g.piece f.bytes h.answered g.does h.does f.does);
-  reads = λ bytes up. reads (g.some bytes up);
+      (does_in_turn a.exchange b.exchange c.exchange d.exchange f.bytes g.piece h.answered f.does g.does h.does);
+  reads = λ bytes wants none. reads (g.some (f.readable ∙ bytes) (f.wants_read ∙ wants, none));
   held = λ some. (g.held some).0;
-  waits = λ few. subst (HadToWait f.bytes) (sym k.1) (had_to_wait G c d f (h.waits few));
-  sends = λ room. subst (λ (x : Exchange). (waiting_in x ≡ []) ⊎ (1 ≤ length f.bytes) ⊎ IsFull G e) (sym k.1)
-      (sent_or_none (waiting_in c.exchange) f.bytes (waiting_in d.exchange) (IsFull G e) (a.writable ≡ true) f.left room
-      some_sent);
-  sends_waiting = λ fed gone before done room some. some_sent room (waits_on fed gone before done some);
+  waits = λ few. subst MustWait (sym k.1) (h.waits few);
+  sends = λ room some. stands (f.some room some);
 }
   where
-    reads : (1 ≤ length g.piece) ⊎ (is_some (end_of b.exchange) ≡ true) ⊎ IsDry G b →
+    reads : (1 ≤ length g.piece) ⊎ (is_some (end_of c.exchange) ≡ true) ⊎ IsDry G c →
         (1 ≤ length g.piece) ⊎ (is_some (end_of e.exchange) ≡ true) ⊎ IsDry G e
     reads (inl n) = inl n
     reads (inr (inl ended)) =
         let still = ap (λ (x : Exchange). is_some (end_of x)) (h.over ended) in
-        let left = ap (λ (x : Option StreamEnd). is_some x) f.ended in
-        inr (inl (ap (λ (x : Exchange). is_some (end_of x)) k.1 ∙ (left ∙ (still ∙ ended))))
-    reads (inr (inr none)) = inr (inr (dry_still G answers now s s' b c d e h f k.4 reported none))
+        inr (inl (ap (λ (x : Exchange). is_some (end_of x)) k.1 ∙ (still ∙ ended)))
+    reads (inr (inr none)) = inr (inr (dry_still G answers now s s' c d e h k.4 reported none))
 
-    stands : (1 ≤ length f.bytes) ⊎ IsFull G d → (1 ≤ length f.bytes) ⊎ IsFull G e
+    stands : (1 ≤ length f.bytes) ⊎ IsFull G b → (1 ≤ length f.bytes) ⊎ IsFull G e
     stands (inl n) = inl n
-    stands (inr none) = inr (full_still G d e k.5 reported none)
-
-    some_sent : a.writable ≡ true → 1 ≤ length (waiting_in c.exchange) → (1 ≤ length f.bytes) ⊎ IsFull G e
-    some_sent room some = stands (f.some (h.writable ∙ (g.writable ∙ room)) some)
-
-    waits_on : (fed gone : List ℕ) (before : List Answered) → HasDone fed before gone a.exchange →
-        1 ≤ length (waiting_in a.exchange) → 1 ≤ length (waiting_in c.exchange)
-    waits_on fed gone before done some =
-        let same = (g.held some).1 in
-        let more = more_wait b.exchange c.exchange h.answered fed gone before
-        (subst (HasDone fed before gone) (sym same) done) h.over h.does in
-        let first = ap (λ (x : Exchange). length (waiting_in x)) same in
-        omega (arith, more, first, some)
+    stands (inr none) = inr (full_still G answers now s s' b c d e g h k.5 reported none)
 
 -- what it learns of bytes and room
 pub learns_on : {L S : Type 0} (G : LinkGhosts L) (answers : S → Frame → List Reply → S → Type 0) (now : ℕ) (s s' : S)
-    (r : Result (Unit {0}) ConnectionEnd) (a b c d e : Connection L) → ReadsLink G a b →
-    AnswersHeld G answers now b c s s' → SendsWaiting G c d → Settles now r d e → StillReported G d.link e.link →
-    OnOk r (Learns G a e)
-learns_on G answers now s s' (Err end) a b c d e g h f k reported = tt
-learns_on G answers now s s' (Ok x) a b c d e g h f k reported = record { bytes = bytes g.reported; room = room f.room }
+    (r : Result (Unit {0}) ConnectionEnd) (a b c d e : Connection L) → SendsWaiting G a b → ReadsLink G b c →
+    AnswersHeld G answers now c d s s' → Settles now r d e → StillReported G d.link e.link → OnOk r (Learns G a e)
+learns_on G answers now s s' (Err end) a b c d e f g h k reported = tt
+learns_on G answers now s s' (Ok x) a b c d e f g h k reported = record { bytes = bytes g.reported; room = room f.room }
   where
-    bytes : (b.readable ≡ a.readable) ⊎ IsDry G b → (e.readable ≡ a.readable) ⊎ IsDry G e
-    bytes (inl same) = inl (k.4 ∙ (f.readable ∙ (h.readable ∙ same)))
-    bytes (inr none) = inr (dry_still G answers now s s' b c d e h f k.4 reported none)
+    bytes : (c.readable ≡ b.readable) ⊎ IsDry G c → (e.readable ≡ a.readable) ⊎ IsDry G e
+    bytes (inl same) = inl (k.4 ∙ (h.readable ∙ (same ∙ f.readable)))
+    bytes (inr none) = inr (dry_still G answers now s s' c d e h k.4 reported none)
 
-    room : (d.writable ≡ c.writable) ⊎ IsFull G d → (e.writable ≡ a.writable) ⊎ IsFull G e
-    room (inl same) = inl (k.5 ∙ (same ∙ (h.writable ∙ g.writable)))
-    room (inr none) = inr (full_still G d e k.5 reported none)
+    room : (b.writable ≡ a.writable) ⊎ IsFull G b → (e.writable ≡ a.writable) ⊎ IsFull G e
+    room (inl same) = inl (k.5 ∙ (h.writable ∙ (g.writable ∙ same)))
+    room (inr none) = inr (full_still G answers now s s' b c d e g h k.5 reported none)
 
 -- of the same connections
 pub learns_at : {L : Type 0} (G : LinkGhosts L) (was c new c' : Connection L) → was ≡ c → new ≡ c' → Learns G was new →
     Learns G c c'
 learns_at G was c new c' is to h = subst (λ x. Learns G c x) to (subst (λ x. Learns G x new) is h)
+
+pub leaves_at : {L : Type 0} (G : LinkGhosts L) (was c new c' : Connection L) → was ≡ c → new ≡ c' →
+    LeavesOf G (waiting_in was.exchange) was.link new.link → LeavesOf G (waiting_in c.exchange) c.link c'.link
+leaves_at G was c new c' is to h =
+    subst (λ x. LeavesOf G (waiting_in c.exchange) c.link x.link) to
+    (subst (λ x. LeavesOf G (waiting_in x.exchange) x.link new.link) is h)
 
 pub finished_at : {L : Type 0} (G : LinkGhosts L) (was c new c' : Connection L) → was ≡ c → new ≡ c' →
     (IsFinished G was → IsFinished G new) → IsFinished G c → IsFinished G c'
@@ -511,13 +474,15 @@ served_aloud Idle h = h
 pub breaks_off : {L S : Type 0} (G : LinkGhosts L) (answers : S → Frame → List Reply → S → Type 0) (now : ℕ)
     (end : ConnectionEnd) (c c' : Connection L) (s s' : S) (answered : List Answered) → c.phase ≡ phases.Serving →
     AnswersAll answers s answered s' → length answered ≤ quantum → Proceeds G (Err end) c answered c' →
-    KeepsPeer G c.link c'.link → c'.number ≡ c.number → EndsServed end → Works G answers now (Err end) c c' s s'
-breaks_off G answers now end c c' s s' answered serving by_server most goes peer number served = record {
+    KeepsPeer G c.link c'.link → LeavesOf G (waiting_in c.exchange) c.link c'.link → c'.number ≡ c.number →
+    EndsServed end → Works G answers now (Err end) c c' s s'
+breaks_off G answers now end c c' s s' answered serving by_server most goes peer leaves number served = record {
   answered = answered;
   by_server = by_server;
   most = most;
   goes = goes;
   peer = peer;
+  leaves = leaves;
   number = number;
   since = tt;
   unended = tt;
@@ -734,4 +699,21 @@ expires G now idle c end is before l = record {
   by_end = expired_as c.phase idle (now - c.since) end c.exchange l.unread is l.by_phase;
   fault = expired_well c.phase idle (now - c.since) end (G.broken c.link) is;
   finished = expired_finished c.phase idle (now - c.since) end (G.finished c.link) is l.finished;
+}
+
+-- a connection whose replies may not leave is over
+pub withheld : {L : Type 0} (G : LinkGhosts L) (cause : NotKept) (c : Connection L) → HoldsReplies c →
+    (before : List Answered) → Lives G c before → IsConnectionOver G (Over (ends.NotKept cause)) c.link (before ++ [])
+withheld G cause c holds before l = record {
+  exchange = c.exchange;
+  fed = l.fed;
+  gone = l.gone;
+  unread = l.unread;
+  given = l.given;
+  taken = l.taken;
+  done = subst (λ (x : List Answered). HasDone l.fed x l.gone c.exchange) (sym (append-nil before)) l.done;
+  at_end = l.at_end;
+  by_end = (holds.some, none_unread c l.unread holds.serving l.by_phase);
+  fault = tt;
+  finished = tt;
 }

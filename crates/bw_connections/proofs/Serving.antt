@@ -1,6 +1,6 @@
 -- What connections amount to in bytes.
 use Rattle.std.proofs.Common.{◌≡◌, ◌≢◌, ◌<◌, ◌⊎◌, inl, inr, ℕ, true, false, Option, Some, None, List, [], ◌∷◌, ◌++◌}
-use Rattle.std.proofs.Common.{refl, sym, ap, subst, ◌∙◌, arith}
+use Rattle.std.proofs.Common.{refl, sym, ap, subst, append_assoc, ◌∙◌, arith}
 use Rattle.std.specs.Prelude.{IfSome, IsTrue, is_some}
 use Rattle.std.specs.List.{AllByRecursion}
 use Rattle.std.proofs.lemmas.List.{append-nil, length-append}
@@ -24,7 +24,7 @@ use Rattle.bw_connections.specs.declared.connections.Closed.{Closed}
 use Rattle.bw_connections.specs.declared.connections.Connections.{Connections}
 use Rattle.bw_connections.specs.ConnectionTables.{HasLeft, KeepsConnections, HoldsConnectionAt, Tagged, own}
 use Rattle.bw_connections.specs.Lives.{HasEnded, IsInPhase, IsConnectionOver, Lives}
-use Rattle.bw_connections.specs.ConnectionBytes.{EndsLink, ConnectionReachesEnd, ServesEachConnection, ServesConnection, ConnectionReportsEnd}
+use Rattle.bw_connections.specs.ConnectionBytes.{QuantaLeaveCommitted, EndsLink, ConnectionReachesEnd, ServesEachConnection, ServesConnection, ConnectionReportsEnd}
 use Rattle.bw_connections.proofs.Standing.{all_left}
 
 -- What bytes that weren't fed leave of what is known: nothing was, or none could change it.
@@ -191,6 +191,8 @@ module _ {L : Type 0} (G : LinkGhosts L) (law : ExchangesFollowStreams) where
           })
       by_end (Over ends.WriteFault) p =
           ends_with (Over ends.WriteFault) link answered p (all_in _ p p.by_end.1) p.by_end.0
+      by_end (Over (ends.NotKept cause)) p =
+          ends_with (Over (ends.NotKept cause)) link answered p (all_in _ p p.by_end.1) p.by_end.0
       by_end (Over ends.TurnLimit) p =
           let h = p.by_end in
           let n = (follows _ p).counted in
@@ -231,3 +233,13 @@ module _ {L : Type 0} (G : LinkGhosts L) (law : ExchangesFollowStreams) where
         (λ x h. h.away) k.left;
     none = k.fresh;
   }
+
+-- only what had waited left
+pub leaves_committed : {L : Type 0} (G : LinkGhosts L) → QuantaLeaveCommitted G
+leaves_committed G c committed link l f = record {
+  stream_end = end_so_far (end_of c.exchange);
+  output = l.gone ++ f.bytes;
+  taken = f.taken l.gone l.taken;
+  unsent = f.left;
+  replies = append_assoc l.gone f.bytes f.left ∙ (ap (λ (x : List ℕ). l.gone ++ x) (sym f.waited) ∙ l.done.written);
+}

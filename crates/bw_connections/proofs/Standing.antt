@@ -357,6 +357,7 @@ closes_none G place m m' = record {
   no_silence = tt;
   served = λ d at serving. tt;
   heard = λ d fault at draining. tt;
+  leaves = λ d at. tt;
 }
 
 -- nothing was answered, and none is over

@@ -19,7 +19,8 @@ use Rattle.bw_connections.specs.declared.connection.ConnectionEnd.TheVariants.{O
 use Rattle.bw_ports.specs.declared.link.Link.{Ghosts as LinkGhosts}
 use Rattle.bw_connections.specs.declared.connections.Closed.{Closed}
 use Rattle.bw_connections.specs.declared.connections.Connections.{Connections}
-use Rattle.bw_connections.specs.Lives.{EndsWithFault, ReportsFinish}
+use Rattle.bw_exchange.specs.Parts.{waiting_in}
+use Rattle.bw_connections.specs.Lives.{EndsWithFault, LeavesOf, Lives, ReportsFinish}
 use Rattle.bw_connections.specs.ConnectionTables.{Tagged, AreApart, IsAmong, KeepsConnections}
 use Rattle.bw_connections.specs.ConnectionTables.{HoldsConnection, HoldsConnectionAt, own}
 
@@ -61,6 +62,7 @@ module _ {L : Type 0} (G : LinkGhosts L) where
   ConnectionReportsEnd (Over ends.ReadFault) link stream_end answered input unsent =
       IsUpTo stream_end answered input unsent
   ConnectionReportsEnd (Over ends.WriteFault) link stream_end answered input unsent = 1 ≤ length unsent
+  ConnectionReportsEnd (Over (ends.NotKept cause)) link stream_end answered input unsent = 1 ≤ length unsent
   ConnectionReportsEnd (Over ends.TurnLimit) link stream_end answered input unsent =
       (stream_end ≡ None) × (unsent ≡ []) × (longest_stream < length input)
   ConnectionReportsEnd (Over ends.Memory) link stream_end answered input unsent =
@@ -101,3 +103,18 @@ module _ {L : Type 0} (G : LinkGhosts L) where
   abbrev pub EachIsServed : Type 0
   EachIsServed = (m : Connections L) (over : List (Closed L)) (trace : List Tagged) →
       KeepsConnections G m over trace → ServesEachConnection m over trace
+
+  -- What left over a link is a prefix of the replies to committed frames, and of the one to a bad
+  -- frame after all of them, which is of no frame that a server answered.
+  pub record LeavesCommitted (link : L) (committed : List Answered) : Type 0 where
+    pub stream_end : Option End
+    pub output : List ℕ
+    pub taken : G.taken link output
+    pub unsent : List ℕ
+    pub replies : output ++ unsent ≡ replies_bytes (replies_of committed ++ last_of stream_end)
+
+  -- If all frames of a connection that were answered before a quantum are committed, then only
+  -- replies to committed frames leave in it, however it ends.
+  abbrev pub QuantaLeaveCommitted : Type 0
+  QuantaLeaveCommitted = (c : Connection L) (committed : List Answered) (link : L) →
+      Lives G c committed → LeavesOf G (waiting_in c.exchange) c.link link → LeavesCommitted link committed

@@ -101,32 +101,35 @@ pub record ReadsLink {L : Type 0} (G : LinkGhosts L) (c c' : Connection L) : Typ
   pub writable : c'.writable ≡ c.writable
   pub full : G.full c.link → G.full c'.link
 
--- before these bytes were taken nothing more could be answered until a piece was fed or bytes were
--- taken, or ever
-abbrev pub HadToWait : List ℕ → Exchange → Type 0
-HadToWait bytes e = IsIdle e ⊎ (most_before_answer < length (bytes ++ waiting_in e))
+-- What left over a link: bytes from the start of these, which waited, and no others.
+pub record LeavesOf {L : Type 0} (G : LinkGhosts L) (waiting : List ℕ) (l l' : L) : Type 0 where
+  pub bytes : List ℕ
+  pub left : List ℕ
+  pub waited : waiting ≡ bytes ++ left
+  pub taken : (ys : List ℕ) → G.taken l ys → G.taken l' (ys ++ bytes)
 
--- What a quantum of one that is served moved: it read, then these frames were answered, then it sent.
+-- nothing left over a link
+abbrev pub LeavesNone : {L : Type 0} → LinkGhosts L → L → L → Type 0
+LeavesNone G l l' = (ys : List ℕ) → G.taken l ys → G.taken l' ys
+
+-- What a quantum of one that is served moved: it sent, then it read, then these frames were answered.
 pub record Moved {L : Type 0} (G : LinkGhosts L) (c : Connection L) (answered : List Answered)
     (c' : Connection L) : Type 0 where
   pub piece : List ℕ
   pub bytes : List ℕ
+  pub left : List ℕ
+  -- the bytes that went had waited before it: none of them is of a reply to these frames
+  pub waited : waiting_in c.exchange ≡ bytes ++ left
   pub most : length piece ≤ longest_message_piece
   pub does : DoesMore c.exchange piece answered bytes c'.exchange
-  pub reads : c.readable ≡ true → IsUpToDate c.exchange →
+  pub reads : c.readable ≡ true → wants_piece c.exchange ≡ true → left ≡ [] →
       (1 ≤ length piece) ⊎ (is_some (end_of c'.exchange) ≡ true) ⊎ IsDry G c'
   -- while replies wait nothing is read
-  pub held : 1 ≤ length (waiting_in c.exchange) → piece ≡ []
-  -- fewer frames than a quantum were answered only if the exchange had to wait
-  pub waits : length answered < quantum → HadToWait bytes c'.exchange
-  -- if there might be room, no replies wait any longer, also none to these frames; or some bytes of
-  -- replies went, or there is no room now
-  pub sends : c.writable ≡ true →
-      (waiting_in c'.exchange ≡ []) ⊎ (1 ≤ length bytes) ⊎ IsFull G c'
-  -- some went where replies waited before, whatever was done before
-  pub sends_waiting : (fed gone : List ℕ) (before : List Answered) →
-      HasDone fed before gone c.exchange → c.writable ≡ true →
-      1 ≤ length (waiting_in c.exchange) → (1 ≤ length bytes) ⊎ IsFull G c'
+  pub held : 1 ≤ length left → piece ≡ []
+  -- fewer frames than a quantum were answered only if the exchange must wait
+  pub waits : length answered < quantum → MustWait c'.exchange
+  -- some went where replies waited, if there might be room, or there is none now
+  pub sends : c.writable ≡ true → 1 ≤ length (waiting_in c.exchange) → (1 ≤ length bytes) ⊎ IsFull G c'
 
 -- the state of a connection's exchange if it ended so, and what it was not fed of what the link
 -- gave
@@ -136,11 +139,17 @@ EndsAs (Over ends.EndOfInput) e unread = HasEnded streams.EndOfInput e unread
 EndsAs (Over (ends.BadFrame fault)) e unread = HasEnded (streams.BadFrame fault) e unread
 EndsAs (Over ends.ReadFault) e unread = IsUpToDate e × (unread ≡ [])
 EndsAs (Over ends.WriteFault) e unread = (1 ≤ length (waiting_in e)) × (unread ≡ [])
+EndsAs (Over (ends.NotKept cause)) e unread = (1 ≤ length (waiting_in e)) × (unread ≡ [])
 EndsAs (Over ends.TurnLimit) e unread = IsUpToDate e × IsTrue (are_bytes unread)
     × (longest_stream < (pending_of e).fed + length unread)
 EndsAs (Over ends.Memory) e unread = IsUpToDate e × IsTrue (are_bytes unread)
     × (1 ≤ length unread) × (length unread ≤ longest_message_piece)
 EndsAs Idle e unread = unread ≡ []
+
+-- a connection that is served, and of which replies wait
+pub record HoldsReplies {L : Type 0} (c : Connection L) : Type 0 where
+  pub serving : c.phase ≡ phases.Serving
+  pub some : 1 ≤ length (waiting_in c.exchange)
 
 -- it holds of a connection that is drained
 abbrev pub WhereDrained : Phase → Type 0 → Type 0
@@ -305,6 +314,8 @@ module _ {L : Type 0} (G : LinkGhosts L) where
     pub most : length answered ≤ quantum
     pub goes : Proceeds result c answered c'
     pub peer : KeepsPeer G c.link c'.link
+    -- what left had waited before it
+    pub leaves : LeavesOf G (waiting_in c.exchange) c.link c'.link
     pub number : c'.number ≡ c.number
     pub since : OnOk result (c'.since ≡ quiet_since now c.since c.phase c'.phase answered)
     pub unended : OnOk result (IsOpen c')

@@ -14,7 +14,8 @@ use Rattle.bw_connections.specs.declared.connections.Connections.{Connections}
 use Rattle.bw_connections.specs.ConnectionTables.{Adds, HoldsConnectionAt, tagged, those}
 use Rattle.bw_connections.specs.Lives.{BeginsConnection, EndsDrained, EndsServed, IsNoSilence, IsOpen}
 use Rattle.bw_connections.specs.Lives.{KeepsPeer, IsFinished, Learns, DropsSent, Moved, KeepsConnection}
-use Rattle.bw_connections.specs.Lives.{quantum, quiet_since}
+use Rattle.bw_connections.specs.Lives.{LeavesOf, quantum, quiet_since}
+use Rattle.bw_exchange.specs.Parts.{waiting_in}
 use Rattle.bw_connections.specs.Places.{begun_of, connection_count, refused_of}
 
 -- the other places are as they were
@@ -68,6 +69,11 @@ pub record Wakes {L : Type 0} (bytes room : Bool) (c c' : Connection L) : Type 0
   pub exchange : c'.exchange ≡ c.exchange
   pub stays : KeepsConnection c c'
 
+-- no replies wait at a place over a connection that is served
+abbrev pub HoldsNoReplies : {L : Type 0} → ℕ → Connections L → Type 0
+HoldsNoReplies {L} place m = (c : Connection L) → HoldsConnectionAt m place c → c.phase ≡ phases.Serving →
+    waiting_in c.exchange ≡ []
+
 -- the connection at this place, if there is one, may have bytes again, or room
 abbrev pub WakesAt : {L : Type 0} → ℕ → Bool → Bool → Connections L → Connections L → Type 0
 WakesAt {L} place bytes room m m' = (c : Connection L) → HoldsConnectionAt m place c →
@@ -84,6 +90,9 @@ pub record ClosesAt {L : Type 0} (G : LinkGhosts L) (place : ℕ) (closed : Opti
       IfSome closed (λ x. EndsServed x.end)
   pub heard : (c : Connection L) (fault : WireFault) → HoldsConnectionAt m place c →
       c.phase ≡ phases.Draining fault → IfSome closed (λ x. EndsDrained G fault x.link x.end)
+  -- what left over its link had waited before the quantum
+  pub leaves : (c : Connection L) → HoldsConnectionAt m place c →
+      IfSome closed (λ x. LeavesOf G (waiting_in c.exchange) c.link x.link)
 
 -- At this time the server answered this many frames of the connection at this place, which may be
 -- over after them. It is over, or drained, once its stream has ended and all replies are sent.
@@ -107,6 +116,9 @@ pub record WorksAt {L S : Type 0} (G : LinkGhosts L) (answers : S → Frame → 
   -- quantum were answered only if its exchange had to wait
   pub moved : (c c' : Connection L) → HoldsConnectionAt m place c → HoldsConnectionAt m' place c' →
       c.phase ≡ phases.Serving → Moved G c answered c'
+  -- what left had waited before it
+  pub leaves : (c c' : Connection L) → HoldsConnectionAt m place c → HoldsConnectionAt m' place c' →
+      LeavesOf G (waiting_in c.exchange) c.link c'.link
   pub lets_go : (c c' : Connection L) (fault : WireFault) → HoldsConnectionAt m place c →
       HoldsConnectionAt m' place c' → c.phase ≡ phases.Draining fault → DropsSent G c c'
   -- that there are no bytes, or no room, is known from its link alone

@@ -1,5 +1,5 @@
 //! A connection: a link, and the exchange over it.
-ghost use Rattle.std.specs.Prelude.{◌≡◌, ◌≤◌, ◌||◌, [], List, length, true, IfErr, IfOk, OnOk};
+ghost use Rattle.std.specs.Prelude.{◌≡◌, ◌≤◌, ◌||◌, [], List, length, true, false, IfErr, IfOk, OnOk};
 ghost use Rattle.bw_wire.specs.Held.{longest_message_piece};
 ghost use Rattle.bw_exchange.specs.Parts.{wants_piece, waiting_in};
 ghost use Rattle.bw_connections.specs.ConnectionFeeds.{Feeds, fault_to_drain};
@@ -54,7 +54,7 @@ impl<L: Link> Connection<L> {
     ghost use Rattle.bw_connections.specs.Lives.{BeginsConnection, Proceeds, KeepsConnection};
     ghost use Rattle.bw_connections.specs.Lives.{AnswersHeld, Settles, Works};
     ghost use Rattle.bw_connections.specs.Lives.{EndsDrained, IsUpToDate, KeepsPeer, ReadsLink};
-    ghost use Rattle.bw_connections.specs.Lives.{SendsWaiting, can_go_on};
+    ghost use Rattle.bw_connections.specs.Lives.{HoldsReplies, SendsWaiting, LeavesNone, LeavesOf, can_go_on};
     ghost use Rattle.bw_connections.specs.Lives.{IsFinished, Learns, DropsSent, StillReported, expired_at};
 
     /// Creates a connection over this link, which has given and taken nothing yet.
@@ -121,9 +121,21 @@ impl<L: Link> Connection<L> {
         }
     }
 
-    /// One quantum: a piece is read if one is wanted, frames are answered, and some of the unsent
-    /// bytes are sent, so that a reply leaves in the quantum in which it is made. No piece is read
-    /// before all replies are sent: from a peer that doesn't read its replies nothing more is read.
+    /// Whether replies wait that a commit must come before.
+    pub(crate) fn holds_replies(&self) -> bool
+        ensures some { result ≡ true → HoldsReplies self.now }
+        ensures none { result ≡ false → self.now.phase ≡ Phase.Serving → waiting_in self.now.exchange ≡ [] }
+    {
+        match self.phase {
+            Phase::Serving => !self.is_all_out(),
+            Phase::Draining(_fault) => false,
+        }
+    }
+
+    /// One quantum: some of the unsent bytes are sent, a piece is read if one is wanted, and frames
+    /// are answered. So nothing leaves but what waited before the quantum, and a reply leaves in the
+    /// quantum after that in which it is made. No piece is read before all replies are sent: from a
+    /// peer that doesn't read its replies nothing more is read.
     ///
     /// # Errors
     /// How the connection ended.
@@ -139,9 +151,9 @@ impl<L: Link> Connection<L> {
         if let Phase::Draining(fault) = self.phase {
             return self.drain(fault, buffer);
         }
+        self.send_waiting()?;
         self.receive_piece(buffer)?;
         self.answer_held(server, now);
-        self.send_waiting()?;
         self.settle(now)
     }
 
@@ -155,6 +167,7 @@ impl<L: Link> Connection<L> {
         ensures peer { KeepsPeer L.Link self.old.link self.new.link }
         ensures stays { KeepsConnection self.old self.new }
         ensures served { IfErr result EndsServed }
+        ensures leaves { LeavesOf L.Link (waiting_in self.old.exchange) self.old.link self.new.link }
         ensures sends { OnOk result (SendsWaiting L.Link self.old self.new) }
     {
         let waiting = self.exchange.outgoing();
@@ -185,6 +198,7 @@ impl<L: Link> Connection<L> {
         ensures peer { KeepsPeer L.Link self.old.link self.new.link }
         ensures stays { KeepsConnection self.old self.new }
         ensures served { IfErr result EndsServed }
+        ensures leaves { LeavesNone L.Link self.old.link self.new.link }
         ensures reads { OnOk result (ReadsLink L.Link self.old self.new) }
     {
         if !self.readable || !self.is_up_to_date() {
@@ -243,6 +257,7 @@ impl<L: Link> Connection<L> {
         ensures goes { Proceeds L.Link result self.old [] self.new }
         ensures peer { KeepsPeer L.Link self.old.link self.new.link }
         ensures stays { KeepsConnection self.old self.new }
+        ensures leaves { LeavesNone L.Link self.old.link self.new.link }
         ensures heard { IfErr result (EndsDrained L.Link fault self.new.link) }
         ensures lets_go { OnOk result (DropsSent L.Link self.old self.new) }
         ensures learns { OnOk result (Learns L.Link self.old self.new) }
@@ -271,6 +286,7 @@ impl<L: Link> Connection<L> {
         requires { self.old.phase ≡ Phase.Serving }
         ensures goes { Proceeds L.Link result self.old [] self.new }
         ensures peer { KeepsPeer L.Link self.old.link self.new.link }
+        ensures leaves { LeavesNone L.Link self.old.link self.new.link }
         ensures settles { Settles now result self.old self.new }
         ensures reported { StillReported L.Link self.old.link self.new.link }
         ensures finished { OnOk result (IsFinished L.Link self.new) }

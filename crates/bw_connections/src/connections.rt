@@ -5,7 +5,7 @@ ghost use Rattle.bw_wire.specs.Held.{longest_message_piece};
 ghost use Rattle.bw_connections.specs.ConnectionTables.{SetsPlace};
 
 use crate::connection::{Connection, ConnectionEnd};
-use bw_exchange::Turns;
+use bw_exchange::{ExchangeEnd, NotKept, Turns};
 use bw_ports::Link;
 use std::alloc::{AllocError, Global};
 use thiserror::Error;
@@ -66,7 +66,7 @@ pub struct Connections<L> {
 impl<L: Link + Drop> Connections<L> {
     ghost use Rattle.bw_connections.specs.ConnectionTables.{KeepsConnections, Adds, IsFree, those};
     ghost use Rattle.bw_connections.specs.Quanta.{BeginsAt, EndsIts, IsEmpty, LeavesOthers, RefusesLink, StaysAt};
-    ghost use Rattle.bw_connections.specs.Quanta.{ExistedAt, ExistedUnder, WakesAt, WorksAt};
+    ghost use Rattle.bw_connections.specs.Quanta.{ExistedAt, ExistedUnder, HoldsNoReplies, WakesAt, WorksAt};
     ghost use Rattle.bw_connections.specs.Places.{begun_of, connection_count, can_go_on_at};
     ghost use Rattle.bw_connections.specs.Places.{end_of_connection, expired_there};
     ghost use Rattle.bw_connections.specs.Places.{first_free_place, refused_of};
@@ -246,6 +246,31 @@ impl<L: Link + Drop> Connections<L> {
                 None
             }
         }
+    }
+
+    /// Ends the connection at a place if replies wait there, which will not leave, and returns it:
+    /// a write failed in the server's commit.
+    pub fn withhold(&mut self, place: usize) -> Option<Closed<L>>
+        requires place { place < connection_count self.old }
+        ensures adds { Adds L.Link self.old [] (those result) self.new }
+        ensures end { IfSome result (λ x.
+            x.end ≡ ConnectionEnd.Over (ExchangeEnd.NotKept NotKept.WriteFault)) }
+        ensures its { EndsIts L.Link place result self.old }
+        ensures others { StaysAt place self.old self.new }
+        ensures stands { ExistedAt place self.old self.new }
+        ensures left { IfSome result (λ x. IsEmpty place self.new) }
+        ensures was { IfSome result (λ x. IsEmpty place self.old → ⊥) }
+        ensures withheld { HoldsNoReplies place self.new }
+    {
+        let Some(connection) = take_at(&mut self.places, place) else {
+            return None;
+        };
+        if connection.holds_replies() {
+            let end = ExchangeEnd::NotKept(NotKept::WriteFault);
+            return Some(close(connection, ConnectionEnd::Over(end)));
+        }
+        put_at(&mut self.places, place, connection);
+        None
     }
 }
 

@@ -1,5 +1,5 @@
 //! Laws of many connections. Each function's contract is one; nothing runs.
-ghost use Rattle.bw_connections.specs.ConnectionBytes.{EachIsServed};
+ghost use Rattle.bw_connections.specs.ConnectionBytes.{EachIsServed, QuantaLeaveCommitted};
 
 use bw_ports::Link;
 
@@ -13,3 +13,9 @@ pub fn law_connections<L: Link>()
 {
     bw_exchange::laws::law_exchange();
 }
+
+/// What leaves in a quantum is of frames that were answered before it: where those are committed, no
+/// byte of a reply leaves before its frame is.
+pub fn law_leaves<L: Link>()
+    ensures { QuantaLeaveCommitted L.Link }
+{}

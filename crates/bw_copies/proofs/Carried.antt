@@ -9,13 +9,14 @@ use Rattle.bw_model.specs.Take.{Shape, shapes, is_history_byte}
 use Rattle.bw_model.specs.Reading as reading
 use Rattle.bw_model.specs.Reading.{Form, Entry, entry_of, read}
 use Rattle.bw_model.specs.Report.{report_of}
+use Rattle.bw_inspect.specs.OtherFormats.{other_format_of}
 use Rattle.bw_plan.specs.AllowedSettings.{is_setting, are_settings}
 use Rattle.bw_plan.specs.CleanedContents.{values_of}
 use Rattle.bw_plan.specs.PlanLaws.{IsWhole}
 use Rattle.bw_plan.specs.PcmRecordings.{pcm_recording_of, pcm_faults, set_pcm_outline, pcm_format}
 use Rattle.bw_plan.specs.declared.pcm.Pcm.{Pcm}
 use Rattle.bw_plan.specs.Recordings.{Setting, Field, History, Options, Outline, Recording, FaultAt, FileNotes}
-use Rattle.bw_plan.specs.Recordings.{recording_of, Unread, recorded, notes_of, outline_of, set_outline, outline}
+use Rattle.bw_plan.specs.Recordings.{recording_of, kind_unread, recorded, notes_of, outline_of, set_outline, outline}
 use Rattle.bw_plan.specs.Recordings.{with_setting, with_value, raw_fields, recording_faults, samples_of, block_frames}
 use Rattle.bw_plan.specs.Recordings.{no_options, request_count}
 use Rattle.bw_plan.proofs.FaultLists.{none_hold}
@@ -51,7 +52,7 @@ comes b o r h = go (read b) h
 
     go : (x : Result (Form × List Entry) reading.Fault) →
         ◌≡◌ {A = Result Recording FaultAt} (elim x [
-          | Err fault ↦ Err (record { kind = Unread fault.kind; offset = fault.offset })
+          | Err fault ↦ Err (record { kind = kind_unread fault.kind (other_format_of b); offset = fault.offset })
           | Ok z ↦ recorded b o z.0 z.1
         ]) (Ok r) → Comes b o r
     go (Err fault) h = absurd (not_ok h)

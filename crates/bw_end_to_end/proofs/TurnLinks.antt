@@ -1,6 +1,7 @@
 -- Each exchange of a server that serves one after another answers over its own link.
 use Rattle.std.proofs.Common.{◌≡◌, ℕ, suc, ◌+◌, Bool, List, [], ◌∷◌, ◌++◌, length, Option, Some, None}
 use Rattle.std.proofs.Common.{refl, sym, ◌∙◌, ap, subst, arith, append-nil, append_assoc}
+use Rattle.std.specs.Prelude.{Result}
 use Rattle.std.specs.List.{AllByRecursion}
 use Rattle.bw_model.specs.Wire.{Frame}
 use Rattle.bw_model.specs.Replies.{Reply}
@@ -14,6 +15,7 @@ use Rattle.bw_exchange.specs.declared.serving.ExchangeEnd.TheVariants as ends
 use Rattle.bw_exchange.specs.AnsweredFrames.{Answered, AnswersAll, replies_of}
 use Rattle.bw_exchange.specs.Done.{last_of}
 use Rattle.bw_exchange.specs.WholeExchanges.{Serves, EndsBy}
+use Rattle.bw_exchange.specs.declared.turns.NotKept.{NotKept}
 use Rattle.bw_connections.specs.ConnectionTables.{Tagged, tagged, all_answered}
 use Rattle.bw_console.specs.declared.exit.Exit.{Exit}
 use Rattle.bw_console.specs.declared.exit.Exit.TheVariants.{Done, Refused, Usage, Device, Memory}
@@ -52,6 +54,8 @@ writes_part (ends.BadFrame fault) left left' answered input output h =
 writes_part ends.ReadFault left left' answered input output h = no_last answered output h.written
 writes_part ends.WriteFault left left' answered input output h =
     record { end = h.end; part = (h.unwritten, h.begins) }
+writes_part (ends.NotKept cause) left left' answered input output h =
+    record { end = h.end; part = (h.unwritten, h.begins) }
 writes_part ends.TurnLimit left left' answered input output h = no_last answered output h.0.written
 writes_part ends.Memory left left' answered input output h = no_last answered output h.1
 
@@ -87,7 +91,7 @@ all_answered-tagged n [] = refl
 all_answered-tagged n (x ∷ xs) = ap (λ (zs : List Answered). x ∷ zs) (all_answered-tagged n xs)
 
 module _ {T P R W O E : Type 0} (answers : T → Frame → List Reply → T → Type 0)
-    (peers : PeerGhosts P R W) (reader : Reader R) (writer : Writer W) (out : Writer O)
+    (commits : T → Result (Unit {0}) NotKept → T → Type 0) (peers : PeerGhosts P R W) (reader : Reader R) (writer : Writer W) (out : Writer O)
     (reported : Writer E) (log : Bool) where
   -- what exchanges in a row are
   record InTurn (i k : ℕ) (xs : List (ServedExchange R W)) (t t' : T) : Type 0 where
@@ -124,18 +128,18 @@ module _ {T P R W O E : Type 0} (answers : T → Frame → List Reply → T → 
   none i t t' same = record { rising = omega arith; by_server = same; each = tt }
 
   next_in_turn : (index : ℕ) (x : ServedOutcome) (t t' : T) (p p' : P) (o o' : O) (e e' : E)
-      (next : ServesNext answers peers reader writer out reported log index x t t' p p' o o' e e') →
-      InTurn index (suc index) (exchange_next answers peers reader writer out reported log index x t t' p p' o o' e e' next)
+      (next : ServesNext answers commits peers reader writer out reported log index x t t' p p' o o' e e') →
+      InTurn index (suc index) (exchange_next answers commits peers reader writer out reported log index x t t' p p' o o' e e' next)
       t t'
-  next_in_turn index (Served exit) t t' p p' o o' e e' next =
+  next_in_turn index (Served end exit) t t' p p' o o' e e' next =
       let s = next.served.served.serves in
       record {
         rising = (omega arith, omega arith);
         by_server = subst (λ (zs : List Answered). AnswersAll answers t zs t')
             (sym (ap all_answered (append-nil (tagged index s.answered)) ∙ all_answered-tagged index s.answered)) s.by_server;
         each = (
-          λ l end. exchange_answers answers next.served.end t t' _ _ _ _ l.received l.answered s end.received end.unused
-              end.answered,
+          λ l over. exchange_answers answers end t t' _ _ _ _ l.received l.answered s over.received over.unused
+              over.answered,
           tt,
         );
       }
@@ -143,39 +147,39 @@ module _ {T P R W O E : Type 0} (answers : T → Frame → List Reply → T → 
   next_in_turn index Closed t t' p p' o o' e e' next = none index t t' next.server
 
   each_in_turn : (index : ℕ) (xs : List ServedOutcome) (t t' : T) (p p' : P) (o o' : O) (e e' : E)
-      (each : ServesEach answers peers reader writer out reported log index xs t t' p p' o o' e e') →
+      (each : ServesEach answers commits peers reader writer out reported log index xs t t' p p' o o' e e') →
       InTurn index (index + length xs)
-      (exchanges_each answers peers reader writer out reported log index xs t t' p p' o o' e e' each) t t'
+      (exchanges_each answers commits peers reader writer out reported log index xs t t' p p' o o' e e' each) t t'
   each_in_turn index [] t t' p p' o o' e e' each = record { rising = omega arith; by_server = each.0; each = tt }
   each_in_turn index (x ∷ xs) t t' p p' o o' e e' each =
       let first = next_in_turn index x t each.0 p each.1 o each.2 e each.3 each.4 in
       let rest = each_in_turn (suc index) xs each.0 t' each.1 p' each.2 o' each.3 e' each.6 in
       let same : suc index + length xs ≡ index + length (x ∷ xs) = omega arith in
       subst (λ (k : ℕ). InTurn index k
-      (exchanges_each answers peers reader writer out reported log index (x ∷ xs) t t' p p' o o' e e' each) t t') same
+      (exchanges_each answers commits peers reader writer out reported log index (x ∷ xs) t t' p p' o o' e e' each) t t') same
       (joined index (suc index) (suc index + length xs) _ _ t each.0 t' first rest)
 
   early_in_turn : (exchanges : ℕ) (exit : Exit) (t t' : T) (p p' : P) (o o' : O) (e e' : E)
-      (run : EndsEarly answers peers reader writer out reported log exchanges exit t t' p p' o o' e e') →
+      (run : EndsEarly answers commits peers reader writer out reported log exchanges exit t t' p p' o o' e e') →
       InTurn 0 (suc (length run.before))
-      (exchanges_early answers peers reader writer out reported log exchanges exit t t' p p' o o' e e' run) t t'
+      (exchanges_early answers commits peers reader writer out reported log exchanges exit t t' p p' o o' e e' run) t t'
   early_in_turn exchanges exit t t' p p' o o' e e' run =
       let first = each_in_turn 0 run.before t run.m p run.q o run.n e run.f run.each in
       let last = next_in_turn (length run.before) run.last run.m t' run.q p' run.n o' run.f e' run.next in
       let same : 0 + length run.before ≡ length run.before = omega arith in
       joined 0 (length run.before) (suc (length run.before)) _ _ t run.m t'
-      (subst (λ (k : ℕ). InTurn 0 k (exchanges_each answers peers reader writer out reported log 0 run.before t run.m p
+      (subst (λ (k : ℕ). InTurn 0 k (exchanges_each answers commits peers reader writer out reported log 0 run.before t run.m p
       run.q o run.n e run.f run.each) t run.m) same first) last
 
   answered_in_turn : (i k : ℕ) (xs : List (ServedExchange R W)) (t t' : T) → InTurn i k xs t t' →
-      AnswersInTurn answers peers reader writer out reported log xs t t'
+      AnswersInTurn answers commits peers reader writer out reported log xs t t'
   answered_in_turn i k xs t t' h = record {
     by_server = h.by_server;
     each = λ x l has end. subst (λ (zs : List Answered). AnswersOver zs l.received l.answered)
         (sym (own_exchange i k xs x h.rising has)) (all_contain _ xs x h.each has l end);
   }
 
-  pub runs_answer : RunsAnswerInTurn answers peers reader writer out reported log
+  pub runs_answer : RunsAnswerInTurn answers commits peers reader writer out reported log
   runs_answer exchanges Done t t' p p' o o' e e' run =
       answered_in_turn _ _ _ t t' (each_in_turn 0 run.outcomes t t' p p' o o' e e' run.each)
   runs_answer exchanges Refused t t' p p' o o' e e' run =

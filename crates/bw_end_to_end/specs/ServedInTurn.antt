@@ -1,11 +1,12 @@
 -- The server's ends of its links, while it serves one after another.
-use Rattle.std.specs.Prelude.{◌≡◌, ℕ, Bool, suc, Some, List, [], ◌∷◌, ◌++◌, flat_map, length}
+use Rattle.std.specs.Prelude.{◌≡◌, Result, ℕ, Bool, suc, Some, List, [], ◌∷◌, ◌++◌, flat_map, length}
 use Rattle.std.specs.List.{Contains}
 use Rattle.bw_model.specs.Wire.{Frame}
 use Rattle.bw_model.specs.Replies.{Reply}
 use Rattle.bw_stream.specs.declared.sink.Sink.{Ghosts as Writer}
 use Rattle.bw_stream.specs.declared.source.Source.{Ghosts as Reader}
 use Rattle.bw_exchange.specs.AnsweredFrames.{Answered, AnswersAll}
+use Rattle.bw_exchange.specs.declared.turns.NotKept.{NotKept}
 use Rattle.bw_connections.specs.ConnectionTables.{Tagged, tagged, all_answered, own}
 use Rattle.bw_console.specs.declared.exit.Exit.{Exit}
 use Rattle.bw_console.specs.declared.exit.Exit.TheVariants.{Done}
@@ -35,13 +36,13 @@ pub record IsPeerEnd {R W : Type 0} (reader : Reader R) (writer : Writer W) (u :
   pub answered : writer.written u.writer_after ≡ Some l.answered
 
 module _ {T P R W O E : Type 0} (answers : T → Frame → List Reply → T → Type 0)
-    (peers : PeerGhosts P R W) (reader : Reader R) (writer : Writer W) (out : Writer O)
+    (commits : T → Result (Unit {0}) NotKept → T → Type 0) (peers : PeerGhosts P R W) (reader : Reader R) (writer : Writer W) (out : Writer O)
     (reported : Writer E) (log : Bool) where
   -- the exchange of the next peer, if one came
   abbrev pub exchange_next : (index : ℕ) (x : ServedOutcome) (t t' : T) (p p' : P) (o o' : O)
-      (e e' : E) → ServesNext answers peers reader writer out reported log index x t t' p p' o o' e e' →
+      (e e' : E) → ServesNext answers commits peers reader writer out reported log index x t t' p p' o o' e e' →
       List (ServedExchange R W)
-  exchange_next index (Served exit) t t' p p' o o' e e' next = record {
+  exchange_next index (Served end exit) t t' p p' o o' e e' next = record {
     number = index;
     answered = next.served.served.serves.answered;
     link = record {
@@ -55,7 +56,7 @@ module _ {T P R W O E : Type 0} (answers : T → Frame → List Reply → T → 
 
   -- those of these peers, one after another
   abbrev pub exchanges_each : (index : ℕ) (xs : List ServedOutcome) (t t' : T) (p p' : P) (o o' : O)
-      (e e' : E) → ServesEach answers peers reader writer out reported log index xs t t' p p' o o' e e' →
+      (e e' : E) → ServesEach answers commits peers reader writer out reported log index xs t t' p p' o o' e e' →
       List (ServedExchange R W)
   exchanges_each index [] t t' p p' o o' e e' each = []
   exchanges_each index (x ∷ xs) t t' p p' o o' e e' each =
@@ -64,7 +65,7 @@ module _ {T P R W O E : Type 0} (answers : T → Frame → List Reply → T → 
 
   -- if one of them ended the run
   abbrev pub exchanges_early : (exchanges : ℕ) (exit : Exit) (t t' : T) (p p' : P) (o o' : O)
-      (e e' : E) → EndsEarly answers peers reader writer out reported log exchanges exit t t' p p' o o' e e' →
+      (e e' : E) → EndsEarly answers commits peers reader writer out reported log exchanges exit t t' p p' o o' e e' →
       List (ServedExchange R W)
   exchanges_early exchanges exit t t' p p' o o' e e' run =
       exchanges_each 0 run.before t run.m p run.q o run.n e run.f run.each
@@ -72,7 +73,7 @@ module _ {T P R W O E : Type 0} (answers : T → Frame → List Reply → T → 
 
   -- in a whole run
   abbrev pub exchanges_in_run : (exchanges : ℕ) (exit : Exit) (t t' : T) (p p' : P) (o o' : O)
-      (e e' : E) → ServesRun answers peers reader writer out reported log exchanges exit t t' p p' o o' e e' →
+      (e e' : E) → ServesRun answers commits peers reader writer out reported log exchanges exit t t' p p' o o' e e' →
       List (ServedExchange R W)
   exchanges_in_run exchanges Done t t' p p' o o' e e' run =
       exchanges_each 0 run.outcomes t t' p p' o o' e e' run.each
@@ -88,5 +89,5 @@ module _ {T P R W O E : Type 0} (answers : T → Frame → List Reply → T → 
 
   abbrev pub RunsAnswerInTurn : Type 0
   RunsAnswerInTurn = (exchanges : ℕ) (exit : Exit) (t t' : T) (p p' : P) (o o' : O) (e e' : E)
-      (run : ServesRun answers peers reader writer out reported log exchanges exit t t' p p' o o' e e') →
+      (run : ServesRun answers commits peers reader writer out reported log exchanges exit t t' p p' o o' e e') →
       AnswersInTurn (exchanges_in_run exchanges exit t t' p p' o o' e e' run) t t'

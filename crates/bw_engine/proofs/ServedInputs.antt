@@ -16,6 +16,7 @@ use Rattle.bw_exchange.specs.WholeExchanges.{Serves, EndsBy, reads_failed}
 use Rattle.bw_engine.specs.IngestRuns.{WasServed, ServesInput, ServesFirst}
 use Rattle.bw_exchange.specs.declared.serving.ExchangeEnd.{ExchangeEnd}
 use Rattle.bw_exchange.specs.declared.serving.ExchangeEnd.TheVariants as ends
+use Rattle.bw_exchange.specs.declared.turns.NotKept.{NotKept}
 use Rattle.bw_engine.proofs.FirstFrames.{first_of_more}
 
 -- all replies have spellings, and that to a bad frame
@@ -30,27 +31,27 @@ was_served : (end : ExchangeEnd) (input fed rest output : List ℕ) (left left' 
     (answered : List Answered) → are_bytes input ≡ true → fed ++ rest ≡ input → left ≡ Some input →
     list_all is_reply (replies_of answered) ≡ true →
     EndsBy end left left' answered fed output → 0 ≡ reads_failed end 0 → end ≢ ends.WriteFault →
-    end ≢ ends.Memory →
+    end ≢ ends.Memory → ((cause : NotKept) → end ≢ ends.NotKept cause) →
     WasServed (record { input = input; answered = answered; written = output; end = end })
-was_served ends.Bye input fed rest output left left' answered fits all from spelled h reads write memory =
+was_served ends.Bye input fed rest output left left' answered fits all from spelled h reads write memory kept =
     record {
       stream = h.whole input from;
       replies = h.written;
       spelled = both_spelled answered SaidBye spelled h.spelled;
     }
-was_served ends.EndOfInput input fed rest output left left' answered fits all from spelled h reads write memory =
+was_served ends.EndOfInput input fed rest output left left' answered fits all from spelled h reads write memory kept =
     record {
       stream = h.whole input from;
       replies = h.written;
       spelled = both_spelled answered EndOfInput spelled h.spelled;
     }
-was_served (ends.BadFrame fault) input fed rest output left left' answered fits all from spelled h reads write memory =
+was_served (ends.BadFrame fault) input fed rest output left left' answered fits all from spelled h reads write memory kept =
     record {
       stream = h.whole input from;
       replies = h.written;
       spelled = both_spelled answered (BadFrame (reason_meaning fault.reason) fault.offset) spelled h.spelled;
     }
-was_served ends.TurnLimit input fed rest output left left' answered fits all from spelled h reads write memory =
+was_served ends.TurnLimit input fed rest output left left' answered fits all from spelled h reads write memory kept =
     record {
       end_is = refl;
       bytes_read = fed;
@@ -62,11 +63,13 @@ was_served ends.TurnLimit input fed rest output left left' answered fits all fro
       first = subst (AreFirstOf (answered_frames answered)) all (first_of_more (answered_frames answered) fed rest
           (ap are_bytes all ∙ fits) ([], h.0.frames ∙ sym (append-nil (answered_frames answered))));
     }
-was_served ends.ReadFault input fed rest output left left' answered fits all from spelled h reads write memory =
+was_served ends.ReadFault input fed rest output left left' answered fits all from spelled h reads write memory kept =
     absurd (omega (arith, reads))
-was_served ends.WriteFault input fed rest output left left' answered fits all from spelled h reads write memory =
+was_served ends.WriteFault input fed rest output left left' answered fits all from spelled h reads write memory kept =
     absurd (write refl)
-was_served ends.Memory input fed rest output left left' answered fits all from spelled h reads write memory =
+was_served (ends.NotKept cause) input fed rest output left left' answered fits all from spelled h reads write memory kept =
+    absurd (kept cause refl)
+was_served ends.Memory input fed rest output left left' answered fits all from spelled h reads write memory kept =
     absurd (memory refl)
 
 module _ {T : Type 0} (answers : T → Frame → List Reply → T → Type 0) (old new : T) (input : List ℕ)
@@ -74,8 +77,9 @@ module _ {T : Type 0} (answers : T → Frame → List Reply → T → Type 0) (o
     (from : left ≡ Some input)
     (h : Serves answers end old new left left' written written') where
   pub serves_input : (bytes : List ℕ) → written ≡ Some [] → written' ≡ Some bytes → 0 ≡ reads_failed end 0 →
-      end ≢ ends.WriteFault → end ≢ ends.Memory → ServesInput answers old new input bytes end
-  serves_input bytes empty full reads write memory =
+      end ≢ ends.WriteFault → end ≢ ends.Memory → ((cause : NotKept) → end ≢ ends.NotKept cause) →
+      ServesInput answers old new input bytes end
+  serves_input bytes empty full reads write memory kept =
       let given = h.given input from in
       let same : h.output ≡ bytes = some_inj (sym (h.taken [] empty) ∙ full) in
       record {
@@ -87,7 +91,7 @@ module _ {T : Type 0} (answers : T → Frame → List Reply → T → Type 0) (o
           written = w;
           end = end;
         })) same (was_served end input h.input given.0 h.output left left' h.answered fits given.2 from h.spelled h.by_end
-            reads write memory);
+            reads write memory kept);
       }
 
   pub serves_first : ServesFirst answers old new input

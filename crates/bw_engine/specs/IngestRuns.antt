@@ -40,6 +40,7 @@ ingested_end ends.EndOfInput = Some EndOfInput
 ingested_end (ends.BadFrame fault) = Some (BadFrame (reason_meaning fault.reason) fault.offset)
 ingested_end ends.ReadFault = None
 ingested_end ends.WriteFault = None
+ingested_end (ends.NotKept cause) = None
 ingested_end ends.TurnLimit = None
 ingested_end ends.Memory = None
 

@@ -160,6 +160,8 @@ fn serve_input<T: Turns>(
     let mut writer = MemorySink::new(Vec::new(alloc));
     match serve_exchange(alloc, server, &mut reader, &mut writer) {
         ExchangeEnd::Memory | ExchangeEnd::WriteFault => Err(RunFault::Memory),
+        // Only for lack of memory can a server not commit whose store and sink are in memory.
+        ExchangeEnd::NotKept(_cause) => Err(RunFault::Memory),
         end => Ok((writer.into_bytes(), end)),
     }
 }

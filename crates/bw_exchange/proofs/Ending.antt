@@ -18,9 +18,9 @@ use Rattle.bw_exchange.specs.AnsweredFrames.{Answered, answered_frames, replies_
 use Rattle.bw_exchange.specs.Ends.{end_meaning, end_so_far, IsFinal}
 use Rattle.bw_exchange.specs.Done.{last_of, AreFirstOf}
 use Rattle.bw_exchange.specs.WholeExchanges.{most_reads, ended_by, HasGiven, HasNoneLeft, ReachesEnd, AnswersAllRead, EndsBy}
-use Rattle.bw_exchange.specs.WholeExchanges.{Serves, ReadsNoFurther, reads_failed, writes_failed, IsLimited}
+use Rattle.bw_exchange.specs.WholeExchanges.{IsBrokenOff, Serves, ReadsNoFurther, reads_failed, writes_failed, IsLimited}
 use Rattle.bw_wire.specs.Held.{longest_message_piece}
-use Rattle.bw_exchange.specs.Pieces.{FeedsNext, StopsReading, WritesAnswers, StopsWriting}
+use Rattle.bw_exchange.specs.Pieces.{FeedsNext, EndsUnwritten, StopsReading, WritesAnswers, StopsWriting}
 use Rattle.bw_exchange.proofs.Going.{answers_append}
 use Rattle.bw_exchange.proofs.Lawful.{is_exchange}
 use Rattle.bw_exchange.proofs.Reading.{has_given-none, has_given-on, writes-none, writes-on}
@@ -107,6 +107,7 @@ no_more_read answers reads s later left left' left'' w w' e ends.Bye f stops = a
 no_more_read answers reads s later left left' left'' w w' e ends.EndOfInput f stops = absurd stops
 no_more_read answers reads s later left left' left'' w w' e (ends.BadFrame fault) f stops = absurd stops
 no_more_read answers reads s later left left' left'' w w' e ends.WriteFault f stops = absurd stops
+no_more_read answers reads s later left left' left'' w w' e (ends.NotKept cause) f stops = absurd stops
 no_more_read answers reads s later left left' left'' w w' e ends.TurnLimit f stops = absurd stops
 no_more_read answers reads s later left left' left'' w w' e ends.ReadFault f stops = record {
   answered = f.answered;
@@ -143,12 +144,13 @@ no_more_read answers reads s later left left' left'' w w' e ends.Memory f stops 
   );
 }
 
--- a write failed
-pub write_failed : {S : Type 0} (answers : S → Frame → List Reply → S → Type 0) (reads : ℕ) (s mid later : S)
+-- a write failed, or a commit
+pub write_failed : {S : Type 0} (answers : S → Frame → List Reply → S → Type 0) (end : ExchangeEnd) (reads : ℕ)
+    (s mid later : S)
     (left left' left'' w w' w'' : Option (List ℕ)) (moved moved' : ℕ) (a b : Exchange) →
     SoFar answers reads s mid left left' w w' a → FeedsNext left' left'' moved moved' a b →
-    StopsWriting answers mid later w' w'' b → Serves answers ends.WriteFault s later left left'' w w''
-write_failed answers reads s mid later left left' left'' w w' w'' moved moved' a b f n g =
+    StopsWriting answers end mid later w' w'' b → Serves answers end s later left left'' w w''
+write_failed answers end reads s mid later left left' left'' w w' w'' moved moved' a b f n g =
     let reported = g.reports (f.input ++ n.piece) f.answered f.output
     (fed_done f.input n.piece f.output f.answered a b f.done n.does)
     (gone_so_far answers reads s mid left left' w w' a f) in
@@ -162,8 +164,32 @@ write_failed answers reads s mid later left left' left'' w w' w'' moved moved' a
       taken = writes-on w w' w'' f.output g.bytes f.taken g.taken;
       prefix = reported.0;
       spelled = reported.2;
-      by_end = reported.1;
+      by_end = broken_by end g.stop reported.1;
     }
+  where
+    broken_by : (x : ExchangeEnd) → EndsUnwritten x →
+        IsBrokenOff x (f.answered ++ g.answered) (f.input ++ n.piece) (f.output ++ g.bytes) →
+        EndsBy x left left'' (f.answered ++ g.answered) (f.input ++ n.piece) (f.output ++ g.bytes)
+    broken_by ends.WriteFault stop h = h
+    broken_by (ends.NotKept cause) stop h = h
+    broken_by ends.Bye stop h = absurd stop
+    broken_by ends.EndOfInput stop h = absurd stop
+    broken_by (ends.BadFrame fault) stop h = absurd stop
+    broken_by ends.ReadFault stop h = absurd stop
+    broken_by ends.TurnLimit stop h = absurd stop
+    broken_by ends.Memory stop h = absurd stop
+
+-- no read failed then, and no limit was reached
+pub stopped_writing : (end : ExchangeEnd) → EndsUnwritten end → (n m m' c c' : ℕ) →
+    (n ≡ reads_failed end n) × IsLimited end m m' c c'
+stopped_writing ends.WriteFault stop n m m' c c' = (refl, tt)
+stopped_writing (ends.NotKept cause) stop n m m' c c' = (refl, tt)
+stopped_writing ends.Bye stop n m m' c c' = absurd stop
+stopped_writing ends.EndOfInput stop n m m' c c' = absurd stop
+stopped_writing (ends.BadFrame fault) stop n m m' c c' = absurd stop
+stopped_writing ends.ReadFault stop n m m' c c' = absurd stop
+stopped_writing ends.TurnLimit stop n m m' c c' = absurd stop
+stopped_writing ends.Memory stop n m m' c c' = absurd stop
 
 -- the limit of reads was reached
 pub limit_reached : {S : Type 0} (answers : S → Frame → List Reply → S → Type 0) (reads : ℕ) (s later : S)
@@ -263,6 +289,7 @@ stopped_counts ends.Bye left left' stops n m m' c c' = absurd stops
 stopped_counts ends.EndOfInput left left' stops n m m' c c' = absurd stops
 stopped_counts (ends.BadFrame fault) left left' stops n m m' c c' = absurd stops
 stopped_counts ends.WriteFault left left' stops n m m' c c' = absurd stops
+stopped_counts (ends.NotKept cause) left left' stops n m m' c c' = absurd stops
 stopped_counts ends.TurnLimit left left' stops n m m' c c' = absurd stops
 stopped_counts ends.ReadFault left left' stops n m m' c c' = (refl, tt)
 stopped_counts ends.Memory left left' stops n m m' c c' = (refl, tt)

@@ -12,3 +12,4 @@ pub mod Whole
 mod Ending
 pub mod GoodRuns
 pub mod LinkStatsLemmas
+mod Batches

@@ -6,6 +6,7 @@ pub mod Steps
 pub mod Parts
 pub mod Done
 pub mod WholeExchanges
+pub mod Commits
 pub mod Pieces
 pub mod TurnRuns
 pub mod LinkCounts

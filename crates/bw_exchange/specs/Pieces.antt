@@ -35,7 +35,7 @@ StopsReading ends.Memory left left' =
     × (length piece ≤ longest_message_piece) × (1 ≤ length piece)
 StopsReading end left left' = ⊥
 
--- frames were answered one by one, and all that waited was written after each
+-- frames were answered in batches, and all that waited was written after each
 pub record WritesAnswers {S : Type 0} (answers : S → Frame → List Reply → S → Type 0)
     (s later : S) (written written' : Option (List ℕ)) (e e' : Exchange) : Type 0 where
   pub answered : List Answered
@@ -50,9 +50,16 @@ pub record WritesAnswers {S : Type 0} (answers : S → Frame → List Reply → 
   pub final : is_some (end_of e) ≡ false → (fed : List ℕ) (before : List Answered) (gone : List ℕ) →
       HasDone fed before gone e → IfSome (end_so_far (end_of e')) IsFinal
 
--- the same, until a write failed
+-- it stopped at a write, or at a commit
+abbrev pub EndsUnwritten : ExchangeEnd → Type 0
+EndsUnwritten ends.WriteFault = Unit {0}
+EndsUnwritten (ends.NotKept cause) = Unit {0}
+EndsUnwritten end = ⊥
+
+-- the same, until a write failed, or a commit
 pub record StopsWriting {S : Type 0} (answers : S → Frame → List Reply → S → Type 0)
-    (s later : S) (written written' : Option (List ℕ)) (e : Exchange) : Type 0 where
+    (end : ExchangeEnd) (s later : S) (written written' : Option (List ℕ)) (e : Exchange) : Type 0 where
+  pub stop : EndsUnwritten end
   pub answered : List Answered
   pub by_server : AnswersAll answers s answered later
   pub bytes : List ℕ
@@ -60,5 +67,5 @@ pub record StopsWriting {S : Type 0} (answers : S → Frame → List Reply → S
   pub reports : (fed : List ℕ) (before : List Answered) (gone : List ℕ) → HasDone fed before gone e →
       gone ≡ replies_bytes (replies_of before) →
       AreFirstOf (answered_frames (before ++ answered)) fed
-      × IsBrokenOff (before ++ answered) fed (gone ++ bytes)
+      × IsBrokenOff end (before ++ answered) fed (gone ++ bytes)
       × IsTrue (list_all is_reply (replies_of (before ++ answered)))

@@ -1,5 +1,5 @@
 -- A whole exchange: what it reads, answers and writes, by how it ends.
-use Rattle.std.specs.Prelude.{◌≡◌, ◌⊎◌, ℕ, ◌-◌, ◌+◌, ◌^◌, ◌≤◌, Option, Some, List, [], ◌++◌, length}
+use Rattle.std.specs.Prelude.{◌≡◌, ◌⊎◌, ℕ, ◌-◌, ◌+◌, ◌^◌, ◌≤◌, Option, Some, List, [], ◌∷◌, ◌++◌, length}
 use Rattle.std.specs.Prelude.{min, IfSome, IsTrue}
 use Rattle.std.specs.List.{list_all}
 use Rattle.bw_model.specs.Wire.{Second, Frame}
@@ -74,9 +74,15 @@ pub record AnswersAllRead (answered : List Answered) (input output : List ℕ) :
   pub unended : IsFinal (stream_of Second input).1 → ⊥
   pub written : output ≡ replies_bytes (replies_of answered)
 
--- a prefix of the replies is written: those to all frames but the last that was answered, and what
--- more was taken
-pub record IsBrokenOff (answered : List Answered) (input output : List ℕ) : Type 0 where
+-- where a commit failed nothing more left
+abbrev pub MayLeave : ExchangeEnd → List ℕ → Type 0
+MayLeave (ends.NotKept cause) more = more ≡ []
+MayLeave end more = Unit {0}
+
+-- a prefix of the replies is written: those to all frames but the last that were answered, since the
+-- last commit but one, and what more was taken
+pub record IsBrokenOff (end_by : ExchangeEnd) (answered : List Answered) (input output : List ℕ)
+    : Type 0 where
   -- how the stream ends, if that was found: a bad frame has its reply too
   pub end : Option End
   pub is_end : IfSome end (λ x. stream_of Second input ≡ (answered_frames answered, x))
@@ -85,8 +91,8 @@ pub record IsBrokenOff (answered : List Answered) (input output : List ℕ) : Ty
   pub earlier : List Answered
   pub last : List Answered
   pub all : answered ≡ earlier ++ last
-  pub few : length last ≤ 1
   pub more : List ℕ
+  pub kept : MayLeave end_by more
   pub has_earlier : output ≡ replies_bytes (replies_of earlier) ++ more
 
 -- Nothing is read once the stream has ended: without the last piece that was read, no end was found
@@ -118,7 +124,10 @@ EndsBy (ends.BadFrame fault) left left' answered input output =
     ReachesEnd (BadFrame (reason_meaning fault.reason) fault.offset) left left' answered
     input output
 EndsBy ends.ReadFault left left' answered input output = AnswersAllRead answered input output
-EndsBy ends.WriteFault left left' answered input output = IsBrokenOff answered input output
+EndsBy ends.WriteFault left left' answered input output =
+    IsBrokenOff ends.WriteFault answered input output
+EndsBy (ends.NotKept cause) left left' answered input output =
+    IsBrokenOff (ends.NotKept cause) answered input output
 EndsBy ends.TurnLimit left left' answered input output =
     AnswersAllRead answered input output × (most_reads ≤ length input)
 EndsBy ends.Memory left left' answered input output =

@@ -15,6 +15,7 @@ pub fn end_name(end: ExchangeEnd) -> &'static str
         ExchangeEnd::BadFrame(_) => "BadFrame",
         ExchangeEnd::ReadFault => "ReadFault",
         ExchangeEnd::WriteFault => "WriteFault",
+        ExchangeEnd::NotKept(_) => "NotKept",
         ExchangeEnd::TurnLimit => "TurnLimit",
         ExchangeEnd::Memory => "Memory",
     }

@@ -168,6 +168,8 @@ impl Exchange {
         ensures answers { AnswersSome T.answers 1 (if result then 1 else 0) server.old server.new
             self.old self.new }
         ensures waiting { vec_len self.new.outgoing ≤ vec_len self.old.outgoing + longest_answer }
+        ensures stops { result ≡ false → IsIdle self.new }
+        ensures goes_on { result ≡ true → is_some (end_of self.new) ≡ false }
     {
         match take_next(server, &mut self.framer, &mut self.outgoing) {
             Step::WantsRead => {

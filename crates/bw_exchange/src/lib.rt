@@ -18,4 +18,4 @@ pub use exchange::{Exchange, FeedError};
 pub use link_stats::{KnownName, LinkStats, Metered};
 pub use serving::{ExchangeEnd, MESSAGE_PIECE, MOST_READS, serve_exchange};
 pub use step::StreamEnd;
-pub use turns::Turns;
+pub use turns::{NotKept, Turns};

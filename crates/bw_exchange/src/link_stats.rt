@@ -6,7 +6,7 @@ ghost use Rattle.bw_model.specs.Wire.{Says};
 ghost use Rattle.bw_wire.specs.Frames.{message_of};
 ghost use Rattle.bw_exchange.specs.LinkCounts.{none_counted, counting_frame};
 
-use crate::turns::Turns;
+use crate::turns::{NotKept, Turns};
 use arrayvec::ArrayVec;
 use bw_request::Name;
 use bw_wire::{Ask, Message, Reply};
@@ -188,10 +188,38 @@ impl<T> Metered<T> {
     }
 }
 
+impl<T: Turns> Metered<T> {
+    ghost use Rattle.std.specs.Prelude.{List};
+    ghost use Rattle.bw_model.specs.Wire.{Frame};
+    ghost use Rattle.bw_model.specs.Replies.{Reply as ModelReply};
+    ghost use Rattle.bw_exchange.specs.MeteredServers.{metered_counts, metered_server};
+
+    /// Has the wrapped server commit.
+    ///
+    /// # Errors
+    /// `NotKept` as it says.
+    pub fn commit_server(&mut self) -> Result<(), NotKept>
+        ensures commits { T.commits (metered_server self.old) result (metered_server self.new) }
+        ensures committed { T.committed (metered_server self.new) }
+        ensures idle { T.committed (metered_server self.old) →
+            metered_server self.new ≡ metered_server self.old }
+        ensures answered { (first : T) (frame : Frame) (replies : List ModelReply) →
+            T.answers first frame replies (metered_server self.old) →
+            T.answers first frame replies (metered_server self.new) }
+        ensures link_stats { metered_counts self.new ≡ metered_counts self.old }
+    {
+        self.server.commit()
+    }
+}
+
 impl<T: Turns> Turns for Metered<T> {
-    ghost use Rattle.bw_exchange.specs.MeteredServers.{AnswersCounted};
+    ghost use Rattle.bw_exchange.specs.MeteredServers.{AnswersCounted, metered_server};
 
     ghost answers = { AnswersCounted T.answers };
+
+    ghost committed = { λ t. T.committed (metered_server t) };
+
+    ghost commits = { λ t r t'. T.commits (metered_server t) r (metered_server t') };
 
     fn turn(&mut self, message: &Message<'_>, replies: &mut ArrayVec<Reply, 17>) {
         self.link_stats.count(message);
@@ -200,5 +228,9 @@ impl<T: Turns> Turns for Metered<T> {
 
     fn ask(&mut self, ask: &Ask<'_>) -> Reply {
         self.server.ask(ask)
+    }
+
+    fn commit(&mut self) -> Result<(), NotKept> {
+        self.commit_server()
     }
 }

@@ -1,18 +1,20 @@
 //! One exchange over a reader and a writer, to its end.
-ghost use Rattle.std.specs.Prelude.{◌≡◌, ◌+◌, ◌≤◌, [], length, true, false, IfErr, OnOk, OnErr};
+ghost use Rattle.std.specs.Prelude.{◌≡◌, ◌⊎◌, ◌+◌, ◌≤◌, ◌<◌, [], length, true, false, IfErr, OnOk, OnErr};
 ghost use Rattle.std.specs.Prelude.{is_some, IsTrue};
 ghost use Rattle.bw_model.specs.Wire.{are_bytes};
 ghost use Rattle.bw_stream.specs.Moves.{one_more, failures_after, Writes, Begins};
 ghost use Rattle.bw_wire.specs.Held.{longest_message_piece, longest_stream};
 ghost use Rattle.bw_exchange.specs.declared.serving.ExchangeEnd.TheVariants.{Memory};
 ghost use Rattle.bw_exchange.specs.Parts.{wants_piece, end_of, waiting_in, pending_of};
-ghost use Rattle.bw_exchange.specs.Done.{DoesMore, IsIdle};
+ghost use Rattle.bw_exchange.specs.Bounds.{most_before_answer, most_in_batch};
+ghost use Rattle.bw_exchange.specs.Done.{AnswersUpTo, DoesMore, IsIdle};
 ghost use Rattle.bw_exchange.specs.WholeExchanges.{most_reads, reads_failed, writes_failed, IsLimited, Serves};
+ghost use Rattle.bw_exchange.specs.Commits.{CommitsBatch, CommitsUntil, HasBatches, LosesBatch};
 ghost use Rattle.bw_exchange.specs.Pieces.{FeedsNext, StopsReading, WritesAnswers, StopsWriting};
 
 use crate::exchange::{Exchange, FeedError};
 use crate::step::StreamEnd;
-use crate::turns::Turns;
+use crate::turns::{NotKept, Turns};
 use bw_stream::{IoFailed, Sink, Source, write_all};
 use bw_wire::WireFault;
 use std::alloc::Global;
@@ -20,6 +22,9 @@ use std::alloc::Global;
 /// The longest piece of messages that is read, in bytes: eight of the longest frames, so that their
 /// digests can be computed at once.
 pub const MESSAGE_PIECE: usize = 262_480;
+
+/// How many frames more than one are answered between two commits, at most.
+const MOST_IN_BATCH: usize = 1 << 20;
 
 /// The most reads of an exchange.
 pub const MOST_READS: u64 = 1 << 32;
@@ -37,6 +42,8 @@ pub enum ExchangeEnd {
     ReadFault,
     /// The writer failed.
     WriteFault,
+    /// The server couldn't commit what it had answered.
+    NotKept(NotKept),
     /// 2^32 reads were not enough.
     TurnLimit,
     /// Memory was refused.
@@ -60,14 +67,15 @@ impl From<StreamEnd> for ExchangeEnd {
 
 /// Serves one exchange to its end.
 ///
-/// Each frame is answered by itself, and its replies are written before the next is taken. Bytes
-/// after `Bye` or a bad frame are ignored.
+/// The frames of a piece are answered, as many as there is room for the replies to, then the server
+/// commits them, and only then their replies are written. Bytes after `Bye` or a bad frame are
+/// ignored.
 ///
 /// `TurnLimit` is returned only after 2^32 reads, of 2^32 bytes or more.
 ///
 /// At `ReadFault` and `TurnLimit` all whole frames that were read are answered, and their replies
-/// written; at `Memory` those before the last piece; at `WriteFault` all but the last frame that
-/// was answered have their replies written.
+/// written; at `Memory` those before the last piece; at `WriteFault` and `NotKept` all but those
+/// that were answered since the last commit but one have their replies written.
 ///
 /// # Not specified
 /// - When memory is refused.
@@ -79,9 +87,12 @@ pub fn serve_exchange<R: Source, W: Sink, T: Turns>(
     reader: &mut R,
     writer: &mut W,
 ) -> ExchangeEnd
-    // What is written is the replies to these frames; at `WriteFault` a beginning of them.
+    // What is written is the replies to these frames; at `WriteFault` and `NotKept` a beginning.
     ensures served { Serves T.answers result server.old server.new
         (R.left reader.old) (R.left reader.new) (W.written writer.old) (W.written writer.new) }
+    ensures committed { T.committed server.old → T.committed server.new }
+    // Frames are answered in batches, each followed by a commit; only at `NotKept` the last fails.
+    ensures batches { CommitsUntil T.answers T.commits result server.old server.new }
     // A read is counted as failed exactly at `ReadFault`, a write at `WriteFault`.
     ensures reads { R.failures reader.new ≡ reads_failed result (R.failures reader.old) }
     ensures writes { W.failures writer.new ≡ writes_failed result (W.failures writer.old) }
@@ -99,8 +110,8 @@ pub fn serve_exchange<R: Source, W: Sink, T: Turns>(
         if let Err(end) = read_piece(&mut exchange, reader, buffer.as_mut_slice()) {
             return end;
         }
-        if let Err(_failed) = answer_held(&mut exchange, server, writer) {
-            return ExchangeEnd::WriteFault;
+        if let Err(end) = answer_held(&mut exchange, server, writer) {
+            return end;
         }
         if let Some(end) = exchange.end() {
             return ExchangeEnd::from(end);
@@ -163,29 +174,64 @@ fn feed_piece(exchange: &mut Exchange, piece: &[u8]) -> Result<(), ExchangeEnd>
     }
 }
 
-/// Has all whole frames answered, one by one, and writes the replies to each before the next.
+/// Has all whole frames answered, and writes their replies after each commit: as many frames as
+/// there is room for are answered, then the server commits, then all that waits is written.
 ///
 /// # Errors
-/// `IoFailed` if the writer failed: only a prefix of what waited was written.
+/// `WriteFault` if the writer failed: only a prefix of what waited was written. `NotKept` if the
+/// server could not commit: nothing of what waited is written.
 fn answer_held<T: Turns, W: Sink>(
     exchange: &mut Exchange,
     server: &mut T,
     writer: &mut W,
-) -> Result<(), IoFailed>
+) -> Result<(), ExchangeEnd>
     ensures answers { OnOk result (WritesAnswers T.answers server.old server.new
         (W.written writer.old) (W.written writer.new) exchange.old exchange.new) }
     ensures idle { OnOk result (IsIdle exchange.new) }
-    ensures stops { OnErr result (StopsWriting T.answers server.old server.new
+    ensures batches { OnOk result (HasBatches T.answers T.commits server.old server.new) }
+    ensures until { IfErr result (λ end. CommitsUntil T.answers T.commits end server.old server.new) }
+    ensures committed { T.committed server.old → T.committed server.new }
+    ensures stops { IfErr result (λ end. StopsWriting T.answers end server.old server.new
         (W.written writer.old) (W.written writer.new) exchange.old) }
-    ensures count { W.failures writer.new ≡ failures_after result (W.failures writer.old) }
+    ensures count { OnOk result (W.failures writer.new ≡ W.failures writer.old) }
+    ensures failed { IfErr result (λ end.
+        W.failures writer.new ≡ writes_failed end (W.failures writer.old)) }
 {
     // If the input ended inside a frame, the reply to it waits.
-    write_waiting(exchange, writer)?;
+    let Ok(()) = write_waiting(exchange, writer) else {
+        return Err(ExchangeEnd::WriteFault);
+    };
     while !exchange.is_idle() {
-        exchange.answer_one(server);
-        write_waiting(exchange, writer)?;
+        if let Err(cause) = answer_batch(exchange, server) {
+            return Err(ExchangeEnd::NotKept(cause));
+        }
+        let Ok(()) = write_waiting(exchange, writer) else {
+            return Err(ExchangeEnd::WriteFault);
+        };
     }
     Ok(())
+}
+
+/// Has as many whole frames answered as there is room for, and commits them.
+///
+/// # Errors
+/// `NotKept` if the server could not commit them.
+fn answer_batch<T: Turns>(exchange: &mut Exchange, server: &mut T) -> Result<(), NotKept>
+    requires room { length (waiting_in exchange.old) ≤ most_before_answer }
+    requires open { is_some (end_of exchange.old) ≡ false }
+    ensures answers { AnswersUpTo T.answers most_in_batch server.old server.new exchange.old exchange.new }
+    ensures batch { OnOk result (CommitsBatch T.answers T.commits server.old server.new) }
+    ensures lost { IfErr result (λ cause.
+        LosesBatch T.answers T.commits cause server.old server.new) }
+    ensures progress { IsIdle exchange.new
+        ⊎ (length (pending_of exchange.new).bytes < length (pending_of exchange.old).bytes) }
+    ensures committed { T.committed server.old → T.committed server.new }
+{
+    if !exchange.answer_one(server) {
+        return Ok(());
+    }
+    exchange.answer(server, MOST_IN_BATCH);
+    server.commit()
 }
 
 /// Writes all that waits.

@@ -8,7 +8,8 @@ use Rattle.bw_store.specs.Stores.{Written, overwritten}
 use Rattle.bw_disk.specs.Volumes.{ReadsPrefix, WrittenInPart}
 use Rattle.bw_journal.specs.Notes.{BeginsWith, IsPrefixOf, IsShortOf, Starts, StartsInPart}
 use Rattle.bw_journal.proofs.Starts.{starts_whole, starts_short}
-use Rattle.bw_folder.proofs.Appended.{overwritten_over, overwritten_part}
+use Rattle.bw_folder.proofs.Appended.{overwritten_part}
+use Rattle.bw_journal.proofs.Overwritten.{overwritten_over}
 
 some_of : (content : Option (List ℕ)) → IsSome content → (found : List ℕ) × (content ≡ Some found)
 some_of None e = absurd (let no : false ≡ true = e in cc)

@@ -40,7 +40,7 @@ pub(crate) fn open_or_make<D: Volume>(disk: &mut D, path: &str) -> Result<D::Fil
 pub(crate) fn put_header<D: Volume>(
     disk: &mut D,
     file: &mut D::File,
-    header: &[u8; 29],
+    header: &[u8; JournalHeader::LEN],
 ) -> Result<(), StoreFault>
     ensures path { D.path_of file.new ≡ D.path_of file.old }
     ensures begun { IsTrue (D.honest disk.old) → OnOk result (Starts header.now

@@ -1,12 +1,20 @@
 -- What to do about a fault of a file, as a line below that of the fault.
-use Rattle.std.specs.Prelude.{ℕ, List, [], ◌==◌, codes, if◌then◌else◌}
+use Rattle.std.specs.Prelude.{ℕ, List, [], ◌==◌, Option, Some, None, codes, if◌then◌else◌}
 use Rattle.bw_inspect.specs.declared.fault.InspectKind.{InspectKind}
 use Rattle.bw_inspect.specs.declared.fault.InspectKind.TheVariants.{NotWave, Truncated, NoSize, Read}
+use Rattle.bw_inspect.specs.declared.other.OtherFormat.{OtherFormat}
+use Rattle.bw_inspect.specs.declared.other.OtherFormat.TheVariants.{Flac, Aiff, Wave64}
 
 -- the file begins as no WAVE file does
 abbrev pub convert_line : List ℕ
 convert_line =
     codes "hint: no WAVE file: convert FLAC, AIFF, W64 and others: ffmpeg -i OLD -c:a pcm_s24le NEW.wav\n"
+
+-- the file begins as one of these does
+abbrev pub format_line : OtherFormat → List ℕ
+format_line Flac = codes "hint: a FLAC file: convert it: ffmpeg -i OLD -c:a pcm_s24le NEW.wav\n"
+format_line Aiff = codes "hint: an AIFF file: convert it: ffmpeg -i OLD -c:a pcm_s24le NEW.wav\n"
+format_line Wave64 = codes "hint: a Wave64 file: convert it: ffmpeg -i OLD -c:a pcm_s24le NEW.wav\n"
 
 -- not one byte can be read
 abbrev pub no_bytes_line : List ℕ
@@ -36,3 +44,13 @@ file_hint NotWave place = outer_hint place
 file_hint Truncated place = mend_line
 file_hint NoSize place = mend_line
 file_hint kind place = form_hint kind place
+
+-- .. about any fault of a file whose bytes name this other format
+abbrev pub named_hint : InspectKind → ℕ → OtherFormat → List ℕ
+named_hint NotWave place format = format_line format
+named_hint kind place format = file_hint kind place
+
+-- .. whose bytes name this other format, if any
+abbrev pub start_hint : InspectKind → ℕ → Option OtherFormat → List ℕ
+start_hint kind place None = file_hint kind place
+start_hint kind place (Some format) = named_hint kind place format

@@ -3,4 +3,4 @@
 
 mod hints;
 
-pub use hints::{hint_of, hint_of_form};
+pub use hints::{hint_of, hint_of_form, hint_of_format, hint_of_start};

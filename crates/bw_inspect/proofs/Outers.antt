@@ -8,7 +8,9 @@ use Rattle.bw_model.specs.Reading as reading
 use Rattle.bw_layout.specs.declared.chunk.ChunkHead.{ChunkHead}
 use Rattle.bw_inspect.specs.declared.fault.InspectFault.{InspectFault}
 use Rattle.bw_inspect.specs.declared.fault.InspectKind.TheVariants.{NotWave}
-use Rattle.bw_inspect.specs.Faults.{bytes_fault, is_of_bytes}
+use Rattle.bw_inspect.specs.Faults.{bytes_fault, is_failed_read, is_of_bytes}
+use Rattle.bw_inspect.specs.OtherFormats.{other_format_of, format_named}
+use Rattle.bw_inspect.specs.declared.other.OtherFormat.{OtherFormat}
 use Rattle.bw_inspect.specs.Places.{IsGiven, IsMissed, Nowhere}
 use Rattle.bw_inspect.specs.Contents.{IsStopped}
 use Rattle.bw_inspect.specs.Outers.{IsOpened, IsOutside, WantsDs64, form_faults, names_form, opening_faults}
@@ -100,6 +102,14 @@ opening_missed b cut f left q m = record {
   fault = λ g h. let x = m.cuts (ap not (bytes_no_read f.kind (of_bytes f g h))) in
       short b (lt-ltb (length b) 12 x.1) ∙ (sym (ap bytes_fault (x.0 ∙ q)) ∙ h);
 }
+
+-- bytes that end before it name no format
+pub short_format : (b : List ℕ) (cut f : InspectFault) (left : Option (List ℕ)) → IsMissed b 0 12 cut f left →
+    is_failed_read f.kind ≡ false → None ≡ other_format_of b
+short_format b cut f left m kept =
+    let short : nat_lt (length b) 12 ≡ true = lt-ltb (length b) 12 (m.cuts (ap not kept)).1 in
+    let none : Option OtherFormat = None in
+    sym (ap (λ (v : Bool). cond v none (format_named (slice_range b 0 12))) short)
 
 -- the parts of the opening
 pub opened_id : (b buf : List ℕ) → buf ≡ slice_range b 0 12 → slice_range buf 0 4 ≡ reading.id_at b 0

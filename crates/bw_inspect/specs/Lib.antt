@@ -1,4 +1,5 @@
 pub mod Faults
+pub mod OtherFormats
 pub mod ReaderCalls
 pub mod Lines
 pub mod Reports

@@ -9,6 +9,7 @@ mod ds64;
 mod fault;
 pub mod laws;
 mod line;
+mod other;
 mod outer;
 mod places;
 mod reading;
@@ -20,7 +21,8 @@ mod walk;
 mod write;
 
 pub use fault::{InspectFault, InspectKind};
+pub use other::OtherFormat;
 pub use places::{read_at, skip_at};
-pub use reading::inspect;
+pub use reading::{inspect, inspect_recognizing};
 pub use report::{BextChunk, Chunks, Cues, ListedChunk, Report};
 pub use write::{WriteFailed, write_report};

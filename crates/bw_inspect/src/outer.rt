@@ -8,6 +8,7 @@ ghost use Rattle.bw_inspect.specs.Faults.{bytes_fault, is_of_bytes};
 ghost use Rattle.bw_inspect.specs.Places.{Nowhere};
 ghost use Rattle.bw_stream.specs.Readers.{Of};
 ghost use Rattle.bw_inspect.specs.Contents.{IsStopped};
+ghost use Rattle.bw_inspect.specs.OtherFormats.{NamesFormat};
 ghost use Rattle.bw_inspect.specs.Outers.{BeginsForm, IsOpened, IsOutside, OnWide, form_faults};
 ghost use Rattle.bw_inspect.specs.Outers.{names_form, opening_faults};
 ghost use Rattle.bw_inspect.specs.Walks.{IsSmall};
@@ -15,6 +16,7 @@ ghost use Rattle.bw_inspect.specs.Walks.{IsSmall};
 use crate::chunk::{LARGEST, is_named};
 use crate::ds64::{read_ds64, read_ds64_head};
 use crate::fault::{InspectFault, InspectKind, fault_at};
+use crate::other::{OtherFormat, other_format};
 use crate::places::read_at;
 use crate::walk::{Form, Walk, begin, list_chunk};
 use bw_bytes::{read_id, read_u32};
@@ -22,13 +24,15 @@ use bw_layout::{ChunkHead, ChunkId};
 use bw_stream::Source;
 use std::alloc::Global;
 
-/// Reads the outer header, and in BW64 and RF64 the `ds64` chunk after it.
+/// Reads the outer header, and in BW64 and RF64 the `ds64` chunk after it. `other` becomes the
+/// format that the first bytes name, if that is none that is read.
 ///
 /// # Errors
 /// The first fault of the outer header; Read; Memory.
 pub(crate) fn read_outer<R: Source>(
     alloc: Global,
     reader: &mut R,
+    other: &mut Option<OtherFormat>,
 ) -> Result<(Form, Walk), InspectFault>
     ensures consumed { Consumes R.Source longest_end result reader.old reader.new }
     ensures passed { IfOk result (λ r.
@@ -40,8 +44,9 @@ pub(crate) fn read_outer<R: Source>(
         BeginsForm b r.0 r.1 (R.left reader.new))) }
     ensures err { IfErr result (λ f. Of (R.left reader.old) (λ b.
         IsOutside b f (R.left reader.new))) }
+    ensures other { NamesFormat result (R.left reader.old) other.new }
 {
-    let opening = read_opening(reader)?;
+    let opening = read_opening(reader, other)?;
     if !is_named(opening.id, *b"RIFF") {
         return read_wide(alloc, reader, opening);
     }
@@ -59,19 +64,25 @@ pub(crate) fn read_outer<R: Source>(
 }
 
 /// Reads the first 12 bytes of a file: the form's id, its size as far as four bytes can hold it,
-/// and `WAVE`.
+/// and `WAVE`; and the format that they name, if it is another.
 ///
 /// # Errors
 /// NotWave; Read.
-fn read_opening<R: Source>(reader: &mut R) -> Result<ChunkHead, InspectFault>
+fn read_opening<R: Source>(
+    reader: &mut R,
+    other: &mut Option<OtherFormat>,
+) -> Result<ChunkHead, InspectFault>
     ensures consumed { Consumes R.Source 12 result reader.old reader.new }
     ensures ok { IfOk result (λ h. Of (R.left reader.old) (λ b.
         IsOpened b h (R.left reader.new))) }
     ensures err { IfErr result (λ f. Of (R.left reader.old) (λ b.
         IsStopped b 12 12 Nowhere (opening_faults b) f (R.left reader.new))) }
+    ensures other { NamesFormat result (R.left reader.old) other.new }
 {
     let mut bytes = [0; 12];
+    *other = None;
     read_at(reader, 0, &mut bytes, fault_at(InspectKind::NotWave, 0))?;
+    *other = other_format(&bytes);
     let id = ChunkId(read_id(&bytes, 0));
     if !is_form(id) {
         return Err(fault_at(InspectKind::NotWave, 0));

@@ -5,6 +5,7 @@ ghost use Rattle.bw_model.specs.Bytes.{first_that_holds};
 ghost use Rattle.bw_model.specs.Reading.{end_faults};
 ghost use Rattle.bw_inspect.specs.ReaderCalls.{Consumes, longest_end};
 ghost use Rattle.bw_inspect.specs.Faults.{bytes_fault, is_of_bytes};
+ghost use Rattle.bw_inspect.specs.OtherFormats.{NamesFormat};
 ghost use Rattle.bw_stream.specs.Readers.{Of};
 ghost use Rattle.bw_inspect.specs.Known.{facts_of, facts_in};
 ghost use Rattle.bw_inspect.specs.Walks.{IsSmall, form_by, seen_by};
@@ -12,6 +13,7 @@ ghost use Rattle.bw_inspect.specs.Readings.{HasReading, IsBounded, IsReported, O
 ghost use Rattle.bw_inspect.specs.Readings.{GivesReport};
 
 use crate::fault::{InspectFault, InspectKind, fault_at};
+use crate::other::OtherFormat;
 use crate::outer::read_outer;
 use crate::report::{Chunks, Cues, Report};
 use crate::walk::{Form, Known, Walk, next_chunk};
@@ -45,7 +47,34 @@ pub fn inspect<R: Source>(alloc: Global, reader: &mut R) -> Result<Report, Inspe
     ensures only { IfErr result (λ f. Of (R.left reader.old) (λ b.
         HasReading b → is_of_bytes f.kind ≡ false)) }
 {
-    let (form, mut walk) = read_outer(alloc, reader)?;
+    let mut other = None;
+    inspect_recognizing(alloc, reader, &mut other)
+}
+
+/// The same as `inspect`. `other` becomes the format that the first 12 bytes name, if that is none
+/// that is read.
+///
+/// # Errors
+/// Those of `inspect`.
+///
+/// # Not specified
+/// What `inspect` doesn't specify; and what `other` becomes if the reader failed.
+pub fn inspect_recognizing<R: Source>(
+    alloc: Global,
+    reader: &mut R,
+    other: &mut Option<OtherFormat>,
+) -> Result<Report, InspectFault>
+    ensures consumed { Consumes R.Source longest_end result reader.old reader.new }
+    ensures within { IfOk result (λ r. R.moved reader.new ≤ R.moved reader.old + (8 + r.size)) }
+    ensures ok { IfOk result (λ r. Of (R.left reader.old) (λ b. GivesReport b r (R.left reader.new))) }
+    ensures err { IfErr result (λ f. Of (R.left reader.old) (λ b.
+        Refuses b f (R.left reader.new))) }
+    ensures bounded { IfOk result (λ r. IsBounded r) }
+    ensures only { IfErr result (λ f. Of (R.left reader.old) (λ b.
+        HasReading b → is_of_bytes f.kind ≡ false)) }
+    ensures other { NamesFormat result (R.left reader.old) other.new }
+{
+    let (form, mut walk) = read_outer(alloc, reader, other)?;
     while next_chunk(alloc, reader, &form, &mut walk)? {}
     finish(alloc, form, walk)
 }

@@ -1,18 +1,16 @@
 -- Entries are read back as they were noted.
-use Rattle.std.proofs.Common.{◌≡◌, ℕ, zero, suc, ◌+◌, ◌-◌, ◌≤◌, Bool, true, false, cond, not, Option, Some, None, Ok}
+use Rattle.std.proofs.Common.{◌≡◌, ℕ, zero, suc, ◌-◌, ◌≤◌, Bool, true, false, cond, not, Option, Some, None, Ok}
 use Rattle.std.proofs.Common.{List, [], ◌∷◌, length, take, drop, refl, sym, ap, subst, ◌∙◌, arith}
 use Rattle.std.specs.Prelude.{slice_index, nat_le, nat_lt, ◌==◌}
-use Rattle.std.specs.Str.{bytes_eq}
 use Rattle.std.proofs.lemmas.Bool.{and_parts, and_from, eq-eqb, le-leb, le-ltb, leb-true, not-false}
 use Rattle.std.proofs.lemmas.List.{take-replicate, take_rest}
-use Rattle.bw_model.specs.Bytes.{first_that_holds, zeros, u16_at, u32_at, is_within}
+use Rattle.bw_model.specs.Bytes.{first_that_holds, zeros, u32_at, is_within}
 use Rattle.bw_model.specs.Take.{Request, Block, Verdict}
 use Rattle.bw_model.specs.Wire.{is_request, are_bytes, is_below, is_payload, request_of, decoded_request, Kind, Payload}
 use Rattle.bw_model.specs.Replies.{verdict_of}
 use Rattle.bw_model.proofs.Payloads.{IsPayloadOf, payload_from_test}
 use Rattle.bw_model.proofs.SpellingLaws.{unless_ok}
 use Rattle.bw_journal.specs.Entries.{block_noted, request_in, made_of, entry_in}
-use Rattle.bw_journal.specs.Seals.{opened, check, has_length}
 
 -- this many zeros in place of samples
 pub some_zeros : (n : ℕ) (z : List ℕ) → n ≤ 32768 → z ≡ zeros 32768 → take n z ≡ zeros n
@@ -67,24 +65,6 @@ entry_reads bytes v r long code request = entry_with bytes v (Some r) long code 
 pub entry_missing : (bytes : List ℕ) (v : Verdict) → 34 ≤ length bytes → verdict_of (slice_index bytes 0) ≡ Some v →
     None ≡ request_in (take (length bytes - 33) (drop 33 bytes)) → None ≡ entry_in bytes
 entry_missing bytes v long code request = entry_with bytes v None long code request
-
-pub opened_reads : (bytes : List ℕ) (n a b : ℕ) → n ≡ u16_at bytes 0 → 4 ≤ length bytes → has_length bytes ≡ true →
-    12 + n ≤ length bytes → a ≡ n → b ≡ 8
-    → bytes_eq (take b (drop (4 + n) bytes)) (check (take a (drop 4 bytes))) ≡ true →
-    Some (take a (drop 4 bytes)) ≡ opened bytes
-unfolding opened
-opened_reads bytes n a b is long sound whole ea eb good =
-    let first : nat_lt (length bytes) 4 ≡ false = le-ltb (length bytes) 4 long in
-    let second : nat_lt (length bytes) (12 + u16_at bytes 0) ≡ false =
-    le-ltb (length bytes) (12 + u16_at bytes 0) (omega arith) in
-    let ea' : a ≡ u16_at bytes 0 = omega arith in
-    let found : bytes_eq (take 8 (drop (4 + u16_at bytes 0) bytes)) (check (take (u16_at bytes 0) (drop 4 bytes))) ≡
-    true =
-    subst (λ (k : ℕ). bytes_eq (take 8 (drop (4 + k) bytes)) (check (take (u16_at bytes 0) (drop 4 bytes))) ≡ true) is
-    (subst (λ (k : ℕ). bytes_eq (take 8 (drop (4 + n) bytes)) (check (take k (drop 4 bytes))) ≡ true) ea'
-    (subst (λ (k : ℕ). bytes_eq (take k (drop (4 + n) bytes)) (check (take a (drop 4 bytes))) ≡ true) eb good)) in
-    ap (λ (k : ℕ). Some (take k (drop 4 bytes))) ea'
-    ∙ sym (rw (first, sound, second, found) refl)
 
 two_pass : (a b : Bool) → first_that_holds ((a, Kind) ∷ (b, Payload) ∷ []) ≡ None → (a ≡ false) × (b ≡ false)
 two_pass true b e = absurd cc

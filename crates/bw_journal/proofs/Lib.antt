@@ -3,8 +3,9 @@ pub mod Lengths
 pub mod ReplaySteps
 pub mod RowLaws
 pub mod SealLaws
-pub mod SealPlaces
-pub mod TornLaws
+pub mod LineLaws
+pub mod StuffLaws
+pub mod EntryLaws
 pub mod HeaderReads
 pub mod HeaderWrites
 pub mod SpeltLaws
@@ -12,6 +13,8 @@ pub mod ShortEntries
 pub mod HeaderStands
 pub mod BareLaws
 pub mod ReportLaws
+pub mod SurvivingEntries
+pub mod WrittenEntries
 pub mod CutLaws
 pub mod Taken
 pub mod RecoveryLaws
@@ -20,3 +23,5 @@ pub mod BetweenLaws
 pub mod Starts
 pub mod StopLaws
 pub mod StandingForms
+pub mod ClosedForms
+pub mod Overwritten

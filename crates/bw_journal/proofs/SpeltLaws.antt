@@ -1,80 +1,57 @@
 -- If an entry is read, its bytes are there.
-use Rattle.std.proofs.Common.{◌≡◌, ℕ, ◌+◌, ◌-◌, ◌^◌, ◌≢◌, Bool, true, false, cond, not, ◌&&◌, Option, Some, None}
+use Rattle.std.proofs.Common.{◌≡◌, ℕ, suc, ◌+◌, ◌^◌, ◌≢◌, Bool, true, false, cond, ◌&&◌, Option, Some, None}
 use Rattle.std.proofs.Common.{Result, Ok, Err, List, [], ◌∷◌, ◌++◌, length, take, drop, refl, sym, ap, subst, ◌∙◌}
-use Rattle.std.proofs.Common.{append_assoc, arith}
+use Rattle.std.proofs.Common.{inl, inr, arith}
 use Rattle.std.specs.Prelude.{option_map, option_and_then, nat_lt, ◌==◌, find}
-use Rattle.std.specs.Int.{w16, w32}
-use Rattle.std.specs.Str.{bytes_eq}
-use Rattle.std.proofs.lemmas.Bool.{and_parts, eqb-true, ltb-false}
-use Rattle.std.proofs.lemmas.List.{take_at, drop-drop, drop_all, length-take-le, length-drop, take-append-drop}
-use Rattle.bw_model.specs.Bytes.{le16, le32, u16_at, u32_at, zeros, is_within}
+use Rattle.std.specs.Int.{w32}
+use Rattle.std.proofs.lemmas.Bool.{and_parts, and_from, eqb-true, cases_lt, lt-ltb}
+use Rattle.std.proofs.lemmas.List.{drop_all, take-append-drop}
+use Rattle.std.proofs.lemmas.List.Folds.{list_all-append}
+use Rattle.bw_model.specs.Bytes.{le32, u32_at, zeros, is_within}
 use Rattle.bw_model.specs.Take.{Request, Open, Block, Mark, SetField, Close, Verdict}
 use Rattle.bw_model.specs.Wire.{kind, payload, are_bytes, is_below, request_of, decoded_request, Reason}
 use Rattle.bw_model.specs.Replies.{verdict_code, verdict_of, verdicts}
-use Rattle.bw_model.proofs.ByteNumbers.{are_bytes-parts, wide16, wide32, written-number_at}
-use Rattle.bw_model.proofs.BookLemmas.{same_name}
+use Rattle.bw_model.proofs.ByteNumbers.{are_bytes-parts, wide32, written-number_at}
 use Rattle.bw_model.proofs.Elements.{some_inj}
-use Rattle.bw_journal.specs.Seals.{check, sealed, opened}
+use Rattle.bw_journal.specs.Lines.{journal_lines, stuffed}
+use Rattle.bw_journal.specs.Seals.{check, sealed_line, sealed, opened}
 use Rattle.bw_journal.specs.Entries.{JournalEntry, noted, content, sealed_entry, entry_in, entry_with_len, first_entry}
-use Rattle.bw_journal.specs.Entries.{made_of}
+use Rattle.bw_journal.specs.Entries.{content_of_first, first_content, made_of}
 use Rattle.bw_journal.specs.Entries.{request_in, block_noted, value_in}
 use Rattle.bw_journal.specs.NotedJournals.{ReadEntriesStand}
 use Rattle.bw_journal.proofs.EntryReads.{decoded, zeros-length}
-use Rattle.bw_journal.proofs.Lengths.{sealed-length}
+use Rattle.bw_journal.proofs.LineLaws.{line_taken}
+use Rattle.bw_journal.proofs.SealLaws.{opened_stands}
+use Rattle.bw_journal.proofs.StuffLaws.{few, many}
 
 none_some : {X : Type 0} {x : X} → None ≡ Some x → ⊥
 none_some e = cc
 
--- four tests that passed
-chain : {X : Type 0} (a s b c : Bool) (x y : X) →
-    cond a None (cond (not s) None (cond b None (cond c (Some x) None))) ≡ Some y →
-    (a ≡ false) × (s ≡ true) × (b ≡ false) × (c ≡ true) × (x ≡ y)
-chain true s b c x y e = absurd (none_some e)
-chain false false b c x y e = absurd (none_some e)
-chain false true true c x y e = absurd (none_some e)
-chain false true false true x y e = (refl, refl, refl, refl, some_inj e)
-chain false true false false x y e = absurd (none_some e)
+-- a line's content has bytes
+unstuffed_bytes : (bs : List ℕ) → are_bytes (stuffed bs) ≡ true → are_bytes bs ≡ true
+unstuffed_bytes [] h = refl
+unstuffed_bytes (b ∷ bs) h = elim (cases_lt b 3) [
+  | inl low ↦
+      let more = and_parts (is_below 256 (b + 3)) (are_bytes (stuffed bs)) (ap are_bytes (sym (few b bs low)) ∙ h) in
+      and_from (is_below 256 b) (are_bytes bs) (lt-ltb b 256 (omega (arith, low))) (unstuffed_bytes bs more.1)
+  | inr high ↦
+      let more = and_parts (is_below 256 b) (are_bytes (stuffed bs)) (ap are_bytes (sym (many b bs high)) ∙ h) in
+      and_from (is_below 256 b) (are_bytes bs) more.0 (unstuffed_bytes bs more.1)
+]
 
--- what was opened is sealed at the start
-pub opened_stands : (bytes c : List ℕ) → are_bytes bytes ≡ true → opened bytes ≡ Some c →
-    (take (12 + length c) bytes ≡ sealed c) × (c ≡ take (u16_at bytes 0) (drop 4 bytes))
-unfolding opened sealed
-opened_stands bytes c fits e =
-    let n = u16_at bytes 0 in
-    let m = u16_at bytes 2 in
-    let d = drop 4 bytes in
-    let t = chain (nat_lt (length bytes) 4) (n + m == 65535) (nat_lt (length bytes) (12 + n))
-    (bytes_eq (take 8 (drop (4 + n) bytes)) (check (take n d))) (take n d) c e in
-    let long = ltb-false _ _ t.0 in
-    let sum : n + m ≡ 65535 = eqb-true _ _ t.1 in
-    let whole = ltb-false _ _ t.2 in
-    let is = t.4 in
-    let d_len : length d ≡ length bytes - 4 = length-drop 4 bytes in
-    let c_len : length c ≡ n = sym (ap length is) ∙ length-take-le n d (omega arith) in
-    let number : le16 n ++ drop 2 bytes ≡ bytes =
-    (written-number_at w16 (2 ^ 16) wide16 bytes 0 fits (omega (arith, long))).0 in
-    let second : le16 m ++ d ≡ drop 2 bytes =
-    (written-number_at w16 (2 ^ 16) wide16 bytes 2 fits (omega (arith, long))).0 in
-    let chk = take 8 (drop (4 + n) bytes) in
-    let rest = drop 8 (drop n d) in
-    let following : drop (4 + n) bytes ≡ drop n d = sym (drop-drop n 4 bytes) in
-    let good : take 8 (drop n d) ≡ check c =
-    ap (take 8) (sym following) ∙ same_name chk (check (take n d)) t.3 ∙ ap check is in
-    let sealed_here : d ≡ (c ++ check c) ++ rest =
-    sym (take-append-drop n d) ∙ ap (λ (x : List ℕ). x ++ drop n d) is
-    ∙ ap (λ (x : List ℕ). c ++ x) (sym (take-append-drop 8 (drop n d)) ∙ ap (λ (x : List ℕ). x ++ rest) good)
-    ∙ sym (append_assoc c (check c) rest) in
-    let other : m ≡ 65535 - length c = omega (arith, sum, c_len) in
-    let parted : bytes ≡ (le16 (length c) ++ le16 (65535 - length c) ++ c ++ check c) ++ rest =
-    sym number
-    ∙ ap (λ (k : ℕ). le16 k ++ drop 2 bytes) (sym c_len)
-    ∙ ap (λ (x : List ℕ). le16 (length c) ++ x) (sym second)
-    ∙ ap (λ (k : ℕ). le16 (length c) ++ (le16 k ++ d)) other
-    ∙ ap (λ (x : List ℕ). le16 (length c) ++ (le16 (65535 - length c) ++ x)) sealed_here in (
-      ap (take (12 + length c)) parted
-          ∙ take_at (le16 (length c) ++ le16 (65535 - length c) ++ c ++ check c) rest (12 + length c) (sealed-length c),
-      sym is,
-    )
+first_bytes : (xs ys : List ℕ) → are_bytes (xs ++ ys) ≡ true → are_bytes xs ≡ true
+first_bytes xs ys h = (and_parts (are_bytes xs) (are_bytes ys) (sym (list_all-append (is_below 256) xs ys) ∙ h)).0
+
+content_bytes : (l c : List ℕ) → opened l ≡ Some c → are_bytes l ≡ true → are_bytes c ≡ true
+unfolding sealed_line
+content_bytes l c e fits =
+    first_bytes c (check c)
+    (unstuffed_bytes (c ++ check c) (ap are_bytes (opened_stands l c e) ∙ fits))
+
+are_bytes-of_line : (bytes l : List ℕ) → are_bytes bytes ≡ true → take (suc (length l)) bytes ≡ l ++ 2 ∷ [] →
+    are_bytes l ≡ true
+are_bytes-of_line bytes l fits e =
+    first_bytes l (2 ∷ []) (ap are_bytes (sym e) ∙ (are_bytes-parts (suc (length l)) bytes fits).0)
 
 found_passes : {X : Type 0} (test : X → Bool) (xs : List X) (x : X) → find test xs ≡ Some x → test x ≡ true
 found_passes test [] x e = absurd (none_some e)
@@ -173,22 +150,31 @@ content_stands (k ∷ b) e fits h = go (nat_lt (length (k ∷ b)) 34) h
         ∙ ap (λ (x : List ℕ). k ∷ x) (take-append-drop 32 b)
 
 pub read_entries_stand : ReadEntriesStand
-unfolding first_entry
-read_entries_stand bytes e n fits h = go (opened bytes) refl h
+unfolding first_entry first_content
+read_entries_stand bytes e n fits h = go (journal_lines bytes) refl h
   where
-    go : (o : Option (List ℕ)) → opened bytes ≡ o → option_and_then entry_with_len o ≡ Some (e, n) →
+    go : (ls : List (List ℕ)) → journal_lines bytes ≡ ls → option_and_then entry_with_len (content_of_first ls) ≡ Some (e, n) →
         take n bytes ≡ sealed_entry e
-    go None p h = absurd (none_some h)
-    go (Some c) p h = found (entry_in c) refl h
+    go [] p h = absurd (none_some h)
+    go (l ∷ ls) p h = read (opened l) refl h
       where
-        found : (x : Option JournalEntry) → entry_in c ≡ x →
-            option_map {U = JournalEntry × ℕ} (λ y. (y, 12 + length c)) x ≡ Some (e, n) → take n bytes ≡ sealed_entry e
-        found None q h = absurd (none_some h)
-        found (Some y) q h =
-            let pair : (y, 12 + length c) ≡ (e, n) = some_inj h in
-            let s = opened_stands bytes c fits p in
-            let c_fits : are_bytes c ≡ true =
-            subst (λ (x : List ℕ). are_bytes x ≡ true) (sym s.1)
-            (are_bytes-parts (u16_at bytes 0) (drop 4 bytes) (are_bytes-parts 4 bytes fits).1).0 in
-            ap (λ (k : ℕ). take k bytes) (sym (ap (λ (z : JournalEntry × ℕ). z.1) pair)) ∙ s.0
-            ∙ ap sealed (sym (content_stands c y c_fits q)) ∙ ap (λ (z : JournalEntry × ℕ). sealed_entry z.0) pair
+        there : take (suc (length l)) bytes ≡ l ++ 2 ∷ []
+        there = line_taken bytes l ls p
+
+        read : (o : Option (List ℕ)) → opened l ≡ o →
+            option_and_then entry_with_len (option_map {U = List ℕ × ℕ} (λ c. (c, suc (length l))) o) ≡ Some (e, n) →
+            take n bytes ≡ sealed_entry e
+        read None q h = absurd (none_some h)
+        read (Some c) q h = found (entry_in c) refl h
+          where
+            fits_here : are_bytes c ≡ true
+            fits_here = content_bytes l c q (are_bytes-of_line bytes l fits there)
+
+            found : (x : Option JournalEntry) → entry_in c ≡ x →
+                option_map {U = JournalEntry × ℕ} (λ y. (y, suc (length l))) x ≡ Some (e, n) → take n bytes ≡ sealed_entry e
+            found None r h = absurd (none_some h)
+            found (Some y) r h =
+                let pair : (y, suc (length l)) ≡ (e, n) = some_inj h in
+                ap (λ (k : ℕ). take k bytes) (sym (ap (λ (z : JournalEntry × ℕ). z.1) pair)) ∙ there
+                ∙ ap (λ (x : List ℕ). x ++ 2 ∷ []) (sym (opened_stands l c q))
+                ∙ ap sealed (sym (content_stands c y fits_here r)) ∙ ap (λ (z : JournalEntry × ℕ). sealed_entry z.0) pair

@@ -1,14 +1,15 @@
 -- What a journal has of a done number.
-use Rattle.std.specs.Prelude.{ℕ, ◌+◌, ◌&&◌, ◌||◌, Bool, true, Option, Some, None, option_map}
+use Rattle.std.specs.Prelude.{ℕ, suc, ◌&&◌, Option, Some, None, option_map}
 use Rattle.std.specs.Prelude.{option_and_then, Result}
 use Rattle.std.specs.Prelude.{Ok, Err, List, [], ◌∷◌, ◌++◌, length, take, drop, flat_map}
-use Rattle.std.specs.Prelude.{slice_index, nat_le, nat_lt, ◌==◌, if◌then◌else◌}
-use Rattle.bw_model.specs.Bytes.{le32, u16_at, u32_at, zeros, is_within}
+use Rattle.std.specs.Prelude.{slice_index, nat_lt, ◌==◌, if◌then◌else◌}
+use Rattle.bw_model.specs.Bytes.{le32, u32_at, zeros, is_within}
 use Rattle.bw_model.specs.Limits.{longest_block}
 use Rattle.bw_model.specs.Take.{Request, Open, Block, Mark, SetField, Close, Verdict}
 use Rattle.bw_model.specs.Wire.{kind, payload, decoded_request}
 use Rattle.bw_model.specs.Replies.{verdict_code, verdict_of}
-use Rattle.bw_journal.specs.Seals.{sealed, opened, is_cut_short}
+use Rattle.bw_journal.specs.Lines.{journal_lines}
+use Rattle.bw_journal.specs.Seals.{sealed_line, sealed, opened}
 
 -- the request with zeros in place of its samples
 abbrev pub bare : Request → Request
@@ -36,7 +37,7 @@ pub record JournalEntry : Type 0 where
   pub verdict : Verdict
   pub digest : List ℕ
 
--- an entry's bytes between its length and its check
+-- an entry's bytes before its check
 unfoldable pub content : JournalEntry → List ℕ
 content e = verdict_code e.verdict ∷ e.digest ++ noted e.request
 
@@ -44,22 +45,14 @@ content e = verdict_code e.verdict ∷ e.digest ++ noted e.request
 abbrev pub sealed_entry : JournalEntry → List ℕ
 sealed_entry e = sealed (content e)
 
--- an OPEN with the longest history takes this many bytes, and no other request takes more
+-- an entry's line
+abbrev pub entry_line : JournalEntry → List ℕ
+entry_line e = sealed_line (content e)
+
+-- No entry takes more bytes: the content of an OPEN with the longest history and its check are
+-- 4,148, each of which may take two, and a 2 ends them.
 abbrev pub longest_entry : ℕ
-longest_entry = 4152
-
--- a content of an entry of this kind may have this length: of a BLOCK, a MARK and a CLOSE only one
-abbrev pub may_have_length : ℕ → ℕ → Bool
-may_have_length kind n =
-    if kind == 2 then n == 38 else if (kind == 3) || (kind == 5) then n == 42 else true
-
--- What a stop leaves of an entry that was being written: it is cut short, its length is no more
--- than the longest entry's, and its kind, the byte after length, verdict and digest, may have it.
-unfoldable pub is_torn_entry : List ℕ → Bool
-is_torn_entry bytes =
-    is_cut_short bytes
-    && (nat_lt (length bytes) 4 || nat_le (12 + u16_at bytes 0) longest_entry)
-    && (nat_lt (length bytes) 38 || may_have_length (slice_index bytes 37) (u16_at bytes 0))
+longest_entry = 8297
 
 -- the bytes of whole entries
 abbrev pub sealed_entries : List JournalEntry → List ℕ
@@ -89,18 +82,28 @@ made_of None digest r = None
 made_of (Some v) digest None = None
 made_of (Some v) digest (Some r) = Some (record { request = r; verdict = v; digest = digest })
 
--- the entry with these bytes between its length and its check
+-- the entry with these bytes before its check
 unfoldable pub entry_in : List ℕ → Option JournalEntry
 entry_in bytes =
     if nat_lt (length bytes) 34 then None
     else made_of (verdict_of (slice_index bytes 0)) (take 32 (drop 1 bytes))
     (request_in (drop 33 bytes))
 
--- the entry, and how many bytes it takes
-abbrev pub entry_with_len : List ℕ → Option (JournalEntry × ℕ)
-entry_with_len bytes = option_map (λ e. (e, 12 + length bytes)) (entry_in bytes)
+-- the content of the first of these lines, and how many bytes the line takes
+abbrev pub content_of_first : List (List ℕ) → Option (List ℕ × ℕ)
+content_of_first [] = None
+content_of_first (line ∷ more) = option_map (λ c. (c, suc (length line))) (opened line)
+
+-- the content of the line at the start of these bytes, and how many it takes; none if no line ends
+-- there, or its check is wrong
+unfoldable pub first_content : List ℕ → Option (List ℕ × ℕ)
+first_content bytes = content_of_first (journal_lines bytes)
+
+-- the entry of a content, and how many bytes it takes
+abbrev pub entry_with_len : List ℕ × ℕ → Option (JournalEntry × ℕ)
+entry_with_len x = option_map (λ e. (e, x.1)) (entry_in x.0)
 
 -- The entry at the start of these bytes, and how many it takes; none if the start is torn or isn't
 -- an entry.
 unfoldable pub first_entry : List ℕ → Option (JournalEntry × ℕ)
-first_entry bytes = option_and_then entry_with_len (opened bytes)
+first_entry bytes = option_and_then entry_with_len (first_content bytes)

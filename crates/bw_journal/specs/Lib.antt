@@ -1,5 +1,5 @@
+pub mod Lines
 pub mod Seals
-pub mod SealDigests
 pub mod JournalHeaders
 pub mod Entries
 pub mod Notes

@@ -1,6 +1,6 @@
 -- The journal of a name, and what a stop may leave of it.
-use Rattle.std.specs.Prelude.{◌≡◌, ℕ, suc, ◌<◌, ◌≤◌, ◌^◌, Bool, false, Option, Some, None, Ok, Err}
-use Rattle.std.specs.Prelude.{IsTrue, List, [], ◌∷◌, ◌++◌, length, take, flat_map}
+use Rattle.std.specs.Prelude.{◌≡◌, ◌≢◌, ℕ, suc, ◌+◌, ◌<◌, ◌≤◌, ◌^◌, Bool, false, Option, Some, None, Ok, Err}
+use Rattle.std.specs.Prelude.{IsTrue, List, [], ◌∷◌, ◌++◌, length, take, drop, flat_map}
 use Rattle.std.specs.List.{list_all}
 use Rattle.sha2.specs.Sha256.{sha256}
 use Rattle.bw_model.specs.Take.{Request, Verdict, parts}
@@ -8,10 +8,11 @@ use Rattle.bw_model.specs.Wire.{is_request, are_bytes}
 use Rattle.bw_model.specs.Replies.{verdict_code}
 use Rattle.bw_model.specs.Book.{Log, made, verdict_at}
 use Rattle.bw_model.specs.Holds.{body_of, finished_from}
+use Rattle.bw_journal.specs.Lines.{AreLineBytes, IsTorn}
 use Rattle.bw_journal.specs.Seals.{check}
 use Rattle.bw_journal.specs.JournalHeaders.{Header, header_bytes, header_len, first_header}
-use Rattle.bw_journal.specs.Entries.{JournalEntry, bare, sealed_entry, sealed_entries, first_entry}
-use Rattle.bw_journal.specs.Entries.{longest_entry}
+use Rattle.bw_journal.specs.Entries.{JournalEntry, bare, entry_line, sealed_entry, sealed_entries}
+use Rattle.bw_journal.specs.Entries.{first_entry, longest_entry}
 use Rattle.bw_journal.specs.Replays.{Story, NotBegun, replay}
 
 -- the entry of a done number
@@ -59,6 +60,10 @@ abbrev pub ReadEntriesStand : Type 0
 ReadEntriesStand = (bytes : List ℕ) (e : JournalEntry) (n : ℕ) → IsTrue (are_bytes bytes) →
     first_entry bytes ≡ Some (e, n) → take n bytes ≡ sealed_entry e
 
+-- But for the end byte of its line no byte of an entry is 0 or 2.
+abbrev pub EntriesAreClean : Type 0
+EntriesAreClean = (e : JournalEntry) → AreLineBytes (entry_line e)
+
 -- no entry is longer than the longest
 abbrev pub EntriesAreShort : Type 0
 EntriesAreShort = (e : JournalEntry) → IsNotable e → length (sealed_entry e) ≤ longest_entry
@@ -90,6 +95,17 @@ abbrev pub CutHeadersAreNotBegun : Type 0
 CutHeadersAreNotBegun = (name : List ℕ) (h : Header) (count : ℕ) → IsHeader h →
     count < header_len → replay h.limit name (take count (header_bytes name h)) ≡ Err NotBegun
 
+-- But for its last byte no byte of a header is 0 or 2.
+abbrev pub HeadersAreClean : Type 0
+HeadersAreClean = (name : List ℕ) (h : Header) →
+    (line : List ℕ) × AreLineBytes line × (header_bytes name h ≡ line ++ 2 ∷ [])
+
+-- If bytes of a header are zero, or missing at its end, the journal isn't begun.
+abbrev pub TornHeadersAreNotBegun : Type 0
+TornHeadersAreNotBegun = (name : List ℕ) (h : Header) (found : List ℕ) → IsHeader h →
+    IsTorn (header_bytes name h) found → found ≢ header_bytes name h →
+    replay h.limit name found ≡ Err NotBegun
+
 -- there is a request, and a message may carry it
 abbrev pub fits : Option Request → Bool
 fits None = false
@@ -113,3 +129,18 @@ abbrev pub JournalsReportLogs : Type 0
 JournalsReportLogs = (h : Header) (name : List ℕ) (log : Log) (tail : List ℕ) →
     IsHeader h → AdmitsDone log → IsCut tail →
     replay h.limit name (journal_of h name log ++ tail) ≡ Ok (story_of_log h name log)
+
+-- the log with so many of its numbers done
+abbrev pub up_to : ℕ → Log → Log
+up_to kept log = record { admitted = log.admitted; done = kept }
+
+-- Whatever bytes are zero, or missing at the end, of the entries after the first ones: the journal
+-- says what the server kept of these and of some of the next.
+abbrev pub EntriesSurvive : Type 0
+EntriesSurvive = (h : Header) (name : List ℕ) (log : Log) (kept : ℕ) (tail : List ℕ) →
+    IsHeader h → AdmitsDone log → kept ≤ log.done →
+    IsTorn (sealed_entries (entries_from h.existed log.admitted name kept
+    (drop kept (take log.done log.admitted)))) tail →
+    (more : ℕ) × (kept + more ≤ log.done)
+    × (replay h.limit name (journal_of h name (up_to kept log) ++ tail)
+    ≡ Ok (story_of_log h name (up_to (kept + more) log)))

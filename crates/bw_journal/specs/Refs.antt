@@ -1,5 +1,4 @@
 -- Entries as the code has them.
-use Rattle.std.specs.Prelude.{ℕ, Option, Some, None}
 use Rattle.bw_request.specs.Requests.{meaning}
 use Rattle.bw_request.specs.Verdicts.{verdict_meaning}
 use Rattle.bw_journal.specs.Entries.{JournalEntry}
@@ -13,8 +12,3 @@ entry_said e =
       verdict = verdict_meaning e.verdict;
       digest = e.digest.now;
     }
-
--- the entry that was found, if there is one, and how many bytes it takes
-abbrev pub entry_found : Option (EntryRef × ℕ) → Option (JournalEntry × ℕ)
-entry_found None = None
-entry_found (Some x) = Some (entry_said x.0, x.1)

@@ -1,14 +1,14 @@
 -- What a journal says about a take and its verdicts, and why it may say nothing.
-use Rattle.std.specs.Prelude.{ℕ, zero, suc, ◌+◌, Bool, not, Option, Some, None, is_some, Result, Ok}
+use Rattle.std.specs.Prelude.{ℕ, suc, ◌+◌, Bool, Option, Some, None, Result, Ok}
 use Rattle.std.specs.Prelude.{Err, List, [], ◌∷◌, ◌++◌, drop, length, ◌==◌, if◌then◌else◌}
 use Rattle.std.specs.Str.{bytes_eq}
-use Rattle.bw_model.specs.Bytes.{first_that_holds, unless}
 use Rattle.bw_model.specs.Take.{Parts, Request, Verdict, judge, new_take, parts, is_stored}
 use Rattle.bw_model.specs.Replies.{verdict_code}
 use Rattle.bw_take.specs.States.{parts_with}
+use Rattle.bw_journal.specs.Lines.{journal_lines}
 use Rattle.bw_journal.specs.Seals.{check, opened}
 use Rattle.bw_journal.specs.JournalHeaders.{Header, header_len, first_header, is_torn_header}
-use Rattle.bw_journal.specs.Entries.{JournalEntry, first_entry, is_torn_entry}
+use Rattle.bw_journal.specs.Entries.{JournalEntry, entry_in}
 
 -- what is known after some entries
 pub record Story : Type 0 where
@@ -21,7 +21,7 @@ pub record Story : Type 0 where
 
 -- Why a journal can't be replayed.
 pub data JournalFault : Type 0 where
-  -- only a prefix of a header is there
+  -- up to the first zero or the end only a prefix of a header is there
   NotBegun : JournalFault
   -- there is no header at the start
   NotAJournal : JournalFault
@@ -31,9 +31,9 @@ pub data JournalFault : Type 0 where
   OtherLimit : JournalFault
   -- an entry has another verdict than the request's judgement
   OtherVerdict : JournalFault
-  -- bytes after the last entry are whole, but no entry
+  -- a line has a right check, but no entry
   NotAnEntry : JournalFault
-  -- bytes after the last entry are neither whole nor torn: no stop leaves such
+  -- a line is no content with its check: neither a stop nor a loss of power leaves such
   Damaged : JournalFault
 
 -- the number of a fault
@@ -66,31 +66,26 @@ with_entry s x = record {
 abbrev pub is_judged : Parts → JournalEntry → Bool
 is_judged p e = verdict_code (judge p e.request) == verdict_code e.verdict
 
--- what at most this many further entries say
-abbrev pub replayed : ℕ → List ℕ → Story → Result Story JournalFault
-replayed zero bytes s = Ok s
-replayed (suc steps) bytes s = elim (first_entry (drop s.used bytes)) [
-  | None ↦ Ok s
-  | Some x ↦ if is_judged s.parts x.0 then replayed steps bytes (with_entry s x)
+-- what is wrong with a content, if it has no entry
+abbrev pub entry_or_fault : Option (List ℕ) → Result JournalEntry JournalFault
+entry_or_fault None = Err Damaged
+entry_or_fault (Some content) = elim (entry_in content) [
+  | None ↦ Err NotAnEntry
+  | Some e ↦ Ok e
+]
+
+-- what further lines say, each of them an entry
+abbrev pub replayed : List (List ℕ) → Story → Result Story JournalFault
+replayed [] s = Ok s
+replayed (line ∷ more) s = elim (entry_or_fault (opened line)) [
+  | Err f ↦ Err f
+  | Ok e ↦ if is_judged s.parts e then replayed more (with_entry s (e, suc (length line)))
       else Err OtherVerdict
 ]
 
--- what the entries after a header say, up to the first that is torn
+-- what the lines after a header say
 unfoldable pub replayed_entries : Bool → List ℕ → Result Story JournalFault
-replayed_entries existed bytes = replayed (length bytes) bytes (beginning existed)
-
--- what is wrong with the bytes after the last entry, if they aren't a torn entry: the first that
--- holds
-unfoldable pub tail_fault : List ℕ → Option JournalFault
-tail_fault tail = first_that_holds (
-    (is_some (opened tail), NotAnEntry)
-    ∷ (not (is_torn_entry tail), Damaged)
-    ∷ [])
-
--- the tail is checked too, if the entries were replayed
-abbrev pub reported_with_tail : List ℕ → Result Story JournalFault → Result Story JournalFault
-reported_with_tail bytes (Ok s) = unless (tail_fault (drop s.used bytes)) s
-reported_with_tail bytes (Err f) = Err f
+replayed_entries existed bytes = replayed (journal_lines (drop header_len bytes)) (beginning existed)
 
 -- what the bytes after this header say of a name to a server of this limit
 abbrev pub replayed_after : ℕ → List ℕ → List ℕ → Option (Header × List ℕ) →
@@ -99,7 +94,7 @@ replayed_after limit name bytes None =
     if is_torn_header limit name bytes then Err NotBegun else Err NotAJournal
 replayed_after limit name bytes (Some x) =
     if bytes_eq x.1 (check name)
-    then if x.0.limit == limit then reported_with_tail bytes (replayed_entries x.0.existed bytes)
+    then if x.0.limit == limit then replayed_entries x.0.existed bytes
     else Err OtherLimit
     else Err OtherName
 

@@ -10,7 +10,8 @@ use thiserror::Error;
 /// No clause says what its text is.
 #[derive(Clone, Copy, Debug, PartialEq, Eq, Hash, Error)]
 pub enum ReplayFault {
-    /// Only a prefix of its header is there: the journal has to be begun again.
+    /// Up to its first zero byte or its end only a prefix of its header is there: the journal has to
+    /// be begun again.
     #[error("the journal's header is torn")]
     NotBegun = 1,
     /// There is no header at its start.
@@ -25,11 +26,11 @@ pub enum ReplayFault {
     /// An entry's verdict differs from the request's judgement: other rules made it.
     #[error("an entry isn't judged as it says")]
     OtherVerdict = 5,
-    /// The bytes after the last entry are whole, but no entry that this program writes.
+    /// A line has a right check, but is no entry that this program writes.
     #[error("an entry isn't known")]
     NotAnEntry = 6,
-    /// The bytes after the last entry are neither whole nor what a stop leaves of an entry: some of
-    /// them changed.
+    /// A line isn't what an entry is written as, or its check is wrong. Neither a stop nor a loss of
+    /// power leaves such a line.
     #[error("the journal is damaged")]
     Damaged = 7,
     /// Memory was refused.

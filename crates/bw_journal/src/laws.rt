@@ -1,30 +1,37 @@
 //! Laws of journals. Each function's contract is one; nothing runs.
 ghost use Rattle.bw_journal.specs.NotedJournals.{JournalEntriesReadBack, ReadEntriesStand};
-ghost use Rattle.bw_journal.specs.NotedJournals.{CutEntriesAreNone, EntriesAreShort, HeadersReadBack};
-ghost use Rattle.bw_journal.specs.NotedJournals.{ReadHeadersStand, CutHeadersAreNotBegun, JournalsReportLogs};
+ghost use Rattle.bw_journal.specs.NotedJournals.{CutEntriesAreNone, EntriesAreClean, EntriesAreShort};
+ghost use Rattle.bw_journal.specs.NotedJournals.{HeadersReadBack, ReadHeadersStand, HeadersAreClean};
+ghost use Rattle.bw_journal.specs.NotedJournals.{CutHeadersAreNotBegun, TornHeadersAreNotBegun};
+ghost use Rattle.bw_journal.specs.NotedJournals.{JournalsReportLogs, EntriesSurvive};
 ghost use Rattle.bw_journal.specs.Stops.{BooksAreCut, CutBooksAreBooks, EachWorldGoesOn};
 ghost use Rattle.bw_journal.specs.Recovery.{HeldFilesSurvive, FilesAreRepaired, RecoveryHolds};
 ghost use Rattle.bw_journal.specs.Recovery.{ClosedFilesAreWhole, NewFilesAreBetween};
 
 /// An entry is read back from its bytes, whatever follows; if one is read, its bytes are there; and
-/// none is read from a prefix of one.
+/// none is read from a prefix of one. No byte of one is zero.
 pub fn law_entries()
     ensures back { JournalEntriesReadBack }
     ensures stand { ReadEntriesStand }
     ensures cut { CutEntriesAreNone }
+    ensures clean { EntriesAreClean }
     ensures short { EntriesAreShort }
 {}
 
-/// The same of headers: a prefix of one means that the journal isn't begun.
+/// The same of headers: a prefix of one, or one with zeros, means that the journal isn't begun.
 pub fn law_headers()
     ensures back { HeadersReadBack }
     ensures stand { ReadHeadersStand }
     ensures cut { CutHeadersAreNotBegun }
+    ensures clean { HeadersAreClean }
+    ensures torn { TornHeadersAreNotBegun }
 {}
 
-/// A journal whose last entry may have been cut says what the server kept of the done numbers.
+/// A journal whose last entry may have been cut says what the server kept of the done numbers; and
+/// one of whose last entries any bytes are zero or missing, what it kept of some first ones.
 pub fn law_journals()
-    ensures { JournalsReportLogs }
+    ensures cut { JournalsReportLogs }
+    ensures torn { EntriesSurvive }
 {}
 
 /// A stop leaves the done numbers, and a book. In every world of a sender, a network and servers

@@ -1,5 +1,5 @@
 //! What a journal says about a take and its verdicts.
-ghost use Rattle.std.specs.Prelude.{◌≡◌, ◌+◌, ◌^◌, ◌≤◌, ◌++◌, ◌∷◌, [], None, Ok, IsTrue, IsNone};
+ghost use Rattle.std.specs.Prelude.{◌≡◌, ◌+◌, ◌^◌, ◌≤◌, ◌++◌, ◌∷◌, [], Ok, IsTrue};
 ghost use Rattle.std.specs.Prelude.{IfSome, IsSome, IfOk, OnOk, IfErr, length, false};
 ghost use Rattle.bw_model.specs.Bytes.{zeros as zero_bytes};
 ghost use Rattle.bw_model.specs.Limits.{longest_block, largest};
@@ -11,27 +11,36 @@ ghost use Rattle.bw_request.specs.Verdicts.{verdict_meaning};
 ghost use Rattle.bw_journal.specs.JournalHeaders.{header_len, is_header_of};
 ghost use Rattle.bw_journal.specs.JournalHeaders.{first_header as first_header_in};
 ghost use Rattle.bw_journal.specs.Replays.{OtherVerdict as other_verdict, replay as replay_of};
-ghost use Rattle.bw_journal.specs.Replays.{replayed_entries, tail_fault as tail_fault_of};
+ghost use Rattle.bw_journal.specs.Replays.{replayed_entries};
 ghost use Rattle.bw_journal.specs.Replays.{is_judged, parts_after, JournalFault};
 ghost use Rattle.bw_journal.specs.Refs.{entry_said};
 ghost use Rattle.bw_journal.specs.Stories.{story_of};
 ghost use Rattle.bw_journal.specs.Faults.{IsJournalFault, fault_meaning};
 
-use crate::entry::{EntryRef, first_entry_with_digest, is_torn_entry};
+use crate::entry::{ENTRY_MAX, EntryRef, entry_of};
 use crate::fault::ReplayFault;
 use crate::header::{JournalHeader, first_header, is_torn_header, names};
-use crate::seal::opened;
-use crate::seal_digests::digest_at;
+use crate::line::first_line;
+use crate::seal::open;
 use crate::story::Replayed;
 use bw_layout::Limit;
 use bw_request::{LONGEST_BLOCK, Name};
 use bw_take::{TakeState, judge};
 use std::alloc::{AllocError, Global};
 
+/// Journals that are read have at most this many bytes.
+pub const JOURNAL_MAX: usize = 1 << 40;
+
+/// How many numbers a name has at most.
+const NUMBERS: usize = 16_777_216;
+
+// Every journal that a server writes is read.
+const _: () = prove!(JournalHeader::LEN + NUMBERS * ENTRY_MAX <= JOURNAL_MAX);
+
 /// What the journal of a name says to a server of this limit.
 ///
-/// An entry that is torn at the end, so that only a prefix of it is there, is not replayed: `torn`
-/// is how many bytes that prefix has. Anything else after the last entry is a fault.
+/// Its lines are read up to the first zero byte or the end; `torn` is how many bytes follow the last
+/// of them. A line that isn't an entry is a fault.
 ///
 /// The journal has at most 2^40 bytes.
 ///
@@ -63,35 +72,16 @@ pub fn replay(
             ReplayFault::NotAJournal
         });
     };
-    if !names(header.digest, name) {
+    if !names(&header.digest, name) {
         return Err(ReplayFault::OtherName);
     }
     if u64::from(header.limit) != limit.bytes() {
         return Err(ReplayFault::OtherLimit);
     }
-    let replayed = replay_entries(alloc, header.existed, bytes)?;
-    match tail_fault(&bytes[replayed.used..]) {
-        Some(fault) => Err(fault),
-        None => Ok(replayed),
-    }
+    replay_entries(alloc, header.existed, bytes)
 }
 
-/// What is wrong with the bytes after the last entry, if they aren't a torn entry.
-#[tactic(auto, unfolding(crate::specs::Replays::tail_fault))]
-fn tail_fault(tail: &[u8]) -> Option<ReplayFault>
-    ensures none { IsNone result → tail_fault_of tail.now ≡ None }
-    ensures some { IfSome result (λ e. fault_meaning e ≡ tail_fault_of tail.now) }
-{
-    if opened(tail).is_some() {
-        Some(ReplayFault::NotAnEntry)
-    } else if !is_torn_entry(tail) {
-        Some(ReplayFault::Damaged)
-    } else {
-        None
-    }
-}
-
-/// What the entries after a header say, up to the first that is torn.
+/// What the lines after a header say.
 fn replay_entries(alloc: Global, existed: bool, bytes: &[u8]) -> Result<Replayed, ReplayFault>
     requires header { header_len ≤ length bytes.now }
     requires few { length bytes.now ≤ 2 ^ 40 }
@@ -100,14 +90,12 @@ fn replay_entries(alloc: Global, existed: bool, bytes: &[u8]) -> Result<Replayed
     ensures err { IfErr result (λ e. IsJournalFault e (replayed_entries existed bytes.now)) }
 {
     let zeros = make_zeros(alloc)?;
+    let mut content = Vec::new(alloc);
     let mut state = unopened(alloc, existed);
     let mut table = Vec::new(alloc);
-    let mut digests = None;
     let mut used = JournalHeader::LEN;
     for _step in 0..bytes.len() {
-        let digest = digest_at(&mut digests, bytes, used);
-        let Some((entry, len)) = first_entry_with_digest(&bytes[used..], zeros.as_slice(), digest)
-        else {
+        let Some(line) = first_line(&bytes[used..]) else {
             let torn = bytes.len() - used;
             return Ok(Replayed {
                 state,
@@ -116,10 +104,16 @@ fn replay_entries(alloc: Global, existed: bool, bytes: &[u8]) -> Result<Replayed
                 torn,
             });
         };
+        if !open(line, &mut content)? {
+            return Err(ReplayFault::Damaged);
+        }
+        let Some(entry) = entry_of(content.as_slice(), zeros.as_slice()) else {
+            return Err(ReplayFault::NotAnEntry);
+        };
         if let Err(fault) = apply(&mut state, &mut table, &entry) {
             return Err(fault);
         }
-        used += len;
+        used += line.len() + 1;
     }
     let torn = bytes.len() - used;
     Ok(Replayed {

@@ -10,9 +10,9 @@ pub struct Replayed {
     pub state: TakeState,
     /// The digest and the verdict's code of each number, 33 bytes each.
     pub table: Vec<u8>,
-    /// How many bytes of the journal are its header and whole entries.
+    /// How many bytes of the journal are its header and its entries.
     pub used: usize,
-    /// How many bytes follow: a prefix of an entry, which is to be cut off.
+    /// How many bytes follow, which are to be cut off.
     pub torn: usize,
     ghost rows: { IsWholeTable state.parts table.items used },
 }

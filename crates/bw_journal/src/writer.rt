@@ -1,5 +1,5 @@
 //! Writing an entry.
-ghost use Rattle.std.specs.Prelude.{◌≡◌, ◌+◌, ◌≤◌, IsTrue, length, take, vec_len, vec_capacity};
+ghost use Rattle.std.specs.Prelude.{◌≡◌, ◌+◌, ◌≤◌, ◌++◌, IsTrue, length, take, vec_len, vec_capacity};
 ghost use Rattle.bw_model.specs.Limits.{longest_history};
 ghost use Rattle.bw_model.specs.Wire.{is_request};
 ghost use Rattle.bw_layout.specs.AppendedBytes.{Appends, Gains};
@@ -7,22 +7,22 @@ ghost use Rattle.bw_request.specs.Requests.{meaning};
 ghost use Rattle.bw_request.specs.Verdicts.{verdict_meaning};
 ghost use Rattle.bw_journal.specs.Entries.{JournalEntry, noted as noted_of, noted_payload};
 ghost use Rattle.bw_journal.specs.Entries.{content as content_of, sealed_entry, longest_entry};
+ghost use Rattle.bw_journal.specs.Seals.{check as check_of};
 
-use crate::seal::{check, push, push_length};
+use crate::seal::{check, push, stuff_from};
 use bw_request::{RequestRef, Verdict};
 use bw_wire::{kind, put_payload};
 use std::alloc::{AllocError, Global};
 
 /// Appends the entry of a done number: for a block its length, and not its samples.
 ///
-/// The request must be one that a message may carry; the entry has at most 4,152 bytes.
+/// The request must be one that a message may carry; the entry has at most 8,297 bytes.
 ///
 /// # Errors
 /// `AllocError` if memory was refused, never if there is room: the bytes are as they were.
 ///
 /// # Not specified
 /// When memory is refused, and how much room is made beyond what is needed.
-#[tactic(auto, using(crate::proofs::Lengths::entry_length), unfolding(crate::specs::Seals::sealed))]
 pub fn put_entry(
     _alloc: Global,
     out: &mut Vec<u8>,
@@ -44,14 +44,33 @@ pub fn put_entry(
     } in
         length (sealed_entry e) ≤ longest_entry }
 {
-    let len = 33 + noted_len(request);
-    out.reserve(12 + len)?;
-    push_length(out, len);
+    let start = out.len();
+    out.reserve(41 + noted_len(request))?;
+    push_checked(out, verdict, digest, request);
+    if stuff_from(out, start).is_err() {
+        out.truncate(start);
+        return Err(AllocError);
+    }
+    Ok(())
+}
+
+/// Appends an entry's content and its check; there is room for them.
+fn push_checked(out: &mut Vec<u8>, verdict: Verdict, digest: &[u8; 32], request: &RequestRef<'_>)
+    requires fits { IsTrue (is_request (meaning request.now)) }
+    requires room { vec_len out.old + 41 + length (noted_of (meaning request.now))
+        ≤ vec_capacity out.old }
+    ensures { let e : JournalEntry = record {
+      request = meaning request.now;
+      verdict = verdict_meaning verdict;
+      digest = digest.now;
+    } in
+        Gains (content_of e ++ check_of (content_of e))
+        (41 + length (noted_of (meaning request.now))) out.old out.new }
+{
     let start = out.len();
     push_content(out, verdict, digest, request);
     let check = check(&out[start..]);
     push(out, &check[..8]);
-    Ok(())
 }
 
 /// Appends an entry's content; there is room for it.

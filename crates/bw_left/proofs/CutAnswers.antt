@@ -3,7 +3,7 @@ use Rattle.std.proofs.Common.{◌≡◌, ◌⊎◌, inl, inr, ℕ, List, length,
 use Rattle.std.proofs.Common.{length-append}
 use Rattle.std.proofs.lemmas.List.{length-take-le}
 use Rattle.bw_journal.specs.NotedJournals.{journal_of}
-use Rattle.bw_start.specs.LeftNames.{header_beside, IsLeftBegun, IsLeftTorn}
+use Rattle.bw_recovery.specs.LeftNames.{header_beside, IsLeftBegun, IsLeftTorn}
 use Rattle.bw_left.specs.LeftFolders.{CutAnswersAreNotLeft}
 
 pub cut_answers : CutAnswersAreNotLeft

@@ -10,7 +10,7 @@ use Rattle.bw_model.specs.ExampleWords.{a1, two_frames, small_file, example_limi
 use Rattle.bw_journal.specs.Entries.{sealed_entry}
 use Rattle.bw_journal.specs.NotedJournals.{IsNotable, done_entry}
 use Rattle.bw_journal.proofs.Lengths.{entry_length}
-use Rattle.bw_start.specs.Left.{IsLeftFile}
+use Rattle.bw_recovery.specs.Left.{IsLeftFile}
 use Rattle.bw_left.specs.ExamplesOfLeft.{log_done, journal_done, CutNoteExample, WholeNoteExample}
 use Rattle.bw_left.proofs.LeftEntries.{nothing_cut}
 

@@ -17,8 +17,8 @@ use Rattle.bw_journal.specs.NotedJournals.{journal_of}
 use Rattle.bw_journal.specs.Stops.{cut_log}
 use Rattle.bw_session.specs.RestingNames.{IsAtRest}
 use Rattle.bw_session.proofs.ResumeForms.{book_admits}
-use Rattle.bw_start.specs.LeftNames.{header_beside, IsLeftName}
-use Rattle.bw_start.specs.Paths.{wave_path, notes_path, rest_path}
+use Rattle.bw_recovery.specs.LeftNames.{header_beside, IsLeftName}
+use Rattle.bw_recovery.specs.Paths.{wave_path, notes_path, rest_path}
 use Rattle.bw_left.specs.ExamplesOfLeft.{log_done}
 use Rattle.bw_left.specs.ExamplesOfRest.{b2, log_closed, book_of_two, HasTwoNames, RestingFolderExample}
 use Rattle.bw_left.specs.RestingFolders.{IsLeftAtRest, IsLeftAwake, IsLeftResting, first_beside_rest}

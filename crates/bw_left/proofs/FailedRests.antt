@@ -7,9 +7,9 @@ use Rattle.bw_model.specs.Book.{Book, log_of, is_known}
 use Rattle.bw_disk.specs.declared.disk.Disk.{Ghosts as DiskGhosts}
 use Rattle.bw_journal.specs.Stops.{cut_log}
 use Rattle.bw_session.specs.RestingNames.{IsAtRest}
-use Rattle.bw_start.specs.Paths.{wave_path, notes_path, rest_path}
+use Rattle.bw_recovery.specs.Paths.{wave_path, notes_path, rest_path}
 use Rattle.bw_start.specs.RestoredFolders.{KeepsTheRest}
-use Rattle.bw_start.specs.StaysLeft.{IsLeftOf, BooksStayLeft}
+use Rattle.bw_recovery.specs.StaysLeft.{IsLeftOf, BooksStayLeft}
 use Rattle.bw_left.specs.FailedRests.{FailedRestingStart, RestingStartsFail, FailedRestingStartsLeaveBooks}
 use Rattle.bw_left.specs.RestingFolders.{IsLeftResting, IsLeftAtRest, IsLeftAwake, first_beside_rest}
 use Rattle.bw_left.specs.ShownFolders.{ShowsRestingFolder}

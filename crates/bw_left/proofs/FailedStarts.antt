@@ -7,9 +7,9 @@ use Rattle.bw_disk.specs.declared.disk.Disk.{Ghosts as DiskGhosts}
 use Rattle.bw_journal.specs.declared.journal.Journal.{Ghosts as JournalGhosts}
 use Rattle.bw_folder.specs.declared.folder.FolderStore.{FolderStore}
 use Rattle.bw_folder.specs.declared.journal.FolderJournal.{FolderJournal}
-use Rattle.bw_start.specs.LeftNames.{IsLeft}
-use Rattle.bw_start.specs.Paths.{wave_path, notes_path}
-use Rattle.bw_start.specs.StaysLeft.{IsLeftOf}
+use Rattle.bw_recovery.specs.LeftNames.{IsLeft}
+use Rattle.bw_recovery.specs.Paths.{wave_path, notes_path}
+use Rattle.bw_recovery.specs.StaysLeft.{IsLeftOf}
 use Rattle.bw_start.specs.StartedServers.{IsLeftIn}
 use Rattle.bw_left.specs.FailedStarts.{FailedStart, StartsFail}
 use Rattle.bw_left.specs.FailedStarts.{FailedStartsLeaveBooks, FailedStartsLoseNothing}

@@ -8,7 +8,7 @@ use Rattle.bw_folder.specs.Folders.{take_content}
 use Rattle.bw_folder.specs.Journals.{notes_at}
 use Rattle.bw_folder.specs.declared.folder.FolderStore.{FolderStore}
 use Rattle.bw_folder.specs.declared.journal.FolderJournal.{FolderJournal}
-use Rattle.bw_start.specs.LeftNames.{IsLeft}
+use Rattle.bw_recovery.specs.LeftNames.{IsLeft}
 use Rattle.bw_left.specs.KilledFolders.{KilledFoldersAreLeft}
 use Rattle.bw_left.proofs.KilledServers.{killed_servers}
 use Rattle.bw_left.proofs.FailedStarts.{shown}

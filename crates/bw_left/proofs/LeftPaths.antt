@@ -3,9 +3,9 @@ use Rattle.std.proofs.Common.{ℕ, List, Option}
 use Rattle.bw_model.specs.Book.{Book}
 use Rattle.bw_folder.specs.Folders.{take_path, take_content}
 use Rattle.bw_folder.specs.Journals.{journal_path, notes_at}
-use Rattle.bw_start.specs.LeftNames.{IsLeft}
-use Rattle.bw_start.specs.Paths.{path_with}
-use Rattle.bw_start.specs.StaysLeft.{IsLeftOf}
+use Rattle.bw_recovery.specs.LeftNames.{IsLeft}
+use Rattle.bw_recovery.specs.Paths.{path_with}
+use Rattle.bw_recovery.specs.StaysLeft.{IsLeftOf}
 use Rattle.bw_left.specs.LeftFolders.{LeftNamesAreInFolders}
 
 pub in_folders : LeftNamesAreInFolders

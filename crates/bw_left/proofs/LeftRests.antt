@@ -4,7 +4,7 @@ use Rattle.std.proofs.lemmas.Bool.{false≢true}
 use Rattle.bw_journal.specs.Stops.{cut_log}
 use Rattle.bw_model.specs.Book.{log_of}
 use Rattle.bw_session.proofs.WokenForms.{names_at_rest_may_wake}
-use Rattle.bw_start.specs.Paths.{rest_path, notes_path, wave_path}
+use Rattle.bw_recovery.specs.Paths.{rest_path, notes_path, wave_path}
 use Rattle.bw_left.specs.RestingStops.{LeftNamesMayWake}
 
 no_journal : (o : Option (List ℕ)) → o ≡ None → IsSome o → ⊥

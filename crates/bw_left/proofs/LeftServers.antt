@@ -30,10 +30,10 @@ use Rattle.bw_session.specs.Tables.{session_in}
 use Rattle.bw_session.specs.declared.session.Session.{Session}
 use Rattle.bw_session.specs.declared.server.Server.{Server}
 use Rattle.bw_session.proofs.ResumeForms.{book_admits}
-use Rattle.bw_start.specs.Left.{IsLeftFile, wanted_file}
-use Rattle.bw_start.specs.Names.{begins_take}
-use Rattle.bw_start.specs.LeftNames.{header_beside, IsLeftBegun, IsLeftTorn, IsLeftName, IsLeft}
-use Rattle.bw_start.proofs.NameLemmas.{unopened}
+use Rattle.bw_recovery.specs.Left.{IsLeftFile, wanted_file}
+use Rattle.bw_recovery.specs.Names.{begins_take}
+use Rattle.bw_recovery.specs.LeftNames.{header_beside, IsLeftBegun, IsLeftTorn, IsLeftName, IsLeft}
+use Rattle.bw_recovery.proofs.NameLemmas.{unopened}
 use Rattle.bw_left.specs.LeftFolders.{IsWrittenInOrder, EachIsInOrder, LeavesLater, RunsOver}
 use Rattle.bw_left.specs.LeftFolders.{QuietServersAreLeft, OrderedServersAreLeft}
 use Rattle.bw_left.proofs.OpenFiles.{Waits, empty_made, left_file}

@@ -21,11 +21,11 @@ use Rattle.bw_journal.proofs.RecoveryLaws.{finished-length}
 use Rattle.bw_journal.proofs.ReportLaws.{journals_report_logs}
 use Rattle.bw_session.specs.RestFaults.{is_replayed_whole, is_of_closed, is_fit_to_wake}
 use Rattle.bw_session.specs.RestingNames.{IsAtRest}
-use Rattle.bw_session.proofs.ClosedForms.{closed_done}
+use Rattle.bw_journal.proofs.ClosedForms.{closed_done}
 use Rattle.bw_session.proofs.LogSteps.{take-short}
 use Rattle.bw_session.proofs.ResumeForms.{digests_kept, unpacked, journal_cut}
-use Rattle.bw_start.specs.Left.{IsLeftOpen}
-use Rattle.bw_start.specs.LeftNames.{IsLeftBegun, IsLeftTorn, IsLeftName}
+use Rattle.bw_recovery.specs.Left.{IsLeftOpen}
+use Rattle.bw_recovery.specs.LeftNames.{IsLeftBegun, IsLeftTorn, IsLeftName}
 
 -- what is closed has its whole file
 pub closed_file : (b : Bool) (A B : Type 0) → b ≡ true → MatchBool b A B → A

@@ -5,8 +5,8 @@ use Rattle.std.proofs.lemmas.Bool.{false≢true}
 use Rattle.bw_model.specs.Book.{no_log, log_of}
 use Rattle.bw_model.proofs.BookLaws.{empty_book}
 use Rattle.bw_session.proofs.ResumeForms.{book_admits}
-use Rattle.bw_start.specs.LeftNames.{IsLeftName, IsLeft}
-use Rattle.bw_start.specs.Paths.{wave_path, notes_path, rest_path}
+use Rattle.bw_recovery.specs.LeftNames.{IsLeftName, IsLeft}
+use Rattle.bw_recovery.specs.Paths.{wave_path, notes_path, rest_path}
 use Rattle.bw_left.specs.NewFolders.{IsNewFolder, NewFoldersAreLeft, EmptyFoldersAreNew}
 use Rattle.bw_left.specs.NewFolders.{FoldersWithoutRestAreLeft}
 use Rattle.bw_left.specs.RestingFolders.{first_beside_rest}

@@ -23,7 +23,7 @@ use Rattle.bw_journal.specs.Recovery.{IsOnTheWay, IsRepairedBy}
 use Rattle.bw_journal.proofs.RecoveryLaws.{closed_files_are_whole}
 use Rattle.bw_journal.proofs.RepairLaws.{open_file, files_are_repaired}
 use Rattle.bw_session.proofs.NumberForms.{stored_is}
-use Rattle.bw_start.specs.Left.{IsMendable, IsLeftOpen, IsLeftFile}
+use Rattle.bw_recovery.specs.Left.{IsMendable, IsLeftOpen, IsLeftFile}
 
 some_none : {X : Type 0} {x : X} → Some x ≡ None → ⊥
 some_none e = cc

@@ -13,7 +13,7 @@ use Rattle.bw_folder.specs.declared.journal.FolderJournal.{FolderJournal}
 use Rattle.bw_folder.specs.declared.resting.RestingFolderJournal.{RestingFolderJournal}
 use Rattle.bw_session.specs.RestFaults.{may_wake}
 use Rattle.bw_session.specs.declared.server.Server.{Server}
-use Rattle.bw_start.specs.Paths.{notes_path, rest_path}
+use Rattle.bw_recovery.specs.Paths.{notes_path, rest_path}
 use Rattle.bw_start.specs.declared.resting.Settings.{Settings}
 use Rattle.bw_left.specs.RestingCalls.{RestsHonestly, StaysInFolder}
 use Rattle.bw_left.specs.RestingFolders.{WasStartedResting}

@@ -25,7 +25,7 @@ use Rattle.bw_session.specs.Books.{OrdersBook}
 use Rattle.bw_session.specs.declared.server.Server.{Server}
 use Rattle.bw_session.proofs.OrderLaws.{quiet_in_order}
 use Rattle.bw_rest.specs.Folders.{HoldsFolder}
-use Rattle.bw_start.specs.Paths.{path_with, notes_path, rest_path}
+use Rattle.bw_recovery.specs.Paths.{path_with, notes_path, rest_path}
 use Rattle.bw_start.specs.RestoredFolders.{KeepsJournals}
 use Rattle.bw_start.specs.declared.resting.Settings.{Settings}
 use Rattle.bw_left.specs.RestingBeginnings.{RestingStartsAreHonest}

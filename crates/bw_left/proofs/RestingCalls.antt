@@ -25,7 +25,7 @@ use Rattle.bw_session.specs.Sessions.{part_of}
 use Rattle.bw_session.specs.Tables.{session_in}
 use Rattle.bw_session.specs.declared.session.Session.{Session}
 use Rattle.bw_session.specs.declared.server.Server.{Server}
-use Rattle.bw_session.proofs.ClosedForms.{closed_done}
+use Rattle.bw_journal.proofs.ClosedForms.{closed_done}
 use Rattle.bw_session.proofs.OrderForms.{not_short}
 use Rattle.bw_session.proofs.OrderLaws.{waiting_in_order}
 use Rattle.bw_session.proofs.OrderSteps.{quiet_ends}

@@ -7,9 +7,9 @@ use Rattle.bw_model.specs.File.{file_of}
 use Rattle.bw_model.specs.Book.{Log, Book, log_of, made}
 use Rattle.bw_model.specs.Exchange.{take_in}
 use Rattle.bw_journal.proofs.CutLaws.{made-cut}
-use Rattle.bw_session.proofs.ClosedForms.{closed_done}
-use Rattle.bw_start.specs.LeftNames.{IsLeftName}
-use Rattle.bw_start.specs.Paths.{wave_path, notes_path, rest_path}
+use Rattle.bw_journal.proofs.ClosedForms.{closed_done}
+use Rattle.bw_recovery.specs.LeftNames.{IsLeftName}
+use Rattle.bw_recovery.specs.Paths.{wave_path, notes_path, rest_path}
 use Rattle.bw_left.specs.RestingFolders.{IsLeftResting, first_beside_rest}
 use Rattle.bw_left.proofs.NamesAtRest.{closed_file}
 

@@ -11,7 +11,7 @@ use Rattle.bw_folder.specs.Folders.{take_path}
 use Rattle.bw_folder.specs.Journals.{journal_path}
 use Rattle.bw_folder.specs.RestingJournals.{closed_path, noted_at, resting_at, resting_header, standing_at}
 use Rattle.bw_journal.specs.Standings.{Apart, AtRest, AtBoth}
-use Rattle.bw_start.specs.Paths.{path_with, wave_path, notes_path, rest_path}
+use Rattle.bw_recovery.specs.Paths.{path_with, wave_path, notes_path, rest_path}
 
 pub take_there : (contents : List ℕ → Option (List ℕ)) (folder name : List ℕ) →
     contents (take_path folder name) ≡ contents (wave_path folder name)

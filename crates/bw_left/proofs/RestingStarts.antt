@@ -19,13 +19,13 @@ use Rattle.bw_folder.specs.declared.folder.FolderStore.{FolderStore}
 use Rattle.bw_folder.specs.declared.journal.FolderJournal.{FolderJournal}
 use Rattle.bw_folder.specs.declared.resting.RestingFolderJournal.{RestingFolderJournal}
 use Rattle.bw_session.specs.RestingNames.{IsAtRest}
-use Rattle.bw_session.proofs.ClosedForms.{made_format}
+use Rattle.bw_journal.proofs.ClosedForms.{made_format}
 use Rattle.bw_session.proofs.RestLaws.{has_file}
 use Rattle.bw_rest.specs.Folders.{IsInTable, RestsOutside, IsUnknown}
 use Rattle.bw_rest.specs.FolderRuns.{ends_with_request}
-use Rattle.bw_start.specs.Paths.{path_with, wave_path, notes_path, rest_path}
+use Rattle.bw_recovery.specs.Paths.{path_with, wave_path, notes_path, rest_path}
 use Rattle.bw_start.specs.RestoredFolders.{KeepsTakes, KeepsJournals, IsOpenTake, IsOwnPath}
-use Rattle.bw_start.proofs.PathLemmas.{path_name, rest_no_notes}
+use Rattle.bw_recovery.proofs.PathLemmas.{path_name, rest_no_notes}
 use Rattle.bw_left.specs.RestingFolders.{RestingStartsHoldFolders}
 use Rattle.bw_left.specs.RestingFolders.{first_beside_rest}
 

@@ -26,9 +26,9 @@ use Rattle.bw_session.specs.declared.session.Session.{Session}
 use Rattle.bw_session.specs.declared.server.Server.{Server}
 use Rattle.bw_session.proofs.ResumeForms.{book_admits}
 use Rattle.bw_rest.proofs.FolderForms.{rests_outside, unknown_outside}
-use Rattle.bw_start.specs.LeftNames.{IsLeftName}
-use Rattle.bw_start.specs.Names.{begins_take}
-use Rattle.bw_start.specs.Paths.{wave_path, notes_path, rest_path}
+use Rattle.bw_recovery.specs.LeftNames.{IsLeftName}
+use Rattle.bw_recovery.specs.Names.{begins_take}
+use Rattle.bw_recovery.specs.Paths.{wave_path, notes_path, rest_path}
 use Rattle.bw_left.specs.LeftFolders.{EachIsInOrder, IsWrittenInOrder, RunsOver, LeavesLater}
 use Rattle.bw_left.specs.RestingFolders.{IsLeftAtRest, IsLeftAwake, first_beside_rest}
 use Rattle.bw_left.specs.RestingStops.{StandsAsAtRest, StopsResting, LeavesRestingLater, RestingServersAreLeft}

@@ -13,8 +13,8 @@ use Rattle.bw_folder.specs.Journals.{notes_at, journal_path}
 use Rattle.bw_folder.specs.declared.folder.FolderStore.{FolderStore}
 use Rattle.bw_folder.specs.declared.journal.FolderJournal.{FolderJournal}
 use Rattle.bw_session.proofs.OrderLaws.{quiet_in_order}
-use Rattle.bw_start.specs.Paths.{path_with, notes_path}
-use Rattle.bw_start.proofs.PathLemmas.{path_name}
+use Rattle.bw_recovery.specs.Paths.{path_with, notes_path}
+use Rattle.bw_recovery.proofs.PathLemmas.{path_name}
 use Rattle.bw_start.specs.RestoredFolders.{KeepsJournals}
 use Rattle.bw_left.specs.LeftFolders.{GoesAhead, HasNoForeignFile, IsOwnFolder}
 use Rattle.bw_left.specs.StoppedTurns.{RunsHonestly}

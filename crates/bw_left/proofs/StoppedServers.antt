@@ -32,9 +32,9 @@ use Rattle.bw_session.proofs.ServerAnswers.{done_is, later_reported}
 use Rattle.bw_session.proofs.OrderLaws.{waiting_in_order}
 use Rattle.bw_session.proofs.ServerForms.{apart_names}
 use Rattle.bw_delivery.proofs.ClosedLaws.{done_stays}
-use Rattle.bw_start.specs.Left.{wanted_file}
-use Rattle.bw_start.specs.Names.{begins_take}
-use Rattle.bw_start.specs.LeftNames.{header_beside}
+use Rattle.bw_recovery.specs.Left.{wanted_file}
+use Rattle.bw_recovery.specs.Names.{begins_take}
+use Rattle.bw_recovery.specs.LeftNames.{header_beside}
 use Rattle.bw_left.specs.LeftFolders.{IsOwnFolder, IsWrittenInOrder, RunsOver, LeavesLater}
 use Rattle.bw_left.specs.StoppedTurns.{RunsHonestly, HadTurn, StoppedTurnsAreLeft}
 use Rattle.bw_left.proofs.LeftServers.{Stands, header_is, ordered_servers}

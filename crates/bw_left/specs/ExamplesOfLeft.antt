@@ -5,7 +5,7 @@ use Rattle.bw_model.specs.Book.{Log}
 use Rattle.bw_model.specs.ExampleWords.{a1, mono, two_frames, small_file, example_limit}
 use Rattle.bw_journal.specs.Entries.{sealed_entry}
 use Rattle.bw_journal.specs.NotedJournals.{done_entry, journal_of}
-use Rattle.bw_start.specs.LeftNames.{header_beside, IsLeftName}
+use Rattle.bw_recovery.specs.LeftNames.{header_beside, IsLeftName}
 
 -- OPEN and a BLOCK of two frames were admitted, and this many of them are done
 abbrev pub log_done : ℕ → Log

@@ -5,8 +5,8 @@ use Rattle.bw_model.specs.Take.{Open, Block, Close}
 use Rattle.bw_model.specs.Book.{Log, Book}
 use Rattle.bw_model.specs.ExampleWords.{a1, mono, two_frames, small_file, example_limit}
 use Rattle.bw_journal.specs.NotedJournals.{journal_of}
-use Rattle.bw_start.specs.Paths.{wave_path, notes_path, rest_path}
-use Rattle.bw_start.specs.LeftNames.{header_beside}
+use Rattle.bw_recovery.specs.Paths.{wave_path, notes_path, rest_path}
+use Rattle.bw_recovery.specs.LeftNames.{header_beside}
 use Rattle.bw_left.specs.ExamplesOfLeft.{log_done}
 use Rattle.bw_left.specs.RestingFolders.{IsLeftResting}
 

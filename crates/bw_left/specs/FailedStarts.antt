@@ -9,7 +9,7 @@ use Rattle.bw_folder.specs.declared.folder.FolderStore.{FolderStore}
 use Rattle.bw_folder.specs.declared.journal.FolderJournal.{FolderJournal}
 use Rattle.bw_session.specs.Books.{HoldsBook, NotesBook}
 use Rattle.bw_session.specs.declared.server.Server.{Server}
-use Rattle.bw_start.specs.StaysLeft.{IsLeftOf, BooksStayLeft}
+use Rattle.bw_recovery.specs.StaysLeft.{IsLeftOf, BooksStayLeft}
 use Rattle.bw_start.specs.StartedServers.{IsLeftIn, OfEachBookLeft}
 use Rattle.bw_left.specs.ShownFolders.{ShowsFolder}
 

@@ -17,9 +17,9 @@ use Rattle.bw_session.specs.NextNumbers.{with_done}
 use Rattle.bw_session.specs.Books.{HoldsBook, NotesBook}
 use Rattle.bw_session.specs.declared.server.Server.{Server}
 use Rattle.bw_session.specs.SeenServers.{server_store, server_journal, server_limit}
-use Rattle.bw_start.specs.Left.{wanted_file}
-use Rattle.bw_start.specs.Names.{begins_take}
-use Rattle.bw_start.specs.LeftNames.{header_beside, IsLeftName, IsLeft}
+use Rattle.bw_recovery.specs.Left.{wanted_file}
+use Rattle.bw_recovery.specs.Names.{begins_take}
+use Rattle.bw_recovery.specs.LeftNames.{header_beside, IsLeftName, IsLeft}
 use Rattle.bw_start.specs.StartedServers.{IsLeftIn}
 
 -- What a start requires of a folder that no server ensures: the journals are for its limit, only

@@ -1,7 +1,7 @@
 -- Folders in which no server has run.
 use Rattle.std.specs.Prelude.{◌≡◌, ℕ, Option, None, is_some, List, []}
 use Rattle.bw_model.specs.Book.{Book}
-use Rattle.bw_start.specs.Paths.{wave_path, notes_path, rest_path}
+use Rattle.bw_recovery.specs.Paths.{wave_path, notes_path, rest_path}
 use Rattle.bw_start.specs.StartedServers.{IsLeftIn}
 use Rattle.bw_left.specs.RestingFolders.{IsLeftResting}
 

@@ -15,7 +15,7 @@ use Rattle.bw_session.specs.RestingNames.{IsAtRest}
 use Rattle.bw_session.specs.declared.server.Server.{Server}
 use Rattle.bw_session.specs.SeenServers.{server_journal}
 use Rattle.bw_rest.specs.Folders.{HoldsFolder}
-use Rattle.bw_start.specs.Paths.{wave_path, notes_path, rest_path}
+use Rattle.bw_recovery.specs.Paths.{wave_path, notes_path, rest_path}
 use Rattle.bw_start.specs.RestingStarts.{StartsOver}
 use Rattle.bw_start.specs.StartedServers.{IsLeftIn, IsSetTo}
 use Rattle.bw_start.specs.declared.resting.Settings.{Settings}

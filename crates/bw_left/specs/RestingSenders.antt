@@ -16,7 +16,7 @@ use Rattle.bw_folder.specs.declared.journal.FolderJournal.{FolderJournal}
 use Rattle.bw_folder.specs.declared.resting.RestingFolderJournal.{RestingFolderJournal}
 use Rattle.bw_connections.specs.ConnectionTables.{Tagged, all_answered}
 use Rattle.bw_delivery.specs.Deliveries.{LinkBytes, IsJoined, HasOnly, IsDelivered, HeardOverLinks}
-use Rattle.bw_start.specs.Paths.{wave_path}
+use Rattle.bw_recovery.specs.Paths.{wave_path}
 use Rattle.bw_left.specs.LeftFolders.{HasNoForeignFile}
 use Rattle.bw_left.specs.RestingFolders.{IsLeftResting}
 use Rattle.bw_left.specs.RestingLives.{RestingRun, FollowResting, notes_after, takes_after}

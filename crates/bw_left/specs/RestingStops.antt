@@ -12,7 +12,7 @@ use Rattle.bw_session.specs.RestFaults.{may_wake}
 use Rattle.bw_session.specs.declared.server.Server.{Server}
 use Rattle.bw_session.specs.SeenServers.{server_store, server_journal, server_limit, session_kept}
 use Rattle.bw_rest.specs.Folders.{HoldsFolder}
-use Rattle.bw_start.specs.Paths.{notes_path, rest_path}
+use Rattle.bw_recovery.specs.Paths.{notes_path, rest_path}
 use Rattle.bw_start.specs.RestingStarts.{NoneStandsInTheWay}
 use Rattle.bw_left.specs.LeftFolders.{EachIsInOrder, GoesAhead, IsOwnFolder}
 use Rattle.bw_left.specs.RestingFolders.{IsLeftResting}

@@ -16,7 +16,7 @@ use Rattle.bw_folder.specs.JournalFolders.{journals_disk}
 use Rattle.bw_session.specs.Books.{HoldsBook, NotesBook}
 use Rattle.bw_session.specs.declared.server.Server.{Server}
 use Rattle.bw_session.specs.SeenServers.{server_store, server_journal, server_limit}
-use Rattle.bw_start.specs.LeftNames.{IsLeft}
+use Rattle.bw_recovery.specs.LeftNames.{IsLeft}
 use Rattle.bw_start.specs.RestoredFolders.{KeepsJournals}
 use Rattle.bw_start.specs.StartedServers.{IsLeftIn, IsSetTo}
 use Rattle.bw_left.specs.LeftFolders.{HasNoForeignFile}

@@ -1,6 +1,6 @@
 -- Two disks that show a folder as a server, or a start, left it on two others.
 use Rattle.std.specs.Prelude.{◌≡◌, ℕ, Option, is_some, List}
-use Rattle.bw_start.specs.Paths.{wave_path, notes_path, rest_path}
+use Rattle.bw_recovery.specs.Paths.{wave_path, notes_path, rest_path}
 
 -- One has the journals that were left, the other the takes; and they show alike whether something is
 -- at the path of a take.

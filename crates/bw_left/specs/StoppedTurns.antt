@@ -14,7 +14,7 @@ use Rattle.bw_exchange.specs.TurnRuns.{answers_in}
 use Rattle.bw_session.specs.Books.{failures_of, TurnsBooks, NotesBooks, OrdersBook, OrdersBooks, UsesInTurn}
 use Rattle.bw_session.specs.declared.server.Server.{Server}
 use Rattle.bw_session.specs.SeenServers.{server_store, server_journal, server_limit}
-use Rattle.bw_start.specs.LeftNames.{IsLeft}
+use Rattle.bw_recovery.specs.LeftNames.{IsLeft}
 use Rattle.bw_left.specs.LeftFolders.{RunsOver, LeavesLater, GoesAhead, HasNoForeignFile}
 use Rattle.bw_left.specs.StoppedLives.{StoppedLife}
 

@@ -10,7 +10,7 @@ use Rattle.bw_store.specs.Stores.{KeepsOthers}
 use Rattle.bw_disk.specs.DiskSteps.{StaysWhole}
 use Rattle.bw_disk.specs.declared.disk.Disk.{Ghosts as DiskGhosts}
 use Rattle.bw_folder.specs.SyncOrders.{IsSyncedAt}
-use Rattle.bw_start.specs.Paths.{wave_path, notes_path}
+use Rattle.bw_recovery.specs.Paths.{wave_path, notes_path}
 use Rattle.bw_machine.specs.SyncedFolders.{KeepsContents, SyncsName}
 
 abbrev Paths : Type 0

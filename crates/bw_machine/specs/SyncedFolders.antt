@@ -5,7 +5,7 @@ use Rattle.bw_store.specs.Stores.{KeepsOthers}
 use Rattle.bw_disk.specs.Volumes.{KeepsEach}
 use Rattle.bw_disk.specs.declared.disk.Disk.{Ghosts as DiskGhosts}
 use Rattle.bw_folder.specs.SyncOrders.{IsSyncedAt}
-use Rattle.bw_start.specs.Paths.{wave_path, notes_path}
+use Rattle.bw_recovery.specs.Paths.{wave_path, notes_path}
 
 -- the disk is as honest as it was, and has what it had
 pub record KeepsContents {D F : Type 0} (G : DiskGhosts D F) (old new : D) : Type 0 where

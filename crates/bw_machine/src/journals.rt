@@ -2,8 +2,8 @@
 use bw_disk::{ReadFault, SystemDisk, Volume};
 use bw_net::NotedFiles;
 use bw_ports::StartRefusal;
+use bw_recovery::{Ending, list_files};
 use bw_request::Name;
-use bw_start::{Ending, list_files};
 use std::alloc::{AllocError, Global};
 use std::fs;
 use std::io::ErrorKind;

@@ -10,8 +10,9 @@ use bw_disk::{ReadFault, Volume};
 use bw_folder::{FolderJournal, FolderStore};
 use bw_lock::{FolderLocks, LockRefusal};
 use bw_ports::StartRefusal;
+use bw_recovery::StartWatch;
 use bw_session::Server;
-use bw_start::{FolderFault, Settings, StartFault, StartWatch, start_over};
+use bw_start::{FolderFault, Settings, StartFault, start_over};
 use std::alloc::Global;
 
 /// A server over a folder, and what is kept of its start.

@@ -4,8 +4,8 @@ ghost use Rattle.std.specs.List.{Contains};
 ghost use Rattle.bw_machine.specs.SyncedFolders.{KeepsContents, SyncsAt, SyncsLeft, SyncsName};
 
 use bw_disk::{ReadFault, Volume};
+use bw_recovery::{Ending, list_files, path_in};
 use bw_request::Name;
-use bw_start::{Ending, list_files, path_in};
 use std::alloc::Global;
 
 /// Syncs what an earlier server left in a folder, if the next one is to sync.

@@ -3,7 +3,7 @@ ghost use Rattle.std.specs.Prelude.{◌≡◌, ◌∷◌, ◌++◌, ⊤, IfOk, c
 
 use bw_ports::{ProgressReport, Watch};
 use bw_progress::Screen;
-use bw_start::StartWatch;
+use bw_recovery::StartWatch;
 use bw_stream::{StdIo, write_all};
 use std::alloc::{AllocError, Global};
 use std::io::{IsTerminal, Stderr};

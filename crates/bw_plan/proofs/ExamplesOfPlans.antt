@@ -38,7 +38,7 @@ settings = refl
 
 pub refused : RefusedPlanExample
 unfolding computing
-refused = (refl, refl, refl, refl, refl, refl, refl, refl, refl)
+refused = (refl, refl, refl, refl, refl, refl, refl, refl, refl, refl, refl, refl, refl)
 
 pub setting_text : SettingTextPlanExample
 unfolding computing

@@ -7,7 +7,8 @@ use Rattle.bw_model.specs.Reading.{Form, Entry, IsReading, IsFault, entry_of, re
 use Rattle.bw_model.specs.Report.{report_of}
 use Rattle.bw_model.proofs.EndLaws.{reads}
 use Rattle.bw_model.proofs.ReadingLaws.{readings_agree, faults_agree, no_fault}
-use Rattle.bw_plan.specs.Recordings.{Setting, Field, History, Options, Outline, Recording, FaultAt, FileNotes, Unread}
+use Rattle.bw_plan.specs.Recordings.{Setting, Field, History, Options, Outline, Recording, FaultAt, FileNotes, kind_unread}
+use Rattle.bw_inspect.specs.OtherFormats.{other_format_of}
 use Rattle.bw_plan.specs.Recordings.{recording_of, recorded, notes_of, outline_of, outline, with_setting, samples_of}
 use Rattle.bw_plan.specs.Outside.{IsOutOfBytes, HasNoHistory}
 use Rattle.bw_plan.proofs.WholeRecordings.{Stands, found_stands, outlines, chunks_of, data_there}
@@ -41,7 +42,7 @@ after_outline b form es x = elim x [
 
 abbrev after_reading : List ℕ → Options → Result (Form × List Entry) reading.Fault → Result Recording FaultAt
 after_reading b o x = elim x [
-  | Err fault ↦ Err (record { kind = Unread fault.kind; offset = fault.offset })
+  | Err fault ↦ Err (record { kind = kind_unread fault.kind (other_format_of b); offset = fault.offset })
   | Ok z ↦ recorded b o z.0 z.1
 ]
 
@@ -50,7 +51,7 @@ unfolding recording_of
 by_reading b o = refl
 
 pub unread_as : (b : List ℕ) (o : Options) (f : reading.Fault) → read b ≡ Err f →
-    recording_of b o ≡ Err (record { kind = Unread f.kind; offset = f.offset })
+    recording_of b o ≡ Err (record { kind = kind_unread f.kind (other_format_of b); offset = f.offset })
 unread_as b o f q = by_reading b o ∙ ap (after_reading b o) q
 
 pub recorded_as : (b : List ℕ) (o : Options) (form : Form) (es : List Entry) (r : Outline) → read b ≡ Ok (form, es) →

@@ -16,6 +16,7 @@ use Rattle.bw_model.specs.Report.{report_of, content_of, raw_bext}
 use Rattle.bw_model.proofs.Elements.{Each, some_inj}
 use Rattle.bw_model.proofs.EndLaws.{reads, readings}
 use Rattle.bw_model.proofs.BookLemmas.{same_name}
+use Rattle.bw_inspect.specs.OtherFormats.{other_format_of}
 use Rattle.bw_plan.specs.Recordings.{Setting, Field, History, Options, Outline, Recording, FaultAt, FileNotes, recording_of}
 use Rattle.bw_plan.specs.Recordings.{recorded, notes_of, outline_of, set_outline, outline, with_setting, with_value}
 use Rattle.bw_plan.specs.Recordings.{raw_fields, bext_fields, recording_faults, samples_of, recorded_format}
@@ -60,7 +61,7 @@ comes b o r h = go (read b) refl h
 
     go : (x : Result (Form × List Entry) reading.Fault) → read b ≡ x →
         ◌≡◌ {A = Result Recording FaultAt} (elim x [
-          | Err fault ↦ Err (record { kind = Rattle.bw_plan.specs.Recordings.Unread fault.kind; offset = fault.offset })
+          | Err fault ↦ Err (record { kind = Rattle.bw_plan.specs.Recordings.kind_unread fault.kind (other_format_of b); offset = fault.offset })
           | Ok z ↦ recorded b o z.0 z.1
         ]) (Ok r) → Comes b o r
     go (Err fault) q h = absurd (not_ok h)

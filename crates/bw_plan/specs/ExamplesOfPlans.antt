@@ -3,14 +3,16 @@ use Rattle.std.specs.Prelude.{◌≡◌, ℕ, Result, Ok, Err, Some, None, List,
 use Rattle.std.specs.Prelude.{codes, take, drop, length, ◌+◌, true}
 use Rattle.bw_model.specs.Take.{Request, Open, Block, Mark, SetField, Close}
 use Rattle.bw_model.specs.ExampleWords.{hex, mono, small_file, cue_file, two_frames}
-use Rattle.bw_model.specs.Reading.{NotWave, Truncated}
+use Rattle.bw_model.specs.Reading.{NotWave}
 use Rattle.bw_plan.specs.Recordings.{Options, no_options, Field, History, Recording, recording_of}
-use Rattle.bw_plan.specs.Recordings.{FaultAt, RecordingFault, Unread, NotPcm, Bits, ValidBits, Align}
-use Rattle.bw_plan.specs.Recordings.{Rate, Channels, PartFrame, Unclean}
+use Rattle.bw_plan.specs.Recordings.{FaultAt, RecordingFault, Unread, Foreign, Float, NotPcm, Bits}
+use Rattle.bw_plan.specs.Recordings.{ValidBits, Align, Rate, Channels, PartFrame, Short, Unclean}
 use Rattle.bw_plan.specs.Plans.{plan}
 use Rattle.bw_plan.specs.SettingTexts.{setting_of}
 use Rattle.bw_plan.specs.PcmRecordings.{pcm_recording_of}
 use Rattle.bw_plan.specs.declared.pcm.Pcm.{Pcm}
+use Rattle.bw_plan.specs.declared.unclean.UncleanPart.TheVariants.{Byte}
+use Rattle.bw_inspect.specs.declared.other.OtherFormat.TheVariants.{Flac, Aiff, Wave64}
 
 -- the requests of a recording, in blocks of so many frames, or why there is none
 abbrev pub planned : ℕ → Result Recording FaultAt → Result (List Request) FaultAt
@@ -95,7 +97,8 @@ abbrev pub TextPlanExample : Type 0
 TextPlanExample =
     Plans 2 (changed 80 (hex "4dc3bc72"))
     (Open mono [] ∷ SetField 1 (codes "M??r") ∷ Block two_frames ∷ Close 2 ∷ [])
-    × RefusesFile (changed 80 (hex "4dc3bc72")) (record no_options { strict = true }) Unclean 72
+    × RefusesFile (changed 80 (hex "4dc3bc72")) (record no_options { strict = true })
+    (Unclean (Byte 1 1 0xC3)) 72
 
 -- a date gets its own separators, and one of another form is left out
 abbrev pub DatePlanExample : Type 0
@@ -120,10 +123,11 @@ SettingsPlanExample =
     ≡ Ok (Open mono (codes "A") ∷ SetField 1 (codes "Hail") ∷ Block two_frames ∷ Close 2 ∷ [])
 
 -- what isn't carried is refused, each at its chunk: float, 12 valid bits of 16, a tag of A-law, 8
--- bits, 24 bits in four bytes, no channel, a rate of 0, and half a frame
+-- bits, 24 bits in four bytes, no channel, a rate of 0, and half a frame; and what begins as another
+-- format does, or as none
 abbrev pub RefusedPlanExample : Type 0
 RefusedPlanExample =
-    RefusesFile float_file no_options NotPcm 12
+    RefusesFile float_file no_options (Float 16) 12
     × RefusesFile twelve_file no_options ValidBits 12
     × RefusesFile (with_fmt (hex "0600010080bb00000077010002001000")) no_options NotPcm 12
     × RefusesFile (with_fmt (hex "0100010080bb000080bb000001000800")) no_options Bits 12
@@ -132,6 +136,10 @@ RefusedPlanExample =
     × RefusesFile (with_fmt (hex "01000100000000000000000002001000")) no_options Rate 12
     × RefusesFile (changed 686 (hex "03000000")) no_options PartFrame 682
     × RefusesFile [] no_options (Unread NotWave) 0
+    × RefusesFile (codes "fLaC" ++ hex "0000002210001000") no_options (Foreign Flac) 0
+    × RefusesFile (codes "FORM" ++ hex "00000012" ++ codes "AIFF") no_options (Foreign Aiff) 0
+    × RefusesFile (codes "FORM" ++ hex "00000012" ++ codes "8SVX") no_options (Unread NotWave) 0
+    × RefusesFile (hex "726966662e91cf11a5d628db04c10000") no_options (Foreign Wave64) 0
 
 -- headerless samples after one byte, with a field that is set
 abbrev pub PcmPlanExample : Type 0
@@ -150,7 +158,7 @@ RefusedPcmExample =
     ≡ Err (record { kind = PartFrame; offset = 4 }))
     × (planned 1 (pcm_recording_of (1 ∷ []) no_options (mono_after 1)) ≡ Ok (Open mono [] ∷ Close 0 ∷ []))
     × (pcm_recording_of (1 ∷ []) no_options (mono_after 2)
-    ≡ Err (record { kind = Unread Truncated; offset = 2 }))
+    ≡ Err (record { kind = Short; offset = 2 }))
     × (pcm_recording_of two_frames no_options (record (mono_after 0) { bits = 20 })
     ≡ Err (record { kind = Bits; offset = 0 }))
 

@@ -1,4 +1,5 @@
 pub mod CleanedContents
+pub mod UncleanParts
 pub mod Recordings
 pub mod Plans
 pub mod PlanLaws

@@ -2,7 +2,6 @@
 use Rattle.std.specs.Prelude.{◌≡◌, ℕ, ◌+◌, ◌-◌, ◌%◌, not, ◌||◌, ◌==◌, Bool, Result, Ok, Err, Some}
 use Rattle.std.specs.Prelude.{IsTrue, List, [], ◌∷◌, ◌++◌, length, drop, fold, nat_lt}
 use Rattle.bw_model.specs.Bytes.{first_that_holds, is_within, unless}
-use Rattle.bw_model.specs.Reading.{Truncated}
 use Rattle.bw_model.specs.Take.{Format, shapes, block_align}
 use Rattle.bw_model.specs.Wire.{Second, last_number}
 use Rattle.bw_plan.specs.AllowedSettings.{are_settings}
@@ -10,7 +9,7 @@ use Rattle.bw_plan.specs.CleanedContents.{values_of}
 use Rattle.bw_plan.specs.Faults.{recording_fault_meaning}
 use Rattle.bw_plan.specs.PlanLaws.{IsWhole}
 use Rattle.bw_plan.specs.Recordings.{Options, Outline, Recording, FaultAt, with_setting, request_count}
-use Rattle.bw_plan.specs.Recordings.{block_frames, chain_line, Unread, Bits, Rate, Channels, PartFrame}
+use Rattle.bw_plan.specs.Recordings.{block_frames, chain_line, Short, Bits, Rate, Channels, PartFrame}
 use Rattle.bw_plan.specs.Recordings.{TooLong}
 use Rattle.bw_plan.specs.declared.fault.RecordingFault.{RecordingFault}
 use Rattle.bw_plan.specs.declared.pcm.Pcm.{Pcm}
@@ -41,7 +40,7 @@ set_pcm_outline o format len =
 -- it ends inside a frame, at that frame; a sender has too few numbers, at the first sample
 abbrev pub pcm_content_faults : Options → Pcm → ℕ → Outline → List (Bool × FaultAt)
 pcm_content_faults o p len r =
-    chain_line (nat_lt len p.skip) (Unread Truncated) p.skip
+    chain_line (nat_lt len p.skip) Short p.skip
     ∷ chain_line (not (r.samples_len % block_align r.format == 0)) PartFrame
     (len - r.samples_len % block_align r.format)
     ∷ chain_line (nat_lt (last_number Second + 1) (request_count (block_frames o r.format) r)) TooLong

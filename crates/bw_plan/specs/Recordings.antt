@@ -15,6 +15,11 @@ use Rattle.bw_model.specs.Report.{RawFmt, RawBext, Report, report_of, content_of
 use Rattle.bw_model.specs.Wire.{Second, last_number}
 use Rattle.bw_plan.specs.CleanedContents.{history_of, values_of, are_texts_kept, is_history_kept}
 use Rattle.bw_plan.specs.CleanedContents.{markers_of}
+use Rattle.bw_plan.specs.UncleanParts.{unclean_texts, unclean_history}
+use Rattle.bw_plan.specs.declared.unclean.UncleanPart.{UncleanPart}
+use Rattle.bw_plan.specs.declared.unclean.UncleanPart.TheVariants.{Cues}
+use Rattle.bw_inspect.specs.OtherFormats.{other_format_of}
+use Rattle.bw_inspect.specs.declared.other.OtherFormat.{OtherFormat}
 
 -- what is set in place of what the file has
 pub data Setting : Type 0 where
@@ -57,7 +62,11 @@ pub record Recording : Type 0 where
 pub data RecordingFault : Type 0 where
   -- the file isn't read
   Unread : reading.FaultKind → RecordingFault
-  -- the samples aren't PCM
+  -- it has another format
+  Foreign : OtherFormat → RecordingFault
+  -- the samples are floating-point numbers of so many bits
+  Float : ℕ → RecordingFault
+  -- they are neither PCM nor such numbers
   NotPcm : RecordingFault
   -- not 16, 24 or 32 bits a sample
   Bits : RecordingFault
@@ -71,8 +80,10 @@ pub data RecordingFault : Type 0 where
   PartFrame : RecordingFault
   -- headerless samples have no frame at all
   Empty : RecordingFault
-  -- something has to be cleaned, and may not be
-  Unclean : RecordingFault
+  -- headerless samples begin after the file's end
+  Short : RecordingFault
+  -- something has to be cleaned, and may not be: this first
+  Unclean : UncleanPart → RecordingFault
   -- a sender doesn't have so many numbers
   TooLong : RecordingFault
 
@@ -132,10 +143,25 @@ is_pcm f extension =
     (f.tag == 1)
     || ((f.tag == extensible) && bytes_eq (slice_range extension 8 24) pcm_subformat)
 
+-- KSDATAFORMAT_SUBTYPE_IEEE_FLOAT (the same, 00000003-0000-0010-8000-00aa00389b71)
+abbrev pub float_subformat : List ℕ
+float_subformat =
+    3 ∷ 0 ∷ 0 ∷ 0 ∷ 0 ∷ 0 ∷ 16 ∷ 0 ∷ 128 ∷ 0 ∷ 0 ∷ 170 ∷ 0 ∷ 56 ∷ 155 ∷ 113 ∷ []
+
+-- the samples are floating-point numbers: by WAVE_FORMAT_IEEE_FLOAT, or by the subformat
+abbrev pub is_float : RawFmt → List ℕ → Bool
+is_float f extension =
+    (f.tag == 3)
+    || ((f.tag == extensible) && bytes_eq (slice_range extension 8 24) float_subformat)
+
+-- what samples are that aren't PCM
+abbrev pub other_samples : RawFmt → List ℕ → RecordingFault
+other_samples f extension = if is_float f extension then Float f.bits else NotPcm
+
 -- the faults of a `fmt ` chunk whose head is at p (RIFF WAVE, `fmt `)
 abbrev pub format_faults : RawFmt → List ℕ → ℕ → List (Bool × FaultAt)
 format_faults f extension p =
-    chain_line (not (is_pcm f extension)) NotPcm p
+    chain_line (not (is_pcm f extension)) (other_samples f extension) p
     ∷ chain_line (not ((f.bits == 16) || (f.bits == 24) || (f.bits == 32))) Bits p
     ∷ chain_line ((f.tag == extensible) && not (u16_at extension 2 == f.bits)) ValidBits p
     ∷ chain_line (not (f.align == f.channels * (f.bits / 8))) Align p
@@ -196,6 +222,10 @@ bext_texts (Some b) = b.0.texts
 abbrev pub is_bext_kept : FileNotes → Bool
 is_bext_kept n = are_texts_kept 1 (bext_texts n.report.bext) && is_history_kept n.history
 
+-- what of them would be cleaned first
+abbrev pub unclean_bext : FileNotes → UncleanPart
+unclean_bext n = unclean_texts (unclean_history n.history) 1 (bext_texts n.report.bext)
+
 -- how many frames a block has: as many as fit, or fewer where that is asked for
 abbrev pub block_frames : Options → Format → ℕ
 block_frames o f =
@@ -225,8 +255,9 @@ faults_of_content o n r =
     let chunks = n.report.chunks in
     let data_head = head_place (codes "data") chunks in
     chain_line (not (n.report.data_size % block_align r.format == 0)) PartFrame data_head
-    ∷ chain_line (o.strict && not (is_bext_kept n)) Unclean (head_place (codes "bext") chunks)
-    ∷ chain_line (o.strict && nat_lt (length r.markers) (length n.report.cues)) Unclean
+    ∷ chain_line (o.strict && not (is_bext_kept n)) (Unclean (unclean_bext n))
+    (head_place (codes "bext") chunks)
+    ∷ chain_line (o.strict && nat_lt (length r.markers) (length n.report.cues)) (Unclean Cues)
     (head_place (codes "cue ") chunks)
     ∷ chain_line (nat_lt (last_number Second + 1) (request_count (block_frames o r.format) r)) TooLong
     data_head
@@ -253,9 +284,19 @@ recorded b o form entries = elim (outline_of o (notes_of b form entries)) [
   | Ok r ↦ Ok (record { outline = r; samples = samples_of b (report_of b form entries) })
 ]
 
+-- a file whose bytes name this other format isn't read for this
+abbrev pub kind_named_unread : reading.FaultKind → OtherFormat → RecordingFault
+kind_named_unread reading.NotWave format = Foreign format
+kind_named_unread kind format = Unread kind
+
+-- .. whose bytes name this other format, if any
+abbrev pub kind_unread : reading.FaultKind → Option OtherFormat → RecordingFault
+kind_unread kind None = Unread kind
+kind_unread kind (Some format) = kind_named_unread kind format
+
 -- the recording of a file's bytes, or why there is none
 unfoldable pub recording_of : List ℕ → Options → Result Recording FaultAt
 recording_of b o = elim (read b) [
-  | Err fault ↦ Err (record { kind = Unread fault.kind; offset = fault.offset })
+  | Err fault ↦ Err (record { kind = kind_unread fault.kind (other_format_of b); offset = fault.offset })
   | Ok x ↦ recorded b o x.0 x.1
 ]

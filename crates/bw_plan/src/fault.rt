@@ -2,7 +2,8 @@
 ghost use Rattle.std.specs.Prelude.{◌≡◌, ◌≤◌, length, Some};
 ghost use Rattle.bw_plan.specs.Faults.{kind_text, recording_fault_text};
 
-use bw_inspect::InspectKind;
+use crate::unclean::UncleanPart;
+use bw_inspect::{InspectKind, OtherFormat};
 use std::error::Error;
 use std::fmt;
 
@@ -11,7 +12,11 @@ use std::fmt;
 pub enum RecordingKind {
     /// It isn't read.
     Unread(InspectKind),
-    /// The samples aren't PCM.
+    /// It has another format.
+    Foreign(OtherFormat),
+    /// The samples are floating-point numbers of so many bits.
+    Float(u16),
+    /// The samples are neither PCM nor floating-point numbers.
     NotPcm,
     /// Not 16, 24 or 32 bits a sample.
     Bits,
@@ -27,8 +32,10 @@ pub enum RecordingKind {
     PartFrame,
     /// Headerless samples have no frame at all.
     Empty,
+    /// Headerless samples begin after the file's end.
+    Short,
     /// Something has to be cleaned, and may not be.
-    Unclean,
+    Unclean(UncleanPart),
     /// More than 16,777,216 requests.
     TooLong,
 }
@@ -50,6 +57,8 @@ impl RecordingKind {
     {
         match self {
             RecordingKind::Unread(kind) => kind.name(),
+            RecordingKind::Foreign(_) => "NotWave",
+            RecordingKind::Float(_) => "NotPcm",
             RecordingKind::NotPcm => "NotPcm",
             RecordingKind::Bits => "Bits",
             RecordingKind::ValidBits => "ValidBits",
@@ -58,7 +67,8 @@ impl RecordingKind {
             RecordingKind::Channels => "Channels",
             RecordingKind::PartFrame => "PartFrame",
             RecordingKind::Empty => "Empty",
-            RecordingKind::Unclean => "Unclean",
+            RecordingKind::Short => "Truncated",
+            RecordingKind::Unclean(_) => "Unclean",
             RecordingKind::TooLong => "TooLong",
         }
     }

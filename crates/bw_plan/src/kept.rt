@@ -59,7 +59,7 @@ pub(crate) fn has_history_bytes(text: &[u8]) -> bool
 }
 
 /// Carriage return, line feed, or printable.
-fn is_history_byte(c: u8) -> bool
+pub(crate) fn is_history_byte(c: u8) -> bool
     ensures { result ≡ is_byte_of_history c }
 {
     c == b'\r' || c == b'\n' || (32..=126).contains(&c)

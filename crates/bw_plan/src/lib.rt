@@ -17,6 +17,7 @@ mod reading;
 mod recording;
 mod setting;
 mod setting_text;
+mod unclean;
 mod values;
 mod warning;
 
@@ -37,6 +38,7 @@ pub use reading::{read_extension, read_history};
 pub use recording::{block_frames, outline_of};
 pub use setting::{Setting, SettingRef};
 pub use setting_text::read_setting;
+pub use unclean::UncleanPart;
 pub use values::Values;
 pub use warning::{Warning, warnings};
 

@@ -32,7 +32,7 @@ impl Pcm {
     /// The recording of the samples in a file of so many bytes, without the samples.
     ///
     /// # Errors
-    /// The first fault: Bits, Rate, Channels, at 0; Unread(Truncated), at the first sample, where
+    /// The first fault: Bits, Rate, Channels, at 0; Short, at the first sample, where
     /// the file ends before it; PartFrame, at the frame inside which the file ends; TooLong, at
     /// the first sample; Unread(Memory), at 0, where memory was refused.
     ///
@@ -109,7 +109,7 @@ impl Pcm {
             ≡ first_that_holds (pcm_content_faults options.now self file_len outline.now) }
     {
         if file_len < self.skip {
-            return Some(fault_at(RecordingKind::Unread(InspectKind::Truncated), self.skip));
+            return Some(fault_at(RecordingKind::Short, self.skip));
         }
         let part = outline.samples_len() % u64::from(outline.format().block_align());
         if part != 0 {

@@ -18,6 +18,7 @@ use crate::format::format_fault;
 use crate::kept::is_bext_kept;
 use crate::options::Options;
 use crate::outline::Outline;
+use crate::unclean::{UncleanPart, unclean_bext};
 use bw_inspect::{InspectKind, ListedChunk, Report};
 use bw_layout::{ChunkId, Fmt, RawFmt};
 use bw_request::LONGEST_BLOCK;
@@ -120,11 +121,12 @@ fn content_fault(
     }
     if options.is_strict() && !is_bext_kept(&report.bext, history) {
         let place = head_place(chunks, ChunkId(*b"bext"));
-        return Some(fault_at(RecordingKind::Unclean, place));
+        let part = unclean_bext(&report.bext, history);
+        return Some(fault_at(RecordingKind::Unclean(part), place));
     }
     if options.is_strict() && outline.markers().len() < report.cues.as_slice().len() {
         let place = head_place(chunks, ChunkId(*b"cue "));
-        return Some(fault_at(RecordingKind::Unclean, place));
+        return Some(fault_at(RecordingKind::Unclean(UncleanPart::Cues), place));
     }
     if is_too_long(outline, block_frames(options, outline.format())) {
         return Some(fault_at(RecordingKind::TooLong, data_head));

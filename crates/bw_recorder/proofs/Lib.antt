@@ -4,3 +4,4 @@ pub mod Lists
 pub mod RequestHex
 pub mod PackSteps
 pub mod Statuses
+pub mod Joins

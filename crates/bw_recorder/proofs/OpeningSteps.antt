@@ -1,7 +1,7 @@
 -- What is known of a file after a part of it is read.
 use Rattle.std.proofs.Common.{◌≡◌, ℕ, ◌+◌, ◌<◌, ◌≤◌, ◌⊎◌, inl, inr, arith, Bool, true, false, cond, List, [], Option, Some, None}
 use Rattle.std.proofs.Common.{Result, Ok, Err, refl, sym, ◌∙◌, ap, subst}
-use Rattle.std.specs.Prelude.{◌^◌, option_map, codes, length, drop, slice_range}
+use Rattle.std.specs.Prelude.{◌^◌, is_some, option_map, codes, length, drop, slice_range}
 use Rattle.bw_stream.specs.Readers.{Of}
 use Rattle.bw_model.specs.Reading as reading
 use Rattle.bw_model.specs.Reading.{Form, Entry, IsFault, entry_of, read}
@@ -10,11 +10,16 @@ use Rattle.bw_model.specs.Report.{report_of}
 use Rattle.bw_model.proofs.Elements.{some_inj}
 use Rattle.bw_inspect.specs.declared.fault.InspectFault.{InspectFault}
 use Rattle.bw_inspect.specs.declared.report.Report.{Report}
-use Rattle.bw_inspect.specs.Faults.{kind_of, bytes_fault, is_of_bytes}
-use Rattle.bw_inspect.proofs.Faults.{of_bytes, not_both}
+use Rattle.bw_inspect.specs.Faults.{kind_of, bytes_fault, is_failed_read, is_of_bytes}
+use Rattle.bw_inspect.proofs.Faults.{bytes_no_read, of_bytes, not_both}
+use Rattle.bw_inspect.specs.OtherFormats.{other_format_of}
+use Rattle.bw_inspect.specs.declared.other.OtherFormat.{OtherFormat}
+use Rattle.bw_inspect.specs.declared.fault.InspectKind.{InspectKind}
+use Rattle.bw_inspect.specs.declared.fault.InspectKind.TheVariants as kinds
 use Rattle.bw_plan.specs.Recordings as recordings
 use Rattle.bw_plan.specs.Recordings.{Options, Outline, FileNotes, Recording, FaultAt, recording_of, outline_of, notes_of}
 use Rattle.bw_plan.specs.Recordings.{extension_at, history_at, samples_of, block_frames}
+use Rattle.bw_plan.specs.Faults.{kind_meaning}
 use Rattle.bw_plan.specs.Notes.{notes_by, FaultOf}
 use Rattle.bw_plan.specs.Plans.{plan}
 use Rattle.bw_plan.specs.Progress.{Progress, remaining}
@@ -27,6 +32,7 @@ use Rattle.bw_plan.proofs.Openings.{recorded_as, refused_as, samples_len_is, sam
 use Rattle.bw_recorder.specs.declared.opening.Extras.{Extras}
 use Rattle.bw_recorder.specs.WarningTexts.{warning_lines}
 use Rattle.bw_recorder.specs.declared.fault.OpenFault.TheVariants.{Refused, Changed}
+use Rattle.bw_recorder.specs.FaultHints.{unread_kind}
 use Rattle.bw_recorder.specs.FileReports.{HasReport, HasExtras}
 use Rattle.bw_recorder.specs.Openings.{IsFaultOf, IsOpenedAt, IsOutlined, RefusesAs, fault_again}
 
@@ -40,22 +46,61 @@ refused g = Err g
 none : {X : Type 0} {x : X} → None ≡ Some x → ⊥
 none h = cc
 
+-- what is reported of a fault of reading is what it is
+meant : (kind : InspectKind) (other : Option OtherFormat) →
+    kind_meaning (unread_kind kind other) ≡ option_map (λ k. recordings.kind_unread k other) (kind_of kind)
+meant kind None = refl
+meant kinds.NotWave (Some format) = refl
+meant kinds.Truncated (Some format) = refl
+meant kinds.NoDs64 (Some format) = refl
+meant kinds.BadDs64 (Some format) = refl
+meant kinds.NoSize (Some format) = refl
+meant kinds.Twice (Some format) = refl
+meant kinds.NoFmt (Some format) = refl
+meant kinds.NoData (Some format) = refl
+meant kinds.BadFmt (Some format) = refl
+meant kinds.BadBext (Some format) = refl
+meant kinds.BadCue (Some format) = refl
+meant kinds.TooMany (Some format) = refl
+meant kinds.TooLarge (Some format) = refl
+meant kinds.Read (Some format) = refl
+meant kinds.Memory (Some format) = refl
+
 -- a fault of reading is the recording's
-pub unread_fault : (b : List ℕ) (o : Options) (f : InspectFault) →
+pub unread_fault : (b : List ℕ) (o : Options) (f : InspectFault) (other : Option OtherFormat) →
     ((x : reading.Fault) → bytes_fault f ≡ Some x → IsFault b x) →
+    (is_failed_read f.kind ≡ false → other ≡ other_format_of b) →
+    IsFaultOf b o (record { kind = unread_kind f.kind other; offset = f.offset })
+unread_fault b o f other right is g same =
+    go (kind_of f.kind) refl
+    (ap (option_map {U = FaultAt} (λ (kind : recordings.RecordingFault). record { kind = kind; offset = f.offset }))
+    (sym (meant f.kind other)) ∙ same)
+  where
+    go : (x : Option reading.FaultKind) → kind_of f.kind ≡ x →
+        option_map {U = FaultAt}
+        (λ (kind : recordings.RecordingFault). record { kind = kind; offset = f.offset })
+        (option_map (λ k. recordings.kind_unread k other) x) ≡ Some g → recording_of b o ≡ Err g
+    go None e s = absurd (none s)
+    go (Some k) e s =
+        let fault : reading.Fault = record { kind = k; offset = f.offset } in
+        let named : bytes_fault f ≡ Some fault =
+        ap (option_map {U = reading.Fault} (λ (k : reading.FaultKind). record { kind = k; offset = f.offset })) e in
+        unread_as b o fault (faults_as b fault (right fault named))
+        ∙ ap (λ (z : Option OtherFormat). refused (record { kind = recordings.kind_unread k z; offset = f.offset }))
+        (sym (is (bytes_no_read f.kind (of_bytes f fault named))))
+        ∙ ap refused (some_inj s)
+
+-- a fault that is none of the bytes says nothing of them
+no_fault : (b : List ℕ) (o : Options) (f : InspectFault) → is_of_bytes f.kind ≡ false →
     IsFaultOf b o (record { kind = Unread f.kind; offset = f.offset })
-unread_fault b o f right g same = go (kind_of f.kind) refl same
+no_fault b o f never g same = go (kind_of f.kind) refl same
   where
     go : (x : Option reading.FaultKind) → kind_of f.kind ≡ x →
         option_map {U = FaultAt}
         (λ (kind : recordings.RecordingFault). record { kind = kind; offset = f.offset })
         (option_map recordings.Unread x) ≡ Some g → recording_of b o ≡ Err g
     go None e s = absurd (none s)
-    go (Some k) e s =
-        let fault : reading.Fault = record { kind = k; offset = f.offset } in
-        let named : bytes_fault f ≡ Some fault =
-        ap (option_map {U = reading.Fault} (λ (k : reading.FaultKind). record { kind = k; offset = f.offset })) e in
-        unread_as b o fault (faults_as b fault (right fault named)) ∙ ap refused (some_inj s)
+    go (Some k) e s = absurd (not_both (is_of_bytes f.kind) never (ap is_some e))
 
 -- a fault that is none of the bytes
 pub again_refuses : (b : List ℕ) (o : Options) (f : InspectFault) → (is_of_bytes f.kind ≡ true → ⊥) →
@@ -65,7 +110,7 @@ again_refuses b o f never = go (is_of_bytes f.kind) refl
     go : (v : Bool) → is_of_bytes f.kind ≡ v →
         RefusesAs b o (cond v Changed (Refused (record { kind = Unread f.kind; offset = f.offset })))
     go true e = absurd (never e)
-    go false e = unread_fault b o f (λ x named. absurd (not_both (is_of_bytes f.kind) e (of_bytes f x named)))
+    go false e = no_fault b o f e
 
 -- a report lists the chunks of the reading
 pub chunks_are : (b : List ℕ) (r : Report) (h : HasReport b r) → r.chunks ≡ h.1.reading_is.entries

@@ -2,7 +2,7 @@
 use Rattle.std.proofs.Common.{◌≡◌, ◌⊎◌, ℕ, Bool, true, List, Option, Some, Result, inl, inr, refl, subst}
 use Rattle.bw_stream.specs.Readers.{Of}
 use Rattle.bw_model.specs.Take.{Request}
-use Rattle.bw_console.specs.Prints.{Print, Nothing}
+use Rattle.bw_console.specs.Prints.{IsOf, Nothing, Print}
 use Rattle.bw_console.specs.declared.exit.Exit.{Exit}
 use Rattle.bw_plan.specs.Recordings.{Options}
 use Rattle.bw_plan.specs.Progress.{Progress, IsSoundPlan, remaining}
@@ -38,8 +38,14 @@ not_opened command file path o fault exit print right reports =
 pub refused : (texts : List (List ℕ)) (strict : Bool) (frames : Option ℕ) (fault : OptionsFault) (exit : Exit)
     (print : Print) → LacksOptions texts strict frames fault → IsOptionsReport fault exit print →
     RefusesAtOnce texts strict frames (refusal exit print)
-refused texts strict frames lacks.NotASetting exit print bad r =
-    inl (record { bad = bad; exit_is = r.0; well = refl; warned = refl; prints = refl; reports = r.1 })
+refused texts strict frames (lacks.NotASetting text) exit print bad r = inl (record {
+  bad = bad.0;
+  exit_is = r.0;
+  well = refl;
+  warned = refl;
+  prints = refl;
+  reports = subst (λ (line : List ℕ). IsOf line print) bad.1 r.1;
+})
 refused texts strict frames lacks.Memory exit print bad r =
     inr (record { exit_is = r.0; well = refl; warned = refl; prints = refl; reports = r.1 })
 

@@ -20,7 +20,7 @@ use Rattle.bw_recorder.specs.FileReports.{warnings_in}
 use Rattle.bw_recorder.specs.Openings.{RefusesAs, is_well_at, recording_line, changed_line, exit_on_kind}
 use Rattle.bw_recorder.specs.Puts.{GivesRequests}
 use Rattle.bw_recorder.specs.RequestLines.{request_lines}
-use Rattle.bw_recorder.specs.SettingLists.{options_of}
+use Rattle.bw_recorder.specs.SettingLists.{bad_setting_line, options_of}
 use Rattle.bw_recorder.specs.WarningTexts.{warning_lines}
 use Rattle.bw_recorder.specs.declared.fault.OpenFault.{OpenFault}
 use Rattle.bw_recorder.specs.declared.fault.OpenFault.TheVariants.{Unopened, Refused, Changed}
@@ -30,13 +30,9 @@ use Rattle.bw_recorder.specs.declared.packing.PackFault.{PackFault}
 use Rattle.bw_recorder.specs.declared.packing.PackFault.TheVariants.{Unread, Altered, Unsendable}
 use Rattle.bw_recorder.specs.declared.packing.PackFault.TheVariants.{Unwritable, Memory}
 
--- what is reported of settings that can't be read, and the keys that there are
-abbrev pub bad_setting_line : List ℕ
-bad_setting_line = codes "a value of '--set' isn't KEY=VALUE, or isn't allowed\nhint: KEY is description, originator, reference, date, clock, time, umid, history, value, range, peak, momentary or short\n"
-
 -- what is reported where what is set can't be used, and how the command ends
 abbrev pub IsOptionsReport : OptionsFault → Exit → Print → Type 0
-IsOptionsReport lacks.NotASetting exit print = (exit ≡ exits.Usage) × IsOf bad_setting_line print
+IsOptionsReport (lacks.NotASetting text) exit print = (exit ≡ exits.Usage) × IsOf text.items print
 IsOptionsReport lacks.Memory exit print =
     (exit ≡ exits.Memory) × IsOf (as_line (input_fault_text faults.Memory)) print
 
@@ -132,7 +128,7 @@ pub record RefusesSettings (texts : List (List ℕ)) (strict : Bool) (frames : O
   pub well : did.is_system_well ≡ true
   pub warned : did.warned ≡ Nothing
   pub prints : did.out ≡ Nothing
-  pub reports : IsOf bad_setting_line did.faults
+  pub reports : IsOf (bad_setting_line texts) did.faults
 
 -- memory was refused before the file was opened
 pub record RunsOutOfMemory (did : Packing) : Type 0 where

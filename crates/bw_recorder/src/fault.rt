@@ -1,21 +1,22 @@
 //! Why the requests of a recording aren't all given, and what is reported of that.
 ghost use Rattle.std.specs.Prelude.{◌≡◌, ◌≤◌, length};
 ghost use Rattle.bw_inspect.specs.Faults.{is_of_bytes};
+ghost use Rattle.bw_recorder.specs.FaultHints.{named_kind as kind_named, unread_kind};
 ghost use Rattle.bw_recorder.specs.Openings.{recording_line, changed_line, exit_on_kind, fault_again};
 
-use crate::hint::hint_of_recording;
+use crate::hint::push_hint;
 use arrayvec::ArrayString;
 use bw_console::Exit;
-use bw_inspect::{InspectFault, InspectKind};
+use bw_inspect::{InspectFault, InspectKind, OtherFormat};
 use bw_plan::{RecordingFault, RecordingKind};
 use itoa::Buffer;
 use std::io;
 
 /// Why what is set can't be used.
-#[derive(Clone, Copy, Debug, PartialEq, Eq)]
+#[derive(Drop)]
 pub enum OptionsFault {
-    /// A text spells no setting.
-    NotASetting,
+    /// A text spells no setting. The line that is reported, and a hint below it.
+    NotASetting(Vec<u8>),
     /// Memory was refused.
     Memory,
 }
@@ -41,6 +42,29 @@ pub fn unread(fault: InspectFault) -> RecordingFault
     }
 }
 
+/// The same, where the file's first bytes name this other format, if any.
+pub(crate) fn unread_as(fault: InspectFault, other: Option<OtherFormat>) -> RecordingFault
+    ensures { result ≡ record { kind = unread_kind fault.kind other; offset = fault.offset } }
+{
+    let kind = match other {
+        Some(format) => named_kind(fault.kind, format),
+        None => RecordingKind::Unread(fault.kind),
+    };
+    RecordingFault {
+        kind,
+        offset: fault.offset,
+    }
+}
+
+fn named_kind(kind: InspectKind, format: OtherFormat) -> RecordingKind
+    ensures { result ≡ kind_named kind format }
+{
+    match kind {
+        InspectKind::NotWave => RecordingKind::Foreign(format),
+        _ => RecordingKind::Unread(kind),
+    }
+}
+
 /// Memory was refused before the samples were read.
 pub const NO_MEMORY: RecordingFault = RecordingFault {
     kind: RecordingKind::Unread(InspectKind::Memory),
@@ -61,7 +85,7 @@ pub fn line_of(command: &str, fault: &RecordingFault) -> ArrayString<256>
     line.push_str(" at ");
     line.push_str(digits.format(fault.offset));
     line.push_str("\n");
-    line.push_str(hint_of_recording(fault));
+    push_hint(&mut line, fault);
     line
 }
 

@@ -11,9 +11,9 @@ ghost use Rattle.bw_stream.specs.Readers.{Of};
 ghost use Rattle.bw_recorder.specs.FileReports.{HasExtras, HasReport};
 ghost use Rattle.bw_recorder.specs.Openings.{IsOpenedAt, IsOutlined, RefusesAs, is_system_well};
 
-use crate::fault::{NO_MEMORY, OpenFault, read_again, unread};
+use crate::fault::{NO_MEMORY, OpenFault, read_again, unread_as};
 use crate::warning_text::warning_text;
-use bw_inspect::{Report, inspect};
+use bw_inspect::{Report, inspect_recognizing};
 use bw_plan::{
     Options, Outline, Plan, block_frames, outline_of, read_extension, read_history, warnings,
 };
@@ -101,9 +101,10 @@ pub fn read_report<F: RecordingFiles>(
         Ok(file) => file,
         Err(error) => return Err(OpenFault::Unopened(error)),
     };
-    match inspect(alloc, &mut file) {
+    let mut other = None;
+    match inspect_recognizing(alloc, &mut file, &mut other) {
         Ok(report) => Ok(report),
-        Err(fault) => Err(OpenFault::Refused(unread(fault))),
+        Err(fault) => Err(OpenFault::Refused(unread_as(fault, other))),
     }
 }
 

@@ -2,7 +2,7 @@
 ghost use Rattle.std.specs.Prelude.{◌≡◌, ◌≤◌, ℕ, List, Result, length, map, string_bytes, OnOk, IfErr};
 ghost use Rattle.bw_console.specs.Prints.{IsPrint, Print, failures_if, IsOf};
 ghost use Rattle.bw_plan.specs.Progress.{remaining};
-ghost use Rattle.bw_recorder.specs.Packs.{bad_setting_line, FinishesPrint};
+ghost use Rattle.bw_recorder.specs.Packs.{FinishesPrint};
 ghost use Rattle.bw_recorder.specs.Packs.{IsOpenReport, has_unwritable as is_writer_failed};
 ghost use Rattle.bw_recorder.specs.Packs.{HasPacked, IsPack, IsPrintOfPack, IsReportedText, Packing};
 ghost use Rattle.bw_recorder.specs.Packs.{IsOptionsReport, ReportsPack, exit_of_pack, pack_exit, pack_line};
@@ -29,10 +29,6 @@ use std::alloc::Global;
 
 /// A sender has numbers for 16,777,216 requests; after them the plan is at its end.
 const QUESTIONS: u32 = 16_777_217;
-
-/// What is reported of a setting that isn't one, and below it the keys that `read_setting` knows.
-const BAD_SETTING: &str =
-    "a value of '--set' isn't KEY=VALUE, or isn't allowed\nhint: KEY is description, originator, reference, date, clock, time, umid, history, value, range, peak, momentary or short\n";
 
 /// Why not all requests of a recording are printed.
 #[derive(Drop)]
@@ -93,18 +89,18 @@ pub fn refuse_options<E: Sink>(fault: OptionsFault, faults: &mut E) -> Exit
         × IsPrint E.Sink print faults.old faults.new }
 {
     match fault {
-        OptionsFault::NotASetting => refuse_settings(faults),
+        OptionsFault::NotASetting(text) => refuse_settings(text.as_slice(), faults),
         OptionsFault::Memory => give_up(faults, &Fault::Memory),
     }
 }
 
-/// Reports that a text spells no setting. Returns how the command ends.
-fn refuse_settings<E: Sink>(faults: &mut E) -> Exit
+/// Reports by this text that another spells no setting. Returns how the command ends.
+fn refuse_settings<E: Sink>(text: &[u8], faults: &mut E) -> Exit
     ensures exit { result ≡ Exit.Usage }
-    ensures line { (print : Print) × IsOf bad_setting_line print
+    ensures line { (print : Print) × IsOf text.now print
         × IsPrint E.Sink print faults.old faults.new }
 {
-    print_diagnostic(faults, BAD_SETTING.as_bytes());
+    print_diagnostic(faults, text);
     Exit::Usage
 }
 

@@ -35,8 +35,8 @@ fn put_warning(text: &mut Vec<u8>, warning: Warning) -> Result<(), AllocError>
         ≡ text.old.items ++ warning_line (warning_meaning warning)) }
 {
     match warning {
-        Warning::FieldCleaned { tag } => put_words(text, b"cleaned: ", key(tag)),
-        Warning::FieldLeftOut { tag } => put_words(text, b"left out: ", key(tag)),
+        Warning::FieldCleaned { tag } => put_words(text, b"cleaned: ", key(tag).as_bytes()),
+        Warning::FieldLeftOut { tag } => put_words(text, b"left out: ", key(tag).as_bytes()),
         Warning::HistoryCleaned => put_words(text, b"cleaned: history", b""),
         Warning::CuesLeftOut { count } => put_count(text, count as u64),
         Warning::MaskLeftOut => put_words(text, b"left out: channel mask", b""),
@@ -83,14 +83,15 @@ fn printed(id: ChunkId) -> [u8; 4]
 }
 
 /// The key of the text field of `bext` with this tag.
-fn key(tag: u8) -> &'static [u8]
-    ensures { result.now ≡ key_of tag }
+pub(crate) fn key(tag: u8) -> &'static str
+    ensures value { result.now ≡ key_of tag }
+    ensures short { length result.now ≤ 11 }
 {
     match tag {
-        1 => b"description",
-        2 => b"originator",
-        3 => b"reference",
-        4 => b"date",
-        _ => b"clock",
+        1 => "description",
+        2 => "originator",
+        3 => "reference",
+        4 => "date",
+        _ => "clock",
     }
 }

@@ -14,7 +14,7 @@ ghost use Rattle.bw_rest.specs.UseOrder.{with_use_if};
 use crate::finding::Found;
 use crate::uses::Uses;
 use arrayvec::ArrayVec;
-use bw_exchange::Turns;
+use bw_exchange::{NotKept, Turns};
 use bw_journal::RestingJournal;
 use bw_request::Name;
 use bw_session::Server;
@@ -135,11 +135,17 @@ fn first_uses<S: TakeStore, J: RestingJournal>(
 }
 
 impl<S: TakeStore, J: RestingJournal> Turns for RestingServer<S, J> {
+    ghost use Rattle.bw_exchange.specs.Commits.{CommitsNothing};
     ghost use Rattle.bw_rest.specs.TurnsAtRest.{RestingTurn};
     ghost use Rattle.bw_rest.specs.RestingServers.{table_server};
 
     ghost answers = { λ old frame replies new.
         RestingTurn S.TakeStore J.Journal (table_server old) frame replies (table_server new) };
+
+    /// Nothing is ever uncommitted.
+    ghost committed = { λ _. Unit {0} };
+
+    ghost commits = { CommitsNothing };
 
     fn turn(&mut self, message: &Message<'_>, replies: &mut ArrayVec<Reply, 17>) {
         let name = message.name();
@@ -159,6 +165,11 @@ impl<S: TakeStore, J: RestingJournal> Turns for RestingServer<S, J> {
             Found::PutOff => delayed(name, ask.number()),
             Found::Failed => delayed(name, ask.number()),
         }
+    }
+
+    /// Each turn keeps what it answers.
+    fn commit(&mut self) -> Result<(), NotKept> {
+        Ok(())
     }
 }
 

@@ -1,6 +1,6 @@
 -- What a run of exchanges has answered, one frame after another.
 use Rattle.std.proofs.Common.{◌≡◌, ℕ, suc, Bool, List, [], ◌∷◌, length}
-use Rattle.std.specs.Prelude.{IsTrue}
+use Rattle.std.specs.Prelude.{IsTrue, Result}
 use Rattle.bw_model.specs.Wire.{Frame}
 use Rattle.bw_model.specs.Replies.{Reply}
 use Rattle.bw_stream.specs.declared.sink.Sink.{Ghosts as Writer}
@@ -9,6 +9,8 @@ use Rattle.bw_store.specs.declared.store.TakeStore.{Ghosts as StoreGhosts}
 use Rattle.bw_journal.specs.declared.journal.Journal.{Ghosts as JournalGhosts}
 use Rattle.bw_session.specs.Books.{HoldsBook}
 use Rattle.bw_session.specs.declared.server.Server.{Server}
+use Rattle.bw_exchange.specs.Commits.{CommitsNothing}
+use Rattle.bw_exchange.specs.declared.turns.NotKept.{NotKept}
 use Rattle.bw_exchange.specs.AnsweredFrames.{AnswersAll}
 use Rattle.bw_console.specs.declared.exit.Exit.{Exit}
 use Rattle.bw_console.specs.declared.exit.Exit.TheVariants.{Done, Refused, Usage, Device, Memory}
@@ -25,44 +27,45 @@ use Rattle.bw_serve.specs.HostedFrom.{answered_in_loop}
 use Rattle.bw_serve.specs.EventLoopRuns.{RunsEventLoop}
 use Rattle.bw_serve.specs.declared.serving.Bounds.{Bounds}
 
-module _ {T P R W O E : Type 0} (answers : T → Frame → List Reply → T → Type 0) (peers : PeerGhosts P R W)
+module _ {T P R W O E : Type 0} (answers : T → Frame → List Reply → T → Type 0)
+    (commits : T → Result (Unit {0}) NotKept → T → Type 0) (peers : PeerGhosts P R W)
     (reader : Reader R) (writer : Writer W) (out : Writer O) (reported : Writer E) (log : Bool) where
   by_next : (index : ℕ) (x : ServedOutcome) (t t' : T) (p p' : P) (o o' : O) (e e' : E)
-      (next : ServesNext answers peers reader writer out reported log index x t t' p p' o o' e e') →
+      (next : ServesNext answers commits peers reader writer out reported log index x t t' p p' o o' e e') →
       AnswersAll answers t
-      (answered_next answers peers reader writer out reported log index x t t' p p' o o' e e' next) t'
-  by_next index (Served exit) t t' p p' o o' e e' next = next.served.served.serves.by_server
+      (answered_next answers commits peers reader writer out reported log index x t t' p p' o o' e e' next) t'
+  by_next index (Served end exit) t t' p p' o o' e e' next = next.served.served.serves.by_server
   by_next index Gone t t' p p' o o' e e' next = next.server
   by_next index Closed t t' p p' o o' e e' next = next.server
 
   by_each : (index : ℕ) (xs : List ServedOutcome) (t t' : T) (p p' : P) (o o' : O) (e e' : E)
-      (each : ServesEach answers peers reader writer out reported log index xs t t' p p' o o' e e') →
+      (each : ServesEach answers commits peers reader writer out reported log index xs t t' p p' o o' e e') →
       AnswersAll answers t
-      (answered_each answers peers reader writer out reported log index xs t t' p p' o o' e e' each) t'
+      (answered_each answers commits peers reader writer out reported log index xs t t' p p' o o' e e' each) t'
   by_each index [] t t' p p' o o' e e' each = each.0
   by_each index (x ∷ xs) t t' p p' o o' e e' each =
       answers_append answers
-      (answered_next answers peers reader writer out reported log index x t each.0 p each.1 o each.2 e each.3 each.4)
-      (answered_each answers peers reader writer out reported log (suc index) xs each.0 t' each.1 p' each.2 o' each.3 e'
+      (answered_next answers commits peers reader writer out reported log index x t each.0 p each.1 o each.2 e each.3 each.4)
+      (answered_each answers commits peers reader writer out reported log (suc index) xs each.0 t' each.1 p' each.2 o' each.3 e'
       each.6) t each.0 t' (by_next index x t each.0 p each.1 o each.2 e each.3 each.4)
       (by_each (suc index) xs each.0 t' each.1 p' each.2 o' each.3 e' each.6)
 
   by_early : (exchanges : ℕ) (exit : Exit) (t t' : T) (p p' : P) (o o' : O) (e e' : E)
-      (run : EndsEarly answers peers reader writer out reported log exchanges exit t t' p p' o o' e e') →
+      (run : EndsEarly answers commits peers reader writer out reported log exchanges exit t t' p p' o o' e e') →
       AnswersAll answers t
-      (answered_early answers peers reader writer out reported log exchanges exit t t' p p' o o' e e' run) t'
+      (answered_early answers commits peers reader writer out reported log exchanges exit t t' p p' o o' e e' run) t'
   by_early exchanges exit t t' p p' o o' e e' run =
       answers_append answers
-      (answered_each answers peers reader writer out reported log 0 run.before t run.m p run.q o run.n e run.f run.each)
-      (answered_next answers peers reader writer out reported log (length run.before) run.last run.m t' run.q p' run.n o'
+      (answered_each answers commits peers reader writer out reported log 0 run.before t run.m p run.q o run.n e run.f run.each)
+      (answered_next answers commits peers reader writer out reported log (length run.before) run.last run.m t' run.q p' run.n o'
       run.f e' run.next) t run.m t' (by_each 0 run.before t run.m p run.q o run.n e run.f run.each)
       (by_next (length run.before) run.last run.m t' run.q p' run.n o' run.f e' run.next)
 
   -- the server has answered them so
   pub by_run : (exchanges : ℕ) (exit : Exit) (t t' : T) (p p' : P) (o o' : O) (e e' : E)
-      (run : ServesRun answers peers reader writer out reported log exchanges exit t t' p p' o o' e e') →
+      (run : ServesRun answers commits peers reader writer out reported log exchanges exit t t' p p' o o' e e') →
       AnswersAll answers t
-      (answered_in_run answers peers reader writer out reported log exchanges exit t t' p p' o o' e e' run) t'
+      (answered_in_run answers commits peers reader writer out reported log exchanges exit t t' p p' o o' e e' run) t'
   by_run exchanges Done t t' p p' o o' e e' run = by_each 0 run.outcomes t t' p p' o o' e e' run.each
   by_run exchanges Refused t t' p p' o o' e e' run = by_early exchanges Refused t t' p p' o o' e e' run
   by_run exchanges Usage t t' p p' o o' e e' run = by_early exchanges Usage t t' p p' o o' e e' run
@@ -76,23 +79,24 @@ module _ {X Y P R W O E : Type 0} (S : StoreGhosts X) (J : JournalGhosts Y) (qui
   pub run_leaves : (limit : ℕ) (store : X) (old new : Server X Y S J) (exchanges : ℕ) (exit : Exit) (p p' : P)
       (o o' : O) (e e' : E) → old.stores.store ≡ store → old.limit ≡ limit →
       HoldsBook S J (S.contents store) old [] →
-      (run : ServesRun (ServerTurn S J) peers reader writer out reported log exchanges exit old new p p' o o' e e') →
+      (run : ServesRun (ServerTurn S J) CommitsNothing peers reader writer out reported log exchanges exit old new p p' o o' e e') →
       IsTrue (S.honest store) →
-      LeavesRun S limit store (answered_in_run (ServerTurn S J) peers reader writer out reported log exchanges exit
+      LeavesRun S limit store (answered_in_run (ServerTurn S J) CommitsNothing peers reader writer out reported log exchanges exit
       old new p p' o o' e e' run)
       new.stores.store
   run_leaves limit store old new exchanges exit p p' o o' e e' begun limited empty run honest =
       leaves_run S J quiet limit store old new begun limited empty honest
-      (answered_in_run (ServerTurn S J) peers reader writer out reported log exchanges exit old new p p' o o' e e' run)
-      (by_run (ServerTurn S J) peers reader writer out reported log exchanges exit old new p p' o o' e e' run)
+      (answered_in_run (ServerTurn S J) CommitsNothing peers reader writer out reported log exchanges exit old new p p' o o' e e' run)
+      (by_run (ServerTurn S J) CommitsNothing peers reader writer out reported log exchanges exit old new p p' o o' e e' run)
 
-module _ {T B L O E : Type 0} (answers : T → Frame → List Reply → T → Type 0) (reactor : ReactorGhosts B L)
+module _ {T B L O E : Type 0} (answers : T → Frame → List Reply → T → Type 0)
+    (commits : T → Result (Unit {0}) NotKept → T → Type 0) (reactor : ReactorGhosts B L)
     (link : LinkGhosts L) (out : Writer O) (reported : Writer E) (log : Bool) where
   -- the server has answered them so
   pub by_loop : (bounds : Bounds) (exit : Exit) (t t' : T) (b b' : B) (o o' : O) (e e' : E)
-      (run : RunsEventLoop reactor link answers out reported log bounds exit t t' b b' o o' e e') →
+      (run : RunsEventLoop reactor link answers commits out reported log bounds exit t t' b b' o o' e e') →
       AnswersAll answers t
-      (answered_in_loop reactor link answers out reported log bounds exit t t' b b' o o' e e' run) t'
+      (answered_in_loop reactor link answers commits out reported log bounds exit t t' b b' o o' e e' run) t'
   by_loop bounds Done t t' b b' o o' e e' run = run.by_server
   by_loop bounds Refused t t' b b' o o' e e' run = run.by_server
   by_loop bounds Usage t t' b b' o o' e e' run = run.by_server

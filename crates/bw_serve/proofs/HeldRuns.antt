@@ -8,6 +8,7 @@ use Rattle.bw_journal.specs.declared.journal.Journal.{Ghosts as JournalGhosts}
 use Rattle.bw_session.specs.Servers.{kept_in, store_since}
 use Rattle.bw_session.specs.ServerTurns.{ServerTurn}
 use Rattle.bw_session.specs.declared.server.Server.{Server}
+use Rattle.bw_exchange.specs.Commits.{CommitsNothing}
 use Rattle.bw_exchange.specs.AnsweredFrames.{Answered, AnswersAll}
 use Rattle.bw_engine.specs.ServerRuns.{ServersAnswerInRuns}
 use Rattle.bw_console.specs.declared.exit.Exit.{Exit}
@@ -35,10 +36,10 @@ module _ {X Y : Type 0} (S : StoreGhosts X) (J : JournalGhosts Y) where
       (log : Bool) where
     pub loop_leaves_from : ServersAnswerInRuns S J → (bounds : Bounds) (exit : Exit) (s s' : Server X Y S J) (b b' : B)
         (o o' : O) (e e' : E)
-        (run : RunsEventLoop reactor link (ServerTurn S J) out reported log bounds exit s s' b b' o o' e e') →
+        (run : RunsEventLoop reactor link (ServerTurn S J) CommitsNothing out reported log bounds exit s s' b b' o o' e e') →
         LeavesRunsFrom S J s s'
-        (answered_in_loop reactor link (ServerTurn S J) out reported log bounds exit s s' b b' o o' e e' run)
+        (answered_in_loop reactor link (ServerTurn S J) CommitsNothing out reported log bounds exit s s' b b' o o' e e' run)
     loop_leaves_from law bounds exit s s' b b' o o' e e' run =
         leaves_from law s s'
-        (answered_in_loop reactor link (ServerTurn S J) out reported log bounds exit s s' b b' o o' e e' run)
-        (by_loop (ServerTurn S J) reactor link out reported log bounds exit s s' b b' o o' e e' run)
+        (answered_in_loop reactor link (ServerTurn S J) CommitsNothing out reported log bounds exit s s' b b' o o' e e' run)
+        (by_loop (ServerTurn S J) CommitsNothing reactor link out reported log bounds exit s s' b b' o o' e e' run)

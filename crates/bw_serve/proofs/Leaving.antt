@@ -6,6 +6,7 @@ use Rattle.bw_store.specs.declared.store.TakeStore.{Ghosts as StoreGhosts}
 use Rattle.bw_journal.specs.declared.journal.Journal.{Ghosts as JournalGhosts}
 use Rattle.bw_session.specs.Books.{HoldsBook}
 use Rattle.bw_session.specs.declared.server.Server.{Server}
+use Rattle.bw_exchange.specs.Commits.{CommitsNothing}
 use Rattle.bw_session.specs.ServerTurns.{ServerTurn}
 use Rattle.bw_serve.specs.Names.{KeepsNamesApart, NamesStandApart}
 use Rattle.bw_console.specs.declared.exit.Exit.{Exit}
@@ -21,9 +22,9 @@ module _ {X Y B L O E : Type 0} (S : StoreGhosts X) (J : JournalGhosts Y) (react
   -- a new server leaves the files of what it answered over all its connections
   pub event_loop_leaves : (limit : ℕ) (store : X) (old new : Server X Y S J) (bounds : Bounds) (exit : Exit) (b b' : B)
       (o o' : O) (e e' : E) → old.stores.store ≡ store → old.limit ≡ limit → HoldsBook S J (S.contents store) old [] →
-      (run : RunsEventLoop reactor link (ServerTurn S J) out reported log bounds exit old new b b' o o' e e') → IsTrue (S.honest store) →
+      (run : RunsEventLoop reactor link (ServerTurn S J) CommitsNothing out reported log bounds exit old new b b' o o' e e') → IsTrue (S.honest store) →
       KeepsNamesApart S J limit store new.stores.store
-      (answered_in_loop reactor link (ServerTurn S J) out reported log bounds exit old new b b' o o' e e' run)
+      (answered_in_loop reactor link (ServerTurn S J) CommitsNothing out reported log bounds exit old new b b' o o' e e' run)
   event_loop_leaves limit store old new bounds Done b b' o o' e e' begun limited empty run honest =
       law limit store old new run.trace honest begun limited empty run.by_server
   event_loop_leaves limit store old new bounds Refused b b' o o' e e' begun limited empty run honest =

@@ -5,6 +5,8 @@ mod Noticing
 mod Rounds
 pub mod Leaving
 mod Quanta
+pub mod Withholding
+mod CountedBatches
 mod Running
 mod Silence
 pub mod HeldRuns

@@ -8,16 +8,18 @@ use Rattle.bw_model.specs.Wire.{Frame}
 use Rattle.bw_model.specs.Replies.{Reply}
 use Rattle.bw_stream.specs.declared.sink.Sink.{Ghosts as Writer}
 use Rattle.bw_connections.specs.declared.connection.Connection.{Connection}
+use Rattle.bw_exchange.specs.declared.turns.NotKept.{NotKept}
 use Rattle.bw_ports.specs.declared.link.Link.{Ghosts as LinkGhosts}
 use Rattle.bw_connections.specs.declared.connections.BeginError.{BeginError}
-use Rattle.bw_connections.specs.ConnectionTables.{IsFree, HoldsConnectionAt}
+use Rattle.bw_connections.specs.ConnectionTables.{IsFree, HoldsConnectionAt, Tagged}
+use Rattle.bw_connections.specs.declared.connections.Closed.{Closed}
 use Rattle.bw_connections.specs.Lives.{BeginsConnection}
 use Rattle.bw_connections.specs.Places.{connection_count}
 use Rattle.bw_connections.specs.Quanta.{BeginsAt, LeavesOthers, RefusesLink}
 use Rattle.bw_connections.proofs.Standing.{not_some, some_is}
 use Rattle.bw_serve.specs.Admissions.{Admits, AdmitsEach}
 use Rattle.bw_ports.specs.Reactors.{Admission}
-use Rattle.bw_serve.specs.EventLoops.{Advances, AcceptsPeer, IsNew, LetsIn}
+use Rattle.bw_serve.specs.EventLoops.{AcceptsPeer, Advances, IsNew, LetsIn, ended_in_turn, frames_in_turn}
 use Rattle.bw_serve.specs.Rounds.{ServesInRounds, ServesRound, Welcomes, ended_in_round, frames_in_round}
 use Rattle.bw_serve.specs.declared.event_loop.EventLoop.{EventLoop}
 use Rattle.bw_ports.specs.declared.reactor.Reactor.{Ghosts as ReactorGhosts}
@@ -107,34 +109,69 @@ welcomes_after reactor now later b x y a c at none w = record {
 }
 
 module _ {B L S O E : Type 0} (reactor : ReactorGhosts B L) (G : LinkGhosts L)
-    (answers : S → Frame → List Reply → S → Type 0) (out : Writer O) (reported : Writer E) (log : Bool) where
+    (answers : S → Frame → List Reply → S → Type 0) (commits : S → Result (Unit {0}) NotKept → S → Type 0) (out : Writer O) (reported : Writer E) (log : Bool) where
   -- what a round adds
   pub round_advances : (idle exchanges : ℕ) (a b : EventLoop L) (s t : S) (x y : B) (o p : O) (e f : E)
-      (r : ServesRound reactor G answers out reported log idle exchanges a b s t x y o p e f) →
-      Advances G answers out reported log (frames_in_round reactor G answers out reported log idle exchanges a b s t x y o p e f r)
-      (ended_in_round reactor G answers out reported log idle exchanges a b s t x y o p e f r) r.welcomes.links a b s t o p e f
+      (r : ServesRound reactor G answers commits out reported log idle exchanges a b s t x y o p e f) →
+      Advances G answers out reported log (frames_in_round reactor G answers commits out reported log idle exchanges a b s t x y o p e f r)
+      (ended_in_round reactor G answers commits out reported log idle exchanges a b s t x y o p e f r) r.welcomes.links a b s t o p e f
   round_advances idle exchanges a b s t x y o p e f r =
       subst (λ (ls : List (Admission L)). Advances G answers out reported log
-      (frames_in_round reactor G answers out reported log idle exchanges a b s t x y o p e f r)
-      (ended_in_round reactor G answers out reported log idle exchanges a b s t x y o p e f r) ls a b s t o p e f)
+      (frames_in_round reactor G answers commits out reported log idle exchanges a b s t x y o p e f r)
+      (ended_in_round reactor G answers commits out reported log idle exchanges a b s t x y o p e f r) ls a b s t o p e f)
       (append-nil r.welcomes.links)
       (advances_then G answers out reported log a r.between b []
-      (frames_in_round reactor G answers out reported log idle exchanges a b s t x y o p e f r) []
-      (ended_in_round reactor G answers out reported log idle exchanges a b s t x y o p e f r) r.welcomes.links []
+      (frames_in_round reactor G answers commits out reported log idle exchanges a b s t x y o p e f r) []
+      (ended_in_round reactor G answers commits out reported log idle exchanges a b s t x y o p e f r) r.welcomes.links []
       s s t o o p e e f
       (advances_grown G answers out reported log r.welcomes.links a r.between s o e
       (grows_then G a r.noticed r.between r.notices.grows r.grows)
       (hosts_more G a.connections r.between.connections r.welcomes.links (λ over links h.
       hosts_admitted_each G (reactor.time y) r.welcomes.links r.noticed r.between over links r.welcomes.admits
       (hosts_woken G r.links a r.noticed over links r.notices.begun r.notices.refused r.wakes h))))
-      (turn_advances G answers out reported log (reactor.time y) idle (connection_count r.between.connections) r.between b s t o p e f
-      r.in_turn))
+      both)
+    where
+      xs : List Tagged
+      xs = frames_in_turn G answers out reported log (reactor.time y) idle (connection_count r.between.connections)
+          r.between r.served s r.mid o r.printed e r.logged r.in_turn
+
+      us : List (Closed L)
+      us = ended_in_turn G answers out reported log (reactor.time y) idle (connection_count r.between.connections)
+          r.between r.served s r.mid o r.printed e r.logged r.in_turn
+
+      turn : Advances G answers out reported log xs us [] r.between r.served s r.mid o r.printed e r.logged
+      turn = turn_advances G answers out reported log (reactor.time y) idle (connection_count r.between.connections)
+          r.between r.served s r.mid o r.printed e r.logged r.in_turn
+
+      committed : Advances G answers out reported log xs us [] r.between r.served s t o r.printed e r.logged
+      committed = record {
+        by_server = r.kept;
+        adds = turn.adds;
+        prints = turn.prints;
+        reports = turn.reports;
+        hosts = turn.hosts;
+      }
+
+      withheld : Advances G answers out reported log [] r.withholds.closed [] r.served b t t r.printed p r.logged f
+      withheld = record {
+        by_server = refl;
+        adds = r.withholds.adds;
+        prints = r.withholds.prints;
+        reports = r.withholds.reports;
+        hosts = r.withholds.hosts;
+      }
+
+      both : Advances G answers out reported log xs (us ++ r.withholds.closed) [] r.between b s t o p e f
+      both = subst (λ (zs : List Tagged). Advances G answers out reported log zs (us ++ r.withholds.closed) [] r.between
+          b s t o p e f) (append-nil xs)
+          (advances_then G answers out reported log r.between r.served b xs [] us r.withholds.closed [] [] s t t o
+          r.printed p e r.logged f committed withheld)
 
   -- one round more
   unfoldable pub rounds_more : (places idle exchanges : ℕ) (a b : EventLoop L) (s t u : S) (x y z : B) (o p q : O) (e f g : E) →
-      ServesInRounds reactor G answers out reported log places idle exchanges a s t x y o p e f → a.ended < exchanges →
-      ServesRound reactor G answers out reported log idle exchanges a b t u y z p q f g →
-      ServesInRounds reactor G answers out reported log places idle exchanges b s u x z o q e g
+      ServesInRounds reactor G answers commits out reported log places idle exchanges a s t x y o p e f → a.ended < exchanges →
+      ServesRound reactor G answers commits out reported log idle exchanges a b t u y z p q f g →
+      ServesInRounds reactor G answers commits out reported log places idle exchanges b s u x z o q e g
   rounds_more places idle exchanges a b s t u x y z o p q e f g r few w = record {
     empty = r.empty;
     new = r.new;
@@ -144,7 +181,7 @@ module _ {B L S O E : Type 0} (reactor : ReactorGhosts B L) (G : LinkGhosts L)
 
   -- no round yet
   unfoldable pub no_rounds : (places idle exchanges : ℕ) (c : EventLoop L) (s : S) (x : B) (o : O) (e : E) → IsNew G places c →
-      ServesInRounds reactor G answers out reported log places idle exchanges c s s x x o o e e
+      ServesInRounds reactor G answers commits out reported log places idle exchanges c s s x x o o e e
   no_rounds places idle exchanges c s x o e n = record {
     empty = c;
     new = n;

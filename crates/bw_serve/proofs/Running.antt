@@ -4,6 +4,7 @@ use Rattle.std.proofs.Common.{if◌then◌else◌, ltb-false, List, [], ◌∷�
 use Rattle.std.proofs.Common.{subst, ◌∙◌, arith}
 use Rattle.std.proofs.Common.{append_assoc}
 use Rattle.std.proofs.lemmas.List.{append-nil, length-append, map-append}
+use Rattle.std.specs.Prelude.{Result, Ok, Err}
 use Rattle.bw_model.specs.Wire.{Frame}
 use Rattle.bw_model.specs.Replies.{Reply}
 use Rattle.bw_stream.specs.Moves.{one_more}
@@ -11,6 +12,8 @@ use Rattle.bw_stream.specs.declared.sink.Sink.{Ghosts as Writer}
 use Rattle.bw_exchange.specs.AnsweredFrames.{Answered, AnswersAll}
 use Rattle.bw_exchange.proofs.Going.{answers_append}
 use Rattle.bw_console.specs.declared.exit.Exit.{Exit}
+use Rattle.bw_exchange.specs.declared.turns.NotKept.{NotKept}
+use Rattle.bw_exchange.specs.declared.turns.NotKept.TheVariants as kept
 use Rattle.bw_ports.specs.declared.link.Link.{Ghosts as LinkGhosts}
 use Rattle.bw_connections.specs.declared.connections.Closed.{Closed}
 use Rattle.bw_connections.specs.ConnectionTables.{KeepsConnections, Tagged, all_answered}
@@ -18,11 +21,11 @@ use Rattle.bw_connections.specs.Places.{begun_of}
 use Rattle.bw_connections.specs.ConnectionBytes.{EachIsServed}
 use Rattle.bw_exchange.specs.LinkCounts.{up_to_last}
 use Rattle.bw_serve.specs.EventLoops.{Advances, CountsOwn, IsNew}
-use Rattle.bw_serve.specs.Rounds.{ServesInRounds, ServesRound, IsShut, ended_of_run, frames_of_run}
+use Rattle.bw_serve.specs.Rounds.{GoOnAfterEach, GoOnUntilLast, ServesInRounds, ServesRound, IsShut, ended_of_run, frames_of_run, goes_on_after}
 use Rattle.bw_serve.specs.Admissions.{HostsAll}
 use Rattle.bw_ports.specs.Reactors.{Admission}
 use Rattle.bw_serve.specs.Lines.{LogsEnds, ReportsEnds}
-use Rattle.bw_serve.specs.EventLoopRuns.{EndsAt}
+use Rattle.bw_serve.specs.EventLoopRuns.{EndsAt, LacksSync}
 use Rattle.bw_serve.specs.Observations.{HasObserved, LooksAtRound, LooksAtEach, states_of_run}
 use Rattle.bw_serve.specs.declared.event_loop.EventLoop.{EventLoop}
 use Rattle.bw_serve.specs.declared.observing.RoundReport.{RoundReport}
@@ -97,28 +100,42 @@ looks_then : {L S V : Type 0} (looks : V → S → RoundReport → V → Type 0)
 looks_then looks [] ys v w z same more = subst (λ a. LooksAtEach looks ys a z) same more
 looks_then looks (x ∷ xs) ys v w z each more = (each.0, each.1, looks_then looks xs ys each.0 w z each.2 more)
 
+-- where no server may go on, a sync failed
+pub lacks_sync : {S : Type 0} (commits : S → Result (Unit {0}) NotKept → S → Type 0) (mid : S)
+    (r : Result (Unit {0}) NotKept) (s : S) → commits mid r s → goes_on_after r ≡ false → LacksSync commits s
+lacks_sync commits mid (Ok u) s h stops = absurd (cc)
+lacks_sync commits mid (Err kept.WriteFault) s h stops = absurd (cc)
+lacks_sync commits mid (Err kept.SyncFault) s h stops = (mid, h)
+
 module _ {B L S O E V : Type 0} (reactor : ReactorGhosts B L) (G : LinkGhosts L)
-    (answers : S → Frame → List Reply → S → Type 0) (out : Writer O) (reported : Writer E) (log : Bool)
+    (answers : S → Frame → List Reply → S → Type 0) (commits : S → Result (Unit {0}) NotKept → S → Type 0) (out : Writer O) (reported : Writer E) (log : Bool)
     (looks : V → S → RoundReport → V → Type 0) where
   -- what rounds have resulted in, one after another, and what the observer has
-  pub record Runs (places idle exchanges : ℕ) (c : EventLoop L) (s s' : S) (b b' : B) (o o' : O) (e e' : E) (v v' : V)
+  pub record Runs (last : Result (Unit {0}) NotKept) (places idle exchanges : ℕ) (c : EventLoop L) (s s' : S) (b b' : B) (o o' : O) (e e' : E) (v v' : V)
       : Type 0 where
-    pub rounds : ServesInRounds reactor G answers out reported log places idle exchanges c s s' b b' o o' e e'
+    pub rounds : ServesInRounds reactor G answers commits out reported log places idle exchanges c s s' b b' o o' e e'
+    -- the last commit returned this
+    pub went_on : GoOnUntilLast reactor G answers commits out reported log idle exchanges rounds.count rounds.empty
+        c s s' b b' o o' e e' rounds.each
+    pub goes_on : goes_on_after last ≡ true → GoOnAfterEach reactor G answers commits out reported log idle exchanges
+        rounds.count rounds.empty c s s' b b' o o' e e' rounds.each
     pub links : List (Admission L)
     pub gave : (xs : List (Admission L)) → reactor.admitted b xs → reactor.admitted b' (xs ++ links)
     pub so_far : SoFar G answers out reported log
-        (frames_of_run reactor G answers out reported log places idle exchanges c s s' b b' o o' e e' rounds)
-        (ended_of_run reactor G answers out reported log places idle exchanges c s s' b b' o o' e e' rounds) links c s s' o o'
+        (frames_of_run reactor G answers commits out reported log places idle exchanges c s s' b b' o o' e e' rounds)
+        (ended_of_run reactor G answers commits out reported log places idle exchanges c s s' b b' o o' e e' rounds) links c s s' o o'
         e e'
     pub looked : LooksAtEach looks
-        (states_of_run reactor G answers out reported log places idle exchanges c s s' b b' o o' e e' rounds) v v'
+        (states_of_run reactor G answers commits out reported log places idle exchanges c s s' b b' o o' e e' rounds) v v'
 
   -- no round yet
   pub runs_none : (places idle exchanges : ℕ) (c : EventLoop L) (s : S) (b : B) (o : O) (e : E) (v : V) →
-      IsNew G places c → Runs places idle exchanges c s s b b o o e e v v
+      IsNew G places c → Runs (Ok tt) places idle exchanges c s s b b o o e e v v
   unfolding no_rounds
   runs_none places idle exchanges c s b o e v n = record {
-    rounds = no_rounds reactor G answers out reported log places idle exchanges c s b o e n;
+    rounds = no_rounds reactor G answers commits out reported log places idle exchanges c s b o e n;
+    went_on = tt;
+    goes_on = λ goes. tt;
     links = [];
     gave = λ xs was. subst (reactor.admitted b) (sym (append-nil xs)) was;
     so_far = none_so_far G answers out reported log places c s o e n;
@@ -126,48 +143,51 @@ module _ {B L S O E V : Type 0} (reactor : ReactorGhosts B L) (G : LinkGhosts L)
   }
 
   -- one round more
-  pub runs_more : (places idle exchanges : ℕ) (a b : EventLoop L) (s t u : S) (x y z : B) (o p q : O) (e f g : E)
-      (v w v' : V) → Runs places idle exchanges a s t x y o p e f v w → a.ended < exchanges →
-      ServesRound reactor G answers out reported log idle exchanges a b t u y z p q f g → LooksAtRound looks b u w v' →
-      Runs places idle exchanges b s u x z o q e g v v'
+  pub runs_more : (last : Result (Unit {0}) NotKept) → goes_on_after last ≡ true → (places idle exchanges : ℕ) (a b : EventLoop L) (s t u : S) (x y z : B) (o p q : O) (e f g : E)
+      (v w v' : V) → Runs last places idle exchanges a s t x y o p e f v w → a.ended < exchanges →
+      (round : ServesRound reactor G answers commits out reported log idle exchanges a b t u y z p q f g) →
+      LooksAtRound looks b u w v' → Runs round.outcome places idle exchanges b s u x z o q e g v v'
   unfolding rounds_more
-  runs_more places idle exchanges a b s t u x y z o p q e f g v w v' r few round look = record {
-    rounds = rounds_more reactor G answers out reported log places idle exchanges a b s t u x y z o p q e f g r.rounds few
+  runs_more last goes places idle exchanges a b s t u x y z o p q e f g v w v' r few round look = record {
+    rounds = rounds_more reactor G answers commits out reported log places idle exchanges a b s t u x y z o p q e f g r.rounds few
         round;
+    went_on = r.goes_on goes;
+    goes_on = λ more. (r.goes_on goes, more);
     links = r.links ++ round.welcomes.links;
     gave = λ xs was. subst (reactor.admitted z) (append_assoc xs r.links round.welcomes.links)
         (round.welcomes.gave (xs ++ r.links) (r.gave xs was));
     so_far = more_so_far G answers out reported log _ _ _ _ r.links round.welcomes.links a b s t u o p q e f g r.so_far
-        (round_advances reactor G answers out reported log idle exchanges a b t u y z p q f g round);
-    looked = looks_then looks (states_of_run reactor G answers out reported log places idle exchanges a s t x y o p e f r.rounds)
+        (round_advances reactor G answers commits out reported log idle exchanges a b t u y z p q f g round);
+    looked = looks_then looks (states_of_run reactor G answers commits out reported log places idle exchanges a s t x y o p e f r.rounds)
         ((b, u) ∷ []) v w v' r.looked (v', look, refl);
   }
 
   -- nothing else was done
-  runs_still : (places idle exchanges : ℕ) (c : EventLoop L) (s t u : S) (b b' : B) (o p q : O) (e f g : E) (v v' : V) →
-      Runs places idle exchanges c s t b b' o p e f v v' → u ≡ t → q ≡ p → g ≡ f →
-      Runs places idle exchanges c s u b b' o q e g v v'
-  runs_still places idle n c s t u b b' o p q e f g v v' r server printed logged =
-      subst (λ (a : S). Runs places idle n c s a b b' o q e g v v') (sym server)
-      (subst (λ (x : O). Runs places idle n c s t b b' o x e g v v') (sym printed)
-      (subst (λ (h : E). Runs places idle n c s t b b' o p e h v v') (sym logged) r))
+  runs_still : (last : Result (Unit {0}) NotKept) (places idle exchanges : ℕ) (c : EventLoop L) (s t u : S) (b b' : B) (o p q : O) (e f g : E) (v v' : V) →
+      Runs last places idle exchanges c s t b b' o p e f v v' → u ≡ t → q ≡ p → g ≡ f →
+      Runs last places idle exchanges c s u b b' o q e g v v'
+  runs_still last places idle n c s t u b b' o p q e f g v v' r server printed logged =
+      subst (λ (a : S). Runs last places idle n c s a b b' o q e g v v') (sym server)
+      (subst (λ (x : O). Runs last places idle n c s t b b' o x e g v v') (sym printed)
+      (subst (λ (h : E). Runs last places idle n c s t b b' o p e h v v') (sym logged) r))
 
   -- it ends so
-  pub runs_over : EachIsServed G → (bounds : Bounds) (exit : Exit) (c : EventLoop L) (s s' : S) (b b' : B) (o o' : O)
-      (e e' : E) (v v' : V) (r : Runs bounds.places bounds.idle bounds.exchanges c s s' b b' o o' e e' v v') →
+  pub runs_over : EachIsServed G → (last : Result (Unit {0}) NotKept) (bounds : Bounds) (exit : Exit) (c : EventLoop L) (s s' : S) (b b' : B) (o o' : O)
+      (e e' : E) (v v' : V) (r : Runs last bounds.places bounds.idle bounds.exchanges c s s' b b' o o' e e' v v') →
       begun_of c.connections ≤ bounds.exchanges → ((over : List (Closed L)) → c.ended ≡ up_to_last (length over) →
-      EndsAt reactor exit bounds.exchanges (length over) b b') →
-      HasObserved reactor G answers out reported log looks bounds exit s s' b b' o o' e e' v v'
-  runs_over law bounds exit c s s' b b' o o' e e' v v' r most ends = record {
+      EndsAt reactor commits exit bounds.exchanges (length over) s' b b') →
+      HasObserved reactor G answers commits out reported log looks bounds exit s s' b b' o o' e e' v v'
+  runs_over law last bounds exit c s s' b b' o o' e e' v v' r most ends = record {
     run = record {
       following = c;
       reactor_after = b';
       in_rounds = r.rounds;
-      trace = frames_of_run reactor G answers out reported log bounds.places bounds.idle bounds.exchanges c s s' b b' o o' e e'
+      went_on = r.went_on;
+      trace = frames_of_run reactor G answers commits out reported log bounds.places bounds.idle bounds.exchanges c s s' b b' o o' e e'
           r.rounds;
       taken = refl;
       by_server = r.so_far.by_server;
-      over = ended_of_run reactor G answers out reported log bounds.places bounds.idle bounds.exchanges c s s' b b' o o' e e'
+      over = ended_of_run reactor G answers commits out reported log bounds.places bounds.idle bounds.exchanges c s s' b b' o o' e e'
           r.rounds;
       are_over = refl;
       event_loop = c;
@@ -186,17 +206,17 @@ module _ {B L S O E V : Type 0} (reactor : ReactorGhosts B L) (G : LinkGhosts L)
   }
 
   -- a run that ends because no more are accepted
-  pub runs_shut : EachIsServed G → (bounds : Bounds) (exit : Exit) (c d : EventLoop L) (s t u : S) (b x y : B) (o p q : O)
-      (e f g : E) (v v' : V) → Runs bounds.places bounds.idle bounds.exchanges c s t b x o p e f v v' →
+  pub runs_shut : EachIsServed G → (last : Result (Unit {0}) NotKept) (bounds : Bounds) (exit : Exit) (c d : EventLoop L) (s t u : S) (b x y : B) (o p q : O)
+      (e f g : E) (v v' : V) → Runs last bounds.places bounds.idle bounds.exchanges c s t b x o p e f v v' →
       IsShut reactor G c d t u x y p q f g → begun_of d.connections ≤ bounds.exchanges →
-      ((over : List (Closed L)) → EndsAt reactor exit bounds.exchanges (length over) b y) →
-      HasObserved reactor G answers out reported log looks bounds exit s u b y o q e g v v'
-  runs_shut law bounds exit c d s t u b x y o p q e f g v v' before shut most ends =
-      let r = runs_still bounds.places bounds.idle bounds.exchanges c s t u b x o p q e f g v v' before shut.server
+      ((over : List (Closed L)) → EndsAt reactor commits exit bounds.exchanges (length over) u b y) →
+      HasObserved reactor G answers commits out reported log looks bounds exit s u b y o q e g v v'
+  runs_shut law last bounds exit c d s t u b x y o p q e f g v v' before shut most ends =
+      let r = runs_still last bounds.places bounds.idle bounds.exchanges c s t u b x o p q e f g v v' before shut.server
       shut.printed shut.logged in
-      let trace = frames_of_run reactor G answers out reported log bounds.places bounds.idle bounds.exchanges c s u b x o q e g
+      let trace = frames_of_run reactor G answers commits out reported log bounds.places bounds.idle bounds.exchanges c s u b x o q e g
       r.rounds in
-      let over = ended_of_run reactor G answers out reported log bounds.places bounds.idle bounds.exchanges c s u b x o q e g
+      let over = ended_of_run reactor G answers commits out reported log bounds.places bounds.idle bounds.exchanges c s u b x o q e g
       r.rounds in
       let received = shut.welcomes.links in
       let grows = grows_then G c shut.noticed d shut.notices.grows shut.grows in
@@ -210,6 +230,7 @@ module _ {B L S O E V : Type 0} (reactor : ReactorGhosts B L) (G : LinkGhosts L)
           following = c;
           reactor_after = x;
           in_rounds = r.rounds;
+          went_on = r.went_on;
           trace = trace ++ [];
           taken = append-nil trace;
           by_server = now.by_server;

@@ -1,24 +1,28 @@
 -- A run over a server that wraps another one is a run over the wrapped one, with the same frames and
 -- connections.
-use Rattle.std.proofs.Common.{◌≡◌, ◌∙◌, ℕ, zero, suc, Bool, Option, List, [], ◌∷◌, ◌++◌, refl, ap, sym}
+use Rattle.std.proofs.Common.{◌≡◌, ◌⊎◌, inl, inr, ◌∙◌, ℕ, zero, suc, Bool, Option, List, [], ◌∷◌, ◌++◌, refl, ap, subst, sym}
+use Rattle.std.specs.Prelude.{Result, Err, length}
 use Rattle.bw_model.specs.Wire.{Frame}
 use Rattle.bw_model.specs.Replies.{Reply}
 use Rattle.bw_stream.specs.declared.sink.Sink.{Ghosts as Writer}
 use Rattle.bw_console.specs.declared.exit.Exit.{Exit}
+use Rattle.bw_console.specs.declared.exit.Exit.TheVariants.{Done, Refused, Usage, Device, Memory}
 use Rattle.bw_exchange.specs.AnsweredFrames.{Answered, AnswersAll}
+use Rattle.bw_exchange.specs.declared.turns.NotKept.{NotKept}
+use Rattle.bw_exchange.specs.declared.turns.NotKept.TheVariants as kept
 use Rattle.bw_ports.specs.declared.link.Link.{Ghosts as LinkGhosts}
 use Rattle.bw_ports.specs.declared.reactor.Reactor.{Ghosts as ReactorGhosts}
 use Rattle.bw_connections.specs.declared.connections.Closed.{Closed}
 use Rattle.bw_connections.specs.declared.connections.Connections.{Connections}
-use Rattle.bw_connections.specs.ConnectionTables.{tagged}
+use Rattle.bw_connections.specs.ConnectionTables.{Tagged, all_answered, tagged}
 use Rattle.bw_connections.specs.Places.{connection_count}
 use Rattle.bw_connections.specs.Quanta.{WorksAt}
 use Rattle.bw_serve.specs.declared.event_loop.EventLoop.{EventLoop}
 use Rattle.bw_serve.specs.declared.serving.Bounds.{Bounds}
 use Rattle.bw_serve.specs.EventLoops.{InTurn, ServesPlace, ended_in_turn, frames_in_turn}
-use Rattle.bw_serve.specs.Rounds.{ServesInRounds, ServesRound, ServesRounds, ended_in_rounds}
+use Rattle.bw_serve.specs.Rounds.{GoOnAfterEach, GoOnUntilLast, ServesInRounds, ServesRound, ServesRounds, ended_in_rounds}
 use Rattle.bw_serve.specs.Rounds.{frames_in_rounds}
-use Rattle.bw_serve.specs.EventLoopRuns.{HasServed}
+use Rattle.bw_serve.specs.EventLoopRuns.{EndsAt, HasServed}
 
 both : {X : Type 0} {xs xs' ys ys' : List X} → xs ≡ xs' → ys ≡ ys' → xs ++ ys ≡ xs' ++ ys'
 both {X} {xs} {xs'} {ys} {ys'} e f = ap (λ zs. zs ++ ys) e ∙ ap (λ zs. xs' ++ zs) f
@@ -42,6 +46,7 @@ works_by G outer answers place now closed m m' t t' s s' w by_server = record {
   unended = w.unended;
   since = w.since;
   moved = w.moved;
+  leaves = w.leaves;
   lets_go = w.lets_go;
   learns = w.learns;
   finished = w.finished;
@@ -51,12 +56,22 @@ works_by G outer answers place now closed m m' t t' s s' w by_server = record {
 module _ {T S : Type 0} (inner : T → S) (outer : T → Frame → List Reply → T → Type 0)
     (answers : S → Frame → List Reply → S → Type 0)
     (passes : (t : T) (frame : Frame) (replies : List Reply) (t' : T) → outer t frame replies t' →
-    answers (inner t) frame replies (inner t')) where
+    answers (inner t) frame replies (inner t')) (ends : T → Result (Unit {0}) NotKept → T → Type 0) (commits : S → Result (Unit {0}) NotKept → S → Type 0)
+    (passes_commits : (t : T) (r : Result (Unit {0}) NotKept) (t' : T) → ends t r t' → commits (inner t) r (inner t')) where
   pub answers_inner : (t : T) (xs : List Answered) (t' : T) → AnswersAll outer t xs t' →
       AnswersAll answers (inner t) xs (inner t')
   answers_inner t [] t' h = ap inner h
   answers_inner t (a ∷ rest) t' h =
       (inner h.0, passes t a.frame a.replies h.0 h.1, answers_inner h.0 rest t' h.2)
+
+  pub ends_inner : {B L : Type 0} (reactor : ReactorGhosts B L) (exit : Exit) (exchanges ended : ℕ) (t' : T) (b b' : B) →
+      EndsAt reactor ends exit exchanges ended t' b b' → EndsAt reactor commits exit exchanges ended (inner t') b b'
+  ends_inner reactor Done exchanges ended t' b b' h = h
+  ends_inner reactor Device exchanges ended t' b b' (inl h) = inl h
+  ends_inner reactor Device exchanges ended t' b b' (inr h) = inr (inner h.0, passes_commits h.0 (Err kept.SyncFault) t' h.1)
+  ends_inner reactor Refused exchanges ended t' b b' h = absurd h
+  ends_inner reactor Usage exchanges ended t' b b' h = absurd h
+  ends_inner reactor Memory exchanges ended t' b b' h = absurd h
 
   module _ {L : Type 0} (G : LinkGhosts L) where
     abbrev works_inner : (place now : ℕ) (closed : Option (Closed L)) (m m' : Connections L) (t t' : T) →
@@ -100,7 +115,7 @@ module _ {T S : Type 0} (inner : T → S) (outer : T → Frame → List Reply �
         place_inner now idle n h.0 c' h.1 t' h.2 o' h.3 e' h.5,
       )
 
-      frames_turn : (now idle n : ℕ) (c c' : EventLoop L) (t t' : T) (o o' : O) (e e' : E)
+      pub frames_turn : (now idle n : ℕ) (c c' : EventLoop L) (t t' : T) (o o' : O) (e e' : E)
           (h : InTurn G outer out reported log now idle n c c' t t' o o' e e') →
           frames_in_turn G answers out reported log now idle n c c' (inner t) (inner t') o o' e e'
           (turn_inner now idle n c c' t t' o o' e e' h)
@@ -121,8 +136,8 @@ module _ {T S : Type 0} (inner : T → S) (outer : T → Frame → List Reply �
 
       module _ {B : Type 0} (reactor : ReactorGhosts B L) where
         abbrev round_inner : (idle exchanges : ℕ) (c c' : EventLoop L) (t t' : T) (b b' : B) (o o' : O) (e e' : E) →
-            ServesRound reactor G outer out reported log idle exchanges c c' t t' b b' o o' e e' →
-            ServesRound reactor G answers out reported log idle exchanges c c' (inner t) (inner t') b b' o o' e e'
+            ServesRound reactor G outer ends out reported log idle exchanges c c' t t' b b' o o' e e' →
+            ServesRound reactor G answers commits out reported log idle exchanges c c' (inner t) (inner t') b b' o o' e e'
         round_inner idle exchanges c c' t t' b b' o o' e e' r = record {
           waited = r.waited;
           patience = r.patience;
@@ -137,13 +152,23 @@ module _ {T S : Type 0} (inner : T → S) (outer : T → Frame → List Reply �
           lets_in = r.lets_in;
           welcomes = r.welcomes;
           asks = r.asks;
-          in_turn = turn_inner (reactor.time b') idle (connection_count r.between.connections) r.between c' t t'
-              o o' e e' r.in_turn;
+          served = r.served;
+          mid = inner r.mid;
+          printed = r.printed;
+          logged = r.logged;
+          in_turn = turn_inner (reactor.time b') idle (connection_count r.between.connections) r.between r.served t r.mid
+              o r.printed e r.logged r.in_turn;
+          kept = subst (λ (xs : List Tagged). AnswersAll answers (inner t) (all_answered xs) (inner t'))
+              (sym (frames_turn (reactor.time b') idle (connection_count r.between.connections) r.between r.served t r.mid
+              o r.printed e r.logged r.in_turn)) (answers_inner t _ t' r.kept);
+          outcome = r.outcome;
+          committed = passes_commits r.mid r.outcome t' r.committed;
+          withholds = r.withholds;
         }
 
         abbrev pub rounds_inner : (idle exchanges n : ℕ) (c c' : EventLoop L) (t t' : T) (b b' : B) (o o' : O) (e e' : E) →
-            ServesRounds reactor G outer out reported log idle exchanges n c c' t t' b b' o o' e e' →
-            ServesRounds reactor G answers out reported log idle exchanges n c c' (inner t) (inner t') b b' o o' e e'
+            ServesRounds reactor G outer ends out reported log idle exchanges n c c' t t' b b' o o' e e' →
+            ServesRounds reactor G answers commits out reported log idle exchanges n c c' (inner t) (inner t') b b' o o' e e'
         rounds_inner idle exchanges zero c c' t t' b b' o o' e e' h = (h.0, ap inner h.1, h.2, h.3, h.4)
         rounds_inner idle exchanges (suc n) c c' t t' b b' o o' e e' h = (
           h.0,
@@ -156,31 +181,50 @@ module _ {T S : Type 0} (inner : T → S) (outer : T → Frame → List Reply �
           round_inner idle exchanges h.0 c' h.1 t' h.2 b' h.3 o' h.4 e' h.7,
         )
 
-        pub frames_rounds : (idle exchanges n : ℕ) (c c' : EventLoop L) (t t' : T) (b b' : B) (o o' : O) (e e' : E)
-            (h : ServesRounds reactor G outer out reported log idle exchanges n c c' t t' b b' o o' e e') →
-            frames_in_rounds reactor G answers out reported log idle exchanges n c c' (inner t) (inner t') b b' o o'
+        after_inner : (idle exchanges n : ℕ) (c c' : EventLoop L) (t t' : T) (b b' : B) (o o' : O) (e e' : E)
+            (h : ServesRounds reactor G outer ends out reported log idle exchanges n c c' t t' b b' o o' e e') →
+            GoOnAfterEach reactor G outer ends out reported log idle exchanges n c c' t t' b b' o o' e e' h →
+            GoOnAfterEach reactor G answers commits out reported log idle exchanges n c c' (inner t) (inner t') b b' o o'
             e e' (rounds_inner idle exchanges n c c' t t' b b' o o' e e' h)
-            ≡ frames_in_rounds reactor G outer out reported log idle exchanges n c c' t t' b b' o o' e e' h
+        after_inner idle exchanges zero c c' t t' b b' o o' e e' h goes = tt
+        after_inner idle exchanges (suc n) c c' t t' b b' o o' e e' h goes =
+            (after_inner idle exchanges n c h.0 t h.1 b h.2 o h.3 e h.4 h.5 goes.0, goes.1)
+
+        pub until_inner : (idle exchanges n : ℕ) (c c' : EventLoop L) (t t' : T) (b b' : B) (o o' : O) (e e' : E)
+            (h : ServesRounds reactor G outer ends out reported log idle exchanges n c c' t t' b b' o o' e e') →
+            GoOnUntilLast reactor G outer ends out reported log idle exchanges n c c' t t' b b' o o' e e' h →
+            GoOnUntilLast reactor G answers commits out reported log idle exchanges n c c' (inner t) (inner t') b b' o o'
+            e e' (rounds_inner idle exchanges n c c' t t' b b' o o' e e' h)
+        until_inner idle exchanges zero c c' t t' b b' o o' e e' h goes = tt
+        until_inner idle exchanges (suc n) c c' t t' b b' o o' e e' h goes =
+            after_inner idle exchanges n c h.0 t h.1 b h.2 o h.3 e h.4 h.5 goes
+
+        pub frames_rounds : (idle exchanges n : ℕ) (c c' : EventLoop L) (t t' : T) (b b' : B) (o o' : O) (e e' : E)
+            (h : ServesRounds reactor G outer ends out reported log idle exchanges n c c' t t' b b' o o' e e') →
+            frames_in_rounds reactor G answers commits out reported log idle exchanges n c c' (inner t) (inner t') b b' o o'
+            e e' (rounds_inner idle exchanges n c c' t t' b b' o o' e e' h)
+            ≡ frames_in_rounds reactor G outer ends out reported log idle exchanges n c c' t t' b b' o o' e e' h
         frames_rounds idle exchanges zero c c' t t' b b' o o' e e' h = refl
         frames_rounds idle exchanges (suc n) c c' t t' b b' o o' e e' h =
             both (frames_rounds idle exchanges n c h.0 t h.1 b h.2 o h.3 e h.4 h.5)
-            (frames_turn (reactor.time b') idle (connection_count h.7.between.connections) h.7.between c' h.1 t' h.3
-            o' h.4 e' h.7.in_turn)
+            (frames_turn (reactor.time b') idle (connection_count h.7.between.connections) h.7.between h.7.served h.1
+            h.7.mid h.3 h.7.printed h.4 h.7.logged h.7.in_turn)
 
         pub ended_rounds : (idle exchanges n : ℕ) (c c' : EventLoop L) (t t' : T) (b b' : B) (o o' : O) (e e' : E)
-            (h : ServesRounds reactor G outer out reported log idle exchanges n c c' t t' b b' o o' e e') →
-            ended_in_rounds reactor G answers out reported log idle exchanges n c c' (inner t) (inner t') b b' o o'
+            (h : ServesRounds reactor G outer ends out reported log idle exchanges n c c' t t' b b' o o' e e') →
+            ended_in_rounds reactor G answers commits out reported log idle exchanges n c c' (inner t) (inner t') b b' o o'
             e e' (rounds_inner idle exchanges n c c' t t' b b' o o' e e' h)
-            ≡ ended_in_rounds reactor G outer out reported log idle exchanges n c c' t t' b b' o o' e e' h
+            ≡ ended_in_rounds reactor G outer ends out reported log idle exchanges n c c' t t' b b' o o' e e' h
         ended_rounds idle exchanges zero c c' t t' b b' o o' e e' h = refl
         ended_rounds idle exchanges (suc n) c c' t t' b b' o o' e e' h =
             both (ended_rounds idle exchanges n c h.0 t h.1 b h.2 o h.3 e h.4 h.5)
-            (ended_turn (reactor.time b') idle (connection_count h.7.between.connections) h.7.between c' h.1 t' h.3
-            o' h.4 e' h.7.in_turn)
+            (ap (λ xs. xs ++ h.7.withholds.closed) (ended_turn (reactor.time b') idle
+            (connection_count h.7.between.connections) h.7.between h.7.served h.1 h.7.mid h.3 h.7.printed h.4
+            h.7.logged h.7.in_turn))
 
         abbrev run_inner : (places idle exchanges : ℕ) (c : EventLoop L) (t t' : T) (b b' : B) (o o' : O) (e e' : E) →
-            ServesInRounds reactor G outer out reported log places idle exchanges c t t' b b' o o' e e' →
-            ServesInRounds reactor G answers out reported log places idle exchanges c (inner t) (inner t') b b' o o'
+            ServesInRounds reactor G outer ends out reported log places idle exchanges c t t' b b' o o' e e' →
+            ServesInRounds reactor G answers commits out reported log places idle exchanges c (inner t) (inner t') b b' o o'
             e e'
         run_inner places idle exchanges c t t' b b' o o' e e' r = record {
           empty = r.empty;
@@ -190,13 +234,15 @@ module _ {T S : Type 0} (inner : T → S) (outer : T → Frame → List Reply �
         }
 
         abbrev pub served_inner : (bounds : Bounds) (exit : Exit) (t t' : T) (b b' : B) (o o' : O) (e e' : E) →
-            HasServed reactor G outer out reported log bounds exit t t' b b' o o' e e' →
-            HasServed reactor G answers out reported log bounds exit (inner t) (inner t') b b' o o' e e'
+            HasServed reactor G outer ends out reported log bounds exit t t' b b' o o' e e' →
+            HasServed reactor G answers commits out reported log bounds exit (inner t) (inner t') b b' o o' e e'
         served_inner bounds exit t t' b b' o o' e e' r = record {
           following = r.following;
           reactor_after = r.reactor_after;
           in_rounds = run_inner bounds.places bounds.idle bounds.exchanges r.following t t' b r.reactor_after o o' e
               e' r.in_rounds;
+          went_on = until_inner bounds.idle bounds.exchanges r.in_rounds.count r.in_rounds.empty r.following t t' b
+              r.reactor_after o o' e e' r.in_rounds.each r.went_on;
           trace = r.trace;
           taken = r.taken ∙ sym (frames_rounds bounds.idle bounds.exchanges r.in_rounds.count r.in_rounds.empty
               r.following t t' b r.reactor_after o o' e e' r.in_rounds.each);
@@ -214,5 +260,5 @@ module _ {T S : Type 0} (inner : T → S) (outer : T → Frame → List Reply �
           printed = r.printed;
           logged = r.logged;
           unasked = r.unasked;
-          ends = r.ends;
+          ends = ends_inner reactor exit bounds.exchanges (length r.over) t' b b' r.ends;
         }

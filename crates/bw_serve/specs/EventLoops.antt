@@ -1,7 +1,7 @@
 -- The results of an event loop's calls.
 use Rattle.std.specs.Prelude.{◌≡◌, ◌⊎◌, ℕ, zero, suc, ◌+◌, ◌-◌, ◌<◌, Bool, false, ◌||◌, IfSome}
 use Rattle.std.specs.Prelude.{Option, Some, None, List, [], ◌∷◌, ◌++◌, fold, length, slice_get}
-use Rattle.std.specs.Prelude.{vec_len}
+use Rattle.std.specs.Prelude.{vec_len, Result, Ok, Err}
 use Rattle.std.specs.List.{AllByRecursion}
 use Rattle.bw_model.specs.Wire.{Frame}
 use Rattle.bw_model.specs.Replies.{Reply}
@@ -17,7 +17,9 @@ use Rattle.bw_connections.specs.ConnectionTables.{all_answered, own, tagged, tho
 use Rattle.bw_connections.specs.Lives.{BeginsConnection, expired_at}
 use Rattle.bw_connections.specs.Places.{begun_of, can_go_on_at, connection_count, end_of_connection}
 use Rattle.bw_connections.specs.Places.{expired_there}
-use Rattle.bw_connections.specs.Quanta.{IsEmpty, StaysAt, ExistedAt, WorksAt, ExistedUnder}
+use Rattle.bw_connections.specs.Quanta.{HoldsNoReplies, IsEmpty, StaysAt, ExistedAt, WorksAt, ExistedUnder}
+use Rattle.bw_exchange.specs.declared.turns.NotKept.{NotKept}
+use Rattle.bw_exchange.specs.declared.turns.NotKept.TheVariants as kept
 use Rattle.bw_exchange.specs.LinkCounts.{up_to_last, counting_frame}
 use Rattle.bw_connections.specs.Places.{refused_of}
 use Rattle.bw_serve.specs.Admissions.{AreOf, HostsMore}
@@ -190,3 +192,40 @@ module _ {L S O E : Type 0} (G : LinkGhosts L) (answers : S → Frame → List R
     pub prints : CountsEnds out c c' closed o o'
     pub reports : ReportsRound G reported log c more closed c' e e'
     pub hosts : HostsMore G c.connections links closed c'.connections
+
+-- at how many of these places no replies may wait after a commit that returned this
+abbrev pub withheld_places : Result (Unit {0}) NotKept → ℕ → ℕ
+withheld_places (Ok u) places = 0
+withheld_places (Err kept.WriteFault) places = places
+withheld_places (Err kept.SyncFault) places = 0
+
+module _ {L O E : Type 0} (G : LinkGhosts L) (out : Writer O) (reported : Writer E) (log : Bool) where
+  -- Nothing was answered; the connection at a place over which replies waited is over, and they will
+  -- not leave. It is printed, and logged.
+  pub record WithholdsAt (place : ℕ) (c c' : EventLoop L) (o o' : O) (e e' : E) : Type 0 where
+    pub closed : List (Closed L)
+    pub adds : Adds G c.connections [] closed c'.connections
+    pub prints : CountsEnds out c c' closed o o'
+    pub reports : ReportsRound G reported log c [] closed c' e e'
+    pub hosts : HostsMore G c.connections [] closed c'.connections
+    pub stays : StaysAt place c.connections c'.connections
+    pub peer_slots_are : vec_len c'.peer_slots ≡ vec_len c.peer_slots
+    pub none_wait : HoldsNoReplies place c'.connections
+
+  -- the same of each of the first places
+  pub record Withholds (count : ℕ) (c c' : EventLoop L) (o o' : O) (e e' : E) : Type 0 where
+    pub closed : List (Closed L)
+    pub adds : Adds G c.connections [] closed c'.connections
+    pub prints : CountsEnds out c c' closed o o'
+    pub reports : ReportsRound G reported log c [] closed c' e e'
+    pub hosts : HostsMore G c.connections [] closed c'.connections
+    pub places_are : connection_count c'.connections ≡ connection_count c.connections
+    pub begun : begun_of c'.connections ≡ begun_of c.connections
+    pub peer_slots_are : vec_len c'.peer_slots ≡ vec_len c.peer_slots
+    pub none_wait : (i : ℕ) → i < count → HoldsNoReplies i c'.connections
+    pub unchanged : count ≡ 0 → (c' ≡ c) × (o' ≡ o) × (e' ≡ e)
+
+  -- after a commit that returned this, replies that a failed write didn't keep will not leave
+  abbrev pub WithholdsUnkept : Result (Unit {0}) NotKept → EventLoop L → EventLoop L → O → O → E → E → Type 0
+  WithholdsUnkept result c c' o o' e e' =
+      Withholds (withheld_places result (connection_count c.connections)) c c' o o' e e'

@@ -1,5 +1,5 @@
 -- What a server does that holds books already, from its opening lines to its end.
-use Rattle.std.specs.Prelude.{◌≡◌, ◌⊎◌, ℕ, Bool, true, false, Option, List, [], IsTrue}
+use Rattle.std.specs.Prelude.{◌≡◌, ◌⊎◌, Result, ℕ, Bool, true, false, Option, List, [], IsTrue}
 use Rattle.bw_model.specs.Book.{Book, log_of}
 use Rattle.bw_model.specs.CountedTurn.{is_pending}
 use Rattle.bw_model.specs.Exchange.{take_in, content_in}
@@ -13,6 +13,8 @@ use Rattle.bw_session.specs.Books.{HoldsBook}
 use Rattle.bw_session.specs.ServerTurns.{ServerTurn}
 use Rattle.bw_session.specs.declared.server.Server.{Server}
 use Rattle.bw_session.specs.SeenServers.{server_store, server_limit}
+use Rattle.bw_exchange.specs.Commits.{CommitsNothing}
+use Rattle.bw_exchange.specs.declared.turns.NotKept.{NotKept}
 use Rattle.bw_exchange.specs.AnsweredFrames.{Answered}
 use Rattle.bw_engine.specs.ServerRuns.{RunsOn}
 use Rattle.bw_console.specs.declared.exit.Exit.{Exit}
@@ -49,10 +51,10 @@ module _ {X Y P R W O E : Type 0} (S : StoreGhosts X) (J : JournalGhosts Y)
   -- after its opening lines this server served its exchanges, one after another
   abbrev pub ServesFrom : List ℕ → ℕ → Bool → Exit → Server X Y S J → P → P → O → O → E → E → Type 0
   ServesFrom opening exchanges log exit server p p' o o' e e' = OpensAndRuns out reported opening
-      (λ ended following between logged. ServesRun (ServerTurn S J) peers reader writer out reported log
+      (λ ended following between logged. ServesRun (ServerTurn S J) CommitsNothing peers reader writer out reported log
       exchanges ended server following p p' between o' e logged)
       (λ ended following between logged run. LeavesRunsFrom S J server following (answered_in_run
-      (ServerTurn S J) peers reader writer out reported log exchanges ended server following p p' between
+      (ServerTurn S J) CommitsNothing peers reader writer out reported log exchanges ended server following p p' between
       o' e logged run)) exit o e'
 
   -- it did, or could not print its opening lines
@@ -62,11 +64,12 @@ module _ {X Y P R W O E : Type 0} (S : StoreGhosts X) (J : JournalGhosts Y)
       ⊎ CantOpen out reported opening exit p p' o o' e e'
 
 module _ {B L T O E : Type 0} (reactor : ReactorGhosts B L) (link : LinkGhosts L)
-    (answers : T → Frame → List Reply → T → Type 0) (out : Writer O) (reported : Writer E)
+    (answers : T → Frame → List Reply → T → Type 0)
+    (commits : T → Result (Unit {0}) NotKept → T → Type 0) (out : Writer O) (reported : Writer E)
     (log : Bool) where
   -- what a server has answered in a run, over all its connections
   abbrev pub answered_in_loop : (bounds : Bounds) (exit : Exit) (t t' : T) (b b' : B) (o o' : O)
-      (e e' : E) → RunsEventLoop reactor link answers out reported log bounds exit t t' b b' o o' e e' →
+      (e e' : E) → RunsEventLoop reactor link answers commits out reported log bounds exit t t' b b' o o' e e' →
       List Answered
   answered_in_loop bounds Done t t' b b' o o' e e' run = all_answered run.trace
   answered_in_loop bounds Refused t t' b b' o o' e e' run = all_answered run.trace
@@ -80,10 +83,10 @@ module _ {X Y B L O E : Type 0} (S : StoreGhosts X) (J : JournalGhosts Y) (react
   abbrev pub ServesManyFrom : List ℕ → Bounds → Bool → Exit → Server X Y S J → B → B → O → O → E → E →
       Type 0
   ServesManyFrom opening bounds log exit server b b' o o' e e' = OpensAndRuns out reported opening
-      (λ ended following between logged. RunsEventLoop reactor link (ServerTurn S J) out reported log
+      (λ ended following between logged. RunsEventLoop reactor link (ServerTurn S J) CommitsNothing out reported log
       bounds ended server following b b' between o' e logged)
       (λ ended following between logged run. LeavesRunsFrom S J server following (answered_in_loop
-      reactor link (ServerTurn S J) out reported log bounds ended server following b b' between o' e
+      reactor link (ServerTurn S J) CommitsNothing out reported log bounds ended server following b b' between o' e
       logged run)) exit o e'
 
   -- it did, or could not print its opening lines

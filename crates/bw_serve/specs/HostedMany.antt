@@ -4,6 +4,7 @@ use Rattle.bw_stream.specs.declared.sink.Sink.{Ghosts as Writer}
 use Rattle.bw_store.specs.declared.store.TakeStore.{Ghosts as StoreGhosts}
 use Rattle.bw_journal.specs.declared.journal.Journal.{Ghosts as JournalGhosts}
 use Rattle.bw_session.specs.declared.server.Server.{Server}
+use Rattle.bw_exchange.specs.Commits.{CommitsNothing}
 use Rattle.bw_session.specs.ServerTurns.{ServerTurn}
 use Rattle.bw_session.specs.SeenServers.{server_store}
 use Rattle.bw_console.specs.declared.exit.Exit.{Exit}
@@ -29,7 +30,7 @@ module _ {X Y B L O E : Type 0} (S : StoreGhosts X) (J : JournalGhosts Y) (react
     -- an honest store has the files of what was answered, each name's from its own messages alone
     pub leaves : IsTrue (S.honest store) → KeepsNamesApart S J hosting.limit store
         (server_store serves.following)
-        (answered_in_loop reactor link (ServerTurn S J) out reported hosting.log hosting.bounds
+        (answered_in_loop reactor link (ServerTurn S J) CommitsNothing out reported hosting.log hosting.bounds
         serves.ended server serves.following b b' serves.between o' e serves.logged serves.run)
 
   -- the result of a server over this store

@@ -7,6 +7,7 @@ use Rattle.bw_journal.specs.declared.journal.Journal.{Ghosts as JournalGhosts}
 use Rattle.bw_session.specs.Books.{HoldsBook}
 use Rattle.bw_session.specs.declared.server.Server.{Server}
 use Rattle.bw_engine.specs.IngestRuns.{LeavesRun}
+use Rattle.bw_exchange.specs.Commits.{CommitsNothing}
 use Rattle.bw_session.specs.ServerTurns.{ServerTurn}
 use Rattle.bw_session.specs.SeenServers.{server_store, server_limit}
 use Rattle.bw_console.specs.declared.exit.Exit.{Exit}
@@ -37,7 +38,7 @@ module _ {X Y P R W O E : Type 0} (S : StoreGhosts X) (J : JournalGhosts Y)
         serving.exchanges serving.log exit server p p' o o' e e'
     -- an honest store has the files of what was answered
     pub leaves : IsTrue (S.honest store) → LeavesRun S serving.limit store
-        (answered_in_run (ServerTurn S J) peers reader writer out reported serving.log
+        (answered_in_run (ServerTurn S J) CommitsNothing peers reader writer out reported serving.log
         serving.exchanges serves.ended server serves.following p p' serves.between o' e serves.logged
         serves.run) (server_store serves.following)
 

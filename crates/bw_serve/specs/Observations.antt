@@ -1,11 +1,12 @@
 -- What an observer of an event loop is shown: the server, as each round left it.
-use Rattle.std.specs.Prelude.{◌≡◌, ℕ, zero, suc, ◌-◌, Bool, List, [], ◌∷◌, ◌++◌, map}
+use Rattle.std.specs.Prelude.{Result, ◌≡◌, ℕ, zero, suc, ◌-◌, Bool, List, [], ◌∷◌, ◌++◌, map}
 use Rattle.bw_model.specs.Wire.{Frame}
 use Rattle.bw_model.specs.Replies.{Reply}
 use Rattle.bw_stream.specs.declared.sink.Sink.{Ghosts as Writer}
 use Rattle.bw_exchange.specs.AnsweredFrames.{Answered}
 use Rattle.bw_console.specs.declared.exit.Exit.{Exit}
 use Rattle.bw_console.specs.declared.exit.Exit.TheVariants as exits
+use Rattle.bw_exchange.specs.declared.turns.NotKept.{NotKept}
 use Rattle.bw_ports.specs.declared.link.Link.{Ghosts as LinkGhosts}
 use Rattle.bw_ports.specs.declared.reactor.Reactor.{Ghosts as ReactorGhosts}
 use Rattle.bw_connections.specs.ConnectionTables.{all_answered}
@@ -50,12 +51,12 @@ LooksAfterEach looks makes rounds v v' =
     LooksAtEach looks (map (λ left. (left.event_loop, makes left.server left.answered)) rounds) v v'
 
 module _ {B L S O E : Type 0} (reactor : ReactorGhosts B L) (G : LinkGhosts L)
-    (answers : S → Frame → List Reply → S → Type 0) (out : Writer O) (reported : Writer E)
+    (answers : S → Frame → List Reply → S → Type 0) (commits : S → Result (Unit {0}) NotKept → S → Type 0) (out : Writer O) (reported : Writer E)
     (log : Bool) where
   -- the event loop and the server, as each of these rounds left them
   abbrev pub states_in_rounds : (idle exchanges n : ℕ) (c c' : EventLoop L) (s s' : S) (b b' : B)
       (o o' : O) (e e' : E) →
-      ServesRounds reactor G answers out reported log idle exchanges n c c' s s' b b' o o' e e' →
+      ServesRounds reactor G answers commits out reported log idle exchanges n c c' s s' b b' o o' e e' →
       List (EventLoop L × S)
   states_in_rounds idle exchanges zero c c' s s' b b' o o' e e' rounds = []
   states_in_rounds idle exchanges (suc n) c c' s s' b b' o o' e e' rounds =
@@ -66,7 +67,7 @@ module _ {B L S O E : Type 0} (reactor : ReactorGhosts B L) (G : LinkGhosts L)
   -- the same of the rounds of a run
   abbrev pub states_of_run : (places idle exchanges : ℕ) (c : EventLoop L) (s s' : S) (b b' : B)
       (o o' : O) (e e' : E) →
-      ServesInRounds reactor G answers out reported log places idle exchanges c s s' b b' o o' e
+      ServesInRounds reactor G answers commits out reported log places idle exchanges c s s' b b' o o' e
       e' →
       List (EventLoop L × S)
   states_of_run places idle exchanges c s s' b b' o o' e e' run =
@@ -76,7 +77,7 @@ module _ {B L S O E : Type 0} (reactor : ReactorGhosts B L) (G : LinkGhosts L)
   -- order; nothing else happened to the observer.
   pub record HasObserved {V : Type 0} (looks : V → S → RoundReport → V → Type 0) (bounds : Bounds)
       (exit : Exit) (s s' : S) (b b' : B) (o o' : O) (e e' : E) (v v' : V) : Type 0 where
-    pub run : HasServed reactor G answers out reported log bounds exit s s' b b' o o' e e'
+    pub run : HasServed reactor G answers commits out reported log bounds exit s s' b b' o o' e e'
     pub looked : LooksAtEach looks (states_of_run bounds.places bounds.idle bounds.exchanges
         run.following s s' b run.reactor_after o o' e e' run.in_rounds) v v'
 
@@ -90,7 +91,7 @@ module _ {B L S O E : Type 0} (reactor : ReactorGhosts B L) (G : LinkGhosts L)
   -- what each of these rounds left, in their order
   abbrev pub left_in_rounds : (idle exchanges n : ℕ) (c c' : EventLoop L) (s s' : S) (b b' : B)
       (o o' : O) (e e' : E) →
-      ServesRounds reactor G answers out reported log idle exchanges n c c' s s' b b' o o' e e' →
+      ServesRounds reactor G answers commits out reported log idle exchanges n c c' s s' b b' o o' e e' →
       List (RoundLeft L S)
   left_in_rounds idle exchanges zero c c' s s' b b' o o' e e' rounds = []
   left_in_rounds idle exchanges (suc n) c c' s s' b b' o o' e e' rounds =
@@ -99,13 +100,13 @@ module _ {B L S O E : Type 0} (reactor : ReactorGhosts B L) (G : LinkGhosts L)
       ++ record {
         event_loop = c';
         server = s';
-        answered = all_answered (frames_in_rounds reactor G answers out reported log idle exchanges
+        answered = all_answered (frames_in_rounds reactor G answers commits out reported log idle exchanges
             (suc n) c c' s s' b b' o o' e e' rounds);
       } ∷ []
 
   -- what each round of a run left; there is none where memory was refused before the first
   abbrev pub left_in_run : (bounds : Bounds) (exit : Exit) (s s' : S) (b b' : B) (o o' : O) (e e' : E) →
-      RunsEventLoop reactor G answers out reported log bounds exit s s' b b' o o' e e' →
+      RunsEventLoop reactor G answers commits out reported log bounds exit s s' b b' o o' e e' →
       List (RoundLeft L S)
   left_in_run bounds exits.Memory s s' b b' o o' e e' run = []
   left_in_run bounds exit s s' b b' o o' e e' run =

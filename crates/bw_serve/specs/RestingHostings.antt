@@ -8,6 +8,7 @@ use Rattle.bw_journal.specs.declared.journal.Journal.{Ghosts as JournalGhosts}
 use Rattle.bw_session.specs.JournalChanges.{ChangesJournal, KeepsItsBooks}
 use Rattle.bw_session.specs.SeenServers.{server_journal}
 use Rattle.bw_session.specs.declared.server.Server.{Server}
+use Rattle.bw_exchange.specs.Commits.{CommitsNothing}
 use Rattle.bw_rest.specs.RunLeavings.{LeavesRestsFrom, resting_answers}
 use Rattle.bw_rest.specs.RestingServers.{table_server}
 use Rattle.bw_rest.specs.declared.resting.RestingServer.{RestingServer}
@@ -56,10 +57,10 @@ module _ {X Y P R W O E : Type 0} (S : StoreGhosts X) (K : JournalGhosts Y) (pee
   -- the folder
   abbrev pub ServesResting : List ℕ → Serving → Exit → RestingServer X Y S K → P → P → O → O → E → E → Type 0
   ServesResting opening serving exit server p p' o o' e e' = OpensAndRuns out reported opening
-      (λ ended following between logged. ServesRun (resting_answers S K) peers reader writer out reported
+      (λ ended following between logged. ServesRun (resting_answers S K) CommitsNothing peers reader writer out reported
       serving.log serving.exchanges ended server following p p' between o' e logged)
       (λ ended following between logged run. LeavesRestsFrom S K (table_server server)
-      (table_server following) (answered_in_run (resting_answers S K) peers reader writer out reported
+      (table_server following) (answered_in_run (resting_answers S K) CommitsNothing peers reader writer out reported
       serving.log serving.exchanges ended server following p p' between o' e logged run)) exit o e'
 
 module _ {X Y Z P R W O E : Type 0} (S : StoreGhosts X) (J : JournalGhosts Y) (K : JournalGhosts Z)
@@ -92,10 +93,10 @@ module _ {X Y B L O E : Type 0} (S : StoreGhosts X) (K : JournalGhosts Y) (react
   abbrev pub ServesManyResting : List ℕ → Hosting → Exit → RestingServer X Y S K → B → B → O → O → E → E →
       Type 0
   ServesManyResting opening hosting exit server b b' o o' e e' = OpensAndRuns out reported opening
-      (λ ended following between logged. RunsEventLoop reactor link (resting_answers S K) out reported
+      (λ ended following between logged. RunsEventLoop reactor link (resting_answers S K) CommitsNothing out reported
       hosting.log hosting.bounds ended server following b b' between o' e logged)
       (λ ended following between logged run. LeavesRestsFrom S K (table_server server)
-      (table_server following) (answered_in_loop reactor link (resting_answers S K) out reported
+      (table_server following) (answered_in_loop reactor link (resting_answers S K) CommitsNothing out reported
       hosting.log hosting.bounds ended server following b b' between o' e logged run)) exit o e'
 
 module _ {X Y Z B L O E : Type 0} (S : StoreGhosts X) (J : JournalGhosts Y) (K : JournalGhosts Z)

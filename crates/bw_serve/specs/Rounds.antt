@@ -1,5 +1,5 @@
 -- Rounds of an event loop, one after another.
-use Rattle.std.specs.Prelude.{◌≡◌, ◌⊎◌, ℕ, zero, suc, ◌<◌, ◌==◌, Bool, true, false, ◌&&◌, List}
+use Rattle.std.specs.Prelude.{Result, Ok, Err, ◌≡◌, ◌⊎◌, ℕ, zero, suc, ◌<◌, ◌==◌, Bool, true, false, ◌&&◌, List}
 use Rattle.std.specs.Prelude.{◌≤◌, [], ◌++◌, None, length}
 use Rattle.std.specs.List.{list_any}
 use Rattle.bw_model.specs.Wire.{Frame}
@@ -7,14 +7,17 @@ use Rattle.bw_model.specs.Replies.{Reply}
 use Rattle.bw_stream.specs.Moves.{one_more}
 use Rattle.bw_stream.specs.declared.sink.Sink.{Ghosts as Writer}
 use Rattle.bw_connections.specs.declared.connection.Connection.{Connection}
+use Rattle.bw_exchange.specs.declared.turns.NotKept.{NotKept}
+use Rattle.bw_exchange.specs.declared.turns.NotKept.TheVariants as kept
 use Rattle.bw_ports.specs.declared.link.Link.{Ghosts as LinkGhosts}
-use Rattle.bw_connections.specs.ConnectionTables.{HoldsConnectionAt, Tagged}
+use Rattle.bw_exchange.specs.AnsweredFrames.{AnswersAll}
+use Rattle.bw_connections.specs.ConnectionTables.{HoldsConnectionAt, Tagged, all_answered}
 use Rattle.bw_connections.specs.declared.connections.Closed.{Closed}
 use Rattle.bw_connections.specs.Places.{begun_of, connection_count, first_free_place}
 use Rattle.bw_connections.specs.Quanta.{Wakes}
 use Rattle.bw_serve.specs.Admissions.{AdmitsEach}
 use Rattle.bw_ports.specs.Reactors.{Admission}
-use Rattle.bw_serve.specs.EventLoops.{Grows, InTurn, IsNew, LetsIn, KeepsEventLoop, can_go_on_in}
+use Rattle.bw_serve.specs.EventLoops.{Grows, WithholdsUnkept, InTurn, IsNew, LetsIn, KeepsEventLoop, can_go_on_in}
 use Rattle.bw_serve.specs.EventLoops.{ended_in_turn, frames_in_turn}
 use Rattle.bw_serve.specs.declared.event_loop.EventLoop.{EventLoop}
 use Rattle.bw_ports.specs.declared.reactor.Reactor.{Ghosts as ReactorGhosts}
@@ -24,6 +27,12 @@ use Rattle.bw_ports.specs.declared.reactor.Ready.{Ready}
 abbrev pub patience_of : Bool → ℕ
 patience_of true = 0
 patience_of false = 250
+
+-- whether a server may go on after this commit
+abbrev pub goes_on_after : Result (Unit {0}) NotKept → Bool
+goes_on_after (Ok u) = true
+goes_on_after (Err kept.WriteFault) = true
+goes_on_after (Err kept.SyncFault) = false
 
 -- whether one of these reports bytes at a place
 abbrev pub reports_bytes : ℕ → List Ready → Bool
@@ -84,11 +93,11 @@ pub record IsShut {B L S O E : Type 0} (reactor : ReactorGhosts B L) (G : LinkGh
   pub logged : e' ≡ e
 
 module _ {B L S O E : Type 0} (reactor : ReactorGhosts B L) (G : LinkGhosts L)
-    (answers : S → Frame → List Reply → S → Type 0) (out : Writer O) (reported : Writer E)
+    (answers : S → Frame → List Reply → S → Type 0) (commits : S → Result (Unit {0}) NotKept → S → Type 0) (out : Writer O) (reported : Writer E)
     (log : Bool) where
   -- A round: the reactor waited, but not at all if a connection could proceed; the links that were
   -- ready after that were noted; some were perhaps accepted, at the time that the reactor reported;
-  -- then each place had its quantum.
+  -- then each place had its quantum, and after the last one the server committed.
   pub record ServesRound (idle exchanges : ℕ) (c c' : EventLoop L) (s s' : S) (b b' : B) (o o' : O)
       (e e' : E) : Type 0 where
     pub waited : reactor.waits b' ≡ one_more (reactor.waits b)
@@ -105,21 +114,42 @@ module _ {B L S O E : Type 0} (reactor : ReactorGhosts B L) (G : LinkGhosts L)
     pub lets_in : LetsIn (reactor.time b') noticed between
     pub welcomes : Welcomes reactor (reactor.time b') b b' noticed between
     pub asks : AsksIn reactor exchanges b' between
+    pub served : EventLoop L
+    pub mid : S
+    pub printed : O
+    pub logged : E
     pub in_turn : InTurn G answers out reported log (reactor.time b') idle
-        (connection_count between.connections) between c' s s' o o' e e'
+        (connection_count between.connections) between served s mid o printed e logged
+    -- then the server committed what these answered, and that is still how it answered; or replies
+    -- that wait will not leave
+    pub kept : AnswersAll answers s (all_answered (frames_in_turn G answers out reported log
+        (reactor.time b') idle (connection_count between.connections) between served s mid o printed
+        e logged in_turn)) s'
+    pub outcome : Result (Unit {0}) NotKept
+    pub committed : commits mid outcome s'
+    pub withholds : WithholdsUnkept G out reported log outcome served c' printed o' logged e'
+
+  -- whose commit returned this
+  abbrev pub ServesRoundTo : Result (Unit {0}) NotKept → ℕ → ℕ → EventLoop L → EventLoop L → S → S →
+      B → B → O → O → E → E → Type 0
+  ServesRoundTo result idle exchanges c c' s s' b b' o o' e e' =
+      (round : ServesRound idle exchanges c c' s s' b b' o o' e e') × (round.outcome ≡ result)
 
   -- what it took from the connections, and ended
   abbrev pub frames_in_round : (idle exchanges : ℕ) (c c' : EventLoop L) (s s' : S) (b b' : B)
       (o o' : O) (e e' : E) → ServesRound idle exchanges c c' s s' b b' o o' e e' → List Tagged
   frames_in_round idle exchanges c c' s s' b b' o o' e e' round =
       frames_in_turn G answers out reported log (reactor.time b') idle
-      (connection_count round.between.connections) round.between c' s s' o o' e e' round.in_turn
+      (connection_count round.between.connections) round.between round.served s round.mid o
+      round.printed e round.logged round.in_turn
 
   abbrev pub ended_in_round : (idle exchanges : ℕ) (c c' : EventLoop L) (s s' : S) (b b' : B)
       (o o' : O) (e e' : E) → ServesRound idle exchanges c c' s s' b b' o o' e e' → List (Closed L)
   ended_in_round idle exchanges c c' s s' b b' o o' e e' round =
       ended_in_turn G answers out reported log (reactor.time b') idle
-      (connection_count round.between.connections) round.between c' s s' o o' e e' round.in_turn
+      (connection_count round.between.connections) round.between round.served s round.mid o
+      round.printed e round.logged round.in_turn
+      ++ round.withholds.closed
 
   -- this many rounds, one after another, each begun where fewer were over than are asked for
   abbrev pub ServesRounds : ℕ → ℕ → ℕ → EventLoop L → EventLoop L → S → S → B → B →
@@ -130,6 +160,21 @@ module _ {B L S O E : Type 0} (reactor : ReactorGhosts B L) (G : LinkGhosts L)
       (d : EventLoop L) × (t : S) × (x : B) × (p : O) × (f : E)
       × ServesRounds idle exchanges n c d s t b x o p e f × (d.ended < exchanges)
       × ServesRound idle exchanges d c' t s' x b' p o' f e'
+
+  -- after each of these rounds the server may go on
+  abbrev pub GoOnAfterEach : (idle exchanges n : ℕ) (c c' : EventLoop L) (s s' : S) (b b' : B)
+      (o o' : O) (e e' : E) → ServesRounds idle exchanges n c c' s s' b b' o o' e e' → Type 0
+  GoOnAfterEach idle exchanges zero c c' s s' b b' o o' e e' rounds = Unit {0}
+  GoOnAfterEach idle exchanges (suc n) c c' s s' b b' o o' e e' rounds =
+      GoOnAfterEach idle exchanges n c rounds.0 s rounds.1 b rounds.2 o rounds.3 e rounds.4 rounds.5
+      × (goes_on_after rounds.7.outcome ≡ true)
+
+  -- after each but the last
+  abbrev pub GoOnUntilLast : (idle exchanges n : ℕ) (c c' : EventLoop L) (s s' : S) (b b' : B)
+      (o o' : O) (e e' : E) → ServesRounds idle exchanges n c c' s s' b b' o o' e e' → Type 0
+  GoOnUntilLast idle exchanges zero c c' s s' b b' o o' e e' rounds = Unit {0}
+  GoOnUntilLast idle exchanges (suc n) c c' s s' b b' o o' e e' rounds =
+      GoOnAfterEach idle exchanges n c rounds.0 s rounds.1 b rounds.2 o rounds.3 e rounds.4 rounds.5
 
   -- the frames that these rounds took from the connections, one round's after another's
   abbrev pub frames_in_rounds : (idle exchanges n : ℕ) (c c' : EventLoop L) (s s' : S) (b b' : B)

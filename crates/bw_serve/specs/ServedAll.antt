@@ -1,6 +1,6 @@
 -- The result of serving exchanges one after another.
 use Rattle.std.specs.Prelude.{◌≡◌, ℕ, Bool, suc, Option, Some, None, Ok, Err, List, [], ◌∷◌, length}
-use Rattle.std.specs.Prelude.{◌≤◌, ◌++◌}
+use Rattle.std.specs.Prelude.{◌≤◌, ◌++◌, Result, true, false, if◌then◌else◌}
 use Rattle.bw_model.specs.Wire.{Frame}
 use Rattle.bw_model.specs.Replies.{Reply}
 use Rattle.bw_stream.specs.Moves.{one_more}
@@ -8,6 +8,9 @@ use Rattle.bw_stream.specs.declared.sink.Sink.{Ghosts as Writer}
 use Rattle.bw_stream.specs.declared.source.Source.{Ghosts as Reader}
 use Rattle.bw_exchange.specs.AnsweredFrames.{Answered, answered_frames}
 use Rattle.bw_exchange.specs.declared.serving.ExchangeEnd.{ExchangeEnd}
+use Rattle.bw_exchange.specs.declared.serving.ExchangeEnd.TheVariants as ends
+use Rattle.bw_exchange.specs.declared.turns.NotKept.{NotKept}
+use Rattle.bw_exchange.specs.declared.turns.NotKept.TheVariants as kept
 use Rattle.bw_exchange.specs.LinkCounts.{message_count}
 use Rattle.bw_console.specs.declared.exit.Exit.{Exit}
 use Rattle.bw_console.specs.declared.exit.Exit.TheVariants.{Done, Device, Memory}
@@ -21,40 +24,49 @@ use Rattle.bw_ports.specs.declared.peers.Peers.{Ghosts as PeerGhosts}
 -- what happened to the next peer: its exchange was served and ended so, it went away, or no more
 -- are accepted
 pub data ServedOutcome : Type 0 where
-  Served : Exit → ServedOutcome
+  Served : ExchangeEnd → Exit → ServedOutcome
   Gone : ServedOutcome
   Closed : ServedOutcome
 
--- how the run ends after it, where it ends there
+-- whether a sync failed in the commit at which an exchange ended so
+abbrev pub lacks_sync : ExchangeEnd → Bool
+lacks_sync (ends.NotKept kept.SyncFault) = true
+lacks_sync end = false
+
+-- how the run ends after a call that ends so, where it ends there
+abbrev pub exit_after_call : Exit → Option Exit
+exit_after_call Memory = Some Memory
+exit_after_call exit = None
+
+-- how the run ends after a peer, where it ends there
 abbrev pub exit_now : ServedOutcome → Option Exit
-exit_now (Served Memory) = Some Memory
-exit_now (Served exit) = None
+exit_now (Served end exit) = if lacks_sync end then Some Device else exit_after_call exit
 exit_now Gone = None
 exit_now Closed = Some Device
 
-module _ {T R W O E : Type 0} (answers : T → Frame → List Reply → T → Type 0) (reader : Reader R)
-    (writer : Writer W) (out : Writer O) (reported : Writer E) (log : Bool) where
+module _ {T R W O E : Type 0} (answers : T → Frame → List Reply → T → Type 0)
+    (commits : T → Result (Unit {0}) NotKept → T → Type 0) (reader : Reader R) (writer : Writer W)
+    (out : Writer O) (reported : Writer E) (log : Bool) where
   -- one exchange was served over a peer's link, and logged if that is asked for
-  pub record ServesPeer (index : ℕ) (exit : Exit) (peer : Peer R W) (t t' : T) (o o' : O)
+  pub record ServesPeer (index : ℕ) (end : ExchangeEnd) (exit : Exit) (peer : Peer R W) (t t' : T) (o o' : O)
       (e e' : E) : Type 0 where
-    pub end : ExchangeEnd
     pub r' : R
     pub w' : W
-    pub served : ServesTo answers reader writer out index end exit t t' peer.link.reader r'
+    pub served : ServesTo answers commits reader writer out index end exit t t' peer.link.reader r'
         peer.link.writer w' o o'
     pub logs : Logs reported log
         (link_line peer.address end (message_count (answered_frames served.serves.answered))) e e'
 
 module _ {T P R W O E : Type 0} (answers : T → Frame → List Reply → T → Type 0)
-    (peers : PeerGhosts P R W) (reader : Reader R) (writer : Writer W) (out : Writer O)
+    (commits : T → Result (Unit {0}) NotKept → T → Type 0) (peers : PeerGhosts P R W) (reader : Reader R) (writer : Writer W) (out : Writer O)
     (reported : Writer E) (log : Bool) where
   -- a peer was accepted, and its exchange served, with this number
-  pub record ServesLink (index : ℕ) (exit : Exit) (t t' : T) (p p' : P) (o o' : O) (e e' : E)
+  pub record ServesLink (index : ℕ) (end : ExchangeEnd) (exit : Exit) (t t' : T) (p p' : P) (o o' : O) (e e' : E)
       : Type 0 where
     pub peer : Peer R W
     pub accepted : peers.accepts p (Ok peer) p'
     pub counted : peers.failures p' ≡ peers.failures p
-    pub served : ServesPeer answers reader writer out reported log index exit peer t t' o o' e e'
+    pub served : ServesPeer answers commits reader writer out reported log index end exit peer t t' o o' e e'
 
   -- no peer was accepted, for this reason: the server and what is written are as they were
   pub record ServesNone (fault : AcceptFault) (t t' : T) (p p' : P) (o o' : O) (e e' : E)
@@ -67,7 +79,7 @@ module _ {T P R W O E : Type 0} (answers : T → Frame → List Reply → T → 
 
   -- the next peer, by its result
   abbrev pub ServesNext : ℕ → ServedOutcome → T → T → P → P → O → O → E → E → Type 0
-  ServesNext index (Served exit) t t' p p' o o' e e' = ServesLink index exit t t' p p' o o' e e'
+  ServesNext index (Served end exit) t t' p p' o o' e e' = ServesLink index end exit t t' p p' o o' e e'
   ServesNext index Gone t t' p p' o o' e e' = ServesNone accepting.Gone t t' p p' o o' e e'
   ServesNext index Closed t t' p p' o o' e e' = ServesNone accepting.Closed t t' p p' o o' e e'
 
@@ -107,7 +119,7 @@ module _ {T P R W O E : Type 0} (answers : T → Frame → List Reply → T → 
   -- what was answered of the next peer's frames
   abbrev pub answered_next : (index : ℕ) (x : ServedOutcome) (t t' : T) (p p' : P) (o o' : O) (e e' : E) →
       ServesNext index x t t' p p' o o' e e' → List Answered
-  answered_next index (Served exit) t t' p p' o o' e e' next = next.served.served.serves.answered
+  answered_next index (Served end exit) t t' p p' o o' e e' next = next.served.served.serves.answered
   answered_next index Gone t t' p p' o o' e e' next = []
   answered_next index Closed t t' p p' o o' e e' next = []
 

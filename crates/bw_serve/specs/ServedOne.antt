@@ -1,12 +1,14 @@
 -- The result of serving one exchange.
-use Rattle.std.specs.Prelude.{◌≡◌, ℕ, ◌+◌, ◌≤◌, ◌++◌, List, codes, decimal}
+use Rattle.std.specs.Prelude.{◌≡◌, Result, ℕ, ◌+◌, ◌≤◌, ◌++◌, List, codes, decimal}
 use Rattle.bw_model.specs.Wire.{Frame}
 use Rattle.bw_model.specs.Replies.{Reply}
 use Rattle.bw_stream.specs.declared.sink.Sink.{Ghosts as Writer}
 use Rattle.bw_stream.specs.declared.source.Source.{Ghosts as Reader}
 use Rattle.bw_exchange.specs.WholeExchanges.{Serves, most_reads, reads_failed, writes_failed, IsLimited}
+use Rattle.bw_exchange.specs.Commits.{CommitsUntil}
 use Rattle.bw_exchange.specs.declared.serving.ExchangeEnd.{ExchangeEnd}
 use Rattle.bw_exchange.specs.declared.serving.ExchangeEnd.TheVariants as ends
+use Rattle.bw_exchange.specs.declared.turns.NotKept.{NotKept}
 use Rattle.bw_exchange.specs.EndNames.{name_of_end}
 use Rattle.bw_console.specs.Prints.{Print, Nothing, Whole, Part, IsOf, IsPrint}
 use Rattle.bw_console.specs.Text.{as_line}
@@ -28,6 +30,7 @@ exit_of_end ends.EndOfInput = Done
 exit_of_end (ends.BadFrame fault) = Done
 exit_of_end ends.ReadFault = Device
 exit_of_end ends.WriteFault = Device
+exit_of_end (ends.NotKept cause) = Device
 exit_of_end ends.TurnLimit = Device
 exit_of_end ends.Memory = Memory
 
@@ -50,14 +53,17 @@ pub record PrintsEnd {O : Type 0} (out : Writer O) (index : ℕ) (end : Exchange
   pub printed : IsPrint out print o o'
   pub exit_is : exit ≡ exit_after end print
 
-module _ {S R W O : Type 0} (answers : S → Frame → List Reply → S → Type 0) (reader : Reader R)
-    (writer : Writer W) (out : Writer O) where
+module _ {S R W O : Type 0} (answers : S → Frame → List Reply → S → Type 0)
+    (commits : S → Result (Unit {0}) NotKept → S → Type 0) (reader : Reader R) (writer : Writer W)
+    (out : Writer O) where
   -- An exchange was served to this end: what the server answered, what was read and what was
-  -- written is that of such an exchange. Its line was printed, and the call ends so.
+  -- written is that of such an exchange, and it committed that in batches. Its line was printed, and
+  -- the call ends so.
   pub record ServesTo (index : ℕ) (end : ExchangeEnd) (exit : Exit) (s s' : S) (r r' : R)
       (w w' : W) (o o' : O) : Type 0 where
     pub serves : Serves answers end s s' (reader.left r) (reader.left r') (writer.written w)
         (writer.written w')
+    pub batches : CommitsUntil answers commits end s s'
     pub reads : reader.failures r' ≡ reads_failed end (reader.failures r)
     pub writes : writer.failures w' ≡ writes_failed end (writer.failures w)
     pub calls : reader.calls r' ≤ reader.calls r + most_reads

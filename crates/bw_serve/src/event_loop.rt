@@ -9,7 +9,7 @@ use crate::line::print_end;
 use crate::observing::{RoundObserver, RoundReport};
 use crate::peer_slot::{PeerSlot, empty_peer_slots, put_at, report_at, swap_at};
 use bw_connections::{Closed, Connections};
-use bw_exchange::{Metered, Turns};
+use bw_exchange::{Metered, NotKept, Turns};
 use bw_ports::{Accepted, Link, Reactor, TryAcceptFault};
 use bw_stream::Sink;
 use std::alloc::{AllocError, Global};
@@ -44,7 +44,9 @@ impl<L: Link + Drop> EventLoop<L> {
     ghost use Rattle.bw_connections.specs.Places.{begun_of, connection_count};
     ghost use Rattle.bw_serve.specs.Admissions.{Admits};
     ghost use Rattle.bw_serve.specs.EventLoops.{CountsEnds, Grows, HasPeerSlots, IsNew, InTurn};
-    ghost use Rattle.bw_serve.specs.EventLoops.{LetsIn};
+    ghost use Rattle.bw_serve.specs.EventLoops.{LetsIn, Withholds, WithholdsAt, WithholdsUnkept};
+    ghost use Rattle.bw_model.specs.Wire.{Frame};
+    ghost use Rattle.bw_model.specs.Replies.{Reply as ModelReply};
     ghost use Rattle.bw_serve.specs.EventLoops.{ServesPlace, KeepsEventLoop, WorksCounted};
     ghost use Rattle.bw_serve.specs.EventLoops.{can_go_on_in};
     ghost use Rattle.bw_serve.specs.Observations.{LooksAtRound};
@@ -230,6 +232,77 @@ impl<L: Link + Drop> EventLoop<L> {
             return;
         };
         self.end(alloc, place, closed, round.log, out, faults);
+    }
+
+    /// Has the server commit what it answered in the round, before any of it leaves. If a write
+    /// fails, each connection over which replies wait is ended without them.
+    ///
+    /// # Errors
+    /// `NotKept` as the server says.
+    pub(crate) fn commit<T: Turns, O: Sink, E: Sink>(
+        &mut self,
+        alloc: Global,
+        server: &mut Metered<T>,
+        log: bool,
+        out: &mut O,
+        faults: &mut E,
+    ) -> Result<(), NotKept>
+        requires peer_slots { HasPeerSlots self.old }
+        ensures commits { T.commits (metered_server server.old) result (metered_server server.new) }
+        ensures withholds { WithholdsUnkept L.Link O.Sink E.Sink log result self.old self.new out.old
+            out.new faults.old faults.new }
+        ensures committed { T.committed (metered_server server.new) }
+        ensures idle { T.committed (metered_server server.old) →
+            metered_server server.new ≡ metered_server server.old }
+        ensures answered { (first : T) (frame : Frame) (replies : List ModelReply) →
+            T.answers first frame replies (metered_server server.old) →
+            T.answers first frame replies (metered_server server.new) }
+    {
+        match server.commit_server() {
+            Ok(()) => Ok(()),
+            Err(NotKept::WriteFault) => {
+                self.withhold_each(alloc, log, out, faults);
+                Err(NotKept::WriteFault)
+            }
+            Err(NotKept::SyncFault) => Err(NotKept::SyncFault),
+        }
+    }
+
+    /// Ends each connection over which replies wait, in the order of their places.
+    fn withhold_each<O: Sink, E: Sink>(
+        &mut self,
+        alloc: Global,
+        log: bool,
+        out: &mut O,
+        faults: &mut E,
+    )
+        requires peer_slots { HasPeerSlots self.old }
+        ensures { Withholds L.Link O.Sink E.Sink log (connection_count self.old.connections)
+            self.old self.new out.old out.new faults.old faults.new }
+    {
+        for place in 0..self.connections.places() {
+            self.withhold_place(alloc, place, log, out, faults);
+        }
+    }
+
+    /// Ends the connection at a place if replies wait there.
+    fn withhold_place<O: Sink, E: Sink>(
+        &mut self,
+        alloc: Global,
+        place: usize,
+        log: bool,
+        out: &mut O,
+        faults: &mut E,
+    )
+        requires place { place < connection_count self.old.connections }
+        requires peer_slots { HasPeerSlots self.old }
+        ensures { WithholdsAt L.Link O.Sink E.Sink log place self.old self.new out.old out.new
+            faults.old faults.new }
+    {
+        let Some(closed) = self.connections.withhold(place) else {
+            return;
+        };
+        self.end(alloc, place, closed, log, out, faults);
     }
 
     /// One quantum of the connection at a place, whose messages are counted for it alone.

@@ -149,7 +149,8 @@ pub fn serve_many_turns<T: Turns + Drop, B: Reactor, O: Sink, E: Sink>(
     out: &mut O,
     faults: &mut E,
 ) -> Exit
-    ensures { HostsManyTurns T.answers B.Reactor B.Link.Link O.Sink E.Sink opening.now
+    requires { T.committed server }
+    ensures { HostsManyTurns T.answers T.commits B.Reactor B.Link.Link O.Sink E.Sink opening.now
         hosting.now.bounds hosting.now.log result server reactor.old reactor.new out.old out.new
         faults.old faults.new }
 {

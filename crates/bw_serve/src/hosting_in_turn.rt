@@ -169,8 +169,8 @@ pub fn serve_turns<T: Turns + Drop, P: Peers, O: Sink, E: Sink>(
     out: &mut O,
     faults: &mut E,
 ) -> Exit
-    ensures { HostsTurns T.answers P.Peers P.Reader.Source P.Writer.Sink O.Sink E.Sink opening.now
-        serving.now.exchanges serving.now.log result server peers.old peers.new out.old out.new
+    ensures { HostsTurns T.answers T.commits P.Peers P.Reader.Source P.Writer.Sink O.Sink E.Sink
+        opening.now serving.now.exchanges serving.now.log result server peers.old peers.new out.old out.new
         faults.old faults.new }
 {
     let Ok(()) = print(out, opening.as_bytes()) else {

@@ -1,18 +1,18 @@
 //! A run of many exchanges at once.
-ghost use Rattle.std.specs.Prelude.{◌≡◌, ◌≤◌, OnOk, OnErr, vec_len};
+ghost use Rattle.std.specs.Prelude.{◌≡◌, ◌≤◌, IfOk, OnOk, OnErr, vec_len};
 ghost use Rattle.bw_stream.specs.Moves.{failures_after, one_more};
 ghost use Rattle.bw_wire.specs.Held.{longest_message_piece};
 ghost use Rattle.bw_connections.specs.Places.{begun_of};
 ghost use Rattle.bw_serve.specs.EventLoops.{HasPeerSlots};
 ghost use Rattle.bw_serve.specs.Observations.{ObservesRun};
-ghost use Rattle.bw_serve.specs.Rounds.{IsShut, ServesRound, patience_of};
+ghost use Rattle.bw_serve.specs.Rounds.{IsShut, ServesRoundTo, goes_on_after, patience_of};
 ghost use Rattle.bw_serve.specs.EventLoopRuns.{RunsEventLoop};
 ghost use Rattle.bw_exchange.specs.MeteredServers.{metered_server};
 
 use crate::event_loop::{EventLoop, Round, Shut};
 use crate::observing::{NoRoundObserver, RoundObserver};
 use bw_console::Exit;
-use bw_exchange::{MESSAGE_PIECE, Metered, Turns};
+use bw_exchange::{MESSAGE_PIECE, Metered, NotKept, Turns};
 use bw_ports::Reactor;
 use bw_stream::Sink;
 use std::alloc::Global;
@@ -37,7 +37,8 @@ pub struct Bounds {
 ///
 /// While there is no free place nobody is accepted; a connection that sends no whole frame for too
 /// long is ended. `Done` after the last one; `Memory` if memory was refused before the first;
-/// `Device` if no more peers are accepted, if waiting is impossible, or after 2^64 - 1 rounds.
+/// `Device` if no more peers are accepted, if waiting is impossible, if a sync failed in a commit, or
+/// after 2^64 - 1 rounds.
 ///
 /// Each link that the reactor gives is at the place for which it was given, or over; one for which
 /// memory is refused is closed and counted.
@@ -59,8 +60,9 @@ pub fn run_event_loop<B: Reactor, T: Turns, O: Sink, E: Sink>(
     out: &mut O,
     faults: &mut E,
 ) -> Exit
-    // A round: a wait of 250 ms at most, new peers at free places, a quantum a place.
-    ensures { RunsEventLoop B.Reactor B.Link.Link T.answers O.Sink E.Sink log bounds.now result
+    requires { T.committed (metered_server server.old) }
+    // A round: a wait of 250 ms at most, new peers at free places, a quantum a place, a commit.
+    ensures { RunsEventLoop B.Reactor B.Link.Link T.answers T.commits O.Sink E.Sink log bounds.now result
         (metered_server server.old) (metered_server server.new) reactor.old reactor.new out.old
         out.new faults.old faults.new }
 {
@@ -79,11 +81,12 @@ pub fn run_observed<B: Reactor, T: Turns, V: RoundObserver<T>, O: Sink, E: Sink>
     out: &mut O,
     faults: &mut E,
 ) -> Exit
-    ensures runs { RunsEventLoop B.Reactor B.Link.Link T.answers O.Sink E.Sink log bounds.now result
+    requires { T.committed (metered_server server.old) }
+    ensures runs { RunsEventLoop B.Reactor B.Link.Link T.answers T.commits O.Sink E.Sink log bounds.now result
         (metered_server server.old) (metered_server server.new) reactor.old reactor.new out.old
         out.new faults.old faults.new }
     // Nothing else happens to the observer.
-    ensures observed { ObservesRun B.Reactor B.Link.Link T.answers O.Sink E.Sink log V.looks
+    ensures observed { ObservesRun B.Reactor B.Link.Link T.answers T.commits O.Sink E.Sink log V.looks
         bounds.now result (metered_server server.old) (metered_server server.new) reactor.old
         reactor.new out.old out.new faults.old faults.new observer.old observer.new }
 {
@@ -98,7 +101,7 @@ pub fn run_observed<B: Reactor, T: Turns, V: RoundObserver<T>, O: Sink, E: Sink>
         if event_loop.ended() >= bounds.exchanges {
             return Exit::Done;
         }
-        let Ok(()) = serve_round(
+        let Ok(kept) = serve_round(
             alloc,
             &mut event_loop,
             server,
@@ -112,8 +115,23 @@ pub fn run_observed<B: Reactor, T: Turns, V: RoundObserver<T>, O: Sink, E: Sink>
             return Exit::Device;
         };
         event_loop.show(server, observer);
+        if !may_go_on(kept) {
+            return Exit::Device;
+        }
     }
     Exit::Device
+}
+
+/// Whether a server may go on after this commit: after a sync that failed it isn't known what the
+/// system keeps.
+fn may_go_on(kept: Result<(), NotKept>) -> bool
+    ensures { result ≡ goes_on_after kept }
+{
+    match kept {
+        Ok(()) => true,
+        Err(NotKept::WriteFault) => true,
+        Err(NotKept::SyncFault) => false,
+    }
 }
 
 /// The longest wait in milliseconds, by whether a connection can proceed.
@@ -123,7 +141,8 @@ fn patience(can_go_on: bool) -> u64
     if can_go_on { 0 } else { LONGEST_WAIT }
 }
 
-/// Waits until a peer connects or a connection is ready, and gives each connection a quantum.
+/// Waits until a peer connects or a connection is ready, gives each connection a quantum, and has
+/// the server commit what it answered. Returns what the commit did.
 ///
 /// # Errors
 /// `Shut` if no more peers are accepted, or waiting is impossible.
@@ -137,17 +156,19 @@ fn serve_round<B: Reactor, T: Turns, O: Sink, E: Sink>(
     buffer: &mut Vec<u8>,
     out: &mut O,
     faults: &mut E,
-) -> Result<(), Shut>
+) -> Result<Result<(), NotKept>, Shut>
     requires buffer { vec_len buffer.old ≤ longest_message_piece }
+    requires committed { T.committed (metered_server server.old) }
     requires begun { begun_of event_loop.old.connections ≤ bounds.now.exchanges }
     requires peer_slots { HasPeerSlots event_loop.old }
-    ensures round { OnOk result (ServesRound B.Reactor B.Link.Link T.answers O.Sink E.Sink log
-        bounds.now.idle bounds.now.exchanges event_loop.old event_loop.new
+    ensures round { IfOk result (λ kept. ServesRoundTo B.Reactor B.Link.Link T.answers T.commits O.Sink
+        E.Sink log kept bounds.now.idle bounds.now.exchanges event_loop.old event_loop.new
         (metered_server server.old)
         (metered_server server.new) reactor.old reactor.new out.old out.new faults.old faults.new) }
     ensures shut { OnErr result (IsShut B.Reactor B.Link.Link event_loop.old event_loop.new
         (metered_server server.old)
         (metered_server server.new) reactor.old reactor.new out.old out.new faults.old faults.new) }
+    ensures committed { T.committed (metered_server server.new) }
     ensures begun { begun_of event_loop.new.connections ≤ bounds.now.exchanges }
     ensures count { B.failures reactor.new ≡ failures_after result (B.failures reactor.old) }
     ensures waits { OnOk result (B.waits reactor.new ≡ one_more (B.waits reactor.old)) }
@@ -166,5 +187,5 @@ fn serve_round<B: Reactor, T: Turns, O: Sink, E: Sink>(
         log,
     };
     event_loop.serve_each(alloc, server, buffer.as_mut_slice(), round, out, faults);
-    Ok(())
+    Ok(event_loop.commit(alloc, server, log, out, faults))
 }

@@ -2,13 +2,13 @@
 ghost use Rattle.std.specs.Prelude.{◌≡◌};
 ghost use Rattle.bw_serve.specs.ServedAll.{ServedOutcome, Served, ServesNext, ServesPeer};
 ghost use Rattle.bw_serve.specs.ServedAll.{ServesRun};
-ghost use Rattle.bw_serve.specs.ServedAll.{exit_now};
+ghost use Rattle.bw_serve.specs.ServedAll.{exit_now, lacks_sync};
 ghost use Rattle.bw_exchange.specs.MeteredServers.{metered_server};
 
 use crate::reporting::report_link;
-use crate::serving_one::serve_link;
+use crate::serving_one::{Ended, serve_link};
 use bw_console::Exit;
-use bw_exchange::{Metered, Turns, end_name};
+use bw_exchange::{ExchangeEnd, Metered, NotKept, Turns, end_name};
 use bw_ports::{AcceptFault, Peer, Peers};
 use bw_stream::{Sink, Source};
 use std::alloc::Global;
@@ -18,7 +18,7 @@ use std::alloc::Global;
 ///
 /// If an exchange breaks off, its line can't be written or its peer leaves before it is accepted,
 /// only that exchange ends, and it counts. `Done` after the last one; `Memory` if memory was refused
-/// to one; `Device` if no more peers are accepted.
+/// to one; `Device` if no more peers are accepted, or a sync failed in a commit.
 ///
 /// With `log` each link is a line on `faults` too: `peer ADDRESS names NAME.. end END messages N
 /// bytes N`, with the first eight names of its messages.
@@ -35,7 +35,7 @@ pub fn serve_run<P: Peers, T: Turns, O: Sink, E: Sink>(
     out: &mut O,
     faults: &mut E,
 ) -> Exit
-    ensures { ServesRun T.answers P.Peers P.Reader.Source P.Writer.Sink O.Sink E.Sink log exchanges
+    ensures { ServesRun T.answers T.commits P.Peers P.Reader.Source P.Writer.Sink O.Sink E.Sink log exchanges
         result (metered_server server.old) (metered_server server.new) peers.old peers.new out.old
         out.new faults.old faults.new }
 {
@@ -58,7 +58,7 @@ fn serve_next<P: Peers, T: Turns, O: Sink, E: Sink>(
     faults: &mut E,
 ) -> Option<Exit>
     ensures { (outcome : ServedOutcome) × (result ≡ exit_now outcome)
-        × ServesNext T.answers P.Peers P.Reader.Source P.Writer.Sink O.Sink E.Sink log index outcome
+        × ServesNext T.answers T.commits P.Peers P.Reader.Source P.Writer.Sink O.Sink E.Sink log index outcome
         (metered_server server.old) (metered_server server.new) peers.old peers.new out.old out.new
         faults.old faults.new }
 {
@@ -67,8 +67,8 @@ fn serve_next<P: Peers, T: Turns, O: Sink, E: Sink>(
         Err(AcceptFault::Gone) => return None,
         Err(AcceptFault::Closed) => return Some(Exit::Device),
     };
-    let exit = serve_peer(alloc, server, peer, index, log, out, faults);
-    end_after(exit)
+    let ended = serve_peer(alloc, server, peer, index, log, out, faults);
+    end_after(ended)
 }
 
 /// Serves the exchange of a peer, and logs it if a log is asked for.
@@ -80,8 +80,9 @@ fn serve_peer<R: Source + Drop, W: Sink + Drop, T: Turns, O: Sink, E: Sink>(
     log: bool,
     out: &mut O,
     faults: &mut E,
-) -> Exit
-    ensures { ServesPeer T.answers R.Source W.Sink O.Sink E.Sink log index result peer
+) -> Ended
+    ensures { ServesPeer T.answers T.commits R.Source W.Sink O.Sink E.Sink log index
+        result.end result.exit peer
         (metered_server server.old) (metered_server server.new) out.old out.new faults.old
         faults.new }
 {
@@ -103,16 +104,36 @@ fn serve_peer<R: Source + Drop, W: Sink + Drop, T: Turns, O: Sink, E: Sink>(
         server.link_stats(),
         faults,
     );
-    ended.exit
+    ended
 }
 
-/// How the run ends after this exit, if it ends there: lack of memory would end the next exchange
-/// too.
-fn end_after(exit: Exit) -> Option<Exit>
-    ensures { result ≡ exit_now (Served exit) }
+/// How the run ends after an exchange, if it ends there: lack of memory would end the next exchange
+/// too, and after a sync that failed it isn't known what is kept.
+fn end_after(ended: Ended) -> Option<Exit>
+    ensures { result ≡ exit_now (Served ended.end ended.exit) }
 {
-    match exit {
+    if is_unsynced(ended.end) {
+        return Some(Exit::Device);
+    }
+    match ended.exit {
         Exit::Memory => Some(Exit::Memory),
         Exit::Done | Exit::Refused | Exit::Usage | Exit::Device => None,
+    }
+}
+
+/// Whether a sync failed in the commit at which an exchange ended so.
+fn is_unsynced(end: ExchangeEnd) -> bool
+    ensures { result ≡ lacks_sync end }
+{
+    match end {
+        ExchangeEnd::NotKept(NotKept::SyncFault) => true,
+        ExchangeEnd::NotKept(NotKept::WriteFault) => false,
+        ExchangeEnd::Bye => false,
+        ExchangeEnd::EndOfInput => false,
+        ExchangeEnd::BadFrame(_) => false,
+        ExchangeEnd::ReadFault => false,
+        ExchangeEnd::WriteFault => false,
+        ExchangeEnd::TurnLimit => false,
+        ExchangeEnd::Memory => false,
     }
 }

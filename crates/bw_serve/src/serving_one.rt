@@ -29,7 +29,7 @@ pub fn serve_one<R: Source, W: Sink, T: Turns, O: Sink>(
     index: u64,
     out: &mut O,
 ) -> Exit
-    ensures { ServesOne T.answers R.Source W.Sink O.Sink index result server.old server.new
+    ensures { ServesOne T.answers T.commits R.Source W.Sink O.Sink index result server.old server.new
         reader.old reader.new writer.old writer.new out.old out.new }
 {
     serve_link(alloc, server, reader, writer, index, out).exit
@@ -51,7 +51,7 @@ pub(crate) fn serve_link<R: Source, W: Sink, T: Turns, O: Sink>(
     index: u64,
     out: &mut O,
 ) -> Ended
-    ensures { ServesTo T.answers R.Source W.Sink O.Sink index result.end result.exit server.old
+    ensures { ServesTo T.answers T.commits R.Source W.Sink O.Sink index result.end result.exit server.old
         server.new reader.old reader.new writer.old writer.new out.old out.new }
 {
     let end = serve_exchange(alloc, server, reader, writer);
@@ -86,6 +86,7 @@ fn exit_reported(end: ExchangeEnd) -> Exit
         ExchangeEnd::BadFrame(_) => Exit::Done,
         ExchangeEnd::ReadFault => Exit::Device,
         ExchangeEnd::WriteFault => Exit::Device,
+        ExchangeEnd::NotKept(_) => Exit::Device,
         ExchangeEnd::TurnLimit => Exit::Device,
         ExchangeEnd::Memory => Exit::Memory,
     }

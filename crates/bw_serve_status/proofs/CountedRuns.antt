@@ -1,5 +1,6 @@
 -- What operators are shown of a run over a server that counts.
 use Rattle.std.proofs.Common.{◌≡◌, ◌∙◌, Bool, List, [], ◌∷◌, sym, ap, subst}
+use Rattle.std.specs.Prelude.{Result}
 use Rattle.std.specs.List.{AllByRecursion}
 use Rattle.bw_model.specs.Wire.{Frame}
 use Rattle.bw_model.specs.Replies.{Reply}
@@ -7,6 +8,8 @@ use Rattle.bw_stream.specs.declared.sink.Sink.{Ghosts as Writer}
 use Rattle.bw_store.specs.declared.store.TakeStore.{Ghosts as StoreGhosts}
 use Rattle.bw_journal.specs.declared.journal.Journal.{Ghosts as JournalGhosts}
 use Rattle.bw_exchange.specs.AnsweredFrames.{Answered, AnswersAll}
+use Rattle.bw_exchange.specs.Commits.{CommitsNothing}
+use Rattle.bw_exchange.specs.declared.turns.NotKept.{NotKept}
 use Rattle.bw_session.specs.ServerTurns.{ServerTurn}
 use Rattle.bw_session.specs.declared.server.Server.{Server}
 use Rattle.bw_engine.specs.ServerRuns.{ServersAnswerInRuns}
@@ -36,6 +39,13 @@ module _ {X Y : Type 0} (S : StoreGhosts X) (J : JournalGhosts Y) where
   abbrev turn_in : (t : Tallied (Server X Y S J)) (frame : Frame) (replies : List Reply) (t' : Tallied (Server X Y S J)) →
       CountsTurn t frame replies t' → ServerTurn S J (server_in t) frame replies (server_in t')
   turn_in t frame replies t' h = h.0
+
+  abbrev CountsCommit : Tallied (Server X Y S J) → Result (Unit {0}) NotKept → Tallied (Server X Y S J) → Type 0
+  CountsCommit t result t' = CommitsNothing t.server result t'.server
+
+  abbrev commit_in : (t : Tallied (Server X Y S J)) (result : Result (Unit {0}) NotKept) (t' : Tallied (Server X Y S J)) →
+      CountsCommit t result t' → CommitsNothing (server_in t) result (server_in t')
+  commit_in t result t' h = h
 
   abbrev counting : Server X Y S J → Tally → Tallied (Server X Y S J)
   counting server tallies = record { server = server; tallies = tallies }
@@ -68,22 +78,22 @@ module _ {X Y : Type 0} (S : StoreGhosts X) (J : JournalGhosts Y) where
     -- a run of the server in one that counts, each round of which was shown
     abbrev RunsShown : Bounds → Exit → Server X Y S J → Server X Y S J → B → B → O → O → E → E → P → Type 0
     RunsShown bounds exit s s' b b' o o' e e' opened =
-        (run : RunsEventLoop reactor G (ServerTurn S J) out reported log bounds exit s s' b b' o o' e e')
+        (run : RunsEventLoop reactor G (ServerTurn S J) CommitsNothing out reported log bounds exit s s' b b' o o' e e')
         × ShowsEachRound S J port link opened s
-        (left_in_run reactor G (ServerTurn S J) out reported log bounds exit s s' b b' o o' e e' run)
+        (left_in_run reactor G (ServerTurn S J) CommitsNothing out reported log bounds exit s s' b b' o o' e e' run)
 
     runs_shown : (bounds : Bounds) (exit : Exit) (t t' : Tallied (Server X Y S J)) (b b' : B) (o o' : O) (e e' : E)
         (v v' : StatusObserver P K) (opened : P) → t.tallies ≡ none_tallied →
         BeginsToShow S J opened (server_in t) v →
-        RunsEventLoop reactor G CountsTurn out reported log bounds exit t t' b b' o o' e e' →
-        ObservesRun reactor G CountsTurn out reported log (Looks S J port link) bounds exit t t' b b' o o' e e' v v' →
+        RunsEventLoop reactor G CountsTurn CountsCommit out reported log bounds exit t t' b b' o o' e e' →
+        ObservesRun reactor G CountsTurn CountsCommit out reported log (Looks S J port link) bounds exit t t' b b' o o' e e' v v' →
         RunsShown bounds exit (server_in t) (server_in t') b b' o o' e e' opened
     runs_shown bounds exit t t' b b' o o' e e' v v' opened none begins run seen =
-        let both = run_seen server_in CountsTurn (ServerTurn S J) turn_in (with_counts S J) reactor G out reported log
+        let both = run_seen server_in CountsTurn (ServerTurn S J) turn_in CountsCommit CommitsNothing commit_in (with_counts S J) reactor G out reported log
         (Looks S J port link) bounds exit t t' b b' o o' e e' v v' (with_counts_is t none) run seen in (
           both.0,
           record {
-            books = books_after law (server_in t) _ (run_answers G (ServerTurn S J) out reported log reactor bounds exit
+            books = books_after law (server_in t) _ (run_answers G (ServerTurn S J) out reported log reactor CommitsNothing bounds exit
                 (server_in t) (server_in t') b b' o o' e e' both.0);
             before = v;
             begins = begins;
@@ -96,8 +106,8 @@ module _ {X Y : Type 0} (S : StoreGhosts X) (J : JournalGhosts Y) where
     pub counted_shown : (server : Server X Y S J) (bounds : Bounds) (exit : Exit) (t t' : Tallied (Server X Y S J))
         (b b' : B) (o o' : O) (e e' : E) (v v' : StatusObserver P K) (opened : P) → t.server ≡ server →
         t.tallies ≡ none_tallied → BeginsToShow S J opened server v →
-        RunsEventLoop reactor G CountsTurn out reported log bounds exit t t' b b' o o' e e' →
-        ObservesRun reactor G CountsTurn out reported log (Looks S J port link) bounds exit t t' b b' o o' e e' v v' →
+        RunsEventLoop reactor G CountsTurn CountsCommit out reported log bounds exit t t' b b' o o' e e' →
+        ObservesRun reactor G CountsTurn CountsCommit out reported log (Looks S J port link) bounds exit t t' b b' o o' e e' v v' →
         RunsShown bounds exit server t'.server b b' o o' e e' opened
     counted_shown server bounds exit t t' b b' o o' e e' v v' opened is none begins run seen =
         subst (λ (s : Server X Y S J). RunsShown bounds exit s t'.server b b' o o' e e' opened) is

@@ -6,6 +6,7 @@ use Rattle.std.specs.declared.net.socket_addr.SocketAddr.{SocketAddr}
 use Rattle.bw_stream.specs.declared.sink.Sink.{Ghosts as Writer}
 use Rattle.bw_store.specs.declared.store.TakeStore.{Ghosts as StoreGhosts}
 use Rattle.bw_journal.specs.declared.journal.Journal.{Ghosts as JournalGhosts}
+use Rattle.bw_exchange.specs.Commits.{CommitsNothing}
 use Rattle.bw_session.specs.ServerTurns.{ServerTurn}
 use Rattle.bw_session.specs.declared.server.Server.{Server}
 use Rattle.bw_console.specs.declared.exit.Exit.{Exit}
@@ -58,7 +59,7 @@ module _ {X Y B L O E P K : Type 0} (S : StoreGhosts X) (J : JournalGhosts Y)
       (server : Server X Y S J) (b b' : B) (o o' : O) (e e' : E) →
       HostsManyFrom S J reactor link out reported opening bounds log exit server b b' o o' e e' → Type 0
   ShowsFrom opening bounds log exit server b b' o o' e e' (inl served) =
-      ShowsEachRound S J port operators opened server (left_in_run reactor link (ServerTurn S J) out
+      ShowsEachRound S J port operators opened server (left_in_run reactor link (ServerTurn S J) CommitsNothing out
       reported log bounds served.ended server served.following b b' served.between o' e served.logged
       served.run)
   ShowsFrom opening bounds log exit server b b' o o' e e' (inr unopened) = Unit {0}

@@ -5,7 +5,7 @@ ghost use Rattle.bw_serve_status.specs.Tallies.{none_tallied, tallied, tallied_r
 
 use crate::tallies::Tallies;
 use arrayvec::ArrayVec;
-use bw_exchange::Turns;
+use bw_exchange::{NotKept, Turns};
 use bw_wire::{Ask, Message, Reply};
 use std::alloc::{AllocError, Global};
 
@@ -51,6 +51,10 @@ impl<T: Turns> Turns for Tallied<T> {
     ghost answers = { λ t frame replies t'. T.answers t.server frame replies t'.server
         × (t'.tallies ≡ tallied t.tallies frame replies) };
 
+    ghost committed = { λ t. T.committed t.server };
+
+    ghost commits = { λ t result t'. T.commits t.server result t'.server };
+
     fn turn(&mut self, message: &Message<'_>, replies: &mut ArrayVec<Reply, 17>) {
         self.tallies.count_message(message);
         self.server.turn(message, replies);
@@ -62,6 +66,10 @@ impl<T: Turns> Turns for Tallied<T> {
         let reply = self.server.ask(ask);
         self.tallies.count_reply(&reply);
         reply
+    }
+
+    fn commit(&mut self) -> Result<(), NotKept> {
+        self.server.commit()
     }
 }
 

@@ -32,7 +32,6 @@ pub mod PromiseForms
 pub mod ResumeForms
 pub mod RestForms
 pub mod RestLaws
-pub mod ClosedForms
 pub mod WakeLaws
 pub mod RestBooks
 pub mod RestTables

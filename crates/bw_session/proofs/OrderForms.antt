@@ -8,7 +8,7 @@ use Rattle.bw_model.specs.Take.{Parts, Request, Verdict}
 use Rattle.bw_model.specs.Book.{Log}
 use Rattle.bw_model.specs.Holds.{finished_from}
 use Rattle.bw_journal.specs.JournalHeaders.{Header, header_bytes}
-use Rattle.bw_journal.specs.Entries.{content, sealed_entries}
+use Rattle.bw_journal.specs.Entries.{content, sealed_entry, sealed_entries}
 use Rattle.bw_journal.specs.Notes.{IsPrefixOf, IsShortOf, Starts, StartsInPart, Notes, NotesInPart}
 use Rattle.bw_journal.specs.NotedJournals.{done_entry, entries_from, journal_of}
 use Rattle.bw_journal.proofs.Lengths.{sealed-length}
@@ -116,10 +116,9 @@ module _ (first : Option (List ℕ)) (h : Header) (log : Log) (p : Parts) (finis
       let whole = ap length (journal_next h name log r finished memory.done entries_are next.here) in
       let sum = length-append (journal_of h name log) (next_entry h.existed name log) in
       let entry : length (next_entry h.existed name log)
-      ≡ 12 + length (content (done_entry h.existed log.admitted name log.done r)) =
-      ap (λ (o : Option Request). length (entry_if h.existed name log.admitted log.done o)) next.here
-      ∙ sealed-length (content (done_entry h.existed log.admitted name log.done r)) in
-      omega (arith, whole, sum, entry)
+      ≡ length (sealed_entry (done_entry h.existed log.admitted name log.done r)) =
+      ap (λ (o : Option Request). length (entry_if h.existed name log.admitted log.done o)) next.here in
+      omega (arith, whole, sum, entry, (sealed-length (content (done_entry h.existed log.admitted name log.done r))).0)
 
   pub no_next : (offset : ℕ) (notes : Option (List ℕ)) → offset ≡ length (journal_of h name log) → HasNothingPast offset notes →
       notes ≡ Some (journal_of h name (with_done log)) → ⊥

@@ -23,7 +23,7 @@ use Rattle.bw_session.specs.RestingNames.{IsAtRest, with_first}
 use Rattle.bw_session.specs.Servers.{HoldsIn, kept_by}
 use Rattle.bw_session.specs.Windows.{count_held}
 use Rattle.bw_session.specs.declared.session.Session.{Session}
-use Rattle.bw_session.proofs.ClosedForms.{made_format, closed_done}
+use Rattle.bw_journal.proofs.ClosedForms.{made_format, closed_done}
 use Rattle.bw_session.proofs.LogSteps.{take-short}
 use Rattle.bw_session.proofs.ReportForms.{count_more, held_reported}
 use Rattle.bw_session.proofs.RestForms.{holds_but, notes_but, book_without, kept_others}

@@ -26,7 +26,7 @@ use Rattle.bw_session.specs.RestingNames.{IsAtRest, IsMadeFrom, NamesAtRestMayWa
 use Rattle.bw_session.specs.ResumedBooks.{ResumesFrom}
 use Rattle.bw_session.specs.declared.kept_take.KeptTake.{KeptTake}
 use Rattle.bw_session.specs.declared.session.Session.{Session}
-use Rattle.bw_session.proofs.ClosedForms.{made_format}
+use Rattle.bw_journal.proofs.ClosedForms.{made_format}
 use Rattle.bw_session.proofs.FitForms.{fit_by}
 use Rattle.bw_session.proofs.NewForms.{resumed_part}
 use Rattle.bw_session.proofs.ResumeForms.{all_fit, digests_kept, unpacked, unpacked_table}

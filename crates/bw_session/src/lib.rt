@@ -31,4 +31,4 @@ mod writing;
 pub use kept_take::KeptTake;
 pub use resting::RestFault;
 pub use server::Server;
-pub use waking::{JOURNAL_MAX, WakeFault};
+pub use waking::WakeFault;

@@ -17,20 +17,11 @@ use crate::kept_take::KeptTake;
 use crate::resuming::session_of;
 use crate::server::Server;
 use crate::session::Session;
-use bw_journal::{ENTRY_MAX, JournalHeader, ReplayFault, Replayed, RestingJournal, replay};
+use bw_journal::{JOURNAL_MAX, ReplayFault, Replayed, RestingJournal, replay};
 use bw_layout::Limit;
 use bw_request::Name;
 use bw_store::{StoreFault, TakeStore};
 use std::alloc::Global;
-
-/// Journals that are read have at most this many bytes.
-pub const JOURNAL_MAX: usize = 1 << 40;
-
-/// How many numbers a name has at most.
-const NUMBERS: usize = 16_777_216;
-
-// Every journal that a server writes is read.
-const _: () = prove!(JournalHeader::LEN + NUMBERS * ENTRY_MAX <= JOURNAL_MAX);
 
 /// Why a name can't be woken.
 #[derive(Clone, Copy, Debug, PartialEq, Eq)]

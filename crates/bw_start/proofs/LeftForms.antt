@@ -9,15 +9,15 @@ use Rattle.bw_model.specs.Book.{log_of}
 use Rattle.bw_model.proofs.BookLemmas.{same_name}
 use Rattle.bw_store.specs.Stores.{KeepsOthers}
 use Rattle.bw_disk.specs.Volumes.{KeepsEach, AreDistinct}
-use Rattle.bw_start.specs.Changes.{ChangesTake}
-use Rattle.bw_start.specs.Findings.{IsFound, SparesFile}
-use Rattle.bw_start.specs.FoundNames.{found_names, IsFoundIn}
-use Rattle.bw_start.specs.Paths.{wave_path, notes_path}
+use Rattle.bw_recovery.specs.Changes.{ChangesTake}
+use Rattle.bw_recovery.specs.Findings.{IsFound, SparesFile}
+use Rattle.bw_recovery.specs.FoundNames.{found_names, IsFoundIn}
+use Rattle.bw_recovery.specs.Paths.{wave_path, notes_path}
 use Rattle.bw_start.specs.RestoredFolders.{FindsFolder, KeepsNotesBut, KeepsTakesBut, KeepsJournals}
-use Rattle.bw_start.specs.StaysLeft.{StaysLeft, NamesStayLeft, IsLeftOf, BooksStayLeft}
-use Rattle.bw_start.specs.declared.listing.FoundName.{FoundName}
-use Rattle.bw_start.proofs.PathLemmas.{path_name}
-use Rattle.bw_start.proofs.NameStays.{same_left}
+use Rattle.bw_recovery.specs.StaysLeft.{StaysLeft, NamesStayLeft, IsLeftOf, BooksStayLeft}
+use Rattle.bw_recovery.specs.declared.listing.FoundName.{FoundName}
+use Rattle.bw_recovery.proofs.PathLemmas.{path_name}
+use Rattle.bw_recovery.proofs.NameStays.{same_left}
 use Rattle.bw_start.proofs.RestoreForms.{notes_stay, takes_stay, other_path, other_take}
 
 -- what stands at each path of a disk

@@ -16,7 +16,7 @@ use Rattle.bw_model.specs.Book.{Log, Book, log_of, made}
 use Rattle.bw_model.specs.Holds.{finished_from}
 use Rattle.bw_folder.specs.Journals.{existence_of, header_at, journal_path}
 use Rattle.bw_folder.specs.Folders.{take_path}
-use Rattle.bw_start.specs.Paths.{path_with}
+use Rattle.bw_recovery.specs.Paths.{path_with}
 use Rattle.bw_journal.specs.JournalHeaders.{Header, header_bytes}
 use Rattle.bw_journal.specs.Notes.{IsPrefixOf}
 use Rattle.bw_journal.specs.NotedJournals.{AdmitsDone, fits, packed, journal_of, story_of_log, entries_from}
@@ -29,18 +29,19 @@ use Rattle.bw_journal.proofs.ReportLaws.{journals_report_logs}
 use Rattle.bw_journal.proofs.Taken.{taken-made}
 use Rattle.bw_session.specs.ResumedBooks.{kept_under, RecoversBook, HasDoneNotes}
 use Rattle.bw_session.specs.declared.kept_take.KeptTake.{KeptTake}
-use Rattle.bw_start.specs.Left.{wanted_file}
-use Rattle.bw_start.specs.LeftNames.{header_beside, IsLeftBegun, IsLeftTorn, IsLeftName, IsResumed}
-use Rattle.bw_start.specs.Names.{kept_journal}
-use Rattle.bw_start.specs.Findings.{IsFound, IsRestored}
-use Rattle.bw_start.specs.FoundNames.{found_names, IsFoundIn}
-use Rattle.bw_start.specs.Paths.{wave_path, notes_path}
+use Rattle.bw_recovery.specs.Left.{wanted_file}
+use Rattle.bw_recovery.specs.LeftNames.{header_beside, IsLeftBegun, IsLeftTorn, IsLeftName, IsResumed}
+use Rattle.bw_recovery.specs.Names.{kept_journal}
+use Rattle.bw_recovery.specs.Findings.{IsFound, IsRestored}
+use Rattle.bw_recovery.specs.FoundNames.{found_names, IsFoundIn}
+use Rattle.bw_recovery.specs.Paths.{wave_path, notes_path}
 use Rattle.bw_start.specs.RestoredFolders.{is_sound, are_sound, IsRestoredIn, ResumesFolder}
 use Rattle.bw_start.specs.StartedServers.{KeptFact, kept_fact, kept_facts, begun_names, makes_file, IsLeftIn}
-use Rattle.bw_start.specs.declared.finding.Finding.{Finding}
-use Rattle.bw_start.specs.declared.finding.Finding.TheVariants.{Refused, Unbegun, Begun}
-use Rattle.bw_start.specs.declared.listing.FoundName.{FoundName}
-use Rattle.bw_start.proofs.NameLemmas.{left_names_are_resumed, unopened}
+use Rattle.bw_recovery.specs.declared.finding.Finding.{Finding}
+use Rattle.bw_recovery.specs.declared.finding.Finding.TheVariants.{Refused, Unbegun, Begun}
+use Rattle.bw_recovery.specs.declared.listing.FoundName.{FoundName}
+use Rattle.bw_recovery.proofs.NameLemmas.{left_names_are_resumed, unopened}
+use Rattle.bw_recovery.proofs.StoryForms.{ok_no_err, same_story, begun_story, torn_story}
 use Rattle.bw_start.proofs.RestoreForms.{some_same, notes_stay, waves_stay, takes_stay}
 use Rattle.bw_start.proofs.StartForms.{fact_under, known_of, fact_of, Met, Unmet, meet}
 
@@ -128,36 +129,6 @@ whole_journal : (limit : ℕ) (first : Option (List ℕ)) (name : List ℕ) (log
     Some kept ≡ Some (journal_of (header_beside limit first) name log)
 whole_journal limit first name log kept done (inl e) = ap (λ (x : List ℕ). Some x) e
 whole_journal limit first name log kept done (inr e) = absurd (not_less log.done e.0 done)
-
-pub ok_no_err : {A : Type 0} (s : Story) (e : JournalFault) (r : Result Story JournalFault) → r ≡ Ok s → r ≡ Err e → A
-ok_no_err s e r a b = absurd (apart (sym a ∙ b))
-  where
-    apart : Ok s ≡ Err e → ⊥
-    apart x = cc
-
-abbrev the_ok : Story → Result Story JournalFault
-the_ok s = Ok s
-
-pub same_story : (s t : Story) (r : Result Story JournalFault) → r ≡ Ok s → r ≡ Ok t → s ≡ t
-same_story s t r a b = same (sym a ∙ b)
-  where
-    same : the_ok s ≡ the_ok t → s ≡ t
-    same x = cc
-
--- what a journal that a stop left begun says
-pub begun_story : (limit : ℕ) (first : Option (List ℕ)) (name : List ℕ) (log : Log) (journal : List ℕ) (file : Option (List ℕ)) →
-    limit < 2 ^ 32 → AdmitsDone log → IsLeftBegun limit first name log journal file →
-    replay limit name journal ≡ Ok (story_of_log (header_beside limit first) name log)
-begun_story limit first name log journal file small whole left =
-    ap (replay limit name) left.notes
-    ∙ journals_report_logs (header_beside limit first) name log left.tail small whole left.cut
-
--- one that isn't begun says nothing
-pub torn_story : (limit : ℕ) (first : Option (List ℕ)) (name : List ℕ) (log : Log) (journal : List ℕ) (file : Option (List ℕ)) →
-    limit < 2 ^ 32 → IsLeftTorn limit first name log journal file → replay limit name journal ≡ Err NotBegun
-torn_story limit first name log journal file small left =
-    ap (replay limit name) left.notes
-    ∙ cut_headers_are_not_begun name (header_beside limit first) left.count small left.short
 
 -- what is kept by a story
 abbrev fact_by : List ℕ → Story → KeptFact

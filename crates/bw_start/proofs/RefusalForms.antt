@@ -11,25 +11,26 @@ use Rattle.bw_model.specs.Turn.{most_takes}
 use Rattle.bw_disk.specs.Volumes.{AreDistinct, KeepsEach}
 use Rattle.bw_journal.specs.Replays.{Story, replay}
 use Rattle.bw_journal.specs.Stories.{story_of}
-use Rattle.bw_start.specs.Names.{NameFault, name_fault}
-use Rattle.bw_start.specs.Paths.{wave_path, notes_path}
-use Rattle.bw_start.specs.Findings.{IsFound, leaves_take, keeps_file}
-use Rattle.bw_start.specs.FoundNames.{found_names, IsFoundIn}
+use Rattle.bw_recovery.specs.Names.{NameFault, name_fault}
+use Rattle.bw_recovery.specs.Paths.{wave_path, notes_path}
+use Rattle.bw_recovery.specs.Findings.{IsFound, leaves_take, keeps_file}
+use Rattle.bw_recovery.specs.FoundNames.{found_names, IsFoundIn}
 use Rattle.bw_start.specs.RestoredFolders.{is_sound, are_sound, with_done_name, done_names, with_refusal, refusals_of, refusal_as}
 use Rattle.bw_start.specs.RestoredFolders.{FindsFolder, IsFoundFault, RefusesAt, RefusesIn, HasDoneNumbers, RefusesFolder}
 use Rattle.bw_start.specs.RestoredFolders.{KeepsTakesBut, KeepsNotesBut, KeepsTakes, KeepsJournals, IsOpenTake, IsRestoredIn, ResumesFolder}
-use Rattle.bw_start.specs.declared.finding.NameFault.{NameFault as Fault}
-use Rattle.bw_start.specs.declared.finding.Finding.{Finding}
-use Rattle.bw_start.specs.declared.finding.Finding.TheVariants.{Refused as IsRefused, Unbegun, Begun}
-use Rattle.bw_start.specs.declared.listing.FoundName.{FoundName}
+use Rattle.bw_recovery.specs.declared.finding.NameFault.{NameFault as Fault}
+use Rattle.bw_recovery.specs.declared.finding.Finding.{Finding}
+use Rattle.bw_recovery.specs.declared.finding.Finding.TheVariants.{Refused as IsRefused, Unbegun, Begun}
+use Rattle.bw_recovery.specs.declared.listing.FoundName.{FoundName}
 use Rattle.bw_start.specs.declared.restoring.RefusedName.{RefusedName}
 use Rattle.bw_start.specs.declared.restoring.StartFault.{StartFault}
 use Rattle.bw_start.specs.declared.restoring.StartFault.TheVariants.{Disk, Memory, Refused, TooMany}
 use Rattle.std.proofs.Common.{append_assoc}
 use Rattle.std.proofs.lemmas.List.{append-nil}
 use Rattle.bw_start.specs.FaultLines.{refusal_line, refusal_lines}
-use Rattle.bw_start.proofs.ListForms.{true_false}
-use Rattle.bw_start.proofs.RestoreForms.{take_more, some_same}
+use Rattle.bw_recovery.proofs.ListForms.{true_false}
+use Rattle.bw_start.proofs.RestoreForms.{some_same}
+use Rattle.bw_recovery.proofs.ListForms.{take_more}
 
 -- the names with done numbers, one further
 done_with : (name : List ℕ) (f : Finding) (rest : List (List ℕ)) →

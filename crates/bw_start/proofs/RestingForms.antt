@@ -9,7 +9,7 @@ use Rattle.bw_disk.specs.DiskSteps.{StaysWhole}
 use Rattle.bw_disk.specs.Volumes.{AreDistinct, KeepsEach}
 use Rattle.bw_disk.specs.declared.disk.Disk.{Ghosts}
 use Rattle.bw_start.specs.FaultLines.{closed_line, closed_lines}
-use Rattle.bw_start.specs.FoundNames.{ListsFiles}
+use Rattle.bw_recovery.specs.FoundNames.{ListsFiles}
 use Rattle.bw_start.specs.RestingStarts.{HasBoth, AddsIf, ListsThoseInTheWay, SomeStandInTheWay, NoneStandsInTheWay}
 use Rattle.bw_start.specs.RestingStarts.{IsListOf, RefusesStart, IsPlainFolderFault, IsFolderUnchanged}
 use Rattle.bw_start.specs.RestoredFolders.{IsPlainFault, IsUnchanged, RefusesFolder, KeepsTheRest}
@@ -18,8 +18,8 @@ use Rattle.bw_start.specs.declared.restoring.StartFault.TheVariants.{Disk, Memor
 use Rattle.bw_start.specs.declared.resting.FolderFault.{FolderFault}
 use Rattle.bw_start.specs.declared.resting.FolderFault.TheVariants.{Start, Rests, Twice}
 use Rattle.bw_start.specs.declared.resting.Settings.{Settings}
-use Rattle.bw_start.proofs.ListForms.{in_one}
-use Rattle.bw_start.proofs.RestoreForms.{take_more}
+use Rattle.bw_recovery.proofs.ListForms.{in_one}
+use Rattle.bw_recovery.proofs.ListForms.{take_more}
 
 -- no name
 no_name : (x : List ℕ) → Contains [] x → ⊥

@@ -2,7 +2,6 @@
 use Rattle.std.proofs.Common.{◌≡◌, ◌≢◌, ◌⊎◌, inl, inr, ℕ, zero, suc, ◌+◌, ◌<◌, Bool, true, false, List, [], ◌∷◌, ◌++◌, length, take}
 use Rattle.std.proofs.Common.{Option, Some, None, refl, sym, ◌∙◌, ap, subst, arith}
 use Rattle.std.specs.Prelude.{codes, get_or}
-use Rattle.std.proofs.lemmas.Grind.{take_at_read}
 use Rattle.std.proofs.lemmas.List.Folds.{list_all_at}
 use Rattle.bw_disk.specs.Volumes.{AreDistinct}
 use Rattle.bw_start.specs.RestoredFolders.{are_sound}
@@ -12,17 +11,17 @@ use Rattle.std.proofs.lemmas.List.Elements.{All-head, All-tail, All-cons, All-ni
 use Rattle.bw_model.proofs.BookLemmas.{same_name, name_refl}
 use Rattle.bw_disk.specs.Volumes.{KeepsEach}
 use Rattle.bw_store.specs.Stores.{KeepsOthers}
-use Rattle.bw_start.specs.Changes.{IsAside, ChangesTake}
-use Rattle.bw_start.specs.Names.{name_fault}
-use Rattle.bw_start.specs.Findings.{IsFound, IsRestored, leaves_take}
-use Rattle.bw_start.specs.FoundNames.{found_names, IsFoundIn}
-use Rattle.bw_start.specs.Paths.{path_with, wave_path, notes_path}
+use Rattle.bw_recovery.specs.Changes.{IsAside, ChangesTake}
+use Rattle.bw_recovery.specs.Names.{name_fault}
+use Rattle.bw_recovery.specs.Findings.{IsFound, IsRestored, leaves_take}
+use Rattle.bw_recovery.specs.FoundNames.{found_names, IsFoundIn}
+use Rattle.bw_recovery.specs.Paths.{path_with, wave_path, notes_path}
 use Rattle.bw_start.specs.RestoredFolders.{is_sound, IsRestoredIn, KeepsNotesBut, KeepsTakesBut, IsOwnPath}
-use Rattle.bw_start.specs.declared.finding.Finding.{Finding}
-use Rattle.bw_start.specs.declared.finding.Finding.TheVariants.{Refused, Unbegun, Begun}
-use Rattle.bw_start.specs.declared.listing.FoundName.{FoundName}
-use Rattle.bw_start.proofs.ListForms.{names_push, true_false}
-use Rattle.bw_start.proofs.PathLemmas.{path_name, wave_no_notes}
+use Rattle.bw_recovery.specs.declared.finding.Finding.{Finding}
+use Rattle.bw_recovery.specs.declared.finding.Finding.TheVariants.{Refused, Unbegun, Begun}
+use Rattle.bw_recovery.specs.declared.listing.FoundName.{FoundName}
+use Rattle.bw_recovery.proofs.ListForms.{names_push, true_false}
+use Rattle.bw_recovery.proofs.PathLemmas.{path_name, wave_no_notes}
 
 -- among those that were found, so its name among their names
 pub contains_name : (found : List FoundName) (it : FoundName) → Contains found it → Contains (found_names found) it.name
@@ -210,12 +209,6 @@ takes_next folder T T1 T2 xs it before leaves changes path = go (leaves_take it.
     go true l (inl same) c = inl (leaves l path ∙ same)
     go true l (inr owned) c = inr (earlier owned)
     go false l old c = changed l (bytes_eq path (wave_path folder it.name)) refl old c
-
--- one name further in a list
-pub take_more : {X : Type 0} (xs : List X) (i : ℕ) (x : X) → i < length xs → x ≡ get_or xs i x →
-    take (i + 1) xs ≡ take i xs ++ x ∷ []
-take_more xs i x below is =
-    (take_at_read xs i x below).1 ∙ ap (λ (y : _). take i xs ++ y ∷ []) (sym is)
 
 -- a name isn't among those before it
 pub once_before : (found : List FoundName) (i : ℕ) (it : FoundName) → AreDistinct (found_names found) → i < length found →

@@ -13,21 +13,21 @@ use Rattle.bw_folder.specs.Folders.{take_content}
 use Rattle.bw_folder.specs.Journals.{header_at, notes_at}
 use Rattle.bw_session.specs.ResumedBooks.{RecoversBook, HasDoneNotes}
 use Rattle.bw_session.specs.declared.kept_take.KeptTake.{KeptTake}
-use Rattle.bw_start.specs.Names.{NameFault, name_fault}
-use Rattle.bw_start.specs.LeftNames.{IsLeftName, IsResumed}
-use Rattle.bw_start.specs.Paths.{wave_path, notes_path}
-use Rattle.bw_start.specs.FoundNames.{found_names, IsFoundIn}
+use Rattle.bw_recovery.specs.Names.{NameFault, name_fault}
+use Rattle.bw_recovery.specs.LeftNames.{IsLeftName, IsResumed}
+use Rattle.bw_recovery.specs.Paths.{wave_path, notes_path}
+use Rattle.bw_recovery.specs.FoundNames.{found_names, IsFoundIn}
 use Rattle.bw_start.specs.RestoredFolders.{is_sound, are_sound, with_done_name, done_names, count_done, KeepsTakes, KeepsJournals, ResumesFolder}
 use Rattle.bw_start.specs.RestoredFolders.{RefusesIn, RefusesFolder, IsPlainFault, HasFewDone, IsSoundFolder}
 use Rattle.bw_start.specs.StartedServers.{KeptFact, kept_fact, kept_name, kept_facts, begun_names, IsLeftIn}
-use Rattle.bw_start.specs.declared.finding.Finding.{Finding}
-use Rattle.bw_start.specs.declared.finding.Finding.TheVariants.{Refused as IsRefused, Unbegun, Begun}
-use Rattle.bw_start.specs.declared.listing.FoundName.{FoundName}
+use Rattle.bw_recovery.specs.declared.finding.Finding.{Finding}
+use Rattle.bw_recovery.specs.declared.finding.Finding.TheVariants.{Refused as IsRefused, Unbegun, Begun}
+use Rattle.bw_recovery.specs.declared.listing.FoundName.{FoundName}
 use Rattle.bw_start.specs.declared.restoring.RefusedName.{RefusedName}
 use Rattle.bw_start.specs.declared.restoring.StartFault.{StartFault}
 use Rattle.bw_start.specs.declared.restoring.StartFault.TheVariants.{Disk, Memory, Refused, TooMany}
-use Rattle.bw_start.proofs.ListForms.{true_false}
-use Rattle.bw_start.proofs.NameLemmas.{left_names_are_resumed}
+use Rattle.bw_recovery.proofs.ListForms.{true_false}
+use Rattle.bw_recovery.proofs.NameLemmas.{left_names_are_resumed}
 use Rattle.bw_start.proofs.RestoreForms.{some_same, sound_fault}
 use Rattle.bw_start.proofs.RecoverForms.{recovers_all}
 

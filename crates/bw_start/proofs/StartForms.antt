@@ -9,11 +9,11 @@ use Rattle.bw_disk.specs.Volumes.{AreDistinct}
 use Rattle.bw_folder.specs.Journals.{existence_of}
 use Rattle.bw_journal.specs.Replays.{Story}
 use Rattle.bw_journal.specs.Stories.{story_of}
-use Rattle.bw_start.specs.FoundNames.{found_names}
+use Rattle.bw_recovery.specs.FoundNames.{found_names}
 use Rattle.bw_start.specs.StartedServers.{KeptFact, kept_if, kept_name, kept_facts, begun_name, begun_names, makes_file}
-use Rattle.bw_start.specs.declared.finding.Finding.{Finding}
-use Rattle.bw_start.specs.declared.finding.Finding.TheVariants.{Refused, Unbegun, Begun}
-use Rattle.bw_start.specs.declared.listing.FoundName.{FoundName}
+use Rattle.bw_recovery.specs.declared.finding.Finding.{Finding}
+use Rattle.bw_recovery.specs.declared.finding.Finding.TheVariants.{Refused, Unbegun, Begun}
+use Rattle.bw_recovery.specs.declared.listing.FoundName.{FoundName}
 
 -- what is kept under a name
 abbrev pub fact_under : List KeptFact → List ℕ → Option KeptFact

@@ -1,15 +1,3 @@
-pub mod Files
-pub mod Left
-pub mod Adoptions
-pub mod Changes
-pub mod Names
-pub mod LeftNames
-pub mod StaysLeft
-pub mod FilesRead
-pub mod Paths
-pub mod Findings
-pub mod FileEndings
-pub mod FoundNames
 pub mod RestoredFolders
 pub mod StartedServers
 pub mod FaultLines

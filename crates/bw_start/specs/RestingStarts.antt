@@ -14,7 +14,7 @@ use Rattle.bw_folder.specs.declared.journal.FolderJournal.{FolderJournal}
 use Rattle.bw_session.specs.Books.{HoldsBook, NotesBook}
 use Rattle.bw_session.specs.SeenServers.{server_store, server_journal}
 use Rattle.bw_session.specs.declared.server.Server.{Server}
-use Rattle.bw_start.specs.Paths.{notes_path, rest_path}
+use Rattle.bw_recovery.specs.Paths.{notes_path, rest_path}
 use Rattle.bw_start.specs.RestoredFolders.{IsPlainFault, IsUnchanged, RefusesFolder, IsSoundFolder, KeepsTheRest}
 use Rattle.bw_start.specs.StartedServers.{OfEachBookLeft}
 use Rattle.bw_start.specs.declared.resting.FolderFault.{FolderFault}

@@ -6,15 +6,15 @@ use Rattle.bw_model.specs.Turn.{most_takes}
 use Rattle.bw_model.specs.Wire.{is_name}
 use Rattle.bw_journal.specs.Replays.{Story, replay}
 use Rattle.bw_disk.specs.Volumes.{AreDistinct}
-use Rattle.bw_start.specs.Paths.{path_with, wave_path, notes_path}
-use Rattle.bw_start.specs.Changes.{IsNoWave}
-use Rattle.bw_start.specs.Names.{name_fault}
-use Rattle.bw_start.specs.Findings.{RefusesName, IsRestored, leaves_take}
-use Rattle.bw_start.specs.FoundNames.{found_names, IsFoundIn, ListsJournals}
-use Rattle.bw_start.specs.declared.finding.NameFault.{NameFault as Fault}
-use Rattle.bw_start.specs.declared.finding.Finding.{Finding}
-use Rattle.bw_start.specs.declared.finding.Finding.TheVariants.{Refused as IsRefused, Unbegun, Begun}
-use Rattle.bw_start.specs.declared.listing.FoundName.{FoundName}
+use Rattle.bw_recovery.specs.Paths.{path_with, wave_path, notes_path}
+use Rattle.bw_recovery.specs.Changes.{IsNoWave}
+use Rattle.bw_recovery.specs.Names.{name_fault}
+use Rattle.bw_recovery.specs.Findings.{RefusesName, IsRestored, leaves_take}
+use Rattle.bw_recovery.specs.FoundNames.{found_names, IsFoundIn, ListsJournals}
+use Rattle.bw_recovery.specs.declared.finding.NameFault.{NameFault as Fault}
+use Rattle.bw_recovery.specs.declared.finding.Finding.{Finding}
+use Rattle.bw_recovery.specs.declared.finding.Finding.TheVariants.{Refused as IsRefused, Unbegun, Begun}
+use Rattle.bw_recovery.specs.declared.listing.FoundName.{FoundName}
 use Rattle.bw_start.specs.declared.restoring.RefusedName.{RefusedName}
 use Rattle.bw_start.specs.declared.restoring.StartFault.{StartFault}
 use Rattle.bw_start.specs.declared.restoring.StartFault.TheVariants.{Disk, Memory, Refused, TooMany}

@@ -15,11 +15,11 @@ use Rattle.bw_session.specs.SeenServers.{server_store, server_journal, server_li
 use Rattle.bw_folder.specs.declared.folder.FolderStore.{FolderStore}
 use Rattle.bw_folder.specs.TakeFolders.{takes_folder}
 use Rattle.bw_folder.specs.JournalFolders.{journals_folder, journals_limit, journals_sync}
-use Rattle.bw_start.specs.Paths.{wave_path, notes_path}
-use Rattle.bw_start.specs.LeftNames.{IsLeft}
-use Rattle.bw_start.specs.declared.finding.Finding.{Finding}
-use Rattle.bw_start.specs.declared.finding.Finding.TheVariants.{Refused, Unbegun, Begun}
-use Rattle.bw_start.specs.declared.listing.FoundName.{FoundName}
+use Rattle.bw_recovery.specs.Paths.{wave_path, notes_path}
+use Rattle.bw_recovery.specs.LeftNames.{IsLeft}
+use Rattle.bw_recovery.specs.declared.finding.Finding.{Finding}
+use Rattle.bw_recovery.specs.declared.finding.Finding.TheVariants.{Refused, Unbegun, Begun}
+use Rattle.bw_recovery.specs.declared.listing.FoundName.{FoundName}
 
 -- a take that is opened has a file of the server's, unless its name was taken
 abbrev pub makes_file : Parts → Bool

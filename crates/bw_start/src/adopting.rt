@@ -9,12 +9,11 @@ ghost use Rattle.bw_journal.specs.Stories.{story_of};
 ghost use Rattle.bw_folder.specs.TakeFolders.{takes_disk, takes_folder};
 ghost use Rattle.bw_folder.specs.JournalFolders.{journals_disk, open_journals};
 
-use crate::finding::Finding;
-use crate::listing::FoundName;
 use crate::restoring::StartFault;
 use bw_disk::Volume;
 use bw_folder::{FolderJournal, FolderStore};
 use bw_journal::Replayed;
+use bw_recovery::{Finding, FoundName};
 use bw_request::Name;
 use bw_session::KeptTake;
 use bw_take::TakeState;

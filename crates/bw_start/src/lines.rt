@@ -1,13 +1,10 @@
 //! What is reported of a folder that can't be resumed.
-ghost use Rattle.std.specs.Prelude.{◌≡◌, ◌++◌, ◌∷◌, [], ℕ, List, IfOk, OnOk, codes, string_bytes, decimal};
-ghost use Rattle.bw_start.specs.FaultLines.{fault_lines, refusal_lines, refusal_line, cause_text};
+ghost use Rattle.std.specs.Prelude.{◌≡◌, ◌++◌, ◌∷◌, [], ℕ, List, IfOk, OnOk};
+ghost use Rattle.bw_start.specs.FaultLines.{fault_lines, refusal_lines, refusal_line};
 ghost use Rattle.bw_start.specs.FaultLines.{many_line, folder_line, many_text};
-ghost use Rattle.bw_start.specs.FaultLines.{journal_text, file_cause_text};
 
-use crate::fault::FileFault;
-use crate::finding::NameFault;
 use crate::restoring::{RefusedName, StartFault};
-use bw_journal::ReplayFault;
+use bw_recovery::cause_of;
 use std::alloc::{AllocError, Global};
 
 impl StartFault {
@@ -56,51 +53,6 @@ fn put_line(
     let cause = cause_of(alloc, &refused.fault)?;
     let line = format!(in alloc; "{folder}/{name}.journal: {cause}\n")?;
     text.extend_from_slice(line.as_bytes())
-}
-
-/// Why a name can't be resumed.
-fn cause_of(alloc: Global, fault: &NameFault) -> Result<String, AllocError>
-    ensures { IfOk result (λ text. string_bytes text ≡ cause_text fault.now) }
-{
-    match fault {
-        NameFault::Journal(fault) => String::from_str(alloc, journal_cause(*fault)),
-        NameFault::OtherLimit(limit) => limit_cause(alloc, *limit),
-        NameFault::File(fault) => String::from_str(alloc, file_cause(*fault)),
-    }
-}
-
-/// The cause of a journal of another limit.
-fn limit_cause(alloc: Global, limit: u32) -> Result<String, AllocError>
-    ensures { IfOk result (λ text. string_bytes text ≡ codes "OtherLimit, needs --limit " ++ decimal limit) }
-{
-    format!(in alloc; "OtherLimit, needs --limit {limit}")
-}
-
-/// What is wrong with a journal.
-pub fn journal_cause(fault: ReplayFault) -> &'static str
-    ensures { result.now ≡ journal_text fault }
-{
-    match fault {
-        ReplayFault::NotBegun => "NotBegun",
-        ReplayFault::NotAJournal => "NotAJournal",
-        ReplayFault::OtherName => "OtherName",
-        ReplayFault::OtherLimit => "OtherLimit",
-        ReplayFault::OtherVerdict => "OtherVerdict",
-        ReplayFault::NotAnEntry => "NotAnEntry",
-        ReplayFault::Damaged => "Damaged",
-        ReplayFault::Memory => "Memory",
-    }
-}
-
-/// What is wrong with a file.
-pub fn file_cause(fault: FileFault) -> &'static str
-    ensures { result.now ≡ file_cause_text fault }
-{
-    match fault {
-        FileFault::Lost => "LostFile",
-        FileFault::Changed => "ChangedFile",
-        FileFault::Long => "LongFile",
-    }
 }
 
 /// The line of a folder in which too many names have done numbers.

@@ -1,6 +1,7 @@
 //! A start over a folder in which names may rest.
 ghost use Rattle.std.specs.Prelude.{◌≡◌, ◌++◌, ◌∷◌, [], ℕ, List, Option, IsTrue, IfOk, IfErr, OnOk};
-ghost use Rattle.std.specs.Prelude.{length, true, false};
+ghost use Rattle.std.specs.Prelude.{length, true, false, ◌↔◌};
+ghost use Rattle.std.specs.List.{Contains};
 ghost use Rattle.bw_disk.specs.DiskSteps.{StaysWhole};
 ghost use Rattle.bw_disk.specs.Volumes.{AreDistinct};
 ghost use Rattle.bw_start.specs.FaultLines.{folder_fault_lines, closed_lines, closed_line};
@@ -9,16 +10,15 @@ ghost use Rattle.bw_start.specs.RestingStarts.{StartsOver, RefusesStart, IsPlain
 ghost use Rattle.bw_start.specs.RestingStarts.{IsFolderUnchanged, NoneStandsInTheWay};
 ghost use Rattle.bw_start.specs.RestingStarts.{ListsThoseInTheWay, HasBoth, AddsIf, IsListOf};
 ghost use Rattle.bw_start.specs.declared.resting.Settings.{Settings as StartSettings};
-ghost use Rattle.bw_start.specs.StaysLeft.{BooksStayLeft};
+ghost use Rattle.bw_recovery.specs.StaysLeft.{BooksStayLeft};
 ghost use Rattle.bw_start.specs.StartedServers.{IsSetTo, OfEachBookLeft};
 
-use crate::ending::{Ending, is_there, list_files, push_name};
 use crate::restoring::StartFault;
 use crate::starting::start;
-use crate::watch::StartWatch;
 use bw_disk::{ReadFault, Volume};
 use bw_folder::{FolderJournal, FolderStore};
 use bw_layout::Limit;
+use bw_recovery::{Ending, StartWatch, list_files};
 use bw_request::Name;
 use bw_session::Server;
 use std::alloc::{AllocError, Global};
@@ -238,4 +238,21 @@ fn push_if(others: &[Name], name: &Name, names: &mut Vec<Name>) -> Result<(), Re
         return Ok(());
     }
     push_name(names, name.copy())
+}
+
+/// Adds a name.
+fn push_name(names: &mut Vec<Name>, name: Name) -> Result<(), ReadFault>
+    ensures pushed { OnOk result (names.new.items ≡ names.old.items ++ name ∷ []) }
+{
+    match names.push(name) {
+        Ok(()) => Ok(()),
+        Err(_) => Err(ReadFault::Memory),
+    }
+}
+
+/// Whether a name is among these.
+fn is_there(names: &[Name], name: &Name) -> bool
+    ensures { IsTrue result ↔ Contains names.now name.now }
+{
+    names.contains(name)
 }

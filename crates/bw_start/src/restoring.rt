@@ -5,19 +5,18 @@ ghost use Rattle.std.specs.List.{All};
 ghost use Rattle.bw_model.specs.Turn.{most_takes};
 ghost use Rattle.bw_disk.specs.DiskSteps.{StaysWhole};
 ghost use Rattle.bw_disk.specs.Volumes.{AreDistinct};
-ghost use Rattle.bw_start.specs.FoundNames.{found_names, IsFoundIn};
+ghost use Rattle.bw_recovery.specs.FoundNames.{found_names, IsFoundIn};
 ghost use Rattle.bw_start.specs.RestoredFolders.{IsRestoredIn, are_sound, count_done, with_done_name};
 ghost use Rattle.bw_start.specs.RestoredFolders.{with_refusal, KeepsTheRest};
 ghost use Rattle.bw_start.specs.RestoredFolders.{KeepsTakesBut, KeepsNotesBut, FindsFolder, IsFoundFault, IsPlainFault};
-ghost use Rattle.bw_start.specs.StaysLeft.{NamesStayLeft, BooksStayLeft};
+ghost use Rattle.bw_recovery.specs.StaysLeft.{NamesStayLeft, BooksStayLeft};
 ghost use Rattle.bw_start.specs.RestoredFolders.{ResumesFolder, RefusesFolder, IsUnchanged, refusal_as, refusals_of};
 
-use crate::finding::{Finding, NameFault};
-use crate::listing::{FoundName, list_names, look_at_each};
-use crate::resuming::restore_name;
-use crate::watch::StartWatch;
 use bw_disk::{ReadFault, Volume};
 use bw_layout::Limit;
+use bw_recovery::{
+    Finding, FoundName, NameFault, StartWatch, list_names, look_at_each, restore_name,
+};
 use bw_request::Name;
 use std::alloc::Global;
 

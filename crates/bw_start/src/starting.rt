@@ -8,19 +8,18 @@ ghost use Rattle.bw_session.specs.Books.{HoldsBook, NotesBook};
 ghost use Rattle.bw_start.specs.RestoredFolders.{IsUnchanged, RefusesFolder, KeepsTheRest, IsPlainFault};
 ghost use Rattle.bw_start.specs.RestoredFolders.{HasFewDone, IsSoundFolder, ResumesFolder, count_done};
 ghost use Rattle.bw_model.specs.Turn.{most_takes};
-ghost use Rattle.bw_start.specs.StaysLeft.{BooksStayLeft};
+ghost use Rattle.bw_recovery.specs.StaysLeft.{BooksStayLeft};
 ghost use Rattle.bw_start.specs.StartedServers.{IsLeftIn, IsSetTo, OfEachBookLeft};
 ghost use Rattle.bw_folder.specs.TakeFolders.{takes_disk};
 ghost use Rattle.bw_folder.specs.JournalFolders.{journals_disk};
 ghost use Rattle.bw_session.specs.SeenServers.{server_store, server_journal};
 
 use crate::adopting::adopt_each;
-use crate::listing::FoundName;
 use crate::restoring::{StartFault, restore_folder};
-use crate::watch::StartWatch;
 use bw_disk::Volume;
 use bw_folder::{FolderJournal, FolderStore};
 use bw_layout::Limit;
+use bw_recovery::{FoundName, StartWatch};
 use bw_session::Server;
 use std::alloc::{AllocError, Global};
 

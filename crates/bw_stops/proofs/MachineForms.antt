@@ -11,9 +11,9 @@ use Rattle.bw_disk.specs.declared.memory_disk.MemoryDisk.{MemoryDisk}
 use Rattle.bw_folder.specs.Folders.{take_path, take_content}
 use Rattle.bw_folder.specs.Journals.{journal_path, notes_at}
 use Rattle.bw_session.proofs.ResumeForms.{book_admits}
-use Rattle.bw_start.specs.LeftNames.{IsLeft}
-use Rattle.bw_start.specs.Paths.{path_with}
-use Rattle.bw_start.specs.StaysLeft.{IsLeftOf}
+use Rattle.bw_recovery.specs.LeftNames.{IsLeft}
+use Rattle.bw_recovery.specs.Paths.{path_with}
+use Rattle.bw_recovery.specs.StaysLeft.{IsLeftOf}
 use Rattle.bw_start.specs.StartedServers.{IsLeftIn}
 use Rattle.bw_left.specs.LeftFolders.{HasNoForeignFile}
 use Rattle.bw_left.proofs.LeftPaths.{in_folders}

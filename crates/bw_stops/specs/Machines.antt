@@ -15,7 +15,7 @@ use Rattle.bw_folder.specs.Journals.{notes_at}
 use Rattle.bw_folder.specs.TakeFolders.{takes_disk}
 use Rattle.bw_folder.specs.JournalFolders.{journals_disk}
 use Rattle.bw_journal.specs.Stops.{cut_book}
-use Rattle.bw_start.specs.LeftNames.{IsLeft}
+use Rattle.bw_recovery.specs.LeftNames.{IsLeft}
 use Rattle.bw_start.specs.StartedServers.{IsLeftIn}
 use Rattle.bw_left.specs.LeftFolders.{GoesAhead}
 use Rattle.bw_left.specs.StoppedTurns.{RunsHonestly}

@@ -1,7 +1,7 @@
 -- The paths of a take's files, and where they go if it is given up.
 use Rattle.std.proofs.Common.{◌≡◌, ◌≢◌, ◌+◌, ◌<◌, ℕ, Bool, true, false, List, ◌++◌, length, ap, refl, arith, length-append}
 use Rattle.std.specs.Prelude.{codes}
-use Rattle.bw_start.specs.Paths.{path_with}
+use Rattle.bw_recovery.specs.Paths.{path_with}
 use Rattle.bw_take_files.specs.GivenUp.{paths_in, journal_ending, journal_ending_aside, AreTakePathsApart}
 
 -- endings of other lengths make other paths

@@ -1,14 +1,14 @@
 -- What was read of a file from a place on, and entry after entry.
 use Rattle.std.proofs.Common.{◌≡◌, ◌⊎◌, ℕ, suc, ◌+◌, ◌≤◌, Bool, true, false, IsTrue, List, length, take, drop, Option, Some, None}
 use Rattle.std.proofs.Common.{inl, inr, refl, sym, ◌∙◌, ap, arith}
-use Rattle.std.specs.Prelude.{option_map, ◌==◌, if◌then◌else◌}
+use Rattle.std.specs.Prelude.{option_map, option_and_then, ◌==◌, if◌then◌else◌}
 use Rattle.std.specs.Str.{bytes_eq}
 use Rattle.std.proofs.lemmas.List.{length-drop, drop-drop, take_all}
 use Rattle.bw_disk.specs.declared.disk.Disk.{Ghosts}
 use Rattle.bw_disk.specs.DiskSteps.{StaysWhole}
 use Rattle.bw_disk.specs.Volumes.{ReadsFrom}
 use Rattle.bw_disk.proofs.PrefixReads.{IsReadTo}
-use Rattle.bw_journal.specs.Entries.{JournalEntry, first_entry}
+use Rattle.bw_journal.specs.Entries.{JournalEntry, entry_in, entry_with_len, first_content, first_entry}
 use Rattle.bw_journal.specs.JournalHeaders.{header_len}
 use Rattle.bw_take_files.specs.TakeSamples.{brought, entries_within, entries_of, first_changed, is_kept, samples_digest}
 
@@ -103,3 +103,21 @@ goes_on name found number place k m bytes x number' place' rest e first kept nex
     ∙ ap (λ (n : ℕ). first_changed name found n (place + brought x.0) (entries_within m (drop x.1 bytes))) (sym next)
     ∙ ap (λ (p : ℕ). first_changed name found number' p (entries_within m (drop x.1 bytes))) (sym at)
     ∙ ap (λ (b : List ℕ). first_changed name found number' place' (entries_within m b)) (sym same)
+
+-- the entry at the start of bytes, by its content
+pub first_read : (bytes content : List ℕ) (n : ℕ) (e : JournalEntry) → Some (content, n) ≡ first_content bytes →
+    Some e ≡ entry_in content → first_entry bytes ≡ Some (e, n)
+unfolding first_entry
+first_read bytes content n e read known =
+    ap (option_and_then entry_with_len) (sym read) ∙ ap (option_map (λ e. (e, n))) (sym known)
+
+-- and none
+pub first_none : (bytes : List ℕ) → None ≡ first_content bytes → first_entry bytes ≡ None
+unfolding first_entry
+first_none bytes none = ap (option_and_then entry_with_len) (sym none)
+
+pub first_other : (bytes content : List ℕ) (n : ℕ) → Some (content, n) ≡ first_content bytes →
+    None ≡ entry_in content → first_entry bytes ≡ None
+unfolding first_entry
+first_other bytes content n read none =
+    ap (option_and_then entry_with_len) (sym read) ∙ ap (option_map (λ e. (e, n))) (sym none)

@@ -2,7 +2,7 @@
 use Rattle.std.specs.Prelude.{◌≡◌, ◌≢◌, ◌⊎◌, ◌&&◌, ℕ, Bool, true, false, not, List, codes, string_bytes}
 use Rattle.std.specs.Prelude.{Option, Some, None, IsSome, is_some, Result, Ok, Err}
 use Rattle.bw_disk.specs.Volumes.{KeepsEach, KeepsAllBut}
-use Rattle.bw_start.specs.Paths.{path_with, wave_path, notes_path, rest_path}
+use Rattle.bw_recovery.specs.Paths.{path_with, wave_path, notes_path, rest_path}
 use Rattle.bw_take_files.specs.declared.giving_up.GiveUpFault.{GiveUpFault}
 use Rattle.bw_take_files.specs.declared.giving_up.GiveUpFault.TheVariants.{Unknown, Earlier, Disk, Memory}
 use Rattle.bw_take_files.specs.declared.giving_up.Places.{Places}

@@ -10,8 +10,8 @@ ghost use Rattle.bw_take_files.specs.GivenUp.{is_disk_failure, paths_in, paths_o
 ghost use Rattle.bw_take_files.specs.GivenUp.{IsPlainGiveUp, journal_ending, journal_ending_aside};
 
 use bw_disk::{ReadFault, Volume};
+use bw_recovery::path_in;
 use bw_request::Name;
-use bw_start::path_in;
 use std::alloc::Global;
 use thiserror::Error;
 

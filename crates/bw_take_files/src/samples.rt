@@ -1,8 +1,9 @@
 //! Comparing the samples of a take's file with the digests in its journal.
-ghost use Rattle.std.specs.Prelude.{◌≡◌, ◌≤◌, ◌*◌, ◌^◌, IsTrue, IfOk, List, ℕ, Some, length};
+ghost use Rattle.std.specs.Prelude.{◌≡◌, ◌≤◌, ◌*◌, ◌^◌, IsTrue, IfOk, IfSome, option_map, List, ℕ, Some, length};
 ghost use Rattle.bw_disk.specs.DiskSteps.{StaysWhole};
 ghost use Rattle.bw_model.specs.Bytes.{zeros as zero_bytes};
 ghost use Rattle.bw_model.specs.Limits.{longest_block, longest_body};
+ghost use Rattle.bw_journal.specs.Entries.{first_content as first_content_of};
 ghost use Rattle.bw_take_files.specs.BlockDigests.{block_digest_at, has_digest, IsBlockNear};
 ghost use Rattle.bw_take_files.specs.BlockDigests.{KeepsBlockDigests};
 ghost use Rattle.bw_take_files.specs.TakeSamples.{changed_in, entries_of, samples_digest};
@@ -13,9 +14,9 @@ use crate::bodies::{LONGEST_BODY, read_from};
 use crate::stored_block::{EntryPlace, JournalRef, StoredBlock, brought};
 use bw_digest::LANES;
 use bw_disk::{ReadFault, Volume};
-use bw_journal::{JournalHeader, first_entry};
+use bw_journal::{JOURNAL_MAX, JournalHeader, entry_of, first_content};
+use bw_recovery::data_place;
 use bw_request::{LONGEST_BLOCK, Name};
-use bw_start::{JOURNAL_MAX, data_place};
 use bw_take::TakeState;
 use sha2::{Digest, Sha256};
 use std::alloc::{AllocError, Global};
@@ -83,6 +84,7 @@ fn compare_file<D: Volume>(
         name,
         bytes: journal,
         zeros: &zeros,
+        alloc,
     };
     first_changed(disk, file, &journal, start, &mut room)
 }
@@ -108,7 +110,8 @@ fn try_zeros(alloc: Global, len: usize) -> Result<Vec<u8>, AllocError>
 /// numbers follow one another from this offset on.
 ///
 /// # Errors
-/// `Disk` if a call of the disk failed; `Memory` if the journal has more than 2^32 numbers.
+/// `Disk` if a call of the disk failed; `Memory` if memory was refused, or the journal has more than
+/// 2^32 numbers.
 fn first_changed<D: Volume>(
     disk: &mut D,
     file: &mut D::File,
@@ -126,11 +129,15 @@ fn first_changed<D: Volume>(
         v ≡ first_changed_of journal.now.name.now found 0 start
         (entries_of journal.now.bytes.now)) }
 {
+    let mut content = Vec::new(journal.alloc);
     let mut ahead = ReadAhead::new();
     let mut used = JournalHeader::LEN.min(journal.bytes.len());
     let mut offset = start;
     for step in 0..journal.bytes.len() {
-        let Some((entry, len)) = first_entry(&journal.bytes[used..], journal.zeros) else {
+        let Some(len) = read_content(&journal.bytes[used..], &mut content)? else {
+            return Ok(None);
+        };
+        let Some(entry) = entry_of(content.as_slice(), journal.zeros) else {
             return Ok(None);
         };
         let Ok(number) = u32::try_from(step) else {
@@ -155,6 +162,22 @@ fn first_changed<D: Volume>(
         offset += block.len as u64;
     }
     Ok(None)
+}
+
+/// Reads the content of the entry at the start of the bytes, and returns how many bytes the entry
+/// takes.
+///
+/// # Errors
+/// `Memory` if memory was refused.
+fn read_content(bytes: &[u8], content: &mut Vec<u8>) -> Result<Option<usize>, ReadFault>
+    ensures value { IfOk result (λ found.
+        option_map (λ n. (content.new.items, n)) found ≡ first_content_of bytes.now) }
+    ensures within { IfOk result (λ found. IfSome found (λ n. n ≤ length bytes.now)) }
+{
+    match first_content(bytes, content) {
+        Ok(found) => Ok(found),
+        Err(_) => Err(ReadFault::Memory),
+    }
 }
 
 /// Whether the samples of a block are in a file, where this is the digest of its message's body.

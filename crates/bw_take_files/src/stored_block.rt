@@ -1,5 +1,5 @@
 //! The blocks that a journal says are in a take's file, and where.
-ghost use Rattle.std.specs.Prelude.{◌≡◌, ◌≤◌, ◌+◌, ◌*◌, IsTrue, length};
+ghost use Rattle.std.specs.Prelude.{◌≡◌, ◌≤◌, ◌+◌, ◌*◌, IsTrue, IfSome, length};
 ghost use Rattle.bw_model.specs.Bytes.{zeros as zero_bytes};
 ghost use Rattle.bw_model.specs.Limits.{longest_block};
 ghost use Rattle.bw_model.specs.Wire.{is_request};
@@ -10,8 +10,9 @@ ghost use Rattle.bw_take_files.specs.TakeSamples.{brought as brought_by};
 ghost use Rattle.bw_take_files.specs.BlockDigests.{block_at, IsBlockNear};
 
 use bw_digest::LANES;
-use bw_journal::{EntryRef, first_entry};
+use bw_journal::{EntryRef, entry_of, first_content};
 use bw_request::{Name, RequestRef};
+use std::alloc::Global;
 
 /// Hashing in lanes takes as long as hashing this many blocks of the longest one's length one after
 /// another.
@@ -37,6 +38,8 @@ pub(crate) struct JournalRef<'a> {
     pub(crate) bytes: &'a [u8],
     /// As many zeros as a block has bytes at most.
     pub(crate) zeros: &'a [u8],
+    /// Where its entries are read to.
+    pub(crate) alloc: Global,
 }
 
 /// The place of an entry.
@@ -63,6 +66,7 @@ pub(crate) fn next_blocks(journal: &JournalRef<'_>, from: EntryPlace) -> ([Store
         offset: 0,
         len: 0,
     }; LANES];
+    let mut content = Vec::new(journal.alloc);
     let mut lane = 0;
     let mut start = from.start;
     let mut offset = from.offset;
@@ -70,7 +74,10 @@ pub(crate) fn next_blocks(journal: &JournalRef<'_>, from: EntryPlace) -> ([Store
         if lane == LANES {
             return (blocks, number);
         }
-        let Some((entry, len)) = first_entry(&journal.bytes[start..], journal.zeros) else {
+        let Some(len) = read_next(&journal.bytes[start..], &mut content) else {
+            return (blocks, u32::MAX);
+        };
+        let Some(entry) = entry_of(content.as_slice(), journal.zeros) else {
             return (blocks, u32::MAX);
         };
         let samples = brought(&entry);
@@ -86,6 +93,17 @@ pub(crate) fn next_blocks(journal: &JournalRef<'_>, from: EntryPlace) -> ([Store
         offset += samples as u64;
     }
     (blocks, u32::MAX)
+}
+
+/// Reads the content of the next entry, and returns how many bytes the entry takes; None if there
+/// is none, or memory was refused.
+fn read_next(bytes: &[u8], content: &mut Vec<u8>) -> Option<usize>
+    ensures { IfSome result (λ n. n ≤ length bytes.now) }
+{
+    match first_content(bytes, content) {
+        Ok(found) => found,
+        Err(_) => None,
+    }
 }
 
 /// How many bytes of samples an entry brought: those of a block that is stored.

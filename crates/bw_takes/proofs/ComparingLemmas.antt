@@ -5,7 +5,7 @@ use Rattle.std.specs.Option.{option_or}
 use Rattle.bw_journal.specs.Replays.{Story, JournalFault}
 use Rattle.bw_journal.specs.Rows.{row_count}
 use Rattle.bw_journal.specs.declared.story.Replayed.{Replayed}
-use Rattle.bw_start.specs.Names.{NameFault}
+use Rattle.bw_recovery.specs.Names.{NameFault}
 use Rattle.bw_takes.specs.TakeFindings.{IsFoundBy, IsTakeFoundOf}
 use Rattle.bw_takes.specs.TakeSummaries.{TakeSummary, Faulty, changed_beside, changed_by, checked_summary}
 use Rattle.bw_takes.specs.TakeSummaries.{judged_summary, story_summary, take_summary}

@@ -8,9 +8,9 @@ use Rattle.std.proofs.lemmas.List.{take-take, drop-take}
 use Rattle.bw_model.specs.File.{data_place}
 use Rattle.bw_model.specs.Layout.{head}
 use Rattle.bw_model.specs.Take.{Parts}
-use Rattle.bw_start.specs.FilesRead.{SeesRead}
-use Rattle.bw_start.specs.Names.{begins_form, begins_take}
-use Rattle.bw_start.specs.declared.reading.FileRead.{FileRead}
+use Rattle.bw_recovery.specs.FilesRead.{SeesRead}
+use Rattle.bw_recovery.specs.Names.{begins_form, begins_take}
+use Rattle.bw_recovery.specs.declared.reading.FileRead.{FileRead}
 
 form_within : (m : ℕ) (id first bytes : List ℕ) → 12 ≤ m →
     begins_form id first (take (8 + m) bytes) ≡ begins_form id first bytes

@@ -11,10 +11,10 @@ use Rattle.std.proofs.lemmas.Str.{IsUtf8-append, IsUtf8-take, IsUtf8-from_ascii,
 use Rattle.std.proofs.Math.Seq.{take-append_seam}
 use Rattle.bw_model.specs.Wire.{is_name}
 use Rattle.bw_disk.specs.Volumes.{Lists, is_listed, in_folder}
-use Rattle.bw_start.proofs.PathLemmas.{path_listed, wave_no_notes, wave_no_rest, rest_no_notes}
-use Rattle.bw_start.proofs.NameBytes.{journal_is_listed, journal_is_utf8, ending_is_listed, ending_is_utf8, small_ascii}
-use Rattle.bw_start.specs.declared.ending.Ending.TheVariants.{Closed}
-use Rattle.bw_start.proofs.ListForms.{contains_step}
+use Rattle.bw_recovery.proofs.PathLemmas.{path_listed, wave_no_notes, wave_no_rest, rest_no_notes}
+use Rattle.bw_recovery.proofs.NameBytes.{journal_is_listed, journal_is_utf8, ending_is_listed, ending_is_utf8, small_ascii}
+use Rattle.bw_recovery.specs.declared.ending.Ending.TheVariants.{Closed}
+use Rattle.bw_recovery.proofs.ListForms.{contains_step}
 use Rattle.bw_takes.specs.TakeNames.{IsFileOf, IsTakeIn, ListsTakes, AddsTake}
 
 -- the text of an item stands at its index among the texts of all

@@ -4,7 +4,7 @@ use Rattle.bw_console.specs.Outcomes.{Outcome}
 use Rattle.bw_console.specs.declared.exit.Exit.{Exit}
 use Rattle.bw_disk.specs.DiskSteps.{StaysWhole}
 use Rattle.bw_disk.specs.declared.disk.Disk.{Ghosts}
-use Rattle.bw_start.proofs.LookForms.{whole_next}
+use Rattle.bw_recovery.proofs.LookForms.{whole_next}
 use Rattle.bw_stream.specs.declared.sink.Sink.{Ghosts as Writer}
 use Rattle.bw_takes.specs.FolderProgress.{fails_folder, reads_folder}
 use Rattle.bw_takes.specs.Watches.{AreWatchRounds, EndsWatch, IsLastRound, IsWatchOver, Watches, WatchWorld, watch_side}

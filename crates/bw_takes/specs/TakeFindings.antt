@@ -2,11 +2,11 @@
 use Rattle.std.specs.Prelude.{◌≡◌, ℕ, Option, Some, None, IsSome, Result, Ok, Err, List, length}
 use Rattle.std.specs.Prelude.{◌&&◌, Bool, is_some}
 use Rattle.std.specs.Option.{option_or}
-use Rattle.bw_start.specs.Paths.{notes_path, rest_path}
+use Rattle.bw_recovery.specs.Paths.{notes_path, rest_path}
 use Rattle.bw_journal.specs.Replays.{Story, JournalFault, NotBegun, replay}
 use Rattle.bw_journal.specs.Stories.{story_of}
-use Rattle.bw_start.specs.Findings.{cause_of}
-use Rattle.bw_start.specs.Names.{NameFault, fault_beside}
+use Rattle.bw_recovery.specs.Findings.{cause_of}
+use Rattle.bw_recovery.specs.Names.{NameFault, fault_beside}
 use Rattle.bw_takes.specs.TakeLines.{own_limit}
 use Rattle.bw_takes.specs.declared.finding.TakeFinding.{TakeFinding}
 use Rattle.bw_takes.specs.declared.finding.TakeFinding.TheVariants.{Stood, Unbegun, Refused, Begun, Changed}

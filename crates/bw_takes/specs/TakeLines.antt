@@ -1,27 +1,32 @@
 -- The parts of the line of a take, and what it is judged by.
-use Rattle.std.specs.Prelude.{◌/◌, ◌%◌, ◌*◌, ◌==◌, ◌&&◌, ℕ, Bool}
+use Rattle.std.specs.Prelude.{◌/◌, ◌%◌, ◌*◌, ◌==◌, ◌&&◌, ℕ, Bool, Result, Ok, Err}
 use Rattle.std.specs.Prelude.{List, [], ◌∷◌, ◌++◌, codes, decimal, length, take, drop}
 use Rattle.std.specs.Prelude.{min, nat_le, if◌then◌else◌}
+use Rattle.hex.specs.Hex.{decode_sized}
+use Rattle.hex.specs.declared.error.FromHexError.{FromHexError}
 use Rattle.bw_model.specs.Bytes.{u32_at}
+use Rattle.bw_journal.specs.Lines.{before_zero}
 use Rattle.bw_journal.specs.Replays.{JournalFault, NotBegun, NotAJournal, OtherName, OtherLimit}
 use Rattle.bw_journal.specs.Replays.{OtherVerdict, NotAnEntry, Damaged}
 use Rattle.bw_journal.specs.declared.fault.ReplayFault.{ReplayFault}
 use Rattle.bw_journal.specs.declared.fault.ReplayFault.TheVariants as faults
-use Rattle.bw_start.specs.FaultLines.{file_cause_text, journal_text}
-use Rattle.bw_start.specs.Names.{NameFault, OfJournal, OfFile}
+use Rattle.bw_recovery.specs.Causes.{file_cause_text, journal_text}
+use Rattle.bw_recovery.specs.Names.{NameFault, OfJournal, OfFile}
 
 -- the largest limit
 abbrev pub largest_limit : ℕ
 largest_limit = 4294967294
 
--- how a journal of the largest limit begins, but for four bytes of its length and four of its kind
+-- how a journal of the largest limit begins
 abbrev pub usual_front : List ℕ
-usual_front = 0 ∷ 0 ∷ 0 ∷ 0 ∷ 0 ∷ 0 ∷ 0 ∷ 0 ∷ 254 ∷ 255 ∷ 255 ∷ 255 ∷ []
+usual_front = codes "BWJ2feffffff"
 
--- the first twelve bytes of a journal; where it ends earlier, those of the largest limit follow
+-- the first twelve bytes of a journal; where it ends earlier, or is zero, those of the largest limit
+-- follow
 abbrev pub journal_front : List ℕ → List ℕ
 journal_front journal =
-    take (min 12 (length journal)) journal ++ drop (min 12 (length journal)) usual_front
+    take (min 12 (length (before_zero journal))) (before_zero journal)
+    ++ drop (min 12 (length (before_zero journal))) usual_front
 
 -- a server may have this limit
 abbrev pub is_limit : ℕ → Bool
@@ -31,9 +36,15 @@ is_limit n = nat_le 8192 n && nat_le n largest_limit && (n % 2 == 0)
 abbrev pub limit_or_largest : ℕ → ℕ
 limit_or_largest n = if is_limit n then n else largest_limit
 
--- the limit of the server that began a journal, as its header has it from the ninth byte on
+-- the limit that these digits spell, or the largest
+abbrev pub limit_spelled : Result (List ℕ) FromHexError → ℕ
+limit_spelled (Err e) = largest_limit
+limit_spelled (Ok bytes) = limit_or_largest (u32_at bytes 0)
+
+-- the limit of the server that began a journal, as its header has it in eight digits from the fifth
+-- byte on
 unfoldable pub own_limit : List ℕ → ℕ
-own_limit journal = limit_or_largest (u32_at (journal_front journal) 8)
+own_limit journal = limit_spelled (decode_sized (take 8 (drop 4 (journal_front journal))) 4)
 
 -- what is left of so many frames at a rate after whole seconds, in thousandths, rounded down
 abbrev pub thousandths : ℕ → ℕ → ℕ

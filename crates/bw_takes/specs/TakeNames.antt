@@ -5,8 +5,8 @@ use Rattle.std.specs.List.Sorted.{IsStrictlySortedBy}
 use Rattle.std.specs.Ordering.{nat_cmp}
 use Rattle.std.specs.Cmp.Lexicographic.{slice_cmp}
 use Rattle.bw_model.specs.Wire.{is_name}
-use Rattle.bw_start.specs.FoundNames.{AddsNameOf}
-use Rattle.bw_start.specs.Paths.{wave_path, notes_path, rest_path}
+use Rattle.bw_recovery.specs.FoundNames.{AddsNameOf}
+use Rattle.bw_recovery.specs.Paths.{wave_path, notes_path, rest_path}
 
 -- a file of this name is the journal of a take, at rest or not, or its samples
 abbrev pub IsFileOf : List ℕ → List ℕ → Type 0

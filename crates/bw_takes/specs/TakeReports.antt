@@ -7,10 +7,10 @@ use Rattle.bw_journal.specs.Rows.{row_count}
 use Rattle.bw_takes.specs.declared.listing.LineStyle.{LineStyle}
 use Rattle.bw_takes.specs.declared.listing.TakesReport.{TakesReport}
 use Rattle.bw_takes.specs.declared.listing.LineStyle.TheVariants.{Words, Json}
-use Rattle.bw_start.specs.FaultLines.{journal_text, file_cause_text}
-use Rattle.bw_start.specs.Paths.{wave_path}
-use Rattle.bw_start.specs.declared.finding.NameFault.{NameFault as Fault}
-use Rattle.bw_start.specs.declared.finding.NameFault.TheVariants.{Journal, OtherLimit, File}
+use Rattle.bw_recovery.specs.Causes.{journal_text, file_cause_text}
+use Rattle.bw_recovery.specs.Paths.{wave_path}
+use Rattle.bw_recovery.specs.declared.finding.NameFault.{NameFault as Fault}
+use Rattle.bw_recovery.specs.declared.finding.NameFault.TheVariants.{Journal, OtherLimit, File}
 use Rattle.bw_takes.specs.TakeFindings.{has_two_journals, journal_in}
 use Rattle.bw_takes.specs.TakeLines.{next_line, numbered_line, opened_line, state_word, word_line}
 use Rattle.bw_takes.specs.TakeNames.{ListsTakes, AreNamesInOrder}

@@ -4,7 +4,7 @@ use Rattle.std.specs.Prelude.{if◌then◌else◌}
 use Rattle.bw_model.specs.Take.{Parts, Format, frames}
 use Rattle.bw_journal.specs.Replays.{Story, JournalFault, replay}
 use Rattle.bw_journal.specs.Rows.{row_count}
-use Rattle.bw_start.specs.Names.{NameFault, name_fault}
+use Rattle.bw_recovery.specs.Names.{NameFault, name_fault}
 use Rattle.bw_take_files.specs.TakeSamples.{changed_in}
 use Rattle.bw_takes.specs.TakeLines.{own_limit, take_fault_text}
 

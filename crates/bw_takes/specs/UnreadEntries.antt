@@ -1,6 +1,6 @@
 -- Files of takes that can't be read.
 use Rattle.std.specs.Prelude.{ℕ, List, ◌++◌, codes}
-use Rattle.bw_start.specs.Paths.{path_with}
+use Rattle.bw_recovery.specs.Paths.{path_with}
 use Rattle.bw_takes.specs.declared.unread.TakeEntry.{TakeEntry}
 use Rattle.bw_takes.specs.declared.unread.TakeEntry.TheVariants.{Wave, Journal, Closed}
 

@@ -2,10 +2,10 @@
 ghost use Rattle.std.specs.Prelude.{◌≡◌, IsTrue, IfOk, false};
 ghost use Rattle.std.specs.Option.{option_map_or};
 ghost use Rattle.bw_disk.specs.DiskSteps.{StaysWhole};
-ghost use Rattle.bw_start.specs.Names.{begins_take};
+ghost use Rattle.bw_recovery.specs.Names.{begins_take};
 
 use bw_disk::{ReadFault, Volume};
-use bw_start::{is_take, read_take};
+use bw_recovery::{is_take, read_take};
 use bw_take::TakeState;
 use std::alloc::Global;
 

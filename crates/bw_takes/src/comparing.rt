@@ -2,7 +2,7 @@
 ghost use Rattle.std.specs.Prelude.{◌≡◌, IsTrue, IfOk, option_map};
 ghost use Rattle.bw_disk.specs.DiskSteps.{StaysWhole};
 ghost use Rattle.bw_journal.specs.Rows.{row_count};
-ghost use Rattle.bw_start.specs.Paths.{wave_path, notes_path, rest_path};
+ghost use Rattle.bw_recovery.specs.Paths.{wave_path, notes_path, rest_path};
 ghost use Rattle.bw_takes.specs.TakeFindings.{IsTakeFoundOf, journal_in as journal_of};
 ghost use Rattle.bw_takes.specs.TakeReports.{finding_summary, summary_in};
 ghost use Rattle.bw_takes.specs.TakeSummaries.{changed_beside, checked_summary, story_summary};
@@ -10,8 +10,8 @@ ghost use Rattle.bw_takes.specs.TakeSummaries.{changed_beside, checked_summary, 
 use crate::finding::{TakeFinding, look_at_take};
 use bw_disk::{ReadFault, Volume, read_file};
 use bw_journal::Replayed;
+use bw_recovery::path_in;
 use bw_request::Name;
-use bw_start::path_in;
 use bw_take::TakeState;
 use bw_take_files::find_changed;
 use std::alloc::Global;

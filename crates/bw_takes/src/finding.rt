@@ -4,25 +4,25 @@ ghost use Rattle.bw_disk.specs.DiskSteps.{StaysWhole};
 ghost use Rattle.bw_journal.specs.Faults.{IsJournalFault};
 ghost use Rattle.bw_journal.specs.Replays.{Story, JournalFault, NotBegun as not_begun};
 ghost use Rattle.bw_journal.specs.Stories.{story_of};
-ghost use Rattle.bw_start.specs.FilesRead.{SeesRead};
-ghost use Rattle.bw_start.specs.Paths.{wave_path, notes_path, rest_path};
+ghost use Rattle.bw_recovery.specs.FilesRead.{SeesRead};
+ghost use Rattle.bw_recovery.specs.Paths.{wave_path, notes_path, rest_path};
 ghost use Rattle.bw_takes.specs.TakeFindings.{IsTakeFound, IsTakeFoundOf, IsFoundBeside, IsLengthOf};
-ghost use Rattle.bw_takes.specs.TakeLines.{own_limit as limit_in};
+ghost use Rattle.hex.specs.Hex.{decode_sized};
+ghost use Rattle.bw_takes.specs.TakeLines.{own_limit as limit_in, limit_spelled as limit_spelled_by};
+ghost use Rattle.bw_takes.specs.TakeLines.{limit_or_largest as limit_or_largest_of, journal_front};
 
 use crate::beginning::is_take_at;
 use bw_bytes::read_u32;
 use bw_disk::{ReadFault, Volume, read_file};
-use bw_journal::{ReplayFault, Replayed, replay};
+use bw_journal::{JOURNAL_MAX, ReplayFault, Replayed, before_zero, replay};
 use bw_layout::Limit;
+use bw_recovery::{FileRead, NameFault, data_end, header_if, judge_file, path_in, read_take};
 use bw_request::Name;
-use bw_start::{
-    FileRead, JOURNAL_MAX, NameFault, data_end, header_if, judge_file, path_in, read_take,
-};
 use bw_take::TakeState;
 use std::alloc::Global;
 
-/// How a journal of the largest limit begins, but for its first eight bytes.
-const USUAL_FRONT: [u8; 12] = [0, 0, 0, 0, 0, 0, 0, 0, 254, 255, 255, 255];
+/// How a journal of the largest limit begins.
+const USUAL_FRONT: [u8; 12] = *b"BWJ2feffffff";
 
 /// What is found of a take.
 #[derive(Drop)]
@@ -146,10 +146,37 @@ fn judge_journal<D: Volume>(
 fn own_limit(journal: &[u8]) -> Limit
     ensures { result ≡ limit_in journal.now }
 {
+    let front = front_of(journal);
+    limit_spelled(&front[4..])
+}
+
+/// The first bytes of a journal, and after them those of the largest limit.
+fn front_of(journal: &[u8]) -> [u8; 12]
+    ensures { result ≡ journal_front journal.now }
+{
+    let begun = before_zero(journal);
     let mut front = USUAL_FRONT;
-    let len = journal.len().min(12);
-    front[..len].copy_from_slice(&journal[..len]);
-    match Limit::new(u64::from(read_u32(&front, 8))) {
+    let len = begun.len().min(12);
+    front[..len].copy_from_slice(&begun[..len]);
+    front
+}
+
+/// The limit that these digits spell, or the largest.
+fn limit_spelled(digits: &[u8]) -> Limit
+    ensures { result ≡ limit_spelled_by (decode_sized digits.now 4) }
+{
+    let mut limit = [0u8; 4];
+    match hex::decode_to_slice(digits, &mut limit) {
+        Ok(()) => limit_or_largest(read_u32(&limit, 0)),
+        Err(_) => Limit::default(),
+    }
+}
+
+/// This limit, or the largest if a server can't have it.
+fn limit_or_largest(bytes: u32) -> Limit
+    ensures { result ≡ limit_or_largest_of bytes }
+{
+    match Limit::new(u64::from(bytes)) {
         Some(limit) => limit,
         None => Limit::default(),
     }

@@ -8,8 +8,8 @@ ghost use Rattle.bw_takes.specs.TakeSummaries.{story_summary};
 
 use crate::finding::TakeFinding;
 use bw_journal::Replayed;
+use bw_recovery::{NameFault, file_cause, journal_cause};
 use bw_request::Name;
-use bw_start::{NameFault, file_cause, journal_cause};
 use std::alloc::{AllocError, Global};
 
 impl TakeFinding {

@@ -13,8 +13,8 @@ use crate::naming::takes_in;
 use crate::printing::unread_line;
 use crate::unread::{ending, find_unread};
 use bw_disk::{ReadFault, Volume};
+use bw_recovery::path_in;
 use bw_request::Name;
-use bw_start::path_in;
 use std::alloc::{AllocError, Global};
 
 /// How a take is reported.

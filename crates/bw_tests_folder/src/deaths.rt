@@ -17,10 +17,10 @@ fn noted(journal: &mut Mortal) -> Result<usize, Fail> {
     if journal.begin(&name).is_err() {
         return Ok(0);
     }
-    if journal.note(&name, 29, NOTES[0]).is_err() {
+    if journal.note(&name, 47, NOTES[0]).is_err() {
         return Ok(1);
     }
-    if journal.note(&name, 43, NOTES[1]).is_err() {
+    if journal.note(&name, 61, NOTES[1]).is_err() {
         return Ok(2);
     }
     Ok(3)
@@ -48,10 +48,10 @@ fn goes_on(alloc: Global, disk: MemoryDisk, done: usize) -> Result<bool, Fail> {
     let mut journal = FolderJournal::over(disk, alloc, FOLDER, limit()?, false)?;
     journal.begin(&name)?;
     if done < 2 {
-        journal.note(&name, 29, NOTES[0])?;
+        journal.note(&name, 47, NOTES[0])?;
     }
     if done < 3 {
-        journal.note(&name, 43, NOTES[1])?;
+        journal.note(&name, 61, NOTES[1])?;
     }
     let whole = with_header(alloc, &NOTES)?;
     Ok(journal.disk().content(PATH) == Some(whole.as_slice()))
@@ -78,7 +78,7 @@ fn survives_each(alloc: Global, sync: bool, reached: usize) -> Result<bool, Fail
 #[test]
 fn what_was_reported_survives_each_death(rt: HostRuntime) -> Result<(), Fail> {
     for sync in [false, true] {
-        for reached in [0, 1, 28, 29, 40] {
+        for reached in [0, 1, 46, 47, 58] {
             assert!(rt; survives_each(rt.alloc(), sync, reached)?);
         }
     }

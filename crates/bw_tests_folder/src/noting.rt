@@ -61,8 +61,8 @@ fn notes_follow_the_header(rt: HostRuntime) -> Result<(), Fail> {
         assert!(rt; journal.note(&name, 0, NOTES[0]).is_err());
         journal.begin(&name)?;
         journal.begin(&name)?;
-        journal.note(&name, 29, NOTES[0])?;
-        journal.note(&name, 43, NOTES[1])?;
+        journal.note(&name, 47, NOTES[0])?;
+        journal.note(&name, 61, NOTES[1])?;
         let wanted = with_header(alloc, &NOTES)?;
         assert!(rt; journal.disk().content(PATH) == Some(wanted.as_slice()));
     }
@@ -78,7 +78,7 @@ fn an_adopted_journal_goes_on(rt: HostRuntime) -> Result<(), Fail> {
     assert!(rt; !journal.adopt(&Name::new(b"c3").ok_or("a name")?, false)?);
     assert!(rt; journal.adopt(&name, false)?);
     assert!(rt; !journal.adopt(&name, false)?);
-    journal.note(&name, 43, NOTES[1])?;
+    journal.note(&name, 61, NOTES[1])?;
     let wanted = with_header(alloc, &NOTES)?;
     assert!(rt; journal.disk().content(PATH) == Some(wanted.as_slice()));
     Ok(())

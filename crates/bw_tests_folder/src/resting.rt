@@ -40,13 +40,13 @@ fn a_journal_rests_and_wakes(rt: HostRuntime) -> Result<(), Fail> {
     let mut journal = over(MemoryDisk::new(alloc), alloc, false)?;
     assert!(rt; !journal.rest(&name)?);
     journal.begin(&name)?;
-    journal.note(&name, 29, NOTES[0])?;
+    journal.note(&name, 47, NOTES[0])?;
     assert!(rt; !journal.wake(&name)?);
     assert!(rt; journal.rest(&name)?);
     assert!(rt; has(alloc, journal.inner().disk(), CLOSED, PATH, &NOTES[..1])?);
     assert!(rt; !journal.rest(&name)?);
     assert!(rt; journal.begin(&name).is_err());
-    assert!(rt; journal.note(&name, 43, NOTES[1]).is_err());
+    assert!(rt; journal.note(&name, 61, NOTES[1]).is_err());
     let read = journal.read_resting(&name)?.ok_or("what rests")?;
     assert!(rt; read.as_slice() == with_header(alloc, &NOTES[..1])?.as_slice());
     assert!(rt; journal.wake(&name)?);
@@ -61,13 +61,13 @@ fn a_journal_that_woke_goes_on(rt: HostRuntime) -> Result<(), Fail> {
     let name = a1()?;
     let mut journal = over(MemoryDisk::new(alloc), alloc, true)?;
     journal.begin(&name)?;
-    journal.note(&name, 29, NOTES[0])?;
+    journal.note(&name, 47, NOTES[0])?;
     assert!(rt; journal.rest(&name)?);
     assert!(rt; journal.wake(&name)?);
     assert!(rt; journal.rest(&name)?);
     assert!(rt; journal.wake(&name)?);
     assert!(rt; journal.begin(&name).is_err());
-    journal.note(&name, 43, NOTES[1])?;
+    journal.note(&name, 61, NOTES[1])?;
     assert!(rt; has(alloc, journal.inner().disk(), PATH, CLOSED, &NOTES)?);
     assert!(rt; journal.rest(&name)?);
     let disk = journal.into_inner().into_disk();
@@ -90,10 +90,10 @@ fn lived(journal: &mut Mortal) -> Result<usize, Fail> {
 fn succeeds(journal: &mut Mortal, name: &Name, call: usize) -> bool {
     match call {
         0 => journal.begin(name).is_ok(),
-        1 => journal.note(name, 29, NOTES[0]).is_ok(),
+        1 => journal.note(name, 47, NOTES[0]).is_ok(),
         2 => journal.rest(name).is_ok(),
         3 => journal.wake(name).is_ok(),
-        4 => journal.note(name, 43, NOTES[1]).is_ok(),
+        4 => journal.note(name, 61, NOTES[1]).is_ok(),
         _ => journal.rest(name).is_ok(),
     }
 }
@@ -137,10 +137,10 @@ fn goes_on(alloc: Global, disk: MemoryDisk, done: usize) -> Result<bool, Fail> {
         journal.begin(&name)?;
     }
     if done < 2 {
-        journal.note(&name, 29, NOTES[0])?;
+        journal.note(&name, 47, NOTES[0])?;
     }
     if done < 5 {
-        journal.note(&name, 43, NOTES[1])?;
+        journal.note(&name, 61, NOTES[1])?;
     }
     let rested = journal.rest(&name)?;
     let disk = journal.into_inner().into_disk();
@@ -171,7 +171,7 @@ fn survives_each(alloc: Global, sync: bool, reached: usize) -> Result<bool, Fail
 #[test]
 fn a_rest_survives_each_death(rt: HostRuntime) -> Result<(), Fail> {
     for sync in [false, true] {
-        for reached in [0, 1, 29] {
+        for reached in [0, 1, 47] {
             assert!(rt; survives_each(rt.alloc(), sync, reached)?);
         }
     }

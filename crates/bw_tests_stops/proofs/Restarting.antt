@@ -17,7 +17,7 @@ use Rattle.bw_folder.specs.declared.journal.FolderJournal.{FolderJournal}
 use Rattle.bw_wire.specs.declared.reply.Reply.{Reply}
 use Rattle.bw_session.specs.SeenServers.{server_store, server_journal, server_limit}
 use Rattle.bw_session.specs.declared.server.Server.{Server}
-use Rattle.bw_start.specs.Paths.{wave_path, notes_path, rest_path}
+use Rattle.bw_recovery.specs.Paths.{wave_path, notes_path, rest_path}
 use Rattle.bw_start.specs.RestingStarts.{StartsOver}
 use Rattle.bw_start.specs.StartedServers.{IsLeftIn, IsSetTo}
 use Rattle.bw_start.specs.declared.resting.Settings.{Settings}

@@ -7,7 +7,7 @@ use Rattle.std.specs.List.{ends_with}
 use Rattle.std.specs.Option.{option_or}
 use Rattle.std.proofs.lemmas.List.{get_or-append-add}
 use Rattle.bw_disk.specs.MemoryDisks.{copied_at}
-use Rattle.bw_start.specs.Paths.{path_with, wave_path, notes_path, rest_path}
+use Rattle.bw_recovery.specs.Paths.{path_with, wave_path, notes_path, rest_path}
 use Rattle.bw_left.specs.ShownFolders.{ShowsRestingFolder}
 use Rattle.bw_stops.proofs.Endings.{ends_so, ends_other}
 use Rattle.bw_tests_stops.specs.RestingRuns.{Paths, no_files}

@@ -19,7 +19,7 @@ use Rattle.bw_rest.specs.RestingServers.{table_server}
 use Rattle.bw_rest.specs.declared.resting.RestingServer.{RestingServer}
 use Rattle.bw_start.specs.RestingStarts.{StartsOver}
 use Rattle.bw_start.specs.RestoredFolders.{KeepsTheRest}
-use Rattle.bw_start.specs.StaysLeft.{BooksStayLeft}
+use Rattle.bw_recovery.specs.StaysLeft.{BooksStayLeft}
 use Rattle.bw_start.specs.StartedServers.{IsSetTo}
 use Rattle.bw_start.specs.declared.resting.Settings.{Settings}
 use Rattle.bw_left.specs.FailedRests.{FailedRestingStart, RestingStartsFail}

@@ -21,9 +21,10 @@ const BYE: Visit = Visit(1, Comes::Peer(b"\x01\0\0\0\x09", &[Give::Bytes(5)], AL
 
 const FOUR_ENDS: &[Visit] = &[BROKEN_WRITE, BROKEN_READ, QUICK, BYE];
 
-/// In the order in which they end.
-const FOUR_LINES: &[u8] = b"exchange 0 Bye\nexchange 1 WriteFault\n\
-    exchange 2 ReadFault\nexchange 3 EndOfInput\n";
+/// In the order in which they end: the first sends five bytes in its second round, and fails in its
+/// third.
+const FOUR_LINES: &[u8] = b"exchange 0 Bye\nexchange 1 ReadFault\n\
+    exchange 2 EndOfInput\nexchange 3 WriteFault\n";
 
 #[test]
 fn each_end_has_its_line_in_order(rt: HostRuntime) -> Result<(), Fail> {

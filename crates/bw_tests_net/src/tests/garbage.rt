@@ -72,17 +72,17 @@ fn has_no_file(rt: &impl Abort, received: &Received) {
 
 #[test]
 fn what_follows_a_bad_frame_is_let_go(rt: HostRuntime) -> Result<(), Fail> {
-    // the frame and its reply, three pieces and a pause, the end
-    is_bad(&rt, rt.alloc(), IN_PIECES, 62, 600)
+    // the frame, its reply, three pieces and a pause, the end
+    is_bad(&rt, rt.alloc(), IN_PIECES, 62, 700)
 }
 
 #[test]
 fn who_sends_on_after_a_bad_frame_is_ended(rt: HostRuntime) -> Result<(), Fail> {
-    // shut after 100 milliseconds, ended more than 2,000 later, a byte in each of the rounds 2 to 22
-    is_bad(&rt, rt.alloc(), WITHOUT_END, 25, 2_200)
+    // shut after 200 milliseconds, ended more than 2,000 later, a byte in each of the rounds 3 to 23
+    is_bad(&rt, rt.alloc(), WITHOUT_END, 25, 2_300)
 }
 
 #[test]
 fn a_link_that_breaks_after_a_bad_frame_is_no_other_end(rt: HostRuntime) -> Result<(), Fail> {
-    is_bad(&rt, rt.alloc(), BROKEN, 10, 200)
+    is_bad(&rt, rt.alloc(), BROKEN, 10, 300)
 }

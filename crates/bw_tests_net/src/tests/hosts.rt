@@ -50,12 +50,12 @@ fn comes_to(rt: &impl Abort, alloc: Global, port: u16, folder: &str, wanted: &Wa
     );
 }
 
-/// The second is over in its first round, with its replies sent, and the first in its second.
+/// Both are over in their second round, in which their replies are sent.
 const BOTH: Wanted = Wanted {
     exit: Exit::Done,
-    out: b"listening 127.0.0.1:4000\nexchange 0 Bye\nexchange 1 EndOfInput\n",
-    faults: b"peer 127.0.0.1:4101 names b2 end Bye messages 3 bytes 46\n\
-        peer 127.0.0.1:4100 names a1 end EndOfInput messages 3 bytes 46\n",
+    out: b"listening 127.0.0.1:4000\nexchange 0 EndOfInput\nexchange 1 Bye\n",
+    faults: b"peer 127.0.0.1:4100 names a1 end EndOfInput messages 3 bytes 46\n\
+        peer 127.0.0.1:4101 names b2 end Bye messages 3 bytes 46\n",
     failures: 0,
 };
 

@@ -30,9 +30,9 @@ fn the_next_is_let_in_where_a_place_is_free(rt: HostRuntime) -> Result<(), Fail>
     is_over(&rt, &received, Exit::Done, lines);
     is_reported(&rt, &received, 1, OTHERS);
     is_reported(&rt, &received, 2, VERDICTS);
-    // the first is over in its second round, at its end; the second in its first one, at its Bye
+    // each is over in its second round, in which its replies are sent
     is_let_in(&rt, &received, 1, (3, 0));
-    is_let_in(&rt, &received, 2, (4, 0));
+    is_let_in(&rt, &received, 2, (5, 0));
     Ok(())
 }
 
@@ -43,7 +43,7 @@ fn no_more_are_let_in_than_are_wanted(rt: HostRuntime) -> Result<(), Fail> {
         &rt,
         &received,
         Exit::Done,
-        b"exchange 0 Bye\nexchange 1 EndOfInput\n",
+        b"exchange 0 EndOfInput\nexchange 1 Bye\n",
     );
     same(
         &rt,

@@ -63,7 +63,7 @@ fn bytes_and_end_are_read_without_being_reported_again(rt: HostRuntime) -> Resul
         &bounds(2, 2, 1_000),
         plan(BOTH, ReportsRound::Nothing),
     )?;
-    let lines = b"exchange 0 Bye\nexchange 1 EndOfInput\n";
+    let lines = b"exchange 0 EndOfInput\nexchange 1 Bye\n";
     is_over(&rt, &received, Exit::Done, lines);
     is_reported(&rt, &received, 0, VERDICTS);
     is_reported(&rt, &received, 1, OTHERS);

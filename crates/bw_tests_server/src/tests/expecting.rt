@@ -46,7 +46,7 @@ impl Journal for Expecting {
     fn begin(&mut self, _name: &Name) -> Result<(), StoreFault> {
         self.call_counter.count(false);
         if self.noted == 0 {
-            self.noted = 29;
+            self.noted = 47;
         }
         Ok(())
     }

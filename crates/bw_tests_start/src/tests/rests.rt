@@ -2,7 +2,8 @@
 use crate::tests::lives::FOLDER;
 use bw_disk::{Disk, MemoryDisk};
 use bw_layout::Limit;
-use bw_start::{Settings, Unwatched, start_over};
+use bw_recovery::Unwatched;
+use bw_start::{Settings, start_over};
 use std::alloc::Global;
 use std::test::Fail;
 

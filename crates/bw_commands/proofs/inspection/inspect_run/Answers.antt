@@ -32,12 +32,13 @@ pub returns : goal.returns
 returns g c =
     let f = c.in-Err.fault in
     let l = c.print_diagnostic.ensures in
-    let is : c.as_bytes.result.now ≡ fault_line f =
+    let other = c.inspect_recognizing.new.other in
+    let is : c.as_bytes.result.now ≡ fault_line f other =
     c.as_bytes.ensures.value ∙ (c.as_str.ensures.value ∙ c.line_of.ensures) in
-    let reported : IsOf (fault_line f) l.0 = rw is at l.1 in (
+    let reported : IsOf (fault_line f other) l.0 = rw is at l.1 in (
       record { reads_all = not (is_failed_read f.kind); out = Nothing; faults = l.0; exit = exit_for_fault f.kind },
       sym c.exit_on.ensures,
-      fault-reported _ f _ l.0 c.in-Err.ensures.err reported,
+      fault-reported _ f other _ l.0 c.in-Err.ensures.err c.in-Err.ensures.other reported,
       c.in-Err.ensures.consumed.failures ∙ failures-not (is_failed_read f.kind) _,
       record { printed = refl; reported = l.2 },
     )

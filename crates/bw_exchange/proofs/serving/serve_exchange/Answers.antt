@@ -3,8 +3,10 @@ use Rattle.std.specs.Prelude.{is_some}
 use Rattle.bw_exchange.specs.declared.serving.ExchangeEnd.{ExchangeEnd}
 use Rattle.bw_exchange.specs.WholeExchanges.{reads_failed, writes_failed, IsLimited, Serves}
 use Rattle.bw_exchange.proofs.Ending.{no_memory, no_more_read, write_failed, limit_reached, stream_ended}
-use Rattle.bw_exchange.proofs.Ending.{stopped_counts, ended_counts}
+use Rattle.bw_exchange.proofs.Ending.{stopped_counts, stopped_writing, ended_counts}
 use Rattle.bw_exchange.proofs.Whole.{so_far-none, counted, has_bytes, so_far-more, moved_on, called_on, called_once}
+use Rattle.bw_exchange.proofs.Batches.{IsKept, batches_join, batches_none, ended_kept, stopped_kept, until_any, until_on}
+use Rattle.bw_exchange.specs.declared.serving.ExchangeEnd.TheVariants as ends
 use Rattle.bw_exchange.proofs.serving.serve_exchange.Goals as goal
 
 pub returns-in_default-clause-served : goal.returns-in_default-clause-served
@@ -18,6 +20,8 @@ loop-read-init g c = record {
   buffer = search rules;
   so_far = so_far-none g.T.Turns.answers c.args.server.now _ _ c.in-Ok.exchange c.in-Ok.ensures.fresh
       c.in-Ok.ensures.waiting c.in-Ok.ensures.wants_read;
+  batches = batches_none g.T.Turns.answers g.T.Turns.commits c.args.server.now;
+  committed = λ was. was;
   reads = refl;
   writes = refl;
   moved = omega arith;
@@ -49,9 +53,27 @@ returns-in-Err-clause-limit g c =
 
 pub returns-in-Err-answer_held-clause-served : goal.returns-in-Err-answer_held-clause-served
 returns-in-Err-answer_held-clause-served g c =
-    write_failed g.T.Turns.answers c.loop-read._read c.args.server.now c.loop-read.server c.answer_held.new.server
+    write_failed g.T.Turns.answers c.in-Err-answer_held.end c.loop-read._read c.args.server.now c.loop-read.server c.answer_held.new.server
     _ _ _ _ _ _ _ _ c.loop-read.exchange c.read_piece.new.exchange c.loop-read.invariant.so_far
     c.in_default-read_piece.ensures.fed c.in-Err-answer_held.ensures.stops
+
+pub returns-in-Err-answer_held-clause-reads : goal.returns-in-Err-answer_held-clause-reads
+returns-in-Err-answer_held-clause-reads g c =
+    let x = c.in-Err-answer_held in
+    c.in_default-read_piece.ensures.count ∙ c.loop-read.invariant.reads
+    ∙ (stopped_writing x.end x.ensures.stops.stop (g.R.Source.failures c.args.reader.now) 0 0 0 0).0
+
+pub returns-in-Err-answer_held-clause-writes : goal.returns-in-Err-answer_held-clause-writes
+returns-in-Err-answer_held-clause-writes g c =
+    let x = c.in-Err-answer_held in
+    x.ensures.failed ∙ ap (λ n. writes_failed x.end n) c.loop-read.invariant.writes
+
+pub returns-in-Err-answer_held-clause-limit : goal.returns-in-Err-answer_held-clause-limit
+returns-in-Err-answer_held-clause-limit g c =
+    let x = c.in-Err-answer_held in
+    (stopped_writing x.end x.ensures.stops.stop 0 (g.R.Source.moved c.args.reader.now)
+    (g.R.Source.moved c.read_piece.new.reader) (g.R.Source.calls c.args.reader.now)
+    (g.R.Source.calls c.read_piece.new.reader)).1
 
 pub returns-in-Some-clause-served : goal.returns-in-Some-clause-served
 returns-in-Some-clause-served g c =
@@ -99,6 +121,9 @@ loop-read-preserved g c =
       buffer = search rules;
       so_far = so_far-more g.T.Turns.answers c.loop-read._read c.args.server.now c.loop-read.server
           c.answer_held.new.server _ _ _ _ _ _ _ _ a b e i.so_far n w.answers w.idle running;
+      batches = batches_join g.T.Turns.answers g.T.Turns.commits c.args.server.now c.loop-read.server
+          c.answer_held.new.server i.batches w.batches;
+      committed = λ was. c.answer_held.ensures.committed (i.committed was);
       reads = c.in_default-read_piece.ensures.count ∙ i.reads;
       writes = w.count ∙ i.writes;
       moved = moved_on (g.R.Source.moved c.args.reader.now) _ _ c.loop-read._read _ i.moved n.counted some;
@@ -132,3 +157,39 @@ returns-in-Some-clause-calls g c =
 
 pub returns-clause-calls : goal.returns-clause-calls
 returns-clause-calls g c = let most = c.loop-read.invariant.most in omega (arith, most, c.loop-read-test.false)
+
+pub returns-in-Err-answer_held-clause-committed : goal.returns-in-Err-answer_held-clause-committed
+returns-in-Err-answer_held-clause-committed g c =
+    λ was. c.answer_held.ensures.committed (c.loop-read.invariant.committed was)
+
+pub returns-in_default-clause-batches : goal.returns-in_default-clause-batches
+returns-in_default-clause-batches g c =
+    until_any g.T.Turns.answers g.T.Turns.commits ends.Memory c.args.server.now c.args.server.now tt
+    (batches_none g.T.Turns.answers g.T.Turns.commits c.args.server.now)
+
+pub returns-in_default-from_elem-clause-batches : goal.returns-in_default-from_elem-clause-batches
+returns-in_default-from_elem-clause-batches g c =
+    until_any g.T.Turns.answers g.T.Turns.commits ends.Memory c.args.server.now c.args.server.now tt
+    (batches_none g.T.Turns.answers g.T.Turns.commits c.args.server.now)
+
+pub returns-in-Err-clause-batches : goal.returns-in-Err-clause-batches
+returns-in-Err-clause-batches g c =
+    until_any g.T.Turns.answers g.T.Turns.commits c.in-Err.end c.args.server.now c.loop-read.server
+    (stopped_kept c.in-Err.end _ _ c.in-Err.ensures.stops) c.loop-read.invariant.batches
+
+pub returns-in-Err-answer_held-clause-batches : goal.returns-in-Err-answer_held-clause-batches
+returns-in-Err-answer_held-clause-batches g c =
+    until_on g.T.Turns.answers g.T.Turns.commits c.in-Err-answer_held.end c.args.server.now c.loop-read.server c.answer_held.new.server
+    c.loop-read.invariant.batches c.in-Err-answer_held.ensures.until
+
+pub returns-in-Some-clause-batches : goal.returns-in-Some-clause-batches
+returns-in-Some-clause-batches g c =
+    until_any g.T.Turns.answers g.T.Turns.commits c.from.result c.args.server.now c.answer_held.new.server
+    (subst (λ (end : ExchangeEnd). IsKept end) (sym c.from.ensures) (ended_kept c.in-Some.end))
+    (batches_join g.T.Turns.answers g.T.Turns.commits c.args.server.now c.loop-read.server
+    c.answer_held.new.server c.loop-read.invariant.batches c.in_default-answer_held.ensures.batches)
+
+pub returns-clause-batches : goal.returns-clause-batches
+returns-clause-batches g c =
+    until_any g.T.Turns.answers g.T.Turns.commits ends.TurnLimit c.args.server.now c.loop-read.server tt
+    c.loop-read.invariant.batches

@@ -1,7 +1,7 @@
 use Rattle.std.proofs.Common.{List, ℕ, sym, subst, take}
 use Rattle.std.proofs.lemmas.List.{take_all}
 use Rattle.std.specs.List.{Contains}
-use Rattle.bw_start.proofs.RestoreForms.{take_more}
+use Rattle.bw_recovery.proofs.ListForms.{take_more}
 use Rattle.bw_machine.proofs.SyncedDisks.{kept_none, kept_next, none_in_none, synced_next}
 use Rattle.bw_machine.proofs.syncing.sync_each.Goals as goal
 

@@ -13,7 +13,7 @@ returns g c =
       ended = ran.result;
       logged = ran.new.faults;
       run = run;
-      leaves = by_loop g.T.Turns.answers g.B.Reactor g.B.Link.Link g.O.Sink g.E.Sink c.args.hosting.now.log
+      leaves = by_loop g.T.Turns.answers g.T.Turns.commits g.B.Reactor g.B.Link.Link g.O.Sink g.E.Sink c.args.hosting.now.log
           c.args.hosting.now.bounds ran.result c.args.server ran.new.server.server c.args.reactor.now
           ran.new.reactor c.print.new.out ran.new.out c.args.faults.now ran.new.faults run;
       reports = c.report_end.ensures;

@@ -13,7 +13,7 @@ returns g c =
       ended = ran.result;
       logged = ran.new.faults;
       run = run;
-      leaves = by_run g.T.Turns.answers g.P.Peers g.P.Reader.Source g.P.Writer.Sink g.O.Sink g.E.Sink
+      leaves = by_run g.T.Turns.answers g.T.Turns.commits g.P.Peers g.P.Reader.Source g.P.Writer.Sink g.O.Sink g.E.Sink
           c.args.serving.now.log c.args.serving.now.exchanges ran.result c.args.server ran.new.server.server
           c.args.peers.now ran.new.peers c.print.new.out ran.new.out c.args.faults.now ran.new.faults run;
       reports = c.report_end.ensures;

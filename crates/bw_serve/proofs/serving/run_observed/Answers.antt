@@ -1,7 +1,8 @@
-use Rattle.std.proofs.Common.{ℕ, ◌+◌, ◌≤◌, rules, arith, refl, sym, subst, inl, inr, ◌∙◌, ap}
+use Rattle.std.proofs.Common.{◌≡◌, true, false, ℕ, ◌+◌, ◌≤◌, rules, arith, refl, sym, subst, inl, inr, ◌∙◌, ap}
 use Rattle.bw_stream.specs.Moves.{one_more}
 use Rattle.bw_console.specs.declared.exit.Exit.TheVariants as exits
-use Rattle.bw_serve.proofs.Running.{all_ended, waited_more, runs_more, runs_none, runs_over, runs_shut}
+use Rattle.bw_serve.specs.Rounds.{goes_on_after}
+use Rattle.bw_serve.proofs.Running.{all_ended, lacks_sync, waited_more, runs_more, runs_none, runs_over, runs_shut}
 use Rattle.bw_serve.proofs.serving.run_observed.Goals as goal
 
 pub returns-in_default-clause-runs : goal.returns-in_default-clause-runs
@@ -21,13 +22,18 @@ loop-round-init g c =
     let n = c.in-Ok.ensures in
     let begun = n.begun in
     record {
-      runs = runs_none g.B.Reactor g.B.Link.Link g.T.Turns.answers g.O.Sink g.E.Sink c.args.log
-          g.V.RoundObserver.looks c.args.bounds.now.places c.args.bounds.now.idle c.args.bounds.now.exchanges c.in-Ok.event_loop
-          c.args.server.now.server c.args.reactor.now c.args.out.now c.args.faults.now c.args.observer.now n;
+      runs = (
+        _,
+        refl,
+        runs_none g.B.Reactor g.B.Link.Link g.T.Turns.answers g.T.Turns.commits g.O.Sink g.E.Sink c.args.log
+            g.V.RoundObserver.looks c.args.bounds.now.places c.args.bounds.now.idle c.args.bounds.now.exchanges c.in-Ok.event_loop
+            c.args.server.now.server c.args.reactor.now c.args.out.now c.args.faults.now c.args.observer.now n,
+      );
       begun = omega (arith, begun);
       peer_slots = n.peer_slots_are ∙ sym n.places_are;
       buffer = search rules;
       failures = refl;
+      committed = c.requires;
       waits = omega arith;
     }
 
@@ -37,21 +43,29 @@ loop-round-preserved g c =
     let r = c.serve_round in
     let ok = c.in-Ok-serve_round.ensures in
     record {
-      runs = runs_more g.B.Reactor g.B.Link.Link g.T.Turns.answers g.O.Sink g.E.Sink c.args.log
-          g.V.RoundObserver.looks c.args.bounds.now.places c.args.bounds.now.idle c.args.bounds.now.exchanges l.event_loop r.new.event_loop
-          c.args.server.now.server l.server.server r.new.server.server c.args.reactor.now l.reactor r.new.reactor
-          c.args.out.now l.out r.new.out c.args.faults.now l.faults r.new.faults c.args.observer.now l.observer
-          _ l.invariant.runs (search rules) ok.round (search rules);
+      runs = (
+        ok.round.0.outcome,
+        subst (λ r. goes_on_after r ≡ true) (sym ok.round.1) (search rules),
+        runs_more g.B.Reactor g.B.Link.Link g.T.Turns.answers g.T.Turns.commits g.O.Sink g.E.Sink c.args.log
+            g.V.RoundObserver.looks l.invariant.runs.0 l.invariant.runs.1 c.args.bounds.now.places c.args.bounds.now.idle c.args.bounds.now.exchanges l.event_loop r.new.event_loop
+            c.args.server.now.server l.server.server r.new.server.server c.args.reactor.now l.reactor r.new.reactor
+            c.args.out.now l.out r.new.out c.args.faults.now l.faults r.new.faults c.args.observer.now l.observer
+            _ l.invariant.runs.2 (search rules) ok.round.0 (search rules),
+      );
       begun = r.ensures.begun;
       peer_slots = r.ensures.peer_slots;
       buffer = (let same = r.ensures.buffer in let was = l.invariant.buffer in omega (arith, same, was));
       failures = ok.count ∙ l.invariant.failures;
+      committed = r.ensures.committed;
       waits = subst (λ (n : ℕ). l._round + 1 ≤ n) (sym ok.waits)
           (waited_more l._round (g.B.Reactor.waits l.reactor) (search rules) l.invariant.waits);
     }
 
 pub serve_round-requires-clause-buffer : goal.serve_round-requires-clause-buffer
 serve_round-requires-clause-buffer g c = c.loop-round.invariant.buffer
+
+pub serve_round-requires-clause-committed : goal.serve_round-requires-clause-committed
+serve_round-requires-clause-committed g c = c.loop-round.invariant.committed
 
 pub serve_round-requires-clause-begun : goal.serve_round-requires-clause-begun
 serve_round-requires-clause-begun g c = c.loop-round.invariant.begun
@@ -62,10 +76,10 @@ serve_round-requires-clause-peer_slots g c = c.loop-round.invariant.peer_slots
 pub returns-then-ended-bounds-clause-observed : goal.returns-then-ended-bounds-clause-observed
 returns-then-ended-bounds-clause-observed g c =
     let l = c.loop-round in
-    runs_over g.B.Reactor g.B.Link.Link g.T.Turns.answers g.O.Sink g.E.Sink c.args.log g.V.RoundObserver.looks
-    c.law_connections.ensures c.args.bounds.now exits.Done l.event_loop c.args.server.now.server l.server.server
+    runs_over g.B.Reactor g.B.Link.Link g.T.Turns.answers g.T.Turns.commits g.O.Sink g.E.Sink c.args.log g.V.RoundObserver.looks
+    c.law_connections.ensures l.invariant.runs.0 c.args.bounds.now exits.Done l.event_loop c.args.server.now.server l.server.server
     c.args.reactor.now l.reactor c.args.out.now l.out c.args.faults.now l.faults c.args.observer.now l.observer
-    l.invariant.runs l.invariant.begun
+    l.invariant.runs.2 l.invariant.begun
     (λ over is. (all_ended c.args.bounds.now.exchanges l.event_loop over is (search rules), l.invariant.failures))
 
 pub returns-then-ended-bounds-clause-runs : goal.returns-then-ended-bounds-clause-runs
@@ -76,22 +90,43 @@ returns-in_default-serve_round-clause-observed g c =
     let l = c.loop-round in
     let r = c.serve_round in
     let shut = c.in_default-serve_round.ensures in
-    runs_shut g.B.Reactor g.B.Link.Link g.T.Turns.answers g.O.Sink g.E.Sink c.args.log g.V.RoundObserver.looks
-    c.law_connections.ensures c.args.bounds.now exits.Device l.event_loop r.new.event_loop c.args.server.now.server
+    runs_shut g.B.Reactor g.B.Link.Link g.T.Turns.answers g.T.Turns.commits g.O.Sink g.E.Sink c.args.log g.V.RoundObserver.looks
+    c.law_connections.ensures l.invariant.runs.0 c.args.bounds.now exits.Device l.event_loop r.new.event_loop c.args.server.now.server
     l.server.server r.new.server.server c.args.reactor.now l.reactor r.new.reactor c.args.out.now l.out r.new.out
-    c.args.faults.now l.faults r.new.faults c.args.observer.now l.observer l.invariant.runs shut.shut r.ensures.begun
-    (λ over. inl (shut.count ∙ ap one_more l.invariant.failures))
+    c.args.faults.now l.faults r.new.faults c.args.observer.now l.observer l.invariant.runs.2 shut.shut r.ensures.begun
+    (λ over. inl (inl (shut.count ∙ ap one_more l.invariant.failures)))
 
 pub returns-in_default-serve_round-clause-runs : goal.returns-in_default-serve_round-clause-runs
 returns-in_default-serve_round-clause-runs g c = (returns-in_default-serve_round-clause-observed g c).run
 
+pub returns-then-not-may_go_on-clause-observed : goal.returns-then-not-may_go_on-clause-observed
+returns-then-not-may_go_on-clause-observed g c =
+    let l = c.loop-round in
+    let r = c.serve_round in
+    let round = c.in-Ok-serve_round.ensures.round in
+    runs_over g.B.Reactor g.B.Link.Link g.T.Turns.answers g.T.Turns.commits g.O.Sink g.E.Sink c.args.log g.V.RoundObserver.looks
+    c.law_connections.ensures round.0.outcome c.args.bounds.now exits.Device r.new.event_loop c.args.server.now.server
+    r.new.server.server c.args.reactor.now r.new.reactor c.args.out.now r.new.out c.args.faults.now r.new.faults
+    c.args.observer.now c.show.new.observer
+    (runs_more g.B.Reactor g.B.Link.Link g.T.Turns.answers g.T.Turns.commits g.O.Sink g.E.Sink c.args.log
+    g.V.RoundObserver.looks l.invariant.runs.0 l.invariant.runs.1 c.args.bounds.now.places c.args.bounds.now.idle c.args.bounds.now.exchanges l.event_loop r.new.event_loop
+    c.args.server.now.server l.server.server r.new.server.server c.args.reactor.now l.reactor r.new.reactor
+    c.args.out.now l.out r.new.out c.args.faults.now l.faults r.new.faults c.args.observer.now l.observer
+    _ l.invariant.runs.2 (search rules) round.0 (search rules))
+    r.ensures.begun
+    (λ over is. inr (lacks_sync g.T.Turns.commits round.0.mid round.0.outcome r.new.server.server round.0.committed
+    (subst (λ x. goes_on_after x ≡ false) (sym round.1) (search rules))))
+
+pub returns-then-not-may_go_on-clause-runs : goal.returns-then-not-may_go_on-clause-runs
+returns-then-not-may_go_on-clause-runs g c = (returns-then-not-may_go_on-clause-observed g c).run
+
 pub returns-clause-observed : goal.returns-clause-observed
 returns-clause-observed g c =
     let l = c.loop-round in
-    runs_over g.B.Reactor g.B.Link.Link g.T.Turns.answers g.O.Sink g.E.Sink c.args.log g.V.RoundObserver.looks
-    c.law_connections.ensures c.args.bounds.now exits.Device l.event_loop c.args.server.now.server l.server.server
+    runs_over g.B.Reactor g.B.Link.Link g.T.Turns.answers g.T.Turns.commits g.O.Sink g.E.Sink c.args.log g.V.RoundObserver.looks
+    c.law_connections.ensures l.invariant.runs.0 c.args.bounds.now exits.Device l.event_loop c.args.server.now.server l.server.server
     c.args.reactor.now l.reactor c.args.out.now l.out c.args.faults.now l.faults c.args.observer.now l.observer
-    l.invariant.runs l.invariant.begun (λ over is. inr (search rules))
+    l.invariant.runs.2 l.invariant.begun (λ over is. inl (inr (search rules)))
 
 pub returns-clause-runs : goal.returns-clause-runs
 returns-clause-runs g c = (returns-clause-observed g c).run

@@ -1,7 +1,7 @@
 use Rattle.std.proofs.Common.{◌≡◌, ◌≤◌, ℕ, [], ap, refl, sym, subst, ◌∙◌}
 use Rattle.bw_connections.specs.Places.{connection_count}
-use Rattle.bw_serve.proofs.Growing.{grown_peer_slots, grows_still, turn_begun, turn_peer_slots}
-use Rattle.bw_layout.proofs.Exits.{on_err}
+use Rattle.bw_serve.proofs.Growing.{grown_peer_slots, grows_still, turn_advances, turn_begun, turn_peer_slots}
+use Rattle.bw_serve.proofs.Withholding.{on_err, turns_committed}
 use Rattle.bw_serve.specs.EventLoops.{InTurn, LetsIn}
 use Rattle.bw_serve.specs.Rounds.{IsShut, patience_of}
 use Rattle.bw_serve.proofs.Noticing.{all_still, wakes_none}
@@ -48,36 +48,56 @@ returns-clause-round g c =
     let e = c.serve_each in
     let at : c.now-now.result ≡ g.B.Reactor.time c.welcome.new.reactor =
     c.now-now.ensures.time ∙ sym c.welcome.ensures.time in
-    record {
-      waited = c.welcome.ensures.waits ∙ (c.now-now.ensures.waits ∙ (c.notice.ensures.waits ∙ c.in-Ok.ensures.waits));
-      patience = c.welcome.ensures.patience ∙ (c.now-now.ensures.patience ∙ (c.notice.ensures.patience
-          ∙ (c.in-Ok.ensures.patience ∙ (c.patience.ensures ∙ ap patience_of c.can_go_on.ensures))));
-      noticed = c.notice.new.self;
-      notices = c.notice.ensures.stays;
-      links = c.notice.ensures.notices.0.reported;
-      were_reported = c.welcome.ensures.reported _ (c.now-now.ensures.reported _ (c.notice.ensures.notices.0.more []
-          c.in-Ok.ensures.reported));
-      all = all_still c.args.event_loop.now c.notice.ensures.notices.0.reported
-          (λ all. c.welcome.ensures.all_reported (c.now-now.ensures.all_reported all)) c.notice.ensures.notices.1;
-      wakes = c.notice.ensures.notices.0.each;
-      between = c.welcome.new.self;
-      grows = c.welcome.ensures.grows;
-      lets_in = subst (λ (now : ℕ). LetsIn now c.notice.new.self c.welcome.new.self) at c.welcome.ensures.lets_in;
-      welcomes = welcomes_after g.B.Reactor c.now-now.result (g.B.Reactor.time c.welcome.new.reactor) c.args.reactor.now
-          c.now-now.new.self c.welcome.new.reactor c.notice.new.self c.welcome.new.self at (λ xs was.
-          c.now-now.ensures.admitted xs (c.notice.ensures.admitted xs (c.wait.ensures.admitted xs was)))
-          c.welcome.ensures.welcomes;
-      asks = c.in_ok-welcome.ensures.asks (c.now-now.ensures.tried 0 (c.notice.ensures.tried 0 c.in-Ok.ensures.tried));
-      in_turn = subst (λ (now : ℕ). InTurn g.B.Link.Link g.T.Turns.answers g.O.Sink g.E.Sink c.args.log now
-          c.args.bounds.now.idle (connection_count c.welcome.new.self.connections) c.welcome.new.self e.new.self
-          c.args.server.now.server e.new.server.server c.args.out.now e.new.out c.args.faults.now e.new.faults) at
-          e.ensures.in_turn;
-    }
+    let n = connection_count c.welcome.new.self.connections in
+    let turn : InTurn g.B.Link.Link g.T.Turns.answers g.O.Sink g.E.Sink c.args.log
+    (g.B.Reactor.time c.welcome.new.reactor) c.args.bounds.now.idle n c.welcome.new.self e.new.self
+    c.args.server.now.server e.new.server.server c.args.out.now e.new.out c.args.faults.now e.new.faults =
+    subst (λ (now : ℕ). InTurn g.B.Link.Link g.T.Turns.answers g.O.Sink g.E.Sink c.args.log now
+    c.args.bounds.now.idle n c.welcome.new.self e.new.self
+    c.args.server.now.server e.new.server.server c.args.out.now e.new.out c.args.faults.now e.new.faults) at
+    e.ensures.in_turn in (
+      record {
+        waited = c.welcome.ensures.waits ∙ (c.now-now.ensures.waits ∙ (c.notice.ensures.waits ∙ c.in-Ok.ensures.waits));
+        patience = c.welcome.ensures.patience ∙ (c.now-now.ensures.patience ∙ (c.notice.ensures.patience
+            ∙ (c.in-Ok.ensures.patience ∙ (c.patience.ensures ∙ ap patience_of c.can_go_on.ensures))));
+        noticed = c.notice.new.self;
+        notices = c.notice.ensures.stays;
+        links = c.notice.ensures.notices.0.reported;
+        were_reported = c.welcome.ensures.reported _ (c.now-now.ensures.reported _ (c.notice.ensures.notices.0.more []
+            c.in-Ok.ensures.reported));
+        all = all_still c.args.event_loop.now c.notice.ensures.notices.0.reported
+            (λ all. c.welcome.ensures.all_reported (c.now-now.ensures.all_reported all)) c.notice.ensures.notices.1;
+        wakes = c.notice.ensures.notices.0.each;
+        between = c.welcome.new.self;
+        grows = c.welcome.ensures.grows;
+        lets_in = subst (λ (now : ℕ). LetsIn now c.notice.new.self c.welcome.new.self) at c.welcome.ensures.lets_in;
+        welcomes = welcomes_after g.B.Reactor c.now-now.result (g.B.Reactor.time c.welcome.new.reactor) c.args.reactor.now
+            c.now-now.new.self c.welcome.new.reactor c.notice.new.self c.welcome.new.self at (λ xs was.
+            c.now-now.ensures.admitted xs (c.notice.ensures.admitted xs (c.wait.ensures.admitted xs was)))
+            c.welcome.ensures.welcomes;
+        asks = c.in_ok-welcome.ensures.asks (c.now-now.ensures.tried 0 (c.notice.ensures.tried 0 c.in-Ok.ensures.tried));
+        served = e.new.self;
+        mid = e.new.server.server;
+        printed = e.new.out;
+        logged = e.new.faults;
+        in_turn = turn;
+        kept = turns_committed g.T.Turns.answers _ c.args.server.now.server e.new.server.server c.commit.new.server.server
+            (λ same. c.commit.ensures.idle (subst (λ x. g.T.Turns.committed x) (sym same) c.requires.committed))
+            c.commit.ensures.answered
+            (turn_advances g.B.Link.Link g.T.Turns.answers g.O.Sink g.E.Sink c.args.log
+            (g.B.Reactor.time c.welcome.new.reactor) c.args.bounds.now.idle n c.welcome.new.self e.new.self
+            c.args.server.now.server e.new.server.server c.args.out.now e.new.out c.args.faults.now e.new.faults turn).by_server;
+        outcome = c.commit.result;
+        committed = c.commit.ensures.commits;
+        withholds = c.commit.ensures.withholds;
+      },
+      refl,
+    )
 
 pub returns-clause-begun : goal.returns-clause-begun
 returns-clause-begun g c =
     let e = c.serve_each in
-    subst (λ (n : ℕ). n ≤ c.args.bounds.now.exchanges) (sym (turn_begun g.B.Link.Link g.T.Turns.answers g.O.Sink
+    subst (λ (n : ℕ). n ≤ c.args.bounds.now.exchanges) (sym (c.commit.ensures.withholds.begun ∙ turn_begun g.B.Link.Link g.T.Turns.answers g.O.Sink
     g.E.Sink c.args.log c.now-now.result c.args.bounds.now.idle (connection_count c.welcome.new.self.connections) c.welcome.new.self
     e.new.self c.args.server.now.server e.new.server.server c.args.out.now e.new.out c.args.faults.now e.new.faults
     e.ensures.in_turn))
@@ -86,8 +106,21 @@ returns-clause-begun g c =
 pub returns-clause-peer_slots : goal.returns-clause-peer_slots
 returns-clause-peer_slots g c =
     let e = c.serve_each in
-    turn_peer_slots g.B.Link.Link g.T.Turns.answers g.O.Sink g.E.Sink c.args.log c.now-now.result c.args.bounds.now.idle
+    let w = c.commit.ensures.withholds in
+    let quanta = turn_peer_slots g.B.Link.Link g.T.Turns.answers g.O.Sink g.E.Sink c.args.log c.now-now.result c.args.bounds.now.idle
     (connection_count c.welcome.new.self.connections) c.welcome.new.self e.new.self c.args.server.now.server e.new.server.server
     c.args.out.now e.new.out c.args.faults.now e.new.faults e.ensures.in_turn
     (grown_peer_slots g.B.Link.Link c.notice.new.self c.welcome.new.self c.welcome.ensures.grows
-    (grown_peer_slots g.B.Link.Link c.args.event_loop.now c.notice.new.self c.notice.ensures.stays.grows c.requires.peer_slots))
+    (grown_peer_slots g.B.Link.Link c.args.event_loop.now c.notice.new.self c.notice.ensures.stays.grows c.requires.peer_slots)) in
+    w.peer_slots_are ∙ (quanta ∙ sym w.places_are)
+
+pub commit-requires : goal.commit-requires
+commit-requires g c =
+    let e = c.serve_each in
+    record {
+      peer_slots = turn_peer_slots g.B.Link.Link g.T.Turns.answers g.O.Sink g.E.Sink c.args.log c.now-now.result c.args.bounds.now.idle
+          (connection_count c.welcome.new.self.connections) c.welcome.new.self e.new.self c.args.server.now.server e.new.server.server
+          c.args.out.now e.new.out c.args.faults.now e.new.faults e.ensures.in_turn
+          (grown_peer_slots g.B.Link.Link c.notice.new.self c.welcome.new.self c.welcome.ensures.grows
+          (grown_peer_slots g.B.Link.Link c.args.event_loop.now c.notice.new.self c.notice.ensures.stays.grows c.requires.peer_slots));
+    }

@@ -2,6 +2,8 @@ use Rattle.std.proofs.Common.{◌∙◌, ℕ, List, ap, fold, subst}
 use Rattle.bw_exchange.specs.AnsweredFrames.{AnswersAll, answered_frames}
 use Rattle.bw_exchange.specs.LinkCounts.{Counted, message_count, counting_frame}
 use Rattle.bw_exchange.proofs.LinkStatsLemmas.{all_by_server, all_counted}
+use Rattle.bw_exchange.specs.Commits.{CommitsUntil}
+use Rattle.bw_serve.proofs.CountedBatches.{until_by_server}
 use Rattle.bw_serve.specs.LinkLines.{Logs, peer_line}
 use Rattle.bw_serve.proofs.serving_in_turn.serve_peer.Goals as goal
 
@@ -13,7 +15,6 @@ returns g c =
     ∙ all_counted g.T.Turns.answers c.start.new.self to.serves.answered c.serve_link-ended.new.server all
     ∙ ap (λ x. fold counting_frame x (answered_frames to.serves.answered)) c.start.ensures.link_stats in
     record {
-      end = c.serve_link-ended.result.end;
       r' = _;
       w' = _;
       served = record {
@@ -31,6 +32,9 @@ returns g c =
           spelled = to.serves.spelled;
           by_end = to.serves.by_end;
         };
+        batches = subst (λ s. CommitsUntil g.T.Turns.answers g.T.Turns.commits c.serve_link-ended.result.end s
+            c.serve_link-ended.new.server.server) c.start.ensures.server (until_by_server g.T.Turns.answers
+            g.T.Turns.commits c.serve_link-ended.result.end c.start.new.self c.serve_link-ended.new.server to.batches);
         reads = to.reads;
         writes = to.writes;
         calls = to.calls;

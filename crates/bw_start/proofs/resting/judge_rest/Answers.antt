@@ -1,4 +1,4 @@
-use Rattle.bw_start.proofs.ListForms.{on_ok}
+use Rattle.bw_recovery.proofs.ListForms.{on_ok}
 use Rattle.bw_start.proofs.StartAnswers.{if_err}
 use Rattle.bw_start.proofs.RestingForms.{none_in_the_way, refuses_start, plain_where_free, list_unchanged}
 use Rattle.bw_start.proofs.RestingForms.{plain_unchanged, plain_refuses}

@@ -1,9 +1,9 @@
 use Rattle.std.proofs.Common.{IsTrue, Bool, List, ℕ, codes, sym, subst}
 use Rattle.std.specs.Prelude.{IfOk}
 use Rattle.std.proofs.Math.Path.{fun_ext}
-use Rattle.bw_start.specs.FoundNames.{ListsFiles}
+use Rattle.bw_recovery.specs.FoundNames.{ListsFiles}
 use Rattle.bw_start.specs.RestingStarts.{HasBoth, ListsThoseInTheWay}
-use Rattle.bw_start.proofs.ListForms.{if_ok_both}
+use Rattle.bw_recovery.proofs.ListForms.{if_ok_both}
 use Rattle.bw_start.proofs.RestingForms.{those_twice}
 use Rattle.bw_start.proofs.resting.list_those.Goals as goal
 

@@ -2,7 +2,7 @@ use Rattle.std.proofs.Common.{List, [], ℕ, sym, subst, take, rules}
 use Rattle.std.proofs.lemmas.List.{take_all}
 use Rattle.bw_start.specs.RestingStarts.{HasBoth}
 use Rattle.bw_start.proofs.RestingForms.{none_of_both, more_of_both}
-use Rattle.bw_start.proofs.RestoreForms.{take_more}
+use Rattle.bw_recovery.proofs.ListForms.{take_more}
 use Rattle.bw_start.proofs.resting.names_in_both.Goals as goal
 
 pub loop-name-init : goal.loop-name-init

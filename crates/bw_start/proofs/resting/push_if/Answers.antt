@@ -1,7 +1,7 @@
 use Rattle.std.proofs.Common.{List, ℕ, ◌++◌, ◌∷◌, [], ap, sym, ◌∙◌, subst}
 use Rattle.std.specs.List.{Contains}
 use Rattle.bw_disk.specs.Volumes.{AreDistinct}
-use Rattle.bw_start.proofs.ListForms.{on_ok, distinct_push, true_false}
+use Rattle.bw_recovery.proofs.ListForms.{on_ok, distinct_push, true_false}
 use Rattle.bw_start.proofs.RestingForms.{added_if}
 use Rattle.bw_start.proofs.resting.push_if.Goals as goal
 

@@ -2,9 +2,9 @@ use Rattle.std.proofs.Common.{IsTrue, List, ℕ, Option, refl, sym, subst}
 use Rattle.std.proofs.Math.Path.{fun_ext}
 use Rattle.bw_start.specs.RestoredFolders.{HasFewDone, KeepsTheRest, RefusesFolder}
 use Rattle.bw_start.specs.StartedServers.{IsLeftIn}
-use Rattle.bw_start.specs.StaysLeft.{BooksStayLeft}
+use Rattle.bw_recovery.specs.StaysLeft.{BooksStayLeft}
 use Rattle.bw_start.specs.RestingStarts.{StartsOver}
-use Rattle.bw_start.proofs.LookForms.{whole_next}
+use Rattle.bw_recovery.proofs.LookForms.{whole_next}
 use Rattle.bw_start.proofs.LeftForms.{books_same}
 use Rattle.bw_start.proofs.RestingForms.{both_unchanged, unchanged_with, whole_now, rest_kept}
 use Rattle.bw_start.proofs.resting.start_over.Goals as goal

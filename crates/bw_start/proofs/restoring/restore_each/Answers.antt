@@ -1,10 +1,11 @@
 use Rattle.std.proofs.Common.{◌+◌, List, IsTrue, sym, subst, ap, ◌∙◌, take}
 use Rattle.std.specs.List.{All}
 use Rattle.std.proofs.lemmas.List.{take_all}
-use Rattle.bw_start.specs.FoundNames.{found_names, IsFoundIn}
+use Rattle.bw_recovery.specs.FoundNames.{found_names, IsFoundIn}
 use Rattle.bw_start.specs.RestoredFolders.{IsRestoredIn, KeepsTakesBut, KeepsNotesBut}
-use Rattle.bw_start.specs.declared.listing.FoundName.{FoundName}
-use Rattle.bw_start.proofs.RestoreForms.{restored_next, notes_next, takes_next, take_more, once_before, sound_at, kept_more}
+use Rattle.bw_recovery.specs.declared.listing.FoundName.{FoundName}
+use Rattle.bw_start.proofs.RestoreForms.{restored_next, notes_next, takes_next, once_before, sound_at, kept_more}
+use Rattle.bw_recovery.proofs.ListForms.{take_more}
 use Rattle.bw_start.proofs.LeftForms.{left_next}
 use Rattle.bw_start.proofs.restoring.restore_each.Goals as goal
 

@@ -1,9 +1,9 @@
 use Rattle.std.proofs.Common.{◌≡◌, ℕ, IsTrue, take, true}
 use Rattle.std.specs.List.{All}
 use Rattle.bw_disk.specs.Volumes.{AreDistinct}
-use Rattle.bw_start.specs.FoundNames.{found_names, IsFoundIn}
+use Rattle.bw_recovery.specs.FoundNames.{found_names, IsFoundIn}
 use Rattle.bw_start.specs.RestoredFolders.{IsRestoredIn, are_sound, KeepsTakesBut, KeepsNotesBut}
-use Rattle.bw_start.specs.StaysLeft.{NamesStayLeft}
+use Rattle.bw_recovery.specs.StaysLeft.{NamesStayLeft}
 use Rattle.bw_start.proofs.restoring.restore_each.Given as goal
 
 -- the names so far are restored

@@ -1,7 +1,7 @@
 use Rattle.std.proofs.Common.{◌≡◌, List, IsTrue, sym, subst, true}
 use Rattle.std.proofs.Common.{Vec, Global}
 use Rattle.bw_start.specs.RestoredFolders.{are_sound, IsFoundFault}
-use Rattle.bw_start.specs.declared.listing.FoundName.{FoundName}
+use Rattle.bw_recovery.specs.declared.listing.FoundName.{FoundName}
 use Rattle.bw_start.proofs.RefusalForms.{refuses, resumes_result, kept_public}
 use Rattle.bw_start.proofs.LeftForms.{books_same, books_stay, left_found}
 use Rattle.bw_start.proofs.restoring.restore_folder.Goals as goal

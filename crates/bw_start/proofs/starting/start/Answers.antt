@@ -2,7 +2,7 @@ use Rattle.std.proofs.Common.{IsTrue, sym, subst}
 use Rattle.bw_folder.specs.JournalFolders.{journals_disk}
 use Rattle.bw_folder.specs.TakeFolders.{takes_disk}
 use Rattle.bw_session.specs.SeenServers.{server_store, server_journal}
-use Rattle.bw_start.proofs.ListForms.{if_ok}
+use Rattle.bw_recovery.proofs.ListForms.{if_ok}
 use Rattle.bw_start.proofs.StartAnswers.{always, if_err, sound_folder, takes_on, notes_on, admitted}
 use Rattle.bw_start.proofs.LeftForms.{books_on}
 use Rattle.bw_start.proofs.starting.start.Goals as goal

@@ -1,5 +1,5 @@
 use Rattle.std.proofs.Common.{◌≡◌, List, ℕ, refl, ◌∙◌, ap}
-use Rattle.bw_start.specs.Paths.{path_with}
+use Rattle.bw_recovery.specs.Paths.{path_with}
 use Rattle.bw_take_files.specs.GivenUp.{TakePaths}
 use Rattle.bw_take_files.proofs.giving_up.places_of.Goals as goal
 

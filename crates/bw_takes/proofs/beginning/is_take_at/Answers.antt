@@ -1,5 +1,5 @@
 use Rattle.std.proofs.Common.{◌∙◌, ap}
-use Rattle.bw_start.specs.Names.{begins_take}
+use Rattle.bw_recovery.specs.Names.{begins_take}
 use Rattle.bw_takes.proofs.FindingLemmas.{front_shows}
 use Rattle.bw_takes.proofs.beginning.is_take_at.Goals as goal
 

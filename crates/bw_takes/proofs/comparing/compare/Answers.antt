@@ -1,6 +1,6 @@
 use Rattle.std.proofs.Common.{List, ℕ, Option, ◌∙◌, subst}
-use Rattle.bw_start.proofs.ListForms.{if_ok}
-use Rattle.bw_start.specs.Paths.{notes_path, rest_path, wave_path}
+use Rattle.bw_recovery.proofs.ListForms.{if_ok}
+use Rattle.bw_recovery.specs.Paths.{notes_path, rest_path, wave_path}
 use Rattle.bw_takes.specs.TakeFindings.{IsTakeFoundOf}
 use Rattle.bw_takes.proofs.ComparingLemmas.{begun}
 use Rattle.bw_takes.proofs.comparing.compare.Goals as goal

@@ -1,5 +1,5 @@
 use Rattle.std.proofs.Common.{sym, subst}
-use Rattle.bw_start.specs.Adoptions.{IsFileHeader}
+use Rattle.bw_recovery.specs.Adoptions.{IsFileHeader}
 use Rattle.bw_takes.proofs.finding.judge_begun.Goals as goal
 
 pub judge_file-requires : goal.judge_file-requires

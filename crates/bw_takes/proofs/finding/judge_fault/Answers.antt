@@ -1,7 +1,7 @@
 use Rattle.std.proofs.Common.{ap, subst, sym}
 use Rattle.bw_journal.specs.Faults.{fault_meaning}
 use Rattle.bw_journal.specs.Replays.{NotBegun}
-use Rattle.bw_start.proofs.ListForms.{if_ok}
+use Rattle.bw_recovery.proofs.ListForms.{if_ok}
 use Rattle.bw_takes.specs.TakeFindings.{IsFoundBeside}
 use Rattle.bw_takes.proofs.finding.judge_fault.Goals as goal
 

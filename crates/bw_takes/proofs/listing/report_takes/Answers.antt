@@ -1,6 +1,6 @@
 use Rattle.std.proofs.Common.{◌≡◌, ◌∙◌, [], true, refl, rules, subst, sym}
 use Rattle.std.proofs.lemmas.Map.Iter.{iter_end}
-use Rattle.bw_start.proofs.LookForms.{whole_next}
+use Rattle.bw_recovery.proofs.LookForms.{whole_next}
 use Rattle.bw_takes.specs.TakeNames.{AreNamesInOrder, ListsTakes}
 use Rattle.bw_takes.proofs.ListingLemmas.{TellsOf, lent, names_of, tells_next, tells_none, told_same}
 use Rattle.bw_takes.proofs.listing.report_takes.Goals as goal

@@ -1,5 +1,5 @@
 use Rattle.std.proofs.Common.{ℕ, List}
-use Rattle.bw_start.proofs.SortedNames.{put_name}
+use Rattle.bw_recovery.proofs.SortedNames.{put_name}
 use Rattle.bw_takes.specs.TakeNames.{IsFileOf}
 use Rattle.bw_takes.proofs.naming.add_take.Goals as goal
 

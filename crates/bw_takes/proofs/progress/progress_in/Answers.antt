@@ -1,6 +1,6 @@
 use Rattle.std.proofs.Common.{◌≡◌, ◌∙◌, ◌++◌, ◌∷◌, [], rules, map, sym, subst}
 use Rattle.std.proofs.lemmas.Map.Iter.{iter_end}
-use Rattle.bw_start.proofs.LookForms.{whole_next}
+use Rattle.bw_recovery.proofs.LookForms.{whole_next}
 use Rattle.bw_takes.specs.TakeNames.{AreNamesInOrder, ListsTakes}
 use Rattle.bw_takes.proofs.ProgressLemmas.{each_next, names_next}
 use Rattle.bw_takes.proofs.progress.progress_in.Goals as goal

@@ -1,4 +1,4 @@
-use Rattle.std.proofs.Common.{rules, ap, refl, sym, inl, inr, take, ◌∙◌, ◌++◌, [], List, ℕ}
+use Rattle.std.proofs.Common.{rules, ap, refl, subst, sym, inl, inr, take, ◌∙◌, ◌++◌, [], List, ℕ}
 use Rattle.std.proofs.lemmas.List.{take-append-drop}
 use Rattle.bw_exchange.specs.declared.serving.ExchangeEnd.TheVariants as ends
 use Rattle.bw_connections.specs.declared.connection.ConnectionEnd.TheVariants.{Over}
@@ -36,6 +36,18 @@ returns-in-Bytes-clause-sends g c =
       readable = refl;
       dry = c.in-Bytes.ensures.dry;
     }
+
+pub returns-in-Bytes-clause-leaves : goal.returns-in-Bytes-clause-leaves
+returns-in-Bytes-clause-leaves g c = record {
+  bytes = take c.in-Bytes.count (waiting_in c.args.self.now.exchange);
+  left = waiting_in c.consumed.new.self;
+  waited = sym (take-append-drop c.in-Bytes.count (waiting_in c.args.self.now.exchange))
+      ∙ ap (λ (x : List ℕ). take c.in-Bytes.count (waiting_in c.args.self.now.exchange) ++ x)
+      (sym c.consumed.ensures.left);
+  taken = subst (λ (w : List ℕ). (ys : List ℕ) → g.L.Link.taken c.args.self.now.link ys →
+      g.L.Link.taken c.send.new.self (ys ++ take c.in-Bytes.count w)) c.outgoing-waiting.ensures.value
+      c.in-Bytes.ensures.taken;
+}
 
 pub returns-in-Nothing-clause-sends : goal.returns-in-Nothing-clause-sends
 returns-in-Nothing-clause-sends g c = record {

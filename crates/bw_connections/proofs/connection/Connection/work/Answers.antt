@@ -4,7 +4,8 @@ use Rattle.std.proofs.lemmas.Result.{err_from_is_err_and}
 use Rattle.bw_connections.proofs.Going.{answers_on, goes_at_last, not_served, number_left, quiet_as, quiet_drained, quiet_on}
 use Rattle.bw_connections.proofs.Going.{drained_on, finished_still, learns_on, open_left, peer_then}
 use Rattle.bw_connections.proofs.Going.{breaks_off, drained_at, drained_no_silence, moved_on, served_no_silence}
-use Rattle.bw_connections.proofs.Going.{settled_served}
+use Rattle.bw_exchange.specs.Parts.{waiting_in}
+use Rattle.bw_connections.proofs.Going.{settled_served, goes_after, steps_on, leaves_on, leaves_same, leaves_of_none}
 use Rattle.bw_connections.proofs.connection.Connection.work.Goals as goal
 
 pub returns-in-Draining : goal.returns-in-Draining
@@ -18,6 +19,7 @@ returns-in-Draining g c =
       most = omega arith;
       goes = d.goes;
       peer = d.peer;
+      leaves = leaves_of_none g.L.Link (waiting_in old.exchange) old.link c.drain.new.self.link d.leaves;
       number = d.stays.number;
       since = drained_on c.drain.result (quiet_drained c.args.now old c.drain.new.self c.in-Draining.fault is d.stays.phase d.stays.since);
       unended = drained_on c.drain.result (λ serving none.
@@ -33,69 +35,70 @@ returns-in-Draining g c =
           drained_at g.L.Link old c.drain.new.self.link c.in-Draining.fault fault c.drain.result is at d.heard;
     }
 
-pub returns-in_err-receive_piece : goal.returns-in_err-receive_piece
-returns-in_err-receive_piece g c =
+pub returns-in_err-send_waiting : goal.returns-in_err-send_waiting
+returns-in_err-send_waiting g c =
     let a = err_from_is_err_and c.from_residual.result c.from_residual.ensures.1 in
     let old = c.args.self.now in
     let serving : old.phase ≡ phases.Serving = search rules in
+    let broken = c.in_err-send_waiting.ensures in
+    rw (a.1, a.2) (breaks_off g.L.Link g.T.Turns.answers c.args.now c.in_err-send_waiting.field-0.0 old
+    c.send_waiting.new.self _ _ [] serving refl (omega arith) broken.goes broken.peer broken.leaves
+    broken.stays.number broken.served)
+
+pub returns-in_err-receive_piece : goal.returns-in_err-receive_piece
+returns-in_err-receive_piece g c =
+    let a = err_from_is_err_and c.from_residual-in_err-receive_piece.result c.from_residual-in_err-receive_piece.ensures.1 in
+    let old = c.args.self.now in
+    let sent = c.send_waiting.new.self in
+    let serving : old.phase ≡ phases.Serving = search rules in
+    let first = c.in_ok-send_waiting.ensures in
     let broken = c.in_err-receive_piece.ensures in
     rw (a.1, a.2) (breaks_off g.L.Link g.T.Turns.answers c.args.now c.in_err-receive_piece.field-0.0 old
-    c.receive_piece.new.self _ _ [] serving refl (omega arith) broken.goes broken.peer broken.stays.number
-    broken.served)
-
-pub returns-in_err-send_waiting : goal.returns-in_err-send_waiting
-returns-in_err-send_waiting g c =
-    let a = err_from_is_err_and c.from_residual-in_err-send_waiting.result c.from_residual-in_err-send_waiting.ensures.1 in
-    let h = c.answer_held.ensures in
-    let old = c.args.self.now in
-    let serving : old.phase ≡ phases.Serving = search rules in
-    let first = c.in_ok-receive_piece.ensures in
-    let on = answers_on g.L.Link g.T.Turns.answers c.args.now old c.receive_piece.new.self c.answer_held.new.self _ _
-    first.goes first.peer first.stays.number h in
-    let last = c.in_err-send_waiting.ensures in
-    rw (a.1, a.2) (breaks_off g.L.Link g.T.Turns.answers c.args.now c.in_err-send_waiting.field-0.0 old
-    c.send_waiting.new.self _ _ h.answered serving h.by_server h.most
-    (goes_at_last g.L.Link (Err c.in_err-send_waiting.field-0.0) old c.answer_held.new.self c.send_waiting.new.self
-    h.answered on.0 last.goes)
-    (peer_then g.L.Link old.link c.answer_held.new.self.link c.send_waiting.new.self.link on.1 last.peer)
-    (last.stays.number ∙ on.2) last.served)
+    c.receive_piece.new.self _ _ [] serving refl (omega arith)
+    (goes_after g.L.Link (Err c.in_err-receive_piece.field-0.0) old sent c.receive_piece.new.self [] [] first.goes
+    broken.goes) (peer_then g.L.Link old.link sent.link c.receive_piece.new.self.link first.peer broken.peer)
+    (leaves_on g.L.Link (waiting_in old.exchange) old.link sent.link c.receive_piece.new.self.link first.leaves
+    broken.leaves) (broken.stays.number ∙ first.stays.number) broken.served)
 
 pub returns : goal.returns
 returns g c =
     let h = c.answer_held.ensures in
     let s = c.settle.ensures in
     let old = c.args.self.now in
+    let sent = c.send_waiting.new.self in
     let fed = c.receive_piece.new.self in
     let held = c.answer_held.new.self in
-    let sent = c.send_waiting.new.self in
-    let first = c.in_ok-receive_piece.ensures in
-    let on = answers_on g.L.Link g.T.Turns.answers c.args.now old fed held _ _ first.goes first.peer first.stays.number
-    h in
-    let last = c.in_ok-send_waiting.ensures in
+    let first = c.in_ok-send_waiting.ensures in
+    let then_fed = c.in_ok-receive_piece.ensures in
+    let on = answers_on g.L.Link g.T.Turns.answers c.args.now old fed held _ _
+    (steps_on g.L.Link old sent fed [] [] first.goes then_fed.goes)
+    (peer_then g.L.Link old.link sent.link fed.link first.peer then_fed.peer)
+    (then_fed.stays.number ∙ first.stays.number) h in
     let serving : old.phase ≡ phases.Serving = search rules in
     record {
       answered = h.answered;
       by_server = h.by_server;
       most = h.most;
-      goes = goes_at_last g.L.Link c.settle.result old sent c.settle.new.self h.answered
-          (goes_at_last g.L.Link (Ok tt) old held sent h.answered on.0 last.goes) s.goes;
-      peer = peer_then g.L.Link old.link sent.link c.settle.new.self.link
-          (peer_then g.L.Link old.link held.link sent.link on.1 last.peer) s.peer;
-      number = number_left c.args.now c.settle.result sent c.settle.new.self s.settles
-          ∙ (last.stays.number ∙ on.2);
+      goes = goes_at_last g.L.Link c.settle.result old held c.settle.new.self h.answered on.0 s.goes;
+      peer = peer_then g.L.Link old.link held.link c.settle.new.self.link on.1 s.peer;
+      leaves = leaves_on g.L.Link (waiting_in old.exchange) old.link held.link c.settle.new.self.link
+          (leaves_on g.L.Link (waiting_in old.exchange) old.link fed.link held.link
+          (leaves_on g.L.Link (waiting_in old.exchange) old.link sent.link fed.link first.leaves then_fed.leaves)
+          (leaves_same g.L.Link fed.link held.link h.link)) s.leaves;
+      number = number_left c.args.now c.settle.result held c.settle.new.self s.settles ∙ on.2;
       since = quiet_as c.args.now c.settle.new.self.since c.settle.new.self.phase h.answered fed old c.settle.result
-          first.stays.phase first.stays.since
-          (quiet_on c.args.now fed h.answered (first.stays.phase ∙ serving) sent c.settle.new.self c.settle.result
-          (last.stays.phase ∙ h.phase) (last.stays.since ∙ h.since) s.settles);
-      unended = open_left c.args.now c.settle.result sent c.settle.new.self s.settles;
+          (then_fed.stays.phase ∙ first.stays.phase) (then_fed.stays.since ∙ first.stays.since)
+          (quiet_on c.args.now fed h.answered (then_fed.stays.phase ∙ (first.stays.phase ∙ serving)) held
+          c.settle.new.self c.settle.result h.phase h.since s.settles);
+      unended = open_left c.args.now c.settle.result held c.settle.new.self s.settles;
       moved = λ at. moved_on g.L.Link g.T.Turns.answers c.args.now c.args.server.now c.answer_held.new.server
-          c.settle.result old fed held sent c.settle.new.self first.reads h last.sends s.settles s.reported;
+          c.settle.result old sent fed held c.settle.new.self first.sends then_fed.reads h s.settles s.reported;
       lets_go = λ fault at. absurd (not_served old fault at serving);
       learns = learns_on g.L.Link g.T.Turns.answers c.args.now c.args.server.now c.answer_held.new.server
-          c.settle.result old fed held sent c.settle.new.self first.reads h last.sends s.settles s.reported;
+          c.settle.result old sent fed held c.settle.new.self first.sends then_fed.reads h s.settles s.reported;
       finished = λ was. s.finished;
       no_silence = served_no_silence c.settle.result
-          (settled_served c.args.now c.settle.result sent c.settle.new.self s.settles);
-      served = λ at. settled_served c.args.now c.settle.result sent c.settle.new.self s.settles;
+          (settled_served c.args.now c.settle.result held c.settle.new.self s.settles);
+      served = λ at. settled_served c.args.now c.settle.result held c.settle.new.self s.settles;
       heard = λ fault at. absurd (not_served old fault at serving);
     }

@@ -1,8 +1,9 @@
 use Rattle.std.proofs.Common.{ap, arith, refl, subst, sym, ◌∙◌, List, Some, None, [], ◌++◌, ◌≡◌}
 use Rattle.bw_exchange.specs.AnsweredFrames.{Answered}
 use Rattle.bw_connections.specs.declared.connection.Phase.TheVariants as phases
-use Rattle.bw_connections.specs.Lives.{EndsDrained, EndsServed, IsNoSilence, IsOpen, IsConnectionOver, KeepsPeer, Lives}
-use Rattle.bw_connections.proofs.Going.{finished_at, learns_at, let_go_at, moved_at, quiet_at}
+use Rattle.bw_exchange.specs.Parts.{waiting_in}
+use Rattle.bw_connections.specs.Lives.{LeavesOf, EndsDrained, EndsServed, IsNoSilence, IsOpen, IsConnectionOver, KeepsPeer, Lives}
+use Rattle.bw_connections.proofs.Going.{finished_at, leaves_at, learns_at, let_go_at, moved_at, quiet_at}
 use Rattle.bw_connections.proofs.Standing.{adds_closed, adds_none, adds_on, at_is, closes_none, keeps_free, not_at}
 use Rattle.bw_connections.proofs.Standing.{sets_again}
 use Rattle.bw_connections.proofs.connections.Connections.work.Goals as goal
@@ -25,6 +26,7 @@ returns-in_default g c =
       unended = λ d at. absurd (not_at d t.sets.there at);
       since = λ d e at there. absurd (not_at d t.was at);
       moved = λ d e at. absurd (not_at d t.was at);
+      leaves = λ d e at. absurd (not_at d t.was at);
       lets_go = λ d e fault at. absurd (not_at d t.was at);
       learns = λ d e at. absurd (not_at d t.was at);
       finished = λ d e at. absurd (not_at d t.was at);
@@ -61,6 +63,8 @@ returns-in-Ok g c =
           (at_is new e sets.there there) w.since;
       moved = λ d e at there. moved_at g.L.Link was d new e w.answered (at_is was d t.was at)
           (at_is new e sets.there there) w.moved;
+      leaves = λ d e at there. leaves_at g.L.Link was d new e (at_is was d t.was at)
+          (at_is new e sets.there there) w.leaves;
       lets_go = λ d e fault at there. let_go_at g.L.Link fault was d new e (at_is was d t.was at)
           (at_is new e sets.there there) (w.lets_go fault);
       learns = λ d e at there. learns_at g.L.Link was d new e (at_is was d t.was at)
@@ -98,6 +102,7 @@ returns-in-Err g c =
       unended = λ d at. absurd (not_at d t.sets.there at);
       since = λ d e at there. absurd (not_at e t.sets.there there);
       moved = λ d e at there. absurd (not_at e t.sets.there there);
+      leaves = λ d e at there. absurd (not_at e t.sets.there there);
       lets_go = λ d e fault at there. absurd (not_at e t.sets.there there);
       learns = λ d e at there. absurd (not_at e t.sets.there there);
       finished = λ d e at there. absurd (not_at e t.sets.there there);
@@ -108,5 +113,8 @@ returns-in-Err g c =
             (w.served (subst (λ x. x.phase ≡ phases.Serving) (sym (at_is was d t.was at)) serving));
         heard = λ d fault at draining. subst (λ y. EndsDrained g.L.Link fault y.link y.end) (sym is)
             (w.heard fault (subst (λ x. x.phase ≡ phases.Draining fault) (sym (at_is was d t.was at)) draining));
+        leaves = λ d at. subst (λ x. LeavesOf g.L.Link (waiting_in x.exchange) x.link c.close.result.link)
+            (at_is was d t.was at)
+            (subst (λ y. LeavesOf g.L.Link (waiting_in was.exchange) was.link y.link) (sym is) w.leaves);
       };
     }

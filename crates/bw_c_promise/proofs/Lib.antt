@@ -1,0 +1,2 @@
+pub mod RecorderLaws
+pub mod RecordedFileLaws

@@ -1,0 +1,8 @@
+use Rattle.bw_c_promise.proofs.RecordedFileLaws.{recorders_have_files}
+use Rattle.bw_c_promise.proofs.law_recorded_files.Goals as goal
+
+pub returns : goal.returns
+returns g c = record {
+  in_table = recorders_have_files _ c.promise.ensures.in_table;
+  at_rest = recorders_have_files _ c.promise.ensures.at_rest;
+}

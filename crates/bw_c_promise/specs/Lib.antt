@@ -1,0 +1,3 @@
+pub mod Recorders
+pub mod RecordersSend
+pub mod RecordedFiles

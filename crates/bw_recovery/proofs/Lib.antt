@@ -1,0 +1,14 @@
+pub mod FileLemmas
+pub mod MendingLemmas
+pub mod JudgedFiles
+pub mod MadeLemmas
+pub mod NameLemmas
+pub mod Refusals
+pub mod PathLemmas
+pub mod NameBytes
+pub mod ListForms
+pub mod LookForms
+pub mod StoryForms
+pub mod PartForms
+pub mod NameStays
+pub mod SortedNames

@@ -1,0 +1,14 @@
+use Rattle.std.proofs.Common.{sym, ◌∙◌}
+use Rattle.std.specs.Prelude.{Some}
+use Rattle.bw_recovery.specs.FileEndings.{ending_text}
+use Rattle.std.proofs.lemmas.Slice.Eq.{strip_suffix_is}
+use Rattle.std.proofs.lemmas.Bool.Decides.{Decides-eqb}
+use Rattle.bw_recovery.proofs.ListForms.{named}
+use Rattle.bw_recovery.proofs.ending.name_with.Goals as goal
+
+pub returns-clause-some : goal.returns-clause-some
+returns-clause-some c =
+    named (ending_text c.args.ending) c.new.result _ c.in-Some.stem.now c.args.file.now c.new.ensures
+    (sym c.as_bytes.ensures.value
+    ∙ strip_suffix_is Decides-eqb c.as_bytes.result.now (ending_text c.args.ending) (Some c.in-Some.stem)
+    (rw c.bytes.ensures at c.in-Some.ensures.cases))

@@ -1,0 +1,10 @@
+use Rattle.std.proofs.Common.{◌≡◌, IsTrue}
+use Rattle.bw_disk.specs.Volumes.{KeepsEach}
+use Rattle.bw_recovery.proofs.resuming.set_aside.Given as goal
+
+-- nothing has changed so far
+abbrev pub invariant-loop-attempt : goal.invariant-loop-attempt
+invariant-loop-attempt g l = record {
+  honest : g.D.Disk.honest l.takes ≡ g.D.Disk.honest l.fn.takes;
+  same : IsTrue (g.D.Disk.honest l.fn.takes) → KeepsEach (g.D.Disk.contents l.fn.takes) (g.D.Disk.contents l.takes);
+}

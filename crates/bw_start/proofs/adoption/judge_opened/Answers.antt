@@ -1,7 +1,0 @@
-use Rattle.bw_start.proofs.JudgedFiles.{spares_samples}
-use Rattle.bw_start.proofs.adoption.judge_opened.Goals as goal
-
-pub returns-in-None-2-clause-spares : goal.returns-in-None-2-clause-spares
-returns-in-None-2-clause-spares c =
-    spares_samples c.args.limit c.args.state.now.parts c.least_mending.result c.args.header.now c.requires.opened
-    c.requires.header c.least_mending.ensures.cut

@@ -1,8 +1,0 @@
-use Rattle.std.proofs.Common.{sym, subst}
-use Rattle.bw_start.specs.Adoptions.{IsFileHeader}
-use Rattle.bw_start.proofs.finding.judge_begun.Goals as goal
-
-pub judge_file-requires : goal.judge_file-requires
-judge_file-requires g c f format =
-    subst (IsFileHeader c.args.limit c.args.replayed.state.parts f) (sym c.deref.ensures.value)
-    (c.in_ok-header.ensures f format)

@@ -1,5 +1,0 @@
-use Rattle.bw_start.proofs.laws.law_left_files.Goals as goal
-use Rattle.bw_start.proofs.FileLemmas.{left_files_are_mended}
-
-pub returns : goal.returns
-returns c = left_files_are_mended

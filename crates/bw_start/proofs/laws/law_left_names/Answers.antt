@@ -1,5 +1,0 @@
-use Rattle.bw_start.proofs.laws.law_left_names.Goals as goal
-use Rattle.bw_start.proofs.NameLemmas.{left_names_are_resumed}
-
-pub returns : goal.returns
-returns c = left_names_are_resumed
