@@ -15,6 +15,7 @@ use Rattle.bw_wire.proofs.StreamRuns.{runs_follow_streams}
 use Rattle.bw_exchange.specs.declared.exchange.Exchange.{Exchange}
 use Rattle.bw_exchange.specs.declared.step.StreamEnd.{StreamEnd}
 use Rattle.bw_exchange.specs.AnsweredFrames.{Answered, AnswersAll, answered_frames, replies_of}
+use Rattle.bw_exchange.specs.Bounds.{most_waiting}
 use Rattle.bw_exchange.specs.Ends.{end_so_far, IsFinal}
 use Rattle.bw_exchange.specs.Done.{last_of, HasDone, DoesMore, AnswersSome, AnswersUpTo, AreFirstOf}
 use Rattle.bw_exchange.specs.WholeExchanges.{IsBrokenOff, MayLeave}
@@ -97,11 +98,11 @@ spelled_parts rs more all =
 
 -- what is written then, where all replies to the earlier frames were
 broken_off : (end : ExchangeEnd) (fed : List ℕ) (earlier last : List Answered) (gone part rest : List ℕ)
-    (e : Exchange) → MayLeave end part → HasDone fed (earlier ++ last) gone e → gone ≡ replies_bytes (replies_of earlier) →
-    part ++ rest ≡ e.outgoing.items
+    (e : Exchange) → length e.outgoing.items ≤ most_waiting → MayLeave end part →
+    HasDone fed (earlier ++ last) gone e → gone ≡ replies_bytes (replies_of earlier) → part ++ rest ≡ e.outgoing.items
     → AreFirstOf (answered_frames (earlier ++ last)) fed × IsBrokenOff end (earlier ++ last) fed (gone ++ part)
     × IsTrue (list_all is_reply (replies_of (earlier ++ last)))
-broken_off end fed earlier last gone part rest e kept d all whole =
+broken_off end fed earlier last gone part rest e most kept d all whole =
     let x = is_exchange runs_follow_streams fed (earlier ++ last) gone e d in (
       subst (AreFirstOf (answered_frames (earlier ++ last))) (append-nil fed) (x.prefix [] refl),
       record {
@@ -109,6 +110,8 @@ broken_off end fed earlier last gone part rest e kept d all whole =
         is_end = x.whole;
         unwritten = rest;
         begins = append_assoc gone part rest ∙ ap (λ (y : List ℕ). gone ++ y) whole ∙ d.written;
+        few = (let len = length-append part rest in let same = ap (λ (y : List ℕ). length y) whole in
+            omega (arith, most, len, same));
         earlier = earlier;
         last = last;
         all = refl;
@@ -121,8 +124,9 @@ broken_off end fed earlier last gone part rest e kept d all whole =
 
 -- the first write failed
 pub stops_first : {S : Type 0} (answers : S → Frame → List Reply → S → Type 0) (s : S) (w w' : Option (List ℕ))
-    (e : Exchange) → Begins w e.outgoing.items w' → StopsWriting answers ends.WriteFault s s w w' e
-stops_first answers s w w' e begins =
+    (e : Exchange) → length e.outgoing.items ≤ most_waiting → Begins w e.outgoing.items w' →
+    StopsWriting answers ends.WriteFault s s w w' e
+stops_first answers s w w' e most begins =
     let x = writes-part w w' e.outgoing.items begins in
     record {
       stop = tt;
@@ -131,18 +135,18 @@ stops_first answers s w w' e begins =
       bytes = x.part;
       taken = x.taken;
       reports = λ fed before gone d all.
-          broken_off ends.WriteFault fed before [] gone x.part x.rest e tt
+          broken_off ends.WriteFault fed before [] gone x.part x.rest e most tt
           (same_done fed fed before (before ++ []) gone gone e.framer e.outgoing.items (end_so_far e.end) refl
           (sym (append-nil before)) refl d) all x.whole;
     }
 
 -- a batch was answered, and then this part of its replies was written
 stops_after : {S : Type 0} (answers : S → Frame → List Reply → S → Type 0) (end : ExchangeEnd) (n : ℕ)
-    (s mid later : S) (w w' w'' : Option (List ℕ)) (a b c : Exchange) (part rest : List ℕ) → EndsUnwritten end →
-    MayLeave end part → WritesAnswers answers s mid w w' a b → is_some b.end ≡ false →
+    (s mid later : S) (w w' w'' : Option (List ℕ)) (a b c : Exchange) (part rest : List ℕ) →
+    length c.outgoing.items ≤ most_waiting → EndsUnwritten end → MayLeave end part → WritesAnswers answers s mid w w' a b → is_some b.end ≡ false →
     AnswersUpTo answers n mid later b c → Writes w' part w'' → part ++ rest ≡ c.outgoing.items →
     StopsWriting answers end s later w w'' a
-stops_after answers end n s mid later w w' w'' a b c part rest stop kept f running g taken whole = record {
+stops_after answers end n s mid later w w' w'' a b c part rest most stop kept f running g taken whole = record {
   stop = stop;
   answered = f.answered ++ g.answered;
   by_server = answers_append answers f.answered g.answered s mid later f.by_server g.by_server;
@@ -156,7 +160,7 @@ stops_after answers end n s mid later w w' w'' a b c part rest stop kept f runni
       same_done ((fed ++ []) ++ []) fed (earlier ++ g.answered) (earlier ++ g.answered) (out ++ []) out c.framer
       c.outgoing.items (end_so_far c.end) (append-nil (fed ++ []) ∙ append-nil fed) refl (append-nil out)
       (g.does (fed ++ []) earlier out here) in
-      let reported = broken_off end fed earlier g.answered out part rest c kept later_done
+      let reported = broken_off end fed earlier g.answered out part rest c most kept later_done
       (all_gone (fed ++ []) earlier out b here f.none_wait running) whole in
       subst (λ (xs : List Answered). AreFirstOf (answered_frames xs) fed
       × IsBrokenOff end xs fed (gone ++ (f.bytes ++ part)) × IsTrue (list_all is_reply (replies_of xs)))
@@ -168,20 +172,20 @@ stops_after answers end n s mid later w w' w'' a b c part rest stop kept f runni
 
 -- a later write failed
 pub stops_more : {S : Type 0} (answers : S → Frame → List Reply → S → Type 0) (n : ℕ) (s mid later : S)
-    (w w' w'' : Option (List ℕ)) (a b c : Exchange) → WritesAnswers answers s mid w w' a b →
-    is_some b.end ≡ false → AnswersUpTo answers n mid later b c → Begins w' c.outgoing.items w'' →
-    StopsWriting answers ends.WriteFault s later w w'' a
-stops_more answers n s mid later w w' w'' a b c f running g begins =
+    (w w' w'' : Option (List ℕ)) (a b c : Exchange) → length c.outgoing.items ≤ most_waiting →
+    WritesAnswers answers s mid w w' a b → is_some b.end ≡ false → AnswersUpTo answers n mid later b c →
+    Begins w' c.outgoing.items w'' → StopsWriting answers ends.WriteFault s later w w'' a
+stops_more answers n s mid later w w' w'' a b c most f running g begins =
     let x = writes-part w' w'' c.outgoing.items begins in
-    stops_after answers ends.WriteFault n s mid later w w' w'' a b c x.part x.rest tt tt f running g x.taken x.whole
+    stops_after answers ends.WriteFault n s mid later w w' w'' a b c x.part x.rest most tt tt f running g x.taken x.whole
 
 -- a commit failed
 pub stops_unkept : {S : Type 0} (answers : S → Frame → List Reply → S → Type 0) (n : ℕ) (s mid later : S)
-    (w w' : Option (List ℕ)) (a b c : Exchange) → WritesAnswers answers s mid w w' a b →
-    is_some b.end ≡ false → AnswersUpTo answers n mid later b c → (cause : NotKept) →
-    StopsWriting answers (ends.NotKept cause) s later w w' a
-stops_unkept answers n s mid later w w' a b c f running g cause =
-    stops_after answers (ends.NotKept cause) n s mid later w w' w' a b c [] c.outgoing.items tt refl f running g
+    (w w' : Option (List ℕ)) (a b c : Exchange) → length c.outgoing.items ≤ most_waiting →
+    WritesAnswers answers s mid w w' a b → is_some b.end ≡ false → AnswersUpTo answers n mid later b c →
+    (cause : NotKept) → StopsWriting answers (ends.NotKept cause) s later w w' a
+stops_unkept answers n s mid later w w' a b c most f running g cause =
+    stops_after answers (ends.NotKept cause) n s mid later w w' w' a b c [] c.outgoing.items most tt refl f running g
     (writes-none w') refl
 
 -- the server commits what it has answered, where it has answered any

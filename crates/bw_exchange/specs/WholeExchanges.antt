@@ -15,6 +15,7 @@ use Rattle.bw_exchange.specs.declared.step.StreamEnd.{StreamEnd}
 use Rattle.bw_exchange.specs.declared.step.StreamEnd.TheVariants as streams
 use Rattle.bw_exchange.specs.AnsweredFrames.{Answered, answered_frames, replies_of, AnswersAll}
 use Rattle.bw_exchange.specs.Ends.{IsFinal}
+use Rattle.bw_exchange.specs.Bounds.{most_waiting}
 use Rattle.bw_exchange.specs.Done.{last_of, AreFirstOf}
 
 -- the most reads of an exchange
@@ -79,8 +80,8 @@ abbrev pub MayLeave : ExchangeEnd → List ℕ → Type 0
 MayLeave (ends.NotKept cause) more = more ≡ []
 MayLeave end more = Unit {0}
 
--- a prefix of the replies is written: those to all frames but the last that were answered, since the
--- last commit but one, and what more was taken
+-- A prefix of the replies is written: all but as many bytes as wait at most. Where a commit failed,
+-- it ends after the replies to whole frames.
 pub record IsBrokenOff (end_by : ExchangeEnd) (answered : List Answered) (input output : List ℕ)
     : Type 0 where
   -- how the stream ends, if that was found: a bad frame has its reply too
@@ -88,6 +89,7 @@ pub record IsBrokenOff (end_by : ExchangeEnd) (answered : List Answered) (input 
   pub is_end : IfSome end (λ x. stream_of Second input ≡ (answered_frames answered, x))
   pub unwritten : List ℕ
   pub begins : output ++ unwritten ≡ replies_bytes (replies_of answered ++ last_of end)
+  pub few : length unwritten ≤ most_waiting
   pub earlier : List Answered
   pub last : List Answered
   pub all : answered ≡ earlier ++ last

@@ -6,7 +6,7 @@ ghost use Rattle.bw_stream.specs.Moves.{one_more, failures_after, Writes, Begins
 ghost use Rattle.bw_wire.specs.Held.{longest_message_piece, longest_stream};
 ghost use Rattle.bw_exchange.specs.declared.serving.ExchangeEnd.TheVariants.{Memory};
 ghost use Rattle.bw_exchange.specs.Parts.{wants_piece, end_of, waiting_in, pending_of};
-ghost use Rattle.bw_exchange.specs.Bounds.{most_before_answer, most_in_batch};
+ghost use Rattle.bw_exchange.specs.Bounds.{most_before_answer, most_in_batch, most_waiting};
 ghost use Rattle.bw_exchange.specs.Done.{AnswersUpTo, DoesMore, IsIdle};
 ghost use Rattle.bw_exchange.specs.WholeExchanges.{most_reads, reads_failed, writes_failed, IsLimited, Serves};
 ghost use Rattle.bw_exchange.specs.Commits.{CommitsBatch, CommitsUntil, HasBatches, LosesBatch};
@@ -74,8 +74,8 @@ impl From<StreamEnd> for ExchangeEnd {
 /// `TurnLimit` is returned only after 2^32 reads, of 2^32 bytes or more.
 ///
 /// At `ReadFault` and `TurnLimit` all whole frames that were read are answered, and their replies
-/// written; at `Memory` those before the last piece; at `WriteFault` and `NotKept` all but those
-/// that were answered since the last commit but one have their replies written.
+/// written; at `Memory` those before the last piece; at `WriteFault` and `NotKept` at most 65,600
+/// bytes of the replies aren't written.
 ///
 /// # Not specified
 /// - When memory is refused.
@@ -223,6 +223,7 @@ fn answer_batch<T: Turns>(exchange: &mut Exchange, server: &mut T) -> Result<(),
     ensures batch { OnOk result (CommitsBatch T.answers T.commits server.old server.new) }
     ensures lost { IfErr result (λ cause.
         LosesBatch T.answers T.commits cause server.old server.new) }
+    ensures few { length (waiting_in exchange.new) ≤ most_waiting }
     ensures progress { IsIdle exchange.new
         ⊎ (length (pending_of exchange.new).bytes < length (pending_of exchange.old).bytes) }
     ensures committed { T.committed server.old → T.committed server.new }
@@ -242,6 +243,7 @@ fn write_waiting<W: Sink>(exchange: &mut Exchange, writer: &mut W) -> Result<(),
     ensures done { OnOk result (DoesMore exchange.old [] [] (waiting_in exchange.old)
         exchange.new) }
     ensures none { OnOk result (waiting_in exchange.new ≡ []) }
+    ensures few { length (waiting_in exchange.old) ≤ most_waiting }
     ensures end { end_of exchange.new ≡ end_of exchange.old }
     ensures wants_read { wants_piece exchange.new ≡ wants_piece exchange.old }
     ensures framer { pending_of exchange.new ≡ pending_of exchange.old }

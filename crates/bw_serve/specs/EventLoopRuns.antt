@@ -43,7 +43,8 @@ EndsAt reactor commits exits.Device exchanges ended s b b' =
 EndsAt reactor commits _ exchanges ended s b b' = ⊥
 
 module _ {B L S O E : Type 0} (reactor : ReactorGhosts B L) (G : LinkGhosts L)
-    (answers : S → Frame → List Reply → S → Type 0) (commits : S → Result (Unit {0}) NotKept → S → Type 0) (out : Writer O) (reported : Writer E)
+    (answers : S → Frame → List Reply → S → Type 0)
+    (commits : S → Result (Unit {0}) NotKept → S → Type 0) (out : Writer O) (reported : Writer E)
     (log : Bool) where
   -- The server answered these frames, over connections of which these are over and others are at
   -- places: each one's own are those of its link, whatever came between them. The line of each that

@@ -35,7 +35,8 @@ module _ {T P R W O E : Type 0} (answers : T → Frame → List Reply → T → 
       ⊎ CantOpen out reported opening exit p p' o o' e e'
 
 module _ {T B L O E : Type 0} (answers : T → Frame → List Reply → T → Type 0)
-    (commits : T → Result (Unit {0}) NotKept → T → Type 0) (reactor : ReactorGhosts B L) (link : LinkGhosts L) (out : Writer O) (reported : Writer E) where
+    (commits : T → Result (Unit {0}) NotKept → T → Type 0)
+    (reactor : ReactorGhosts B L) (link : LinkGhosts L) (out : Writer O) (reported : Writer E) where
   -- after its opening lines this server served its exchanges, many at once
   abbrev pub ServesManyTurns : List ℕ → Bounds → Bool → Exit → T → B → B → O → O → E → E → Type 0
   ServesManyTurns opening bounds log exit server b b' o o' e e' = OpensAndRuns out reported opening

@@ -51,7 +51,8 @@ LooksAfterEach looks makes rounds v v' =
     LooksAtEach looks (map (λ left. (left.event_loop, makes left.server left.answered)) rounds) v v'
 
 module _ {B L S O E : Type 0} (reactor : ReactorGhosts B L) (G : LinkGhosts L)
-    (answers : S → Frame → List Reply → S → Type 0) (commits : S → Result (Unit {0}) NotKept → S → Type 0) (out : Writer O) (reported : Writer E)
+    (answers : S → Frame → List Reply → S → Type 0)
+    (commits : S → Result (Unit {0}) NotKept → S → Type 0) (out : Writer O) (reported : Writer E)
     (log : Bool) where
   -- the event loop and the server, as each of these rounds left them
   abbrev pub states_in_rounds : (idle exchanges n : ℕ) (c c' : EventLoop L) (s s' : S) (b b' : B)

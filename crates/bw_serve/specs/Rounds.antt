@@ -93,7 +93,8 @@ pub record IsShut {B L S O E : Type 0} (reactor : ReactorGhosts B L) (G : LinkGh
   pub logged : e' ≡ e
 
 module _ {B L S O E : Type 0} (reactor : ReactorGhosts B L) (G : LinkGhosts L)
-    (answers : S → Frame → List Reply → S → Type 0) (commits : S → Result (Unit {0}) NotKept → S → Type 0) (out : Writer O) (reported : Writer E)
+    (answers : S → Frame → List Reply → S → Type 0)
+    (commits : S → Result (Unit {0}) NotKept → S → Type 0) (out : Writer O) (reported : Writer E)
     (log : Bool) where
   -- A round: the reactor waited, but not at all if a connection could proceed; the links that were
   -- ready after that were noted; some were perhaps accepted, at the time that the reactor reported;

@@ -58,7 +58,8 @@ module _ {T R W O E : Type 0} (answers : T → Frame → List Reply → T → Ty
         (link_line peer.address end (message_count (answered_frames served.serves.answered))) e e'
 
 module _ {T P R W O E : Type 0} (answers : T → Frame → List Reply → T → Type 0)
-    (commits : T → Result (Unit {0}) NotKept → T → Type 0) (peers : PeerGhosts P R W) (reader : Reader R) (writer : Writer W) (out : Writer O)
+    (commits : T → Result (Unit {0}) NotKept → T → Type 0)
+    (peers : PeerGhosts P R W) (reader : Reader R) (writer : Writer W) (out : Writer O)
     (reported : Writer E) (log : Bool) where
   -- a peer was accepted, and its exchange served, with this number
   pub record ServesLink (index : ℕ) (end : ExchangeEnd) (exit : Exit) (t t' : T) (p p' : P) (o o' : O) (e e' : E)

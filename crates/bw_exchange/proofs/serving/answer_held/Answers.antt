@@ -7,7 +7,8 @@ use Rattle.bw_exchange.proofs.serving.answer_held.Goals as goal
 
 pub returns-in_default-clause-stops : goal.returns-in_default-clause-stops
 returns-in_default-clause-stops g c =
-    stops_first g.T.Turns.answers c.args.server.now _ _ c.args.exchange.now c.in_default.ensures.err
+    stops_first g.T.Turns.answers c.args.server.now _ _ c.args.exchange.now c.in_default.ensures.few
+    c.in_default.ensures.err
 
 pub loop-exchange-init : goal.loop-exchange-init
 loop-exchange-init g c =
@@ -23,8 +24,9 @@ loop-exchange-init g c =
 pub returns-in-Err-clause-stops : goal.returns-in-Err-clause-stops
 returns-in-Err-clause-stops g c =
     stops_unkept g.T.Turns.answers most_in_batch c.args.server.now c.loop-exchange.server c.answer_batch.new.server
-    _ _ c.args.exchange.now c.loop-exchange.exchange c.answer_batch.new.exchange c.loop-exchange.invariant.answers
-    (c.loop-exchange-test.ensures.«open» refl) c.answer_batch.ensures.answers c.in-Err.cause
+    _ _ c.args.exchange.now c.loop-exchange.exchange c.answer_batch.new.exchange c.answer_batch.ensures.few
+    c.loop-exchange.invariant.answers (c.loop-exchange-test.ensures.«open» refl) c.answer_batch.ensures.answers
+    c.in-Err.cause
 
 pub loop-exchange-preserved : goal.loop-exchange-preserved
 loop-exchange-preserved g c =
@@ -45,7 +47,7 @@ pub returns-in_default-write_waiting-clause-stops : goal.returns-in_default-writ
 returns-in_default-write_waiting-clause-stops g c =
     stops_more g.T.Turns.answers most_in_batch c.args.server.now c.loop-exchange.server c.answer_batch.new.server
     _ _ _ c.args.exchange.now c.loop-exchange.exchange c.answer_batch.new.exchange
-    c.loop-exchange.invariant.answers (c.loop-exchange-test.ensures.«open» refl) c.answer_batch.ensures.answers
+    c.in_default-write_waiting.ensures.few c.loop-exchange.invariant.answers (c.loop-exchange-test.ensures.«open» refl) c.answer_batch.ensures.answers
     c.in_default-write_waiting.ensures.err
 
 pub returns-in-Err-clause-committed : goal.returns-in-Err-clause-committed
