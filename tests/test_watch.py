@@ -44,7 +44,7 @@ class Screens:
             self.glass.feed(text)
 
     def until(self, screens):
-        """Reads until so many screens are whole: each is one write, and nothing follows for a second."""
+        """Reads until so many screens are whole: nothing follows for a second."""
         end = time.monotonic() + LONGEST_WAIT
         while self.glass.screens < screens and time.monotonic() < end:
             self.read(0.05)

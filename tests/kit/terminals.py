@@ -40,12 +40,12 @@ class Glass:
         line = self.lines[self.row]
         if control == "H":
             self.row = self.column = 0
-            self.screens += 1
         elif control == "B":
             self.row = min(self.row + 1, self.rows - 1)
         elif control in ("K", "J"):
             self.lines[self.row] = line[: self.column] + " " * (self.columns - self.column)
             if control == "J":
+                self.screens += 1  # each ends so
                 self.lines[self.row + 1 :] = [" " * self.columns] * (self.rows - 1 - self.row)
         elif control in ("?7l", "?7h"):
             self.wraps = control == "?7h"
