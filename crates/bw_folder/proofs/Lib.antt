@@ -12,3 +12,4 @@ pub mod LooseForms
 pub mod LooseJournals
 pub mod Standings
 pub mod BecomingForms
+pub mod RecoveredForms

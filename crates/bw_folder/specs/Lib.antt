@@ -6,3 +6,4 @@ pub mod JournalFolders
 pub mod RestingJournals
 pub mod RestingFolders
 pub mod FolderConversions
+pub mod RecoveredNames

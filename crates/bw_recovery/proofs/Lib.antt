@@ -12,3 +12,4 @@ pub mod StoryForms
 pub mod PartForms
 pub mod NameStays
 pub mod SortedNames
+pub mod CountForms

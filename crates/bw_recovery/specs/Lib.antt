@@ -11,3 +11,4 @@ pub mod Findings
 pub mod FileEndings
 pub mod FoundNames
 pub mod Causes
+pub mod CountedFaults

@@ -31,3 +31,5 @@ pub mod Promises
 pub mod RestingNames
 pub mod RestFaults
 pub mod JournalChanges
+pub mod TableChanges
+pub mod LentStores
