@@ -5,7 +5,7 @@ use Rattle.std.specs.List.{find}
 use Rattle.std.specs.Str.{bytes_eq}
 use Rattle.bw_model.proofs.BookLemmas.{same_name}
 use Rattle.bw_folder.specs.declared.journal.OpenJournal.{OpenJournal}
-use Rattle.bw_folder.specs.Journals.{existences, existence_of, known_but}
+use Rattle.bw_folder.specs.Journals.{existences, existence_of}
 
 module _ {F : Type 0} where
   -- the journals of the other names
@@ -29,18 +29,6 @@ module _ {F : Type 0} where
   -- none of that name
   pub closed_gone : (js : List (OpenJournal F)) (name : List ℕ) → existence_of (existences (others_of name js)) name ≡ None
   closed_gone js name = ap (option_map (λ (it : List ℕ × Bool). it.1)) (none_of js name)
-
-  -- the other names that are known
-  pub known_left : (js : List (OpenJournal F)) (name : List ℕ) →
-      existences (others_of name js) ≡ known_but name (existences js)
-  known_left [] name = refl
-  known_left (j ∷ js) name = go (bytes_eq j.name name) (known_left js name)
-    where
-      go : (b : Bool) → existences (others_of name js) ≡ known_but name (existences js) →
-          existences (cond (not b) (j ∷ others_of name js) (others_of name js))
-          ≡ cond (not b) ((j.name, j.existed) ∷ known_but name (existences js)) (known_but name (existences js))
-      go true e = e
-      go false e = ap (λ (known : List (List ℕ × Bool)). (j.name, j.existed) ∷ known) e
 
   found_of : (js : List (OpenJournal F)) (name other : List ℕ) → bytes_eq name other ≡ false →
       find (λ (it : List ℕ × Bool). bytes_eq it.0 other) (existences (others_of name js))

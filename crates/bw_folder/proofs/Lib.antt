@@ -12,4 +12,3 @@ pub mod LooseForms
 pub mod LooseJournals
 pub mod Standings
 pub mod BecomingForms
-pub mod RecoveredForms

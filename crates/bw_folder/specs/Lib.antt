@@ -6,4 +6,3 @@ pub mod JournalFolders
 pub mod RestingJournals
 pub mod RestingFolders
 pub mod FolderConversions
-pub mod RecoveredNames

@@ -4,14 +4,15 @@ ghost use Rattle.std.specs.Prelude.{IsSome, IfSome, ◌↔◌, is_err, string_by
 ghost use Rattle.std.specs.List.{All, Contains, HoldsAt};
 ghost use Rattle.bw_store.specs.Stores.{Counts, Creates, Written, MayTear, KeepsOthers};
 ghost use Rattle.bw_disk.specs.Disks.{IsOneCall, AsksOnce, Syncs};
+ghost use Rattle.bw_disk.specs.DiskSteps.{StaysWhole};
 ghost use Rattle.bw_folder.specs.Folders.{take_path as path_of_take, take_content, open_names};
-ghost use Rattle.bw_folder.specs.Folders.{opened_by};
+ghost use Rattle.bw_folder.specs.Folders.{opened_by, found_by};
 ghost use Rattle.bw_folder.specs.Folders.{closed_by};
 ghost use Rattle.std.specs.Prelude.{filter, not};
 ghost use Rattle.std.specs.Str.{bytes_eq};
 
 use crate::paths::take_path;
-use bw_disk::{Disk, SystemDisk};
+use bw_disk::{Disk, SystemDisk, Volume};
 use bw_request::Name;
 use bw_store::{CallCounter, Created, StoreFault, TakeStore};
 use std::alloc::{AllocError, Global};
@@ -19,9 +20,9 @@ use std::fs::Files;
 
 /// A take's file, which stays open.
 #[derive(Drop)]
-pub(crate) struct OpenTake<F: Drop> {
-    pub(crate) name: Name,
-    pub(crate) file: F,
+struct OpenTake<F: Drop> {
+    name: Name,
+    file: F,
 }
 
 /// The files `NAME.wav` of one folder.
@@ -31,11 +32,11 @@ pub(crate) struct OpenTake<F: Drop> {
 /// `create` also if memory is refused, and the others for a name whose file isn't open.
 #[derive(Drop)]
 pub struct FolderStore<D: Disk> {
-    pub(crate) disk: D,
-    pub(crate) alloc: Global,
-    pub(crate) folder: String,
-    pub(crate) takes: Vec<OpenTake<D::File>>,
-    pub(crate) call_counter: CallCounter,
+    disk: D,
+    alloc: Global,
+    folder: String,
+    takes: Vec<OpenTake<D::File>>,
+    call_counter: CallCounter,
     ghost paths: { IsTrue (D.honest disk) → All
         (λ take. D.path_of take.file ≡ path_of_take (string_bytes folder) take.name) takes.items },
 }
@@ -191,13 +192,50 @@ impl<D: Disk> FolderStore<D> {
     }
 
     /// Closes the file of a take. The disk isn't called.
-    pub(crate) fn close(&mut self, name: &Name)
+    fn close(&mut self, name: &Name)
         ensures rest { (self.new.disk ≡ self.old.disk) × (self.new.folder ≡ self.old.folder)
             × (self.new.call_counter ≡ self.old.call_counter) }
         ensures opened { open_names self.new.takes.items
             ≡ filter (λ other. not (bytes_eq other name.now)) (open_names self.old.takes.items) }
     {
         self.takes.retain(|take| take.name != *name);
+    }
+}
+
+impl<D: Volume> FolderStore<D> {
+    ghost use Rattle.bw_folder.specs.TakeFolders.{takes_disk, takes_folder, open_takes};
+    ghost use Rattle.bw_folder.specs.TakeFolders.{takes_calls, takes_failures, take_in_folder};
+
+    /// Opens the file of a take that an earlier server made, by one call of the disk, so that it
+    /// can be written from then on. That is no call of the store. It returns false if nothing is
+    /// there.
+    ///
+    /// # Errors
+    /// `StoreFault` if that call failed, or if memory was refused before it.
+    ///
+    /// # Not specified
+    /// When memory is refused: an error without a call of the disk has no other cause.
+    pub fn adopt(&mut self, name: &Name) -> Result<bool, StoreFault>
+        ensures calls { takes_calls self.new ≡ takes_calls self.old }
+        ensures failures { takes_failures self.new ≡ takes_failures self.old }
+        ensures folder { takes_folder self.new ≡ takes_folder self.old }
+        ensures disk { StaysWhole D.Disk (takes_disk self.old) (takes_disk self.new) }
+        ensures found { IsTrue (D.honest (takes_disk self.old)) → IfOk result (λ found. IsTrue found
+            ↔ IsSome (take_in_folder self.old name.now)) }
+        ensures asks { AsksOnce D.calls D.failures (takes_disk self.old) (takes_disk self.new)
+            result }
+        ensures opened { open_takes self.new ≡ found_by result name.now (open_takes self.old) }
+    {
+        let found = take_path(self.alloc, &self.folder, name)?;
+        self.takes.reserve_exact(1).map_err(|_| StoreFault)?;
+        let Some(file) = self.disk.open(found.as_str()).map_err(|_| StoreFault)? else {
+            return Ok(false);
+        };
+        let name = name.copy();
+        self.takes
+            .push(OpenTake { name, file })
+            .map_err(|_| StoreFault)?;
+        Ok(true)
     }
 }
 

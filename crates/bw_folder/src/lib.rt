@@ -11,12 +11,9 @@ mod journal;
 mod loose;
 mod noting;
 mod paths;
-mod recovering;
-mod reopening;
 mod resting;
 mod syncing;
 
 pub use folder::FolderStore;
 pub use journal::FolderJournal;
-pub use recovering::{look_at_name, restore_in_folder};
 pub use resting::RestingFolderJournal;

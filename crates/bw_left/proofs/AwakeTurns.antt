@@ -14,7 +14,6 @@ use Rattle.bw_store.specs.declared.store.TakeStore.{Ghosts as StoreGhosts}
 use Rattle.bw_journal.specs.declared.journal.Journal.{Ghosts as JournalGhosts}
 use Rattle.bw_exchange.specs.AnsweredFrames.{Answered}
 use Rattle.bw_session.specs.Books.{failures_of, OrdersBook}
-use Rattle.bw_session.specs.NotedNames.{none_asleep}
 use Rattle.bw_session.specs.ServerTurns.{TurnsOn}
 use Rattle.bw_session.specs.Tables.{session_in}
 use Rattle.bw_session.specs.declared.server.Server.{Server}
@@ -113,7 +112,7 @@ module _ {X Y : Type 0} (S : StoreGhosts X) (J : JournalGhosts Y) (first : List 
     turn_order name x e =
         subst (λ (o : Option (List ℕ)). OrdersName S J first new o name x)
         (by_rest (J.resting old.stores.journal name) refl)
-        (t.turned.ordered r.honest r.honest_notes none_asleep refl r.held.now r.held.table r.held.held r.held.noted
+        (t.turned.ordered r.honest r.honest_notes r.held.now r.held.table r.held.held r.held.noted
         (order_now S J first old book r) name x e)
       where
         by_rest : (o : Option (List ℕ)) → J.resting old.stores.journal name ≡ o → r.held.now name ≡ first name

@@ -215,7 +215,7 @@ module _ {X Y : Type 0} (S : StoreGhosts X) (J : JournalGhosts Y) (first : List 
     (order : EachIsInOrder S J first s book) where
   is_head : (name : List ℕ) → J.header s.stores.journal name ≡ header_beside s.limit (first name)
   is_head name =
-      header_is (J.header s.stores.journal name) s.limit (first name) (r.own.limits name) (r.noted.existed name refl)
+      header_is (J.header s.stores.journal name) s.limit (first name) (r.own.limits name) (r.noted.existed name)
 
   stands : (name : List ℕ) →
       Stands (header_beside s.limit (first name)) name (log_of book name) (J.notes s.stores.journal name)
@@ -230,7 +230,7 @@ module _ {X Y : Type 0} (S : StoreGhosts X) (J : JournalGhosts Y) (first : List 
       go None e known =
           let unknown : is_known book name ≡ false =
           known ∙ ap (λ (o : Option Session). is_some (option_map kept_by o)) e in
-          inl (ap (λ (l : Log). l.done) (unknown_log book name unknown), r.noted.unknown name e refl)
+          inl (ap (λ (l : Log). l.done) (unknown_log book name unknown), r.noted.unknown name e)
 
   right : (name : List ℕ) → IsTrue (list_all is_admitted (log_of book name).admitted)
   right name = go (is_known book name) refl

@@ -59,7 +59,7 @@ module _ {X Y : Type 0} (S : StoreGhosts X) (J : JournalGhosts Y) (first : List 
           let named : HoldsName (is_some (r.held.now name)) name log (kept_by x) =
           r.held.held.holds.each name (kept_by x) (ap (option_map kept_by) found) in
           let new : (J.header s.stores.journal name).existed ≡ false =
-          r.held.noted.existed name refl
+          r.held.noted.existed name
           ∙ closed_new (is_some (r.held.now name)) (made (is_some (r.held.now name)) log.admitted log.done) _ _ named.state
           (λ existed. ap (λ (b : Bool). made b log.admitted log.done) existed ∙ existed_is_new log.admitted log.done)
           both.0 in

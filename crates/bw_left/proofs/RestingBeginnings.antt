@@ -22,7 +22,6 @@ use Rattle.bw_folder.specs.declared.folder.FolderStore.{FolderStore}
 use Rattle.bw_folder.specs.declared.journal.FolderJournal.{FolderJournal}
 use Rattle.bw_folder.specs.declared.resting.RestingFolderJournal.{RestingFolderJournal}
 use Rattle.bw_session.specs.Books.{OrdersBook}
-use Rattle.bw_session.specs.NotedNames.{none_asleep}
 use Rattle.bw_session.specs.declared.server.Server.{Server}
 use Rattle.bw_session.proofs.OrderLaws.{quiet_in_order}
 use Rattle.bw_rest.specs.Folders.{HoldsFolder}
@@ -116,7 +115,7 @@ module _ {D E F H : Type 0} (G : DiskGhosts D F) (K : DiskGhosts E H)
   begins_in_order name x e =
       subst (λ (o : Option (List ℕ)). OrdersName S R first s o name x)
       (held.inside name (known_here S R first s (cut_book book) held name x e)).same_first
-      (quiet_in_order S R none_asleep held.now s held.table honest held.held held.noted quiet name x e)
+      (quiet_in_order S R held.now s held.table honest held.held held.noted quiet name x e)
 
   pub begins_apart : RestsApart S R s
   begins_apart name some =
@@ -138,7 +137,7 @@ module _ {D E F H : Type 0} (G : DiskGhosts D F) (K : DiskGhosts E H)
       unknown : (v : Bool) → is_known held.table name ≡ v → first name ≡ None → v ≡ false
       unknown true e new =
           absurd (false≢true (sym (ap is_some ((held.inside name e).same_first ∙ new))
-          ∙ sym (held.noted.existed name refl) ∙ existed))
+          ∙ sym (held.noted.existed name) ∙ existed))
       unknown false e new = refl
 
   -- none is loose

@@ -16,7 +16,6 @@ use Rattle.bw_journal.specs.JournalHeaders.{Header, header_len}
 use Rattle.bw_journal.specs.JournalsAtRest.{KeepsOtherJournals, WakesJournal}
 use Rattle.bw_journal.specs.declared.journal.Journal.{Ghosts as JournalGhosts}
 use Rattle.bw_session.specs.Books.{OrdersBook}
-use Rattle.bw_session.specs.NotedNames.{none_asleep}
 use Rattle.bw_session.specs.WriteOrders.{FileComesFirst, NextIsCarriedOut}
 use Rattle.bw_session.specs.RestFaults.{may_wake}
 use Rattle.bw_session.specs.RestingNames.{KeepsOtherNames, KeepsNames, RestsNow, WakesNow, journals_of}
@@ -145,9 +144,8 @@ module _ {X Y : Type 0} (S : StoreGhosts X) (J : JournalGhosts Y) (first : List 
           (S.contents s.stores.store name)) (sym there.same_log)
           (in_order (J.header s.stores.journal name) (r.held.now name) name (log_of r.held.table name) s.limit _ _
           (header_is (J.header s.stores.journal name) s.limit (r.held.now name) (r.held.limits name)
-          (r.held.noted.existed name refl))
-          (waiting_in_order S J none_asleep r.held.now s r.held.table r.honest r.held.held r.held.noted
-          (order_now s book r) name refl
+          (r.held.noted.existed name))
+          (waiting_in_order S J r.held.now s r.held.table r.honest r.held.held r.held.noted (order_now s book r) name
           (ap (λ (l : Log). is_pending l) (sym there.same_log) ∙ waits))))
       ordered name waits false e =
           absurd (false≢true (sym (no_wait name e (is_known book name) refl (r.held.outside name e)) ∙ waits))

@@ -325,7 +325,7 @@ module _ {D E F H : Type 0} (G : DiskGhosts D F) (K : DiskGhosts E H)
       (file name)
   woken name e some =
       let there = says name (rests_by true name e) in
-      let new : now name ≡ None = none_is (now name) (sym (p.held.noted.existed name refl)
+      let new : now name ≡ None = none_is (now name) (sym (p.held.noted.existed name)
       ∙ ap (λ (x : Header). x.existed) (headers s.stores.journal name)
       ∙ header_loose (loose name) (own_notes (closed_path (string_bytes s.stores.journal.inner.folder) name))
       (header_in_folder s.stores.journal.inner name) e) in

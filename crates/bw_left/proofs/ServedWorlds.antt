@@ -12,7 +12,6 @@ use Rattle.bw_journal.specs.declared.journal.Journal.{Ghosts as JournalGhosts}
 use Rattle.bw_folder.specs.Journals.{notes_at, journal_path}
 use Rattle.bw_folder.specs.declared.folder.FolderStore.{FolderStore}
 use Rattle.bw_folder.specs.declared.journal.FolderJournal.{FolderJournal}
-use Rattle.bw_session.specs.NotedNames.{none_asleep}
 use Rattle.bw_session.proofs.OrderLaws.{quiet_in_order}
 use Rattle.bw_recovery.specs.Paths.{path_with, notes_path}
 use Rattle.bw_recovery.proofs.PathLemmas.{path_name}
@@ -71,8 +70,7 @@ pub starts_are_steps : {D E F H : Type 0} (G : DiskGhosts D F) (K : DiskGhosts E
 starts_are_steps G K S J journals limits limit folder sync first w notes takes s foreign left was = record {
   runs = record { honest = was.honest; held = was.held; noted = was.noted; own = own };
   honest_notes = was.honest_notes;
-  order = quiet_in_order S J none_asleep first s (cut_book w.book) was.honest was.held was.noted
-      (cut_books_are_quiet w.book);
+  order = quiet_in_order S J first s (cut_book w.book) was.honest was.held was.noted (cut_books_are_quiet w.book);
   foreign = earlier;
 }
   where

@@ -23,7 +23,6 @@ use Rattle.bw_journal.proofs.Lengths.{length-header_bytes}
 use Rattle.bw_session.specs.Books.{failures_of, HoldsBook, NotesBook, TurnsBook}
 use Rattle.bw_session.specs.NameNotes.{next_entry}
 use Rattle.bw_session.specs.NextNumbers.{with_done}
-use Rattle.bw_session.specs.NotedNames.{none_asleep}
 use Rattle.bw_session.specs.WriteOrders.{IsInOrder, file_due}
 use Rattle.bw_session.specs.Servers.{done_in, store_since}
 use Rattle.bw_session.specs.Tables.{session_in}
@@ -84,7 +83,7 @@ short_none S J first s book held noted name journal is short =
     stands_now None e = inl (
       done_is s.limit (store_since S first s.stores.store) (session_in s.sessions) book held.holds name
           ∙ ap (λ (o : Option Session). option_map_or (λ s. length s.progress.ledger.outcomes) o 0) e,
-      noted.unknown name e refl,
+      noted.unknown name e,
     )
 
 -- what a store is to have of a name, in the words of a start
@@ -109,8 +108,8 @@ leaves_honestly S J first s book r =
     ordered_servers S J first s book r.runs (λ name waits.
     in_order (J.header s.stores.journal name) (first name) name (log_of book name) s.limit _ _
     (header_is (J.header s.stores.journal name) s.limit (first name) (r.runs.own.limits name)
-    (r.runs.noted.existed name refl))
-    (waiting_in_order S J none_asleep first s book r.runs.honest r.runs.held r.runs.noted r.order name refl waits))
+    (r.runs.noted.existed name))
+    (waiting_in_order S J first s book r.runs.honest r.runs.held r.runs.noted r.order name waits))
 
 module _ {X Y : Type 0} (S : StoreGhosts X) (J : JournalGhosts Y) (first : List ℕ → Option (List ℕ))
     (old new : Server X Y S J) (book : Book) (m : Message) (replies : List Reply)
@@ -128,7 +127,7 @@ module _ {X Y : Type 0} (S : StoreGhosts X) (J : JournalGhosts Y) (first : List 
   now_noted : NotesBook S J first new turn_had.later
   now_noted =
       subst (λ (b : Book). NotesBook S J first new b) reported
-      (h.noted r.runs.honest r.honest_notes none_asleep refl first book r.runs.held r.runs.noted)
+      (h.noted r.runs.honest r.honest_notes first book r.runs.held r.runs.noted)
 
   others : (name : List ℕ) → bytes_eq m.name name ≡ false → log_of turn_had.later name ≡ log_of book name
   others name apart =
@@ -196,7 +195,7 @@ module _ {X Y : Type 0} (S : StoreGhosts X) (J : JournalGhosts Y) (first : List 
     runs = runs;
     honest_notes = h.both.1.honest_notes ∙ r.honest_notes;
     foreign = λ name bytes named none stood. r.foreign name bytes named (earlier_none name none) stood;
-    order = h.ordered r.runs.honest r.honest_notes none_asleep refl first book r.runs.held r.runs.noted r.order;
+    order = h.ordered r.runs.honest r.honest_notes first book r.runs.held r.runs.noted r.order;
   }
 
   pub stops : IsTurn (λ name. is_some (first name)) (failures_of S J old) (failures_of S J new) book (Says m)

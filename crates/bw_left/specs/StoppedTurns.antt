@@ -38,7 +38,7 @@ module _ {X Y : Type 0} (S : StoreGhosts X) (J : JournalGhosts Y) where
     pub fits : IsTrue (is_frame Second (Says m))
     pub turned : TurnsBooks S J old new m replies
     pub noted : NotesBooks S J old new m replies
-    pub ordered : OrdersBooks S J old new (Says m)
+    pub ordered : OrdersBooks S J old new
     pub both : UsesInTurn S J old new m replies
     pub limit : server_limit new ≡ server_limit old
 

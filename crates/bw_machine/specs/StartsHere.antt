@@ -1,6 +1,5 @@
 -- What the start of a server over a folder of this machine results in.
-use Rattle.std.specs.Prelude.{◌≡◌, ℕ, Bool, false, List, length, Option, Some, Result, Ok, Err, IfOk, MatchResult}
-use Rattle.bw_model.specs.Book.{Book}
+use Rattle.std.specs.Prelude.{◌≡◌, ℕ, Bool, List, Some, Result, Ok, Err, IfOk, MatchResult}
 use Rattle.bw_disk.specs.declared.disk.Disk.{Ghosts as DiskGhosts}
 use Rattle.bw_folder.specs.declared.folder.FolderStore.{FolderStore}
 use Rattle.bw_folder.specs.declared.journal.FolderJournal.{FolderJournal}
@@ -11,8 +10,6 @@ use Rattle.bw_machine.specs.SeenMachine.{started_with_rest, lock_kept}
 use Rattle.bw_machine.specs.declared.network.TcpNetwork.{TcpNetwork}
 use Rattle.bw_net.specs.declared.lock.FolderLock.{FolderLock}
 use Rattle.bw_ports.specs.declared.starts.StartRefusal.{StartRefusal}
-use Rattle.bw_serve.specs.declared.opening.Opened.{Opened}
-use Rattle.bw_session.specs.Books.{HoldsBook}
 use Rattle.bw_session.specs.declared.server.Server.{Server}
 use Rattle.bw_start.specs.StartedServers.{IsSetTo}
 use Rattle.bw_start.specs.declared.resting.Settings.{Settings}
@@ -30,18 +27,6 @@ abbrev pub StartsAsked : {D F : Type 0} {G : DiskGhosts D F} {S : StoreGhosts (F
 StartsAsked rest n folder limit sync result n' = IfOk result (IsSetTo limit folder sync)
     × MatchResult result (λ _. started_with_rest n' ≡ Some rest)
     (λ _. started_with_rest n' ≡ started_with_rest n)
-
--- A server is opened so, without rest, and it is said how many takes each book has that it holds; or
--- none is.
-abbrev pub OpensAsked : {D F : Type 0} {G : DiskGhosts D F} {S : StoreGhosts (FolderStore D F G)}
-    {J : JournalGhosts (FolderJournal D F G)} → TcpNetwork → List ℕ → ℕ → Bool →
-    Result (Opened (Server (FolderStore D F G) (FolderJournal D F G) S J)) StartRefusal → TcpNetwork → Type 0
-OpensAsked {S = S} {J = J} n folder limit sync (Ok opened) n' =
-    StartsAsked false n folder limit sync (Ok opened.server) n'
-    × ((first : List ℕ → Option (List ℕ)) (book : Book) → HoldsBook S J first opened.server book →
-    opened.takes ≡ Some (length book))
-OpensAsked {S = S} {J = J} n folder limit sync (Err refusal) n' =
-    StartsAsked {S = S} {J = J} false n folder limit sync (Err refusal) n'
 
 module _ {D F : Type 0} (G : DiskGhosts D F) where
   -- none is started: the folder isn't locked, or two disks of this machine that no call was made of

@@ -12,7 +12,6 @@ use bw_folder::{FolderJournal, FolderStore};
 use bw_layout::Limit;
 use bw_net::{HostRecordings, NotedFiles, check_folder};
 use bw_ports::{StartRefusal, Starts, StartsResting};
-use bw_serve::{Opened, Opens};
 use bw_session::Server;
 use bw_start::Settings;
 
@@ -72,29 +71,6 @@ impl<'a> StartsResting<FolderServer<'a>> for TcpNetwork<'a> {
         sync: bool,
     ) -> Result<FolderServer<'a>, StartRefusal> {
         start_with_rest(self, folder, limit, sync)
-    }
-}
-
-impl<'a> Opens for TcpNetwork<'a> {
-    ghost use Rattle.bw_machine.specs.SeenMachine.{network_failures};
-    ghost use Rattle.bw_machine.specs.StartsHere.{OpensAsked};
-
-    type Server = FolderServer<'a>;
-
-    ghost failures = { network_failures };
-
-    ghost opens = { OpensAsked };
-
-    /// Refuses a folder in which names rest.
-    fn open(
-        &mut self,
-        folder: &str,
-        limit: Limit,
-        sync: bool,
-    ) -> Result<Opened<FolderServer<'a>>, StartRefusal> {
-        let server: FolderServer<'a> = start_without_rest(self, folder, limit, sync)?;
-        let takes = Some(server.names() as u64);
-        Ok(Opened { server, takes })
     }
 }
 

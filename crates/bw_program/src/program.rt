@@ -8,7 +8,7 @@ ghost use Rattle.bw_console.specs.declared.exit.Exit.{Exit};
 ghost use Rattle.bw_console.specs.Exits.{status_of};
 ghost use Rattle.bw_send_file.specs.FileLooks.{LooksAt};
 ghost use Rattle.bw_program.specs.Programs.{IsDoneFor, IsProgram, IsReporting};
-ghost use Rattle.bw_program.specs.Sides.{host_side, kept_side, sender_side, server_side, spool_side, state_side, turns_side, upload_side};
+ghost use Rattle.bw_program.specs.Sides.{host_side, sender_side, server_side, spool_side, start_side, state_side, upload_side};
 ghost use Rattle.bw_serve_status.specs.Shown.{status_side};
 
 use crate::folders::work_on_takes;
@@ -24,7 +24,7 @@ use bw_console::{Exit, Fault, report_bad_argv};
 use bw_disk::Volume;
 use bw_draw::draw_file;
 use bw_edit::EditedFiles;
-use bw_journal::{Journal, NoJournal};
+use bw_journal::{BecomesResting, Journal, NoJournal};
 use bw_kind::FileKinds;
 use bw_layout::Limit;
 use bw_lock::FolderLocks;
@@ -32,7 +32,7 @@ use bw_one_name::NameRule;
 use bw_operators::StatusSetup;
 use bw_pace::PacedNetwork;
 use bw_ports::{
-    ListenerSetup, Network, Pause, RecordingFiles, System, Watch,
+    ListenerSetup, Network, Pause, RecordingFiles, Starts, StartsResting, System, Watch,
 };
 use bw_progress::UploadWatch;
 use bw_rehearse::rehearse_with_stops_run;
@@ -40,7 +40,7 @@ use bw_repair_file::repair_file;
 use bw_resume::StateKeeping;
 use bw_send_file::PlanFeed;
 use bw_send_pcm::PcmFeed;
-use bw_serve::Opens;
+use bw_session::Server;
 use bw_spool::SpoolKeeping;
 use bw_stream::{Sink, Source};
 use bw_upload::{Feed, Observer};
@@ -59,9 +59,11 @@ pub fn start<
     S: System,
     F: RecordingFiles + StateKeeping + SpoolKeeping + EditedFiles + FolderLocks + FileKinds,
     D: Volume,
+    J: BecomesResting,
     N: PacedNetwork
         + ListenerSetup
-        + Opens
+        + Starts<Server<N::Store, J>>
+        + StartsResting<Server<N::Store, J>>
         + NameRule
         + StatusSetup<N::Reactor>,
     P: Pause,
@@ -75,14 +77,13 @@ pub fn start<
     ensures { (exit : Exit) × (exit_status result ≡ status_of exit) × IsProgram
         (host_side S.System F.RecordingFiles (state_side F.kept_at F.States.StateFiles F.States.Log.StateLog)
         (spool_side F.lends F.Keeper.SpoolKeeper) F.EditedFiles F.FolderLocks F.FileKinds D.Disk R.Source W.Sink E.Sink)
-        (server_side N.Store.TakeStore ⟦<NoJournal as Journal>⟧ N.Peers.Peers
+        (server_side N.Store.TakeStore J.Journal ⟦<NoJournal as Journal>⟧ N.Peers.Peers
         N.Peers.Reader.Source N.Peers.Writer.Sink N.Reactor.Reactor N.Reactor.Link.Link N.NameRule
         (status_side N.StatusSetup N.Port.StatusPort N.Port.Link.Link))
         (sender_side N.Dial.Dial N.Dial.Reader.Source N.Dial.Writer.Sink)
         (upload_side ⟦<PlanFeed<F::File, F::Stamped> as Feed>⟧ (LooksAt F.Stamped.Stamped)
         ⟦<PcmFeed<F::Growing> as Feed>⟧ P.Pause)
-        N.Network N.ListenerSetup (kept_side N.Opens.opens N.Opens.failures
-        (turns_side N.Server.Turns.answers N.Server.Turns.commits N.Server.HasTable.holds))
+        N.Network N.ListenerSetup (start_side N.Starts N.StartsResting J.Resting.Journal J.becomes)
         (S.words outside.old.system) exit outside.old outside.new }
 {
     ExitCode::from(obey(alloc, outside).status())
@@ -93,9 +94,11 @@ fn obey<
     S: System,
     F: RecordingFiles + StateKeeping + SpoolKeeping + EditedFiles + FolderLocks + FileKinds,
     D: Volume,
+    J: BecomesResting,
     N: PacedNetwork
         + ListenerSetup
-        + Opens
+        + Starts<Server<N::Store, J>>
+        + StartsResting<Server<N::Store, J>>
         + NameRule
         + StatusSetup<N::Reactor>,
     P: Pause,
@@ -107,14 +110,13 @@ fn obey<
 >(alloc: Global, outside: &mut Outside<S, F, D, N, P, R, W, E, V, G>) -> Exit
     ensures { IsProgram (host_side S.System F.RecordingFiles (state_side F.kept_at F.States.StateFiles F.States.Log.StateLog)
         (spool_side F.lends F.Keeper.SpoolKeeper) F.EditedFiles F.FolderLocks F.FileKinds D.Disk R.Source W.Sink E.Sink)
-        (server_side N.Store.TakeStore ⟦<NoJournal as Journal>⟧ N.Peers.Peers
+        (server_side N.Store.TakeStore J.Journal ⟦<NoJournal as Journal>⟧ N.Peers.Peers
         N.Peers.Reader.Source N.Peers.Writer.Sink N.Reactor.Reactor N.Reactor.Link.Link N.NameRule
         (status_side N.StatusSetup N.Port.StatusPort N.Port.Link.Link))
         (sender_side N.Dial.Dial N.Dial.Reader.Source N.Dial.Writer.Sink)
         (upload_side ⟦<PlanFeed<F::File, F::Stamped> as Feed>⟧ (LooksAt F.Stamped.Stamped)
         ⟦<PcmFeed<F::Growing> as Feed>⟧ P.Pause)
-        N.Network N.ListenerSetup (kept_side N.Opens.opens N.Opens.failures
-        (turns_side N.Server.Turns.answers N.Server.Turns.commits N.Server.HasTable.holds))
+        N.Network N.ListenerSetup (start_side N.Starts N.StartsResting J.Resting.Journal J.becomes)
         (S.words outside.old.system) result outside.old outside.new }
 {
     match outside.system.words() {
@@ -128,9 +130,11 @@ fn answer<
     S: System,
     F: RecordingFiles + StateKeeping + SpoolKeeping + EditedFiles + FolderLocks + FileKinds,
     D: Volume,
+    J: BecomesResting,
     N: PacedNetwork
         + ListenerSetup
-        + Opens
+        + Starts<Server<N::Store, J>>
+        + StartsResting<Server<N::Store, J>>
         + NameRule
         + StatusSetup<N::Reactor>,
     P: Pause,
@@ -142,14 +146,13 @@ fn answer<
 >(alloc: Global, words: &[String], outside: &mut Outside<S, F, D, N, P, R, W, E, V, G>) -> Exit
     ensures { IsProgram (host_side S.System F.RecordingFiles (state_side F.kept_at F.States.StateFiles F.States.Log.StateLog)
         (spool_side F.lends F.Keeper.SpoolKeeper) F.EditedFiles F.FolderLocks F.FileKinds D.Disk R.Source W.Sink E.Sink)
-        (server_side N.Store.TakeStore ⟦<NoJournal as Journal>⟧ N.Peers.Peers
+        (server_side N.Store.TakeStore J.Journal ⟦<NoJournal as Journal>⟧ N.Peers.Peers
         N.Peers.Reader.Source N.Peers.Writer.Sink N.Reactor.Reactor N.Reactor.Link.Link N.NameRule
         (status_side N.StatusSetup N.Port.StatusPort N.Port.Link.Link))
         (sender_side N.Dial.Dial N.Dial.Reader.Source N.Dial.Writer.Sink)
         (upload_side ⟦<PlanFeed<F::File, F::Stamped> as Feed>⟧ (LooksAt F.Stamped.Stamped)
         ⟦<PcmFeed<F::Growing> as Feed>⟧ P.Pause)
-        N.Network N.ListenerSetup (kept_side N.Opens.opens N.Opens.failures
-        (turns_side N.Server.Turns.answers N.Server.Turns.commits N.Server.HasTable.holds))
+        N.Network N.ListenerSetup (start_side N.Starts N.StartsResting J.Resting.Journal J.becomes)
         (Some (map string_bytes words.now)) result outside.old outside.new }
 {
     match parse(alloc, words) {
@@ -163,9 +166,11 @@ fn perform<
     S: System,
     F: RecordingFiles + StateKeeping + SpoolKeeping + EditedFiles + FolderLocks + FileKinds,
     D: Volume,
+    J: BecomesResting,
     N: PacedNetwork
         + ListenerSetup
-        + Opens
+        + Starts<Server<N::Store, J>>
+        + StartsResting<Server<N::Store, J>>
         + NameRule
         + StatusSetup<N::Reactor>,
     P: Pause,
@@ -178,14 +183,13 @@ fn perform<
     requires { HasNumbersInRange line.now }
     ensures { IsDoneFor (host_side S.System F.RecordingFiles (state_side F.kept_at F.States.StateFiles F.States.Log.StateLog)
         (spool_side F.lends F.Keeper.SpoolKeeper) F.EditedFiles F.FolderLocks F.FileKinds D.Disk R.Source W.Sink E.Sink)
-        (server_side N.Store.TakeStore ⟦<NoJournal as Journal>⟧ N.Peers.Peers
+        (server_side N.Store.TakeStore J.Journal ⟦<NoJournal as Journal>⟧ N.Peers.Peers
         N.Peers.Reader.Source N.Peers.Writer.Sink N.Reactor.Reactor N.Reactor.Link.Link N.NameRule
         (status_side N.StatusSetup N.Port.StatusPort N.Port.Link.Link))
         (sender_side N.Dial.Dial N.Dial.Reader.Source N.Dial.Writer.Sink)
         (upload_side ⟦<PlanFeed<F::File, F::Stamped> as Feed>⟧ (LooksAt F.Stamped.Stamped)
         ⟦<PcmFeed<F::Growing> as Feed>⟧ P.Pause)
-        N.Network N.ListenerSetup (kept_side N.Opens.opens N.Opens.failures
-        (turns_side N.Server.Turns.answers N.Server.Turns.commits N.Server.HasTable.holds))
+        N.Network N.ListenerSetup (start_side N.Starts N.StartsResting J.Resting.Journal J.becomes)
         (S.file_at outside.old.system) (S.failures outside.old.system) line.now result
         outside.old outside.new }
 {
@@ -204,9 +208,11 @@ fn run<
     S: System,
     F: RecordingFiles + StateKeeping + SpoolKeeping + EditedFiles + FolderLocks + FileKinds,
     D: Volume,
+    J: BecomesResting,
     N: PacedNetwork
         + ListenerSetup
-        + Opens
+        + Starts<Server<N::Store, J>>
+        + StartsResting<Server<N::Store, J>>
         + NameRule
         + StatusSetup<N::Reactor>,
     P: Pause,
@@ -219,14 +225,13 @@ fn run<
     requires { HasNumbersInRange (CommandLine.Run task.now) }
     ensures { IsDoneFor (host_side S.System F.RecordingFiles (state_side F.kept_at F.States.StateFiles F.States.Log.StateLog)
         (spool_side F.lends F.Keeper.SpoolKeeper) F.EditedFiles F.FolderLocks F.FileKinds D.Disk R.Source W.Sink E.Sink)
-        (server_side N.Store.TakeStore ⟦<NoJournal as Journal>⟧ N.Peers.Peers
+        (server_side N.Store.TakeStore J.Journal ⟦<NoJournal as Journal>⟧ N.Peers.Peers
         N.Peers.Reader.Source N.Peers.Writer.Sink N.Reactor.Reactor N.Reactor.Link.Link N.NameRule
         (status_side N.StatusSetup N.Port.StatusPort N.Port.Link.Link))
         (sender_side N.Dial.Dial N.Dial.Reader.Source N.Dial.Writer.Sink)
         (upload_side ⟦<PlanFeed<F::File, F::Stamped> as Feed>⟧ (LooksAt F.Stamped.Stamped)
         ⟦<PcmFeed<F::Growing> as Feed>⟧ P.Pause)
-        N.Network N.ListenerSetup (kept_side N.Opens.opens N.Opens.failures
-        (turns_side N.Server.Turns.answers N.Server.Turns.commits N.Server.HasTable.holds))
+        N.Network N.ListenerSetup (start_side N.Starts N.StartsResting J.Resting.Journal J.becomes)
         (S.file_at outside.old.system) (S.failures outside.old.system)
         (CommandLine.Run task.now) result outside.old outside.new }
 {

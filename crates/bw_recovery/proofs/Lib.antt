@@ -12,4 +12,3 @@ pub mod StoryForms
 pub mod PartForms
 pub mod NameStays
 pub mod SortedNames
-pub mod CountForms

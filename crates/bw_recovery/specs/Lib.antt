@@ -11,4 +11,3 @@ pub mod Findings
 pub mod FileEndings
 pub mod FoundNames
 pub mod Causes
-pub mod CountedFaults

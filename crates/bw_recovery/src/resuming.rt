@@ -1,12 +1,8 @@
 //! Restoring journal and file of a name to what its done numbers make: the last step before a
 //! server resumes it.
-ghost use Rattle.std.specs.Prelude.{◌≡◌, ℕ, List, Option, Some, IsTrue, IsFalse, IfOk, IfErr, OnOk, OnErr, take};
+ghost use Rattle.std.specs.Prelude.{◌≡◌, ℕ, List, Option, Some, IsTrue, IsFalse, IfOk, OnOk, OnErr, take};
 ghost use Rattle.std.specs.Prelude.{option_map, codes, string_bytes, length, ◌+◌, ◌++◌, None, decimal};
-ghost use Rattle.std.specs.Prelude.{IsSome, is_err};
-ghost use Rattle.bw_store.specs.Stores.{Counts, KeepsOthers};
-ghost use Rattle.bw_disk.specs.ReadFaults.{is_disk_fault};
-ghost use Rattle.bw_recovery.specs.CountedFaults.{CountsUnless, CountsOneUnless};
-ghost use Rattle.bw_recovery.specs.Changes.{IsCrowded, torn_text};
+ghost use Rattle.bw_store.specs.Stores.{KeepsOthers};
 ghost use Rattle.bw_recovery.specs.Adoptions.{adopted, patched, MendsInPart, AdoptsInPart, SparesTake};
 ghost use Rattle.bw_recovery.specs.Names.{name_fault};
 ghost use Rattle.bw_recovery.specs.Findings.{IsFound, IsBegunAs, IsRestored, SparesFile, keeps_file, leaves_take};
@@ -67,15 +63,6 @@ pub fn restore_name<D: Volume, E: Volume>(
         ChangesTake folder.now name.now (D.contents takes.old) (D.contents takes.new)
         × KeepsOthers (E.contents notes.old) (E.contents notes.new)
         (notes_path folder.now name.now) }
-    // `Disk` is a call that failed, unless each path for a file that is set aside is taken.
-    ensures failures { IsTrue (D.honest takes.old) → IsTrue (E.honest notes.old) →
-        (limit : ℕ) (journal : List ℕ) →
-        E.contents notes.old (notes_path folder.now name.now) ≡ Some journal →
-        IsFound limit name.now journal (D.contents takes.old (wave_path folder.now name.now)) finding.now →
-        SparesFile finding.now →
-        CountsOneUnless (IsCrowded folder.now name.now (D.contents takes.old))
-        (D.failures takes.old) (D.failures takes.new) (E.failures notes.old) (E.failures notes.new)
-        (is_disk_fault result) }
     ensures kept { IsTrue (leaves_take finding.now) → takes.new ≡ takes.old }
 {
     match finding {
@@ -115,14 +102,6 @@ fn restore_begun<D: Volume, E: Volume>(
         ChangesTake folder.now name.now (D.contents takes.old) (D.contents takes.new)
         × KeepsOthers (E.contents notes.old) (E.contents notes.new)
         (notes_path folder.now name.now) }
-    ensures failures { IsTrue (D.honest takes.old) → IsTrue (E.honest notes.old) →
-        (limit : ℕ) (journal : List ℕ) →
-        E.contents notes.old (notes_path folder.now name.now) ≡ Some journal →
-        IsBegunAs limit name.now journal (D.contents takes.old (wave_path folder.now name.now)) begun.now →
-        SparesTake begun.now.replayed.state.parts begun.now.adoption begun.now.header.items →
-        CountsOneUnless (IsCrowded folder.now name.now (D.contents takes.old))
-        (D.failures takes.old) (D.failures takes.new) (E.failures notes.old) (E.failures notes.new)
-        (is_disk_fault result) }
     ensures kept { IsTrue (keeps_file begun.now.adoption) → takes.new ≡ takes.old }
 {
     cut_torn(notes, alloc, folder, name, &begun.replayed)?;
@@ -148,9 +127,6 @@ fn cut_torn<E: Volume>(
         (E.contents notes.new (notes_path folder.now name.now)) }
     ensures others { IsTrue (E.honest notes.old) → KeepsOthers
         (E.contents notes.old) (E.contents notes.new) (notes_path folder.now name.now) }
-    ensures failures { IsTrue (E.honest notes.old) →
-        IsSome (E.contents notes.old (notes_path folder.now name.now)) →
-        Counts (E.failures notes.old) (E.failures notes.new) (is_disk_fault result) }
 {
     if replayed.torn == 0 {
         return Ok(());
@@ -182,10 +158,6 @@ pub fn cut_journal<E: Volume>(
         (E.contents notes.new (notes_path folder.now name.now)) }
     ensures others { IsTrue (E.honest notes.old) → KeepsOthers
         (E.contents notes.old) (E.contents notes.new) (notes_path folder.now name.now) }
-    // `Disk` is a call that failed, if there is a journal.
-    ensures failures { IsTrue (E.honest notes.old) →
-        IsSome (E.contents notes.old (notes_path folder.now name.now)) →
-        Counts (E.failures notes.old) (E.failures notes.new) (is_disk_fault result) }
 {
     let path = path_in(alloc, folder, name, ".journal")?;
     cut_at(notes, path.as_str(), len)
@@ -200,8 +172,6 @@ fn cut_at<E: Volume>(notes: &mut E, path: &str, len: u64) -> Result<(), ReadFaul
         IsCutInPart (E.contents notes.old path.now) len (E.contents notes.new path.now) }
     ensures others { IsTrue (E.honest notes.old) →
         KeepsOthers (E.contents notes.old) (E.contents notes.new) path.now }
-    ensures failures { IsTrue (E.honest notes.old) → IsSome (E.contents notes.old path.now) →
-        Counts (E.failures notes.old) (E.failures notes.new) (is_disk_fault result) }
 {
     let Ok(opened) = notes.open(path) else {
         return Err(ReadFault::Disk);
@@ -247,11 +217,6 @@ pub fn adopt_file<D: Volume>(
         (D.contents takes.new (wave_path folder.now name.now)) }
     ensures others { IsTrue (D.honest takes.old) → ChangesTake folder.now name.now
         (D.contents takes.old) (D.contents takes.new) }
-    // `Disk` is a call that failed, unless each path for a file that is set aside is taken.
-    ensures failures { IsTrue (D.honest takes.old) →
-        (IsFalse (keeps_file adoption.now) → IsSome (D.contents takes.old (wave_path folder.now name.now))) →
-        CountsUnless (IsCrowded folder.now name.now (D.contents takes.old))
-        (D.failures takes.old) (D.failures takes.new) (is_disk_fault result) }
     ensures kept { IsTrue (keeps_file adoption.now) → takes.new ≡ takes.old }
 {
     match adoption {
@@ -280,8 +245,6 @@ fn mend_at<D: Volume>(
         (D.contents takes.old path.now) (D.contents takes.new path.now) }
     ensures others { IsTrue (D.honest takes.old) →
         KeepsOthers (D.contents takes.old) (D.contents takes.new) path.now }
-    ensures failures { IsTrue (D.honest takes.old) → IsSome (D.contents takes.old path.now) →
-        Counts (D.failures takes.old) (D.failures takes.new) (is_disk_fault result) }
 {
     let Ok(opened) = takes.open(path) else {
         return Err(ReadFault::Disk);
@@ -309,9 +272,6 @@ fn set_aside<D: Volume>(
         (D.contents takes.old) (D.contents takes.new) }
     ensures others { IsTrue (D.honest takes.old) → ChangesTake folder.now name.now
         (D.contents takes.old) (D.contents takes.new) }
-    ensures failures { IsTrue (D.honest takes.old) →
-        CountsUnless (IsCrowded folder.now name.now (D.contents takes.old))
-        (D.failures takes.old) (D.failures takes.new) (is_disk_fault result) }
 {
     for attempt in 0..256u32 {
         if try_aside(takes, alloc, folder, name, attempt)? {
@@ -337,9 +297,6 @@ fn try_aside<D: Volume>(
         KeepsEach (D.contents takes.old) (D.contents takes.new)) }
     ensures err { IsTrue (D.honest takes.old) → OnErr result (MayMove folder.now name.now
         (D.contents takes.old) (D.contents takes.new)) }
-    ensures taken { IsTrue (D.honest takes.old) → IfOk result (λ moved. IsFalse moved →
-        IsSome (D.contents takes.old (path_with folder.now (torn_text attempt) name.now))) }
-    ensures failures { Counts (D.failures takes.old) (D.failures takes.new) (is_disk_fault result) }
 {
     let from = path_in(alloc, folder, name, ".wav")?;
     let ending = torn_ending(alloc, attempt)?;
@@ -352,8 +309,6 @@ fn try_aside<D: Volume>(
 
 /// What follows a name of which a file was set aside: `.torn`, and from 1 on the number.
 fn torn_ending(alloc: Global, attempt: u32) -> Result<String, ReadFault>
-    ensures value { IfOk result (λ e. string_bytes e ≡ torn_text attempt) }
-    ensures err { IfErr result (λ e. e ≡ ReadFault.Memory) }
     ensures torn { IfOk result (λ e. take 5 (string_bytes e) ≡ codes ".torn") }
     ensures apart { IfOk result (λ e. (folder name : List ℕ) →
         IsNoWave folder (path_with folder (string_bytes e) name)) }
@@ -366,8 +321,7 @@ fn torn_ending(alloc: Global, attempt: u32) -> Result<String, ReadFault>
 
 /// `.torn`.
 fn first_ending(alloc: Global) -> Result<String, ReadFault>
-    ensures value { IfOk result (λ e. string_bytes e ≡ codes ".torn") }
-    ensures err { IfErr result (λ e. e ≡ ReadFault.Memory) }
+    ensures { IfOk result (λ e. string_bytes e ≡ codes ".torn") }
 {
     match String::from_str(alloc, ".torn") {
         Ok(ending) => Ok(ending),
@@ -377,8 +331,7 @@ fn first_ending(alloc: Global) -> Result<String, ReadFault>
 
 /// `.torn` and a number.
 fn numbered_ending(alloc: Global, attempt: u32) -> Result<String, ReadFault>
-    ensures value { IfOk result (λ e. string_bytes e ≡ codes ".torn" ++ decimal attempt) }
-    ensures err { IfErr result (λ e. e ≡ ReadFault.Memory) }
+    ensures { IfOk result (λ e. string_bytes e ≡ codes ".torn" ++ decimal attempt) }
 {
     match format!(in alloc; ".torn{attempt}") {
         Ok(ending) => Ok(ending),

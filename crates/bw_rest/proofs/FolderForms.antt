@@ -8,7 +8,7 @@ use Rattle.bw_store.specs.declared.store.TakeStore.{Ghosts as StoreGhosts}
 use Rattle.bw_journal.specs.JournalHeaders.{Header}
 use Rattle.bw_journal.specs.declared.journal.Journal.{Ghosts as JournalGhosts}
 use Rattle.bw_session.specs.Books.{HoldsBook}
-use Rattle.bw_session.specs.NotedNames.{NotesNames, none_asleep}
+use Rattle.bw_session.specs.NotedNames.{NotesNames}
 use Rattle.bw_journal.specs.JournalHeaders.{header_bytes}
 use Rattle.bw_journal.specs.Notes.{IsPrefixOf}
 use Rattle.bw_session.specs.NameNotes.{IsNoted}
@@ -47,17 +47,17 @@ holds_same limit store sessions sessions' book same h = record {
 pub notes_same : (header header' : List ℕ → Header) (notes notes' first : List ℕ → Option (List ℕ))
     (sessions sessions' : List ℕ → Option Session) (book : Book) → ((n : List ℕ) → sessions' n ≡ sessions n) →
     ((n : List ℕ) → header' n ≡ header n) → ((n : List ℕ) → notes' n ≡ notes n) →
-    NotesNames none_asleep header notes first sessions book → NotesNames none_asleep header' notes' first sessions' book
+    NotesNames header notes first sessions book → NotesNames header' notes' first sessions' book
 notes_same header header' notes notes' first sessions sessions' book same headers noted h = record {
   known = λ n s e.
       subst (λ (x : Header). IsNoted x n (log_of book n) s.progress.noted (notes' n)) (sym (headers n))
       (subst (λ (o : Option (List ℕ)). IsNoted (header n) n (log_of book n) s.progress.noted o) (sym (noted n))
       (h.known n s (sym (same n) ∙ e)));
-  unknown = λ n e awake.
+  unknown = λ n e.
       subst (λ (x : Header). IsPrefixOf (header_bytes n x) (notes' n)) (sym (headers n))
       (subst (λ (o : Option (List ℕ)). IsPrefixOf (header_bytes n (header n)) o) (sym (noted n))
-      (h.unknown n (sym (same n) ∙ e) awake));
-  existed = λ n awake. ap (λ (x : Header). x.existed) (headers n) ∙ h.existed n awake;
+      (h.unknown n (sym (same n) ∙ e)));
+  existed = λ n. ap (λ (x : Header). x.existed) (headers n) ∙ h.existed n;
 }
 
 -- what is outside a table, where all of it is the same

@@ -17,7 +17,6 @@ use Rattle.bw_store.specs.declared.store.TakeStore.{Ghosts as StoreGhosts}
 use Rattle.bw_journal.specs.JournalHeaders.{Header}
 use Rattle.bw_journal.specs.declared.journal.Journal.{Ghosts as JournalGhosts}
 use Rattle.bw_session.specs.Books.{failures_of, count_waiting}
-use Rattle.bw_session.specs.NotedNames.{none_asleep}
 use Rattle.bw_session.specs.RestingNames.{is_restable}
 use Rattle.bw_session.specs.Servers.{kept_by, store_since}
 use Rattle.bw_session.specs.ServerTurns.{ServerTurn, TurnsOn}
@@ -25,7 +24,6 @@ use Rattle.bw_session.specs.Tables.{session_in}
 use Rattle.bw_session.specs.declared.session.Session.{Session}
 use Rattle.bw_session.specs.declared.server.Server.{Server}
 use Rattle.bw_session.proofs.RestTables.{restable_reported}
-use Rattle.bw_session.proofs.ServerAnswers.{all_awake}
 use Rattle.bw_rest.specs.Folders.{HoldsFolder, RestsOutside, IsUnknown, IsInTable}
 use Rattle.bw_rest.specs.FolderRuns.{name_of_frame, turn_where, stops_where, HasNoRoom, ends_with_request, may_rest}
 use Rattle.bw_rest.specs.TurnsAtRest.{FolderTurn, NoneMayRest, HasPlace, IsAwake}
@@ -254,7 +252,7 @@ module _ {X Y : Type 0} (S : StoreGhosts X) (J : JournalGhosts Y) (ready new : S
           table = on.later;
           now = h.now;
           held = on.held;
-          noted = on.noted honest_notes none_asleep (all_awake f) h.noted;
+          noted = on.noted honest_notes h.noted;
           limits = λ n. ap (λ (x : Header). x.limit) (t.headers honest_notes n) ∙ h.limits n ∙ sym t.limit;
           ends = change_ends book name o h.ends (where_ends full existed book f faults (h.ends name));
           inside = λ n.

@@ -39,8 +39,3 @@ pub mod FitForms
 pub mod WokenForms
 pub mod SameJournalForms
 pub mod BecomingForms
-pub mod ForgetLaws
-pub mod InsertLaws
-pub mod TableForms
-pub mod OutsideForms
-pub mod LentForms

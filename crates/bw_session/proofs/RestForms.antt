@@ -119,19 +119,17 @@ module _ (sessions sessions' : List ℕ → Option Session) (book later : Book) 
             (subst (λ (o : Option (List ℕ)). StandsAhead (store.first n) (log_of book n) t.progress.growing o)
             (sym (contents n b)) (h.ahead honest n t (sym (others n b) ∙ e))))
 
-  module _ (asleep asleep' : List ℕ → Bool) (header header' : List ℕ → Header)
-      (notes notes' first first' : List ℕ → Option (List ℕ)) (h : NotesNames asleep header notes first sessions book)
-      (sleeps : (n : List ℕ) → bytes_eq name n ≡ false → asleep' n ≡ asleep n)
+  module _ (header header' : List ℕ → Header) (notes notes' first first' : List ℕ → Option (List ℕ))
+      (h : NotesNames header notes first sessions book)
       (firsts : (n : List ℕ) → bytes_eq name n ≡ false → first' n ≡ first n)
       (headers : (n : List ℕ) → bytes_eq name n ≡ false → header' n ≡ header n)
       (noted : (n : List ℕ) → bytes_eq name n ≡ false → notes' n ≡ notes n) where
-    pub notes_but : (asleep' name ≡ false → IsPrefixOf (header_bytes name (header' name)) (notes' name)) →
-        (asleep' name ≡ false → (header' name).existed ≡ is_some (first' name)) →
-        NotesNames asleep' header' notes' first' sessions' later
+    pub notes_but : IsPrefixOf (header_bytes name (header' name)) (notes' name) →
+        (header' name).existed ≡ is_some (first' name) → NotesNames header' notes' first' sessions' later
     notes_but prefix existed = record {
       known = λ n s e. known n s e (bytes_eq name n) refl;
-      unknown = λ n e awake. unknown n e awake (bytes_eq name n) refl;
-      existed = λ n awake. exists n awake (bytes_eq name n) refl;
+      unknown = λ n e. unknown n e (bytes_eq name n) refl;
+      existed = λ n. exists n (bytes_eq name n) refl;
     }
       where
         known : (n : List ℕ) (s : Session) → sessions' n ≡ Some s → (b : Bool) → bytes_eq name n ≡ b →
@@ -143,24 +141,20 @@ module _ (sessions sessions' : List ℕ → Option Session) (book later : Book) 
             (subst (λ (o : Option (List ℕ)). IsNoted (header n) n (log_of book n) s.progress.noted o)
             (sym (noted n b)) (h.known n s (sym (others n b) ∙ e))))
 
-        unknown : (n : List ℕ) → sessions' n ≡ None → asleep' n ≡ false → (b : Bool) → bytes_eq name n ≡ b →
+        unknown : (n : List ℕ) → sessions' n ≡ None → (b : Bool) → bytes_eq name n ≡ b →
             IsPrefixOf (header_bytes n (header' n)) (notes' n)
-        unknown n e awake true b =
-            let same : name ≡ n = same_name name n b in
-            subst (λ (x : List ℕ). IsPrefixOf (header_bytes x (header' x)) (notes' x)) same (prefix (ap asleep' same ∙ awake))
-        unknown n e awake false b =
+        unknown n e true b =
+            subst (λ (x : List ℕ). IsPrefixOf (header_bytes x (header' x)) (notes' x)) (same_name name n b) prefix
+        unknown n e false b =
             subst (λ (x : Header). IsPrefixOf (header_bytes n x) (notes' n)) (sym (headers n b))
             (subst (λ (o : Option (List ℕ)). IsPrefixOf (header_bytes n (header n)) o) (sym (noted n b))
-            (h.unknown n (sym (others n b) ∙ e) (sym (sleeps n b) ∙ awake)))
+            (h.unknown n (sym (others n b) ∙ e)))
 
-        exists : (n : List ℕ) → asleep' n ≡ false → (b : Bool) → bytes_eq name n ≡ b →
-            (header' n).existed ≡ is_some (first' n)
-        exists n awake true b =
-            let same : name ≡ n = same_name name n b in
-            subst (λ (x : List ℕ). (header' x).existed ≡ is_some (first' x)) same (existed (ap asleep' same ∙ awake))
-        exists n awake false b =
-            ap (λ (x : Header). x.existed) (headers n b) ∙ h.existed n (sym (sleeps n b) ∙ awake)
-            ∙ sym (ap is_some (firsts n b))
+        exists : (n : List ℕ) (b : Bool) → bytes_eq name n ≡ b → (header' n).existed ≡ is_some (first' n)
+        exists n true b =
+            subst (λ (x : List ℕ). (header' x).existed ≡ is_some (first' x)) (same_name name n b) existed
+        exists n false b =
+            ap (λ (x : Header). x.existed) (headers n b) ∙ h.existed n ∙ sym (ap is_some (firsts n b))
 
 -- a book without a name
 pub book_without : (book : Book) (name : List ℕ) → IsBook book → IsBook (without name book)

@@ -17,7 +17,7 @@ use Rattle.bw_journal.specs.JournalsAtRest.{Journals, PutsToRest}
 use Rattle.bw_journal.specs.Stops.{cut_log, without}
 use Rattle.bw_journal.proofs.CutLaws.{made-cut, log_left, log-without_other, known-without_same, known-without_other}
 use Rattle.bw_session.specs.Books.{count_waiting}
-use Rattle.bw_session.specs.NotedNames.{NotesNames, none_asleep}
+use Rattle.bw_session.specs.NotedNames.{NotesNames}
 use Rattle.bw_session.specs.NameNotes.{entry_if, next_entry}
 use Rattle.bw_session.specs.RestingNames.{IsAtRest, with_first}
 use Rattle.bw_session.specs.Servers.{HoldsIn, kept_by}
@@ -34,7 +34,7 @@ never : {A : Type 0} → false ≡ true → A
 never e = absurd cc
 
 -- where nothing is held, nothing is
-pub none_held : (xs : List (Option (List ℕ))) → count_by is_some xs ≡ 0 → (i : ℕ) → at xs i ≡ None
+none_held : (xs : List (Option (List ℕ))) → count_by is_some xs ≡ 0 → (i : ℕ) → at xs i ≡ None
 none_held [] e i = refl
 none_held (None ∷ xs) e zero = refl
 none_held (None ∷ xs) e (suc i) =
@@ -47,7 +47,7 @@ none_held (Some x ∷ xs) e i =
 no_some : {A B : Type 0} {b : B} → None ≡ Some b → A
 no_some e = cc
 
-pub unmapped : {A B : Type 0} (f : A → B) (o : Option A) → None ≡ option_map f o → o ≡ None
+unmapped : {A B : Type 0} (f : A → B) (o : Option A) → None ≡ option_map f o → o ≡ None
 unmapped f None e = refl
 unmapped f (Some x) e = no_some e
 
@@ -55,7 +55,7 @@ none_there : (o : Option (List ℕ)) → is_some o ≡ false → o ≡ None
 none_there None e = refl
 none_there (Some x) e = never (sym e)
 
-pub take_none : (n : ℕ) (xs : List ℕ) → xs ≡ [] → take n xs ≡ []
+take_none : (n : ℕ) (xs : List ℕ) → xs ≡ [] → take n xs ≡ []
 take_none zero xs e = refl
 take_none (suc n) xs e = ap (take (suc n)) e
 
@@ -67,7 +67,7 @@ header_is h limit existed l e =
     ∙ ap (λ (v : Bool). record { limit = limit; existed = v }) e
 
 -- a clean file
-pub clean_or : (dirty : Bool) (A B : Type 0) → dirty ≡ false → MatchBool dirty A B → B
+clean_or : (dirty : Bool) (A B : Type 0) → dirty ≡ false → MatchBool dirty A B → B
 clean_or true A B e h = never (sym e)
 clean_or false A B e h = h
 
@@ -82,14 +82,14 @@ has_file t limit e = mapped t.format e
 -- A name whose take is closed, and of which nothing waits, is put to rest.
 module _ (limit : ℕ) (store : Store) (sessions sessions' : List ℕ → Option Session) (book : Book)
     (h : HoldsIn limit store sessions book) (honest : IsTrue store.honest)
-    (before : Journals) (n : NotesNames none_asleep before.header before.noted store.first sessions book)
+    (before : Journals) (n : NotesNames before.header before.noted store.first sessions book)
     (name : List ℕ) (s : Session) (found : sessions name ≡ Some s) (new : (before.header name).existed ≡ false)
     (closed : s.progress.state.parts.closed ≡ true) (quiet : count_held s.window ≡ 0) where
   abbrev log : Log
   log = log_of book name
 
   pub first_none : store.first name ≡ None
-  first_none = none_there (store.first name) (sym (n.existed name refl) ∙ new)
+  first_none = none_there (store.first name) (sym (n.existed name) ∙ new)
 
   kept_here : option_map kept_by (sessions name) ≡ Some (kept_by s)
   kept_here = ap (option_map kept_by) found
@@ -199,9 +199,9 @@ module _ (limit : ℕ) (store : Store) (sessions sessions' : List ℕ → Option
         (known-without_same book name name (name_refl name))
         (ap (λ (f : List ℕ → Option (List ℕ)). f name) contents ∙ sym first_here)
 
-    pub rests_noted : NotesNames none_asleep after.header after.noted store'.first sessions' (without name book)
-    rests_noted = notes_but sessions sessions' book (without name book) name gone others logs none_asleep none_asleep
-        before.header after.header before.noted after.noted store.first store'.first n (λ m b. refl) first_other
+    pub rests_noted : NotesNames after.header after.noted store'.first sessions' (without name book)
+    rests_noted = notes_but sessions sessions' book (without name book) name gone others logs before.header after.header
+        before.noted after.noted store.first store'.first n first_other
         (λ m b. put.others.header m (apart_names name m b)) (kept_others before.noted after.noted name put.others.noted)
-        (λ awake. inl put.gone)
-        (λ awake. ap (λ (x : Header). x.existed) put.header ∙ sym (ap is_some first_here ∙ file_stands))
+        (inl put.gone)
+        (ap (λ (x : Header). x.existed) put.header ∙ sym (ap is_some first_here ∙ file_stands))

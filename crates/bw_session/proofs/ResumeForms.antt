@@ -32,7 +32,7 @@ use Rattle.bw_journal.specs.Stops.{cut_log, cut_book}
 use Rattle.bw_journal.proofs.CutLaws.{books_are_cut, logs_cut, verdict-cut}
 use Rattle.bw_journal.proofs.RecoveryLaws.{recovery_holds}
 use Rattle.bw_session.specs.Ledgers.{entries_in}
-use Rattle.bw_session.specs.NotedNames.{NotesNames, none_asleep}
+use Rattle.bw_session.specs.NotedNames.{NotesNames}
 use Rattle.bw_session.specs.Prefixes.{StandsAhead}
 use Rattle.bw_session.specs.Servers.{HoldsIn}
 use Rattle.bw_session.specs.NameNotes.{IsNoted}
@@ -256,11 +256,11 @@ module _ (limit : ℕ) (header : List ℕ → Header) (first contents : List ℕ
       level (Some bytes) log g found e = e
 
   pub resumed_notes : (notes : List ℕ → Option (List ℕ)) → HasDoneNotes header notes book →
-      NotesNames none_asleep header notes first sessions (cut_book book)
+      NotesNames header notes first sessions (cut_book book)
   resumed_notes notes d = record {
     known = λ name s e. known name s e (kept_under kept name) refl (resumed name);
-    unknown = λ name e awake. d.unknown name (r.names name ∙ unknown name e (kept_under kept name) (resumed name));
-    existed = λ name awake. r.existed name;
+    unknown = λ name e. d.unknown name (r.names name ∙ unknown name e (kept_under kept name) (resumed name));
+    existed = r.existed;
   }
     where
       unknown : (name : List ℕ) → sessions name ≡ None → (o : Option KeptTake) → Resumes limit o (sessions name) →

@@ -12,7 +12,7 @@ use Rattle.bw_model.proofs.BookLemmas.{name_refl}
 use Rattle.bw_journal.specs.JournalHeaders.{Header}
 use Rattle.bw_journal.specs.NotedJournals.{journal_of}
 use Rattle.bw_journal.specs.JournalsAtRest.{Journals, WakesJournal}
-use Rattle.bw_session.specs.NotedNames.{NotesNames, none_asleep}
+use Rattle.bw_session.specs.NotedNames.{NotesNames}
 use Rattle.bw_session.specs.NameNotes.{IsNoted}
 use Rattle.bw_session.specs.RestingNames.{IsAtRest, IsMadeFrom, with_first}
 use Rattle.bw_session.specs.Servers.{HoldsIn}
@@ -25,7 +25,7 @@ use Rattle.bw_session.proofs.ServerForms.{apart_names, holds_after, unknown_here
 -- The name of a closed take wakes.
 module _ (limit : ℕ) (store : Store) (sessions sessions' : List ℕ → Option Session) (book : Book)
     (h : HoldsIn limit store sessions book) (honest : IsTrue store.honest)
-    (before after : Journals) (n : NotesNames none_asleep before.header before.noted store.first sessions book)
+    (before after : Journals) (n : NotesNames before.header before.noted store.first sessions book)
     (name : List ℕ) (log : Log) (bytes : List ℕ) (s : Session) (fresh : sessions name ≡ None)
     (rest : IsAtRest limit name log (Some bytes) (store.contents name))
     (made_from : IsMadeFrom log bytes (store.contents name) s)
@@ -111,17 +111,16 @@ module _ (limit : ℕ) (store : Store) (sessions sessions' : List ℕ → Option
       );
     }
 
-    pub wakes_noted : NotesNames none_asleep after.header after.noted first' sessions' with_name
+    pub wakes_noted : NotesNames after.header after.noted first' sessions' with_name
     wakes_noted =
-        notes_after none_asleep after.header after.header (with_first after.noted name None) after.noted first' sessions
-        sessions' book with_name name s log
-        (notes_but sessions sessions book book name fresh (λ m b. refl) (λ m b. refl) none_asleep none_asleep
-        before.header after.header before.noted (with_first after.noted name None) store.first first' n (λ m b. refl)
-        (but_none store.first)
+        notes_after after.header after.header (with_first after.noted name None) after.noted first' sessions sessions'
+        book with_name name s log
+        (notes_but sessions sessions book book name fresh (λ m b. refl) (λ m b. refl) before.header after.header
+        before.noted (with_first after.noted name None) store.first first' n (but_none store.first)
         (λ m b. wakes.others.header m (apart_names name m b))
         (λ m b. but_none after.noted m b ∙ kept_others before.noted after.noted name wakes.others.noted m b)
-        (λ awake. inl (with_none after.noted))
-        (λ awake. ap (λ (x : Header). x.existed) header_here ∙ sym (ap is_some (with_none store.first))))
+        (inl (with_none after.noted))
+        (ap (λ (x : Header). x.existed) header_here ∙ sym (ap is_some (with_none store.first))))
         (λ m. refl)
         (λ m apart. sym (but_none after.noted m (apart_from name m apart)))
         sets log_is logs noted

@@ -31,5 +31,3 @@ pub mod Promises
 pub mod RestingNames
 pub mod RestFaults
 pub mod JournalChanges
-pub mod TableChanges
-pub mod LentStores

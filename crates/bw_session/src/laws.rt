@@ -4,7 +4,6 @@ ghost use Rattle.bw_session.specs.Books.{QuietBooksAreInOrder, WaitingNumbersAre
 ghost use Rattle.bw_session.specs.RestingNames.{ClosedNamesRest, RestingNamesWake};
 ghost use Rattle.bw_session.specs.RestingNames.{NamesAtRestMayWake};
 ghost use Rattle.bw_session.specs.QuietTurns.{SettledTurnsMeetNoFaults};
-ghost use Rattle.bw_session.specs.TableChanges.{NamesOutsideMayChange};
 
 use bw_journal::{Journal, RestingJournal};
 use bw_store::TakeStore;
@@ -39,10 +38,4 @@ pub fn law_rest<S: TakeStore, J: RestingJournal>()
     ensures rests { ClosedNamesRest S.TakeStore J.Journal }
     ensures wakes { RestingNamesWake S.TakeStore J.Journal }
     ensures fit { NamesAtRestMayWake }
-{}
-
-/// What lies under a name that a server doesn't know may change, as when its folder is recovered: the
-/// server holds the same book, over a store that began with what lies there now.
-pub fn law_outside<S: TakeStore, J: Journal>()
-    ensures { NamesOutsideMayChange S.TakeStore J.Journal }
 {}

@@ -61,12 +61,11 @@ impl<S: TakeStore, J: Journal> Server<S, J> {
     ///
     /// # Errors
     /// `AllocError` if memory was refused.
-    pub(crate) fn make_place(&mut self) -> Result<(), AllocError>
+    fn make_place(&mut self) -> Result<(), AllocError>
         ensures place { OnOk result
             (most_takes < hash_map_len self.new.sessions + spare self.new.sessions) }
         ensures sessions { (name : List ℕ) →
             session_in self.new.sessions name ≡ session_in self.old.sessions name }
-        ensures names { hash_map_len self.new.sessions ≡ hash_map_len self.old.sessions }
         ensures stores { SameStores S.TakeStore J.Journal self.old self.new }
         ensures limit { self.new.limit ≡ self.old.limit }
     {

@@ -1,10 +1,7 @@
-use Rattle.std.proofs.Common.{◌≡◌, ℕ, List, Option, refl, ap, is_some, subst}
-use Rattle.bw_disk.specs.ReadFaults.{is_disk_fault}
+use Rattle.std.proofs.Common.{ℕ, List, Option, subst}
 use Rattle.bw_disk.specs.Volumes.{IsCutInPart}
 use Rattle.bw_recovery.specs.Adoptions.{AdoptsInPart}
 use Rattle.bw_recovery.specs.Paths.{wave_path, notes_path}
-use Rattle.bw_recovery.specs.Changes.{IsCrowded}
-use Rattle.bw_recovery.proofs.CountForms.{only_takes, changed_stands}
 use Rattle.bw_recovery.proofs.NameStays.{same_file, adopted_file, begun_left}
 use Rattle.bw_recovery.proofs.resuming.restore_begun.Goals as goal
 
@@ -29,14 +26,3 @@ returns-clause-left g c = λ ht hn limit journal file en et found spares.
     (λ place count. subst (λ (h : List ℕ). AdoptsInPart place count b.adoption h file file_now) c.deref.ensures.value
     (subst (λ (o : Option (List ℕ)). AdoptsInPart place count b.adoption c.deref.result.now o file_now) et
     (c.adopt_file.ensures.part ht place count))))
-
-pub returns-clause-failures : goal.returns-clause-failures
-returns-clause-failures g c = λ ht hn limit journal at begun spares.
-    let file = g.D.Disk.contents c.args.takes.now (wave_path c.args.folder.now c.args.name.now) in
-    let some = ap (λ (o : Option (List ℕ)). is_some o) at in
-    only_takes (IsCrowded c.args.folder.now c.args.name.now (g.D.Disk.contents c.args.takes.now))
-    (g.D.Disk.failures c.args.takes.now) (g.D.Disk.failures c.adopt_file.new.takes)
-    (g.E.Disk.failures c.args.notes.now) (g.E.Disk.failures c.cut_torn.new.notes) (is_disk_fault c.adopt_file.result)
-    ((c.in_ok-cut_torn.ensures.failures hn some).quiet refl)
-    (c.adopt_file.ensures.failures ht
-    (λ keeps. changed_stands limit c.args.name.now journal file c.args.begun.now begun spares keeps))

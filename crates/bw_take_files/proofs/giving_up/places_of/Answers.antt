@@ -13,6 +13,6 @@ pub returns : goal.returns
 unfolding paths
 returns c =
     let with_ending : List ℕ → List ℕ = λ ending. path_with c.args.folder.now ending c.args.name.now in
-    same_paths _ _ _ _ _ _ _ _ (c.in_ok-path_in.ensures.path ∙ ap with_ending c.journal_endings.ensures.ending)
+    same_paths _ _ _ _ _ _ _ _ (c.in_ok-path_in.ensures ∙ ap with_ending c.journal_endings.ensures.ending)
     c.in_ok-path_in-2.ensures (c.in_ok-path_in-3.ensures ∙ ap with_ending c.journal_endings.ensures.aside)
     c.in_ok-path_in-4.ensures

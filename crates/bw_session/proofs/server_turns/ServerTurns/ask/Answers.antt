@@ -22,7 +22,7 @@ returns-clause-answered g c = record {
   delays = next_not_delayed c.name.result c.number.result c.ask.ensures.notice.0 (reply_of c.ask.result)
       c.ask.ensures.notice.1;
   asks = refl;
-  ordered = λ honest honest_notes asleep awake first book h n o. o;
+  ordered = λ honest honest_notes first book h n o. o;
   away = λ turned_away. (refl, refl);
   turned = λ honest first book h. record {
     later = book;
@@ -33,6 +33,6 @@ returns-clause-answered g c = record {
         ∙ ap (λ (n : ℕ). Noticed (asked_name c.args.ask.now) n Next (log_of book (asked_name c.args.ask.now)).done)
         c.number.ensures.value);
     held = h;
-    noted = λ honest_notes asleep awake notes. notes;
+    noted = λ honest_notes notes. notes;
   };
 }
