@@ -104,8 +104,11 @@ def send_all(port, takes, *options):
 
 
 def free_port():
-    with socket.create_server((LOCAL, 0)) as listener:
-        return listener.getsockname()[1]
+    """A port on which nothing listens, below those that the system gives to the connections of tests beside this one."""
+    while True:
+        port = random.SystemRandom().randint(10_000, 32_000)
+        with contextlib.suppress(OSError), socket.create_server((LOCAL, port)):
+            return port
 
 
 class Server:
