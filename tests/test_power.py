@@ -1,12 +1,14 @@
 #!/usr/bin/env python3
 """Cuts the power of a server with `--journal --sync` at its calls, and starts a server over what may be left.
 
-The calls of a server are recorded while takes are opened, stored and closed in turns. At each of them
-folders are made as a power cut may leave them (kit/power.py). Each start must serve: no folder is refused, each
-verdict that was sent is there, and each take goes on to its CLOSE and its whole file. Needs what tracer.py needs. The
-program is the first argument, or the one of this repository. Prints what differs, and last 'N passed, M failed'.
+The calls of a server are recorded while takes are opened, stored and closed in turns. At some of them, chosen by a
+seed, folders are made as a power cut may leave them on file systems of each kind in turn (kit/power.py). Each start must
+serve: no folder is refused, each verdict that was sent is there, and each take goes on to its CLOSE and its whole file.
+Needs what tracer.py needs. The program is the first argument, or the one of this repository; `--states=N` makes so many
+folders. Prints what differs, and last 'N passed, M failed'.
 """
 import random
+import shutil
 import signal
 import sys
 from concurrent.futures import ThreadPoolExecutor
@@ -14,13 +16,13 @@ from concurrent.futures import ThreadPoolExecutor
 sys.dont_write_bytecode = True  # nothing is left beside this script
 from kit.folders import restored, small_take
 from kit.network import connect, Fault, free_port, hear, hear_all, LOCAL, run_cases, Server, start, TALLY
-from kit.power import Folder
+from kit.power import Folder, KINDS
 from kit.takes import ASK, BYE_FRAME, message, STORED, verdict
 from kit.watcher import Watcher
 
-LONGEST_RUN = 240  # seconds, for all of it
+LONGEST_RUN = 3_600  # seconds, for all of it
 OPTIONS = ("--until-stopped", "--journal", "--sync")
-STATES = 600
+STATES = next((int(word.partition("=")[2]) for word in sys.argv if word.startswith("--states=")), 2_000)
 AT_ONCE = 4
 
 
@@ -53,15 +55,24 @@ def recorded(place, takes):
 
 def opened(folder):
     """A server over a folder, however many takes it resumes; or what it prints where it is refused."""
-    port = free_port()
-    words = ("serve", "--listen", f"{LOCAL}:{port}", "--folder", str(folder), *OPTIONS)
-    server = Server.__new__(Server)
-    server.observer, server.port, server.held = None, port, b""
-    server.faults = open(folder.parent / "faults", "w+b")
-    server.process = start(*words, stdout=-1, stderr=server.faults)
-    if server.line() is None or server.line() is None:
-        return None, server.end()[2]
-    return server, ""
+    faults = "in use"
+    while "in use" in faults:  # another test may have taken the port
+        port = free_port()
+        words = ("serve", "--listen", f"{LOCAL}:{port}", "--folder", str(folder), *OPTIONS)
+        server = Server.__new__(Server)
+        server.observer, server.port, server.held = None, port, b""
+        server.faults = open(folder.parent / "faults", "w+b")
+        server.process = start(*words, stdout=-1, stderr=server.faults)
+        if server.line() is not None and server.line() is not None:
+            return server, ""
+        faults = server.end()[2]
+        closed(server)
+    return None, faults
+
+
+def closed(server):
+    server.faults.close()
+    server.process.stdout.close()
 
 
 def serves_on(folder, takes, sent):
@@ -81,6 +92,7 @@ def serves_on(folder, takes, sent):
             if hear_all(peer) != wanted:
                 return f"{take.name}: other verdicts"
     server.stop(signal.SIGKILL)
+    closed(server)
     return next((f"{take.name}: another file" for take in takes if not holds(folder, take)), None)
 
 
@@ -89,7 +101,7 @@ def holds(folder, take):
 
 
 def try_state(place, number, lines, takes, path):
-    chance = random.Random(number)
+    chance, kind = random.Random(number), KINDS[number % len(KINDS)]
     at = chance.randrange(len(lines) + 1)
     disk = Folder(path)
     for line, _ in lines[:at]:
@@ -97,8 +109,11 @@ def try_state(place, number, lines, takes, path):
     sent = lines[at][1] if at < len(lines) else {take.name: len(take.messages()) for take in takes}
     folder = place / f"state {number}" / "takes"
     folder.mkdir(parents=True)
-    restored(folder, disk.left(chance))
-    return at, serves_on(folder, takes, sent)
+    restored(folder, disk.left(chance, kind))
+    wrong = serves_on(folder, takes, sent)
+    if not wrong:
+        shutil.rmtree(folder.parent)
+    return f"{kind}, a cut after {at} calls of {len(lines)}", wrong
 
 
 def case_cuts(place):
@@ -106,8 +121,8 @@ def case_cuts(place):
     path, lines = recorded(place, takes)
     with ThreadPoolExecutor(AT_ONCE) as pool:
         found = pool.map(lambda number: try_state(place, number, lines, takes, path), range(STATES))
-        for number, (at, wrong) in enumerate(found):
-            TALLY.holds(f"state {number}, a cut after {at} calls of {len(lines)}", wrong is None, wrong)
+        for number, (what, wrong) in enumerate(found):
+            TALLY.holds(f"state {number}, {what}", wrong is None, wrong)
 
 
 cases = [value for name, value in list(globals().items()) if name.startswith("case_")]
