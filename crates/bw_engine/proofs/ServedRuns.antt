@@ -11,9 +11,11 @@ use Rattle.bw_model.specs.Replies.{Reply}
 use Rattle.bw_model.specs.CountedTurn.{is_delayed}
 use Rattle.bw_journal.specs.declared.journal.Journal.{Ghosts as JournalGhosts}
 use Rattle.bw_session.specs.Books.{failures_of}
+use Rattle.bw_session.specs.NotedNames.{none_asleep}
 use Rattle.bw_session.specs.declared.server.Server.{Server}
 use Rattle.bw_exchange.specs.AnsweredFrames.{Answered, replies_of}
 use Rattle.bw_session.specs.ServerTurns.{ServerTurn}
+use Rattle.bw_session.proofs.ServerAnswers.{all_awake}
 use Rattle.bw_engine.specs.ServerRuns.{ServerRun, ServersAnswerInRuns, all_done}
 use Rattle.bw_engine.proofs.DoneCounts.{called_for, called_then}
 
@@ -116,7 +118,7 @@ module _ {X Y : Type 0} (S : StoreGhosts X) (J : JournalGhosts Y) where
                   (called_for S J first (λ n. is_some (first n)) old mid book now.later a.frame a.replies t.failed t.asks h
                   now.held now.turned) t.counted up more.no_less others.calls;
               noted = λ honest_notes notes.
-                  others.noted (t.honest_notes ∙ honest_notes) (now.noted honest_notes notes);
+                  others.noted (t.honest_notes ∙ honest_notes) (now.noted honest_notes none_asleep (all_awake a.frame) notes);
             };
       }
 

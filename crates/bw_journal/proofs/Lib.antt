@@ -22,6 +22,5 @@ pub mod RepairLaws
 pub mod BetweenLaws
 pub mod Starts
 pub mod StopLaws
-pub mod StandingForms
 pub mod ClosedForms
 pub mod Overwritten

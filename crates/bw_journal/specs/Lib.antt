@@ -15,5 +15,3 @@ pub mod NotedJournals
 pub mod Rows
 pub mod Stops
 pub mod Recovery
-pub mod JournalsAtRest
-pub mod Standings

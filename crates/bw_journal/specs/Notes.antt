@@ -69,7 +69,3 @@ NotesOver offset bytes before after =
 -- each name's journal begins with what it began with
 abbrev pub KeepsHeaders : (List ℕ → Header) → (List ℕ → Header) → Type 0
 KeepsHeaders before after = (name : List ℕ) → after name ≡ before name
-
--- what rests under each name is what rested there
-abbrev pub KeepsResting : (List ℕ → Option (List ℕ)) → (List ℕ → Option (List ℕ)) → Type 0
-KeepsResting before after = (name : List ℕ) → after name ≡ before name

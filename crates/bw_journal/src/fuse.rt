@@ -82,8 +82,6 @@ impl Journal for FuseJournal {
 
     ghost header = { fused_header };
 
-    ghost resting = { λ _ _. None };
-
     ghost failures = { fused_failures };
 
     ghost honest = { λ _. true };

@@ -5,16 +5,15 @@ ghost use Rattle.bw_model.specs.Counts.{Counts};
 ghost use Rattle.bw_store.specs.Stores.{KeepsOthers};
 ghost use Rattle.bw_journal.specs.JournalHeaders.{Header};
 ghost use Rattle.bw_journal.specs.Notes.{BeginsNotes, BeginsInPart, Notes, NotesInPart};
-ghost use Rattle.bw_journal.specs.Notes.{KeepsHeaders, KeepsResting};
-ghost use Rattle.bw_journal.specs.Standings.{Standing, Apart, KeepsStanding};
+ghost use Rattle.bw_journal.specs.Notes.{KeepsHeaders};
 
 use bw_request::Name;
 use bw_store::StoreFault;
 
 /// Bytes by name that begin with a header and grow at their end.
 ///
-/// The clauses on notes, headers and what rests speak of an honest journal: one that keeps what it
-/// reported as successful.
+/// The clauses on notes and headers speak of an honest journal: one that keeps what it reported as
+/// successful.
 pub trait Journal: Drop {
     /// What is noted under each name.
     ghost notes: { Self → List ℕ → Option (List ℕ) };
@@ -23,22 +22,15 @@ pub trait Journal: Drop {
     /// whether a file of the name existed.
     ghost header: { Self → List ℕ → Header };
 
-    /// What rests under each name, apart from what is noted; nothing where no name can rest.
-    ghost resting: { Self → List ℕ → Option (List ℕ) };
-
     /// How many calls failed; the count stays at 2^64 - 1.
     ghost failures: { Self → ℕ };
 
-    /// Whether the journal does what the clauses on notes, headers and what rests say.
+    /// Whether the journal does what the clauses on notes and headers say.
     ghost honest: { Self → Bool };
 
     /// The path of the folder that the journals are kept in, which no call changes; empty where an
     /// implementation doesn't define it.
     ghost folder: { Self → List ℕ } = { λ _. [] };
-
-    /// Where the journal of each name that doesn't rest is; apart from those that rest where
-    /// an implementation doesn't define it.
-    ghost stands: { Self → List ℕ → Standing } = { λ _ _. Apart };
 
     /// Writes the header of a name's journal, unless it is there whole.
     ///
@@ -56,13 +48,8 @@ pub trait Journal: Drop {
         ensures failures { Counts (failures self.old) (failures self.new) (is_err result) }
         ensures honest { honest self.new ≡ honest self.old }
         ensures folder { folder self.new ≡ folder self.old }
-        ensures standing { IsTrue (honest self.old) → KeepsStanding (stands self.old)
-            (stands self.new) (notes self.old) (notes self.new) }
         ensures headers { IsTrue (honest self.old) →
             KeepsHeaders (header self.old) (header self.new) }
-        // What rests goes on resting, under every name.
-        ensures resting { IsTrue (honest self.old) →
-            KeepsResting (resting self.old) (resting self.new) }
         ensures begun { IsTrue (honest self.old) → OnOk result
             (BeginsNotes name.now (header self.old name.now)
             (notes self.old name.now) (notes self.new name.now)) }
@@ -86,13 +73,8 @@ pub trait Journal: Drop {
         ensures failures { Counts (failures self.old) (failures self.new) (is_err result) }
         ensures honest { honest self.new ≡ honest self.old }
         ensures folder { folder self.new ≡ folder self.old }
-        ensures standing { IsTrue (honest self.old) → KeepsStanding (stands self.old)
-            (stands self.new) (notes self.old) (notes self.new) }
         ensures headers { IsTrue (honest self.old) →
             KeepsHeaders (header self.old) (header self.new) }
-        // What rests goes on resting, under every name.
-        ensures resting { IsTrue (honest self.old) →
-            KeepsResting (resting self.old) (resting self.new) }
         ensures noted { IsTrue (honest self.old) → OnOk result
             (Notes offset bytes.now (notes self.old name.now) (notes self.new name.now)) }
         ensures failed { IsTrue (honest self.old) → OnErr result
@@ -109,8 +91,6 @@ impl Journal for NoJournal {
     ghost notes = { λ _ _. None };
 
     ghost header = { λ _ _. record { limit = 0; existed = false } };
-
-    ghost resting = { λ _ _. None };
 
     ghost failures = { λ _. 0 };
 

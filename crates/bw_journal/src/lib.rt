@@ -3,7 +3,6 @@
 //! call.
 #![tactic(auto)]
 
-mod conversion;
 mod entry;
 mod fault;
 mod fuse;
@@ -13,12 +12,10 @@ pub mod laws;
 mod line;
 mod memory;
 mod reader;
-mod resting;
 mod seal;
 mod story;
 mod writer;
 
-pub use conversion::BecomesResting;
 pub use entry::{ENTRY_MAX, EntryRef, entry_of};
 pub use fault::ReplayFault;
 pub use fuse::FuseJournal;
@@ -27,7 +24,6 @@ pub use journal::{Journal, NoJournal};
 pub use line::before_zero;
 pub use memory::MemoryJournal;
 pub use reader::{JOURNAL_MAX, replay};
-pub use resting::RestingJournal;
 pub use seal::first_content;
 pub use story::Replayed;
 pub use writer::put_entry;

@@ -110,8 +110,6 @@ impl Journal for MemoryJournal {
 
     ghost header = { header_for };
 
-    ghost resting = { λ _ _. None };
-
     ghost failures = { failures_in_memory };
 
     ghost honest = { λ _. true };

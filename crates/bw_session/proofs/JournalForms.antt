@@ -21,19 +21,19 @@ use Rattle.bw_session.specs.declared.session.Session.{Session}
 use Rattle.bw_session.proofs.ServerForms.{apart_names}
 
 -- a journal that changed under one name alone
-module _ (header header' : List ℕ → Header) (notes notes' first : List ℕ → Option (List ℕ))
-    (sessions sessions' : List ℕ → Option Session) (book later : Book) (name : List ℕ) (s : Session) (log : Log)
-    (h : NotesNames header notes first sessions book) where
+module _ (asleep : List ℕ → Bool) (header header' : List ℕ → Header)
+    (notes notes' first : List ℕ → Option (List ℕ)) (sessions sessions' : List ℕ → Option Session) (book later : Book)
+    (name : List ℕ) (s : Session) (log : Log) (h : NotesNames asleep header notes first sessions book) where
   pub notes_after : KeepsHeaders header header' → KeepsOthers notes notes' name →
       ((n : List ℕ) → sessions' n ≡ cond (bytes_eq name n) (Some s) (sessions n)) →
       log_of later name ≡ log →
       ((n : List ℕ) → bytes_eq name n ≡ false → log_of later n ≡ log_of book n) →
       IsNoted (header name) name log s.progress.noted (notes' name) →
-      NotesNames header' notes' first sessions' later
+      NotesNames asleep header' notes' first sessions' later
   notes_after headers keeps sets log_is others noted = record {
     known = λ n x e. known n x e (bytes_eq name n) refl;
-    unknown = λ n e. unknown n e (bytes_eq name n) refl;
-    existed = λ n. ap (λ (z : Header). z.existed) (headers n) ∙ h.existed n;
+    unknown = λ n e awake. unknown n e awake (bytes_eq name n) refl;
+    existed = λ n awake. ap (λ (z : Header). z.existed) (headers n) ∙ h.existed n awake;
   }
     where
       some_same : {a b : Session} → Some a ≡ Some b → a ≡ b
@@ -65,13 +65,13 @@ module _ (header header' : List ℕ → Header) (notes notes' first : List ℕ �
           (subst (λ (z : Option (List ℕ)). IsNoted (header n) n (log_of book n) x.progress.noted z)
           (sym (note_other n b)) (h.known n x (sym (there n b) ∙ e))))
 
-      unknown : (n : List ℕ) → sessions' n ≡ None → (b : Bool) → bytes_eq name n ≡ b →
+      unknown : (n : List ℕ) → sessions' n ≡ None → asleep n ≡ false → (b : Bool) → bytes_eq name n ≡ b →
           IsPrefixOf (header_bytes n (header' n)) (notes' n)
-      unknown n e true b = never (sym (here n b) ∙ e)
-      unknown n e false b =
+      unknown n e awake true b = never (sym (here n b) ∙ e)
+      unknown n e awake false b =
           subst (λ (z : Header). IsPrefixOf (header_bytes n z) (notes' n)) (sym (headers n))
           (subst (λ (z : Option (List ℕ)). IsPrefixOf (header_bytes n (header n)) z) (sym (note_other n b))
-          (h.unknown n (sym (there n b) ∙ e)))
+          (h.unknown n (sym (there n b) ∙ e) awake))
 
 -- of each session the file comes first, then the entry of the next number
 abbrev pub OrderIn : (List ℕ → Header) → (List ℕ → Option (List ℕ)) → (List ℕ → Option (List ℕ)) →

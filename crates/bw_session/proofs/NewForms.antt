@@ -24,7 +24,7 @@ at-empty zero i = refl
 at-empty (suc n) zero = refl
 at-empty (suc n) (suc i) = at-empty n i
 
-at-past : (s : List (Option Request)) (n : ℕ) → length s ≤ n → at s n ≡ None
+pub at-past : (s : List (Option Request)) (n : ℕ) → length s ≤ n → at s n ≡ None
 at-past [] n h = refl
 at-past (x ∷ s) zero h = absurd (omega (arith, h))
 at-past (x ∷ s) (suc n) h = at-past s n (omega (arith, h))

@@ -21,7 +21,7 @@ use Rattle.bw_file.specs.GrowingFiles.{Growing}
 use Rattle.bw_store.specs.declared.store.TakeStore.{Ghosts as StoreGhosts}
 use Rattle.bw_journal.specs.declared.journal.Journal.{Ghosts as JournalGhosts}
 use Rattle.bw_wire.specs.Bodies.{body_request, message_in}
-use Rattle.bw_session.specs.Books.{HoldsBook, NotesBook, OrdersBook, QuietBooksAreInOrder}
+use Rattle.bw_session.specs.Books.{HoldsBook, NotesAwake, OrdersBook, QuietBooksAreInOrder}
 use Rattle.bw_session.specs.Books.{WaitingNumbersAreInOrder}
 use Rattle.bw_session.specs.Executions.{Touches}
 use Rattle.bw_session.specs.Drains.{HoldsPart}
@@ -91,10 +91,10 @@ module _ (log : Log) (p : Parts) (finished : List (List ℕ × Verdict)) (w : Li
           let touches = again e body held in
           absurd (not_carried (record g { ahead = false }) p (message_in body).request touches refl (inr unwritten))
 
-module _ {X Y : Type 0} (S : StoreGhosts X) (J : JournalGhosts Y) (first : List ℕ → Option (List ℕ)) (s : Server X Y S J)
-    (book : Book) (honest : IsTrue (S.honest s.stores.store)) (h : HoldsBook S J first s book)
-    (n : NotesBook S J first s book) (o : OrdersBook S J first s) (name : List ℕ)
-    (waits : is_pending (log_of book name) ≡ true) where
+module _ {X Y : Type 0} (S : StoreGhosts X) (J : JournalGhosts Y) (asleep : List ℕ → Bool)
+    (first : List ℕ → Option (List ℕ)) (s : Server X Y S J) (book : Book) (honest : IsTrue (S.honest s.stores.store))
+    (h : HoldsBook S J first s book) (n : NotesAwake S J asleep first s book) (o : OrdersBook S J first s)
+    (name : List ℕ) (awake : asleep name ≡ false) (waits : is_pending (log_of book name) ≡ true) where
   abbrev its_log : Log
   its_log = log_of book name
 
@@ -116,7 +116,7 @@ module _ {X Y : Type 0} (S : StoreGhosts X) (J : JournalGhosts Y) (first : List 
         noted = λ is. elim order.entered [
           | inl ends ↦ absurd (no_next (first name) (J.header s.stores.journal name) its_log x.progress.state.parts
               x.progress.ledger.outcomes r x.progress.growing.name name (sha256 (body_of name its_log.done r))
-              (n.existed name) owner memory (record { here = here; digest_is = refl }) x.progress.noted
+              (n.existed name awake) owner memory (record { here = here; digest_is = refl }) x.progress.noted
               (J.notes s.stores.journal name) noted.offset_is ends is)
           | inr carried ↦
               due its_log x.progress.state.parts x.progress.ledger.outcomes x.window x.progress.growing r here x.fits.again
@@ -147,7 +147,8 @@ module _ {X Y : Type 0} (S : StoreGhosts X) (J : JournalGhosts Y) (first : List 
       by_session (Some x) e = by_request x e (at its_log.admitted its_log.done) refl
 
 pub waiting_in_order : {X Y : Type 0} (S : StoreGhosts X) (J : JournalGhosts Y) → WaitingNumbersAreInOrder S J
-waiting_in_order S J first s book honest h n o name waits = waiting S J first s book honest h n o name waits
+waiting_in_order S J asleep first s book honest h n o name awake waits =
+    waiting S J asleep first s book honest h n o name awake waits
 
 -- Where nothing waits, nothing was tried.
 
@@ -181,7 +182,7 @@ untouched None log p finished w g found h level none =
     (found ≡ file_of (take_done None log) g.limit)) level h.file.whole ∙ no_file log g.limit none
 
 pub quiet_in_order : {X Y : Type 0} (S : StoreGhosts X) (J : JournalGhosts Y) → QuietBooksAreInOrder S J
-quiet_in_order S J first s book honest h n quiet name x e =
+quiet_in_order S J asleep first s book honest h n quiet name x e =
     let log = log_of book name in
     let owner : x.progress.growing.name ≡ name = x.progress.same_name ∙ s.table.names name x e in
     let part = part_here s.limit (store_since S first s.stores.store) (session_in s.sessions) book h honest name x e

@@ -17,7 +17,6 @@ use Rattle.bw_wire.specs.Replies.{reply_of}
 use Rattle.bw_store.specs.declared.store.TakeStore.{Ghosts as StoreGhosts}
 use Rattle.bw_journal.specs.JournalHeaders.{Header}
 use Rattle.bw_journal.specs.declared.journal.Journal.{Ghosts as JournalGhosts}
-use Rattle.bw_journal.proofs.StandingForms.{standing_then}
 use Rattle.bw_session.specs.NextNumbers.{with_done, KeepsBoth, StaysInPlace}
 use Rattle.bw_session.specs.NameNotes.{IsNoted}
 use Rattle.bw_session.specs.Sessions.{Part, HoldsLog}
@@ -29,14 +28,12 @@ count_then : (a b c : ℕ) (fails : Bool) → Counts a b false → Counts b c fa
 count_then a b c fails quiet more = subst (λ (n : ℕ). Counts n c fails) (quiet.quiet refl) more
 
 module _ {X Y : Type 0} (S : StoreGhosts X) (J : JournalGhosts Y) where
-  -- where both are, and where journals stand
-  pub places_then : (s s' s'' : X) (j j' j'' : Y) → J.honest j' ≡ J.honest j → StaysInPlace S J s s' j j' →
+  -- where both are
+  pub places_then : (s s' s'' : X) (j j' j'' : Y) → StaysInPlace S J s s' j j' →
       StaysInPlace S J s' s'' j' j'' → StaysInPlace S J s s'' j j''
-  places_then s s' s'' j j' j'' honest a b = record {
+  places_then s s' s'' j j' j'' a b = record {
     of_store = b.of_store ∙ a.of_store;
     of_journal = b.of_journal ∙ a.of_journal;
-    standing = λ h. standing_then (J.stands j) (J.stands j') (J.stands j'') (J.notes j) (J.notes j') (J.notes j'')
-        (a.standing h) (b.standing (honest ∙ h));
   }
 
   -- what both keep through one call more
@@ -50,9 +47,8 @@ module _ {X Y : Type 0} (S : StoreGhosts X) (J : JournalGhosts Y) where
         honest = b.honest ∙ a.honest;
         others = λ h n apart. b.others (a.honest ∙ h) n apart ∙ a.others h n apart;
         honest_notes = b.honest_notes ∙ a.honest_notes;
-        places = places_then s s' s'' j j' j'' a.honest_notes a.places b.places;
+        places = places_then s s' s'' j j' j'' a.places b.places;
         headers = λ h n. b.headers (a.honest_notes ∙ h) n ∙ a.headers h n;
-        resting = λ h n. b.resting (a.honest_notes ∙ h) n ∙ a.resting h n;
         other_notes = λ h n apart. b.other_notes (a.honest_notes ∙ h) n apart ∙ a.other_notes h n apart;
       }
 

@@ -5,7 +5,7 @@ use Rattle.std.specs.List.{All, list_any}
 use Rattle.std.specs.Option.{option_map_or}
 use Rattle.std.proofs.lemmas.List.Elements.{All-head, All-tail}
 use Rattle.bw_model.specs.Counts.{Counts}
-use Rattle.bw_model.specs.Wire.{Message, Says, Asks}
+use Rattle.bw_model.specs.Wire.{Frame, Message, Says, Asks, Bye}
 use Rattle.bw_model.specs.Replies.{Reply, Noticed, Next}
 use Rattle.bw_model.specs.Book.{Log, Book, log_of}
 use Rattle.bw_model.specs.Turn.{good, turn}
@@ -15,6 +15,7 @@ use Rattle.bw_model.proofs.BookLemmas.{unknown_log}
 use Rattle.bw_model.proofs.TurnLaws.{replies_report}
 use Rattle.bw_wire.specs.declared.reply.Reply.{Reply as Reported}
 use Rattle.bw_wire.specs.Replies.{reply_of}
+use Rattle.bw_session.specs.NotedNames.{none_asleep, IsAwakeFor}
 use Rattle.bw_session.specs.Servers.{kept_by}
 use Rattle.bw_session.specs.ServedReplies.{IsTimely}
 use Rattle.bw_session.specs.declared.session.Session.{Session}
@@ -53,6 +54,12 @@ one_failed failed (r ∷ rest) timely reported =
         (list_any is_delayed (map reply_of rest) ≡ true → failed ≡ true) → failed ≡ true
     go true e others = All-head (IsTimely failed) r rest timely e
     go false e others = others (sym (ap (λ (b : Bool). b || list_any is_delayed (map reply_of rest)) e) ∙ reported)
+
+-- where no name is asleep, each frame's is awake
+pub all_awake : (f : Frame) → IsAwakeFor none_asleep f
+all_awake (Says m) = refl
+all_awake (Asks name n) = tt
+all_awake Bye = tt
 
 -- an ask is answered in a turn that meets no fault
 pub asked_turn : (existed : List ℕ → Bool) (failures : ℕ) (book : Book) (name : List ℕ) (n : ℕ) (reply : Reply) →

@@ -61,9 +61,8 @@ uses_none {X} {Y} S J name s s' j j' done later rs store journal same none =
         honest = refl;
         others = λ honest other apart. refl;
         honest_notes = refl;
-        places = record { of_store = refl; of_journal = refl; standing = λ honest other out. (refl, refl) };
+        places = record { of_store = refl; of_journal = refl };
         headers = λ honest other. refl;
-        resting = λ honest other. refl;
         other_notes = λ honest other apart. refl;
       },
       omega (arith, same),

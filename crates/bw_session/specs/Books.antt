@@ -1,7 +1,7 @@
 -- How a server relates to a book that it may hold.
-use Rattle.std.specs.Prelude.{◌≡◌, ℕ, true, false, Option, Some, None, is_some, IsTrue, List, map}
+use Rattle.std.specs.Prelude.{◌≡◌, ℕ, Bool, true, false, Option, Some, None, is_some, IsTrue, List, map}
 use Rattle.std.specs.Prelude.{drop, count_by, if◌then◌else◌}
-use Rattle.bw_model.specs.Wire.{Message, Says}
+use Rattle.bw_model.specs.Wire.{Frame, Message, Says}
 use Rattle.bw_model.specs.Book.{Log, Book, log_of, is_known}
 use Rattle.bw_model.specs.CountedTurn.{IsTurn, book_reported, is_pending}
 use Rattle.bw_store.specs.declared.store.TakeStore.{Ghosts as StoreGhosts}
@@ -14,7 +14,7 @@ use Rattle.bw_session.specs.Tables.{session_in}
 use Rattle.bw_session.specs.ConsecutiveCalls.{AsksInTurn}
 use Rattle.bw_session.specs.ServedMessages.{UsesBoth}
 use Rattle.bw_session.specs.Servers.{HoldsIn, done_in, part_in, store_since}
-use Rattle.bw_session.specs.NotedNames.{NotesNames}
+use Rattle.bw_session.specs.NotedNames.{NotesNames, none_asleep, IsAwakeFor}
 use Rattle.bw_session.specs.WriteOrders.{FileComesFirst, NextIsCarriedOut, IsInOrder}
 use Rattle.bw_session.specs.Sessions.{part_of}
 use Rattle.bw_session.specs.declared.session.Session.{Session}
@@ -30,11 +30,16 @@ module _ {X Y : Type 0} (S : StoreGhosts X) (J : JournalGhosts Y) where
   HoldsBook first s book =
       HoldsIn s.limit (store_since S first s.stores.store) (session_in s.sessions) book
 
-  -- an honest journal has of each name what the book says
-  abbrev pub NotesBook : (List ℕ → Option (List ℕ)) → Server X Y S J → Book → Type 0
-  NotesBook first s book =
-      NotesNames (J.header s.stores.journal) (J.notes s.stores.journal) first
+  -- an honest journal has of each name that isn't asleep what the book says
+  abbrev pub NotesAwake : (List ℕ → Bool) → (List ℕ → Option (List ℕ)) → Server X Y S J → Book →
+      Type 0
+  NotesAwake asleep first s book =
+      NotesNames asleep (J.header s.stores.journal) (J.notes s.stores.journal) first
       (session_in s.sessions) book
+
+  -- and of each name, as none is asleep
+  abbrev pub NotesBook : (List ℕ → Option (List ℕ)) → Server X Y S J → Book → Type 0
+  NotesBook first s book = NotesAwake none_asleep first s book
 
   -- of each name that is known the file comes first, then the entry of the next number
   abbrev pub OrdersBook : (List ℕ → Option (List ℕ)) → Server X Y S J → Type 0
@@ -58,35 +63,39 @@ module _ {X Y : Type 0} (S : StoreGhosts X) (J : JournalGhosts Y) where
       (first : List ℕ → Option (List ℕ)) (book : Book) → HoldsBook first old book →
       TurnsBook first old new book m replies
 
-  -- If an honest journal has of each name what such a book says, it has what the later one says
-  -- afterwards.
+  -- If an honest journal has of each name that isn't asleep what such a book says, it has what the
+  -- later one says afterwards; the message's name is awake.
   abbrev pub NotesBooks : Server X Y S J → Server X Y S J → Message → List Reply → Type 0
   NotesBooks old new m replies = IsTrue (S.honest old.stores.store) →
       IsTrue (J.honest old.stores.journal) →
+      (asleep : List ℕ → Bool) → asleep m.name ≡ false →
       (first : List ℕ → Option (List ℕ)) (book : Book) → HoldsBook first old book →
-      NotesBook first old book →
-      NotesBook first new (book_reported book m (map reply_of replies) (done_in new.sessions m.name))
+      NotesAwake asleep first old book → NotesAwake asleep first new
+      (book_reported book m (map reply_of replies) (done_in new.sessions m.name))
 
   -- A turn keeps that order, whichever of its calls fails.
-  abbrev pub OrdersBooks : Server X Y S J → Server X Y S J → Type 0
-  OrdersBooks old new = IsTrue (S.honest old.stores.store) →
+  abbrev pub OrdersBooks : Server X Y S J → Server X Y S J → Frame → Type 0
+  OrdersBooks old new frame = IsTrue (S.honest old.stores.store) →
       IsTrue (J.honest old.stores.journal) →
+      (asleep : List ℕ → Bool) → IsAwakeFor asleep frame →
       (first : List ℕ → Option (List ℕ)) (book : Book) → HoldsBook first old book →
-      NotesBook first old book → OrdersBook first old → OrdersBook first new
+      NotesAwake asleep first old book → OrdersBook first old → OrdersBook first new
 
   -- Where no number waits, as in a server that begins, there is nothing to order.
   abbrev pub QuietBooksAreInOrder : Type 0
   QuietBooksAreInOrder =
-      (first : List ℕ → Option (List ℕ)) (s : Server X Y S J) (book : Book) →
-      IsTrue (S.honest s.stores.store) → HoldsBook first s book → NotesBook first s book →
+      (asleep : List ℕ → Bool) (first : List ℕ → Option (List ℕ)) (s : Server X Y S J)
+      (book : Book) → IsTrue (S.honest s.stores.store) → HoldsBook first s book →
+      NotesAwake asleep first s book →
       ((name : List ℕ) → is_pending (log_of book name) ≡ false) → OrdersBook first s
 
-  -- So each number that waits was written in order: its file, then its entry.
+  -- So each number that waits was written in order: its file, then its entry. Its name is awake.
   abbrev pub WaitingNumbersAreInOrder : Type 0
   WaitingNumbersAreInOrder =
-      (first : List ℕ → Option (List ℕ)) (s : Server X Y S J) (book : Book) →
-      IsTrue (S.honest s.stores.store) → HoldsBook first s book → NotesBook first s book →
-      OrdersBook first s → (name : List ℕ) → is_pending (log_of book name) ≡ true →
+      (asleep : List ℕ → Bool) (first : List ℕ → Option (List ℕ)) (s : Server X Y S J)
+      (book : Book) → IsTrue (S.honest s.stores.store) → HoldsBook first s book →
+      NotesAwake asleep first s book → OrdersBook first s →
+      (name : List ℕ) → asleep name ≡ false → is_pending (log_of book name) ≡ true →
       IsInOrder (J.header s.stores.journal name) (first name) name (log_of book name) s.limit
       (J.notes s.stores.journal name) (S.contents s.stores.store name)
 
@@ -129,10 +138,10 @@ module _ {X Y : Type 0} (S : StoreGhosts X) (J : JournalGhosts Y) where
     pub asked : AsksTurn old new m
     -- each book that the server held over an honest store is turned
     pub turned : TurnsBooks old new m replies
-    -- an honest journal has of each name what the later book says
+    -- an honest journal has of each name that isn't asleep what the later book says
     pub noted : NotesBooks old new m replies
     -- the order of file and entry is kept
-    pub ordered : OrdersBooks old new
+    pub ordered : OrdersBooks old new (Says m)
 
 -- what a known name's log says
 abbrev pub of_known : {A : Type 0} → Book → List ℕ → (Log → A) → Option A

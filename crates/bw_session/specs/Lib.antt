@@ -18,7 +18,7 @@ pub mod Tables
 pub mod Servers
 pub mod SeenServers
 pub mod KnownNames
-pub mod ResumedBooks
+pub mod ResumedSessions
 pub mod NotedNames
 pub mod Books
 pub mod ServerTurns
@@ -28,6 +28,4 @@ pub mod JudgedParts
 pub mod ConsecutiveCalls
 pub mod NumberPromises
 pub mod Promises
-pub mod RestingNames
-pub mod RestFaults
-pub mod JournalChanges
+pub mod TableChanges

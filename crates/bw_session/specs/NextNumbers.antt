@@ -17,8 +17,7 @@ use Rattle.bw_store.specs.declared.store.StoreFault.{StoreFault}
 use Rattle.bw_store.specs.declared.store.TakeStore.{Ghosts as StoreGhosts}
 use Rattle.bw_journal.specs.Entries.{sealed_entry, longest_entry}
 use Rattle.bw_journal.specs.JournalHeaders.{header_len}
-use Rattle.bw_journal.specs.Notes.{KeepsHeaders, KeepsResting}
-use Rattle.bw_journal.specs.Standings.{KeepsStanding}
+use Rattle.bw_journal.specs.Notes.{KeepsHeaders}
 use Rattle.bw_journal.specs.declared.journal.Journal.{Ghosts as JournalGhosts}
 use Rattle.bw_session.specs.RequestWrites.{is_mark}
 use Rattle.bw_session.specs.DoneNumbers.{KeepsDone}
@@ -28,31 +27,24 @@ use Rattle.bw_session.specs.Prefixes.{take_done, FileFollows, HoldsPrefix}
 abbrev pub failed_calls : ℕ → ℕ → ℕ
 failed_calls of_store of_journal = min (of_store + of_journal) last_count
 
--- Store and journal are of the folders that they were of, and each journal is where it was, or
--- apart from those that rest.
+-- Store and journal are of the folders that they were of.
 pub record StaysInPlace {X Y : Type 0} (S : StoreGhosts X) (J : JournalGhosts Y) (store store' : X)
     (journal journal' : Y) : Type 0 where
   pub of_store : S.folder store' ≡ S.folder store
   pub of_journal : J.folder journal' ≡ J.folder journal
-  pub standing : IsTrue (J.honest journal) →
-      KeepsStanding (J.stands journal) (J.stands journal') (J.notes journal) (J.notes journal')
 
 -- A failure of the journal is counted, it is as honest as it was and of the same folder, each name's
--- notes begin as they began, what rests goes on resting, each journal is where it was or apart,
--- and each other name has what it had.
+-- notes begin as they began, and each other name has what it had.
 pub record KeepsJournal {Y : Type 0} (J : JournalGhosts Y) (fails : Bool) (name : List ℕ)
     (old new : Y) : Type 0 where
   pub failures : Counts (J.failures old) (J.failures new) fails
   pub honest : J.honest new ≡ J.honest old
   pub folder : J.folder new ≡ J.folder old
-  pub standing : IsTrue (J.honest old) →
-      KeepsStanding (J.stands old) (J.stands new) (J.notes old) (J.notes new)
   pub headers : IsTrue (J.honest old) → KeepsHeaders (J.header old) (J.header new)
-  pub resting : IsTrue (J.honest old) → KeepsResting (J.resting old) (J.resting new)
   pub others : IsTrue (J.honest old) → KeepsOthers (J.notes old) (J.notes new) name
 
 -- A failure of either is counted; both are as honest as they were and where they were, each name's
--- notes begin as they began, what rests goes on resting, and each other name has what it had.
+-- notes begin as they began, and each other name has what it had.
 pub record KeepsBoth {X Y : Type 0} (S : StoreGhosts X) (J : JournalGhosts Y) (fails : Bool)
     (name : List ℕ) (store store' : X) (journal journal' : Y) : Type 0 where
   pub failures : Counts (failed_calls (S.failures store) (J.failures journal))
@@ -62,7 +54,6 @@ pub record KeepsBoth {X Y : Type 0} (S : StoreGhosts X) (J : JournalGhosts Y) (f
   pub honest_notes : J.honest journal' ≡ J.honest journal
   pub places : StaysInPlace S J store store' journal journal'
   pub headers : IsTrue (J.honest journal) → KeepsHeaders (J.header journal) (J.header journal')
-  pub resting : IsTrue (J.honest journal) → KeepsResting (J.resting journal) (J.resting journal')
   pub other_notes : IsTrue (J.honest journal) →
       KeepsOthers (J.notes journal) (J.notes journal') name
 

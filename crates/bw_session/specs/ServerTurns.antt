@@ -8,9 +8,10 @@ use Rattle.bw_model.specs.Book.{Book}
 use Rattle.bw_model.specs.CountedTurn.{IsTurn, is_delayed}
 use Rattle.bw_store.specs.declared.store.TakeStore.{Ghosts as StoreGhosts}
 use Rattle.bw_model.specs.Turn.{is_turned_away}
-use Rattle.bw_journal.specs.Notes.{KeepsHeaders, KeepsResting}
+use Rattle.bw_journal.specs.Notes.{KeepsHeaders}
 use Rattle.bw_journal.specs.declared.journal.Journal.{Ghosts as JournalGhosts}
-use Rattle.bw_session.specs.Books.{failures_of, HoldsBook, NotesBook, SameStores, AsksTurn, OrdersBooks}
+use Rattle.bw_session.specs.Books.{failures_of, HoldsBook, NotesAwake, SameStores, AsksTurn, OrdersBooks}
+use Rattle.bw_session.specs.NotedNames.{IsAwakeFor}
 use Rattle.bw_session.specs.NextNumbers.{KeepsBoth}
 use Rattle.bw_session.specs.Servers.{done_in}
 use Rattle.bw_session.specs.Sessions.{CallsFew}
@@ -22,15 +23,17 @@ most_replies = 17
 
 module _ {X Y : Type 0} (S : StoreGhosts X) (J : JournalGhosts Y) where
   -- The frame is answered in a turn of the definitions, from this book; the server holds the later
-  -- one, and an honest journal that had what the book says has what the later one says.
+  -- one, and an honest journal that had what the book says of names that aren't asleep has what the
+  -- later one says.
   pub record TurnsOn (first : List ℕ → Option (List ℕ)) (old new : Server X Y S J) (book : Book)
       (frame : Frame) (replies : List Reply) : Type 0 where
     pub later : Book
     pub turned : IsTurn (λ name. is_some (first name)) (failures_of S J old) (failures_of S J new)
         book frame replies later
     pub held : HoldsBook S J first new later
-    pub noted : IsTrue (J.honest old.stores.journal) → NotesBook S J first old book →
-        NotesBook S J first new later
+    pub noted : IsTrue (J.honest old.stores.journal) → (asleep : List ℕ → Bool) →
+        IsAwakeFor asleep frame → NotesAwake S J asleep first old book →
+        NotesAwake S J asleep first new later
 
   -- What store and journal are asked for a message, which is one of a frame: what its turn asks of the
   -- store, in at most four calls for each number of its name that was done, and four more where a call
@@ -58,11 +61,9 @@ module _ {X Y : Type 0} (S : StoreGhosts X) (J : JournalGhosts Y) where
     pub limit : new.limit ≡ old.limit
     pub honest : S.honest new.stores.store ≡ S.honest old.stores.store
     pub honest_notes : J.honest new.stores.journal ≡ J.honest old.stores.journal
-    -- an honest journal begins each name's notes as before, and what rests goes on resting
+    -- an honest journal begins each name's notes as before
     pub headers : IsTrue (J.honest old.stores.journal) →
         KeepsHeaders (J.header old.stores.journal) (J.header new.stores.journal)
-    pub resting : IsTrue (J.honest old.stores.journal) →
-        KeepsResting (J.resting old.stores.journal) (J.resting new.stores.journal)
     pub few : length replies ≤ most_replies
     -- whether a call of store or journal failed: then the count of failures rises by one, else it
     -- stays
@@ -74,4 +75,4 @@ module _ {X Y : Type 0} (S : StoreGhosts X) (J : JournalGhosts Y) where
     pub away : IsTrue (is_turned_away replies) → SameStores S J old new
     pub turned : IsTrue (S.honest old.stores.store) → (first : List ℕ → Option (List ℕ))
         (book : Book) → HoldsBook S J first old book → TurnsOn first old new book frame replies
-    pub ordered : OrdersBooks S J old new
+    pub ordered : OrdersBooks S J old new frame

@@ -1,11 +1,10 @@
 //! Laws of the definitions on which servers of many names rely.
 ghost use Rattle.bw_model.specs.Turn.{IsolatesEachName};
 ghost use Rattle.bw_session.specs.Books.{QuietBooksAreInOrder, WaitingNumbersAreInOrder};
-ghost use Rattle.bw_session.specs.RestingNames.{ClosedNamesRest, RestingNamesWake};
-ghost use Rattle.bw_session.specs.RestingNames.{NamesAtRestMayWake};
 ghost use Rattle.bw_session.specs.QuietTurns.{SettledTurnsMeetNoFaults};
+ghost use Rattle.bw_session.specs.TableChanges.{NamesOutsideMayChange};
 
-use bw_journal::{Journal, RestingJournal};
+use bw_journal::Journal;
 use bw_store::TakeStore;
 
 /// Each name's turns are a run of their own: messages of other names change nothing in it.
@@ -31,11 +30,8 @@ pub fn law_order<S: TakeStore, J: Journal>()
     ensures waiting { WaitingNumbersAreInOrder S.TakeStore J.Journal }
 {}
 
-/// The name of a closed take rests if its journal does and nothing else is kept of it: the book that
-/// the server held goes on without it, and its log is at rest. It wakes if its journal does, and what
-/// is kept is made from that: the book has it again. What rests is always fit to wake it.
-pub fn law_rest<S: TakeStore, J: RestingJournal>()
-    ensures rests { ClosedNamesRest S.TakeStore J.Journal }
-    ensures wakes { RestingNamesWake S.TakeStore J.Journal }
-    ensures fit { NamesAtRestMayWake }
+/// What lies under a name that a server doesn't know may change, as when its folder is recovered: the
+/// server holds the same book, over a store that began with what lies there now.
+pub fn law_outside<S: TakeStore, J: Journal>()
+    ensures { NamesOutsideMayChange S.TakeStore J.Journal }
 {}

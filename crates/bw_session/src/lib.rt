@@ -1,22 +1,21 @@
 //! Sessions: what a server keeps of each name.
-//! Not stated: contents over a store that isn't honest; whether a journal that could rest or wake
-//! does.
+//! Not stated: contents over a store that isn't honest.
 #![tactic(auto)]
 
 mod admission;
 mod body;
 mod borrowing;
-mod conversion;
 mod counting;
 mod drains;
 mod execution;
+mod keeping;
 mod kept_take;
 pub mod laws;
 mod ledger;
+mod lending;
 mod listing;
 mod numbering;
 mod replying;
-mod resting;
 mod resuming;
 mod server;
 mod server_stores;
@@ -24,11 +23,11 @@ mod server_turns;
 mod serving;
 mod session;
 mod settling;
-mod waking;
+mod table;
 mod window;
 mod writing;
 
 pub use kept_take::KeptTake;
-pub use resting::RestFault;
+pub use lending::StoresVisitor;
 pub use server::Server;
-pub use waking::WakeFault;
+pub use table::HasTable;

@@ -8,7 +8,7 @@ ghost use Rattle.std.specs.List.{All};
 ghost use Rattle.std.specs.HashMap.{hash_map_len, spare, IsUnique};
 ghost use Rattle.std.specs.Str.{bytes_eq};
 ghost use Rattle.bw_model.specs.Turn.{most_takes, window, is_turned_away, notice as refusal};
-ghost use Rattle.bw_model.specs.Wire.{Second, last_number};
+ghost use Rattle.bw_model.specs.Wire.{Second, last_number, Says};
 ghost use Rattle.bw_model.specs.CountedTurn.{is_delay};
 ghost use Rattle.bw_wire.specs.Notices.{notice_meaning};
 ghost use Rattle.bw_model.specs.Book.{Book, log_of, is_known, made};
@@ -163,7 +163,8 @@ impl<S: TakeStore, J: Journal> Server<S, J> {
         ensures noted { NotesBooks S.TakeStore J.Journal self.old self.new (message_of message.now)
             out.new.items }
         // No byte of an entry is in the journal before its request is carried out.
-        ensures ordered { OrdersBooks S.TakeStore J.Journal self.old self.new }
+        ensures ordered { OrdersBooks S.TakeStore J.Journal self.old self.new
+            (Says (message_of message.now)) }
     {
         out.clear();
         let name = message.name();

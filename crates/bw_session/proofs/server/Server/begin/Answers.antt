@@ -167,7 +167,7 @@ returns-clause-turned g c = record {
       (failures_of g.S.TakeStore g.J.Journal c.args.self.now) after c.serve.new.out.items (part_of s)
       (g.S.TakeStore.contents c.serve.new.stores.store m.name) there)) in
       record { later = _; turned = turned.0; held = turned.1 };
-  noted = λ honest honest_notes first book h n.
+  noted = λ honest honest_notes asleep awake first book h n.
       let m : Message = message_of c.args.message.now in
       let s : Session = c.serve.new.self in
       let both = c.in_ok-serve.ensures.both in
@@ -192,7 +192,7 @@ returns-clause-turned g c = record {
       (g.J.Journal.notes c.args.self.now.stores.journal m.name)
       (subst (λ (k : List ℕ). IsPrefixOf (header_bytes k (g.J.Journal.header c.args.self.now.stores.journal m.name))
       (g.J.Journal.notes c.args.self.now.stores.journal m.name)) (sym (c.copy.ensures ∙ sym c.requires.name))
-      (n.unknown m.name fresh))) in
+      (n.unknown m.name fresh awake))) in
       let noted = noted_then c.in_ok-session.session.progress.name m.name
       (g.J.Journal.header c.args.self.now.stores.journal) _ (first m.name) no_log
       (log_after no_log m (length s.progress.ledger.outcomes)) c.in_ok-session.session.progress.noted _
@@ -200,8 +200,8 @@ returns-clause-turned g c = record {
       (c.in_ok-serve.ensures.noted honest honest_notes (first m.name) no_log
       (subst (λ (o : Option (List ℕ)). HoldsLog (first m.name) no_log (part_of c.in_ok-session.session) o)
       (sym (ap (g.S.TakeStore.contents c.args.self.now.stores.store) owner ∙ nothing))
-      (c.in_ok-session.ensures.holds (first m.name)))) (n.existed m.name) begun in
-      notes_after (g.J.Journal.header c.args.self.now.stores.journal) (g.J.Journal.header c.serve.new.stores.journal)
+      (c.in_ok-session.ensures.holds (first m.name)))) (n.existed m.name awake) begun in
+      notes_after asleep (g.J.Journal.header c.args.self.now.stores.journal) (g.J.Journal.header c.serve.new.stores.journal)
       (g.J.Journal.notes c.args.self.now.stores.journal) (g.J.Journal.notes c.serve.new.stores.journal) first
       (session_in c.args.self.now.sessions) (session_in c.insert.new.self) book
       (book_reported book m (map reply_of c.serve.new.out.items) (done_in c.insert.new.self m.name)) m.name s
@@ -214,7 +214,7 @@ returns-clause-turned g c = record {
       ∙ ap (λ (l : Log). log_after l m (done_in c.insert.new.self m.name)) (unknown_log book m.name unknown)
       ∙ ap (log_after no_log m) done)
       (reported_others book m (map reply_of c.serve.new.out.items) (done_in c.insert.new.self m.name) near) noted;
-  ordered = λ honest honest_notes first book h n o.
+  ordered = λ honest honest_notes asleep awake first book h n o.
       let m : Message = message_of c.args.message.now in
       let s : Session = c.serve.new.self in
       let both = c.in_ok-serve.ensures.both in
@@ -235,7 +235,7 @@ returns-clause-turned g c = record {
       (g.J.Journal.notes c.args.self.now.stores.journal m.name)
       (subst (λ (k : List ℕ). IsPrefixOf (header_bytes k (g.J.Journal.header c.args.self.now.stores.journal m.name))
       (g.J.Journal.notes c.args.self.now.stores.journal m.name)) (sym (c.copy.ensures ∙ sym c.requires.name))
-      (n.unknown m.name fresh))) in
+      (n.unknown m.name fresh awake))) in
       let here = order_then c.in_ok-session.session.progress.name m.name
       (g.J.Journal.header c.args.self.now.stores.journal) _ (first m.name) no_log
       c.in_ok-session.session.progress.noted _ _ _ (g.J.Journal.notes c.args.self.now.stores.journal)
@@ -244,7 +244,7 @@ returns-clause-turned g c = record {
       (c.in_ok-serve.ensures.ordered honest honest_notes (first m.name) no_log
       (subst (λ (o : Option (List ℕ)). HoldsLog (first m.name) no_log (part_of c.in_ok-session.session) o)
       (sym (ap (g.S.TakeStore.contents c.args.self.now.stores.store) owner ∙ nothing))
-      (c.in_ok-session.ensures.holds (first m.name)))) (n.existed m.name) begun
+      (c.in_ok-session.ensures.holds (first m.name)))) (n.existed m.name awake) begun
       (record { begun = λ short. nothing; entered = inl (quiet_ends _ _ no_log _ _ begun refl) }) in
       order_after (g.J.Journal.header c.args.self.now.stores.journal) (g.J.Journal.header c.serve.new.stores.journal)
       (g.J.Journal.notes c.args.self.now.stores.journal) (g.J.Journal.notes c.serve.new.stores.journal) first

@@ -1,4 +1,4 @@
-use Rattle.bw_session.proofs.RestTables.{table_kept}
+use Rattle.bw_session.proofs.RoomForms.{table_kept}
 use Rattle.bw_session.proofs.server.Server.make_place.Goals as goal
 
 pub invariant_of-self : goal.invariant_of-self

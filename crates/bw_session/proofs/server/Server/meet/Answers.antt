@@ -78,21 +78,21 @@ returns-in-Err-clause-turned g c =
                 (store_since g.S.TakeStore first c.args.self.now.stores.store) (session_in t) book)
                 (sym e.left.sessions) h));
           };
-      noted = λ honest honest_notes first book h n.
+      noted = λ honest honest_notes asleep awake first book h n.
           let fresh = subst (λ (k : List ℕ). session_in c.args.self.now.sessions k ≡ None) (sym c.requires.name)
           c.requires.fresh in
           let unknown = unknown_here c.args.self.now.limit (store_since g.S.TakeStore first c.args.self.now.stores.store)
           (session_in c.args.self.now.sessions) book h honest m.name fresh in
           let away = away_either book m (map reply_of c.push.new.self.items) unknown
           (ap (λ (rs : List model.Reply). is_turned_away rs || nat_le window m.number) reported ∙ e.away) in
-          subst (λ (b : Book). NotesNames (g.J.Journal.header c.try_meet.new.self.stores.journal)
+          subst (λ (b : Book). NotesNames asleep (g.J.Journal.header c.try_meet.new.self.stores.journal)
           (g.J.Journal.notes c.try_meet.new.self.stores.journal) first (session_in c.try_meet.new.self.sessions) b)
           (sym (reported_away book m (map reply_of c.push.new.self.items) (done_in c.try_meet.new.self.sessions m.name) away))
-          (subst (λ (j : _). NotesNames (g.J.Journal.header j) (g.J.Journal.notes j) first
+          (subst (λ (j : _). NotesNames asleep (g.J.Journal.header j) (g.J.Journal.notes j) first
           (session_in c.try_meet.new.self.sessions) book) (sym e.left.journal)
-          (subst (λ (t : _). NotesNames (g.J.Journal.header c.args.self.now.stores.journal)
+          (subst (λ (t : _). NotesNames asleep (g.J.Journal.header c.args.self.now.stores.journal)
           (g.J.Journal.notes c.args.self.now.stores.journal) first (session_in t) book) (sym e.left.sessions) n));
-      ordered = λ honest honest_notes first book h n o.
+      ordered = λ honest honest_notes asleep awake first book h n o.
           subst (λ (s : _). OrderIn (g.J.Journal.header c.try_meet.new.self.stores.journal)
           (g.J.Journal.notes c.try_meet.new.self.stores.journal) first (g.S.TakeStore.contents s)
           (session_in c.try_meet.new.self.sessions)) (sym e.left.store)

@@ -168,7 +168,7 @@ returns-in-None-clause-turned g c = λ honest first book h.
     record { later = turned.later; turned = turned.turned; held = turned.held }
 
 pub returns-in-Some-clause-noted : goal.returns-in-Some-clause-noted
-returns-in-Some-clause-noted g c = λ honest honest_notes first book h n.
+returns-in-Some-clause-noted g c = λ honest honest_notes asleep awake first book h n.
     let s : Session = c.in-Some.session.now in
     let s' : Session = c.answer.new.self in
     let m : Message = message_of c.args.message.now in
@@ -200,9 +200,9 @@ returns-in-Some-clause-noted g c = λ honest honest_notes first book h n.
     (g.J.Journal.notes c.answer.new.stores.journal) named refl
     (c.answer.ensures.noted honest honest_notes (first m.name) (log_of book m.name)
     (subst (λ (n : List ℕ). HoldsLog (first m.name) (log_of book m.name) (part_of s)
-    (g.S.TakeStore.contents c.args.self.now.stores.store n)) (sym named) part)) (n.existed m.name)
+    (g.S.TakeStore.contents c.args.self.now.stores.store n)) (sym named) part)) (n.existed m.name awake)
     (n.known m.name s found) in
-    notes_after (g.J.Journal.header c.args.self.now.stores.journal) (g.J.Journal.header c.answer.new.stores.journal)
+    notes_after asleep (g.J.Journal.header c.args.self.now.stores.journal) (g.J.Journal.header c.answer.new.stores.journal)
     (g.J.Journal.notes c.args.self.now.stores.journal) (g.J.Journal.notes c.answer.new.stores.journal) first
     (session_in c.args.self.now.sessions) (session_in (c.get_mut.follows.lender s')) book
     (book_reported book m (map reply_of c.answer.new.out.items) (done_in (c.get_mut.follows.lender s') m.name)) m.name s'
@@ -257,16 +257,16 @@ returns-in-None-clause-asked g c =
     c.meet.ensures.turned.asked
 
 pub returns-in-None-clause-noted : goal.returns-in-None-clause-noted
-returns-in-None-clause-noted g c = λ honest honest_notes first book h n.
-    c.meet.ensures.turned.noted honest honest_notes first book
+returns-in-None-clause-noted g c = λ honest honest_notes asleep awake first book h n.
+    c.meet.ensures.turned.noted honest honest_notes asleep awake first book
     (subst (λ (t : _). HoldsIn c.args.self.now.limit (store_since g.S.TakeStore first c.args.self.now.stores.store)
     (session_in t) book) (sym c.get_mut.follows.holds-at-none) h)
-    (subst (λ (t : _). NotesNames (g.J.Journal.header c.args.self.now.stores.journal)
+    (subst (λ (t : _). NotesNames asleep (g.J.Journal.header c.args.self.now.stores.journal)
     (g.J.Journal.notes c.args.self.now.stores.journal) first (session_in t) book)
     (sym c.get_mut.follows.holds-at-none) n)
 
 pub returns-in-Some-clause-ordered : goal.returns-in-Some-clause-ordered
-returns-in-Some-clause-ordered g c = λ honest honest_notes first book h n o.
+returns-in-Some-clause-ordered g c = λ honest honest_notes asleep awake first book h n o.
     let s : Session = c.in-Some.session.now in
     let s' : Session = c.answer.new.self in
     let m : Message = message_of c.args.message.now in
@@ -290,7 +290,7 @@ returns-in-Some-clause-ordered g c = λ honest honest_notes first book h n o.
     (g.S.TakeStore.contents c.answer.new.stores.store) named refl
     (c.answer.ensures.ordered honest honest_notes (first m.name) (log_of book m.name)
     (subst (λ (n : List ℕ). HoldsLog (first m.name) (log_of book m.name) (part_of s)
-    (g.S.TakeStore.contents c.args.self.now.stores.store n)) (sym named) part)) (n.existed m.name)
+    (g.S.TakeStore.contents c.args.self.now.stores.store n)) (sym named) part)) (n.existed m.name awake)
     (n.known m.name s found) (o m.name s found) in
     order_after (g.J.Journal.header c.args.self.now.stores.journal) (g.J.Journal.header c.answer.new.stores.journal)
     (g.J.Journal.notes c.args.self.now.stores.journal) (g.J.Journal.notes c.answer.new.stores.journal) first
@@ -303,11 +303,11 @@ returns-in-Some-clause-ordered g c = λ honest honest_notes first book h n o.
     (g.S.TakeStore.contents c.answer.new.stores.store) k) named (both.1.others honest)) sets here
 
 pub returns-in-None-clause-ordered : goal.returns-in-None-clause-ordered
-returns-in-None-clause-ordered g c = λ honest honest_notes first book h n o.
-    c.meet.ensures.turned.ordered honest honest_notes first book
+returns-in-None-clause-ordered g c = λ honest honest_notes asleep awake first book h n o.
+    c.meet.ensures.turned.ordered honest honest_notes asleep awake first book
     (subst (λ (t : _). HoldsIn c.args.self.now.limit (store_since g.S.TakeStore first c.args.self.now.stores.store)
     (session_in t) book) (sym c.get_mut.follows.holds-at-none) h)
-    (subst (λ (t : _). NotesNames (g.J.Journal.header c.args.self.now.stores.journal)
+    (subst (λ (t : _). NotesNames asleep (g.J.Journal.header c.args.self.now.stores.journal)
     (g.J.Journal.notes c.args.self.now.stores.journal) first (session_in t) book)
     (sym c.get_mut.follows.holds-at-none) n)
     (subst (λ (t : _). OrderIn (g.J.Journal.header c.args.self.now.stores.journal)

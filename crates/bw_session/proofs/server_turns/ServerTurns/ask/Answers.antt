@@ -15,14 +15,13 @@ returns-clause-answered g c = record {
   honest = refl;
   honest_notes = refl;
   headers = λ honest_notes name. refl;
-  resting = λ honest_notes name. refl;
   few = omega arith;
   failed = false;
   counted = quiet_count _;
   delays = next_not_delayed c.name.result c.number.result c.ask.ensures.notice.0 (reply_of c.ask.result)
       c.ask.ensures.notice.1;
   asks = refl;
-  ordered = λ honest honest_notes first book h n o. o;
+  ordered = λ honest honest_notes asleep awake first book h n o. o;
   away = λ turned_away. (refl, refl);
   turned = λ honest first book h. record {
     later = book;
@@ -33,6 +32,6 @@ returns-clause-answered g c = record {
         ∙ ap (λ (n : ℕ). Noticed (asked_name c.args.ask.now) n Next (log_of book (asked_name c.args.ask.now)).done)
         c.number.ensures.value);
     held = h;
-    noted = λ honest_notes notes. notes;
+    noted = λ honest_notes asleep awake notes. notes;
   };
 }

@@ -5,7 +5,7 @@ use Rattle.bw_model.specs.Book.{Book}
 use Rattle.bw_wire.specs.Frames.{message_of}
 use Rattle.bw_wire.specs.Replies.{reply_of}
 use Rattle.bw_wire.proofs.BodyLaws.{message_spelled}
-use Rattle.bw_session.specs.Books.{failures_of, NotesBook}
+use Rattle.bw_session.specs.Books.{failures_of, NotesAwake}
 use Rattle.bw_session.specs.Servers.{store_since, done_in}
 use Rattle.bw_session.specs.Tables.{session_in}
 use Rattle.bw_session.proofs.ServerAnswers.{done_is, later_reported}
@@ -20,7 +20,6 @@ returns-clause-answered g c =
       honest = both.honest;
       honest_notes = both.honest_notes;
       headers = both.headers;
-      resting = both.resting;
       few = subst (λ (n : ℕ). n ≤ 17) (sym (length-map c.turn.new.out.items reply_of)) c.turn.ensures.few;
       failed = c.turn.ensures.both.0;
       counted = both.failures;
@@ -37,11 +36,11 @@ returns-clause-answered g c =
             later = t.later;
             turned = t.turned;
             held = t.held;
-            noted = λ honest_notes notes.
-                subst (λ (b : Book). NotesBook g.S.TakeStore g.J.Journal first c.turn.new.self b)
+            noted = λ honest_notes asleep awake notes.
+                subst (λ (b : Book). NotesAwake g.S.TakeStore g.J.Journal asleep first c.turn.new.self b)
                 (later_reported (λ n. is_some (first n)) (failures_of g.S.TakeStore g.J.Journal c.args.self.now)
                 (failures_of g.S.TakeStore g.J.Journal c.turn.new.self) book m
                 (map reply_of c.turn.new.out.items) t.later (done_in c.turn.new.self.sessions m.name) t.turned done)
-                (c.turn.ensures.noted honest honest_notes first book h notes);
+                (c.turn.ensures.noted honest honest_notes asleep awake first book h notes);
           };
     }
