@@ -19,14 +19,6 @@ some_of (Some found) e = (found, refl)
 pub moved : {X Y : Type 0} (P : X → Y → Type 0) (a a' : X) (b b' : Y) → a ≡ a' → b ≡ b' → P a b → P a' b'
 moved P a a' b b' ea eb p = subst (λ x. P x b') ea (subst (λ y. P a y) eb p)
 
--- nothing changed
-pub unstarted : (h : List ℕ) (before after : Option (List ℕ)) → after ≡ before → StartsInPart h before after
-unstarted h before after same = record {
-  prefix = λ p. subst (IsPrefixOf h) (sym same) p;
-  kept = λ w. same;
-  only = inl same;
-}
-
 module _ (h room : List ℕ) (count : ℕ) (content : Option (List ℕ)) (n : ℕ) (long : n ≡ length h)
     (stands : IsSome content) (reads : ReadsPrefix content n count room) (same : take count room ≡ take count h) where
   abbrev found : List ℕ

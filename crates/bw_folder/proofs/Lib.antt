@@ -6,9 +6,5 @@ pub mod Existences
 pub mod JournalNames
 pub mod HeaderKeeping
 pub mod ClosedTakes
-pub mod ClosedPaths
 pub mod ClosedNames
-pub mod LooseForms
-pub mod LooseJournals
-pub mod Standings
-pub mod BecomingForms
+pub mod RecoveredForms

@@ -30,6 +30,10 @@ found_by (Ok true) name names = names ++ name ∷ []
 found_by (Ok false) name names = names
 found_by (Err fault) name names = names
 
+-- these names without one of them
+abbrev pub names_but : List ℕ → List (List ℕ) → List (List ℕ)
+names_but name names = filter (λ other. not (bytes_eq other name)) names
+
 -- the names of open takes after a `finish`: a name that is finished is open no more
 abbrev pub closed_by : {T E : Type 0} → Result T E → List ℕ → List (List ℕ) → List (List ℕ)
 closed_by (Ok done) name names = filter (λ other. not (bytes_eq other name)) names

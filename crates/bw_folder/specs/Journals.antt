@@ -1,7 +1,7 @@
 -- Where the journals of a folder are on a disk.
 use Rattle.std.specs.Prelude.{◌≡◌, ℕ, Bool, List, ◌++◌, codes, map, Option, Some, None, is_some, unwrap_or}
 use Rattle.std.specs.Prelude.{option_map, Result, Ok, Err, true, false, [], ◌∷◌, ◌⊎◌}
-use Rattle.std.specs.Prelude.{if◌then◌else◌}
+use Rattle.std.specs.Prelude.{if◌then◌else◌, filter, not}
 use Rattle.std.specs.List.{find}
 use Rattle.std.specs.Str.{bytes_eq}
 use Rattle.bw_journal.specs.JournalHeaders.{Header}
@@ -42,6 +42,10 @@ abbrev pub adopted_by : {E : Type 0} → Result Bool E → List ℕ → Bool →
 adopted_by (Ok true) name existed known = known ++ (name, existed) ∷ []
 adopted_by (Ok false) name existed known = known
 adopted_by (Err fault) name existed known = known
+
+-- the known names without one of them
+abbrev pub known_but : List ℕ → List (List ℕ × Bool) → List (List ℕ × Bool)
+known_but name known = filter (λ it. not (bytes_eq it.0 name)) known
 
 -- what the journals of names begin with after one more was opened: that one has what is said of it
 abbrev pub adopted_header : {E : Type 0} → Result Bool E → List ℕ → Bool → (List ℕ → Header) → List ℕ →

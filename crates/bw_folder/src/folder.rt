@@ -4,15 +4,14 @@ ghost use Rattle.std.specs.Prelude.{IsSome, IfSome, ◌↔◌, is_err, string_by
 ghost use Rattle.std.specs.List.{All, Contains, HoldsAt};
 ghost use Rattle.bw_store.specs.Stores.{Counts, Creates, Written, MayTear, KeepsOthers};
 ghost use Rattle.bw_disk.specs.Disks.{IsOneCall, AsksOnce, Syncs};
-ghost use Rattle.bw_disk.specs.DiskSteps.{StaysWhole};
 ghost use Rattle.bw_folder.specs.Folders.{take_path as path_of_take, take_content, open_names};
-ghost use Rattle.bw_folder.specs.Folders.{opened_by, found_by};
+ghost use Rattle.bw_folder.specs.Folders.{opened_by};
 ghost use Rattle.bw_folder.specs.Folders.{closed_by};
 ghost use Rattle.std.specs.Prelude.{filter, not};
 ghost use Rattle.std.specs.Str.{bytes_eq};
 
 use crate::paths::take_path;
-use bw_disk::{Disk, SystemDisk, Volume};
+use bw_disk::{Disk, SystemDisk};
 use bw_request::Name;
 use bw_store::{CallCounter, Created, StoreFault, TakeStore};
 use std::alloc::{AllocError, Global};
@@ -20,23 +19,23 @@ use std::fs::Files;
 
 /// A take's file, which stays open.
 #[derive(Drop)]
-struct OpenTake<F: Drop> {
-    name: Name,
-    file: F,
+pub(crate) struct OpenTake<F: Drop> {
+    pub(crate) name: Name,
+    pub(crate) file: F,
 }
 
 /// The files `NAME.wav` of one folder.
 ///
-/// Only files that this store made or adopted are written: `create` never opens a file that is
+/// Only files that this store made or reopened are written: `create` never opens a file that is
 /// there already. Over an honest disk it is an honest store. A call fails if the disk does;
 /// `create` also if memory is refused, and the others for a name whose file isn't open.
 #[derive(Drop)]
 pub struct FolderStore<D: Disk> {
-    disk: D,
-    alloc: Global,
-    folder: String,
-    takes: Vec<OpenTake<D::File>>,
-    call_counter: CallCounter,
+    pub(crate) disk: D,
+    pub(crate) alloc: Global,
+    pub(crate) folder: String,
+    pub(crate) takes: Vec<OpenTake<D::File>>,
+    pub(crate) call_counter: CallCounter,
     ghost paths: { IsTrue (D.honest disk) → All
         (λ take. D.path_of take.file ≡ path_of_take (string_bytes folder) take.name) takes.items },
 }
@@ -192,50 +191,13 @@ impl<D: Disk> FolderStore<D> {
     }
 
     /// Closes the file of a take. The disk isn't called.
-    fn close(&mut self, name: &Name)
+    pub(crate) fn close(&mut self, name: &Name)
         ensures rest { (self.new.disk ≡ self.old.disk) × (self.new.folder ≡ self.old.folder)
             × (self.new.call_counter ≡ self.old.call_counter) }
         ensures opened { open_names self.new.takes.items
             ≡ filter (λ other. not (bytes_eq other name.now)) (open_names self.old.takes.items) }
     {
         self.takes.retain(|take| take.name != *name);
-    }
-}
-
-impl<D: Volume> FolderStore<D> {
-    ghost use Rattle.bw_folder.specs.TakeFolders.{takes_disk, takes_folder, open_takes};
-    ghost use Rattle.bw_folder.specs.TakeFolders.{takes_calls, takes_failures, take_in_folder};
-
-    /// Opens the file of a take that an earlier server made, by one call of the disk, so that it
-    /// can be written from then on. That is no call of the store. It returns false if nothing is
-    /// there.
-    ///
-    /// # Errors
-    /// `StoreFault` if that call failed, or if memory was refused before it.
-    ///
-    /// # Not specified
-    /// When memory is refused: an error without a call of the disk has no other cause.
-    pub fn adopt(&mut self, name: &Name) -> Result<bool, StoreFault>
-        ensures calls { takes_calls self.new ≡ takes_calls self.old }
-        ensures failures { takes_failures self.new ≡ takes_failures self.old }
-        ensures folder { takes_folder self.new ≡ takes_folder self.old }
-        ensures disk { StaysWhole D.Disk (takes_disk self.old) (takes_disk self.new) }
-        ensures found { IsTrue (D.honest (takes_disk self.old)) → IfOk result (λ found. IsTrue found
-            ↔ IsSome (take_in_folder self.old name.now)) }
-        ensures asks { AsksOnce D.calls D.failures (takes_disk self.old) (takes_disk self.new)
-            result }
-        ensures opened { open_takes self.new ≡ found_by result name.now (open_takes self.old) }
-    {
-        let found = take_path(self.alloc, &self.folder, name)?;
-        self.takes.reserve_exact(1).map_err(|_| StoreFault)?;
-        let Some(file) = self.disk.open(found.as_str()).map_err(|_| StoreFault)? else {
-            return Ok(false);
-        };
-        let name = name.copy();
-        self.takes
-            .push(OpenTake { name, file })
-            .map_err(|_| StoreFault)?;
-        Ok(true)
     }
 }
 
@@ -288,10 +250,10 @@ impl<D: Disk> TakeStore for FolderStore<D> {
         answer
     }
 
-    /// Writes to a file that this store made or adopted, by one call of the disk.
+    /// Writes to a file that this store made or reopened, by one call of the disk.
     ///
     /// # Errors
-    /// `StoreFault` if that call failed, and for a name that this store neither made nor adopted,
+    /// `StoreFault` if that call failed, and for a name that this store neither made nor reopened,
     /// or has finished: the disk isn't called then.
     #[tactic(auto, using(crate::proofs::TakePaths::take_path_injective))]
     fn write_at(&mut self, name: &Name, offset: u64, bytes: &[u8]) -> Result<(), StoreFault>
@@ -333,12 +295,12 @@ impl<D: Disk> TakeStore for FolderStore<D> {
         answer
     }
 
-    /// Syncs a file that this store made or adopted, by one call of the disk, and closes it:
+    /// Syncs a file that this store made or reopened, by one call of the disk, and closes it:
     /// nothing is written to it any more.
     ///
     /// # Errors
     /// `StoreFault` if that call failed: the file stays open then. Also for a name that this store
-    /// neither made nor adopted, or has finished: the disk isn't called then.
+    /// neither made nor reopened, or has finished: the disk isn't called then.
     fn finish(&mut self, name: &Name) -> Result<(), StoreFault>
         ensures failures { Counts (takes_failures self.old) (takes_failures self.new)
             (is_err result) }

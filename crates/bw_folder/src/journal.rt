@@ -1,20 +1,15 @@
 //! Journals in a folder.
-ghost use Rattle.std.specs.Prelude.{◌≡◌, ◌↔◌, ℕ, List, [], Some, None, IsTrue, IsErr};
-ghost use Rattle.std.specs.Prelude.{IsSome, IsNone, IfOk, Ok};
+ghost use Rattle.std.specs.Prelude.{◌≡◌, [], Some, IsTrue, IsErr};
+ghost use Rattle.std.specs.Prelude.{IfOk, Ok};
 ghost use Rattle.std.specs.Prelude.{OnOk, OnErr, string_bytes, is_err, false, true};
 ghost use Rattle.std.specs.List.{All};
 ghost use Rattle.bw_store.specs.Stores.{Counts, KeepsOthers};
-ghost use Rattle.bw_disk.specs.Disks.{AsksOnce};
-ghost use Rattle.bw_disk.specs.DiskSteps.{StaysWhole};
 ghost use Rattle.bw_journal.specs.Notes.{BeginsNotes, BeginsInPart, Notes, NotesInPart};
 ghost use Rattle.bw_journal.specs.Notes.{KeepsHeaders};
 ghost use Rattle.bw_folder.specs.Folders.{take_path as path_of_take};
-ghost use Rattle.bw_folder.specs.Journals.{journal_path as path_of_journal, existence_of};
-ghost use Rattle.bw_folder.specs.Journals.{adopted_by, adopted_header};
+ghost use Rattle.bw_folder.specs.Journals.{journal_path as path_of_journal};
 ghost use Rattle.bw_folder.specs.SyncOrders.{BeginsJournal, NotesPlainly, SyncsInOrder};
 
-use crate::noting::find;
-use crate::paths::journal_path;
 use bw_disk::{SystemDisk, Volume};
 use bw_journal::Journal;
 use bw_layout::Limit;
@@ -60,12 +55,12 @@ impl<F: Drop> OpenJournal<F> {
 /// Its disk is its own: it changes no other file, and a store of the same folder changes none of
 /// these. Over an honest disk it is an honest journal. A call fails if a call of the disk does, or
 /// memory is refused; `begin` also if the file begins with other bytes than those of its header,
-/// and `note` for a name that was neither begun nor adopted. A note that fails leaves a prefix of
+/// and `note` for a name that was neither begun nor reopened. A note that fails leaves a prefix of
 /// its bytes, which the next note of the same bytes writes over.
 ///
 /// With `sync` a journal that begins is synced, and the folder, before any file of its take is made.
 /// A note is made in steps: the take's file is synced, then the folder if this is the first note since
-/// an adopted journal was opened or the first that finds the take's file, the bytes are appended, and
+/// a journal was reopened or the first that finds the take's file, the bytes are appended, and
 /// the journal is synced. So no note of this journal survives a loss of power without its samples, and
 /// none that it reported is lost. After a note whose sync failed each `note` of the name fails: another
 /// try could succeed although bytes are lost. Without `sync` nothing is synced.
@@ -119,6 +114,7 @@ impl<D: Volume> FolderJournal<D> {
     ghost use Rattle.bw_folder.specs.JournalFolders.{journals_limit, journals_sync, open_journals};
     ghost use Rattle.bw_folder.specs.JournalFolders.{journals_failures, noted_in_folder};
     ghost use Rattle.bw_folder.specs.JournalFolders.{header_in_folder, SameSettings};
+    ghost use Rattle.bw_folder.specs.Journals.{known_but};
 
     /// The journals of a folder of a disk, for a server of this limit. None is open yet.
     ///
@@ -185,6 +181,23 @@ impl<D: Volume> FolderJournal<D> {
         self.folder.as_str()
     }
 
+    /// The limit of the server.
+    pub fn limit(&self) -> Limit
+        ensures { result ≡ journals_limit self.now }
+    {
+        self.limit
+    }
+
+    /// Closes the journal of a name, if it is open. The disk isn't called.
+    pub fn release(&mut self, name: &Name)
+        ensures disk { journals_disk self.new ≡ journals_disk self.old }
+        ensures settings { SameSettings self.old self.new }
+        ensures failures { journals_failures self.new ≡ journals_failures self.old }
+        ensures known { open_journals self.new ≡ known_but name.now (open_journals self.old) }
+    {
+        self.close(name);
+    }
+
     /// The disk of the folder, by value.
     pub fn into_disk(self) -> D
         ensures { result ≡ journals_disk self }
@@ -200,46 +213,6 @@ impl<D: Volume> FolderJournal<D> {
         } = self;
         disk
     }
-
-    /// Opens the journal of a name that an earlier server wrote, by at most one call of the disk,
-    /// and knows from then on whether a file of that name existed before it. That is no call of
-    /// the journal. It returns false if the journal of that name is open already, or nothing is
-    /// there.
-    ///
-    /// # Errors
-    /// `StoreFault` if that call failed, or memory was refused before it.
-    ///
-    /// # Not specified
-    /// When memory is refused: an error without a call of the disk has no other cause.
-    pub fn adopt(&mut self, name: &Name, existed: bool) -> Result<bool, StoreFault>
-        ensures failures { journals_failures self.new ≡ journals_failures self.old }
-        ensures settings { SameSettings self.old self.new }
-        ensures known { open_journals self.new
-            ≡ adopted_by result name.now existed (open_journals self.old) }
-        ensures headers { IsTrue (D.honest (journals_disk self.old)) → (other : List ℕ) →
-            header_in_folder self.new other
-            ≡ adopted_header result name.now existed (header_in_folder self.old) other }
-        ensures found { IsTrue (D.honest (journals_disk self.old)) → IfOk result (λ found.
-            IsTrue found ↔ (IsNone (existence_of (open_journals self.old) name.now)
-            × IsSome (noted_in_folder self.old name.now))) }
-        ensures asks { IsNone (existence_of (open_journals self.old) name.now) →
-            AsksOnce D.calls D.failures (journals_disk self.old) (journals_disk self.new) result }
-        ensures again { IsSome (existence_of (open_journals self.old) name.now) →
-            (result ≡ Ok false) × (journals_disk self.new ≡ journals_disk self.old) }
-        ensures disk { StaysWhole D.Disk (journals_disk self.old) (journals_disk self.new) }
-    {
-        if find(&self.journals, name).is_some() {
-            return Ok(false);
-        }
-        let path = journal_path(self.alloc, &self.folder, name)?;
-        self.journals.reserve(1).map_err(|_| StoreFault)?;
-        let Some(file) = self.disk.open(path.as_str()).map_err(|_| StoreFault)? else {
-            return Ok(false);
-        };
-        let journal = OpenJournal::new(name, existed, file);
-        self.journals.push(journal).map_err(|_| StoreFault)?;
-        Ok(true)
-    }
 }
 
 impl<D: Volume> Journal for FolderJournal<D> {
@@ -251,8 +224,6 @@ impl<D: Volume> Journal for FolderJournal<D> {
     ghost notes = { noted_in_folder };
 
     ghost header = { header_in_folder };
-
-    ghost resting = { λ _ _. None };
 
     ghost failures = { journals_failures };
 
@@ -298,13 +269,13 @@ impl<D: Volume> Journal for FolderJournal<D> {
         answer
     }
 
-    /// Writes the bytes into the file of a journal that was begun or adopted. Without `sync` that
+    /// Writes the bytes into the file of a journal that was begun or reopened. Without `sync` that
     /// is one call of the disk. With it the take's file is synced before anything is written, and
     /// the journal afterwards.
     ///
     /// # Errors
     /// `StoreFault` if a call of the disk failed, memory was refused before any change, the name's
-    /// journal was neither begun nor adopted, or a sync failed in an earlier call for this name.
+    /// journal was neither begun nor reopened, or a sync failed in an earlier call for this name.
     ///
     /// # Not specified
     /// - When memory is refused.

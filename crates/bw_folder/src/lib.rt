@@ -1,19 +1,19 @@
 //! What a server keeps in a folder: the files of takes, and their journals.
-//! Not stated: at which of its two paths the journal of a name that woke, or whose move failed, is;
-//! when the folder itself is synced.
+//! Not stated: when the folder itself is synced.
 #![tactic(auto)]
 
 mod closing;
-mod conversion;
+mod comparing;
 mod folder;
 mod heading;
 mod journal;
-mod loose;
 mod noting;
 mod paths;
-mod resting;
+mod recovering;
+mod reopening;
 mod syncing;
 
+pub use comparing::shows_alike;
 pub use folder::FolderStore;
 pub use journal::FolderJournal;
-pub use resting::RestingFolderJournal;
+pub use recovering::{look_at_name, restore_in_folder};

@@ -2,7 +2,6 @@
 ghost use Rattle.std.specs.Prelude.{◌≡◌, IfOk, string_bytes};
 ghost use Rattle.bw_folder.specs.Folders.{take_path as path_of_take};
 ghost use Rattle.bw_folder.specs.Journals.{journal_path as path_of_journal};
-ghost use Rattle.bw_folder.specs.RestingJournals.{closed_path as path_of_closed};
 
 use bw_request::Name;
 use bw_store::StoreFault;
@@ -37,23 +36,6 @@ pub(crate) fn journal_path(alloc: Global, folder: &str, name: &Name) -> Result<S
         return Err(StoreFault);
     };
     match format!(in alloc; "{folder}/{text}.journal") {
-        Ok(path) => Ok(path),
-        Err(_) => Err(StoreFault),
-    }
-}
-
-/// The path of a name's journal in a folder while it rests.
-///
-/// # Errors
-/// `StoreFault` if memory was refused.
-#[tactic(auto, unfolding(crate::specs::RestingJournals::closed_path))]
-pub(crate) fn closed_path(alloc: Global, folder: &str, name: &Name) -> Result<String, StoreFault>
-    ensures { IfOk result (λ p. string_bytes p ≡ path_of_closed folder.now name.now) }
-{
-    let Ok(text) = std::str::from_utf8(name.as_bytes()) else {
-        return Err(StoreFault);
-    };
-    match format!(in alloc; "{folder}/{text}.closed") {
         Ok(path) => Ok(path),
         Err(_) => Err(StoreFault),
     }

@@ -12,3 +12,5 @@ pub mod StoryForms
 pub mod PartForms
 pub mod NameStays
 pub mod SortedNames
+pub mod CountForms
+pub mod RestoreForms

@@ -1,5 +1,6 @@
 -- What calls at a start leave of files.
-use Rattle.std.specs.Prelude.{◌≡◌, ◌≢◌, ◌⊎◌, ℕ, ◌+◌, ◌≤◌, Option, Some, None, List, codes, length, take, drop}
+use Rattle.std.specs.Prelude.{◌≡◌, ◌≢◌, ◌⊎◌, ◌==◌, ◌<◌, ℕ, ◌+◌, ◌++◌, ◌≤◌, Option, Some, None, IsSome, List}
+use Rattle.std.specs.Prelude.{codes, decimal, length, take, drop, if◌then◌else◌}
 use Rattle.bw_disk.specs.Volumes.{KeepsEach}
 use Rattle.bw_store.specs.Stores.{KeepsOthers}
 use Rattle.bw_recovery.specs.Paths.{path_with, wave_path}
@@ -11,6 +12,15 @@ Becomes f before after = (found : List ℕ) → before ≡ Some found → after 
 -- no take's file is at this path
 abbrev pub IsNoWave : List ℕ → List ℕ → Type 0
 IsNoWave folder path = (other : List ℕ) → path ≢ wave_path folder other
+
+-- what follows a name of which a file was set aside, by how many were tried before
+abbrev pub torn_text : ℕ → List ℕ
+torn_text attempt = if attempt == 0 then codes ".torn" else codes ".torn" ++ decimal attempt
+
+-- something is at each path to which the file of a take may be moved
+abbrev pub IsCrowded : List ℕ → List ℕ → (List ℕ → Option (List ℕ)) → Type 0
+IsCrowded folder name before =
+    (attempt : ℕ) → attempt < 256 → IsSome (before (path_with folder (torn_text attempt) name))
 
 -- The file of a take was moved to a path of its name where nothing was, which ends in `.torn` and
 -- what follows that; all else is as it was.

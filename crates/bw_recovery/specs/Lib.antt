@@ -11,3 +11,5 @@ pub mod Findings
 pub mod FileEndings
 pub mod FoundNames
 pub mod Causes
+pub mod CountedFaults
+pub mod Restorings

@@ -1,9 +1,12 @@
 //! What a start finds of a name, and what that means for it.
-ghost use Rattle.std.specs.Prelude.{◌≡◌, ℕ, List, Some, Ok, IsTrue, IsSome, IfOk, IfSome, IfNone, None, ◌+◌, length};
+ghost use Rattle.std.specs.Prelude.{◌≡◌, ℕ, List, Some, Ok, IsTrue, IsSome, IfOk, IfErr, IfSome, IfNone, None, ◌+◌, length};
 ghost use Rattle.std.specs.Prelude.{Err, Option, option_map, ◌&&◌, take, drop, false};
 ghost use Rattle.std.specs.Option.{option_map_or};
 ghost use Rattle.std.specs.Str.{bytes_eq};
+ghost use Rattle.bw_store.specs.Stores.{Counts};
 ghost use Rattle.bw_disk.specs.DiskSteps.{StaysWhole};
+ghost use Rattle.bw_disk.specs.ReadFaults.{is_disk_fault};
+ghost use Rattle.bw_recovery.specs.CountedFaults.{CountsOneOf};
 ghost use Rattle.bw_journal.specs.Replays.{replay as replay_of, NotBegun as not_begun};
 ghost use Rattle.bw_journal.specs.Replays.{OtherLimit as other_limit_there};
 ghost use Rattle.bw_journal.specs.Faults.{IsJournalFault};
@@ -90,6 +93,9 @@ pub fn look<D: Volume, E: Volume>(
         (λ found. (journal : List ℕ) →
         E.contents notes.old (notes_path folder.now name.now) ≡ Some journal → IfSome found
         (IsFound limit name.now journal (D.contents takes.old (wave_path folder.now name.now)))) }
+    // `Disk` is a call of one of the disks that failed, and no other call fails.
+    ensures failures { CountsOneOf (D.failures takes.old) (D.failures takes.new)
+        (E.failures notes.old) (E.failures notes.new) (is_disk_fault result) }
     // Neither the header nor a cut reaches the samples.
     ensures spares { IfOk result (λ found. IfSome found SparesFile) }
 {
@@ -108,6 +114,7 @@ fn read_journal<E: Volume>(
     name: &Name,
 ) -> Result<Option<Vec<u8>>, ReadFault>
     ensures notes { StaysWhole E.Disk notes.old notes.new }
+    ensures failures { Counts (E.failures notes.old) (E.failures notes.new) (is_disk_fault result) }
     ensures read { IsTrue (E.honest notes.old) → IfOk result (λ journal.
         option_map (λ v. v.items) journal ≡ E.contents notes.old (notes_path folder.now name.now)) }
 {
@@ -127,6 +134,7 @@ fn judge_name<D: Volume>(
     ensures takes { StaysWhole D.Disk takes.old takes.new }
     ensures found { IsTrue (D.honest takes.old) → IfOk result (IsFound limit name.now journal.now
         (D.contents takes.old (wave_path folder.now name.now))) }
+    ensures failures { Counts (D.failures takes.old) (D.failures takes.new) (is_disk_fault result) }
     ensures spares { IfOk result SparesFile }
 {
     let path = path_in(alloc, folder, name, ".wav")?;
@@ -145,6 +153,7 @@ fn judge_at<D: Volume>(
     ensures takes { StaysWhole D.Disk takes.old takes.new }
     ensures found { IsTrue (D.honest takes.old) → IfOk result
         (IsFound limit name.now journal.now (D.contents takes.old path.now)) }
+    ensures failures { Counts (D.failures takes.old) (D.failures takes.new) (is_disk_fault result) }
     ensures spares { IfOk result SparesFile }
 {
     if journal.len() > JOURNAL_MAX {
@@ -169,6 +178,7 @@ fn judge_begun<D: Volume>(
         replay_of limit name journal ≡ Ok (story_of replayed) →
         replayed.used + replayed.torn ≡ length journal →
         IsFound limit name journal (D.contents takes.old path.now) found) }
+    ensures failures { Counts (D.failures takes.old) (D.failures takes.new) (is_disk_fault result) }
     ensures spares { IfOk result SparesFile }
 {
     let header = header_if(alloc, &replayed.state, limit)?;
@@ -192,8 +202,9 @@ fn judge_begun<D: Volume>(
 /// # Not specified
 /// When memory is refused.
 pub fn header_if(alloc: Global, state: &TakeState, limit: Limit) -> Result<Vec<u8>, ReadFault>
-    ensures { IfOk result (λ header. (f : Format) → state.now.parts.format ≡ Some f →
+    ensures value { IfOk result (λ header. (f : Format) → state.now.parts.format ≡ Some f →
         IsFileHeader limit state.now.parts f header.items) }
+    ensures err { IfErr result (λ e. e ≡ ReadFault.Memory) }
 {
     if state.format().is_none() {
         return Ok(Vec::new(alloc));
@@ -216,6 +227,7 @@ fn judge_fault<D: Volume>(
     ensures found { IsTrue (D.honest takes.old) → IfOk result (λ found. (limit : ℕ) (name : List ℕ) →
         IsJournalFault fault (replay_of limit name journal.now) →
         IsFound limit name journal.now (D.contents takes.old path.now) found) }
+    ensures failures { Counts (D.failures takes.old) (D.failures takes.new) (is_disk_fault result) }
     ensures spares { IfOk result SparesFile }
 {
     match fault {
@@ -249,6 +261,7 @@ fn judge_unbegun<D: Volume>(alloc: Global, takes: &mut D, path: &str) -> Result<
     ensures found { IsTrue (D.honest takes.old) → IfOk result (λ found.
         (limit : ℕ) (name journal : List ℕ) → replay_of limit name journal ≡ Err not_begun →
         IsFound limit name journal (D.contents takes.old path.now) found) }
+    ensures failures { Counts (D.failures takes.old) (D.failures takes.new) (is_disk_fault result) }
     ensures spares { IfOk result SparesFile }
 {
     if is_take_at(takes, alloc, path)? {
@@ -260,6 +273,7 @@ fn judge_unbegun<D: Volume>(alloc: Global, takes: &mut D, path: &str) -> Result<
 /// Whether a file is at the path that begins as a take of this server.
 fn is_take_at<D: Volume>(disk: &mut D, alloc: Global, path: &str) -> Result<bool, ReadFault>
     ensures disk { StaysWhole D.Disk disk.old disk.new }
+    ensures failures { Counts (D.failures disk.old) (D.failures disk.new) (is_disk_fault result) }
     ensures value { IsTrue (D.honest disk.old) → IfOk result (λ v.
         v ≡ option_map_or begins_take (D.contents disk.old path.now) false) }
 {

@@ -1,7 +1,7 @@
 //! Mending the file of an open take: its header, its length, and its pad byte.
 ghost use Rattle.std.specs.Prelude.{◌≡◌, ◌+◌, ◌≤◌, ◌++◌, ◌∷◌, [], ℕ, List, Some, IsTrue, OnOk, OnErr, None, false, true};
-ghost use Rattle.std.specs.Prelude.{length, take, drop, IfSome};
-ghost use Rattle.bw_store.specs.Stores.{KeepsOthers};
+ghost use Rattle.std.specs.Prelude.{length, take, drop, IfSome, is_err};
+ghost use Rattle.bw_store.specs.Stores.{Counts, KeepsOthers};
 ghost use Rattle.bw_recovery.specs.Adoptions.{patched, with_header, shortened, with_pad, MendsInPart};
 ghost use Rattle.bw_recovery.specs.Changes.{Becomes, KeepsSamples};
 
@@ -34,6 +34,7 @@ pub fn mend<D: Volume>(
         (D.contents disk.old (D.path_of file.old)) (D.contents disk.new (D.path_of file.old)) }
     ensures others { IsTrue (D.honest disk.old) →
         KeepsOthers (D.contents disk.old) (D.contents disk.new) (D.path_of file.old) }
+    ensures failures { Counts (D.failures disk.old) (D.failures disk.new) (is_err result) }
 {
     put_header(disk, file, header, mending.header)?;
     cut_file(disk, file, mending.cut)?;
@@ -57,6 +58,7 @@ fn put_header<D: Volume>(
         KeepsSamples place count found (D.contents disk.new (D.path_of file.old)) }
     ensures others { IsTrue (D.honest disk.old) →
         KeepsOthers (D.contents disk.old) (D.contents disk.new) (D.path_of file.old) }
+    ensures failures { Counts (D.failures disk.old) (D.failures disk.new) (is_err result) }
 {
     if needed {
         disk.write_at(file, 0, header)?;
@@ -76,6 +78,7 @@ fn cut_file<D: Volume>(disk: &mut D, file: &mut D::File, len: Option<u64>) -> Re
         KeepsSamples place count found (D.contents disk.new (D.path_of file.old)) }
     ensures others { IsTrue (D.honest disk.old) →
         KeepsOthers (D.contents disk.old) (D.contents disk.new) (D.path_of file.old) }
+    ensures failures { Counts (D.failures disk.old) (D.failures disk.new) (is_err result) }
 {
     if let Some(len) = len {
         disk.cut(file, len)?;
@@ -95,6 +98,7 @@ fn put_pad<D: Volume>(disk: &mut D, file: &mut D::File, needed: bool) -> Result<
         KeepsSamples place count found (D.contents disk.new (D.path_of file.old)) }
     ensures others { IsTrue (D.honest disk.old) →
         KeepsOthers (D.contents disk.old) (D.contents disk.new) (D.path_of file.old) }
+    ensures failures { Counts (D.failures disk.old) (D.failures disk.new) (is_err result) }
 {
     if needed {
         let end = disk.len(file)?;

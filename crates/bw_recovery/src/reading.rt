@@ -1,6 +1,8 @@
 //! Reading what a start has to know of a take's file: no sample.
 ghost use Rattle.std.specs.Prelude.{◌≡◌, ℕ, List, Some, IsTrue, IfOk, take, slice_get, option_map};
+ghost use Rattle.bw_store.specs.Stores.{Counts};
 ghost use Rattle.bw_disk.specs.DiskSteps.{StaysWhole};
+ghost use Rattle.bw_disk.specs.ReadFaults.{is_disk_fault};
 ghost use Rattle.bw_recovery.specs.FilesRead.{SeesRead, IsReadOf};
 
 use crate::adoption::{FileFacts, data_end, data_place};
@@ -50,6 +52,7 @@ pub fn read_take<D: Volume>(
     ensures read { IsTrue (D.honest disk.old) →
         IfOk result (λ read. SeesRead state.now.parts (D.contents disk.old path.now) read) }
     ensures disk { StaysWhole D.Disk disk.old disk.new }
+    ensures failures { Counts (D.failures disk.old) (D.failures disk.new) (is_disk_fault result) }
 {
     let Ok(opened) = disk.open(path) else {
         return Err(ReadFault::Disk);
@@ -74,6 +77,7 @@ pub(crate) fn read_start<D: Volume>(
     ensures read { IsTrue (D.honest disk.old) → IfOk result (λ front.
         option_map (λ v. v.items) front ≡ option_map (take count) (D.contents disk.old path.now)) }
     ensures disk { StaysWhole D.Disk disk.old disk.new }
+    ensures failures { Counts (D.failures disk.old) (D.failures disk.new) (is_disk_fault result) }
 {
     let Ok(opened) = disk.open(path) else {
         return Err(ReadFault::Disk);
@@ -95,6 +99,7 @@ fn read_opened<D: Volume>(
     ensures read { IsTrue (D.honest disk.old) → IfOk result (λ read. (found : List ℕ) →
         D.contents disk.old (D.path_of file.old) ≡ Some found → IsReadOf state.now.parts found read) }
     ensures disk { StaysWhole D.Disk disk.old disk.new }
+    ensures failures { Counts (D.failures disk.old) (D.failures disk.new) (is_disk_fault result) }
 {
     let Ok(len) = disk.len(file) else {
         return Err(ReadFault::Disk);
@@ -115,6 +120,7 @@ fn read_front<D: Volume>(
     ensures read { IsTrue (D.honest disk.old) → IfOk result (λ front. (found : List ℕ) →
         D.contents disk.old (D.path_of file.old) ≡ Some found → front.items ≡ take count found) }
     ensures disk { StaysWhole D.Disk disk.old disk.new }
+    ensures failures { Counts (D.failures disk.old) (D.failures disk.new) (is_disk_fault result) }
 {
     let mut front = Vec::new(alloc);
     let Ok(()) = front.resize(count, 0u8) else {
@@ -137,6 +143,7 @@ fn read_byte<D: Volume>(
     ensures read { IsTrue (D.honest disk.old) → IfOk result (λ byte. (found : List ℕ) →
         D.contents disk.old (D.path_of file.old) ≡ Some found → byte ≡ slice_get found place) }
     ensures disk { StaysWhole D.Disk disk.old disk.new }
+    ensures failures { Counts (D.failures disk.old) (D.failures disk.new) (is_disk_fault result) }
 {
     let mut room = [0u8; 1];
     match disk.read_at(file, place, &mut room) {

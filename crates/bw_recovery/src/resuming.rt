@@ -1,15 +1,19 @@
 //! Restoring journal and file of a name to what its done numbers make: the last step before a
 //! server resumes it.
-ghost use Rattle.std.specs.Prelude.{◌≡◌, ℕ, List, Option, Some, IsTrue, IsFalse, IfOk, OnOk, OnErr, take};
-ghost use Rattle.std.specs.Prelude.{option_map, codes, string_bytes, length, ◌+◌, ◌++◌, None, decimal};
-ghost use Rattle.bw_store.specs.Stores.{KeepsOthers};
-ghost use Rattle.bw_recovery.specs.Adoptions.{adopted, patched, MendsInPart, AdoptsInPart, SparesTake};
-ghost use Rattle.bw_recovery.specs.Names.{name_fault};
-ghost use Rattle.bw_recovery.specs.Findings.{IsFound, IsBegunAs, IsRestored, SparesFile, keeps_file, leaves_take};
+ghost use Rattle.std.specs.Prelude.{◌≡◌, ℕ, List, Some, IsTrue, IsFalse, IfOk, IfErr, OnOk, OnErr, take};
+ghost use Rattle.std.specs.Prelude.{option_map, codes, string_bytes, length, ◌+◌, ◌++◌, decimal};
+ghost use Rattle.std.specs.Prelude.{IsSome};
+ghost use Rattle.bw_store.specs.Stores.{Counts, KeepsOthers};
+ghost use Rattle.bw_disk.specs.ReadFaults.{is_disk_fault};
+ghost use Rattle.bw_recovery.specs.CountedFaults.{CountsUnless};
+ghost use Rattle.bw_recovery.specs.Changes.{IsCrowded, torn_text};
+ghost use Rattle.bw_recovery.specs.Adoptions.{adopted, patched, MendsInPart, AdoptsInPart};
+ghost use Rattle.bw_recovery.specs.Findings.{keeps_file, leaves_take};
+ghost use Rattle.bw_recovery.specs.Restorings.{IsFoundOn, IsSoundOn, RestoresOn, StaysLeftOn, ChangesOn};
+ghost use Rattle.bw_recovery.specs.Restorings.{CountsOn, is_refused};
 ghost use Rattle.bw_recovery.specs.Changes.{Becomes, BecomesAs, IsAside, MayMove, ChangesTake, IsNoWave};
 ghost use Rattle.bw_recovery.specs.Paths.{path_with, wave_path, notes_path};
-ghost use Rattle.bw_recovery.specs.StaysLeft.{StaysLeft};
-ghost use Rattle.bw_disk.specs.Volumes.{KeepsEach, IsCutInPart, Moves, Renames};
+ghost use Rattle.bw_disk.specs.Volumes.{KeepsEach, IsCutInPart};
 
 use crate::adoption::{Adoption, Mending};
 use crate::finding::{Begun, Finding};
@@ -42,28 +46,22 @@ pub fn restore_name<D: Volume, E: Volume>(
     ensures takes { D.honest takes.new ≡ D.honest takes.old }
     ensures notes { E.honest notes.new ≡ E.honest notes.old }
     // A name that isn't refused has the journal and the file that it is to have.
-    ensures restored { IsTrue (D.honest takes.old) → IsTrue (E.honest notes.old) →
-        (limit : ℕ) (journal : List ℕ) (file : Option (List ℕ)) →
-        E.contents notes.old (notes_path folder.now name.now) ≡ Some journal →
-        D.contents takes.old (wave_path folder.now name.now) ≡ file →
-        IsFound limit name.now journal file finding.now → name_fault limit name.now journal file ≡ None →
-        OnOk result (IsRestored limit name.now journal file
-        (E.contents notes.new (notes_path folder.now name.now))
-        (D.contents takes.new (wave_path folder.now name.now))) }
+    ensures restored { (limit : ℕ) (f : IsFoundOn D.Disk E.Disk limit folder.now name.now takes.old notes.old
+        finding.now) → IsSoundOn D.Disk E.Disk limit folder.now name.now f.journal takes.old → OnOk result
+        (RestoresOn D.Disk E.Disk limit folder.now name.now f.journal takes.old takes.new notes.new) }
     // Whatever was left of the name stays so, after a failed call and on success.
-    ensures left { IsTrue (D.honest takes.old) → IsTrue (E.honest notes.old) →
-        (limit : ℕ) (journal : List ℕ) (file : Option (List ℕ)) →
-        E.contents notes.old (notes_path folder.now name.now) ≡ Some journal →
-        D.contents takes.old (wave_path folder.now name.now) ≡ file →
-        IsFound limit name.now journal file finding.now → SparesFile finding.now →
-        StaysLeft limit name.now (Some journal) file (E.contents notes.new (notes_path folder.now name.now))
-        (D.contents takes.new (wave_path folder.now name.now)) }
+    ensures left { (limit : ℕ) (f : IsFoundOn D.Disk E.Disk limit folder.now name.now takes.old notes.old
+        finding.now) → StaysLeftOn D.Disk E.Disk limit folder.now name.now f.journal takes.old takes.new
+        notes.new }
     // Each other path has what it had, on errors too.
     ensures others { IsTrue (D.honest takes.old) → IsTrue (E.honest notes.old) →
-        ChangesTake folder.now name.now (D.contents takes.old) (D.contents takes.new)
-        × KeepsOthers (E.contents notes.old) (E.contents notes.new)
-        (notes_path folder.now name.now) }
+        ChangesOn D.Disk E.Disk folder.now name.now takes.old notes.old takes.new notes.new }
+    // `Disk` is a call that failed, unless each path for a file that is set aside is taken.
+    ensures failures { (limit : ℕ) → IsFoundOn D.Disk E.Disk limit folder.now name.now takes.old notes.old
+        finding.now → CountsOn D.Disk E.Disk folder.now name.now takes.old notes.old takes.new notes.new
+        (is_disk_fault result) }
     ensures kept { IsTrue (leaves_take finding.now) → takes.new ≡ takes.old }
+    ensures refused { IsTrue (is_refused finding.now) → notes.new ≡ notes.old }
 {
     match finding {
         Finding::Refused(_) => Ok(()),
@@ -83,25 +81,17 @@ fn restore_begun<D: Volume, E: Volume>(
 ) -> Result<(), ReadFault>
     ensures takes { D.honest takes.new ≡ D.honest takes.old }
     ensures notes { E.honest notes.new ≡ E.honest notes.old }
-    ensures restored { IsTrue (D.honest takes.old) → IsTrue (E.honest notes.old) →
-        (limit : ℕ) (journal : List ℕ) (file : Option (List ℕ)) →
-        E.contents notes.old (notes_path folder.now name.now) ≡ Some journal →
-        D.contents takes.old (wave_path folder.now name.now) ≡ file →
-        IsBegunAs limit name.now journal file begun.now → OnOk result (IsRestored limit name.now journal file
-        (E.contents notes.new (notes_path folder.now name.now))
-        (D.contents takes.new (wave_path folder.now name.now))) }
-    ensures left { IsTrue (D.honest takes.old) → IsTrue (E.honest notes.old) →
-        (limit : ℕ) (journal : List ℕ) (file : Option (List ℕ)) →
-        E.contents notes.old (notes_path folder.now name.now) ≡ Some journal →
-        D.contents takes.old (wave_path folder.now name.now) ≡ file →
-        IsBegunAs limit name.now journal file begun.now →
-        SparesTake begun.now.replayed.state.parts begun.now.adoption begun.now.header.items →
-        StaysLeft limit name.now (Some journal) file (E.contents notes.new (notes_path folder.now name.now))
-        (D.contents takes.new (wave_path folder.now name.now)) }
+    ensures restored { (limit : ℕ) (f : IsFoundOn D.Disk E.Disk limit folder.now name.now takes.old notes.old
+        (Finding.Begun begun.now)) → OnOk result
+        (RestoresOn D.Disk E.Disk limit folder.now name.now f.journal takes.old takes.new notes.new) }
+    ensures left { (limit : ℕ) (f : IsFoundOn D.Disk E.Disk limit folder.now name.now takes.old notes.old
+        (Finding.Begun begun.now)) → StaysLeftOn D.Disk E.Disk limit folder.now name.now f.journal takes.old
+        takes.new notes.new }
     ensures others { IsTrue (D.honest takes.old) → IsTrue (E.honest notes.old) →
-        ChangesTake folder.now name.now (D.contents takes.old) (D.contents takes.new)
-        × KeepsOthers (E.contents notes.old) (E.contents notes.new)
-        (notes_path folder.now name.now) }
+        ChangesOn D.Disk E.Disk folder.now name.now takes.old notes.old takes.new notes.new }
+    ensures failures { (limit : ℕ) → IsFoundOn D.Disk E.Disk limit folder.now name.now takes.old notes.old
+        (Finding.Begun begun.now) → CountsOn D.Disk E.Disk folder.now name.now takes.old notes.old takes.new
+        notes.new (is_disk_fault result) }
     ensures kept { IsTrue (keeps_file begun.now.adoption) → takes.new ≡ takes.old }
 {
     cut_torn(notes, alloc, folder, name, &begun.replayed)?;
@@ -127,6 +117,9 @@ fn cut_torn<E: Volume>(
         (E.contents notes.new (notes_path folder.now name.now)) }
     ensures others { IsTrue (E.honest notes.old) → KeepsOthers
         (E.contents notes.old) (E.contents notes.new) (notes_path folder.now name.now) }
+    ensures failures { IsTrue (E.honest notes.old) →
+        IsSome (E.contents notes.old (notes_path folder.now name.now)) →
+        Counts (E.failures notes.old) (E.failures notes.new) (is_disk_fault result) }
 {
     if replayed.torn == 0 {
         return Ok(());
@@ -158,6 +151,10 @@ pub fn cut_journal<E: Volume>(
         (E.contents notes.new (notes_path folder.now name.now)) }
     ensures others { IsTrue (E.honest notes.old) → KeepsOthers
         (E.contents notes.old) (E.contents notes.new) (notes_path folder.now name.now) }
+    // `Disk` is a call that failed, if there is a journal.
+    ensures failures { IsTrue (E.honest notes.old) →
+        IsSome (E.contents notes.old (notes_path folder.now name.now)) →
+        Counts (E.failures notes.old) (E.failures notes.new) (is_disk_fault result) }
 {
     let path = path_in(alloc, folder, name, ".journal")?;
     cut_at(notes, path.as_str(), len)
@@ -172,6 +169,8 @@ fn cut_at<E: Volume>(notes: &mut E, path: &str, len: u64) -> Result<(), ReadFaul
         IsCutInPart (E.contents notes.old path.now) len (E.contents notes.new path.now) }
     ensures others { IsTrue (E.honest notes.old) →
         KeepsOthers (E.contents notes.old) (E.contents notes.new) path.now }
+    ensures failures { IsTrue (E.honest notes.old) → IsSome (E.contents notes.old path.now) →
+        Counts (E.failures notes.old) (E.failures notes.new) (is_disk_fault result) }
 {
     let Ok(opened) = notes.open(path) else {
         return Err(ReadFault::Disk);
@@ -217,6 +216,11 @@ pub fn adopt_file<D: Volume>(
         (D.contents takes.new (wave_path folder.now name.now)) }
     ensures others { IsTrue (D.honest takes.old) → ChangesTake folder.now name.now
         (D.contents takes.old) (D.contents takes.new) }
+    // `Disk` is a call that failed, unless each path for a file that is set aside is taken.
+    ensures failures { IsTrue (D.honest takes.old) →
+        (IsFalse (keeps_file adoption.now) → IsSome (D.contents takes.old (wave_path folder.now name.now))) →
+        CountsUnless (IsCrowded folder.now name.now (D.contents takes.old))
+        (D.failures takes.old) (D.failures takes.new) (is_disk_fault result) }
     ensures kept { IsTrue (keeps_file adoption.now) → takes.new ≡ takes.old }
 {
     match adoption {
@@ -245,6 +249,8 @@ fn mend_at<D: Volume>(
         (D.contents takes.old path.now) (D.contents takes.new path.now) }
     ensures others { IsTrue (D.honest takes.old) →
         KeepsOthers (D.contents takes.old) (D.contents takes.new) path.now }
+    ensures failures { IsTrue (D.honest takes.old) → IsSome (D.contents takes.old path.now) →
+        Counts (D.failures takes.old) (D.failures takes.new) (is_disk_fault result) }
 {
     let Ok(opened) = takes.open(path) else {
         return Err(ReadFault::Disk);
@@ -272,6 +278,9 @@ fn set_aside<D: Volume>(
         (D.contents takes.old) (D.contents takes.new) }
     ensures others { IsTrue (D.honest takes.old) → ChangesTake folder.now name.now
         (D.contents takes.old) (D.contents takes.new) }
+    ensures failures { IsTrue (D.honest takes.old) →
+        CountsUnless (IsCrowded folder.now name.now (D.contents takes.old))
+        (D.failures takes.old) (D.failures takes.new) (is_disk_fault result) }
 {
     for attempt in 0..256u32 {
         if try_aside(takes, alloc, folder, name, attempt)? {
@@ -297,6 +306,9 @@ fn try_aside<D: Volume>(
         KeepsEach (D.contents takes.old) (D.contents takes.new)) }
     ensures err { IsTrue (D.honest takes.old) → OnErr result (MayMove folder.now name.now
         (D.contents takes.old) (D.contents takes.new)) }
+    ensures taken { IsTrue (D.honest takes.old) → IfOk result (λ moved. IsFalse moved →
+        IsSome (D.contents takes.old (path_with folder.now (torn_text attempt) name.now))) }
+    ensures failures { Counts (D.failures takes.old) (D.failures takes.new) (is_disk_fault result) }
 {
     let from = path_in(alloc, folder, name, ".wav")?;
     let ending = torn_ending(alloc, attempt)?;
@@ -309,6 +321,8 @@ fn try_aside<D: Volume>(
 
 /// What follows a name of which a file was set aside: `.torn`, and from 1 on the number.
 fn torn_ending(alloc: Global, attempt: u32) -> Result<String, ReadFault>
+    ensures value { IfOk result (λ e. string_bytes e ≡ torn_text attempt) }
+    ensures err { IfErr result (λ e. e ≡ ReadFault.Memory) }
     ensures torn { IfOk result (λ e. take 5 (string_bytes e) ≡ codes ".torn") }
     ensures apart { IfOk result (λ e. (folder name : List ℕ) →
         IsNoWave folder (path_with folder (string_bytes e) name)) }
@@ -321,7 +335,8 @@ fn torn_ending(alloc: Global, attempt: u32) -> Result<String, ReadFault>
 
 /// `.torn`.
 fn first_ending(alloc: Global) -> Result<String, ReadFault>
-    ensures { IfOk result (λ e. string_bytes e ≡ codes ".torn") }
+    ensures value { IfOk result (λ e. string_bytes e ≡ codes ".torn") }
+    ensures err { IfErr result (λ e. e ≡ ReadFault.Memory) }
 {
     match String::from_str(alloc, ".torn") {
         Ok(ending) => Ok(ending),
@@ -331,7 +346,8 @@ fn first_ending(alloc: Global) -> Result<String, ReadFault>
 
 /// `.torn` and a number.
 fn numbered_ending(alloc: Global, attempt: u32) -> Result<String, ReadFault>
-    ensures { IfOk result (λ e. string_bytes e ≡ codes ".torn" ++ decimal attempt) }
+    ensures value { IfOk result (λ e. string_bytes e ≡ codes ".torn" ++ decimal attempt) }
+    ensures err { IfErr result (λ e. e ≡ ReadFault.Memory) }
 {
     match format!(in alloc; ".torn{attempt}") {
         Ok(ending) => Ok(ending),

@@ -3,4 +3,3 @@
 
 mod deaths;
 mod noting;
-mod resting;

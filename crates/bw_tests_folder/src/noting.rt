@@ -70,14 +70,19 @@ fn notes_follow_the_header(rt: HostRuntime) -> Result<(), Fail> {
 }
 
 #[test]
-fn an_adopted_journal_goes_on(rt: HostRuntime) -> Result<(), Fail> {
+fn a_reopened_journal_goes_on(rt: HostRuntime) -> Result<(), Fail> {
     let alloc = rt.alloc();
     let name = a1()?;
     let disk = disk_with(alloc, &with_header(alloc, &NOTES[..1])?)?;
     let mut journal = FolderJournal::over(disk, alloc, FOLDER, limit()?, false)?;
-    assert!(rt; !journal.adopt(&Name::new(b"c3").ok_or("a name")?, false)?);
-    assert!(rt; journal.adopt(&name, false)?);
-    assert!(rt; !journal.adopt(&name, false)?);
+    assert!(rt;
+        !journal
+            .reopen(&Name::new(b"c3").ok_or("a name")?, false)
+            .ok()
+            .ok_or("a disk")?
+    );
+    assert!(rt; journal.reopen(&name, false).ok().ok_or("a disk")?);
+    assert!(rt; !journal.reopen(&name, false).ok().ok_or("a disk")?);
     journal.note(&name, 61, NOTES[1])?;
     let wanted = with_header(alloc, &NOTES)?;
     assert!(rt; journal.disk().content(PATH) == Some(wanted.as_slice()));

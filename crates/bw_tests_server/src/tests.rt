@@ -5,4 +5,3 @@ mod entries;
 mod expecting;
 mod journals;
 mod play;
-mod resting;

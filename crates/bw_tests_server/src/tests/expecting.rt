@@ -2,31 +2,24 @@
 ghost use Rattle.std.specs.Prelude.{None, false};
 
 use crate::tests::entries::JOURNAL;
-use bw_journal::{Journal, RestingJournal};
+use bw_journal::Journal;
 use bw_request::Name;
 use bw_store::{CallCounter, StoreFault};
-use std::alloc::Global;
 
 /// A journal of one name. It takes the bytes of `JOURNAL` after its header, each once and in their
-/// order, and fails if it is given others. While it rests, this many bytes of those are read.
+/// order, and fails if it is given others.
 #[derive(Drop)]
 pub(crate) struct Expecting {
-    alloc: Global,
     /// How many bytes of it are noted; none before it is begun.
     noted: usize,
-    rests: bool,
-    readable: usize,
     call_counter: CallCounter,
 }
 
 impl Expecting {
-    /// A journal that doesn't rest, in which so many bytes are noted.
-    pub(crate) fn new(alloc: Global, noted: usize, readable: usize) -> Expecting {
+    /// A journal in which so many bytes are noted.
+    pub(crate) fn new(noted: usize) -> Expecting {
         Expecting {
-            alloc,
             noted,
-            rests: false,
-            readable,
             call_counter: CallCounter::new(),
         }
     }
@@ -36,8 +29,6 @@ impl Journal for Expecting {
     ghost notes = { λ _ _. None };
 
     ghost header = { λ _ _. record { limit = 0; existed = false } };
-
-    ghost resting = { λ _ _. None };
 
     ghost failures = { λ j. j.call_counter.failures };
 
@@ -63,40 +54,5 @@ impl Journal for Expecting {
         }
         self.noted = self.noted.saturating_add(bytes.len());
         Ok(())
-    }
-}
-
-impl RestingJournal for Expecting {
-    fn rest(&mut self, _name: &Name) -> Result<bool, StoreFault> {
-        self.call_counter.count(false);
-        self.rests = true;
-        Ok(true)
-    }
-
-    fn read_resting(&mut self, _name: &Name) -> Result<Option<Vec<u8>>, StoreFault> {
-        let answer = resting_bytes(self.alloc, self.rests, self.readable);
-        self.call_counter.count(answer.is_err());
-        answer
-    }
-
-    fn wake(&mut self, _name: &Name) -> Result<bool, StoreFault> {
-        let rested = self.rests;
-        self.call_counter.count(false);
-        self.rests = false;
-        Ok(rested)
-    }
-}
-
-/// The first bytes of `JOURNAL`, if it rests.
-fn resting_bytes(alloc: Global, rests: bool, len: usize) -> Result<Option<Vec<u8>>, StoreFault> {
-    if !rests {
-        return Ok(None);
-    }
-    let Some(bytes) = JOURNAL.get(..len) else {
-        return Err(StoreFault);
-    };
-    match bytes.to_vec(alloc) {
-        Ok(bytes) => Ok(Some(bytes)),
-        Err(_refused) => Err(StoreFault),
     }
 }

@@ -1,18 +1,13 @@
 //! Servers over journals: each done number is noted, and a fault of the journal is one of the
 //! store.
-use crate::tests::entries::{ENDS, JOURNAL};
 use crate::tests::expecting::Expecting;
 use crate::tests::play::Reported::{Judged, Noticed};
 use crate::tests::play::{Reported, Turn, a1, has_file, noting_server, send};
-use bw_journal::{FuseJournal, MemoryJournal, replay};
+use bw_journal::{FuseJournal, MemoryJournal};
 use bw_layout::Limit;
 use bw_request::Name;
 use bw_request::Verdict::{BadBlock, Stored};
-use bw_session::{KeptTake, Server};
-use bw_store::MemoryStore;
 use bw_wire::Notice::{Conflict, DelayedStore, Held};
-use std::alloc::Global;
-use std::process::Abort;
 use std::test::Fail;
 
 /// OPEN 0 of `a1`: 48,000 Hz, one channel, 16 bits; BLOCK 1 with two frames.
@@ -38,7 +33,7 @@ static MESSAGES: [(&[u8], Reported); 6] = [
 
 #[test]
 fn each_done_number_is_noted_byte_for_byte(rt: HostRuntime) -> Result<(), Fail> {
-    let mut server = noting_server(rt.alloc(), Expecting::new(rt.alloc(), 0, 0))?;
+    let mut server = noting_server(rt.alloc(), Expecting::new(0))?;
     for (body, reported) in &MESSAGES {
         send(&rt, "a noted message", &mut server, body, &[*reported])?;
         send(&rt, "its repeat", &mut server, body, &[*reported])?;
@@ -93,57 +88,4 @@ fn a_fault_of_the_journal_delays_a_number(rt: HostRuntime) -> Result<(), Fail> {
     let b2 = Name::new(b"b2").ok_or("a name")?;
     has_file(&rt, rt.alloc(), server.store(), &a1()?)?;
     has_file(&rt, rt.alloc(), server.store(), &b2)
-}
-
-/// A server over a journal that knows what it is to be given.
-pub(crate) type Noting = Server<MemoryStore, Expecting>;
-
-/// A server that noted the first of the messages of `JOURNAL`, each once; so many bytes are read of
-/// its journal while that rests.
-pub(crate) fn played(
-    rt: &impl Abort,
-    alloc: Global,
-    count: usize,
-    readable: usize,
-) -> Result<Noting, Fail> {
-    let mut server = noting_server(alloc, Expecting::new(alloc, 0, readable))?;
-    send_first(rt, &mut server, count)?;
-    Ok(server)
-}
-
-/// Sends the first of the messages, which get their verdicts.
-pub(crate) fn send_first(rt: &impl Abort, server: &mut Noting, count: usize) -> Result<(), Fail> {
-    for (body, reported) in MESSAGES.iter().take(count) {
-        send(rt, "a message", server, body, &[*reported])?;
-    }
-    Ok(())
-}
-
-/// A server that resumes over this store, from the first bytes of `JOURNAL`.
-fn resumed(alloc: Global, store: MemoryStore, noted: usize) -> Result<Noting, Fail> {
-    let journal = Expecting::new(alloc, noted, 0);
-    let bytes = JOURNAL.get(..noted).ok_or("a prefix")?;
-    let Ok(replayed) = replay(alloc, Limit::default(), &a1()?, bytes) else {
-        return Err("a fault")?;
-    };
-    let mut kept = Vec::new(alloc);
-    kept.push(KeptTake::new(a1()?, replayed, true).ok_or("few numbers")?)?;
-    match Server::resume(alloc, store, journal, Limit::default(), kept) {
-        Ok(server) => Ok(server),
-        Err(_refused) => Err("memory")?,
-    }
-}
-
-#[test]
-fn a_server_that_resumes_keeps_the_verdicts_and_goes_on(rt: HostRuntime) -> Result<(), Fail> {
-    let alloc = rt.alloc();
-    let whole = played(&rt, alloc, 6, 0)?;
-    for done in 1..7usize {
-        let store = played(&rt, alloc, done, 0)?.into_store();
-        let mut server = resumed(alloc, store, ENDS[done])?;
-        send_first(&rt, &mut server, 6)?;
-        let same = server.store().content(&a1()?) == whole.store().content(&a1()?);
-        assert!(&rt; same, "another file after {} numbers", done);
-    }
-    Ok(())
 }

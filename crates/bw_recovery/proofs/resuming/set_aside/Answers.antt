@@ -1,4 +1,4 @@
-use Rattle.std.proofs.Common.{IsTrue, sym, subst}
+use Rattle.std.proofs.Common.{IsTrue, inr, sym, subst}
 use Rattle.bw_recovery.proofs.PartForms.{moves_after, may_change}
 use Rattle.bw_recovery.proofs.resuming.set_aside.Goals as goal
 
@@ -14,3 +14,16 @@ returns-in_err-try_aside-clause-others g c = λ honest.
     may_change c.args.folder.now c.args.name.now _ _
     (moves_after c.args.folder.now c.args.name.now _ _ _ (i.same honest)
     (c.in_err-try_aside.ensures.err (subst IsTrue (sym i.honest) honest)))
+
+pub returns-then-branch-clause-part : goal.returns-then-branch-clause-part
+returns-then-branch-clause-part g c = λ honest.
+    let i = c.loop-attempt.invariant in
+    moves_after c.args.folder.now c.args.name.now _ _ _ (i.same honest)
+    (inr (c.in_ok-try_aside.ensures.moved (subst IsTrue (sym i.honest) honest) c.if-branch.true))
+
+pub returns-then-branch-clause-others : goal.returns-then-branch-clause-others
+returns-then-branch-clause-others g c = λ honest.
+    let i = c.loop-attempt.invariant in
+    may_change c.args.folder.now c.args.name.now _ _
+    (moves_after c.args.folder.now c.args.name.now _ _ _ (i.same honest)
+    (inr (c.in_ok-try_aside.ensures.moved (subst IsTrue (sym i.honest) honest) c.if-branch.true)))

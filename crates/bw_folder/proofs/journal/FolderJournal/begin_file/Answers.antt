@@ -1,7 +1,6 @@
 use Rattle.std.proofs.Common.{rules, ◌≡◌, ◌∙◌, refl, ap, sym, subst, List, ℕ, ◌<◌, Bool, IsTrue, OnOk, string_bytes, length, get_or}
 use Rattle.std.proofs.Math.Seq.{map-set_same}
 use Rattle.std.proofs.lemmas.List.Elements.{All-set}
-use Rattle.bw_journal.specs.JournalHeaders.{header_bytes}
 use Rattle.bw_folder.specs.declared.journal.OpenJournal.{OpenJournal}
 use Rattle.bw_folder.specs.Folders.{take_path}
 use Rattle.bw_folder.specs.Journals.{journal_path, existences, header_at}
@@ -9,7 +8,6 @@ use Rattle.bw_folder.specs.SyncOrders.{IsSyncedAt}
 use Rattle.bw_folder.proofs.HeaderKeeping.{header_kept}
 use Rattle.bw_folder.proofs.Headings.{started_in_part, failed_started}
 use Rattle.bw_folder.proofs.JournalNames.{file_at}
-use Rattle.bw_folder.proofs.journal.FolderJournal.begin_file.Given.{Over}
 use Rattle.bw_folder.proofs.journal.FolderJournal.begin_file.Goals as goal
 
 pub returns-in_default-clause-failed : goal.returns-in_default-clause-failed
