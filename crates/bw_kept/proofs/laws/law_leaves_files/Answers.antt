@@ -1,0 +1,7 @@
+use Rattle.bw_session.proofs.OrderLaws.{waiting_in_order}
+use Rattle.bw_kept.proofs.LeftFolders.{kept_servers_leave_done}
+use Rattle.bw_kept.proofs.LeaveFiles.{runs_leave_files}
+use Rattle.bw_kept.proofs.laws.law_leaves_files.Goals as goal
+
+pub returns : goal.returns
+returns g c = runs_leave_files _ _ _ _ (kept_servers_leave_done _ _ (waiting_in_order _ _))

@@ -1,0 +1,16 @@
+pub mod FolderRuns
+pub mod FoundNames
+pub mod KeptFolders
+pub mod KeptServers
+pub mod KeptTurns
+pub mod LeftFolders
+pub mod LeftNames
+pub mod OwnRuns
+pub mod RunLeavings
+pub mod Runs
+pub mod UseOrder
+pub mod Recoveries
+pub mod RecoverySteps
+pub mod RecoveredLogs
+pub mod Visits
+pub mod LeftOutNames
