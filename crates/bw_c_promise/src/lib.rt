@@ -3,8 +3,10 @@
 
 ghost use Rattle.bw_c_promise.specs.RecordedFiles.{RecordersHaveFiles};
 ghost use Rattle.bw_c_promise.specs.RecordersSend.{CountedAreStored, RecordersSend, StructsCount};
-ghost use Rattle.bw_end_to_end.specs.Servers.{at_rest, in_table};
+ghost use Rattle.bw_end_to_end.specs.Servers.{in_kept_folder, in_table};
 
+use bw_disk::Volume;
+use bw_folder::{FolderJournal, FolderStore};
 use bw_journal::Journal;
 use bw_store::TakeStore;
 
@@ -18,9 +20,10 @@ pub fn law_recorders()
 {}
 
 /// So the server has the file of its take, in either kind of server, where the promise's other premises hold.
-pub fn law_recorded_files<S: TakeStore, J: Journal>()
+pub fn law_recorded_files<S: TakeStore, J: Journal, V: Volume, N: Volume>()
     ensures in_table { RecordersHaveFiles (in_table S.TakeStore J.Journal) }
-    ensures at_rest { RecordersHaveFiles (at_rest S.TakeStore J.Journal) }
+    ensures in_folder { RecordersHaveFiles (in_kept_folder V.Disk N.Disk ⟦<FolderStore<V> as TakeStore>⟧
+        ⟦<FolderJournal<N> as Journal>⟧) }
 {
-    bw_end_to_end::promise::<S, J>();
+    bw_end_to_end::promise::<S, J, V, N>();
 }

@@ -4,8 +4,8 @@
 ghost use Rattle.bw_delivery.specs.Reruns.{EachRunIsFaithful, RunsHearOneVerdict, SettledRunsAreWhole};
 ghost use Rattle.bw_delivery.specs.Deliveries.{ClosedDeliveriesStay, DeliveriesAreTrue};
 ghost use Rattle.bw_delivery.specs.Deliveries.{StoredDeliveriesAreWhole};
-ghost use Rattle.bw_delivery.specs.RestingDeliveries.{ClosedTakesAtRestStay, RestingDeliveriesAreTrue};
-ghost use Rattle.bw_delivery.specs.RestingDeliveries.{StoredRestingDeliveriesAreWhole};
+ghost use Rattle.bw_delivery.specs.FolderDeliveries.{ClosedTakesAreInFolders, FolderDeliveriesAreTrue};
+ghost use Rattle.bw_delivery.specs.FolderDeliveries.{StoredFolderDeliveriesAreWhole};
 ghost use Rattle.bw_delivery.specs.ExamplesOfDeliveries.{WorkedDeliveryExample};
 ghost use Rattle.bw_delivery.specs.ExamplesOfReruns.{KilledRunExample, SecondRunExample, LateReplyExample};
 
@@ -34,14 +34,14 @@ pub fn law_delivered()
     ensures closed { ClosedDeliveriesStay }
 {}
 
-/// The same of a server with more takes than its table has places for: to a sender it is as if no
-/// name had ever rested, though some of its frames are put off. If one of its requests is a CLOSE,
-/// an honest store has that take's file, whether the take rests or not, provided the journal is
-/// honest too.
-pub fn law_delivered_at_rest<S: TakeStore, J: Journal>()
-    ensures heard { RestingDeliveriesAreTrue }
-    ensures whole { StoredRestingDeliveriesAreWhole }
-    ensures closed { ClosedTakesAtRestStay S.TakeStore J.Journal }
+/// The same of a server whose table is a cache of its folder: to a sender it is as if no name had
+/// ever left the table, though some of its frames are put off. If one of its requests is a CLOSE,
+/// an honest store has that take's file, whether the name is in the table or not, provided the
+/// journal is honest too.
+pub fn law_delivered_to_folders<S: TakeStore, J: Journal>()
+    ensures heard { FolderDeliveriesAreTrue }
+    ensures whole { StoredFolderDeliveriesAreWhole }
+    ensures closed { ClosedTakesAreInFolders S.TakeStore J.Journal }
 {}
 
 /// Worked rows: a run that is killed, the next one, and replies that reach other runs late.

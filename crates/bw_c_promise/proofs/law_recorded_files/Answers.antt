@@ -4,5 +4,5 @@ use Rattle.bw_c_promise.proofs.law_recorded_files.Goals as goal
 pub returns : goal.returns
 returns g c = record {
   in_table = recorders_have_files _ c.promise.ensures.in_table;
-  at_rest = recorders_have_files _ c.promise.ensures.at_rest;
+  in_folder = recorders_have_files _ c.promise.ensures.in_folder;
 }

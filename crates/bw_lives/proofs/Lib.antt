@@ -1,0 +1,11 @@
+pub mod DoneNumbers
+pub mod FrameSteps
+pub mod FaithfulFrames
+pub mod ClosedFiles
+pub mod Folders
+pub mod Lives
+pub mod Senders
+pub mod StoppedWorlds
+pub mod ServedWorlds
+pub mod ExamplesOfLives
+pub mod ExamplesOfStops

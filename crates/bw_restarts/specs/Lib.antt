@@ -1,2 +1,0 @@
-pub mod Restarts
-pub mod ExamplesOfRestarts

@@ -1,4 +1,0 @@
-pub mod RestoredFolders
-pub mod StartedServers
-pub mod FaultLines
-pub mod RestingStarts
