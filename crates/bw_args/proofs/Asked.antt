@@ -587,26 +587,21 @@ no_journaling found is_kept is_synced kept synced none good =
     none good.0 (subst (λ s. IsJournaling is_kept s good.0) (sym synced)
     (subst (λ k. IsJournaling k (is_set (first_value found (codes "sync"))) good.0) (sym kept) good.1))
 
--- whether names may rest, where the flags were read before
-pub a_rest : (found : Found) (is_kept is_asked is_shown rest : Bool)
+-- whether `--rest` is given, where the flags were read before
+pub a_rest : (found : Found) (is_kept is_asked rest : Bool)
     → is_kept ≡ is_set (first_value found (codes "journal")) → is_asked ≡ is_set (first_value found (codes "rest"))
-    → is_shown ≡ is_some (first_value found (codes "status")) → GivesRest is_kept is_asked is_shown rest
-    → GivesRest (is_set (first_value found (codes "journal"))) (is_set (first_value found (codes "rest")))
-    (is_some (first_value found (codes "status"))) rest
-a_rest found is_kept is_asked is_shown rest kept asked shown is =
-    subst (λ s. GivesRest (is_set (first_value found (codes "journal"))) (is_set (first_value found (codes "rest"))) s rest)
-    shown (subst (λ a. GivesRest (is_set (first_value found (codes "journal"))) a is_shown rest) asked
-    (subst (λ k. GivesRest k is_asked is_shown rest) kept is))
+    → GivesRest is_kept is_asked rest
+    → GivesRest (is_set (first_value found (codes "journal"))) (is_set (first_value found (codes "rest"))) rest
+a_rest found is_kept is_asked rest kept asked is =
+    subst (λ a. GivesRest (is_set (first_value found (codes "journal"))) a rest) asked
+    (subst (λ k. GivesRest k is_asked rest) kept is)
 
-pub no_rest : (found : Found) (is_kept is_asked is_shown : Bool)
+pub no_rest : (found : Found) (is_kept is_asked : Bool)
     → is_kept ≡ is_set (first_value found (codes "journal")) → is_asked ≡ is_set (first_value found (codes "rest"))
-    → is_shown ≡ is_some (first_value found (codes "status")) → IsRestGiven is_kept is_asked is_shown None
-    → ¬ IsGood Rest (first_value found)
-no_rest found is_kept is_asked is_shown kept asked shown none good =
-    none good.0 (subst (λ s. GivesRest is_kept is_asked s good.0) (sym shown)
-    (subst (λ a. GivesRest is_kept a (is_some (first_value found (codes "status"))) good.0) (sym asked)
-    (subst (λ k. GivesRest k (is_set (first_value found (codes "rest"))) (is_some (first_value found (codes "status"))) good.0)
-    (sym kept) good.1)))
+    → IsRestGiven is_kept is_asked None → ¬ IsGood Rest (first_value found)
+no_rest found is_kept is_asked kept asked none good =
+    none good.0 (subst (λ a. GivesRest is_kept a good.0) (sym asked)
+    (subst (λ k. GivesRest k (is_set (first_value found (codes "rest"))) good.0) (sym kept) good.1))
 
 -- where the status is shown, where a flag was read before
 pub a_status : (found : Found) (network : Bool) (status : Option SocketAddr)

@@ -141,16 +141,6 @@ rest program listen folder address at full = (
       and_then (when.Exchanges 1, (None, refl, refl)) and_then (Without, refl) and_then bad (λ good. good.1),
 )
 
-rest_shown : (status : Text)
-    → LacksServer (codes "--journal" ∷ codes "--rest" ∷ (codes "--status=" ++ status) ∷ []) Rest
-unfolding clap_on_literals
-rest_shown status program listen folder address at full = (
-  refl,
-  (address, at) and_then (folder, (full, refl)) and_then nothing and_then (default_limit, refl) and_then nothing
-      and_then nothing and_then nothing and_then (InTurn None, serves_by None None None _ refl refl refl refl)
-      and_then (when.Exchanges 1, (None, refl, refl)) and_then (Kept, refl) and_then bad (λ good. good.1),
-)
-
 status_alone : (status : Text) → LacksServer ((codes "--status=" ++ status) ∷ []) Status
 unfolding clap_on_literals
 status_alone status program listen folder address at full = (
@@ -223,7 +213,6 @@ refuses_peers words line is = record {
   both = λ n given p l f a at full e. reported words _ line UntilStopped is e (both n given p l f a at full);
   sync = λ p l f a at full e. reported words _ line Sync is e (sync p l f a at full);
   rest = λ p l f a at full e. reported words _ line Rest is e (rest p l f a at full);
-  rest_shown = λ t p l f a at full e. reported words _ line Rest is e (rest_shown t p l f a at full);
   status_alone = λ t p l f a at full e. reported words _ line Status is e (status_alone t p l f a at full);
   status = λ k t given none p l f a at full e. reported words _ line Status is e
       (status k t given none p l f a at full);

@@ -50,8 +50,7 @@ server_by : {given : Text → Option Text} {server : Service} → GivesEnd (give
     → GivesAddress (is_set (given (codes "network"))) (given (codes "listen")) server.listen
     → GivesFolder (given (codes "folder")) server.folder → server.log ≡ is_set (given (codes "log"))
     → IsJournaling (is_set (given (codes "journal"))) (is_set (given (codes "sync"))) server.journal
-    → GivesRest (is_set (given (codes "journal"))) (is_set (given (codes "rest"))) (is_some (given (codes "status")))
-    server.rest
+    → GivesRest (is_set (given (codes "journal"))) (is_set (given (codes "rest"))) server.rest
     → server.one_name ≡ is_set (given (codes "one-name"))
     → GivesStatus (is_set (given (codes "network"))) (given (codes "status")) (is_some (given (codes "recorders")))
     server.status
@@ -320,6 +319,24 @@ status count text at is shows program listen folder address there full =
           refl refl shows,
     )
 
+rest_shown : (count text : Text) (at : SocketAddr) → IsCountText most_recorders count → IsAddress false text at
+    → AsksServer false (codes "--journal" ∷ codes "--rest" ∷ (codes "--recorders=" ++ count)
+    ∷ (codes "--status=" ++ text) ∷ [])
+    (λ a f. record (plain_server a f) {
+      recorders = AtOnce (number_written count) default_idle;
+      journal = Kept;
+      rest = true;
+      status = Some at;
+    })
+unfolding clap_on_literals
+rest_shown count text at is shows program listen folder address there full =
+    asks refl (
+      refl,
+      server_by (None, refl, refl) refl
+          (serves_by None (Some (number_written count)) None _ refl (is, refl) refl refl) there (full, refl) refl refl
+          refl refl shows,
+    )
+
 pub runs_server : (words : List Text) (line : CommandLine) → IsLineOf words line → RunsServer words line
 runs_server words line is = record {
   alone = λ p l f a at full e. asked_runs words _ line _ is e (alone p l f a at full);
@@ -354,5 +371,7 @@ runs_server words line is = record {
   rest_synced = λ p l f a at full e. asked_runs words _ line _ is e (rest_synced p l f a at full);
   status = λ k t s given shows p l f a at full e.
       asked_runs words _ line _ is e (status k t s given shows p l f a at full);
+  rest_shown = λ k t s given shows p l f a at full e.
+      asked_runs words _ line _ is e (rest_shown k t s given shows p l f a at full);
   one_name = λ p l f a at full e. asked_runs words _ line _ is e (one_name p l f a at full);
 }

@@ -123,12 +123,10 @@ one_status network (Some text) true None b x y = absurd x
 one_status network (Some text) true (Some a) None x y = absurd y
 one_status network (Some text) false a b x y = absurd x
 
-one_rest : (is_kept asked shown : Bool) (a b : Bool) → GivesRest is_kept asked shown a
-    → GivesRest is_kept asked shown b → a ≡ b
-one_rest is_kept false shown a b x y = x ∙ sym y
-one_rest true true false a b x y = x ∙ sym y
-one_rest true true true a b x y = absurd x
-one_rest false true shown a b x y = absurd x
+one_rest : (is_kept asked : Bool) (a b : Bool) → GivesRest is_kept asked a → GivesRest is_kept asked b → a ≡ b
+one_rest is_kept false a b x y = x ∙ sym y
+one_rest true true a b x y = x ∙ sym y
+one_rest false true a b x y = absurd x
 
 one_server : (given : Text → Option Text) (a b : Service) → GivesServer given a → GivesServer given b → a ≡ b
 one_server given a b x y = λ i. record {
@@ -139,7 +137,7 @@ one_server given a b x y = λ i. record {
   recorders = one_way given a.recorders b.recorders x.serves y.serves i;
   log = (x.reports ∙ sym y.reports) i;
   journal = one_journaling _ _ a.journal b.journal x.journals y.journals i;
-  rest = one_rest _ _ _ a.rest b.rest x.rests y.rests i;
+  rest = one_rest _ _ a.rest b.rest x.rests y.rests i;
   one_name = (x.names ∙ sym y.names) i;
   status = one_status _ _ _ a.status b.status x.shows y.shows i;
 }

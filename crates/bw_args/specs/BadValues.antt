@@ -35,7 +35,7 @@ fault_said Wait = codes "'--idle <SECONDS>' is for '--recorders <N>', and "
     ++ codes "'--timeout <SECONDS>' for a server without it"
 fault_said UntilStopped = codes "'--until-stopped' can't be given beside '--exchanges <N>'"
 fault_said Sync = codes "'--sync' is for '--journal'"
-fault_said Rest = codes "'--rest' is for '--journal', without '--status <ADDR>'"
+fault_said Rest = codes "'--rest' is for '--journal'"
 fault_said Status = codes "'--status <ADDR>' is for '--recorders <N>', and takes " ++ address_wanted
 fault_said Watch =
     codes "'--watch' can't be given beside '--check', '--json' and '--give-up <NAME>'"

@@ -164,17 +164,16 @@ IsJournalingGiven is_kept is_synced (Some journal) = IsJournaling is_kept is_syn
 IsJournalingGiven is_kept is_synced None =
     (journal : Journaling) → ¬ IsJournaling is_kept is_synced journal
 
--- whether names may rest: where journals are kept, and no status is shown
-abbrev pub GivesRest : Bool → Bool → Bool → Bool → Type 0
-GivesRest is_kept false shown rest = rest ≡ false
-GivesRest true true false rest = rest ≡ true
-GivesRest true true true rest = ⊥
-GivesRest false true shown rest = ⊥
+-- whether `--rest` is given, which it may be only where journals are kept
+abbrev pub GivesRest : Bool → Bool → Bool → Type 0
+GivesRest is_kept false rest = rest ≡ false
+GivesRest true true rest = rest ≡ true
+GivesRest false true rest = ⊥
 
 -- exactly that
-abbrev pub IsRestGiven : Bool → Bool → Bool → Option Bool → Type 0
-IsRestGiven is_kept asked shown (Some rest) = GivesRest is_kept asked shown rest
-IsRestGiven is_kept asked shown None = (rest : Bool) → ¬ GivesRest is_kept asked shown rest
+abbrev pub IsRestGiven : Bool → Bool → Option Bool → Type 0
+IsRestGiven is_kept asked (Some rest) = GivesRest is_kept asked rest
+IsRestGiven is_kept asked None = (rest : Bool) → ¬ GivesRest is_kept asked rest
 
 -- the number from 1 to the most that an option gives, or the default
 abbrev pub GivesCountOr : ℕ → ℕ → Option Text → ℕ → Type 0

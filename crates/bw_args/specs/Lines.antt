@@ -170,8 +170,8 @@ pub record GivesServer (given : Text → Option Text) (server : Service) : Type 
   pub reports : server.log ≡ is_set (given (codes "log"))
   pub journals :
       IsJournaling (is_set (given (codes "journal"))) (is_set (given (codes "sync"))) server.journal
-  pub rests : GivesRest (is_set (given (codes "journal"))) (is_set (given (codes "rest")))
-      (is_some (given (codes "status"))) server.rest
+  pub rests :
+      GivesRest (is_set (given (codes "journal"))) (is_set (given (codes "rest"))) server.rest
   pub names : server.one_name ≡ is_set (given (codes "one-name"))
   pub shows : GivesStatus (is_set (given (codes "network"))) (given (codes "status"))
       (is_some (given (codes "recorders"))) server.status
@@ -296,8 +296,8 @@ IsGood UntilStopped given = (end : End)
     × GivesEnd (given (codes "exchanges")) (is_set (given (codes "until-stopped"))) end
 IsGood Sync given = (journal : Journaling)
     × IsJournaling (is_set (given (codes "journal"))) (is_set (given (codes "sync"))) journal
-IsGood Rest given = (rest : Bool) × GivesRest (is_set (given (codes "journal")))
-    (is_set (given (codes "rest"))) (is_some (given (codes "status"))) rest
+IsGood Rest given = (rest : Bool)
+    × GivesRest (is_set (given (codes "journal"))) (is_set (given (codes "rest"))) rest
 IsGood Status given = (status : Option SocketAddr) × GivesStatus (is_set (given (codes "network")))
     (given (codes "status")) (is_some (given (codes "recorders"))) status
 IsGood Watch given = is_watch_mixed (is_set (given (codes "watch")))

@@ -128,6 +128,16 @@ pub record RunsServer (words : List Text) (line : CommandLine) : Type 0 where
         recorders = AtOnce (number_written count) default_idle;
         status = Some at;
       }))
+  -- with `--journal --rest --recorders=N --status=ADDR`
+  pub rest_shown : (count status : Text) (at : SocketAddr) → IsCountText most_recorders count
+      → IsAddress false status at → ForServer false words (codes "--journal" ∷ codes "--rest"
+      ∷ (codes "--recorders=" ++ count) ∷ (codes "--status=" ++ status) ∷ [])
+      (AsksToServe line (λ s. record s {
+        recorders = AtOnce (number_written count) default_idle;
+        journal = Kept;
+        rest = true;
+        status = Some at;
+      }))
   -- with `--one-name`
   pub one_name : ForServer false words (codes "--one-name" ∷ [])
       (AsksToServe line (λ s. record s { one_name = true }))
@@ -227,9 +237,6 @@ pub record RefusesPeers (words : List Text) (line : CommandLine) : Type 0 where
   pub sync : ForServer false words (codes "--sync" ∷ []) (ReportsBad line Sync)
   -- with `--rest` alone
   pub rest : ForServer false words (codes "--rest" ∷ []) (ReportsBad line Rest)
-  -- with `--journal --rest --status=ADDR`
-  pub rest_shown : (status : Text) → ForServer false words
-      (codes "--journal" ∷ codes "--rest" ∷ (codes "--status=" ++ status) ∷ []) (ReportsBad line Rest)
   -- with `--status=ADDR` alone
   pub status_alone : (status : Text)
       → ForServer false words ((codes "--status=" ++ status) ∷ []) (ReportsBad line Status)

@@ -29,7 +29,7 @@ pub enum BadValue {
     UntilStopped,
     /// `--sync` without `--journal`.
     Sync,
-    /// `--rest` without `--journal`, or with `--status`.
+    /// `--rest` without `--journal`.
     Rest,
     /// The address at which a server shows its status, or `--status` without `--recorders`.
     Status,
@@ -152,7 +152,7 @@ const BAD_UNTIL_STOPPED: &str = report!(
 
 const BAD_SYNC: &str = report!("'--sync' is for '--journal'");
 
-const BAD_REST: &str = report!("'--rest' is for '--journal', without '--status <ADDR>'");
+const BAD_REST: &str = report!("'--rest' is for '--journal'");
 
 const BAD_STATUS: &str = report!(
     "'--status <ADDR>' is for '--recorders <N>', and takes 127.0.0.1:PORT, or any IP:PORT ",

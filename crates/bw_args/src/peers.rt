@@ -50,7 +50,7 @@ pub struct Serve {
     pub log: bool,
     /// Whether it keeps journals.
     pub journal: Journaling,
-    /// Whether names may rest; only with journals, and without a status.
+    /// Whether `--rest` is given, which changes nothing; only with journals.
     pub rest: bool,
     /// Whether a second name ends a connection.
     pub one_name: bool,

@@ -8,7 +8,8 @@ use crate::reactor::FilteredReactor;
 use bw_layout::Limit;
 use bw_operators::StatusSetup;
 use bw_pace::PacedNetwork;
-use bw_ports::{ListenerSetup, Network, StartRefusal, Starts, StartsResting};
+use bw_ports::{ListenerSetup, Network, StartRefusal};
+use bw_serve::{OpenedServer, Opens};
 use std::io;
 use std::net::SocketAddr;
 
@@ -118,24 +119,20 @@ impl<N: ListenerSetup> ListenerSetup for FilteredNetwork<N> {
     }
 }
 
-impl<T, N: Starts<T>> Starts<T> for FilteredNetwork<N> {
+impl<N: Opens> Opens for FilteredNetwork<N> {
+    type Server = N::Server;
+
     ghost failures = { λ n. N.failures (inner_network n) };
 
-    ghost starts = { λ n folder limit sync. PassedOn (N.starts (inner_network n) folder limit sync) n };
+    ghost opens = { λ n folder limit sync. PassedOn (N.opens (inner_network n) folder limit sync) n };
 
-    fn start(&mut self, folder: &str, limit: Limit, sync: bool) -> Result<T, StartRefusal> {
-        self.network.start(folder, limit, sync)
-    }
-}
-
-impl<T, N: StartsResting<T>> StartsResting<T> for FilteredNetwork<N> {
-    ghost rest_failures = { λ n. N.rest_failures (inner_network n) };
-
-    ghost starts_resting = { λ n folder limit sync.
-        PassedOn (N.starts_resting (inner_network n) folder limit sync) n };
-
-    fn start_resting(&mut self, folder: &str, limit: Limit, sync: bool) -> Result<T, StartRefusal> {
-        self.network.start_resting(folder, limit, sync)
+    fn open(
+        &mut self,
+        folder: &str,
+        limit: Limit,
+        sync: bool,
+    ) -> Result<OpenedServer<N::Server>, StartRefusal> {
+        self.network.open(folder, limit, sync)
     }
 }
 

@@ -1,2 +1,3 @@
 pub mod ProgramLemmas
 mod InspectionLemmas
+mod ServingLemmas

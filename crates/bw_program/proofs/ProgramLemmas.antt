@@ -12,7 +12,7 @@ use Rattle.bw_console.specs.Outcomes.{Outcome}
 use Rattle.bw_console.specs.Prints.{IsOf, IsPrint, Nothing, Print}
 use Rattle.bw_ports.specs.declared.network.Network.{Ghosts as NetworkGhosts}
 use Rattle.bw_ports.specs.declared.listener_setup.ListenerSetup.{Ghosts as ListenerSetupGhosts}
-use Rattle.bw_program.specs.Sides.{HostSide, SenderSide, ServerSide, UploadSide, StartSide}
+use Rattle.bw_program.specs.Sides.{HostSide, KeptSide, SenderSide, ServerSide, UploadSide}
 use Rattle.bw_program.specs.declared.outside.Outside.{Outside}
 use Rattle.bw_args.specs.declared.CommandLine.{CommandLine}
 use Rattle.bw_args.specs.declared.CommandLine.TheVariants.{Run, BadValue as Bad, Report}
@@ -58,18 +58,18 @@ reported-help texts.DisplayVersion outcome text out reported n p t =
     record { outcome = outcome; exit_is = refl; reads = refl; text = text; prints = p; reports = t }
 reported-help _ outcome text out reported n p t = absurd (n ((λ e. cc), (λ e. cc)))
 
-module _ {S T F H G M SB SL KP Ed LK DK DF N X Y Z P R W L K SP SK D A B U J Q I O E V C VR : Type 0}
+module _ {S T F H G M SB SL KP Ed LK DK DF N X Z P R W L K SP SK D A B U J Q I O E V C T' : Type 0}
     (host : HostSide S T F H G M SB SL KP Ed LK DK DF I O E)
-    (server_side : ServerSide X Y Z P R W L K N SP SK) (sender_side : SenderSide D A B)
+    (server_side : ServerSide X Z P R W L K N SP SK) (sender_side : SenderSide D A B)
     (upload_side : UploadSide U J Q) (network : NetworkGhosts N X P D R W A B)
     (listener_setup : ListenerSetupGhosts N L K)
-    (starts : StartSide server_side.store server_side.journal N VR) where
+    (kept_servers : KeptSide N T') where
   -- a text is reported, and all else stays as it was
   pub reports_alone : {is_asked : Bool → Outcome → Type 0} {exit : Exit}
       {x : Outside S F DK N Q I O E V C} {after : E} (reported : Print) (ending : Exit) → ending ≡ exit →
       is_asked true (record { reads_all = true; out = Nothing; faults = reported; exit = ending }) →
       IsPrint host.reported reported x.faults after →
-      DoesAlone host server_side sender_side upload_side network listener_setup starts is_asked exit
+      DoesAlone host server_side sender_side upload_side network listener_setup kept_servers is_asked exit
       (host.system.failures x.system) x (record x { faults = after })
   reports_alone reported ending ends is prints = record {
     does = record {
@@ -93,9 +93,9 @@ module _ {S T F H G M SB SL KP Ed LK DK DF N X Y Z P R W L K SP SK D A B U J Q I
       ((reported : List Text) → words ≡ Some reported → found ≡ reported) →
       host.system.file_at system ≡ host.system.file_at x.system →
       host.system.failures system ≡ host.system.failures x.system →
-      IsProgram host server_side sender_side upload_side network listener_setup starts
+      IsProgram host server_side sender_side upload_side network listener_setup kept_servers
       (Some found) exit (record x { system = system }) x' →
-      IsProgram host server_side sender_side upload_side network listener_setup starts
+      IsProgram host server_side sender_side upload_side network listener_setup kept_servers
       words exit x x'
   reported-words words found exit system x x' same files counts (inl a) =
       inl (record {
@@ -103,28 +103,28 @@ module _ {S T F H G M SB SL KP Ed LK DK DF N X Y Z P R W L K SP SK D A B U J Q I
         comes = λ reported e.
             subst (λ (w : List Text). IsLineOf w a.line) (same reported e) (a.comes found refl);
         done = done_for a.line (subst (λ (g : Text → Option (List ℕ)).
-            IsDoneFor host server_side sender_side upload_side network listener_setup starts
+            IsDoneFor host server_side sender_side upload_side network listener_setup kept_servers
             g (host.system.failures x.system) a.line exit (record x { system = system }) x') files
             (subst (λ (k : ℕ).
-            IsDoneFor host server_side sender_side upload_side network listener_setup starts
+            IsDoneFor host server_side sender_side upload_side network listener_setup kept_servers
             (host.system.file_at system) k a.line exit (record x { system = system }) x')
             counts a.done));
       })
     where
       -- what is done alone doesn't depend on what the system was asked before
       alone : {is_asked : Bool → Outcome → Type 0} {failed : ℕ} →
-          DoesAlone host server_side sender_side upload_side network listener_setup starts
+          DoesAlone host server_side sender_side upload_side network listener_setup kept_servers
           is_asked exit failed (record x { system = system }) x' →
-          DoesAlone host server_side sender_side upload_side network listener_setup starts
+          DoesAlone host server_side sender_side upload_side network listener_setup kept_servers
           is_asked exit failed x x'
       alone done =
           record { does = done.does; unused = done.unused; unread = done.unread; unpaused = done.unpaused; kept = done.kept }
 
       done_for : (line : CommandLine) →
-          IsDoneFor host server_side sender_side upload_side network listener_setup starts
+          IsDoneFor host server_side sender_side upload_side network listener_setup kept_servers
           (host.system.file_at x.system) (host.system.failures x.system) line exit
           (record x { system = system }) x' →
-          IsDoneFor host server_side sender_side upload_side network listener_setup starts
+          IsDoneFor host server_side sender_side upload_side network listener_setup kept_servers
           (host.system.file_at x.system) (host.system.failures x.system) line exit x x'
       done_for (Run (Replay limit fuse)) done = alone done
       done_for (Run (Rehearse name limit)) done = alone done
@@ -142,6 +142,6 @@ module _ {S T F H G M SB SL KP Ed LK DK DF N X Y Z P R W L K SP SK D A B U J Q I
       done_for (Report error) done = alone done
   reported-words words found exit system x x' same files counts (inr w) =
       inr (subst (λ (k : ℕ).
-      DoesAlone host server_side sender_side upload_side network listener_setup starts
+      DoesAlone host server_side sender_side upload_side network listener_setup kept_servers
       IsUnread exit k x x') counts
       (record { does = w.does; unused = w.unused; unread = w.unread; unpaused = w.unpaused; kept = w.kept }))

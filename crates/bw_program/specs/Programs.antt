@@ -34,7 +34,7 @@ use Rattle.bw_program.specs.Remote.{SendsTyped, ServesByRule}
 use Rattle.bw_program.specs.Sources.{IfFile}
 use Rattle.bw_program.specs.PcmCommands.{SendsPcmCommand}
 use Rattle.bw_program.specs.Uploads.{SendsByState}
-use Rattle.bw_program.specs.Sides.{HostSide, SenderSide, ServerSide, UploadSide, StartSide}
+use Rattle.bw_program.specs.Sides.{HostSide, KeptSide, SenderSide, ServerSide, UploadSide}
 use Rattle.bw_program.specs.declared.outside.Outside.{Outside}
 
 -- help or the version is printed
@@ -101,12 +101,12 @@ abbrev pub IsUnread : Bool → Outcome → Type 0
 IsUnread true did = IsOutOfMemory did
 IsUnread false did = (kind : ErrorKind) × IsBadArgv kind did
 
-module _ {S T F H G M SB SL KP Ed LK DK DF N X Y Z P R W L K SP SK D A B U J Q I O E V C VR : Type 0}
+module _ {S T F H G M SB SL KP Ed LK DK DF N X Z P R W L K SP SK D A B U J Q I O E V C T' : Type 0}
     (host : HostSide S T F H G M SB SL KP Ed LK DK DF I O E)
-    (server_side : ServerSide X Y Z P R W L K N SP SK) (sender_side : SenderSide D A B)
+    (server_side : ServerSide X Z P R W L K N SP SK) (sender_side : SenderSide D A B)
     (upload_side : UploadSide U J Q) (network : NetworkGhosts N X P D R W A B)
     (listener_setup : ListenerSetupGhosts N L K)
-    (starts : StartSide server_side.store server_side.journal N VR) where
+    (kept_servers : KeptSide N T') where
   -- this is done without the network, recordings and folders, where so many calls of the system
   -- had failed
   pub record DoesAlone (is_asked : Bool → Outcome → Type 0) (exit : Exit) (failed : ℕ)
@@ -127,7 +127,7 @@ module _ {S T F H G M SB SL KP Ed LK DK DF N X Y Z P R W L K SP SK D A B U J Q I
   abbrev pub IsDoneFor : (Text → Option (List ℕ)) → ℕ → CommandLine → Exit →
       Outside S F DK N Q I O E V C → Outside S F DK N Q I O E V C → Type 0
   IsDoneFor file_at failed (Run (Serve server)) exit x x' =
-      ServesByRule server_side host.out host.reported network listener_setup starts server exit
+      ServesByRule server_side host.out host.reported network listener_setup kept_servers server exit
       x.network x'.network x.out x'.out x.faults x'.faults
       × IsHostWell failed x' × (x'.files ≡ x.files) × (x'.input ≡ x.input)
       × (x'.pause ≡ x.pause) × (x'.disk ≡ x.disk)

@@ -1,5 +1,6 @@
 -- What is done for the command lines that use the network.
-use Rattle.std.specs.Prelude.{◌≡◌, ℕ, ◌*◌, Bool, true, false, Option, Some, None, string_bytes}
+use Rattle.std.specs.Prelude.{◌≡◌, ℕ, ◌*◌, Bool, true, false, Option, Some, None, Result, Ok, Err}
+use Rattle.std.specs.Prelude.{string_bytes}
 use Rattle.std.specs.declared.net.socket_addr.SocketAddr.{SocketAddr}
 use Rattle.bw_stream.specs.declared.sink.Sink.{Ghosts as Writer}
 use Rattle.bw_stream.specs.declared.source.Source.{Ghosts as Reader}
@@ -14,17 +15,20 @@ use Rattle.bw_args.specs.declared.peers.Serve.{Serve}
 use Rattle.bw_console.specs.Outcomes.{Outcome, HasWritten}
 use Rattle.bw_console.specs.Prints.{failures_if}
 use Rattle.bw_console.specs.declared.exit.Exit.{Exit}
-use Rattle.bw_serve.specs.Hostings.{Hosts}
 use Rattle.bw_send.specs.Sends.{IsSendRun}
-use Rattle.bw_ports.specs.declared.network.Network.{Ghosts as NetworkGhosts}
-use Rattle.bw_serve.specs.declared.hosting_in_turn.Serving.{Serving}
-use Rattle.bw_serve.specs.HostedMany.{HostsMany}
-use Rattle.bw_serve.specs.ResumedHostings.{HostsManyResumed, HostsResumed}
-use Rattle.bw_serve_status.specs.Shown.{HostsManyResumedShown, HostsManyShown}
-use Rattle.bw_serve.specs.RestingHostings.{HostsManyRested, HostsRested}
 use Rattle.bw_ports.specs.declared.listener_setup.ListenerSetup.{Ghosts as ListenerSetupGhosts}
+use Rattle.bw_ports.specs.declared.network.Network.{Ghosts as NetworkGhosts}
+use Rattle.bw_ports.specs.declared.starts.StartRefusal.{StartRefusal}
+use Rattle.bw_serve.specs.Beginnings.{Calls, counted_calls, store_calls}
+use Rattle.bw_serve.specs.Hostings.{ServesAtOnce, ServesInTurn}
+use Rattle.bw_serve.specs.Openings.{OpensNew}
+use Rattle.bw_serve.specs.Refusals.{ReportsRefusal}
 use Rattle.bw_serve.specs.declared.hosting.Hosting.{Hosting}
-use Rattle.bw_program.specs.Sides.{SenderSide, ServerSide, StartSide}
+use Rattle.bw_serve.specs.declared.hosting_in_turn.Serving.{Serving}
+use Rattle.bw_serve.specs.declared.opening.OpenedServer.{OpenedServer}
+use Rattle.bw_serve_status.specs.Shown.{ServesShown}
+use Rattle.bw_serve_status.specs.declared.hosting.Showing.{Showing}
+use Rattle.bw_program.specs.Sides.{KeptSide, ReachSide, SenderSide, ServerSide, TurnsSide, new_turns}
 use Rattle.bw_program.specs.Sources.{NotesInput}
 
 -- how many exchanges a server makes: without an end the most that can be counted, 2^64 - 1
@@ -37,7 +41,6 @@ pub record IsServingAs (server : Serve) (timeout : Option ℕ) (serving : Servin
   pub listens : serving.address ≡ server.listen
   pub keeps : serving.folder.now ≡ string_bytes server.folder
   pub ends : serving.exchanges ≡ exchanges_of server.end
-  pub limited : serving.limit ≡ server.limit
   pub waits : serving.timeout ≡ timeout
   pub logs : serving.log ≡ server.log
 
@@ -49,113 +52,61 @@ pub record IsHosting (server : Serve) (most idle : ℕ) (hosting : Hosting) : Ty
   pub places : hosting.bounds.places ≡ most
   pub ends : hosting.bounds.exchanges ≡ exchanges_of server.end
   pub idles : hosting.bounds.idle ≡ 1_000 * idle
-  pub limited : hosting.limit ≡ server.limit
   pub logs : hosting.log ≡ server.log
 
-module _ {X Y Z P R W L K O E N SP SK D A B V : Type 0} (side : ServerSide X Y Z P R W L K N SP SK)
+module _ {N X P R W L K SP SK D A B O E : Type 0} (network : NetworkGhosts N X P D R W A B)
+    (listener_setup : ListenerSetupGhosts N L K) (reach : ReachSide P R W L K N SP SK) (out : Writer O)
+    (reported : Writer E) where
+  module _ {T : Type 0} (turns : TurnsSide T) where
+    -- a server that was opened serves recorders in the way that is asked for: one after another, at
+    -- once, or so that operators are shown what it is doing
+    abbrev pub ServesBy : Recorders → Option SocketAddr → Serve → OpenedServer T → Exit → N → N → O → O → E → E →
+        Type 0
+    ServesBy (recorders.InTurn timeout) status server opened exit n n' o o' e e' =
+        (serving : Serving) × IsServingAs server timeout serving
+        × ServesInTurn turns.answers turns.commits reach.peers reach.reader reach.writer out
+        reported network serving opened exit n n' o o' e e'
+    ServesBy (recorders.AtOnce most idle) None server opened exit n n' o o' e e' =
+        (hosting : Hosting) × IsHosting server most idle hosting
+        × ServesAtOnce turns.answers turns.commits reach.reactor reach.link out reported
+        listener_setup hosting opened exit n n' o o' e e'
+    ServesBy (recorders.AtOnce most idle) (Some status) server opened exit n n' o o' e e' =
+        (showing : Showing) × IsHosting server most idle showing.hosting × (showing.status ≡ status)
+        × ServesShown turns.answers turns.commits turns.holds reach.reactor reach.link out
+        reported reach.status listener_setup showing opened exit n n' o o' e e'
+
+    -- if one was opened; else it is reported why none was
+    abbrev pub ServesOpened : Serve → Result (OpenedServer T) StartRefusal → Exit → N → N → O → O → E → E → Type 0
+    ServesOpened server (Ok opened) exit n n' o o' e e' =
+        ServesBy server.recorders server.status server opened exit n n' o o' e e'
+    ServesOpened server (Err refusal) exit n n' o o' e e' = (n' ≡ n) × (o' ≡ o)
+        × ReportsRefusal reported (string_bytes server.folder) refusal exit e e'
+
+module _ {X Z P R W L K O E N SP SK D A B T : Type 0} (side : ServerSide X Z P R W L K N SP SK)
     (out : Writer O) (reported : Writer E) (network : NetworkGhosts N X P D R W A B)
-    (listener_setup : ListenerSetupGhosts N L K)
-    (starts : StartSide side.store side.journal N V) where
-  -- it served one recorder after the other
-  pub record ServesInTurn (server : Serve) (timeout : Option ℕ) (exit : Exit) (n n' : N) (o o' : O)
-      (e e' : E) : Type 0 where
-    pub serving : Serving
-    pub asked : IsServingAs server timeout serving
-    pub hosts : Hosts side.store side.none side.peers side.reader side.writer out reported network
-        serving exit n n' o o' e e'
+    (listener_setup : ListenerSetupGhosts N L K) (kept : KeptSide N T) where
+  -- a server was asked for in this way, and serves
+  pub record OpensAndServes {U : Type 0} (calls : Calls N (OpenedServer U) StartRefusal)
+      (turns : TurnsSide U) (server : Serve) (exit : Exit) (n n' : N) (o o' : O) (e e' : E) : Type 0 where
+    pub opened : Result (OpenedServer U) StartRefusal
+    pub between : N
+    pub comes : calls n opened between
+    pub serves : ServesOpened network listener_setup side.reach out reported turns server opened exit
+        between n' o o' e e'
 
-  -- it did so from what an earlier server had left
-  pub record ResumesInTurn (server : Serve) (timeout : Option ℕ) (sync : Bool) (exit : Exit)
-      (n n' : N) (o o' : O) (e e' : E) : Type 0 where
-    pub serving : Serving
-    pub asked : IsServingAs server timeout serving
-    pub hosts : HostsResumed side.store side.journal side.peers side.reader side.writer out reported
-        network starts.starter serving sync exit n n' o o' e e'
+  -- a server with journals, over what is in the folder
+  abbrev pub ServesKept : Bool → Serve → Exit → N → N → O → O → E → E → Type 0
+  ServesKept sync server exit n n' o o' e e' = OpensAndServes
+      (counted_calls kept.failures (λ n. kept.opens n (string_bytes server.folder) server.limit sync)) kept.server
+      server exit n n' o o' e e'
 
-  -- many at once are served, while the status is shown at an address, if one is given
-  abbrev pub HostsAs : Option SocketAddr → Hosting → Exit → N → N → O → O → E → E → Type 0
-  HostsAs None hosting exit n n' o o' e e' =
-      HostsMany side.store side.none side.reactor side.link out reported network listener_setup hosting
-      exit n n' o o' e e'
-  HostsAs (Some status) hosting exit n n' o o' e e' =
-      HostsManyShown side.store side.none side.reactor side.link out reported network listener_setup
-      side.status hosting status exit n n' o o' e e'
-
-  -- the same from what an earlier server had left
-  abbrev pub ResumesShown : Option SocketAddr → Hosting → Bool → Exit → N → N → O → O → E → E → Type 0
-  ResumesShown None hosting sync exit n n' o o' e e' =
-      HostsManyResumed side.store side.journal side.reactor side.link out reported listener_setup
-      starts.starter hosting sync exit n n' o o' e e'
-  ResumesShown (Some status) hosting sync exit n n' o o' e e' =
-      HostsManyResumedShown side.store side.journal side.reactor side.link out reported listener_setup
-      starts.starter side.status hosting sync status exit n n' o o' e e'
-
-  -- it served many at once
-  pub record ServesAtOnce (server : Serve) (most idle : ℕ) (exit : Exit) (n n' : N) (o o' : O)
-      (e e' : E) : Type 0 where
-    pub hosting : Hosting
-    pub asked : IsHosting server most idle hosting
-    pub hosts : HostsAs server.status hosting exit n n' o o' e e'
-
-  -- it did so from what an earlier server had left
-  pub record ResumesAtOnce (server : Serve) (most idle : ℕ) (sync : Bool) (exit : Exit) (n n' : N)
-      (o o' : O) (e e' : E) : Type 0 where
-    pub hosting : Hosting
-    pub asked : IsHosting server most idle hosting
-    pub hosts : ResumesShown server.status hosting sync exit n n' o o' e e'
-
-  -- a server without journals was asked for so, and served
-  abbrev pub ServesAs : Recorders → Serve → Exit → N → N → O → O → E → E → Type 0
-  ServesAs (recorders.InTurn timeout) server exit n n' o o' e e' =
-      ServesInTurn server timeout exit n n' o o' e e'
-  ServesAs (recorders.AtOnce most idle) server exit n n' o o' e e' =
-      ServesAtOnce server most idle exit n n' o o' e e'
-
-  -- a server with journals, which are synced or not
-  abbrev pub ResumesAs : Recorders → Bool → Serve → Exit → N → N → O → O → E → E → Type 0
-  ResumesAs (recorders.InTurn timeout) sync server exit n n' o o' e e' =
-      ResumesInTurn server timeout sync exit n n' o o' e e'
-  ResumesAs (recorders.AtOnce most idle) sync server exit n n' o o' e e' =
-      ResumesAtOnce server most idle sync exit n n' o o' e e'
-
-  -- it served one recorder after the other, and names rested
-  pub record RestsInTurn (server : Serve) (timeout : Option ℕ) (sync : Bool) (exit : Exit)
-      (n n' : N) (o o' : O) (e e' : E) : Type 0 where
-    pub serving : Serving
-    pub asked : IsServingAs server timeout serving
-    pub hosts : HostsRested side.store side.journal starts.resting starts.becomes side.peers side.reader
-        side.writer out reported network starts.rest_starter serving sync exit n n' o o' e e'
-
-  -- it served many at once, and names rested
-  pub record RestsAtOnce (server : Serve) (most idle : ℕ) (sync : Bool) (exit : Exit) (n n' : N)
-      (o o' : O) (e e' : E) : Type 0 where
-    pub hosting : Hosting
-    pub asked : IsHosting server most idle hosting
-    pub hosts : HostsManyRested side.store side.journal starts.resting starts.becomes side.reactor
-        side.link out reported listener_setup starts.rest_starter hosting sync exit n n' o o' e e'
-
-  -- a server with journals whose names rest
-  abbrev pub RestsAs : Recorders → Bool → Serve → Exit → N → N → O → O → E → E → Type 0
-  RestsAs (recorders.InTurn timeout) sync server exit n n' o o' e e' =
-      RestsInTurn server timeout sync exit n n' o o' e e'
-  RestsAs (recorders.AtOnce most idle) sync server exit n n' o o' e e' =
-      RestsAtOnce server most idle sync exit n n' o o' e e'
-
-  -- a server with journals, whose names rest or don't
-  abbrev pub KeepsAs : Bool → Bool → Serve → Exit → N → N → O → O → E → E → Type 0
-  KeepsAs false sync server exit n n' o o' e e' =
-      ResumesAs server.recorders sync server exit n n' o o' e e'
-  KeepsAs true sync server exit n n' o o' e e' =
-      RestsAs server.recorders sync server exit n n' o o' e e'
-
-  -- a server with journals or without
+  -- a server with journals, or a new one without
   abbrev pub ServesWith : Journaling → Serve → Exit → N → N → O → O → E → E → Type 0
-  ServesWith journals.Without server exit n n' o o' e e' =
-      ServesAs server.recorders server exit n n' o o' e e'
-  ServesWith journals.Kept server exit n n' o o' e e' =
-      KeepsAs server.rest false server exit n n' o o' e e'
-  ServesWith journals.Synced server exit n n' o o' e e' =
-      KeepsAs server.rest true server exit n n' o o' e e'
+  ServesWith journals.Without server exit n n' o o' e e' = OpensAndServes
+      (OpensNew side.store side.none (store_calls network (string_bytes server.folder)) server.limit)
+      (new_turns side.store side.none) server exit n n' o o' e e'
+  ServesWith journals.Kept server exit n n' o o' e e' = ServesKept false server exit n n' o o' e e'
+  ServesWith journals.Synced server exit n n' o o' e e' = ServesKept true server exit n n' o o' e e'
 
   -- after it was chosen whether each link may have one name alone
   pub record ServesByRule (server : Serve) (exit : Exit) (n n' : N) (o o' : O) (e e' : E)

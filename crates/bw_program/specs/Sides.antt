@@ -1,5 +1,5 @@
 -- What the parts of the program's outside say of themselves, in groups.
-use Rattle.std.specs.Prelude.{ℕ, List, Option}
+use Rattle.std.specs.Prelude.{ℕ, Bool, List, Option, Result}
 use Rattle.bw_stream.specs.declared.sink.Sink.{Ghosts as Writer}
 use Rattle.bw_stream.specs.declared.source.Source.{Ghosts as Reader}
 use Rattle.bw_store.specs.declared.store.TakeStore.{Ghosts as StoreGhosts}
@@ -14,8 +14,14 @@ use Rattle.bw_ports.specs.declared.recording_files.RecordingFiles.{Ghosts as Fil
 use Rattle.bw_edit.specs.declared.edited_files.EditedFiles.{Ghosts as EditGhosts}
 use Rattle.bw_lock.specs.declared.folder_locks.FolderLocks.{Ghosts as LockGhosts}
 use Rattle.bw_kind.specs.declared.kind.FileKinds.{Ghosts as KindGhosts}
-use Rattle.bw_ports.specs.declared.starts.Starts.{Ghosts as StartGhosts}
-use Rattle.bw_ports.specs.declared.starts_resting.StartsResting.{Ghosts as RestGhosts}
+use Rattle.bw_ports.specs.declared.starts.StartRefusal.{StartRefusal}
+use Rattle.bw_model.specs.Book.{Book}
+use Rattle.bw_model.specs.Wire.{Frame}
+use Rattle.bw_model.specs.Replies.{Reply}
+use Rattle.bw_exchange.specs.Commits.{CommitsNothing}
+use Rattle.bw_exchange.specs.declared.turns.NotKept.{NotKept}
+use Rattle.bw_session.specs.Books.{HoldsBook}
+use Rattle.bw_session.specs.ServerTurns.{ServerTurn}
 use Rattle.bw_session.specs.declared.server.Server.{Server}
 use Rattle.bw_ports.specs.declared.system.System.{Ghosts as SystemGhosts}
 use Rattle.bw_ports.specs.declared.pause.Pause.{Ghosts as PauseGhosts}
@@ -23,6 +29,7 @@ use Rattle.bw_ports.specs.declared.recording_files.FileStamp.{FileStamp}
 use Rattle.bw_resume.specs.declared.state_files.StateFiles.{Ghosts as StateGhosts}
 use Rattle.bw_resume.specs.declared.state_files.StateLog.{Ghosts as LogGhosts}
 use Rattle.bw_send_file.specs.declared.fault.FeedFault.{FeedFault}
+use Rattle.bw_serve.specs.declared.opening.OpenedServer.{OpenedServer}
 use Rattle.bw_serve_status.specs.Shown.{StatusSide}
 use Rattle.bw_spool.specs.declared.keeper.SpoolKeeper.{Ghosts as KeeperGhosts}
 use Rattle.bw_upload.specs.declared.feed.Feed.{Ghosts as FeedGhosts}
@@ -79,55 +86,69 @@ host_side system files states spools edits locks kinds disk input out reported =
   reported = reported;
 }
 
--- what a server keeps files and journals in, those of a server without journals too, and through
--- what recorders reach it
-pub record ServerSide (X Y Z P R W L K N SP SK : Type 0) : Type 1 where
-  pub store : StoreGhosts X
-  pub journal : JournalGhosts Y
-  pub none : JournalGhosts Z
+-- what recorders reach a server through, and operators
+pub record ReachSide (P R W L K N SP SK : Type 0) : Type 1 where
   pub peers : PeerGhosts P R W
   pub reader : Reader R
   pub writer : Writer W
   pub reactor : ReactorGhosts L K
   pub link : LinkGhosts K
-  -- and how it chooses whether a link may have one name alone
-  pub rule : RuleGhosts N
-  -- and through what operators reach it
   pub status : StatusSide N L SP SK
 
-abbrev pub server_side : {X Y Z P R W L K N SP SK : Type 0} → StoreGhosts X → JournalGhosts Y →
-    JournalGhosts Z → PeerGhosts P R W → Reader R → Writer W → ReactorGhosts L K → LinkGhosts K →
-    RuleGhosts N → StatusSide N L SP SK → ServerSide X Y Z P R W L K N SP SK
-server_side store journal none peers reader writer reactor link rule status = record {
-  store = store;
-  journal = journal;
-  none = none;
+abbrev pub reach_side : {P R W L K N SP SK : Type 0} → PeerGhosts P R W → Reader R → Writer W →
+    ReactorGhosts L K → LinkGhosts K → StatusSide N L SP SK → ReachSide P R W L K N SP SK
+reach_side peers reader writer reactor link status = record {
   peers = peers;
   reader = reader;
   writer = writer;
   reactor = reactor;
   link = link;
-  rule = rule;
   status = status;
 }
 
--- how servers with journals are started, of which those whose names rest have other journals then
-pub record StartSide {X Y : Type 0} (S : StoreGhosts X) (J : JournalGhosts Y) (N V : Type 0) :
-    Type 1 where
-  pub starter : StartGhosts N (Server X Y S J)
-  pub rest_starter : RestGhosts N (Server X Y S J)
-  pub resting : JournalGhosts V
-  pub becomes : Y → V → Type 0
+-- what a new server keeps files in, and its journal, which is none; how it is reached; and how it is
+-- chosen whether a link may have one name alone
+pub record ServerSide (X Z P R W L K N SP SK : Type 0) : Type 1 where
+  pub store : StoreGhosts X
+  pub none : JournalGhosts Z
+  pub reach : ReachSide P R W L K N SP SK
+  pub rule : RuleGhosts N
 
-abbrev pub start_side : {X Y N V : Type 0} {S : StoreGhosts X} {J : JournalGhosts Y} →
-    StartGhosts N (Server X Y S J) → RestGhosts N (Server X Y S J) → JournalGhosts V →
-    (Y → V → Type 0) → StartSide S J N V
-start_side starter rest_starter resting becomes = record {
-  starter = starter;
-  rest_starter = rest_starter;
-  resting = resting;
-  becomes = becomes;
+abbrev pub server_side : {X Z P R W L K N SP SK : Type 0} → StoreGhosts X → JournalGhosts Z →
+    PeerGhosts P R W → Reader R → Writer W → ReactorGhosts L K → LinkGhosts K → RuleGhosts N → StatusSide N L SP SK →
+    ServerSide X Z P R W L K N SP SK
+server_side store none peers reader writer reactor link rule status = record {
+  store = store;
+  none = none;
+  reach = reach_side peers reader writer reactor link status;
+  rule = rule;
 }
+
+-- what a server answers and commits, and which books its table holds
+pub record TurnsSide (T : Type 0) : Type 1 where
+  pub answers : T → Frame → List Reply → T → Type 0
+  pub commits : T → Result (Unit {0}) NotKept → T → Type 0
+  pub holds : T → (List ℕ → Option (List ℕ)) → Book → Type 0
+
+abbrev pub turns_side : {T : Type 0} → (T → Frame → List Reply → T → Type 0) →
+    (T → Result (Unit {0}) NotKept → T → Type 0) →
+    (T → (List ℕ → Option (List ℕ)) → Book → Type 0) → TurnsSide T
+turns_side answers commits holds = record { answers = answers; commits = commits; holds = holds }
+
+-- those of a new server
+abbrev pub new_turns : {X Y : Type 0} (S : StoreGhosts X) (J : JournalGhosts Y) → TurnsSide (Server X Y S J)
+new_turns S J = turns_side (ServerTurn S J) CommitsNothing (λ s first book. HoldsBook S J first s book)
+
+-- how servers with journals are opened, and what they are
+pub record KeptSide (N T : Type 0) : Type 1 where
+  pub opens : N → List ℕ → ℕ → Bool → Result (OpenedServer T) StartRefusal → N → Type 0
+  pub failures : N → ℕ
+  pub server : TurnsSide T
+
+abbrev pub kept_side : {N T : Type 0} →
+    (N → List ℕ → ℕ → Bool → Result (OpenedServer T) StartRefusal → N → Type 0) → (N → ℕ) → TurnsSide T →
+    KeptSide N T
+kept_side opens failures server = record { opens = opens; failures = failures; server = server }
 
 -- what a sender reaches a server by
 pub record SenderSide (D A B : Type 0) : Type 1 where

@@ -8,7 +8,7 @@ ghost use Rattle.bw_console.specs.declared.exit.Exit.{Exit};
 ghost use Rattle.bw_console.specs.Exits.{status_of};
 ghost use Rattle.bw_send_file.specs.FileLooks.{LooksAt};
 ghost use Rattle.bw_program.specs.Programs.{IsDoneFor, IsProgram, IsReporting};
-ghost use Rattle.bw_program.specs.Sides.{host_side, sender_side, server_side, spool_side, start_side, state_side, upload_side};
+ghost use Rattle.bw_program.specs.Sides.{host_side, kept_side, sender_side, server_side, spool_side, state_side, turns_side, upload_side};
 ghost use Rattle.bw_serve_status.specs.Shown.{status_side};
 
 use crate::folders::work_on_takes;
@@ -24,23 +24,21 @@ use bw_console::{Exit, Fault, report_bad_argv};
 use bw_disk::Volume;
 use bw_draw::draw_file;
 use bw_edit::EditedFiles;
-use bw_journal::{BecomesResting, Journal, NoJournal};
+use bw_journal::{Journal, NoJournal};
 use bw_kind::FileKinds;
 use bw_layout::Limit;
 use bw_lock::FolderLocks;
 use bw_one_name::NameRule;
 use bw_operators::StatusSetup;
 use bw_pace::PacedNetwork;
-use bw_ports::{
-    ListenerSetup, Network, Pause, RecordingFiles, Starts, StartsResting, System, Watch,
-};
+use bw_ports::{ListenerSetup, Network, Pause, RecordingFiles, System, Watch};
 use bw_progress::UploadWatch;
 use bw_rehearse::rehearse_with_stops_run;
 use bw_repair_file::repair_file;
 use bw_resume::StateKeeping;
 use bw_send_file::PlanFeed;
 use bw_send_pcm::PcmFeed;
-use bw_session::Server;
+use bw_serve::Opens;
 use bw_spool::SpoolKeeping;
 use bw_stream::{Sink, Source};
 use bw_upload::{Feed, Observer};
@@ -59,13 +57,7 @@ pub fn start<
     S: System,
     F: RecordingFiles + StateKeeping + SpoolKeeping + EditedFiles + FolderLocks + FileKinds,
     D: Volume,
-    J: BecomesResting,
-    N: PacedNetwork
-        + ListenerSetup
-        + Starts<Server<N::Store, J>>
-        + StartsResting<Server<N::Store, J>>
-        + NameRule
-        + StatusSetup<N::Reactor>,
+    N: PacedNetwork + ListenerSetup + Opens + NameRule + StatusSetup<N::Reactor>,
     P: Pause,
     R: Source,
     W: Sink,
@@ -77,13 +69,14 @@ pub fn start<
     ensures { (exit : Exit) × (exit_status result ≡ status_of exit) × IsProgram
         (host_side S.System F.RecordingFiles (state_side F.kept_at F.States.StateFiles F.States.Log.StateLog)
         (spool_side F.lends F.Keeper.SpoolKeeper) F.EditedFiles F.FolderLocks F.FileKinds D.Disk R.Source W.Sink E.Sink)
-        (server_side N.Store.TakeStore J.Journal ⟦<NoJournal as Journal>⟧ N.Peers.Peers
+        (server_side N.Store.TakeStore ⟦<NoJournal as Journal>⟧ N.Peers.Peers
         N.Peers.Reader.Source N.Peers.Writer.Sink N.Reactor.Reactor N.Reactor.Link.Link N.NameRule
         (status_side N.StatusSetup N.Port.StatusPort N.Port.Link.Link))
         (sender_side N.Dial.Dial N.Dial.Reader.Source N.Dial.Writer.Sink)
         (upload_side ⟦<PlanFeed<F::File, F::Stamped> as Feed>⟧ (LooksAt F.Stamped.Stamped)
         ⟦<PcmFeed<F::Growing> as Feed>⟧ P.Pause)
-        N.Network N.ListenerSetup (start_side N.Starts N.StartsResting J.Resting.Journal J.becomes)
+        N.Network N.ListenerSetup (kept_side N.Opens.opens N.Opens.failures
+        (turns_side N.Server.Turns.answers N.Server.Turns.commits N.Server.HasTable.holds))
         (S.words outside.old.system) exit outside.old outside.new }
 {
     ExitCode::from(obey(alloc, outside).status())
@@ -94,13 +87,7 @@ fn obey<
     S: System,
     F: RecordingFiles + StateKeeping + SpoolKeeping + EditedFiles + FolderLocks + FileKinds,
     D: Volume,
-    J: BecomesResting,
-    N: PacedNetwork
-        + ListenerSetup
-        + Starts<Server<N::Store, J>>
-        + StartsResting<Server<N::Store, J>>
-        + NameRule
-        + StatusSetup<N::Reactor>,
+    N: PacedNetwork + ListenerSetup + Opens + NameRule + StatusSetup<N::Reactor>,
     P: Pause,
     R: Source,
     W: Sink,
@@ -110,13 +97,14 @@ fn obey<
 >(alloc: Global, outside: &mut Outside<S, F, D, N, P, R, W, E, V, G>) -> Exit
     ensures { IsProgram (host_side S.System F.RecordingFiles (state_side F.kept_at F.States.StateFiles F.States.Log.StateLog)
         (spool_side F.lends F.Keeper.SpoolKeeper) F.EditedFiles F.FolderLocks F.FileKinds D.Disk R.Source W.Sink E.Sink)
-        (server_side N.Store.TakeStore J.Journal ⟦<NoJournal as Journal>⟧ N.Peers.Peers
+        (server_side N.Store.TakeStore ⟦<NoJournal as Journal>⟧ N.Peers.Peers
         N.Peers.Reader.Source N.Peers.Writer.Sink N.Reactor.Reactor N.Reactor.Link.Link N.NameRule
         (status_side N.StatusSetup N.Port.StatusPort N.Port.Link.Link))
         (sender_side N.Dial.Dial N.Dial.Reader.Source N.Dial.Writer.Sink)
         (upload_side ⟦<PlanFeed<F::File, F::Stamped> as Feed>⟧ (LooksAt F.Stamped.Stamped)
         ⟦<PcmFeed<F::Growing> as Feed>⟧ P.Pause)
-        N.Network N.ListenerSetup (start_side N.Starts N.StartsResting J.Resting.Journal J.becomes)
+        N.Network N.ListenerSetup (kept_side N.Opens.opens N.Opens.failures
+        (turns_side N.Server.Turns.answers N.Server.Turns.commits N.Server.HasTable.holds))
         (S.words outside.old.system) result outside.old outside.new }
 {
     match outside.system.words() {
@@ -130,13 +118,7 @@ fn answer<
     S: System,
     F: RecordingFiles + StateKeeping + SpoolKeeping + EditedFiles + FolderLocks + FileKinds,
     D: Volume,
-    J: BecomesResting,
-    N: PacedNetwork
-        + ListenerSetup
-        + Starts<Server<N::Store, J>>
-        + StartsResting<Server<N::Store, J>>
-        + NameRule
-        + StatusSetup<N::Reactor>,
+    N: PacedNetwork + ListenerSetup + Opens + NameRule + StatusSetup<N::Reactor>,
     P: Pause,
     R: Source,
     W: Sink,
@@ -146,13 +128,14 @@ fn answer<
 >(alloc: Global, words: &[String], outside: &mut Outside<S, F, D, N, P, R, W, E, V, G>) -> Exit
     ensures { IsProgram (host_side S.System F.RecordingFiles (state_side F.kept_at F.States.StateFiles F.States.Log.StateLog)
         (spool_side F.lends F.Keeper.SpoolKeeper) F.EditedFiles F.FolderLocks F.FileKinds D.Disk R.Source W.Sink E.Sink)
-        (server_side N.Store.TakeStore J.Journal ⟦<NoJournal as Journal>⟧ N.Peers.Peers
+        (server_side N.Store.TakeStore ⟦<NoJournal as Journal>⟧ N.Peers.Peers
         N.Peers.Reader.Source N.Peers.Writer.Sink N.Reactor.Reactor N.Reactor.Link.Link N.NameRule
         (status_side N.StatusSetup N.Port.StatusPort N.Port.Link.Link))
         (sender_side N.Dial.Dial N.Dial.Reader.Source N.Dial.Writer.Sink)
         (upload_side ⟦<PlanFeed<F::File, F::Stamped> as Feed>⟧ (LooksAt F.Stamped.Stamped)
         ⟦<PcmFeed<F::Growing> as Feed>⟧ P.Pause)
-        N.Network N.ListenerSetup (start_side N.Starts N.StartsResting J.Resting.Journal J.becomes)
+        N.Network N.ListenerSetup (kept_side N.Opens.opens N.Opens.failures
+        (turns_side N.Server.Turns.answers N.Server.Turns.commits N.Server.HasTable.holds))
         (Some (map string_bytes words.now)) result outside.old outside.new }
 {
     match parse(alloc, words) {
@@ -166,13 +149,7 @@ fn perform<
     S: System,
     F: RecordingFiles + StateKeeping + SpoolKeeping + EditedFiles + FolderLocks + FileKinds,
     D: Volume,
-    J: BecomesResting,
-    N: PacedNetwork
-        + ListenerSetup
-        + Starts<Server<N::Store, J>>
-        + StartsResting<Server<N::Store, J>>
-        + NameRule
-        + StatusSetup<N::Reactor>,
+    N: PacedNetwork + ListenerSetup + Opens + NameRule + StatusSetup<N::Reactor>,
     P: Pause,
     R: Source,
     W: Sink,
@@ -183,13 +160,14 @@ fn perform<
     requires { HasNumbersInRange line.now }
     ensures { IsDoneFor (host_side S.System F.RecordingFiles (state_side F.kept_at F.States.StateFiles F.States.Log.StateLog)
         (spool_side F.lends F.Keeper.SpoolKeeper) F.EditedFiles F.FolderLocks F.FileKinds D.Disk R.Source W.Sink E.Sink)
-        (server_side N.Store.TakeStore J.Journal ⟦<NoJournal as Journal>⟧ N.Peers.Peers
+        (server_side N.Store.TakeStore ⟦<NoJournal as Journal>⟧ N.Peers.Peers
         N.Peers.Reader.Source N.Peers.Writer.Sink N.Reactor.Reactor N.Reactor.Link.Link N.NameRule
         (status_side N.StatusSetup N.Port.StatusPort N.Port.Link.Link))
         (sender_side N.Dial.Dial N.Dial.Reader.Source N.Dial.Writer.Sink)
         (upload_side ⟦<PlanFeed<F::File, F::Stamped> as Feed>⟧ (LooksAt F.Stamped.Stamped)
         ⟦<PcmFeed<F::Growing> as Feed>⟧ P.Pause)
-        N.Network N.ListenerSetup (start_side N.Starts N.StartsResting J.Resting.Journal J.becomes)
+        N.Network N.ListenerSetup (kept_side N.Opens.opens N.Opens.failures
+        (turns_side N.Server.Turns.answers N.Server.Turns.commits N.Server.HasTable.holds))
         (S.file_at outside.old.system) (S.failures outside.old.system) line.now result
         outside.old outside.new }
 {
@@ -208,13 +186,7 @@ fn run<
     S: System,
     F: RecordingFiles + StateKeeping + SpoolKeeping + EditedFiles + FolderLocks + FileKinds,
     D: Volume,
-    J: BecomesResting,
-    N: PacedNetwork
-        + ListenerSetup
-        + Starts<Server<N::Store, J>>
-        + StartsResting<Server<N::Store, J>>
-        + NameRule
-        + StatusSetup<N::Reactor>,
+    N: PacedNetwork + ListenerSetup + Opens + NameRule + StatusSetup<N::Reactor>,
     P: Pause,
     R: Source,
     W: Sink,
@@ -225,13 +197,14 @@ fn run<
     requires { HasNumbersInRange (CommandLine.Run task.now) }
     ensures { IsDoneFor (host_side S.System F.RecordingFiles (state_side F.kept_at F.States.StateFiles F.States.Log.StateLog)
         (spool_side F.lends F.Keeper.SpoolKeeper) F.EditedFiles F.FolderLocks F.FileKinds D.Disk R.Source W.Sink E.Sink)
-        (server_side N.Store.TakeStore J.Journal ⟦<NoJournal as Journal>⟧ N.Peers.Peers
+        (server_side N.Store.TakeStore ⟦<NoJournal as Journal>⟧ N.Peers.Peers
         N.Peers.Reader.Source N.Peers.Writer.Sink N.Reactor.Reactor N.Reactor.Link.Link N.NameRule
         (status_side N.StatusSetup N.Port.StatusPort N.Port.Link.Link))
         (sender_side N.Dial.Dial N.Dial.Reader.Source N.Dial.Writer.Sink)
         (upload_side ⟦<PlanFeed<F::File, F::Stamped> as Feed>⟧ (LooksAt F.Stamped.Stamped)
         ⟦<PcmFeed<F::Growing> as Feed>⟧ P.Pause)
-        N.Network N.ListenerSetup (start_side N.Starts N.StartsResting J.Resting.Journal J.becomes)
+        N.Network N.ListenerSetup (kept_side N.Opens.opens N.Opens.failures
+        (turns_side N.Server.Turns.answers N.Server.Turns.commits N.Server.HasTable.holds))
         (S.file_at outside.old.system) (S.failures outside.old.system)
         (CommandLine.Run task.now) result outside.old outside.new }
 {

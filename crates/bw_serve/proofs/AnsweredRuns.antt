@@ -1,30 +1,21 @@
 -- What a run of exchanges has answered, one frame after another.
 use Rattle.std.proofs.Common.{◌≡◌, ℕ, suc, Bool, List, [], ◌∷◌, length}
-use Rattle.std.specs.Prelude.{IsTrue, Result}
+use Rattle.std.specs.Prelude.{Result}
 use Rattle.bw_model.specs.Wire.{Frame}
 use Rattle.bw_model.specs.Replies.{Reply}
 use Rattle.bw_stream.specs.declared.sink.Sink.{Ghosts as Writer}
 use Rattle.bw_stream.specs.declared.source.Source.{Ghosts as Reader}
-use Rattle.bw_store.specs.declared.store.TakeStore.{Ghosts as StoreGhosts}
-use Rattle.bw_journal.specs.declared.journal.Journal.{Ghosts as JournalGhosts}
-use Rattle.bw_session.specs.Books.{HoldsBook}
-use Rattle.bw_session.specs.declared.server.Server.{Server}
-use Rattle.bw_exchange.specs.Commits.{CommitsNothing}
 use Rattle.bw_exchange.specs.declared.turns.NotKept.{NotKept}
 use Rattle.bw_exchange.specs.AnsweredFrames.{AnswersAll}
 use Rattle.bw_console.specs.declared.exit.Exit.{Exit}
 use Rattle.bw_console.specs.declared.exit.Exit.TheVariants.{Done, Refused, Usage, Device, Memory}
-use Rattle.bw_engine.specs.IngestRuns.{LeavesRun}
-use Rattle.bw_session.specs.ServerTurns.{ServerTurn}
 use Rattle.bw_exchange.proofs.Going.{answers_append}
-use Rattle.bw_engine.proofs.StoreRuns.{leaves_run}
 use Rattle.bw_serve.specs.ServedAll.{ServedOutcome, Served, Gone, Closed, ServesNext, ServesEach, EndsEarly, ServesRun}
 use Rattle.bw_serve.specs.ServedAll.{answered_next, answered_each, answered_early, answered_in_run}
 use Rattle.bw_ports.specs.declared.link.Link.{Ghosts as LinkGhosts}
 use Rattle.bw_ports.specs.declared.peers.Peers.{Ghosts as PeerGhosts}
 use Rattle.bw_ports.specs.declared.reactor.Reactor.{Ghosts as ReactorGhosts}
-use Rattle.bw_serve.specs.HostedFrom.{answered_in_loop}
-use Rattle.bw_serve.specs.EventLoopRuns.{RunsEventLoop}
+use Rattle.bw_serve.specs.EventLoopRuns.{RunsEventLoop, answered_in_loop}
 use Rattle.bw_serve.specs.declared.serving.Bounds.{Bounds}
 
 module _ {T P R W O E : Type 0} (answers : T → Frame → List Reply → T → Type 0)
@@ -71,23 +62,6 @@ module _ {T P R W O E : Type 0} (answers : T → Frame → List Reply → T → 
   by_run exchanges Usage t t' p p' o o' e e' run = by_early exchanges Usage t t' p p' o o' e e' run
   by_run exchanges Device t t' p p' o o' e e' run = by_early exchanges Device t t' p p' o o' e e' run
   by_run exchanges Memory t t' p p' o o' e e' run = by_early exchanges Memory t t' p p' o o' e e' run
-
-module _ {X Y P R W O E : Type 0} (S : StoreGhosts X) (J : JournalGhosts Y) (quiet : (y : Y) → J.failures y ≡ 0)
-    (peers : PeerGhosts P R W) (reader : Reader R) (writer : Writer W) (out : Writer O) (reported : Writer E)
-    (log : Bool) where
-  -- over an honest store a new server leaves the files of what it answered
-  pub run_leaves : (limit : ℕ) (store : X) (old new : Server X Y S J) (exchanges : ℕ) (exit : Exit) (p p' : P)
-      (o o' : O) (e e' : E) → old.stores.store ≡ store → old.limit ≡ limit →
-      HoldsBook S J (S.contents store) old [] →
-      (run : ServesRun (ServerTurn S J) CommitsNothing peers reader writer out reported log exchanges exit old new p p' o o' e e') →
-      IsTrue (S.honest store) →
-      LeavesRun S limit store (answered_in_run (ServerTurn S J) CommitsNothing peers reader writer out reported log exchanges exit
-      old new p p' o o' e e' run)
-      new.stores.store
-  run_leaves limit store old new exchanges exit p p' o o' e e' begun limited empty run honest =
-      leaves_run S J quiet limit store old new begun limited empty honest
-      (answered_in_run (ServerTurn S J) CommitsNothing peers reader writer out reported log exchanges exit old new p p' o o' e e' run)
-      (by_run (ServerTurn S J) CommitsNothing peers reader writer out reported log exchanges exit old new p p' o o' e e' run)
 
 module _ {T B L O E : Type 0} (answers : T → Frame → List Reply → T → Type 0)
     (commits : T → Result (Unit {0}) NotKept → T → Type 0) (reactor : ReactorGhosts B L)

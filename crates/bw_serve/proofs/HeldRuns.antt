@@ -1,23 +1,15 @@
 -- What a server leaves that held books before its run.
-use Rattle.std.proofs.Common.{ℕ, Bool, List, subst, ◌∙◌}
+use Rattle.std.proofs.Common.{ℕ, List, subst, ◌∙◌}
 use Rattle.bw_model.specs.Holds.{Holds}
 use Rattle.bw_model.proofs.HeldFiles.{held_files}
-use Rattle.bw_stream.specs.declared.sink.Sink.{Ghosts as Writer}
 use Rattle.bw_store.specs.declared.store.TakeStore.{Ghosts as StoreGhosts}
 use Rattle.bw_journal.specs.declared.journal.Journal.{Ghosts as JournalGhosts}
 use Rattle.bw_session.specs.Servers.{kept_in, store_since}
 use Rattle.bw_session.specs.ServerTurns.{ServerTurn}
 use Rattle.bw_session.specs.declared.server.Server.{Server}
-use Rattle.bw_exchange.specs.Commits.{CommitsNothing}
 use Rattle.bw_exchange.specs.AnsweredFrames.{Answered, AnswersAll}
 use Rattle.bw_engine.specs.ServerRuns.{ServersAnswerInRuns}
-use Rattle.bw_console.specs.declared.exit.Exit.{Exit}
-use Rattle.bw_ports.specs.declared.link.Link.{Ghosts as LinkGhosts}
-use Rattle.bw_ports.specs.declared.reactor.Reactor.{Ghosts as ReactorGhosts}
-use Rattle.bw_serve.specs.HostedFrom.{LeavesRunsFrom, answered_in_loop}
-use Rattle.bw_serve.specs.EventLoopRuns.{RunsEventLoop}
-use Rattle.bw_serve.specs.declared.serving.Bounds.{Bounds}
-use Rattle.bw_serve.proofs.AnsweredRuns.{by_loop}
+use Rattle.bw_serve.specs.Openings.{LeavesRunsFrom}
 
 module _ {X Y : Type 0} (S : StoreGhosts X) (J : JournalGhosts Y) where
   pub leaves_from : ServersAnswerInRuns S J → (old new : Server X Y S J) (answered : List Answered) →
@@ -31,15 +23,3 @@ module _ {X Y : Type 0} (S : StoreGhosts X) (J : JournalGhosts Y) where
             (subst (λ (limit : ℕ). Holds limit (store_since S first new.stores.store) (kept_in new.sessions) x.later)
             r.limit x.held.holds) (r.honest ∙ honest) n which;
       }
-
-  module _ {B L O E : Type 0} (reactor : ReactorGhosts B L) (link : LinkGhosts L) (out : Writer O) (reported : Writer E)
-      (log : Bool) where
-    pub loop_leaves_from : ServersAnswerInRuns S J → (bounds : Bounds) (exit : Exit) (s s' : Server X Y S J) (b b' : B)
-        (o o' : O) (e e' : E)
-        (run : RunsEventLoop reactor link (ServerTurn S J) CommitsNothing out reported log bounds exit s s' b b' o o' e e') →
-        LeavesRunsFrom S J s s'
-        (answered_in_loop reactor link (ServerTurn S J) CommitsNothing out reported log bounds exit s s' b b' o o' e e' run)
-    loop_leaves_from law bounds exit s s' b b' o o' e e' run =
-        leaves_from law s s'
-        (answered_in_loop reactor link (ServerTurn S J) CommitsNothing out reported log bounds exit s s' b b' o o' e e' run)
-        (by_loop (ServerTurn S J) CommitsNothing reactor link out reported log bounds exit s s' b b' o o' e e' run)

@@ -1,10 +1,10 @@
 -- The result of serving an event loop.
-use Rattle.std.specs.Prelude.{Result, Err, ◌≡◌, ◌⊎◌, ℕ, ◌-◌, ◌^◌, ◌≤◌, Bool, false, List, ◌++◌, length}
+use Rattle.std.specs.Prelude.{Result, Err, ◌≡◌, ◌⊎◌, ℕ, ◌-◌, ◌^◌, ◌≤◌, Bool, false, List, [], ◌++◌, length}
 use Rattle.bw_model.specs.Wire.{Frame}
 use Rattle.bw_model.specs.Replies.{Reply}
 use Rattle.bw_stream.specs.Moves.{one_more}
 use Rattle.bw_stream.specs.declared.sink.Sink.{Ghosts as Writer}
-use Rattle.bw_exchange.specs.AnsweredFrames.{AnswersAll}
+use Rattle.bw_exchange.specs.AnsweredFrames.{Answered, AnswersAll}
 use Rattle.bw_console.specs.declared.exit.Exit.{Exit}
 use Rattle.bw_console.specs.declared.exit.Exit.TheVariants as exits
 use Rattle.bw_exchange.specs.declared.turns.NotKept.{NotKept}
@@ -88,3 +88,9 @@ module _ {B L S O E : Type 0} (reactor : ReactorGhosts B L) (G : LinkGhosts L)
   RunsEventLoop bounds exits.Memory s s' b b' o o' e e' =
       (s' ≡ s) × (b' ≡ b) × (o' ≡ o) × (e' ≡ e)
   RunsEventLoop bounds exit s s' b b' o o' e e' = HasServed bounds exit s s' b b' o o' e e'
+
+  -- what a server has answered in a run, over all its connections
+  abbrev pub answered_in_loop : (bounds : Bounds) (exit : Exit) (s s' : S) (b b' : B) (o o' : O)
+      (e e' : E) → RunsEventLoop bounds exit s s' b b' o o' e e' → List Answered
+  answered_in_loop bounds exits.Memory s s' b b' o o' e e' run = []
+  answered_in_loop bounds exit s s' b b' o o' e e' run = all_answered run.trace

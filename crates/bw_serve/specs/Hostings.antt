@@ -1,57 +1,90 @@
--- What the command `serve` does.
-use Rattle.std.specs.Prelude.{◌≡◌, ◌⊎◌, ℕ, [], IsTrue}
+-- What a server does that was opened, by how it serves.
+use Rattle.std.specs.Prelude.{◌≡◌, ◌⊎◌, Result, ℕ, Bool, List}
+use Rattle.bw_model.specs.Wire.{Frame}
+use Rattle.bw_model.specs.Replies.{Reply}
 use Rattle.bw_stream.specs.declared.sink.Sink.{Ghosts as Writer}
 use Rattle.bw_stream.specs.declared.source.Source.{Ghosts as Reader}
-use Rattle.bw_store.specs.declared.store.TakeStore.{Ghosts as StoreGhosts}
-use Rattle.bw_journal.specs.declared.journal.Journal.{Ghosts as JournalGhosts}
-use Rattle.bw_session.specs.Books.{HoldsBook}
-use Rattle.bw_session.specs.declared.server.Server.{Server}
-use Rattle.bw_engine.specs.IngestRuns.{LeavesRun}
-use Rattle.bw_exchange.specs.Commits.{CommitsNothing}
-use Rattle.bw_session.specs.ServerTurns.{ServerTurn}
-use Rattle.bw_session.specs.SeenServers.{server_store, server_limit}
+use Rattle.bw_exchange.specs.AnsweredFrames.{Answered, AnswersAll}
+use Rattle.bw_exchange.specs.declared.turns.NotKept.{NotKept}
+use Rattle.bw_console.specs.Prints.{HasPrinted}
 use Rattle.bw_console.specs.declared.exit.Exit.{Exit}
+use Rattle.bw_ports.specs.declared.link.Link.{Ghosts as LinkGhosts}
+use Rattle.bw_ports.specs.declared.listener_setup.ListenerSetup.{Ghosts as ListenerSetupGhosts}
 use Rattle.bw_ports.specs.declared.network.Network.{Ghosts as NetworkGhosts}
 use Rattle.bw_ports.specs.declared.peers.Peers.{Ghosts as PeerGhosts}
-use Rattle.bw_serve.specs.Beginnings.{CantOpen, ServesOrReports, WantsFirst, peer_calls, store_calls}
-use Rattle.bw_serve.specs.HostedFrom.{ServesFrom}
-pub use Rattle.bw_serve.specs.ServerReports.{ReportsExit, ReportsUnopened, listening_line}
-use Rattle.bw_serve.specs.ServedAll.{answered_in_run}
+use Rattle.bw_ports.specs.declared.reactor.Reactor.{Ghosts as ReactorGhosts}
+use Rattle.bw_serve.specs.Beginnings.{AsksOutside, IsUnprinted, ReportsUnbound, peer_calls, reactor_calls}
+use Rattle.bw_serve.specs.EventLoopRuns.{RunsEventLoop, answered_in_loop}
+use Rattle.bw_serve.specs.Openings.{opening_lines}
+use Rattle.bw_serve.specs.ServedAll.{ServesRun, answered_in_run}
+use Rattle.bw_serve.specs.ServerReports.{ReportsExit}
+use Rattle.bw_serve.specs.declared.hosting.Hosting.{Hosting}
 use Rattle.bw_serve.specs.declared.hosting_in_turn.Serving.{Serving}
+use Rattle.bw_serve.specs.declared.opening.OpenedServer.{OpenedServer}
+use Rattle.bw_serve.specs.declared.serving.Bounds.{Bounds}
 
--- a server that is over this store, with this limit, and holds no name yet
-pub record IsNewServer {X Y : Type 0} (S : StoreGhosts X) (J : JournalGhosts Y) (limit : ℕ) (store : X)
-    (server : Server X Y S J) : Type 0 where
-  pub store_is : server_store server ≡ store
-  pub limit_is : server_limit server ≡ limit
-  pub empty : HoldsBook S J (S.contents store) server []
+-- A way to serve: what a run is that ends so, of a server over what recorders come by, and what the
+-- server answered in it.
+pub record WayToServe (T R O E : Type 0) : Type 1 where
+  pub runs : Exit → T → T → R → R → O → O → E → E → Type 0
+  pub answered : (ended : Exit) (t t' : T) (r r' : R) (o o' : O) (e e' : E) →
+      runs ended t t' r r' o o' e e' → List Answered
 
-module _ {X Y P R W O E : Type 0} (S : StoreGhosts X) (J : JournalGhosts Y)
-    (peers : PeerGhosts P R W) (reader : Reader R) (writer : Writer W) (out : Writer O)
-    (reported : Writer E) where
-  -- a new server over this store served its exchanges, after its first line
-  pub record HostsRun (serving : Serving) (exit : Exit) (store : X) (p p' : P) (o o' : O)
-      (e e' : E) : Type 0 where
-    pub server : Server X Y S J
-    pub is_new : IsNewServer S J serving.limit store server
-    pub serves : ServesFrom S J peers reader writer out reported (listening_line serving.address)
-        serving.exchanges serving.log exit server p p' o o' e e'
-    -- an honest store has the files of what was answered
-    pub leaves : IsTrue (S.honest store) → LeavesRun S serving.limit store
-        (answered_in_run (ServerTurn S J) CommitsNothing peers reader writer out reported serving.log
-        serving.exchanges serves.ended server serves.following p p' serves.between o' e serves.logged
-        serves.run) (server_store serves.following)
+module _ {T R O E : Type 0} (way : WayToServe T R O E) (answers : T → Frame → List Reply → T → Type 0)
+    (out : Writer O) (reported : Writer E) where
+  -- After these lines the server ran until the run ended so, which is reported; it answered the
+  -- frames of the run, one after another.
+  pub record HasServedTo (lines : List ℕ) (exit : Exit) (t : T) (r r' : R) (o o' : O) (e e' : E) : Type 0 where
+    pub following : T
+    pub between : O
+    pub opens : HasPrinted out lines o between
+    pub ended : Exit
+    pub logged : E
+    pub run : way.runs ended t following r r' between o' e logged
+    pub answers_all : AnswersAll answers t (way.answered ended t following r r' between o' e logged run)
+        following
+    pub reports : ReportsExit reported ended exit logged e'
 
-  -- the result of a server over this store
-  abbrev pub HostsOver : Serving → Exit → X → P → P → O → O → E → E → Type 0
-  HostsOver serving exit store p p' o o' e e' =
-      HostsRun serving exit store p p' o o' e e'
-      ⊎ (WantsFirst reported exit p p' o o' e e'
-      ⊎ CantOpen out reported (listening_line serving.address) exit p p' o o' e e')
+  -- it did, or the lines aren't printed, and nobody is served
+  abbrev pub ServesInWay : List ℕ → Exit → T → R → O → O → E → E → Type 0
+  ServesInWay lines exit t r o o' e e' = ((r' : R) × HasServedTo lines exit t r r' o o' e e')
+      ⊎ IsUnprinted out reported lines exit o o' e e'
 
-  -- what the command does
-  abbrev pub Hosts : {N D A B : Type 0} → NetworkGhosts N X P D R W A B → Serving → Exit → N → N →
-      O → O → E → E → Type 0
-  Hosts network serving exit n n' o o' e e' =
-      ServesOrReports (store_calls network serving.folder.now) (peer_calls network serving) reported
-      serving.folder.now serving.address (HostsOver serving exit) exit n n' o o' e e'
+module _ {T P R W O E : Type 0} (answers : T → Frame → List Reply → T → Type 0)
+    (commits : T → Result (Unit {0}) NotKept → T → Type 0) (peers : PeerGhosts P R W)
+    (reader : Reader R) (writer : Writer W) (out : Writer O) (reported : Writer E) where
+  -- one recorder after another
+  abbrev pub in_turn : Serving → WayToServe T P O E
+  in_turn serving = record {
+    runs = λ ended t t' p p' o o' e e'. ServesRun answers commits peers reader writer out reported
+        serving.log serving.exchanges ended t t' p p' o o' e e';
+    answered = answered_in_run answers commits peers reader writer out reported serving.log
+        serving.exchanges;
+  }
+
+  -- the peers are asked for, and served so by the server that was opened
+  abbrev pub ServesInTurn : {N X D A B : Type 0} → NetworkGhosts N X P D R W A B → Serving → OpenedServer T → Exit →
+      N → N → O → O → E → E → Type 0
+  ServesInTurn network serving opened exit n n' o o' e e' =
+      AsksOutside (peer_calls network serving) (ReportsUnbound reported serving.address)
+      (λ p between. (n' ≡ between) × ServesInWay (in_turn serving) answers out reported
+      (opening_lines opened.takes serving.address) exit opened.server p o o' e e') exit n n' o o' e e'
+
+module _ {T B L O E : Type 0} (answers : T → Frame → List Reply → T → Type 0)
+    (commits : T → Result (Unit {0}) NotKept → T → Type 0)
+    (reactor : ReactorGhosts B L) (link : LinkGhosts L) (out : Writer O) (reported : Writer E) where
+  -- many recorders at once
+  abbrev pub at_once : Hosting → WayToServe T B O E
+  at_once hosting = record {
+    runs = λ ended t t' b b' o o' e e'. RunsEventLoop reactor link answers commits out reported
+        hosting.log hosting.bounds ended t t' b b' o o' e e';
+    answered = answered_in_loop reactor link answers commits out reported hosting.log hosting.bounds;
+  }
+
+  -- the reactor is asked for, and those who come are served so by the server that was opened
+  abbrev pub ServesAtOnce : {N : Type 0} → ListenerSetupGhosts N B L → Hosting → OpenedServer T → Exit →
+      N → N → O → O → E → E → Type 0
+  ServesAtOnce setup hosting opened exit n n' o o' e e' =
+      AsksOutside (reactor_calls setup hosting) (ReportsUnbound reported hosting.address)
+      (λ b between. (n' ≡ between) × ServesInWay (at_once hosting) answers out reported
+      (opening_lines opened.takes hosting.address) exit opened.server b o o' e e') exit n n' o o' e e'

@@ -9,12 +9,8 @@ pub mod Names
 pub mod ServerReports
 pub mod Refusals
 pub mod Beginnings
-pub mod HostedMany
 pub mod LinkLines
 pub mod ServedOne
 pub mod ServedAll
+pub mod Openings
 pub mod Hostings
-pub mod HostedFrom
-pub mod ResumedHostings
-pub mod HostedTurns
-pub mod RestingHostings

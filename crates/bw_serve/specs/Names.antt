@@ -11,7 +11,6 @@ use Rattle.bw_engine.specs.IngestRuns.{LeavesRun}
 use Rattle.bw_exchange.specs.TurnRuns.{answers_in}
 use Rattle.bw_session.specs.ServerTurns.{ServerTurn}
 use Rattle.bw_session.specs.SeenServers.{server_store, server_limit}
-use Rattle.bw_connections.specs.ConnectionTables.{Tagged, all_answered}
 
 module _ {X Y : Type 0} (S : StoreGhosts X) (J : JournalGhosts Y) where
   -- These frames were answered over a store that was before so and is now so: it has the files of
@@ -28,8 +27,7 @@ module _ {X Y : Type 0} (S : StoreGhosts X) (J : JournalGhosts Y) where
   -- This holds for a new server over an honest store, in whatever order the turns of its
   -- connections came.
   abbrev pub NamesStandApart : Type 0
-  NamesStandApart = (limit : ℕ) (before : X) (old new : Server X Y S J) (trace : List Tagged) →
+  NamesStandApart = (limit : ℕ) (before : X) (old new : Server X Y S J) (answered : List Answered) →
       IsTrue (S.honest before) → server_store old ≡ before → server_limit old ≡ limit →
-      HoldsBook S J (S.contents before) old [] →
-      AnswersAll (ServerTurn S J) old (all_answered trace) new →
-      KeepsNamesApart limit before (server_store new) (all_answered trace)
+      HoldsBook S J (S.contents before) old [] → AnswersAll (ServerTurn S J) old answered new →
+      KeepsNamesApart limit before (server_store new) answered

@@ -69,8 +69,3 @@ module _ {S R W O : Type 0} (answers : S → Frame → List Reply → S → Type
     pub calls : reader.calls r' ≤ reader.calls r + most_reads
     pub limit : IsLimited end (reader.moved r) (reader.moved r') (reader.calls r) (reader.calls r')
     pub ends : PrintsEnd out index end exit o o'
-
-  -- to any end
-  abbrev pub ServesOne : ℕ → Exit → S → S → R → R → W → W → O → O → Type 0
-  ServesOne index exit s s' r r' w w' o o' =
-      (end : ExchangeEnd) × ServesTo index end exit s s' r r' w w' o o'

@@ -1,5 +1,6 @@
-//! Laws of a server of many connections. Each function's contract is one; nothing runs.
+//! Laws of servers. Each function's contract is one; nothing runs.
 ghost use Rattle.bw_serve.specs.Names.{NamesStandApart};
+ghost use Rattle.bw_serve.specs.Openings.{HeldServersLeave};
 
 use bw_journal::{Journal, NoJournal};
 use bw_store::TakeStore;
@@ -12,4 +13,12 @@ pub fn law_names<S: TakeStore>()
 {
     bw_exchange::laws::law_runs();
     bw_model::law_isolation();
+}
+
+/// From each book that a server held over an honest store, what it answers is a run, after which each
+/// name that is closed, or of which nothing waits, has its take's file, or what was there first.
+pub fn law_held_runs<S: TakeStore, J: Journal>()
+    ensures { HeldServersLeave S.TakeStore J.Journal }
+{
+    bw_engine::laws::law_server_runs::<S, J>();
 }

@@ -1,6 +1,6 @@
 //! One exchange of the command `serve`, and its line.
 ghost use Rattle.std.specs.Prelude.{◌≡◌};
-ghost use Rattle.bw_serve.specs.ServedOne.{PrintsEnd, ServesOne, ServesTo, exchange_end_line};
+ghost use Rattle.bw_serve.specs.ServedOne.{PrintsEnd, ServesTo, exchange_end_line};
 ghost use Rattle.bw_serve.specs.ServedOne.{exit_of_end, exit_unreported};
 
 use crate::line::exchange_line;
@@ -11,30 +11,6 @@ use bw_exchange::{ExchangeEnd, Turns, end_name, serve_exchange};
 use bw_stream::{Sink, Source};
 use std::alloc::Global;
 
-/// Serves one exchange, and prints how it ended: `exchange INDEX END`.
-///
-/// `Done` if it reached the end of its stream, which a bad frame is too; `Device` if it broke off,
-/// or the line can't be written; `Memory` if memory was refused, whether or not the line is
-/// written. The line itself allocates nothing.
-///
-/// # Not specified
-/// - When memory is refused.
-/// - Whether the writer was flushed, and how many bytes the reader counted, as `serve_exchange`
-///   says.
-pub fn serve_one<R: Source, W: Sink, T: Turns, O: Sink>(
-    alloc: Global,
-    server: &mut T,
-    reader: &mut R,
-    writer: &mut W,
-    index: u64,
-    out: &mut O,
-) -> Exit
-    ensures { ServesOne T.answers T.commits R.Source W.Sink O.Sink index result server.old server.new
-        reader.old reader.new writer.old writer.new out.old out.new }
-{
-    serve_link(alloc, server, reader, writer, index, out).exit
-}
-
 /// How an exchange ended, and how the call that served it ends.
 #[derive(Clone, Copy)]
 pub(crate) struct Ended {
@@ -42,7 +18,16 @@ pub(crate) struct Ended {
     pub(crate) exit: Exit,
 }
 
-/// Serves one exchange as `serve_one` does.
+/// Serves one exchange, and prints how it ended: `exchange INDEX END`.
+///
+/// The call ends as `Done` if it reached the end of its stream, which a bad frame is too; `Device` if
+/// it broke off, or the line can't be written; `Memory` if memory was refused, whether or not the line
+/// is written. The line itself allocates nothing.
+///
+/// # Not specified
+/// - When memory is refused.
+/// - Whether the writer was flushed, and how many bytes the reader counted, as `serve_exchange`
+///   says.
 pub(crate) fn serve_link<R: Source, W: Sink, T: Turns, O: Sink>(
     alloc: Global,
     server: &mut T,

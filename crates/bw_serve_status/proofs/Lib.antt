@@ -2,7 +2,5 @@ mod NamePlaces
 mod GrownPlaces
 mod TakePlaces
 mod ShownTakes
-mod BeginningShown
-mod HostedShown
 mod LookSteps
 mod CountedRuns

@@ -1,11 +1,9 @@
 -- What an observer's calls make of it, one after another.
 use Rattle.std.proofs.Common.{◌≡◌, ◌∙◌, ◌++◌, [], inr, ℕ, suc, List, refl, sym, subst, ap}
 use Rattle.std.proofs.Common.{arith, append-nil, drop, drop_of_length-le, length, take, take_all}
-use Rattle.std.specs.Prelude.{Result, Ok, Err, IfOk, Some}
+use Rattle.std.specs.Prelude.{Result, Ok, Err, IfOk, Option, Some}
+use Rattle.bw_model.specs.Book.{Book}
 use Rattle.bw_ports.specs.declared.link.Link.{Ghosts as LinkGhosts}
-use Rattle.bw_store.specs.declared.store.TakeStore.{Ghosts as StoreGhosts}
-use Rattle.bw_journal.specs.declared.journal.Journal.{Ghosts as JournalGhosts}
-use Rattle.bw_session.specs.declared.server.Server.{Server}
 use Rattle.bw_serve.specs.declared.observing.RoundReport.{RoundReport}
 use Rattle.bw_status.specs.declared.answer.Answer.{Answer}
 use Rattle.bw_operators.specs.OperatorPlaces.{AdmitsAt, IsNextPlace, LastsLongest, LeavesOtherPlaces, StepsAt}
@@ -57,17 +55,18 @@ pub if_ok : {T E : Type 0} (P Q : T → Type 0) (r : Result T E) → ((x : T) �
 if_ok P Q (Ok x) f h = f x h
 if_ok P Q (Err e) f h = tt
 
-module _ {X Y P L : Type 0} (S : StoreGhosts X) (J : JournalGhosts Y) (port : PortGhosts P L) (G : LinkGhosts L) where
+module _ {T P L : Type 0} (holds : T → (List ℕ → Option (List ℕ)) → Book → Type 0) (port : PortGhosts P L)
+    (G : LinkGhosts L) where
   -- a response, and another step of each connection
-  pub responds_to_oldest : (server : Tallied (Server X Y S J)) (round : RoundReport) (m m' : Moment) (now place : ℕ)
+  pub responds_to_oldest : (server : Tallied T) (round : RoundReport) (m m' : Moment) (now place : ℕ)
       (answer : Answer) (asking after left left' : Operators L) → now ≡ m.now → m' ≡ m → left' ≡ left →
       asked_at asking place ≡ Some answer → LastsLongest asking place →
-      ShowsOrCloses S J port server round m place answer asking after → LeavesOtherPlaces place asking after →
-      ((j : ℕ) → StepsAt G now after left j) → RespondsToOne S J port G server round m' asking left'
+      ShowsOrCloses holds port server round m place answer asking after → LeavesOtherPlaces place asking after →
+      ((j : ℕ) → StepsAt G now after left j) → RespondsToOne holds port G server round m' asking left'
   responds_to_oldest server round m m' now place answer asking after left left' at same kept asked longest responds
       others steps =
-      subst (λ x. RespondsToOne S J port G server round x asking left') (sym same)
-      (subst (λ x. RespondsToOne S J port G server round m asking x) (sym kept) (inr (record {
+      subst (λ x. RespondsToOne holds port G server round x asking left') (sym same)
+      (subst (λ x. RespondsToOne holds port G server round m asking x) (sym kept) (inr (record {
         place = place;
         answer = answer;
         asked = asked;

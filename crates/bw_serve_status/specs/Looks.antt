@@ -2,10 +2,6 @@
 -- accepted, and at most one of them is responded to, from what the server is at that moment.
 use Rattle.std.specs.Prelude.{◌≡◌, ◌⊎◌, ℕ, List, Option, Some, None, is_some}
 use Rattle.bw_model.specs.Book.{Book}
-use Rattle.bw_store.specs.declared.store.TakeStore.{Ghosts as StoreGhosts}
-use Rattle.bw_journal.specs.declared.journal.Journal.{Ghosts as JournalGhosts}
-use Rattle.bw_session.specs.Books.{HoldsBook}
-use Rattle.bw_session.specs.declared.server.Server.{Server}
 use Rattle.bw_ports.specs.declared.link.Link.{Ghosts as LinkGhosts}
 use Rattle.bw_status.specs.Responses.{response_text}
 use Rattle.bw_status.specs.declared.answer.Answer.{Answer}
@@ -55,20 +51,20 @@ pub record Surrounds {P L : Type 0} (port : PortGhosts P L) (m : Moment) (around
   pub memory : (p : P) × port.used p around.memory
   pub lines_dropped : (p : P) × port.dropped p around.lines_dropped
 
-module _ {X Y : Type 0} (S : StoreGhosts X) (J : JournalGhosts Y) where
-  -- this is what the server is doing: what was counted, and of each take what every book that it holds
-  -- says
-  pub record ShowsServer (server : Tallied (Server X Y S J)) (round : RoundReport)
+module _ {T : Type 0} (holds : T → (List ℕ → Option (List ℕ)) → Book → Type 0) where
+  -- this is what the server is doing: what was counted, and of each take what every book that its
+  -- table holds says
+  pub record ShowsServer (server : Tallied T) (round : RoundReport)
       (around : Surroundings) (s : Snapshot) : Type 0 where
     pub counts : CopiesCounts server.tallies round around s
     pub takes : (first : List ℕ → Option (List ℕ)) (book : Book) →
-        HoldsBook S J first server.server book →
+        holds server.server first book →
         ShowsTakes (λ name. is_some (first name)) book server.tallies.names round.peers.now around
         s.takes.items
 
   module _ {P L : Type 0} (port : PortGhosts P L) where
     -- the text is a response with what the server is doing
-    pub record ShowsIn (server : Tallied (Server X Y S J)) (round : RoundReport) (m : Moment)
+    pub record ShowsIn (server : Tallied T) (round : RoundReport) (m : Moment)
         (answer : Answer) (text : List ℕ) : Type 0 where
       pub around : Surroundings
       pub surrounds : Surrounds port m around
@@ -77,7 +73,7 @@ module _ {X Y : Type 0} (S : StoreGhosts X) (J : JournalGhosts Y) where
       pub is : text ≡ response_text answer snapshot
 
     -- the connection at a place is sent such a response; or it is closed, where memory was refused
-    abbrev pub ShowsOrCloses : Tallied (Server X Y S J) → RoundReport → Moment → ℕ → Answer →
+    abbrev pub ShowsOrCloses : Tallied T → RoundReport → Moment → ℕ → Answer →
         Operators L → Operators L → Type 0
     ShowsOrCloses server round m place answer before after =
         ((text : List ℕ) × ShowsIn server round m answer text × RespondsAt place text before after)
@@ -86,7 +82,7 @@ module _ {X Y : Type 0} (S : StoreGhosts X) (J : JournalGhosts Y) where
     module _ (G : LinkGhosts L) where
       -- of those who ask the one whose connection has lasted for longest is responded to, and then each
       -- connection makes another step
-      pub record RespondsToOldest (server : Tallied (Server X Y S J)) (round : RoundReport)
+      pub record RespondsToOldest (server : Tallied T) (round : RoundReport)
           (m : Moment) (asking left : Operators L) : Type 0 where
         pub place : ℕ
         pub answer : Answer
@@ -98,14 +94,14 @@ module _ {X Y : Type 0} (S : StoreGhosts X) (J : JournalGhosts Y) where
         pub steps : (other : ℕ) → StepsAt G m.now after left other
 
       -- that, or nobody asks
-      abbrev pub RespondsToOne : Tallied (Server X Y S J) → RoundReport → Moment → Operators L →
+      abbrev pub RespondsToOne : Tallied T → RoundReport → Moment → Operators L →
           Operators L → Type 0
       RespondsToOne server round m asking left =
           (((place : ℕ) → asked_at asking place ≡ None) × (left ≡ asking))
           ⊎ RespondsToOldest server round m asking left
 
       -- what a look at this server and this report makes of an observer
-      pub record Looks (o : StatusObserver P L) (server : Tallied (Server X Y S J))
+      pub record Looks (o : StatusObserver P L) (server : Tallied T)
           (round : RoundReport) (o' : StatusObserver P L) : Type 0 where
         pub growth : NotesGrowth (port.time o'.port) server.tallies.names o.growth.items
             o'.growth.items

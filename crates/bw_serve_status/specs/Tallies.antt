@@ -13,12 +13,14 @@ use Rattle.bw_serve_status.specs.declared.name_tally.NameTally.{NameTally}
 use Rattle.bw_serve_status.specs.Names.{on_name}
 
 -- what is counted: messages by their kind and asks, the bytes of messages' bodies, verdicts by
--- their codes, notices by theirs from 32 on, and what was replied of each name
+-- their codes, notices by theirs from 32 on, and what was replied of the names that were counted
+-- last, with how many changes of names there were
 pub record Tally : Type 0 where
   pub kinds : List ℕ
   pub bytes : ℕ
   pub verdicts : List ℕ
   pub notices : List ℕ
+  pub changes : ℕ
   pub names : List NameTally
 
 -- nothing is counted yet
@@ -28,6 +30,7 @@ none_tallied = record {
   bytes = 0;
   verdicts = replicate 12 0;
   notices = replicate 8 0;
+  changes = 0;
   names = [];
 }
 
@@ -56,21 +59,23 @@ tallied_frame t Bye = t
 abbrev pub change_by : Bool → Change
 change_by stored = if stored then changes.Stored else changes.Refused
 
--- the counts of names after a notice: those of its own rise if it says that the store failed
-abbrev pub noticed_names : Notice → List ℕ → List NameTally → List NameTally
-noticed_names notice name names =
-    if is_delay notice then on_name changes.Delayed name names else names
+-- a change of a name more
+abbrev pub tallied_change : Change → List ℕ → Tally → Tally
+tallied_change change name t = record t {
+  changes = up_to_last (t.changes + 1);
+  names = on_name change (up_to_last (t.changes + 1)) name t.names;
+}
+
+-- after a notice: it counts for its name if it says that the store failed
+abbrev pub tallied_notice : Notice → List ℕ → Tally → Tally
+tallied_notice notice name t = if is_delay notice then tallied_change changes.Delayed name t else t
 
 -- a reply more
 abbrev pub tallied_reply : Tally → Reply → Tally
-tallied_reply t (Judged name number verdict) = record t {
-  verdicts = raised_at (verdict_code verdict) t.verdicts;
-  names = on_name (change_by (is_stored verdict)) name t.names;
-}
-tallied_reply t (Noticed name number notice next) = record t {
-  notices = raised_at (notice_code notice - 32) t.notices;
-  names = noticed_names notice name t.names;
-}
+tallied_reply t (Judged name number verdict) = tallied_change (change_by (is_stored verdict)) name
+    (record t { verdicts = raised_at (verdict_code verdict) t.verdicts })
+tallied_reply t (Noticed name number notice next) = tallied_notice notice name
+    (record t { notices = raised_at (notice_code notice - 32) t.notices })
 tallied_reply t (Refused reason offset) = t
 
 -- a frame more, and its replies

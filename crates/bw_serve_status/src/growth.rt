@@ -1,6 +1,6 @@
 //! When each name grew last.
 ghost use Rattle.std.specs.Prelude.{◌≡◌, length};
-ghost use Rattle.bw_serve_status.specs.Growths.{NotesGrowth, grown_at, growth_noted};
+ghost use Rattle.bw_serve_status.specs.Growths.{NotesGrowth, grown_at, grown_by, growth_noted};
 
 use crate::name_tally::{NameTally, is_of};
 use bw_request::Name;
@@ -8,6 +8,8 @@ use bw_request::Name;
 /// When a name grew last.
 #[derive(Clone, Copy, Drop)]
 pub(crate) struct Growth {
+    /// At which change it was counted first, which tells whether it is still the same name.
+    pub(crate) first: u64,
     /// How many of its messages were stored then.
     pub(crate) stored: u64,
     /// When, in milliseconds; None if it has not grown yet.
@@ -15,15 +17,16 @@ pub(crate) struct Growth {
 }
 
 impl Growth {
-    /// Notes how many messages of the name are stored at this time, in milliseconds.
-    fn note(&mut self, stored: u64, now: u64)
-        ensures { self.new ≡ growth_noted now stored self.old }
+    /// Notes what is counted of the name at this time, in milliseconds.
+    fn note(&mut self, tally: &NameTally, now: u64)
+        ensures { self.new ≡ growth_noted now tally.now self.old }
     {
-        if self.stored == stored {
+        if self.first == tally.first && self.stored == tally.stored {
             return;
         }
-        self.stored = stored;
-        self.at = Some(now);
+        self.first = tally.first;
+        self.stored = tally.stored;
+        self.at = grown_by(now, tally.stored);
     }
 }
 
@@ -34,10 +37,16 @@ pub(crate) fn note_growth(growth: &mut [Growth], names: &[NameTally], now: u64)
 {
     for place in 0..growth.len() {
         if place < names.len() {
-            let stored = names[place].stored;
-            growth[place].note(stored, now);
+            growth[place].note(&names[place], now);
         }
     }
+}
+
+/// When a name grew that has so many stored messages now, if it has any.
+fn grown_by(now: u64, stored: u64) -> Option<u64>
+    ensures { result ≡ grown_by now stored }
+{
+    if stored == 0 { None } else { Some(now) }
 }
 
 /// When a name grew last, in milliseconds, if it did.

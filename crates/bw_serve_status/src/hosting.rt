@@ -1,216 +1,108 @@
 //! The command `serve --status` for many recorders at once.
-ghost use Rattle.std.specs.Prelude.{◌≡◌};
-ghost use Rattle.bw_serve_status.specs.Shown.{HostsManyResumedShown, HostsManyShown, HostsNewShowing};
-ghost use Rattle.bw_serve_status.specs.Shown.{HostsShowing, HostsStartedShowing, status_side};
+ghost use Rattle.std.specs.Prelude.{◌≡◌, IfOk};
+ghost use Rattle.bw_exchange.specs.MeteredServers.{metered_server};
+ghost use Rattle.bw_serve_status.specs.Shown.{ServesShown, status_side};
+ghost use Rattle.bw_serve_status.specs.ShownRounds.{BeginsToShow};
+ghost use Rattle.bw_serve_status.specs.Tallies.{none_tallied};
 
 use crate::observer::StatusObserver;
 use crate::tallied::Tallied;
-use bw_console::print::{give_up, print};
+use bw_console::print::give_up;
 use bw_console::{Exit, Fault};
-use bw_engine::laws::law_server_runs;
-use bw_exchange::Metered;
-use bw_journal::{Journal, NoJournal};
+use bw_exchange::{Metered, Turns};
 use bw_operators::{StatusPort, StatusSetup};
-use bw_ports::{ListenerSetup, Network, Reactor, Starts};
-use bw_serve::laws::law_names;
-use bw_serve::{
-    Hosting, format_listening, format_opening, report_end, report_refusal, report_unbound,
-    run_observed,
-};
-use bw_session::Server;
-use bw_store::TakeStore;
+use bw_ports::{ListenerSetup, Reactor};
+use bw_serve::{Hosting, OpenedServer, print_opening, report_end, report_unbound, run_observed};
+use bw_session::HasTable;
 use bw_stream::Sink;
-use std::alloc::Global;
+use std::alloc::{AllocError, Global};
 use std::net::SocketAddr;
 
-/// Serves as `serve_many` does, and shows operators who connect to an address what it is doing:
-/// after each round its server is looked at, as that round left it, and one of those who ask gets
-/// its response.
+/// What a server of many recorders is asked to do that shows what it is doing.
+#[derive(Clone, Copy)]
+pub struct Showing<'a> {
+    /// What it is asked to do besides.
+    pub hosting: Hosting<'a>,
+    /// The address that operators connect to.
+    pub status: SocketAddr,
+}
+
+/// Serves as `serve_at_once` does, and shows operators who connect to an address what the server is
+/// doing: after each round its table is looked at, as that round left it, and one of those who ask
+/// gets its response.
 ///
 /// An address for operators that can't be used is reported like the one for recorders, after that
 /// one was opened: `Device`, or `Memory`, and nothing is printed.
 ///
 /// # Not specified
 /// - Which operators connect, and when.
-/// - What `serve_many` leaves open.
-pub fn serve_many_shown<N: Network + ListenerSetup + StatusSetup<N::Reactor>, O: Sink, E: Sink>(
-    alloc: Global,
-    network: &mut N,
-    hosting: &Hosting<'_>,
-    status: SocketAddr,
-    out: &mut O,
-    faults: &mut E,
-) -> Exit
-    // Exchanges, lines and files are those of `serve_many`, whatever operators ask.
-    ensures { HostsManyShown N.Store.TakeStore ⟦<NoJournal as Journal>⟧ N.Reactor.Reactor
-        N.Reactor.Link.Link O.Sink E.Sink N.Network N.ListenerSetup
-        (status_side N.StatusSetup N.Port.StatusPort N.Port.Link.Link) hosting.now status result
-        network.old network.new out.old out.new faults.old faults.new }
-{
-    let store = match network.store(hosting.folder) {
-        Ok(store) => store,
-        Err(refusal) => return report_refusal(alloc, hosting.folder, &refusal, faults),
-    };
-    let mut reactor = match network.reactor(
-        hosting.address,
-        hosting.folder,
-        hosting.bounds.places,
-    ) {
-        Ok(reactor) => reactor,
-        Err(error) => return report_unbound(alloc, hosting.address, &error, faults),
-    };
-    match network.status_port(&reactor, status, hosting.folder) {
-        Ok(port) => serve_over(alloc, store, &mut reactor, port, hosting, out, faults),
-        Err(error) => report_unbound(alloc, status, &error, faults),
-    }
-}
-
-/// Serves a number of exchanges, many at once, over a new server and this store, and operators.
-fn serve_over<S: TakeStore, B: Reactor, P: StatusPort + Drop, O: Sink, E: Sink>(
-    alloc: Global,
-    store: S,
-    reactor: &mut B,
-    port: P,
-    hosting: &Hosting<'_>,
-    out: &mut O,
-    faults: &mut E,
-) -> Exit
-    ensures { HostsNewShowing S.TakeStore ⟦<NoJournal as Journal>⟧ B.Reactor B.Link.Link O.Sink E.Sink
-        P.StatusPort P.Link.Link port hosting.now result store reactor.old reactor.new out.old out.new
-        faults.old faults.new }
-{
-    let Ok(server) = Server::new(alloc, store, hosting.limit) else {
-        return give_up(faults, &Fault::Memory);
-    };
-    let Ok(line) = format_listening(alloc, hosting.address) else {
-        return give_up(faults, &Fault::Memory);
-    };
-    law_names::<S>();
-    serve_from(
-        alloc,
-        server,
-        line.as_str(),
-        reactor,
-        port,
-        hosting,
-        out,
-        faults,
-    )
-}
-
-/// Serves as `serve_many_journaled` does, and shows operators who connect to an address what it is
-/// doing.
-///
-/// # Not specified
-/// - When a start is refused: what the network's `starts` says.
-/// - What `serve_many_shown` leaves open.
-pub fn serve_many_journaled_shown<
-    S: TakeStore,
-    J: Journal,
-    N: ListenerSetup + Starts<Server<S, J>> + StatusSetup<N::Reactor>,
+/// - What `serve_at_once` leaves open.
+pub fn serve_shown<
+    N: ListenerSetup + StatusSetup<N::Reactor>,
+    T: Turns + HasTable + Drop,
     O: Sink,
     E: Sink,
 >(
     alloc: Global,
     network: &mut N,
-    hosting: &Hosting<'_>,
-    sync: bool,
-    status: SocketAddr,
+    opened: OpenedServer<T>,
+    showing: &Showing<'_>,
     out: &mut O,
     faults: &mut E,
 ) -> Exit
+    requires { T.committed opened.server }
     // Each round is looked at once, with the counts of all that was answered until then.
-    ensures { HostsManyResumedShown S.TakeStore J.Journal N.Reactor.Reactor N.Reactor.Link.Link O.Sink
-        E.Sink N.ListenerSetup N.Starts (status_side N.StatusSetup N.Port.StatusPort N.Port.Link.Link)
-        hosting.now sync status result network.old network.new out.old out.new faults.old faults.new }
+    ensures { ServesShown T.answers T.commits T.holds N.Reactor.Reactor N.Reactor.Link.Link O.Sink E.Sink
+        (status_side N.StatusSetup N.Port.StatusPort N.Port.Link.Link) N.ListenerSetup showing.now opened
+        result network.old network.new out.old out.new faults.old faults.new }
 {
-    let server = match network.start(hosting.folder, hosting.limit, sync) {
-        Ok(server) => server,
-        Err(refusal) => return report_refusal(alloc, hosting.folder, &refusal, faults),
-    };
-    let mut reactor = match network.reactor(
-        hosting.address,
-        hosting.folder,
-        hosting.bounds.places,
-    ) {
+    let Showing { hosting, status } = *showing;
+    let (address, folder) = (hosting.address, hosting.folder);
+    let mut reactor = match network.reactor(address, folder, hosting.bounds.places) {
         Ok(reactor) => reactor,
-        Err(error) => return report_unbound(alloc, hosting.address, &error, faults),
+        Err(error) => return report_unbound(alloc, address, &error, faults),
     };
-    match network.status_port(&reactor, status, hosting.folder) {
-        Ok(port) => serve_started(alloc, server, &mut reactor, port, hosting, out, faults),
-        Err(error) => report_unbound(alloc, status, &error, faults),
+    let port = match network.status_port(&reactor, status, folder) {
+        Ok(port) => port,
+        Err(error) => return report_unbound(alloc, status, &error, faults),
+    };
+    let OpenedServer { server, takes } = opened;
+    let Ok((mut server, mut observer)) = begin_to_show(alloc, server, port, takes) else {
+        return give_up(faults, &Fault::Memory);
+    };
+    if let Err(exit) = print_opening(alloc, takes, address, out, faults) {
+        return exit;
     }
-}
-
-/// Serves a number of exchanges, many at once, from the books that the server holds, after its first
-/// lines, and operators.
-fn serve_started<S: TakeStore, J: Journal, B: Reactor, P: StatusPort + Drop, O: Sink, E: Sink>(
-    alloc: Global,
-    server: Server<S, J>,
-    reactor: &mut B,
-    port: P,
-    hosting: &Hosting<'_>,
-    out: &mut O,
-    faults: &mut E,
-) -> Exit
-    ensures { HostsStartedShowing S.TakeStore J.Journal B.Reactor B.Link.Link O.Sink E.Sink
-        P.StatusPort P.Link.Link port hosting.now result server reactor.old reactor.new out.old out.new
-        faults.old faults.new }
-{
-    let Ok(opening) = format_opening(alloc, server.names(), hosting.address) else {
-        return give_up(faults, &Fault::Memory);
-    };
-    serve_from(
-        alloc,
-        server,
-        opening.as_str(),
-        reactor,
-        port,
-        hosting,
-        out,
-        faults,
-    )
-}
-
-/// Prints the opening lines, and serves a number of exchanges, many at once, from the books that the
-/// server holds, and operators.
-fn serve_from<S: TakeStore, J: Journal, B: Reactor, P: StatusPort + Drop, O: Sink, E: Sink>(
-    alloc: Global,
-    server: Server<S, J>,
-    opening: &str,
-    reactor: &mut B,
-    port: P,
-    hosting: &Hosting<'_>,
-    out: &mut O,
-    faults: &mut E,
-) -> Exit
-    ensures { HostsShowing S.TakeStore J.Journal B.Reactor B.Link.Link O.Sink E.Sink P.StatusPort
-        P.Link.Link port opening.now hosting.now.bounds hosting.now.log result server reactor.old
-        reactor.new out.old out.new faults.old faults.new }
-{
-    let resumed = server.names() as u64;
-    let Ok(mut observer) = StatusObserver::new(alloc, port, resumed) else {
-        return give_up(faults, &Fault::Memory);
-    };
-    let Ok(server) = Tallied::new(alloc, server) else {
-        return give_up(faults, &Fault::Memory);
-    };
-    let Ok(()) = print(out, opening.as_bytes()) else {
-        return give_up(faults, &Fault::Unwritable);
-    };
-    law_server_runs::<S, J>();
-    let mut server = Metered::new(server);
-    let observer = &mut observer;
-    let (bounds, log) = (&hosting.bounds, hosting.log);
     let exit = run_observed(
         alloc,
         &mut server,
-        reactor,
-        bounds,
-        log,
-        observer,
+        &mut reactor,
+        &hosting.bounds,
+        hosting.log,
+        &mut observer,
         out,
         faults,
     );
     report_end(exit, faults)
+}
+
+/// A server that counts what it answers, and an observer that shows it at this port.
+///
+/// # Errors
+/// `AllocError` if memory was refused.
+fn begin_to_show<T: Drop, P: StatusPort + Drop>(
+    alloc: Global,
+    server: T,
+    port: P,
+    takes: Option<u64>,
+) -> Result<(Metered<Tallied<T>>, StatusObserver<P>), AllocError>
+    ensures server { IfOk result (λ begun. (metered_server begun.0).server ≡ server) }
+    ensures tallies { IfOk result (λ begun. (metered_server begun.0).tallies ≡ none_tallied) }
+    ensures shows { IfOk result (λ begun. BeginsToShow port takes begun.1) }
+{
+    let observer = StatusObserver::new(alloc, port, takes.unwrap_or(0))?;
+    match Tallied::new(alloc, server) {
+        Ok(server) => Ok((Metered::new(server), observer)),
+        Err((error, _server)) => Err(error),
+    }
 }

@@ -13,4 +13,4 @@ mod takes;
 mod tallied;
 mod tallies;
 
-pub use hosting::{serve_many_journaled_shown, serve_many_shown};
+pub use hosting::{Showing, serve_shown};

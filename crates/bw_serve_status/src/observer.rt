@@ -5,12 +5,10 @@ use crate::growth::{Growth, note_growth};
 use crate::name_tally::NAMES;
 use crate::snapshots::{Surroundings, snapshot_of};
 use crate::tallied::Tallied;
-use bw_journal::Journal;
 use bw_operators::{OPERATORS, Operators, StatusPort};
 use bw_serve::{RoundObserver, RoundReport};
-use bw_session::Server;
+use bw_session::HasTable;
 use bw_status::{Answer, response};
-use bw_store::TakeStore;
 use std::alloc::{AllocError, Global};
 
 /// Serves operators after each round: at most one response, and no call waits.
@@ -45,6 +43,7 @@ impl<P: StatusPort + Drop> StatusObserver<P> {
         ensures growth { IfOk result (λ o. o.growth.items ≡ no_growth) }
     {
         let none = Growth {
+            first: 0,
             stored: 0,
             at: None,
         };
@@ -78,15 +77,15 @@ impl<P: StatusPort + Drop> StatusObserver<P> {
 
     /// Responds to the operator who asks and has been connected for longest, if one asks, and then
     /// makes another step of each connection, at this time, in milliseconds.
-    fn respond_to_oldest<S: TakeStore, J: Journal>(
+    fn respond_to_oldest<T: HasTable>(
         &mut self,
-        server: &Tallied<Server<S, J>>,
+        server: &Tallied<T>,
         round: &RoundReport<'_>,
         now: u64,
     )
         requires { now ≡ P.time self.old.port }
         ensures kept { moment_of P.StatusPort self.new ≡ moment_of P.StatusPort self.old }
-        ensures responds { RespondsToOne S.TakeStore J.Journal P.StatusPort P.Link.Link server.now
+        ensures responds { RespondsToOne T.holds P.StatusPort P.Link.Link server.now
             round.now (moment_of P.StatusPort self.new) self.old.operators self.new.operators }
         ensures connections { AreConnections P.Link.Link self.old.operators →
             AreConnections P.Link.Link self.new.operators }
@@ -101,9 +100,9 @@ impl<P: StatusPort + Drop> StatusObserver<P> {
 
     /// Responds to the operator at a place, at this time, in milliseconds; where memory is refused
     /// for it, the connection is closed.
-    fn respond<S: TakeStore, J: Journal>(
+    fn respond<T: HasTable>(
         &mut self,
-        server: &Tallied<Server<S, J>>,
+        server: &Tallied<T>,
         round: &RoundReport<'_>,
         place: usize,
         answer: Answer,
@@ -112,7 +111,7 @@ impl<P: StatusPort + Drop> StatusObserver<P> {
         requires time { now ≡ P.time self.old.port }
         requires asked { asked_at self.old.operators place ≡ Some answer }
         ensures kept { moment_of P.StatusPort self.new ≡ moment_of P.StatusPort self.old }
-        ensures responds { ShowsOrCloses S.TakeStore J.Journal P.StatusPort server.now round.now
+        ensures responds { ShowsOrCloses T.holds P.StatusPort server.now round.now
             (moment_of P.StatusPort self.new) place answer self.old.operators self.new.operators }
         ensures others { LeavesOtherPlaces place self.old.operators self.new.operators }
         ensures connections { AreConnections P.Link.Link self.old.operators →
@@ -128,9 +127,9 @@ impl<P: StatusPort + Drop> StatusObserver<P> {
     ///
     /// # Errors
     /// `AllocError` if memory was refused.
-    fn response_of<S: TakeStore, J: Journal>(
+    fn response_of<T: HasTable>(
         &mut self,
-        server: &Tallied<Server<S, J>>,
+        server: &Tallied<T>,
         round: &RoundReport<'_>,
         answer: Answer,
         now: u64,
@@ -138,7 +137,7 @@ impl<P: StatusPort + Drop> StatusObserver<P> {
         requires { now ≡ P.time self.old.port }
         ensures kept { moment_of P.StatusPort self.new ≡ moment_of P.StatusPort self.old }
         ensures operators { self.new.operators ≡ self.old.operators }
-        ensures shows { IfOk result (λ bytes. ShowsIn S.TakeStore J.Journal P.StatusPort server.now
+        ensures shows { IfOk result (λ bytes. ShowsIn T.holds P.StatusPort server.now
             round.now (moment_of P.StatusPort self.new) answer bytes.items) }
     {
         let around = Surroundings {
@@ -165,13 +164,12 @@ impl<P: StatusPort + Drop> StatusObserver<P> {
     }
 }
 
-impl<S: TakeStore, J: Journal, P: StatusPort + Drop> RoundObserver<Tallied<Server<S, J>>>
-    for StatusObserver<P> {
+impl<T: HasTable, P: StatusPort + Drop> RoundObserver<Tallied<T>> for StatusObserver<P> {
     ghost use Rattle.bw_serve_status.specs.Looks.{Looks};
 
-    ghost looks = { Looks S.TakeStore J.Journal P.StatusPort P.Link.Link };
+    ghost looks = { Looks T.holds P.StatusPort P.Link.Link };
 
-    fn look(&mut self, server: &Tallied<Server<S, J>>, round: &RoundReport<'_>) {
+    fn look(&mut self, server: &Tallied<T>, round: &RoundReport<'_>) {
         let now = self.port.now();
         note_growth(self.growth.as_mut_slice(), server.tallies().names(), now);
         self.operators.work(now);

@@ -1,6 +1,5 @@
 //! What a server is doing, taken from its state.
 ghost use Rattle.std.specs.Prelude.{◌≡◌, ℕ, List, Option, IfOk, is_some};
-ghost use Rattle.bw_session.specs.Books.{HoldsBook};
 ghost use Rattle.bw_serve_status.specs.Takes.{ShowsTakes};
 ghost use Rattle.std.specs.List.{list_any};
 ghost use Rattle.bw_model.specs.Book.{Book};
@@ -11,11 +10,9 @@ use crate::growth::Growth;
 use crate::name_tally::NameTally;
 use crate::takes::takes_of;
 use crate::tallied::Tallied;
-use bw_journal::Journal;
 use bw_serve::RoundReport;
-use bw_session::Server;
+use bw_session::HasTable;
 use bw_status::{Health, Snapshot};
-use bw_store::TakeStore;
 use std::alloc::{AllocError, Global};
 
 /// What isn't kept by the server.
@@ -45,21 +42,27 @@ pub(crate) struct Surroundings<'a> {
 /// # Not specified
 /// - When memory is refused.
 /// - How the takes follow from the messages, after a turn over a store that isn't honest.
-pub(crate) fn snapshot_of<S: TakeStore, J: Journal>(
+pub(crate) fn snapshot_of<T: HasTable>(
     alloc: Global,
-    server: &Tallied<Server<S, J>>,
+    server: &Tallied<T>,
     round: &RoundReport<'_>,
     around: Surroundings<'_>,
 ) -> Result<Snapshot, AllocError>
     ensures counts { IfOk result (CopiesCounts server.now.tallies round.now around.entry) }
     ensures takes { (first : List ℕ → Option (List ℕ)) (book : Book) →
-        HoldsBook S.TakeStore J.Journal first server.now.server book →
+        T.holds server.now.server first book →
         IfOk result (λ s. ShowsTakes (λ name. is_some (first name)) book server.now.tallies.names
         round.now.peers.now around.entry s.takes.items) }
 {
     let tallies = server.tallies();
     Ok(Snapshot {
-        takes: takes_of(alloc, server.server(), tallies.names(), round.peers, around)?,
+        takes: takes_of(
+            alloc,
+            server.server().table(),
+            tallies.names(),
+            round.peers,
+            around,
+        )?,
         since: around.since,
         uptime_ms: around.now,
         resumed: around.resumed,

@@ -9,9 +9,8 @@ ghost use Rattle.bw_request.specs.Verdicts.{verdict_meaning};
 ghost use Rattle.bw_wire.specs.Frames.{message_of};
 ghost use Rattle.bw_wire.specs.Notices.{notice_meaning};
 ghost use Rattle.bw_wire.specs.Replies.{reply_of};
-ghost use Rattle.bw_serve_status.specs.Names.{on_name};
 ghost use Rattle.bw_serve_status.specs.Tallies.{change_by, request_kind, none_tallied};
-ghost use Rattle.bw_serve_status.specs.Tallies.{noticed_names, raised_at};
+ghost use Rattle.bw_serve_status.specs.Tallies.{tallied_change, tallied_notice, raised_at};
 ghost use Rattle.bw_serve_status.specs.Tallies.{tallied_frame, tallied_reply};
 
 use crate::name_tally::{Change, NAMES, NameTally, count_name};
@@ -30,6 +29,8 @@ pub(crate) struct Tallies {
     verdicts: [u64; 12],
     /// By the notice's code, from 32 on.
     notices: [u64; 8],
+    /// How many changes of names were counted.
+    changes: u64,
     /// There is memory for all of them from the start.
     names: Vec<NameTally>,
 }
@@ -46,6 +47,7 @@ impl Model for Tallies {
       bytes = t.bytes;
       verdicts = t.verdicts;
       notices = t.notices;
+      changes = t.changes;
       names = t.names.items;
     } };
 
@@ -65,6 +67,7 @@ impl Tallies {
             bytes: 0,
             verdicts: [0; 12],
             notices: [0; 8],
+            changes: 0,
             names: Vec::with_capacity(alloc, NAMES)?,
         })
     }
@@ -96,31 +99,38 @@ impl Tallies {
     }
 
     fn count_verdict(&mut self, name: &Name, verdict: Verdict)
-        ensures { self.new ≡ record self.old {
-          verdicts = raised_at (verdict_code (verdict_meaning verdict)) self.old.verdicts;
-          names = on_name (change_by (is_stored (verdict_meaning verdict))) name.now self.old.names;
-        } }
+        ensures { self.new ≡ tallied_change (change_by (is_stored (verdict_meaning verdict))) name.now
+            (record self.old {
+              verdicts = raised_at (verdict_code (verdict_meaning verdict)) self.old.verdicts;
+            }) }
     {
         raise(&mut self.verdicts, usize::from(verdict.code()));
-        count_name(&mut self.names, name, change_by(verdict.is_stored()));
+        self.count_change(name, change_by(verdict.is_stored()));
     }
 
     fn count_notice(&mut self, name: &Name, notice: Notice)
-        ensures { self.new ≡ record self.old {
+        ensures { self.new ≡ tallied_notice (notice_meaning notice) name.now (record self.old {
           notices = raised_at (notice_code (notice_meaning notice) - 32) self.old.notices;
-          names = noticed_names (notice_meaning notice) name.now self.old.names;
-        } }
+        }) }
     {
         raise(
             &mut self.notices,
             usize::from(notice.code().saturating_sub(32)),
         );
         if is_delay(notice) {
-            count_name(&mut self.names, name, Change::Delayed);
+            self.count_change(name, Change::Delayed);
         }
     }
 
-    /// What is counted of each name, in the order in which they were first counted.
+    /// Counts a change of a name.
+    fn count_change(&mut self, name: &Name, change: Change)
+        ensures { self.new ≡ tallied_change change name.now self.old }
+    {
+        self.changes = self.changes.saturating_add(1);
+        count_name(&mut self.names, name, change, self.changes);
+    }
+
+    /// What is counted of the 256 names that were counted last.
     pub(crate) fn names(&self) -> &[NameTally]
         ensures { result.now ≡ self.now.names }
     {

@@ -445,7 +445,7 @@ static EVENT_LOOPS: [Line; 22] = [
             "--journal",
             "--rest",
         ],
-        Outcome::Refuses,
+        Outcome::ShowsStatus(4200),
     ),
     (&["--recorders"], Outcome::Refuses),
 ];

@@ -246,7 +246,7 @@ pub(crate) fn sync_flag<'a>(alloc: Global) -> Arg<'a>
 pub(crate) fn rest_flag<'a>(alloc: Global) -> Arg<'a>
     ensures { IsOption rest_flag result }
 {
-    let help = "With --journal: lets closed takes rest, so that further ones find room";
+    let help = "With --journal: still read; changes nothing";
     flag_option(alloc, "rest", help)
 }
 

@@ -18,8 +18,7 @@ struct NoAddress;
 
 /// Bad values are reported in this order: the address, the folder, the exchanges, the limit, those
 /// of `recorders_given`, `--until-stopped` with a number of exchanges, `--sync` without `--journal`,
-/// `--rest` without it or with `--status`, and the address of `--status`, or that without
-/// `--recorders`.
+/// `--rest` without it, and the address of `--status`, or that without `--recorders`.
 pub(crate) fn serve_line(alloc: Global, options: &ArgMatches<'_>) -> Result<CommandLine, AllocError>
     ensures ok { IfOk result (IsLineFor (Some (codes "serve", rows_of (found_of options.now)))) }
     ensures err { OnErr result
@@ -51,8 +50,7 @@ pub(crate) fn serve_line(alloc: Global, options: &ArgMatches<'_>) -> Result<Comm
         return Ok(CommandLine::BadValue(BadValue::Sync));
     };
     let is_asked = flag_given(options, "rest");
-    let is_shown = is_given(options, "status");
-    let Some(rest) = rest_given(is_kept, is_asked, is_shown) else {
+    let Some(rest) = rest_given(is_kept, is_asked) else {
         return Ok(CommandLine::BadValue(BadValue::Rest));
     };
     let Ok(status) = status_given(options, network) else {
@@ -82,13 +80,6 @@ pub(crate) fn folder_given<'a>(options: &ArgMatches<'a>) -> Option<&'a str>
 {
     let path = options.get_str("folder")?;
     if path.is_empty() { None } else { Some(path) }
-}
-
-/// Whether the options give a value of this name.
-fn is_given(options: &ArgMatches<'_>, name: &str) -> bool
-    ensures { result ≡ is_some (first_value (found_of options.now) name.now) }
-{
-    options.get_str(name).is_some()
 }
 
 /// How the options say that recorders are served.
@@ -175,14 +166,13 @@ fn journaling(is_kept: bool, is_synced: bool) -> Option<Journaling>
     }
 }
 
-/// Whether names may rest; none if they are to and no journals are kept, or a status is shown.
-fn rest_given(is_kept: bool, is_asked: bool, is_shown: bool) -> Option<bool>
-    ensures { IsRestGiven is_kept is_asked is_shown result }
+/// Whether `--rest` is given; none if it is and no journals are kept.
+fn rest_given(is_kept: bool, is_asked: bool) -> Option<bool>
+    ensures { IsRestGiven is_kept is_asked result }
 {
-    match (is_kept, is_asked, is_shown) {
-        (_, false, _) => Some(false),
-        (true, true, false) => Some(true),
-        (true, true, true) => None,
-        (false, true, _) => None,
+    match (is_kept, is_asked) {
+        (_, false) => Some(false),
+        (true, true) => Some(true),
+        (false, true) => None,
     }
 }

@@ -5,7 +5,7 @@ use crate::tests::play::{QUICK, QUICK_OTHER, bounds};
 use crate::tests::scripted_reactor::{Plan, Visit};
 use bw_console::Exit;
 use bw_layout::Limit;
-use bw_serve::{Hosting, serve_many};
+use bw_serve::{Hosting, open_new, report_refusal, serve_at_once};
 use bw_stream::MemorySink;
 use std::alloc::Global;
 use std::net::{Ipv4Addr, SocketAddr};
@@ -30,12 +30,22 @@ fn comes_to(rt: &impl Abort, alloc: Global, port: u16, folder: &str, wanted: &Wa
         address: SocketAddr::from((Ipv4Addr::LOCALHOST, port)),
         folder,
         bounds: bounds(2, 2, 60_000),
-        limit: Limit::default(),
         log: true,
     };
     let mut out = MemorySink::new(Vec::new(alloc));
     let mut faults = MemorySink::new(Vec::new(alloc));
-    let exit = serve_many(alloc, &mut memory_network, &hosting, &mut out, &mut faults);
+    let opened = open_new(alloc, &mut memory_network, folder, Limit::default());
+    let exit = match opened {
+        Ok(opened) => serve_at_once(
+            alloc,
+            &mut memory_network,
+            opened,
+            &hosting,
+            &mut out,
+            &mut faults,
+        ),
+        Err(refusal) => report_refusal(alloc, folder, &refusal, &mut faults),
+    };
     same(rt, "the exit", &exit, &wanted.exit);
     same(
         rt,

@@ -1,13 +1,12 @@
 use Rattle.std.proofs.Common.{[], refl}
 use Rattle.bw_engine.proofs.StoreRuns.{leaves_run}
-use Rattle.bw_connections.specs.ConnectionTables.{all_answered}
 use Rattle.bw_serve.proofs.laws.law_names.Goals as goal
 
 pub returns : goal.returns
-returns g c limit before old new trace honest begun limited empty answers =
+returns g c limit before old new answered honest begun limited empty all =
     let leaves = leaves_run g.S.TakeStore _ (λ y. refl) limit before old new begun limited empty honest
-    (all_answered trace) answers in
-    let run = c.law_runs.ensures.runs _ _ _ [] leaves.book (all_answered trace) leaves.run in
+    answered all in
+    let run = c.law_runs.ensures.runs _ _ _ [] leaves.book answered leaves.run in
     record {
       leaves = leaves;
       received = run.received;

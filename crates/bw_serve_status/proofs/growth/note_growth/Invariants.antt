@@ -8,6 +8,6 @@ abbrev pub invariant-loop-place : goal.invariant-loop-place
 invariant-loop-place l =
     (length l.growth ≡ length l.initial.growth)
     × ((k : ℕ) (t : NameTally) (g : Growth) → k < l.place → slice_get l.fn.names k ≡ Some t →
-    slice_get l.initial.growth k ≡ Some g → slice_get l.growth k ≡ Some (growth_noted l.fn.now t.stored g))
+    slice_get l.initial.growth k ≡ Some g → slice_get l.growth k ≡ Some (growth_noted l.fn.now t g))
     × ((k : ℕ) → l.place ≤ k → slice_get l.growth k ≡ slice_get l.initial.growth k)
     × ((k : ℕ) → length l.fn.names ≤ k → slice_get l.growth k ≡ slice_get l.initial.growth k)

@@ -86,8 +86,8 @@ returns-in_default-rest_given-clause-ok c = bad_line (found_of c.args.options.no
       a_journaling (found_of c.args.options.now) _ _ _ c.flag_given-is_kept.ensures
           c.flag_given-is_synced.ensures c.in-Some-journaling.ensures,
     )
-    and_then bad (no_rest (found_of c.args.options.now) _ _ _ c.flag_given-is_kept.ensures
-    c.flag_given-is_asked.ensures c.is_given-is_shown.ensures c.in_default-rest_given.ensures))
+    and_then bad (no_rest (found_of c.args.options.now) _ _ c.flag_given-is_kept.ensures
+    c.flag_given-is_asked.ensures c.in_default-rest_given.ensures))
     )
 
 pub returns-in_default-status_given-clause-ok : goal.returns-in_default-status_given-clause-ok
@@ -109,8 +109,8 @@ returns-in_default-status_given-clause-ok c = bad_line (found_of c.args.options.
     )
     and_then (
       c.in-Some-rest_given.rest,
-      a_rest (found_of c.args.options.now) _ _ _ _ c.flag_given-is_kept.ensures c.flag_given-is_asked.ensures
-          c.is_given-is_shown.ensures c.in-Some-rest_given.ensures,
+      a_rest (found_of c.args.options.now) _ _ _ c.flag_given-is_kept.ensures c.flag_given-is_asked.ensures
+          c.in-Some-rest_given.ensures,
     )
     and_then bad (no_status (found_of c.args.options.now) _ c.flag_given-network.ensures
     c.in_default-status_given.ensures))
@@ -142,8 +142,8 @@ returns-in_err-folder-clause-err c = on_err c.from_residual.result (
     reports = c.flag_given-log.ensures;
     journals = a_journaling (found_of c.args.options.now) _ _ _ c.flag_given-is_kept.ensures
         c.flag_given-is_synced.ensures c.in-Some-journaling.ensures;
-    rests = a_rest (found_of c.args.options.now) _ _ _ _ c.flag_given-is_kept.ensures c.flag_given-is_asked.ensures
-        c.is_given-is_shown.ensures c.in-Some-rest_given.ensures;
+    rests = a_rest (found_of c.args.options.now) _ _ _ c.flag_given-is_kept.ensures c.flag_given-is_asked.ensures
+        c.in-Some-rest_given.ensures;
     names = c.flag_given-one_name.ensures;
     shows = a_status (found_of c.args.options.now) _ _ c.flag_given-network.ensures c.in-Ok-status_given.ensures;
   }),
@@ -160,8 +160,8 @@ returns-clause-ok c = server_asked (found_of c.args.options.now) _ (record {
   reports = c.flag_given-log.ensures;
   journals = a_journaling (found_of c.args.options.now) _ _ _ c.flag_given-is_kept.ensures
       c.flag_given-is_synced.ensures c.in-Some-journaling.ensures;
-  rests = a_rest (found_of c.args.options.now) _ _ _ _ c.flag_given-is_kept.ensures c.flag_given-is_asked.ensures
-      c.is_given-is_shown.ensures c.in-Some-rest_given.ensures;
+  rests = a_rest (found_of c.args.options.now) _ _ _ c.flag_given-is_kept.ensures c.flag_given-is_asked.ensures
+      c.in-Some-rest_given.ensures;
   names = c.flag_given-one_name.ensures;
   shows = a_status (found_of c.args.options.now) _ _ c.flag_given-network.ensures c.in-Ok-status_given.ensures;
 })

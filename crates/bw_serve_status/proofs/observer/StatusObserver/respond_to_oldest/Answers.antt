@@ -8,7 +8,7 @@ pub returns-clause-kept : goal.returns-clause-kept
 returns-clause-kept g c = c.wake_if_asked.ensures.kept ∙ c.respond.ensures.kept
 
 pub returns-clause-responds : goal.returns-clause-responds
-returns-clause-responds g c = responds_to_oldest g.S.TakeStore g.J.Journal g.P.StatusPort g.P.Link.Link
+returns-clause-responds g c = responds_to_oldest g.T.HasTable.holds g.P.StatusPort g.P.Link.Link
     c.args.server.now c.args.round.now _ _ c.args.now c.in-Some.place c.in-Some.answer _ _ _ _
     (c.requires ∙ sym (ap (λ (m : Moment). m.now) c.respond.ensures.kept)) c.wake_if_asked.ensures.kept
     c.wake_if_asked.ensures.operators c.in-Some.ensures.asks c.in-Some.ensures.longest c.respond.ensures.responds
