@@ -1,2 +1,2 @@
+mod OpenedServers
 mod SyncedDisks
-mod SyncedStarts

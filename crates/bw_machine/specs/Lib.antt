@@ -1,4 +1,4 @@
-pub mod LockedStarts
+pub mod KeptOpenings
+pub mod OpensHere
 pub mod SeenMachine
-pub mod StartsHere
 pub mod SyncedFolders

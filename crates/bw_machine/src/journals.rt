@@ -2,14 +2,14 @@
 use bw_disk::{ReadFault, SystemDisk, Volume};
 use bw_net::NotedFiles;
 use bw_ports::StartRefusal;
-use bw_recovery::{Ending, list_files};
+use bw_recovery::list_names;
 use bw_request::Name;
 use std::alloc::{AllocError, Global};
 use std::fs;
 use std::io::ErrorKind;
 
-/// Refuses a folder in which takes have journals, or names rest: a server without journals wouldn't
-/// know these takes' verdicts. A process that may not list the folder can keep no journals there,
+/// Refuses a folder in which takes have journals: a server without journals wouldn't know their
+/// verdicts. A process that may not list the folder can keep no journals there,
 /// so such a folder passes.
 ///
 /// # Errors
@@ -30,19 +30,16 @@ pub(crate) fn refuse_journals(files: NotedFiles<'_>, folder: &str) -> Result<(),
     }
 }
 
-/// A line for each journal of a folder, whether it rests or not.
+/// A line for each journal of a folder.
 fn lines_of_folder<E: Volume>(
     alloc: Global,
     disk: &mut E,
     folder: &str,
 ) -> Result<Vec<u8>, ReadFault> {
-    let noted = list_files(alloc, disk, folder, Ending::Journal)?;
-    let closed = list_files(alloc, disk, folder, Ending::Closed)?;
     let mut lines = Vec::new(alloc);
-    let needed = ".journal: this take needs serve --journal\n";
-    put_lines(folder, &noted, needed, &mut lines).map_err(|_| ReadFault::Memory)?;
-    let needed = ".closed: this take needs serve --journal --rest\n";
-    put_lines(folder, &closed, needed, &mut lines).map_err(|_| ReadFault::Memory)?;
+    for name in &list_names(alloc, disk, folder)? {
+        put_line(folder, name, &mut lines).map_err(|_| ReadFault::Memory)?;
+    }
     Ok(lines)
 }
 
@@ -54,18 +51,10 @@ fn may_list(files: &NotedFiles<'_>, folder: &str) -> bool {
     }
 }
 
-/// Appends a line for each of these takes.
-fn put_lines(
-    folder: &str,
-    names: &[Name],
-    needed: &str,
-    lines: &mut Vec<u8>,
-) -> Result<(), AllocError> {
-    for name in names {
-        lines.extend_from_slice(folder.as_bytes())?;
-        lines.extend_from_slice(b"/")?;
-        lines.extend_from_slice(name.as_bytes())?;
-        lines.extend_from_slice(needed.as_bytes())?;
-    }
-    Ok(())
+/// Appends the line of a take.
+fn put_line(folder: &str, name: &Name, lines: &mut Vec<u8>) -> Result<(), AllocError> {
+    lines.extend_from_slice(folder.as_bytes())?;
+    lines.extend_from_slice(b"/")?;
+    lines.extend_from_slice(name.as_bytes())?;
+    lines.extend_from_slice(b".journal: this take needs serve --journal\n")
 }

@@ -2,14 +2,18 @@
 //! Not stated: that the system's disk holds what the folder holds (a premise); what locks a folder.
 #![tactic(auto)]
 
+mod folder_server;
 mod journals;
 mod locked;
 mod network;
+mod reporting;
 mod starting;
 mod status;
 mod syncing;
 mod terminal;
 
+pub use folder_server::FolderServer;
 pub use network::TcpNetwork;
-pub use starting::{FolderServer, MachineDisk, start_with_rest, start_without_rest};
+pub use reporting::{LeavesOut, ReportingServer};
+pub use starting::{MachineDisk, open_kept};
 pub use terminal::Terminal;

@@ -1,85 +1,179 @@
-//! The start of a server with journals over a folder, under the folder's lock.
-ghost use Rattle.std.specs.Prelude.{◌≡◌, IfOk, MatchResult, Result};
+//! The opening of a kept server over a folder, under the folder's lock.
+ghost use Rattle.std.specs.Prelude.{◌≡◌, Ok, IfOk, IfErr, OnOk, IsTrue, MatchResult, Result};
+ghost use Rattle.bw_kept.specs.KeptServers.{table_server};
+ghost use Rattle.bw_kept.specs.LeftFolders.{KnowsNone};
 ghost use Rattle.bw_lock.specs.declared.folder_locks.LockRefusal.{LockRefusal as Refusal};
-ghost use Rattle.bw_machine.specs.LockedStarts.{IsFolderRefusal, RefusesUnder, StartsUnder};
-ghost use Rattle.bw_machine.specs.LockedStarts.{IsFaultText, IsReadRefusal, refusal_by};
-ghost use Rattle.bw_start.specs.StartedServers.{IsSetTo};
+ghost use Rattle.bw_machine.specs.KeptOpenings.{CountsJournals, HasDisks, IsServerOver};
+ghost use Rattle.bw_machine.specs.KeptOpenings.{IsRefusedUnder, refusal_by, refusal_by_fault};
+ghost use Rattle.bw_machine.specs.OpensHere.{OpensOver};
+ghost use Rattle.bw_machine.specs.SyncedFolders.{KeepsContents, SyncsLeft};
 
 use crate::syncing::sync_if;
 use bw_disk::{ReadFault, Volume};
 use bw_folder::{FolderJournal, FolderStore};
+use bw_journal::Journal;
+use bw_kept::KeptServer;
+use bw_layout::Limit;
 use bw_lock::{FolderLocks, LockRefusal};
 use bw_ports::StartRefusal;
-use bw_recovery::StartWatch;
+use bw_recovery::list_names;
+use bw_serve::OpenedServer;
 use bw_session::Server;
-use bw_start::{FolderFault, Settings, StartFault, start_over};
+use bw_store::TakeStore;
 use std::alloc::Global;
 
-/// A server over a folder, and what is kept of its start.
+/// A kept server over a folder, whose takes are on one disk and whose journals on another.
+pub(crate) type KeptOver<D, E> = KeptServer<FolderStore<D>, FolderJournal<E>>;
+
+/// A server that was opened over a folder, and the folder's lock.
 #[derive(Drop)]
 pub(crate) struct Locked<S, K> {
-    pub(crate) server: S,
-    pub(crate) kept: KeptStart<K>,
+    pub(crate) opened: OpenedServer<S>,
+    pub(crate) lock: K,
 }
 
-/// The lock of the folder over which a server was started, and whether names may rest there.
-///
-/// The choice is kept for the clauses alone. None says what a `SystemDisk` holds, so what is proved
-/// of a start is about any disk; what is kept ties a call that starts over the program's own disk
-/// to it. Only `start_locked` makes one.
-#[derive(Drop)]
-pub(crate) struct KeptStart<K> {
-    lock: K,
-    rest: bool,
-}
-
-/// Starts a server over what an earlier one left in a folder, as `start_over` does, once the folder
-/// is locked; with syncs, once that is synced too. The lock is kept beside the server; where none is
-/// started, it is given back.
+/// Opens a kept server over a folder, once the folder is locked; with syncs, what an earlier server
+/// left there is synced before. No journal is read, and no file is changed.
 ///
 /// # Errors
-/// The refusal, with both disks: they are as they were if the folder isn't locked.
+/// The refusal, with both disks: the lock's, `Device` if a call of a disk failed, `Memory` if memory was
+/// refused.
 ///
 /// # Not specified
-/// - When memory is refused, and when the folder can be locked.
-/// - That the lock is held meanwhile, and that what was left is synced first: only the order of the
-///   calls shows it.
-pub(crate) fn start_locked<L: FolderLocks, D: Volume, E: Volume, W: StartWatch>(
+/// - When memory is refused, when a call of a disk fails, and when the folder can be locked.
+/// - That the lock is held meanwhile.
+pub(crate) fn open_locked<L: FolderLocks, D: Volume, E: Volume>(
     alloc: Global,
     locks: &mut L,
     takes: D,
     notes: E,
     folder: &str,
-    settings: Settings,
-    watch: &mut W,
-) -> Result<Locked<Server<FolderStore<D>, FolderJournal<E>>, L::Lock>, (StartRefusal, D, E)>
-    ensures met { (answer : Result L.Lock Refusal) × L.locks locks.old folder.now answer locks.new
-        × MatchResult result (λ started. StartsUnder D.Disk E.Disk answer settings folder.now
-        takes notes started.server started.kept.lock)
-        (λ e. RefusesUnder D.Disk E.Disk answer settings folder.now takes notes e.0 e.1 e.2) }
-    ensures set { IfOk result (λ started.
-        IsSetTo settings.limit folder.now settings.sync started.server) }
-    ensures rest { IfOk result (λ started. started.kept.rest ≡ settings.rest) }
+    limit: Limit,
+    sync: bool,
+) -> Result<Locked<KeptOver<D, E>, L::Lock>, (StartRefusal, D, E)>
+    ensures { (answer : Result L.Lock Refusal) × L.locks locks.old folder.now answer locks.new
+        × MatchResult result
+        (λ it. (answer ≡ Ok it.lock) × OpensOver limit folder.now sync takes notes it.opened)
+        (λ e. IsRefusedUnder answer e.0 × KeepsContents D.Disk takes e.1
+        × KeepsContents E.Disk notes e.2) }
 {
     let lock = match locks.lock(folder) {
         Ok(lock) => lock,
         Err(refusal) => return Err((refusal_by_lock(refusal), takes, notes)),
     };
-    let (mut takes, mut notes) = (takes, notes);
-    if let Err(fault) = sync_if(alloc, &mut takes, &mut notes, folder, settings.sync) {
-        return Err((refusal_by_read(fault), takes, notes));
-    }
-    let rest = settings.rest;
-    match start_over(alloc, takes, notes, folder, settings, watch) {
-        Ok(server) => Ok(Locked {
-            server,
-            kept: KeptStart { lock, rest },
-        }),
-        Err((fault, takes, notes)) => Err((refusal_of(alloc, folder, &fault), takes, notes)),
+    match open_over(alloc, takes, notes, folder, limit, sync) {
+        Ok(opened) => Ok(Locked { opened, lock }),
+        Err((fault, takes, notes)) => Err((refusal_by_read(fault), takes, notes)),
     }
 }
 
-/// Why a server isn't started whose folder isn't locked.
+/// Opens a kept server over a folder; with syncs, what an earlier server left there is synced before.
+///
+/// # Errors
+/// The fault, with both disks: `Disk` if a call of a disk failed, `Memory` if memory was refused.
+fn open_over<D: Volume, E: Volume>(
+    alloc: Global,
+    takes: D,
+    notes: E,
+    folder: &str,
+    limit: Limit,
+    sync: bool,
+) -> Result<OpenedServer<KeptOver<D, E>>, (ReadFault, D, E)>
+    ensures opened { IfOk result (OpensOver limit folder.now sync takes notes) }
+    ensures back { IfErr result (λ e. KeepsContents D.Disk takes e.1 × KeepsContents E.Disk notes e.2) }
+{
+    let (mut takes, mut notes) = (takes, notes);
+    let count = match prepare(alloc, &mut takes, &mut notes, folder, sync) {
+        Ok(count) => count,
+        Err(fault) => return Err((fault, takes, notes)),
+    };
+    match server_over(alloc, takes, notes, folder, limit, sync) {
+        Ok(server) => Ok(OpenedServer {
+            server,
+            takes: Some(count),
+        }),
+        Err((takes, notes)) => Err((ReadFault::Memory, takes, notes)),
+    }
+}
+
+/// Counts the names of a folder that have a journal; with `sync`, what an earlier server left is synced.
+///
+/// # Errors
+/// `Disk` if a call of a disk failed, `Memory` if memory was refused.
+fn prepare<D: Volume, E: Volume>(
+    alloc: Global,
+    takes: &mut D,
+    notes: &mut E,
+    folder: &str,
+    sync: bool,
+) -> Result<u64, ReadFault>
+    ensures takes { KeepsContents D.Disk takes.old takes.new }
+    ensures notes { KeepsContents E.Disk notes.old notes.new }
+    ensures counted { IfOk result (CountsJournals E.Disk folder.now notes.old) }
+    ensures synced { IsTrue sync → IsTrue (D.honest takes.old) → IsTrue (E.honest notes.old) →
+        OnOk result (SyncsLeft folder.now (D.contents takes.old) (D.synced takes.new)
+        (E.contents notes.old) (E.synced notes.new)) }
+{
+    let names = list_names(alloc, notes, folder)?;
+    sync_if(alloc, takes, notes, folder, sync)?;
+    Ok(names.len() as u64)
+}
+
+/// A kept server over a folder of these disks that knows no name yet. No call of a disk is made.
+///
+/// # Errors
+/// Both disks, if memory was refused.
+fn server_over<D: Volume, E: Volume>(
+    alloc: Global,
+    takes: D,
+    notes: E,
+    folder: &str,
+    limit: Limit,
+    sync: bool,
+) -> Result<KeptOver<D, E>, (D, E)>
+    ensures over { IfOk result (λ k. IsServerOver limit folder.now sync (table_server k)) }
+    ensures none { IfOk result (λ k. KnowsNone ⟦<FolderStore<D> as TakeStore>⟧
+        ⟦<FolderJournal<E> as Journal>⟧ (table_server k)) }
+    ensures disks { IfOk result (λ k. HasDisks takes notes (table_server k)) }
+    ensures back { IfErr result (λ e. (e.0 ≡ takes) × (e.1 ≡ notes)) }
+{
+    let Ok(path) = String::from_str(alloc, folder) else {
+        return Err((takes, notes));
+    };
+    let Ok(same) = String::from_str(alloc, folder) else {
+        return Err((takes, notes));
+    };
+    // Its clause says how large it may be.
+    let _most = limit.bytes();
+    let store = FolderStore::in_folder(takes, alloc, path);
+    let journal = FolderJournal::in_folder(notes, alloc, same, limit, sync);
+    match Server::with_journal(alloc, store, journal, limit) {
+        Ok(server) => kept_over(alloc, server),
+        Err((_error, store, journal)) => Err((store.into_disk(), journal.into_disk())),
+    }
+}
+
+/// A kept server whose table is that of this one.
+///
+/// # Errors
+/// Both disks, if memory was refused.
+fn kept_over<D: Volume, E: Volume>(
+    alloc: Global,
+    server: Server<FolderStore<D>, FolderJournal<E>>,
+) -> Result<KeptOver<D, E>, (D, E)>
+    ensures server { IfOk result (λ k. table_server k ≡ server) }
+    ensures back { IfErr result (λ e. HasDisks e.0 e.1 server) }
+{
+    match KeptServer::new(alloc, server) {
+        Ok(server) => Ok(server),
+        Err((_error, server)) => {
+            let (store, journal) = server.into_stores();
+            Err((store.into_disk(), journal.into_disk()))
+        }
+    }
+}
+
+/// Why no server is opened whose folder isn't locked.
 fn refusal_by_lock(refusal: LockRefusal) -> StartRefusal
     ensures { result ≡ refusal_by refusal }
 {
@@ -90,36 +184,12 @@ fn refusal_by_lock(refusal: LockRefusal) -> StartRefusal
     }
 }
 
-/// Why a server isn't started where what was left isn't synced.
+/// Why none is opened where a call of a disk failed, or memory was refused.
 fn refusal_by_read(fault: ReadFault) -> StartRefusal
-    ensures { IsReadRefusal fault result }
+    ensures { result ≡ refusal_by_fault fault }
 {
     match fault {
         ReadFault::Disk => StartRefusal::Device,
         ReadFault::Memory => StartRefusal::Memory,
-    }
-}
-
-/// Why a server isn't started, with a line for each name that can't be resumed or rests.
-fn refusal_of(alloc: Global, folder: &str, fault: &FolderFault) -> StartRefusal
-    ensures { IsFolderRefusal folder.now fault.now result }
-{
-    match fault {
-        FolderFault::Start(StartFault::Disk) => StartRefusal::Device,
-        FolderFault::Start(StartFault::Memory) => StartRefusal::Memory,
-        FolderFault::Start(StartFault::Refused(_)) => unfit(alloc, folder, fault),
-        FolderFault::Start(StartFault::TooMany(_)) => unfit(alloc, folder, fault),
-        FolderFault::Rests(_) => unfit(alloc, folder, fault),
-        FolderFault::Twice(_) => unfit(alloc, folder, fault),
-    }
-}
-
-/// The lines of a fault, or that memory was refused for them.
-fn unfit(alloc: Global, folder: &str, fault: &FolderFault) -> StartRefusal
-    ensures { IsFaultText folder.now fault.now result }
-{
-    match fault.lines(alloc, folder) {
-        Ok(lines) => StartRefusal::Unfit(lines),
-        Err(_) => StartRefusal::Memory,
     }
 }

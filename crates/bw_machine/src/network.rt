@@ -4,7 +4,6 @@ ghost use Rattle.std.specs.Duration.{as_nanos};
 ghost use Rattle.bw_folder.specs.TakeFolders.{takes_folder};
 
 use crate::journals::refuse_journals;
-use crate::locked::KeptStart;
 use bw_causes::CauseCell;
 use bw_disk::SystemDisk;
 use bw_folder::FolderStore;
@@ -30,8 +29,8 @@ pub struct TcpNetwork<'a> {
     /// What the process prints: once a server listens, its lines don't wait.
     pub(crate) lines: &'a LineCell,
     pub(crate) failures: u64,
-    /// What is kept of the latest start of a server with journals.
-    pub(crate) kept: Option<KeptStart<FolderLock>>,
+    /// The lock of the folder over which the latest server with journals was opened.
+    pub(crate) lock: Option<FolderLock>,
 }
 
 impl<'a> TcpNetwork<'a> {
@@ -62,7 +61,7 @@ impl<'a> TcpNetwork<'a> {
             causes,
             lines,
             failures: 0,
-            kept: None,
+            lock: None,
         }
     }
 

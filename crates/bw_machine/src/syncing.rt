@@ -32,7 +32,7 @@ pub(crate) fn sync_if<D: Volume, E: Volume>(
     }
 }
 
-/// Syncs each journal that doesn't rest, the file of its take, and the folder. An earlier server may
+/// Syncs each journal, the file of its take, and the folder. An earlier server may
 /// have run without syncs, or was killed before one; its verdicts are given again without a note, so
 /// they have to be on the disk before that.
 ///

@@ -1,15 +1,11 @@
-//! The terminal that the progress of a sender or of a start is reported to.
+//! The terminal that the progress of a sender is reported to.
 ghost use Rattle.std.specs.Prelude.{◌≡◌, ◌∷◌, ◌++◌, ⊤, IfOk, codes, is_some};
 
 use bw_ports::{ProgressReport, Watch};
 use bw_progress::Screen;
-use bw_recovery::StartWatch;
 use bw_stream::{StdIo, write_all};
 use std::alloc::{AllocError, Global};
 use std::io::{IsTerminal, Stderr};
-
-/// A start over fewer journals than this reports its end alone.
-const JOURNALS_A_LINE: usize = 32;
 
 /// What is written before a line that is shown in place of another: the cursor goes to the line's
 /// start, and the terminal doesn't wrap, so that a line that is too long is cut (ECMA-48, and DEC's
@@ -23,8 +19,8 @@ const LINE_END: &[u8] = b"\x1b[K\x1b[?7h";
 /// Clears a line, and leaves the cursor at its start.
 const CLEAR_LINE: &[u8] = b"\r\x1b[K";
 
-/// Standard error if it is a terminal, for the progress of a sender or of a start. No clause says
-/// what a terminal shows.
+/// Standard error if it is a terminal, for the progress of a sender. No clause says what a terminal
+/// shows.
 #[derive(Drop)]
 pub struct Terminal {
     alloc: Global,
@@ -113,22 +109,6 @@ impl Watch for Terminal {
     fn round<P: ProgressReport>(&mut self, progress: &P) {
         if let Some(screen) = &mut self.screen {
             progress.print_diagnostic(screen);
-        }
-    }
-}
-
-impl StartWatch for Terminal {
-    /// Writes `read K of N journals`, after each 32 journals and after the last one.
-    fn read_journal(&mut self, count: usize, all: usize) {
-        let Some(screen) = &mut self.screen else {
-            return;
-        };
-        if count % JOURNALS_A_LINE != 0 && count != all {
-            return;
-        }
-        if let Ok(line) = format!(in self.alloc; "read {count} of {all} journals\n") {
-            // What can't be shown is no reason to stop.
-            let _ = write_all(screen, line.as_bytes());
         }
     }
 }

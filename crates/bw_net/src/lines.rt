@@ -112,6 +112,21 @@ impl LineCell {
         }
     }
 
+    /// Says on standard error why the name whose journal is at a path is left out. If the line can't be
+    /// written at once, it is left out and counted.
+    ///
+    /// # Not specified
+    /// Anything: it has no contract.
+    pub(crate) fn note_fault_of_name(&self, rt: &HostRuntime, path: &str, cause: &str) {
+        if !self.has_room(FAULTS) {
+            self.leave_out();
+            return;
+        }
+        if let Ok(line) = format!(in rt.alloc(); "{path}: {cause}, left out\n") {
+            let _ = write_all(&mut StdIo::new(rt.stderr()), line.as_bytes());
+        }
+    }
+
     /// How many lines were left out.
     ///
     /// # Not specified

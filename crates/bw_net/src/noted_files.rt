@@ -26,6 +26,15 @@ impl<'a> NotedFiles<'a> {
         NotedFiles { rt, lines }
     }
 
+    /// Says on standard error why the name whose journal is at a path is left out: `PATH: CAUSE, left
+    /// out`.
+    ///
+    /// # Not specified
+    /// Anything: it has no contract.
+    pub fn note_left_out(&self, path: &str, cause: &str) {
+        self.lines.note_fault_of_name(self.rt, path, cause);
+    }
+
     /// What a call for a path gave. If it failed, that is noted.
     fn noted<T>(&self, path: &str, given: io::Result<T>) -> io::Result<T>
         ensures { result ≡ given }

@@ -1,0 +1,54 @@
+-- What is known of a server that was just made over a folder.
+use Rattle.std.proofs.Common.{◌≡◌, ◌∙◌, ◌≤◌, ℕ, Bool, List, [], Option, ap, subst, sym, arith}
+use Rattle.std.specs.Prelude.{Result, Ok, Err, IfOk, IsTrue}
+use Rattle.bw_disk.specs.declared.disk.Disk.{Ghosts as DiskGhosts}
+use Rattle.bw_folder.specs.TakeFolders.{takes_disk}
+use Rattle.bw_folder.specs.JournalFolders.{journals_disk}
+use Rattle.bw_folder.specs.declared.folder.FolderStore.{FolderStore}
+use Rattle.bw_folder.specs.declared.journal.FolderJournal.{FolderJournal}
+use Rattle.bw_journal.specs.declared.journal.Journal.{Ghosts as JournalGhosts}
+use Rattle.bw_kept.specs.LeftFolders.{KnowsNone}
+use Rattle.bw_machine.specs.KeptOpenings.{BeginsOver, HasDisks}
+use Rattle.bw_machine.specs.SyncedFolders.{KeepsContents, SyncsLeft}
+use Rattle.bw_session.specs.Books.{HoldsBook}
+use Rattle.bw_session.specs.declared.server.Server.{Server}
+use Rattle.bw_session.specs.SeenServers.{server_store, server_journal, server_limit}
+use Rattle.bw_store.specs.declared.store.TakeStore.{Ghosts as StoreGhosts}
+
+-- what holds of a value holds of what is seen of a result, if that is the value
+pub of_same : {T E V : Type 0} (r : Result T E) (view : T → V) (x : V) (P : V → Type 0) → P x →
+    IfOk r (λ t. view t ≡ x) → IfOk r (λ t. P (view t))
+of_same (Ok t) view x P holds same = subst P (sym same) holds
+of_same (Err e) view x P holds same = tt
+
+module _ {X Y : Type 0} (S : StoreGhosts X) (J : JournalGhosts Y) where
+  -- a server that was made over a store and a journal of one folder knows no name
+  pub knows_none : (s : Server X Y S J) (store : X) (journal : Y) (limit : ℕ) → server_store s ≡ store →
+      server_journal s ≡ journal → server_limit s ≡ limit → HoldsBook S J (S.contents store) s [] →
+      limit ≤ 4294967294 → J.folder journal ≡ S.folder store →
+      ((name : List ℕ) → (J.header journal name).limit ≡ limit) → KnowsNone S J s
+  knows_none s store journal limit st jo li held most folder limits = record {
+    held = subst (λ x. HoldsBook S J (S.contents x) s []) (sym st) held;
+    small = omega (arith, li, most);
+    folder = ap J.folder jo ∙ folder ∙ sym (ap S.folder st);
+    limits = λ name. ap (λ j. (J.header j name).limit) jo ∙ limits name ∙ sym li;
+  }
+
+module _ {D E F H : Type 0} {G : DiskGhosts D F} {K : DiskGhosts E H}
+    {S : StoreGhosts (FolderStore D F G)} {J : JournalGhosts (FolderJournal E H K)} where
+  -- so it begins over disks that have what these had
+  pub begins_over : (folder : List ℕ) (sync : Bool) (takes takes' : D) (notes notes' : E)
+      (s : Server (FolderStore D F G) (FolderJournal E H K) S J) → KnowsNone S J s →
+      HasDisks takes' notes' s → KeepsContents G takes takes' → KeepsContents K notes notes' →
+      (IsTrue sync → IsTrue (G.honest takes) → IsTrue (K.honest notes) →
+      SyncsLeft folder (G.contents takes) (G.synced takes') (K.contents notes) (K.synced notes')) →
+      BeginsOver folder sync takes notes s
+  begins_over folder sync takes takes' notes notes' s none disks kept_takes kept_notes synced = record {
+    none = none;
+    takes_kept = subst (KeepsContents G takes) (sym disks.takes_are) kept_takes;
+    notes_kept = subst (KeepsContents K notes) (sym disks.notes_are) kept_notes;
+    synced = λ asked ht hn. subst (λ t. SyncsLeft folder (G.contents takes) (G.synced t) (K.contents notes)
+        (K.synced (journals_disk (server_journal s)))) (sym disks.takes_are)
+        (subst (λ n. SyncsLeft folder (G.contents takes) (G.synced takes') (K.contents notes) (K.synced n))
+        (sym disks.notes_are) (synced asked ht hn));
+  }

@@ -1,0 +1,147 @@
+//! A server that says which names it leaves out.
+ghost use Rattle.std.specs.Prelude.{◌≡◌, List};
+ghost use Rattle.bw_kept.specs.KeptServers.{table_server};
+ghost use Rattle.bw_model.specs.Wire.{Frame};
+ghost use Rattle.bw_model.specs.Replies.{Reply as ModelReply};
+ghost use Rattle.bw_machine.specs.OpensHere.{server_in};
+
+use arrayvec::ArrayVec;
+use bw_disk::Volume;
+use bw_exchange::{NotKept, Turns};
+use bw_folder::{FolderJournal, FolderStore};
+use bw_kept::KeptServer;
+use bw_net::NotedFiles;
+use bw_recovery::{NameFault, cause_of};
+use bw_request::Name;
+use bw_session::{HasTable, Server};
+use bw_wire::{Ask, Message, Reply};
+use std::alloc::AllocError;
+
+/// After how many names that were left out the rest waits for the next frame.
+const NAMES_A_FRAME: usize = 8;
+
+/// A server that leaves out names with which something is wrong.
+pub trait LeavesOut: Turns {
+    /// The next name that was left out and isn't reported yet, with what is wrong with it. What the
+    /// server has answered and committed is as it was.
+    ///
+    /// # Not specified
+    /// Which name it is.
+    fn take_left_out(&mut self) -> Option<(Name, NameFault)>
+        ensures answered { (before : Self) (frame : Frame) (replies : List ModelReply) →
+            Self.Turns.answers before frame replies self.old →
+            Self.Turns.answers before frame replies self.new }
+        ensures committed { Self.Turns.committed self.old → Self.Turns.committed self.new };
+
+    /// The folder of its names.
+    ///
+    /// # Not specified
+    /// Anything beyond what each implementation says of itself.
+    fn folder(&self) -> &str;
+}
+
+impl<D: Volume, E: Volume> LeavesOut for KeptServer<FolderStore<D>, FolderJournal<E>> {
+    fn take_left_out(&mut self) -> Option<(Name, NameFault)> {
+        KeptServer::take_left_out(self)
+    }
+
+    fn folder(&self) -> &str {
+        self.server().store().folder()
+    }
+}
+
+/// A server that answers as the one in it. When something is found to be wrong with a name, that is a
+/// line on standard error: `DIR/NAME.journal: CAUSE, left out`.
+///
+/// # Not specified
+/// What is said, and when.
+#[derive(Drop)]
+pub struct ReportingServer<'a, T> {
+    server: T,
+    files: NotedFiles<'a>,
+}
+
+impl<'a, T> ReportingServer<'a, T> {
+    /// This server, and the files that say why names are left out.
+    pub(crate) fn new(server: T, files: NotedFiles<'a>) -> ReportingServer<'a, T>
+        ensures { server_in result ≡ server }
+    {
+        ReportingServer { server, files }
+    }
+}
+
+impl<T: LeavesOut> ReportingServer<'_, T> {
+    /// Reports names that were left out since the last call.
+    fn report(&mut self)
+        ensures answered { (before : T) (frame : Frame) (replies : List ModelReply) →
+            T.Turns.answers before frame replies (server_in self.old) →
+            T.Turns.answers before frame replies (server_in self.new) }
+        ensures committed { T.Turns.committed (server_in self.old) → T.Turns.committed (server_in self.new) }
+    {
+        for _name in 0..NAMES_A_FRAME {
+            let Some((name, fault)) = self.server.take_left_out() else {
+                return;
+            };
+            // What can't be said for lack of memory is no reason to stop.
+            let _ = note_name(self.files, self.server.folder(), &name, &fault);
+        }
+    }
+}
+
+/// Says why a name of a folder is left out.
+///
+/// # Errors
+/// `AllocError` if memory was refused.
+fn note_name(
+    files: NotedFiles<'_>,
+    folder: &str,
+    name: &Name,
+    fault: &NameFault,
+) -> Result<(), AllocError> {
+    let alloc = files.alloc();
+    let cause = cause_of(alloc, fault)?;
+    if let Ok(name) = std::str::from_utf8(name.as_bytes()) {
+        let path = format!(in alloc; "{folder}/{name}.journal")?;
+        files.note_left_out(path.as_str(), cause.as_str());
+    }
+    Ok(())
+}
+
+impl<T: HasTable> HasTable for ReportingServer<'_, T> {
+    ghost use Rattle.bw_machine.specs.OpensHere.{server_in};
+
+    type Store = T::Store;
+
+    type Journal = T::Journal;
+
+    ghost holds = { λ s first book. T.holds (server_in s) first book };
+
+    fn table(&self) -> &Server<T::Store, T::Journal> {
+        self.server.table()
+    }
+}
+
+impl<T: LeavesOut> Turns for ReportingServer<'_, T> {
+    ghost use Rattle.bw_machine.specs.OpensHere.{server_in};
+
+    ghost answers = { λ s frame replies s'. T.Turns.answers (server_in s) frame replies (server_in s') };
+
+    ghost committed = { λ s. T.Turns.committed (server_in s) };
+
+    ghost commits = { λ s result s'. T.Turns.commits (server_in s) result (server_in s') };
+
+    fn turn(&mut self, message: &Message<'_>, replies: &mut ArrayVec<Reply, 17>) {
+        self.server.turn(message, replies);
+        self.report();
+    }
+
+    fn ask(&mut self, ask: &Ask<'_>) -> Reply {
+        let reply = self.server.ask(ask);
+        self.report();
+        reply
+    }
+
+    fn commit(&mut self) -> Result<(), NotKept> {
+        self.server.commit()
+    }
+}
