@@ -1,10 +1,11 @@
 -- The text of a rehearsal with stops, a part at a time.
 use Rattle.std.proofs.Common.{◌≡◌, ◌≤◌, ℕ, List, [], ◌++◌, append_assoc, length, sym, ◌∙◌, ap, subst}
+use Rattle.bw_model.specs.Book.{log_of}
 use Rattle.bw_model.specs.World.{World}
 use Rattle.bw_console.specs.Input.{longest_input}
 use Rattle.bw_console.specs.Lines.{lines_of}
 use Rattle.bw_commands.specs.Rehearsals.{world_counts_line}
-use Rattle.bw_stops.specs.Machines.{IsMachine, IsRunning}
+use Rattle.bw_stops.specs.Machines.{ShowsNext}
 use Rattle.bw_stops.specs.declared.event.StopEvent.{StopEvent}
 use Rattle.bw_stops.specs.declared.machine.Life.{Life}
 use Rattle.bw_stops.specs.declared.machine.Machine.{Machine}
@@ -30,10 +31,12 @@ of_four a b c d = sym (append_assoc (a ++ b) c d ∙ append_assoc a b (c ++ d))
 
 -- how far a server that runs got
 pub while_it_runs : (machine : Machine) (life : Life) → machine ≡ machines.Runs life → (limit : ℕ) (w : World)
-    (name prefix text : List ℕ) → (IsRunning limit w.book life → text ≡ prefix ++ progress_text (machines.Runs life) name w) →
-    IsMachine limit w.book machine → text ≡ prefix ++ progress_text machine name w
-while_it_runs machine life is limit w name prefix text runs =
-    subst (λ (m : Machine). IsMachine limit w.book m → text ≡ prefix ++ progress_text m name w) (sym is) runs
+    (name : List ℕ) (done : ℕ) (prefix text : List ℕ) →
+    (done ≡ (log_of w.book name).done → text ≡ prefix ++ progress_text (machines.Runs life) name w) →
+    ShowsNext limit w name done machine → text ≡ prefix ++ progress_text machine name w
+while_it_runs machine life is limit w name done prefix text runs =
+    subst (λ (m : Machine). ShowsNext limit w name done m → text ≡ prefix ++ progress_text m name w) (sym is)
+    (λ looked. runs looked.0)
 
 -- the lines say the events that were played, and this is the text
 pub of_lines : (name : List ℕ) (limit : ℕ) (input : List ℕ) (events played : List StopEvent) (text bytes : List ℕ) →

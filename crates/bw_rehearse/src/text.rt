@@ -4,7 +4,7 @@ ghost use Rattle.bw_model.specs.World.{World};
 ghost use Rattle.bw_sender.specs.Senders.{IsSender};
 ghost use Rattle.bw_commands.specs.Text.{file_text_if};
 ghost use Rattle.bw_folder.specs.Folders.{take_content};
-ghost use Rattle.bw_stops.specs.Machines.{IsMachine, takes_at, the_folder};
+ghost use Rattle.bw_stops.specs.Machines.{ShowsNext, takes_at, the_folder};
 ghost use Rattle.bw_stops.specs.Rehearsals.{WasRehearsedWithStops};
 ghost use Rattle.bw_stops.specs.declared.event.StopEvent.{StopEvent as SaidEvent};
 ghost use Rattle.bw_rehearse.specs.StopTexts.{IsStopsText, progress_text, stopped_line};
@@ -26,28 +26,20 @@ pub(crate) fn text_of_stops(
 {
     let mut text = Vec::new(alloc);
     put_counts(alloc, &mut text, it.offered, it.sent, it.replies)?;
-    put_progress(alloc, &mut text, name, it)?;
+    put_progress(alloc, &mut text, it)?;
     put_take(alloc, &mut text, name, &it.machine)?;
     Ok(text)
 }
 
 /// Adds how far the server and the sender got.
-fn put_progress(
-    alloc: Global,
-    out: &mut Vec<u8>,
-    name: &Name,
-    it: &Rehearsed,
-) -> Result<(), AllocError>
-    ensures { OnOk result ((limit : ℕ) (w : World) → IsSender w.sender it.now.sender →
-        IsMachine limit w.book it.now.machine →
-        out.new.items ≡ out.old.items ++ progress_text it.now.machine name.now w) }
+fn put_progress(alloc: Global, out: &mut Vec<u8>, it: &Rehearsed) -> Result<(), AllocError>
+    ensures { OnOk result ((limit : ℕ) (w : World) (name : List ℕ) → IsSender w.sender it.now.sender →
+        ShowsNext limit w name it.now.done it.now.machine →
+        out.new.items ≡ out.old.items ++ progress_text it.now.machine name w) }
 {
     let (settled, stored) = (it.sender.settled(), it.sender.stored());
     match &it.machine {
-        Machine::Runs(life) => {
-            let done = life.server.done(name).unwrap_or(0);
-            put_progress_of(alloc, out, done, settled, stored)
-        }
+        Machine::Runs(_life) => put_progress_of(alloc, out, it.done, settled, stored),
         Machine::Stopped(_) => put_stopped(alloc, out, settled, stored),
     }
 }

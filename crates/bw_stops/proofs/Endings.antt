@@ -1,8 +1,8 @@
 -- How paths of takes and of journals end.
-use Rattle.std.proofs.Common.{◌≡◌, ◌≢◌, ◌∙◌, ℕ, ◌+◌, ◌-◌, Bool, true, false, List, [], ◌∷◌, ◌++◌, length, drop, take, get_or, refl, sym, ap, arith, codes}
+use Rattle.std.proofs.Common.{◌≡◌, ◌∙◌, ℕ, ◌+◌, ◌-◌, Bool, true, false, List, ◌++◌, length, drop, take, get_or, refl, sym, ap, arith, codes}
 use Rattle.std.specs.Prelude.{◌==◌}
 use Rattle.std.specs.List.{ends_with}
-use Rattle.std.specs.Cmp.Lexicographic.{same_text, other_text, pointwise}
+use Rattle.std.specs.Cmp.Lexicographic.{same_text, other_text}
 use Rattle.std.proofs.lemmas.List.{length-append, take-append-drop, get_or-append-add}
 use Rattle.std.proofs.Math.Seq.{drop-append_seam}
 use Rattle.bw_folder.specs.Folders.{take_path}

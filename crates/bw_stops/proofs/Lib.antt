@@ -1,3 +1,4 @@
+mod AskForms
 pub mod Endings
 mod MachineForms
 mod NetworkForms

@@ -1,11 +1,14 @@
 -- What an event of the sender makes of a world, with the network that has it.
-use Rattle.std.proofs.Common.{◌≡◌, ℕ, List, Option, Some, None, sym, subst}
+use Rattle.std.proofs.Common.{◌≡◌, ◌∙◌, ◌++◌, ℕ, List, [], Option, ap, map, sym, subst}
+use Rattle.std.proofs.lemmas.List.{append-nil}
+use Rattle.bw_wire.specs.Replies.{reply_of}
+use Rattle.bw_wire.specs.declared.reply.Reply.{Reply as Written}
 use Rattle.std.specs.Prelude.{slice_get}
 use Rattle.bw_model.specs.Take.{Request}
 use Rattle.bw_model.specs.Replies.{Reply}
 use Rattle.bw_model.specs.Turn.{good}
 use Rattle.bw_model.specs.Exchange.{nothing_stands}
-use Rattle.bw_model.specs.World.{World, Sender, Offer, Send, Bring, offer, hear, pending, happens, send, bring}
+use Rattle.bw_model.specs.World.{World, Sender, Offer, Send, Bring, offer, pending, happens, send, bring}
 use Rattle.bw_stops.specs.Networks.{IsNetwork}
 use Rattle.bw_stops.specs.declared.network.Network.{Network}
 
@@ -24,3 +27,8 @@ module _ (w : World) (n : Network) where
       IsNetwork (happens nothing_stands w (Bring i) good) n
   unfolding happens
   brought_by i o e k = subst (λ (x : Option Reply). IsNetwork (bring w x) n) (sym e) k
+
+-- the same replies, and none more
+pub same_replies : (xs ys : List Written) (replies : List Reply) → xs ≡ ys → map reply_of ys ≡ replies →
+    map reply_of xs ≡ replies ++ []
+same_replies xs ys replies same are = ap (map reply_of) same ∙ are ∙ sym (append-nil replies)

@@ -1,23 +1,24 @@
 -- What an event makes of a world, with the network and the machine that have it.
 use Rattle.std.proofs.Common.{◌≡◌, ℕ, inl, inr, refl, Bool, true, false, List, [], ◌∷◌, ◌++◌, Option, Some, None, sym, ap, ◌∙◌, subst}
-use Rattle.std.specs.Prelude.{slice_get, IsTrue, Result, Ok, Err, IfOk}
+use Rattle.std.specs.Prelude.{slice_get, Result, Ok, Err, IfOk}
 use Rattle.std.proofs.lemmas.List.{append-nil}
 use Rattle.bw_model.specs.Take.{Request}
-use Rattle.bw_model.specs.Wire.{Message, Says, Second, is_frame}
-use Rattle.bw_model.specs.Replies.{Reply, Noticed, Next}
-use Rattle.bw_model.specs.Book.{Book, log_of}
-use Rattle.bw_model.specs.Turn.{Faults, good, turn}
+use Rattle.bw_model.specs.Wire.{Message, Frame, Says, Asks}
+use Rattle.bw_model.specs.Replies.{Reply}
+use Rattle.bw_model.specs.Book.{Book}
+use Rattle.bw_model.specs.Turn.{good}
 use Rattle.bw_model.specs.Exchange.{nothing_stands}
-use Rattle.bw_model.specs.World.{World, Event, Offer, Send, Deliver, Bring, Ask, happens, deliver, comes, pending}
+use Rattle.bw_model.specs.World.{World, Event, Offer, Send, Deliver, Bring, Ask, happens, pending}
 use Rattle.bw_journal.specs.Stops.{cut_book}
-use Rattle.bw_left.specs.StoppedWorlds.{WorldStep, Happens, Dies, Stops, Starts, MayCome, IsNextStep}
+use Rattle.bw_kept.specs.LeftFolders.{GoesAhead}
+use Rattle.bw_lives.specs.StoppedWorlds.{WorldStep, Happens, Answers, Dies, Stops, Starts, MayCome, IsNextStep}
 use Rattle.bw_rehearsal.specs.RehearsedWorlds.{event_meaning}
 use Rattle.bw_rehearsal.specs.declared.event.Event.{Event as Played}
 use Rattle.bw_rehearsal.proofs.Staging.{sent_book, brought_book}
-use Rattle.bw_stops.specs.Machines.{IsRunning, IsLeftAt, IsMachine, KeepsRunning, DiesInTurn, TurnsMachine, StartsMachine, runs}
+use Rattle.bw_stops.specs.Machines.{IsRunning, IsLeftAt, IsMachine, KeepsRunning, DiesInTurn, TurnsMachine, AnswersForName, BeginsOverLeft, StartsFound, runs}
 use Rattle.bw_stops.specs.Networks.{IsNetwork}
 use Rattle.bw_stops.specs.declared.event.StopEvent.{StopEvent}
-use Rattle.bw_stops.specs.PlayedEvents.{PlaysBy, LeavesBook, IsPlayed, IsPlayedEvent, DeliversIf, AsksIf, StopsIf, StartsIf, MayStartIf}
+use Rattle.bw_stops.specs.PlayedEvents.{PlaysBy, LeavesBook, IsPlayed, IsPlayedEvent, AnswersOrDies, DeliversIf, AsksIf, StopsIf, StartsIf, MayStartIf}
 use Rattle.bw_stops.specs.declared.machine.Machine.{Machine}
 use Rattle.bw_stops.specs.declared.machine.Machine.TheVariants.{Runs, Stopped}
 use Rattle.bw_stops.specs.declared.machine.Life.{Life}
@@ -119,14 +120,14 @@ module _ (limit : ℕ) (w : World) (later : Network) where
       IsMachine limit w.book m → PlaysBy limit w (IsPlayedEvent w (runs m) (Deliver k)) later (Stopped folder)
   lost m folder k e n is =
       idle (Stopped folder) (IsPlayedEvent w (runs m) (Deliver k))
-      (subst (λ (b : Bool). DeliversIf b (slice_get w.sent k) k [] false) (sym (ap runs e)) (refl, refl)) n
+      (subst (λ (b : Bool). DeliversIf b (slice_get w.sent k) [] false) (sym (ap runs e)) (refl, refl)) n
       (subst (IsMachine limit w.book) e is)
 
   pub unasked : (m : Machine) (folder : Folder) → m ≡ Stopped folder → IsNetwork w later →
       IsMachine limit w.book m → PlaysBy limit w (IsPlayedEvent w (runs m) Ask) later (Stopped folder)
   unasked m folder e n is =
       idle (Stopped folder) (IsPlayedEvent w (runs m) Ask)
-      (subst (λ (b : Bool). (false ≡ b) × AsksIf b []) (sym (ap runs e)) (refl, refl)) n
+      (subst (λ (b : Bool). AsksIf b w.sender.name [] false) (sym (ap runs e)) (refl, refl)) n
       (subst (IsMachine limit w.book) e is)
 
   -- what a server does that runs
@@ -143,44 +144,27 @@ module _ (limit : ℕ) (w : World) (later : Network) where
       PlaysBy limit w (IsPlayedEvent w true (Deliver k)) later (Runs life)
   unsent life k none n is =
       idle (Runs life) (IsPlayedEvent w true (Deliver k))
-      (subst (λ (o : Option Message). DeliversIf true o k [] true) (sym none) (refl, refl)) n is
+      (subst (λ (o : Option Message). DeliversIf true o [] true) (sym none) (refl, refl)) n is
 
-  pub asked : (life : Life) → IsNetwork (with_replies w
-      (Noticed w.sender.name 0 Next (log_of w.book w.sender.name).done ∷ []) w.book) later →
-      IsRunning limit w.book life → PlaysBy limit w (IsPlayedEvent w true Ask) later (Runs life)
-  unfolding turn happens
-  asked life n is = happened (Runs life) Ask (refl, refl) refl n is
-
-  -- a message comes to the server
-  module _ (k : ℕ) (m : Message) (replies : List Reply) (at : slice_get w.sent k ≡ Some m)
+  -- a frame comes to the server
+  module _ (f : Frame) (replies : List Reply) (AreSteps : List WorldStep → Bool → Type 0)
+      (played : (steps : List WorldStep) (on : Bool) → AnswersOrDies f steps on → AreSteps steps on)
       (n : (book : Book) → IsNetwork (with_replies w replies book) later) where
-    went_on : (life : Life) → KeepsRunning limit w m replies life →
-        PlaysBy limit w (IsPlayedEvent w true (Deliver k)) later (Runs life)
-    unfolding happens
+    went_on : (life : Life) → KeepsRunning limit w f replies life → PlaysBy limit w AreSteps later (Runs life)
     went_on life g = record {
-      steps = Happens (Deliver k) g.faults ∷ [];
-      world = happens nothing_stands w (Deliver k) g.faults;
-      played = subst (λ (o : Option Message). DeliversIf true o k (Happens (Deliver k) g.faults ∷ []) true) (sym at)
-          (inl (refl, (g.faults, refl)));
-      went = (tt, refl);
-      network_is = subst (λ (o : Option Message). IsNetwork (deliver nothing_stands w o g.faults) later) (sym at)
-          (subst (λ (rs : List Reply). IsNetwork (record {
-            sender = w.sender;
-            sent = w.sent;
-            book = (comes nothing_stands w (Says m) g.faults).book;
-            replies = rs;
-          }) later) (sym g.written) (n (comes nothing_stands w (Says m) g.faults).book));
-      machine_is = subst (λ (o : Option Message). IsRunning limit (deliver nothing_stands w o g.faults).book life) (sym at)
-          g.running;
+      steps = Answers f replies g.later ∷ [];
+      world = with_replies w replies g.later;
+      played = played (Answers f replies g.later ∷ []) true (inl (refl, (replies, (g.later, refl))));
+      went = (g.next, refl);
+      network_is = n g.later;
+      machine_is = g.running;
     }
 
-    stopped : (folder : Folder) → DiesInTurn limit w m replies folder →
-        PlaysBy limit w (IsPlayedEvent w true (Deliver k)) later (Stopped folder)
+    stopped : (folder : Folder) → DiesInTurn limit w f replies folder → PlaysBy limit w AreSteps later (Stopped folder)
     stopped folder d = record {
-      steps = Dies m d.faults d.left ∷ [];
+      steps = Dies f d.given d.later d.left ∷ [];
       world = record w { book = d.left };
-      played = subst (λ (o : Option Message). DeliversIf true o k (Dies m d.faults d.left ∷ []) false) (sym at)
-          (inr (refl, (d.faults, (d.left, refl))));
+      played = played (Dies f d.given d.later d.left ∷ []) false (inr (refl, (d.given, (d.later, (d.left, refl)))));
       went = (d.next, refl);
       network_is = subst (λ (rs : List Reply). IsNetwork (record {
         sender = w.sender;
@@ -191,20 +175,28 @@ module _ (limit : ℕ) (w : World) (later : Network) where
       machine_is = d.stands;
     }
 
-    turned : (machine : Machine) → TurnsMachine limit w m replies machine →
-        PlaysBy limit w (IsPlayedEvent w true (Deliver k)) later machine
+    pub turned : (machine : Machine) → TurnsMachine limit w f replies machine → PlaysBy limit w AreSteps later machine
     turned (Runs life) g = went_on life g
     turned (Stopped folder) d = stopped folder d
 
   -- the message at a place of what was sent comes to it
   pub came : (k : ℕ) (s m : Message) (replies : List Reply) (machine : Machine) → slice_get w.sent k ≡ Some s →
-      IsTrue (is_frame Second (Says s)) → m ≡ s → ((book : Book) → IsNetwork (with_replies w replies book) later) →
-      (MayCome w m → IsTrue (is_frame Second (Says m)) → TurnsMachine limit w m replies machine) →
+      m ≡ s → ((book : Book) → IsNetwork (with_replies w replies book) later) →
+      (MayCome w (Says m) → TurnsMachine limit w (Says m) replies machine) →
       PlaysBy limit w (IsPlayedEvent w true (Deliver k)) later machine
-  came k s m replies machine at fits same n turns =
+  came k s m replies machine at same n turns =
       let there : slice_get w.sent k ≡ Some m = at ∙ ap Some (sym same) in
-      turned k m replies there n machine
-      (turns (inl (k, there)) (subst (λ (x : Message). IsTrue (is_frame Second (Says x))) (sym same) fits))
+      turned (Says m) replies (IsPlayedEvent w true (Deliver k))
+      (λ steps on did. subst (λ (o : Option Message). DeliversIf true o steps on) (sym there) did) n machine
+      (turns (inl (k, there)))
+
+  -- the server is asked for the sender's name
+  pub asked : (name : List ℕ) (replies : List Reply) (machine : Machine) → name ≡ w.sender.name →
+      ((book : Book) → IsNetwork (with_replies w replies book) later) →
+      TurnsMachine limit w (Asks name 0) replies machine → PlaysBy limit w (IsPlayedEvent w true Ask) later machine
+  asked name replies machine same n turns =
+      turned (Asks name 0) replies (IsPlayedEvent w true Ask)
+      (λ steps on did. subst (λ (x : List ℕ). AnswersOrDies (Asks x 0) steps on) same did) n machine turns
 
 -- A machine whose server stops, or which gets one.
 module _ (limit : ℕ) (w : World) (m : Machine) where
@@ -219,58 +211,54 @@ module _ (limit : ℕ) (w : World) (m : Machine) where
     machine_is = subst (IsMachine limit w.book) e is;
   }
 
-  pub runs_already : (life : Life) → m ≡ Runs life → IsMachine limit w.book m →
-      LeavesBook limit w (λ steps on. (on ≡ true) × StartsIf (runs m) steps) (Runs life)
-  runs_already life e is =
-      unchanged (Runs life) _ (subst (λ (b : Bool). (true ≡ true) × StartsIf b []) (sym (ap runs e)) (refl, refl)) e is
+  pub runs_already : (life : Life) (name : List ℕ) → m ≡ Runs life → IsMachine limit w.book m →
+      LeavesBook limit w (λ steps on. (on ≡ true) × StartsIf (runs m) name steps) (Runs life)
+  runs_already life name e is =
+      unchanged (Runs life) _ (subst (λ (b : Bool). (true ≡ true) × StartsIf b name []) (sym (ap runs e)) (refl, refl)) e is
 
-  pub started : (folder : Folder) (life : Life) → m ≡ Stopped folder → IsMachine limit w.book m →
-      (IsLeftAt limit w.book folder → IsRunning limit (cut_book w.book) life) →
-      LeavesBook limit w (λ steps on. (on ≡ true) × StartsIf (runs m) steps) (Runs life)
-  started folder life e is f = record {
-    steps = Starts ∷ [];
-    book = cut_book w.book;
-    played = subst (λ (b : Bool). (true ≡ true) × StartsIf b (Starts ∷ [])) (sym (ap runs e)) (refl, refl);
-    went = (tt, refl);
-    machine_is = f (subst (IsMachine limit w.book) e is);
+  pub counted_already : (life : Life) (name : List ℕ) → m ≡ Runs life → IsMachine limit w.book m →
+      LeavesBook limit w (MayStartIf (runs m) name) (Runs life)
+  counted_already life name e is =
+      unchanged (Runs life) _ (subst (λ (b : Bool). MayStartIf b name [] true) (sym (ap runs e)) (refl, refl)) e is
+
+  pub left_by : (folder : Folder) → m ≡ Stopped folder → IsMachine limit w.book m → IsLeftAt limit w.book folder
+  left_by folder e is = subst (IsMachine limit w.book) e is
+
+  pub started : (folder : Folder) (life : Life) (name : List ℕ) → m ≡ Stopped folder →
+      StartsFound limit w name (Runs life) →
+      LeavesBook limit w (λ steps on. (on ≡ true) × StartsIf (runs m) name steps) (Runs life)
+  started folder life name e f = record {
+    steps = Starts ∷ Dies (Asks name 0) f.given f.later f.left ∷ Starts ∷ [];
+    book = cut_book f.left;
+    played = subst (λ (b : Bool). (true ≡ true) × StartsIf b name (Starts ∷ Dies (Asks name 0) f.given f.later f.left ∷ Starts ∷ []))
+        (sym (ap runs e)) (refl, (f.given, (f.later, (f.left, refl))));
+    went = (tt, (f.next, (tt, refl)));
+    machine_is = f.machine_is;
   }
 
-  pub counted_already : (life : Life) → m ≡ Runs life → IsMachine limit w.book m →
-      LeavesBook limit w (MayStartIf (runs m)) (Runs life)
-  counted_already life e is =
-      unchanged (Runs life) _ (subst (λ (b : Bool). MayStartIf b [] true) (sym (ap runs e)) (refl, refl)) e is
-
-  -- a start in which a disk may have died
-  tried : (folder : Folder) (later : Machine) → m ≡ Stopped folder → StartsMachine limit w.book later →
-      LeavesBook limit w (MayStartIf (runs m)) later
-  tried folder (Runs life) e is = record {
-    steps = Starts ∷ [];
-    book = cut_book w.book;
-    played = subst (λ (b : Bool). MayStartIf b (Starts ∷ []) true) (sym (ap runs e)) (inl (refl, refl));
-    went = (tt, refl);
-    machine_is = is;
+  pub counted : (folder : Folder) (later : Machine) (name : List ℕ) → m ≡ Stopped folder → StartsFound limit w name later →
+      LeavesBook limit w (MayStartIf (runs m) name) later
+  counted folder (Runs life) name e f = record {
+    steps = Starts ∷ Dies (Asks name 0) f.given f.later f.left ∷ Starts ∷ [];
+    book = cut_book f.left;
+    played = subst (λ (b : Bool). MayStartIf b name (Starts ∷ Dies (Asks name 0) f.given f.later f.left ∷ Starts ∷ []) true)
+        (sym (ap runs e)) (inl (refl, (f.given, (f.later, (f.left, refl)))));
+    went = (tt, (f.next, (tt, refl)));
+    machine_is = f.machine_is;
   }
-  tried folder (Stopped left) e (inl is) = record {
-    steps = [];
-    book = w.book;
-    played = subst (λ (b : Bool). MayStartIf b [] false) (sym (ap runs e)) (inr (refl, inl refl));
-    went = refl;
-    machine_is = is;
-  }
-  tried folder (Stopped left) e (inr is) = record {
-    steps = Starts ∷ Stops is.left ∷ [];
-    book = is.left;
-    played = subst (λ (b : Bool). MayStartIf b (Starts ∷ Stops is.left ∷ []) false) (sym (ap runs e))
-        (inr (refl, inr (is.left, refl)));
-    went = (tt, (is.ahead, refl));
-    machine_is = is.stands;
+  counted folder (Stopped left) name e f = record {
+    steps = Starts ∷ Dies (Asks name 0) f.given f.later f.left ∷ [];
+    book = f.left;
+    played = subst (λ (b : Bool). MayStartIf b name (Starts ∷ Dies (Asks name 0) f.given f.later f.left ∷ []) false)
+        (sym (ap runs e)) (inr (refl, (f.given, (f.later, (f.left, refl)))));
+    went = (tt, (f.next, refl));
+    machine_is = f.machine_is;
   }
 
-  pub each_tried : {E : Type 0} (folder : Folder) (r : Result Machine E) → m ≡ Stopped folder → IsMachine limit w.book m →
-      (IsLeftAt limit w.book folder → IfOk r (StartsMachine limit w.book)) →
-      IfOk r (λ later. LeavesBook limit w (MayStartIf (runs m)) later)
-  each_tried folder (Ok later) e is f = tried folder later e (f (subst (IsMachine limit w.book) e is))
-  each_tried folder (Err x) e is f = f (subst (IsMachine limit w.book) e is)
+  pub each_counted : {E : Type 0} (folder : Folder) (name : List ℕ) (r : Result Machine E) → m ≡ Stopped folder →
+      IfOk r (StartsFound limit w name) → IfOk r (λ later. LeavesBook limit w (MayStartIf (runs m) name) later)
+  each_counted folder name (Ok later) e f = counted folder later name e f
+  each_counted folder name (Err x) e f = f
 
   pub stopped_already : (folder : Folder) → m ≡ Stopped folder → IsMachine limit w.book m →
       LeavesBook limit w (λ steps on. (on ≡ false) × StopsIf (runs m) steps) (Stopped folder)
@@ -288,3 +276,52 @@ module _ (limit : ℕ) (w : World) (m : Machine) where
     went = (next, refl);
     machine_is = stands;
   }
+
+-- What comes of a server that found a name.
+module _ (limit : ℕ) (w : World) (name : List ℕ) where
+  -- it stopped as it did
+  pub found_stopped : (folder : Folder) → AnswersForName limit w name (Stopped folder) → StartsFound limit w name (Stopped folder)
+  found_stopped folder (replies, d) = record {
+    given = d.given;
+    later = d.later;
+    left = d.left;
+    next = d.next;
+    machine_is = d.stands;
+  }
+
+  -- another goes on
+  pub found_anew : (life later : Life) (f : AnswersForName limit w name (Runs life)) → BeginsOverLeft limit f.1.later later →
+      StartsFound limit w name (Runs later)
+  found_anew life later (replies, g) (left, ahead, running) = record {
+    given = replies;
+    later = g.later;
+    left = left;
+    next = (tt, g.next.1, ahead);
+    machine_is = running;
+  }
+
+  pub found_by : (machine other : Machine) → machine ≡ other → AnswersForName limit w name machine →
+      AnswersForName limit w name other
+  found_by machine other e f = subst (AnswersForName limit w name) e f
+
+  pub each_anew : {E : Type 0} (life : Life) (r : Result Life E) (f : AnswersForName limit w name (Runs life)) →
+      IfOk r (BeginsOverLeft limit f.1.later) → IfOk r (λ later. StartsFound limit w name (Runs later))
+  each_anew life (Ok later) f h = found_anew life later f h
+  each_anew life (Err e) f h = h
+
+-- A server that began over what another left.
+pub each_started : {E : Type 0} (limit : ℕ) (book left : Book) → GoesAhead book left → (r : Result Life E) →
+    IfOk r (λ life. IsRunning limit (cut_book left) life) → IfOk r (BeginsOverLeft limit book)
+each_started limit book left ahead (Ok life) h = (left, ahead, h)
+each_started limit book left ahead (Err e) h = h
+
+-- The same start, for a name that is another's.
+pub starts_for : (limit : ℕ) (w : World) (was : Bool) (name other : List ℕ) (m : Machine) → name ≡ other →
+    LeavesBook limit w (λ steps on. (on ≡ true) × StartsIf was name steps) m →
+    LeavesBook limit w (λ steps on. (on ≡ true) × StartsIf was other steps) m
+starts_for limit w was name other m e l =
+    subst (λ (n : List ℕ). LeavesBook limit w (λ steps on. (on ≡ true) × StartsIf was n steps) m) e l
+
+pub counts_for : (limit : ℕ) (w : World) (was : Bool) (name other : List ℕ) (m : Machine) → name ≡ other →
+    LeavesBook limit w (MayStartIf was name) m → LeavesBook limit w (MayStartIf was other) m
+counts_for limit w was name other m e l = subst (λ (n : List ℕ). LeavesBook limit w (MayStartIf was n) m) e l

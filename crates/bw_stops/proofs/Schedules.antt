@@ -1,9 +1,9 @@
 -- Events that are played one after another.
-use Rattle.std.proofs.Common.{◌≡◌, ℕ, ◌+◌, ◌<◌, Bool, false, List, [], ◌∷◌, ◌++◌, length, take, get_or, refl, sym, ◌∙◌, ap, subst}
+use Rattle.std.proofs.Common.{◌≡◌, ℕ, ◌+◌, ◌<◌, Bool, List, [], ◌∷◌, ◌++◌, length, take, get_or, refl, sym, ◌∙◌, ap, subst}
 use Rattle.std.proofs.lemmas.List.{append-nil, append_assoc, take_more}
 use Rattle.bw_model.specs.Exchange.{nothing_stands}
 use Rattle.bw_model.specs.World.{World}
-use Rattle.bw_left.specs.StoppedWorlds.{WorldStep, WorldStepsTo, after_world_step}
+use Rattle.bw_lives.specs.StoppedWorlds.{WorldStep, WorldStepsTo, after_world_step}
 use Rattle.bw_stops.specs.PlayedEvents.{IsPlayed}
 use Rattle.bw_stops.specs.Rehearsals.{ArePlayed}
 use Rattle.bw_stops.specs.declared.event.StopEvent.{StopEvent}

@@ -1,3 +1,4 @@
+pub mod Asks
 pub mod Machines
 pub mod Networks
 pub mod PlayedEvents

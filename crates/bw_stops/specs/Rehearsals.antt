@@ -4,8 +4,8 @@ use Rattle.bw_model.specs.Exchange.{nothing_stands}
 use Rattle.bw_model.specs.World.{World, IsFaithful, new_world}
 use Rattle.bw_journal.specs.Stops.{AnswersStay}
 use Rattle.bw_sender.specs.Senders.{IsSender}
-use Rattle.bw_left.specs.StoppedWorlds.{WorldStep, WorldStepsTo}
-use Rattle.bw_stops.specs.Machines.{IsMachine, runs}
+use Rattle.bw_lives.specs.StoppedWorlds.{WorldStep, WorldStepsTo}
+use Rattle.bw_stops.specs.Machines.{ShowsNext}
 use Rattle.bw_stops.specs.PlayedEvents.{IsPlayed}
 use Rattle.bw_stops.specs.declared.event.StopEvent.{StopEvent}
 use Rattle.bw_stops.specs.declared.rehearsal.Rehearsed.{Rehearsed}
@@ -26,7 +26,9 @@ pub record WasRehearsedWithStops (name : List ℕ) (limit : ℕ) (events : List 
     (it : Rehearsed) : Type 0 where
   pub world : World
   pub steps : List WorldStep
-  pub played : ArePlayed (new_world name) false events steps world (runs it.machine)
+  -- whether a server runs at the end
+  pub on : Bool
+  pub played : ArePlayed (new_world name) false events steps world on
   pub went : WorldStepsTo nothing_stands (new_world name) steps world
   pub faithful : IsFaithful nothing_stands world
   pub answers : AnswersStay nothing_stands world
@@ -34,5 +36,6 @@ pub record WasRehearsedWithStops (name : List ℕ) (limit : ℕ) (events : List 
   pub sent : it.sent ≡ length world.sent
   pub replies : it.replies ≡ length world.replies
   pub sender : IsSender world.sender it.sender
-  -- its server holds the world's book, and its disks haven't died; or that book was left
-  pub machine : IsMachine limit world.book it.machine
+  -- if its server runs, it was asked how many numbers are done; it holds the world's book, and its
+  -- disks haven't died, or it stopped as it was asked; or that book was left
+  pub machine : ShowsNext limit world name it.done it.machine

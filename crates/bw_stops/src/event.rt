@@ -22,10 +22,10 @@ pub enum StopEvent {
     Happens(Event),
     /// The server stops between turns, if one runs.
     Stop,
-    /// A server starts over what was left, if none runs, and the calls of its disks are counted from
-    /// the end of the start.
+    /// A server starts over what was left, if none runs, and has found the sender's name; the calls of
+    /// its disks are counted from then on.
     Start(Lives),
-    /// The same, but their calls are counted from the first of the start: a disk may die in it, and
-    /// then no server runs, and what the start left is what was left.
+    /// The same, but their calls are counted from the first on: a disk may die while the name is
+    /// found, and then no server runs.
     StartCounting(Lives),
 }

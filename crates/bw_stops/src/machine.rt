@@ -1,41 +1,40 @@
 //! A machine with a server over a folder in memory: its start, its turns, and what a stop leaves.
-ghost use Rattle.std.specs.Prelude.{◌≡◌, ◌≤◌, ◌<◌, ◌⊎◌, ℕ, [], true, false, IsTrue, IsFalse, IfOk};
-ghost use Rattle.std.specs.Prelude.{map, length};
-ghost use Rattle.bw_model.specs.Wire.{Says, Second, is_frame};
+ghost use Rattle.std.specs.Prelude.{◌≡◌, ◌≤◌, ◌<◌, ◌⊎◌, ℕ, [], ◌∷◌, true, false, IsTrue, IsFalse, IfOk};
+ghost use Rattle.std.specs.Prelude.{map, length, string_bytes};
+ghost use Rattle.bw_model.specs.Wire.{Says, Asks};
 ghost use Rattle.bw_model.specs.Book.{Book};
 ghost use Rattle.bw_model.specs.World.{World};
 ghost use Rattle.bw_journal.specs.Stops.{cut_book};
-ghost use Rattle.bw_disk.specs.MemoryVolumes.{disk_content};
-ghost use Rattle.bw_rehearsal.specs.RehearsedWorlds.{no_contents};
-ghost use Rattle.bw_recovery.specs.StaysLeft.{IsLeftOf};
-ghost use Rattle.bw_wire.specs.Frames.{message_of};
+ghost use Rattle.bw_wire.specs.Frames.{message_of, asked_name, asked_number};
 ghost use Rattle.bw_wire.specs.Replies.{reply_of};
-ghost use Rattle.bw_left.specs.StoppedWorlds.{MayCome};
+ghost use Rattle.bw_lives.specs.StoppedWorlds.{MayCome};
 ghost use Rattle.bw_stops.specs.Machines.{IsRunning, IsLeftAt, IsMachine, TurnsMachine, the_folder};
-ghost use Rattle.bw_stops.specs.Machines.{HasStarted, IsShownAt, StartsMachine, runs};
+ghost use Rattle.bw_stops.specs.Machines.{AnswersForName, BeginsOverLeft, StartsFound, written_to, runs};
 ghost use Rattle.bw_stops.specs.PlayedEvents.{LeavesBook, MayStartIf, StopsIf, StartsIf};
 ghost use Rattle.bw_folder.specs.TakeFolders.{takes_disk, takes_folder};
 ghost use Rattle.bw_folder.specs.JournalFolders.{journals_disk, journals_folder};
 ghost use Rattle.bw_session.specs.SeenServers.{server_store, server_journal};
+ghost use Rattle.bw_kept.specs.KeptServers.{table_server};
 
+use crate::asks::asked;
 use crate::event::Lives;
-use crate::rehearsal::StopsFault;
-use crate::shown::{copy_of, shown_notes};
+use crate::shown::shown_notes;
 use arrayvec::ArrayVec;
 use bw_disk::{MemoryDisk, MortalDisk};
+use bw_exchange::Turns;
 use bw_folder::{FolderJournal, FolderStore};
+use bw_kept::KeptServer;
 use bw_layout::Limit;
-use bw_recovery::Unwatched;
+use bw_request::Name;
 use bw_session::Server;
-use bw_start::start;
-use bw_wire::{Message, Reply};
+use bw_wire::{Ask, Message, Reply};
 use std::alloc::{AllocError, Global};
 
 /// The folder of the takes and their journals.
 pub(crate) const FOLDER: &str = "takes";
 
 /// A server over disks in memory that die.
-type MachineServer = Server<
+type MachineServer = KeptServer<
     FolderStore<MortalDisk<MemoryDisk>>,
     FolderJournal<MortalDisk<MemoryDisk>>,
 >;
@@ -77,11 +76,47 @@ impl Folder {
     }
 }
 
-/// Starts a server over what was left, if none runs.
+impl Life {
+    /// Begins a server over a folder, on disks that die in these calls: it knows no name, and calls no
+    /// disk. The disk of the journals is to show the files of the takes too.
+    ///
+    /// # Errors
+    /// `AllocError` if memory was refused.
+    ///
+    /// # Not specified
+    /// When memory is refused.
+    pub fn begin(
+        alloc: Global,
+        folder: Folder,
+        limit: Limit,
+        lives: &Lives,
+    ) -> Result<Life, AllocError>
+        ensures { (book : Book) → IsLeftAt limit book folder →
+            IfOk result (λ life. IsRunning limit (cut_book book) life) }
+    {
+        let (of_takes, of_notes) = folder_twice(alloc)?;
+        let takes = MortalDisk::new(folder.takes, lives.takes, lives.reached);
+        let notes = MortalDisk::new(folder.notes, lives.notes, lives.reached);
+        let store = FolderStore::in_folder(takes, alloc, of_takes);
+        let journal = FolderJournal::in_folder(notes, alloc, of_notes, limit, false);
+        // Called for its clause on the range of a limit.
+        let _range = limit.bytes();
+        let Ok(server) = Server::with_journal(alloc, store, journal, limit) else {
+            return Err(AllocError);
+        };
+        match KeptServer::new(alloc, server) {
+            Ok(server) => Ok(Life { server }),
+            Err(_) => Err(AllocError),
+        }
+    }
+}
+
+/// Starts a server over what was left, if none runs. It is asked for a name first, by disks that
+/// don't die, so that the name's files are as they are to be; the disk of the journals then shows
+/// them to the server that goes on.
 ///
 /// # Errors
-/// `Memory` if memory was refused, `Start` if the start failed, in which no disk died: the rehearsal ends
-/// then.
+/// `AllocError` if memory was refused.
 ///
 /// # Not specified
 /// When memory is refused.
@@ -90,47 +125,49 @@ pub(crate) fn start_again(
     machine: Machine,
     limit: Limit,
     lives: &Lives,
-) -> Result<Machine, StopsFault>
+    name: &Name,
+) -> Result<Machine, AllocError>
     ensures { (w : World) → IsMachine limit w.book machine → IfOk result (λ later.
-        LeavesBook limit w (λ steps on. (on ≡ true) × StartsIf (runs machine) steps) later) }
+        LeavesBook limit w (λ steps on. (on ≡ true) × StartsIf (runs machine) name.now steps) later) }
 {
     match machine {
         Machine::Runs(life) => Ok(Machine::Runs(life)),
         Machine::Stopped(folder) => {
-            let life = start_over(alloc, folder, limit, lives)?;
+            let life = start_found(alloc, folder, limit, lives, name)?;
             Ok(Machine::Runs(life))
         }
     }
 }
 
-/// Starts a server over what was left, on disks that die this many calls after the start.
-fn start_over(
+/// Starts a server over what was left, which has found a name, on disks that die in these calls
+/// after that.
+fn start_found(
     alloc: Global,
     folder: Folder,
     limit: Limit,
     lives: &Lives,
-) -> Result<Life, StopsFault>
-    ensures { (book : Book) → IsLeftAt limit book folder →
-        IfOk result (λ life. IsRunning limit (cut_book book) life) }
+    name: &Name,
+) -> Result<Life, AllocError>
+    ensures { (w : World) → IsLeftAt limit w.book folder →
+        IfOk result (λ life. StartsFound limit w name.now (Machine.Runs life)) }
 {
-    let folder = show_again(alloc, folder)?;
-    let (of_takes, of_notes) = calls_of_start(alloc, &folder, limit)?;
-    let counted = Lives {
-        takes: of_takes.saturating_add(lives.takes),
-        notes: of_notes.saturating_add(lives.notes),
-        reached: lives.reached,
+    let endless = Lives {
+        takes: u64::MAX,
+        notes: u64::MAX,
+        reached: 0,
     };
-    match start_by(alloc, folder, limit, &counted)? {
-        Machine::Runs(life) => Ok(life),
-        Machine::Stopped(_) => Err(StopsFault::Start),
+    match find_name(alloc, folder, limit, &endless, name)? {
+        Machine::Runs(life) => start_anew(alloc, life, limit, lives),
+        // Such disks don't die, but no clause says so.
+        Machine::Stopped(_) => Err(AllocError),
     }
 }
 
-/// Starts a server over what was left, if none runs, by disks whose calls are counted from the first
-/// of the start. If one dies in it, no server runs.
+/// Starts a server over what was left, if none runs, and asks it for a name, by disks whose calls are
+/// counted from the first on. If one dies as it finds the name, no server runs.
 ///
 /// # Errors
-/// `Memory` if memory was refused, `Start` if a start failed in which no disk died.
+/// `AllocError` if memory was refused.
 ///
 /// # Not specified
 /// When memory is refused, and in which call a disk dies.
@@ -139,111 +176,108 @@ pub(crate) fn start_counting(
     machine: Machine,
     limit: Limit,
     lives: &Lives,
-) -> Result<Machine, StopsFault>
-    ensures { (w : World) → IsMachine limit w.book machine →
-        IfOk result (λ later. LeavesBook limit w (MayStartIf (runs machine)) later) }
+    name: &Name,
+) -> Result<Machine, AllocError>
+    ensures { (w : World) → IsMachine limit w.book machine → IfOk result (λ later.
+        LeavesBook limit w (MayStartIf (runs machine) name.now) later) }
 {
     match machine {
-        Machine::Runs(running) => Ok(Machine::Runs(running)),
-        Machine::Stopped(folder) => {
-            let folder = show_again(alloc, folder)?;
-            start_by(alloc, folder, limit, lives)
-        }
+        Machine::Runs(life) => Ok(Machine::Runs(life)),
+        Machine::Stopped(folder) => { start_counted(alloc, folder, limit, lives, name) }
     }
 }
 
-/// What was left, as a start is shown it.
-fn show_again(alloc: Global, folder: Folder) -> Result<Folder, StopsFault>
-    ensures { (limit : ℕ) (book : Book) → IsLeftAt limit book folder →
-        IfOk result (IsShownAt limit book) }
-{
-    let Folder { takes, notes } = folder;
-    match shown_notes(alloc, &takes, &notes) {
-        Ok(notes) => Ok(Folder { takes, notes }),
-        Err(_) => Err(StopsFault::Memory),
-    }
-}
-
-/// Starts a server over a folder that is shown, by disks that die in these calls, counted from the
-/// first of the start.
-fn start_by(
+/// Starts a server over what was left, and asks it for a name, by disks that die in these calls.
+fn start_counted(
     alloc: Global,
     folder: Folder,
     limit: Limit,
     lives: &Lives,
-) -> Result<Machine, StopsFault>
-    ensures { (book : Book) → IsShownAt limit book folder → IfOk result (StartsMachine limit book) }
+    name: &Name,
+) -> Result<Machine, AllocError>
+    ensures { (w : World) → IsLeftAt limit w.book folder → IfOk result (StartsFound limit w name.now) }
 {
-    let takes = MortalDisk::new(folder.takes, lives.takes, lives.reached);
-    let notes = MortalDisk::new(folder.notes, lives.notes, lives.reached);
-    match start(alloc, takes, notes, FOLDER, limit, false, &mut Unwatched) {
-        Ok(server) => after_start(Life { server }),
-        Err((_, takes, notes)) => after_failure(takes, notes),
+    match find_name(alloc, folder, limit, lives, name)? {
+        Machine::Runs(life) => {
+            let rest = lives_left(&life, lives);
+            let life = start_anew(alloc, life, limit, &rest)?;
+            Ok(Machine::Runs(life))
+        }
+        Machine::Stopped(folder) => Ok(Machine::Stopped(folder)),
     }
 }
 
-/// The machine of a server that has started: it stops at once if a disk died in the start.
-fn after_start(life: Life) -> Result<Machine, StopsFault>
-    ensures { (limit : ℕ) (book : Book) → HasStarted limit book life →
-        IfOk result (StartsMachine limit book) }
+/// Starts a server over what was left, and asks it for a name.
+fn find_name(
+    alloc: Global,
+    folder: Folder,
+    limit: Limit,
+    lives: &Lives,
+    name: &Name,
+) -> Result<Machine, AllocError>
+    ensures { (w : World) → IsLeftAt limit w.book folder → IfOk result (AnswersForName limit w name.now) }
 {
-    if !has_died(&life.server) {
-        return Ok(Machine::Runs(life));
-    }
-    match take_apart(life.server) {
-        Ok(folder) => Ok(Machine::Stopped(folder)),
-        Err(_) => Err(StopsFault::Memory),
+    let life = start_over(alloc, folder, limit, lives)?;
+    let (_reply, machine) = asked(alloc, life, name)?;
+    Ok(machine)
+}
+
+/// Starts another server over what a server leaves that stops, on disks that die in these calls.
+fn start_anew(alloc: Global, life: Life, limit: Limit, lives: &Lives) -> Result<Life, AllocError>
+    ensures { (w : World) → IsRunning limit w.book life → IfOk result (BeginsOverLeft limit w.book) }
+{
+    let folder = take_apart(life.server)?;
+    start_over(alloc, folder, limit, lives)
+}
+
+/// The calls that are left of these, after those of a server.
+fn lives_left(life: &Life, lives: &Lives) -> Lives {
+    let server = life.server.server();
+    Lives {
+        takes: lives.takes.saturating_sub(server.store().disk().calls()),
+        notes: lives.notes.saturating_sub(server.journal().disk().calls()),
+        reached: lives.reached,
     }
 }
 
-/// The machine of a start that has failed: what it left, if one of its disks died.
-fn after_failure(
-    takes: MortalDisk<MemoryDisk>,
-    notes: MortalDisk<MemoryDisk>,
-) -> Result<Machine, StopsFault>
-    ensures { (limit : ℕ) (book : Book) →
-        IsLeftOf limit the_folder no_contents book (disk_content notes.inner) (disk_content takes.inner) →
-        IfOk result (StartsMachine limit book) }
+/// Starts a server over what was left, on disks that die in these calls.
+fn start_over(
+    alloc: Global,
+    folder: Folder,
+    limit: Limit,
+    lives: &Lives,
+) -> Result<Life, AllocError>
+    ensures { (book : Book) → IsLeftAt limit book folder →
+        IfOk result (λ life. IsRunning limit (cut_book book) life) }
 {
-    if !takes.is_dead() && !notes.is_dead() {
-        return Err(StopsFault::Start);
-    }
-    Ok(Machine::Stopped(Folder {
-        takes: takes.into_inner(),
-        notes: notes.into_inner(),
-    }))
+    let Folder { takes, notes } = folder;
+    let notes = shown_notes(alloc, &takes, &notes)?;
+    Life::begin(alloc, Folder { takes, notes }, limit, lives)
 }
 
-/// How many calls of each disk a start over these makes, by copies of them.
-fn calls_of_start(alloc: Global, folder: &Folder, limit: Limit) -> Result<(u64, u64), StopsFault> {
-    let Ok(takes) = copy_of(alloc, &folder.takes) else {
-        return Err(StopsFault::Memory);
-    };
-    let Ok(notes) = copy_of(alloc, &folder.notes) else {
-        return Err(StopsFault::Memory);
-    };
-    let takes = MortalDisk::new(takes, u64::MAX, 0);
-    let notes = MortalDisk::new(notes, u64::MAX, 0);
-    match start(alloc, takes, notes, FOLDER, limit, false, &mut Unwatched) {
-        Ok(server) => Ok((
-            server.store().disk().calls(),
-            server.journal().disk().calls(),
-        )),
-        Err(_) => Err(StopsFault::Start),
-    }
+/// The path of the folder, twice.
+fn folder_twice(alloc: Global) -> Result<(String, String), AllocError>
+    ensures one { IfOk result (λ f. string_bytes f.0 ≡ the_folder) }
+    ensures two { IfOk result (λ f. string_bytes f.1 ≡ the_folder) }
+{
+    let one = String::from_str(alloc, FOLDER)?;
+    let two = String::from_str(alloc, FOLDER)?;
+    Ok((one, two))
 }
 
 /// Whether a disk of a server has died.
 fn has_died(server: &MachineServer) -> bool
-    ensures takes { IsFalse result → (takes_disk (server_store server.now)).calls
-        ≤ (takes_disk (server_store server.now)).life }
-    ensures notes { IsFalse result → (journals_disk (server_journal server.now)).calls
-        ≤ (journals_disk (server_journal server.now)).life }
+    ensures takes { IsFalse result → (takes_disk (server_store (table_server server.now))).calls
+        ≤ (takes_disk (server_store (table_server server.now))).life }
+    ensures notes { IsFalse result → (journals_disk (server_journal (table_server server.now))).calls
+        ≤ (journals_disk (server_journal (table_server server.now))).life }
     ensures died { IsTrue result →
-        ((takes_disk (server_store server.now)).life < (takes_disk (server_store server.now)).calls)
-        ⊎ ((journals_disk (server_journal server.now)).life
-        < (journals_disk (server_journal server.now)).calls) }
+        ((takes_disk (server_store (table_server server.now))).life
+        < (takes_disk (server_store (table_server server.now))).calls)
+        ⊎ ((journals_disk (server_journal (table_server server.now))).life
+        < (journals_disk (server_journal (table_server server.now))).calls) }
 {
+    let server = server.server();
     if server.store().disk().is_dead() {
         return true;
     }
@@ -263,19 +297,38 @@ pub(crate) fn turn(
 ) -> Result<Machine, AllocError>
     ensures few { length out.new.items ≤ 17 }
     ensures turned { (limit : ℕ) (w : World) → IsRunning limit w.book life →
-        MayCome w (message_of message.now) →
-        IsTrue (is_frame Second (Says (message_of message.now))) →
-        IfOk result (λ machine. TurnsMachine limit w (message_of message.now)
+        MayCome w (Says (message_of message.now)) →
+        IfOk result (λ machine. TurnsMachine limit w (Says (message_of message.now))
         (map reply_of out.new.items) machine) }
 {
     let Life { mut server } = life;
     server.turn(message, out);
+    // Called for its clause on how many fit.
+    let _few = out.len();
     if !has_died(&server) {
         return Ok(Machine::Runs(Life { server }));
     }
     out.clear();
     let folder = take_apart(server)?;
     Ok(Machine::Stopped(folder))
+}
+
+/// A server is asked: its reply, and the machine. If a disk died in this turn, the machine has
+/// stopped, and there is no reply.
+///
+/// # Errors
+/// As those of `turn`.
+pub(crate) fn ask(life: Life, ask: &Ask<'_>) -> Result<(Option<Reply>, Machine), AllocError>
+    ensures { (limit : ℕ) (w : World) → IsRunning limit w.book life → IfOk result (λ x.
+        TurnsMachine limit w (Asks (asked_name ask.now) (asked_number ask.now)) (written_to x.0) x.1) }
+{
+    let Life { mut server } = life;
+    let reply = server.ask(ask);
+    if !has_died(&server) {
+        return Ok((Some(reply), Machine::Runs(Life { server })));
+    }
+    let folder = take_apart(server)?;
+    Ok((None, Machine::Stopped(folder)))
 }
 
 /// The server stops between turns, if one runs.
@@ -302,13 +355,15 @@ pub(crate) fn stop(machine: Machine) -> Result<Machine, AllocError>
 /// `AllocError` if its folder isn't the one that it started over.
 fn take_apart(server: MachineServer) -> Result<Folder, AllocError>
     ensures takes { IfOk result (λ folder. folder.takes
-        ≡ (takes_disk (server_store server)).inner) }
+        ≡ (takes_disk (server_store (table_server server))).inner) }
     ensures notes { IfOk result (λ folder. folder.notes
-        ≡ (journals_disk (server_journal server)).inner) }
-    ensures store { IfOk result (λ folder. takes_folder (server_store server) ≡ the_folder) }
-    ensures journal { IfOk result (λ folder. journals_folder (server_journal server) ≡ the_folder) }
+        ≡ (journals_disk (server_journal (table_server server))).inner) }
+    ensures store { IfOk result (λ folder.
+        takes_folder (server_store (table_server server)) ≡ the_folder) }
+    ensures journal { IfOk result (λ folder.
+        journals_folder (server_journal (table_server server)) ≡ the_folder) }
 {
-    let (store, journal) = server.into_stores();
+    let (store, journal) = server.into_server().into_stores();
     if store.folder() != FOLDER {
         return Err(AllocError);
     }

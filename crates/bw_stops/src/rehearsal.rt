@@ -2,11 +2,12 @@
 ghost use Rattle.std.specs.Prelude.{◌≡◌, ℕ, true, IsTrue, IfOk};
 ghost use Rattle.bw_model.specs.World.{World, Deliver, Ask};
 ghost use Rattle.bw_rehearsal.specs.RehearsedWorlds.{event_meaning};
-ghost use Rattle.bw_stops.specs.Machines.{IsMachine, IsRunning, runs};
+ghost use Rattle.bw_stops.specs.Machines.{IsMachine, ShowsNext, IsRunning, runs};
 ghost use Rattle.bw_stops.specs.Networks.{IsNetwork};
 ghost use Rattle.bw_stops.specs.PlayedEvents.{PlaysBy, IsPlayed, IsPlayedEvent};
 ghost use Rattle.bw_stops.specs.Rehearsals.{WasRehearsedWithStops};
 
+use crate::asks::{asked, done_in};
 use crate::event::StopEvent;
 use crate::machine::{Folder, Life, Machine, start_again, start_counting, stop, turn};
 use crate::network::Network;
@@ -20,13 +21,20 @@ use std::alloc::{AllocError, Global};
 /// The most replies to one message.
 const REPLIES: usize = 17;
 
-/// Why a rehearsal ends before its last event.
+/// Why a rehearsal ends before its last event, or without what it resulted in.
 #[derive(Clone, Copy, Debug)]
 pub enum StopsFault {
     /// Memory was refused.
     Memory,
-    /// A start failed, in which no disk died.
-    Start,
+    /// The server that runs at the end puts off the ask how many numbers are done, and no disk died.
+    PutOff,
+}
+
+impl From<AllocError> for StopsFault {
+    /// Memory was refused.
+    fn from(_: AllocError) -> StopsFault {
+        StopsFault::Memory
+    }
 }
 
 /// What a rehearsal in which servers stop resulted in.
@@ -38,6 +46,8 @@ pub struct Rehearsed {
     pub sent: usize,
     /// How many replies were written.
     pub replies: usize,
+    /// How many numbers of the name are done, if a server runs.
+    pub done: u32,
     /// The sender.
     pub sender: Sender,
     /// The machine: its server, or what was left.
@@ -50,20 +60,20 @@ pub struct Rehearsed {
 ///
 /// All that was ever sent and written stays: what isn't delivered or brought is lost, and the rest
 /// may come again, in any order. A server stops in a turn in which a disk dies, and none of that
-/// turn's replies is written. A start in which a disk dies leaves no server, and the very book that
-/// was left; or, if it succeeded all the same, what a server leaves that stops at once.
+/// turn's replies is written. One that starts is asked for the sender's name first, and that reply
+/// isn't written either; if a disk dies in that turn of a `StartCounting`, no server runs. If a server runs at the end, it is asked how many numbers of the name
+/// are done; that reply isn't written.
 ///
 /// # Errors
-/// `Memory` if memory was refused to the sender, for the messages and replies or for a folder's copy;
-/// `Start` if a start failed in which no disk died. The name isn't given back.
+/// `Memory` if memory was refused to the sender, for the messages and replies, for a folder's copy or
+/// for a server; `PutOff`. The name isn't given back.
 ///
 /// # Not specified
 /// - When memory is refused, and which events were played before.
-/// - In which call a disk dies: contracts count only calls, and don't say how many a turn or a
-///   start makes. So neither is it specified that a server stops in each turn in which a disk died,
-///   and in no other, nor that a `StartCounting` leaves no server if a disk died in it, and only
-///   then.
-/// - That only lack of memory makes a start fail in which no disk died.
+/// - In which call a disk dies: contracts count only calls, and don't say how many a turn makes. So
+///   neither is it specified that a server stops in each turn in which a disk died, and in no other,
+///   nor that a `StartCounting` leaves no server if a disk died in it, and only then.
+/// - That only lack of memory makes a server put off an ask while its disks live.
 pub fn rehearse_stops(
     alloc: Global,
     name: Name,
@@ -73,6 +83,7 @@ pub fn rehearse_stops(
     // The sender counts only what the take has; each verdict written is that of a done number.
     ensures { IfOk result (λ it. WasRehearsedWithStops name limit events.now it) }
 {
+    let asked = name.copy();
     let Ok(mut network) = Network::new(alloc, name) else {
         return Err(StopsFault::Memory);
     };
@@ -80,6 +91,7 @@ pub fn rehearse_stops(
     for event in events {
         machine = play(alloc, limit, &mut network, machine, event)?;
     }
+    let (done, machine) = look(alloc, machine, &asked)?;
     let Network {
         sender,
         offered,
@@ -91,9 +103,39 @@ pub fn rehearse_stops(
         offered,
         sent: sent.len(),
         replies: replies.len(),
+        done,
         sender,
         machine,
     })
+}
+
+/// Asks the server how many numbers of a name are done, if one runs.
+///
+/// # Errors
+/// `Memory` if memory was refused, `PutOff` if the ask was put off, and no disk died.
+fn look(alloc: Global, machine: Machine, name: &Name) -> Result<(u32, Machine), StopsFault>
+    ensures { (limit : ℕ) (w : World) → IsMachine limit w.book machine →
+        IfOk result (λ x. ShowsNext limit w name.now x.0 x.1) }
+{
+    match machine {
+        Machine::Runs(life) => look_at(alloc, life, name),
+        Machine::Stopped(folder) => Ok((0, Machine::Stopped(folder))),
+    }
+}
+
+/// Asks a server that runs how many numbers of a name are done.
+fn look_at(alloc: Global, life: Life, name: &Name) -> Result<(u32, Machine), StopsFault>
+    ensures { (limit : ℕ) (w : World) → IsRunning limit w.book life →
+        IfOk result (λ x. ShowsNext limit w name.now x.0 x.1) }
+{
+    let (reply, machine) = asked(alloc, life, name)?;
+    let Some(reply) = reply else {
+        return Ok((0, machine));
+    };
+    match done_in(&reply) {
+        Some(done) => Ok((done, machine)),
+        None => Err(StopsFault::PutOff),
+    }
 }
 
 /// Plays an event.
@@ -117,8 +159,18 @@ fn play(
             Ok(later) => Ok(later),
             Err(_) => Err(StopsFault::Memory),
         },
-        StopEvent::Start(lives) => start_again(alloc, machine, limit, lives),
-        StopEvent::StartCounting(lives) => start_counting(alloc, machine, limit, lives),
+        StopEvent::Start(lives) => {
+            match start_again(alloc, machine, limit, lives, network.sender.name()) {
+                Ok(later) => Ok(later),
+                Err(_) => Err(StopsFault::Memory),
+            }
+        }
+        StopEvent::StartCounting(lives) => {
+            match start_counting(alloc, machine, limit, lives, network.sender.name()) {
+                Ok(later) => Ok(later),
+                Err(_) => Err(StopsFault::Memory),
+            }
+        }
     }
 }
 
@@ -142,7 +194,7 @@ fn happen(network: &mut Network, machine: Machine, event: &Event) -> Result<Mach
             network.bring(*place);
             Ok(machine)
         }
-        Event::Ask => ask(network, machine),
+        Event::Ask => ask_for(network, machine),
     }
 }
 
@@ -179,7 +231,7 @@ fn deliver_to(network: &mut Network, life: Life, place: usize) -> Result<Machine
 }
 
 /// Asks the server for the sender's name, if one runs.
-fn ask(network: &mut Network, machine: Machine) -> Result<Machine, AllocError>
+fn ask_for(network: &mut Network, machine: Machine) -> Result<Machine, AllocError>
     ensures { (limit : ℕ) (w : World) → IsNetwork w network.old → IsMachine limit w.book machine →
         IfOk result (λ later. PlaysBy limit w
         (IsPlayedEvent w (runs machine) Ask) network.new later) }
@@ -195,7 +247,13 @@ fn ask_of(network: &mut Network, life: Life) -> Result<Machine, AllocError>
     ensures { (limit : ℕ) (w : World) → IsNetwork w network.old → IsRunning limit w.book life →
         IfOk result (λ later. PlaysBy limit w (IsPlayedEvent w true Ask) network.new later) }
 {
-    let reply = life.server.ask(network.sender.name(), 0);
-    network.replies.push(reply)?;
-    Ok(Machine::Runs(life))
+    network.replies.reserve(1)?;
+    let (reply, machine) = asked(network.alloc, life, network.sender.name())?;
+    match reply {
+        Some(reply) => {
+            network.replies.push(reply)?;
+            Ok(machine)
+        }
+        None => Ok(machine),
+    }
 }

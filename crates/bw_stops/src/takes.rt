@@ -21,7 +21,7 @@ impl Machine {
         let path = take_path(alloc, name)?;
         match self {
             Machine::Runs(life) => {
-                let disk = life.server.store().disk().inner();
+                let disk = life.server.server().store().disk().inner();
                 Ok(disk.content(path.as_str()))
             }
             Machine::Stopped(folder) => Ok(folder.takes.content(path.as_str())),

@@ -1,5 +1,1 @@
-mod Shown
-mod GivenAnswers
-mod Starting
-mod Restarting
 mod Delivering

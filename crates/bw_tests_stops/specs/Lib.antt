@@ -1,3 +1,1 @@
 pub mod Promised
-pub mod RestingRuns
-pub mod Restarts

@@ -64,22 +64,20 @@ pub(crate) fn limit() -> Result<Limit, Fail> {
     Ok(Limit::new(8_192).ok_or("a limit")?)
 }
 
-/// Plays the events for the name `a1`. None if a start failed.
-pub(crate) fn play(alloc: Global, events: &[StopEvent]) -> Result<Option<Rehearsed>, Fail> {
+/// Plays the events for the name `a1`.
+pub(crate) fn play(alloc: Global, events: &[StopEvent]) -> Result<Rehearsed, Fail> {
     let name = Name::new(b"a1").ok_or("a name")?;
     match rehearse_stops(alloc, name, limit()?, events) {
-        Ok(it) => Ok(Some(it)),
-        Err(StopsFault::Start) => Ok(None),
+        Ok(it) => Ok(it),
+        Err(StopsFault::PutOff) => Err("an ask was put off")?,
         Err(StopsFault::Memory) => Err("memory")?,
     }
 }
 
 /// Whether so many numbers are done on a server that runs, and counted by the sender.
 pub(crate) fn has_done(it: &Rehearsed, count: u32) -> bool {
-    let Machine::Runs(life) = &it.machine else {
-        return false;
-    };
-    it.sender.settled() == count
+    matches!(it.machine, Machine::Runs(_))
+        && it.sender.settled() == count
         && it.sender.stored() == count
-        && life.server.done(it.sender.name()) == Some(count)
+        && it.done == count
 }

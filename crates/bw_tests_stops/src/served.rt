@@ -1,6 +1,6 @@
 //! The worked delivery is answered as it is worked out, and the file has the bytes of its example, also
-//! where names may rest.
-use crate::promised::{serve_delivery, serve_delivery_at_rest};
+//! by a server with a journal.
+use crate::promised::{serve_delivery, serve_delivery_in_folder};
 use bw_layout::Limit;
 use bw_request::Name;
 use std::process::Abort;
@@ -26,9 +26,9 @@ fn a_delivery_is_answered_and_its_file_is_whole(rt: HostRuntime) -> Result<(), F
 }
 
 #[test]
-fn so_it_is_where_names_may_rest(rt: HostRuntime) -> Result<(), Fail> {
+fn so_it_is_with_a_journal(rt: HostRuntime) -> Result<(), Fail> {
     let limit = Limit::new(4_294_967_294).ok_or("a limit")?;
-    let Ok(server) = serve_delivery_at_rest(rt.alloc(), limit) else {
+    let Ok(server) = serve_delivery_in_folder(rt.alloc(), limit) else {
         return Err("a message got another reply")?;
     };
     let (store, _journal) = server.into_server().into_stores();

@@ -1,9 +1,9 @@
-use Rattle.std.proofs.Common.{subst}
-use Rattle.bw_stops.specs.Machines.{StartsMachine}
-use Rattle.bw_stops.specs.declared.machine.Machine.{Machine}
+use Rattle.bw_disk.specs.MemoryVolumes.{disk_content}
+use Rattle.bw_journal.specs.Stops.{cut_book}
+use Rattle.bw_stops.proofs.MachineForms.{shown}
 use Rattle.bw_stops.proofs.machine.start_over.Goals as goal
 
-pub returns-in-Runs : goal.returns-in-Runs
-returns-in-Runs c = λ book left.
-    subst (λ (m : Machine). StartsMachine c.args.limit book m) c.in-Runs.is
-    (c.in_ok-life.ensures book (c.in_ok-folder.ensures c.args.limit book left))
+pub returns : goal.returns
+returns c = λ book left. c.begin.ensures book
+    (shown (disk_content c.args.folder.takes) (disk_content c.args.folder.notes) c.args.limit (cut_book book)
+    (disk_content c.in_ok-notes.notes) c.in_ok-notes.ensures left)

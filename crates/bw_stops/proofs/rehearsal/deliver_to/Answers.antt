@@ -1,9 +1,8 @@
-use Rattle.std.proofs.Common.{sym, ap, subst, refl, ◌∙◌, ◌++◌, inl}
-use Rattle.bw_model.specs.Wire.{Message, Says}
+use Rattle.std.proofs.Common.{sym, ap, subst, refl, ◌∙◌, ◌++◌}
+use Rattle.bw_model.specs.Wire.{Says}
 use Rattle.bw_model.proofs.Elements.{some_inj}
 use Rattle.bw_wire.specs.EncodedFrames.{IsFrameOf}
 use Rattle.bw_rehearsal.proofs.Staging.{found_at, missing_at, none_at, sent_at, replies_more}
-use Rattle.bw_stops.specs.PlayedEvents.{IsPlayedEvent}
 use Rattle.bw_stops.proofs.PlayForms.{unsent, came}
 use Rattle.bw_stops.proofs.rehearsal.deliver_to.Goals as goal
 
@@ -29,7 +28,7 @@ returns c = λ limit w k is.
     (found_at _ _ c.args.place _ c.deref.ensures.value x.3.0 x.1) in
     let read = some_inj (c.in-Some-message_in.ensures s.message
     (subst (IsFrameOf (Says s.message)) (sym c.deref-2.ensures.value) s.framed_so)) in
-    came limit w _ c.args.place s.message _ _ _ s.there s.framed_so.fits read
+    came limit w _ c.args.place s.message _ _ _ s.there read
     (λ book. record {
       sender = k.sender;
       offered = k.offered;

@@ -20,4 +20,4 @@ returns-in-Bring c = λ limit w k is.
 
 pub returns-in-Ask : goal.returns-in-Ask
 returns-in-Ask c = λ limit w k is.
-    each_by_event limit w _ _ c.ask.result _ _ c.in-Ask.is (c.ask.ensures limit w k is)
+    each_by_event limit w _ _ c.ask_for.result _ _ c.in-Ask.is (c.ask_for.ensures limit w k is)

@@ -1,4 +1,4 @@
-use Rattle.bw_stops.proofs.PlayForms.{by_machine, each_by_machine, by_stop, each_by_stop}
+use Rattle.bw_stops.proofs.PlayForms.{by_machine, by_stop, counts_for, starts_for}
 use Rattle.bw_stops.proofs.rehearsal.play.Goals as goal
 
 pub returns-in-Ok : goal.returns-in-Ok
@@ -10,12 +10,14 @@ returns-in-Ok-stop c = λ w k is.
     by_stop c.args.limit w _ _ _ _ _ c.in-Stop.is
     (by_machine c.args.limit w _ _ _ k (c.in-Ok-stop.ensures c.args.limit w is))
 
-pub returns-in-Start : goal.returns-in-Start
-returns-in-Start c = λ w k is.
-    each_by_stop c.args.limit w _ _ c.start_again.result _ _ c.in-Start.is
-    (each_by_machine c.args.limit w _ _ c.start_again.result k (c.start_again.ensures w is))
+pub returns-in-Ok-start_again : goal.returns-in-Ok-start_again
+returns-in-Ok-start_again c = λ w k is.
+    by_stop c.args.limit w _ _ _ _ _ c.in-Start.is
+    (by_machine c.args.limit w _ _ _ k
+    (starts_for c.args.limit w _ _ _ _ (c.name.ensures w.sender k.sender) (c.in-Ok-start_again.ensures w is)))
 
-pub returns-in-StartCounting : goal.returns-in-StartCounting
-returns-in-StartCounting c = λ w k is.
-    each_by_stop c.args.limit w _ _ c.start_counting.result _ _ c.in-StartCounting.is
-    (each_by_machine c.args.limit w _ _ c.start_counting.result k (c.start_counting.ensures w is))
+pub returns-in-Ok-start_counting : goal.returns-in-Ok-start_counting
+returns-in-Ok-start_counting c = λ w k is.
+    by_stop c.args.limit w _ _ _ _ _ c.in-StartCounting.is
+    (by_machine c.args.limit w _ _ _ k
+    (counts_for c.args.limit w _ _ _ _ (c.name-in-StartCounting.ensures w.sender k.sender) (c.in-Ok-start_counting.ensures w is)))

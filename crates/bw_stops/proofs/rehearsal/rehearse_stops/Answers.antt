@@ -1,10 +1,10 @@
-use Rattle.std.proofs.Common.{refl, ap, ◌∙◌, subst, [], ◌++◌, false, List, arith}
+use Rattle.std.proofs.Common.{refl, ◌∙◌, subst, [], ◌++◌, false, ℕ, List, arith}
 use Rattle.std.proofs.lemmas.List.{take_all}
 use Rattle.bw_model.specs.Exchange.{nothing_stands}
 use Rattle.bw_model.specs.World.{new_world}
-use Rattle.bw_left.proofs.StoppedWorlds.{stopped_worlds}
+use Rattle.bw_lives.proofs.StoppedWorlds.{stopped_worlds}
 use Rattle.bw_rehearsal.proofs.Staging.{frames_len, replies_len}
-use Rattle.bw_stops.specs.Machines.{runs}
+use Rattle.bw_stops.specs.Machines.{ShowsNext, runs}
 use Rattle.bw_stops.specs.Rehearsals.{ArePlayed}
 use Rattle.bw_stops.specs.declared.event.StopEvent.{StopEvent}
 use Rattle.bw_stops.proofs.Schedules.{steps_more, play_next}
@@ -36,6 +36,7 @@ returns c =
     record {
       world = w;
       steps = i.1;
+      on = runs c.loop-event.machine;
       played = subst (λ (es : List StopEvent).
           ArePlayed (new_world c.args.name) false es i.1 w (runs c.loop-event.machine))
           (take_all c.loop-event.event-index c.args.events.now (omega arith)) i.2;
@@ -46,5 +47,6 @@ returns c =
       sent = c.len.ensures ∙ c.loop-event.network.sent.ok.0 ∙ frames_len w.sent _ n.sent;
       replies = c.len-2.ensures ∙ c.loop-event.network.replies.ok.0 ∙ replies_len _ w.replies n.replies;
       sender = n.sender;
-      machine = i.5;
+      machine = subst (λ (n : List ℕ). ShowsNext c.args.limit w n c.in_ok-done.done c.in_ok-done.machine) c.copy-asked.ensures
+          (c.in_ok-done.ensures c.args.limit w i.5);
     }

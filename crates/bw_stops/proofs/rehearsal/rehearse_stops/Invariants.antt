@@ -1,7 +1,7 @@
 use Rattle.std.proofs.Common.{List, false, take}
 use Rattle.bw_model.specs.Exchange.{nothing_stands}
 use Rattle.bw_model.specs.World.{World, new_world}
-use Rattle.bw_left.specs.StoppedWorlds.{WorldStep, WorldStepsTo}
+use Rattle.bw_lives.specs.StoppedWorlds.{WorldStep, WorldStepsTo}
 use Rattle.bw_stops.specs.Machines.{IsMachine, runs}
 use Rattle.bw_stops.specs.Networks.{IsNetwork}
 use Rattle.bw_stops.specs.Rehearsals.{ArePlayed}

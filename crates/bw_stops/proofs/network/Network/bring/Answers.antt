@@ -1,4 +1,4 @@
-use Rattle.std.proofs.Common.{◌∙◌, sym, refl, Some, None}
+use Rattle.std.proofs.Common.{◌∙◌, sym, Some, None}
 use Rattle.bw_wire.specs.Replies.{reply_of}
 use Rattle.bw_rehearsal.proofs.Staging.{found_at, missing_at, reply_at, hearing_offers}
 use Rattle.bw_stops.proofs.NetworkForms.{brought_by}
