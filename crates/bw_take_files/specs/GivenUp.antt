@@ -1,8 +1,8 @@
 -- What giving up a take does to a folder.
-use Rattle.std.specs.Prelude.{◌≡◌, ◌≢◌, ◌⊎◌, ◌&&◌, ℕ, Bool, true, false, not, List, codes, string_bytes}
-use Rattle.std.specs.Prelude.{Option, Some, None, IsSome, is_some, Result, Ok, Err}
+use Rattle.std.specs.Prelude.{◌≡◌, ◌≢◌, ◌⊎◌, ℕ, Bool, true, false, List, codes, string_bytes}
+use Rattle.std.specs.Prelude.{Option, Some, None, IsSome, Result, Ok, Err}
 use Rattle.bw_disk.specs.Volumes.{KeepsEach, KeepsAllBut}
-use Rattle.bw_recovery.specs.Paths.{path_with, wave_path, notes_path, rest_path}
+use Rattle.bw_recovery.specs.Paths.{path_with, wave_path, notes_path}
 use Rattle.bw_take_files.specs.declared.giving_up.GiveUpFault.{GiveUpFault}
 use Rattle.bw_take_files.specs.declared.giving_up.GiveUpFault.TheVariants.{Unknown, Earlier, Disk, Memory}
 use Rattle.bw_take_files.specs.declared.giving_up.Places.{Places}
@@ -15,29 +15,14 @@ pub record TakePaths : Type 0 where
   pub notes_to : List ℕ
   pub wave_to : List ℕ
 
--- the ending of the path of a journal, at rest or not
-abbrev pub journal_ending : Bool → List ℕ
-journal_ending false = codes ".journal"
-journal_ending true = codes ".closed"
-
--- and that of the path where it goes if its take is given up
-abbrev pub journal_ending_aside : Bool → List ℕ
-journal_ending_aside false = codes ".journal.given-up"
-journal_ending_aside true = codes ".closed.given-up"
-
--- those of a take in a folder, whose journal rests or doesn't
-abbrev pub paths_in : Bool → List ℕ → List ℕ → TakePaths
-paths_in rests folder name = record {
-  notes = path_with folder (journal_ending rests) name;
+-- those of a take in a folder
+abbrev pub paths_in : List ℕ → List ℕ → TakePaths
+paths_in folder name = record {
+  notes = notes_path folder name;
   wave = wave_path folder name;
-  notes_to = path_with folder (journal_ending_aside rests) name;
+  notes_to = path_with folder (codes ".journal.given-up") name;
   wave_to = path_with folder (codes ".wav.given-up") name;
 }
-
--- the journal of a name rests, and it has no other
-abbrev pub rests_alone : List ℕ → (List ℕ → Option (List ℕ)) → List ℕ → Bool
-rests_alone folder contents name =
-    not (is_some (contents (notes_path folder name))) && is_some (contents (rest_path folder name))
 
 -- those that the code has
 abbrev pub paths_of : Places → TakePaths
@@ -92,13 +77,13 @@ StaysUnlessFailedAt p Memory before after = KeepsEach before after
 -- a take of a folder is given up
 abbrev pub PutsTakeAside : List ℕ → List ℕ → (List ℕ → Option (List ℕ)) → (List ℕ → Option (List ℕ)) → Type 0
 PutsTakeAside folder name before after =
-    PutsTakeAsideAt (paths_in (rests_alone folder before name) folder name) before after
+    PutsTakeAsideAt (paths_in folder name) before after
 
 -- or it isn't, for this reason
 abbrev pub StaysUnlessFailed : List ℕ → List ℕ → GiveUpFault → (List ℕ → Option (List ℕ)) →
     (List ℕ → Option (List ℕ)) → Type 0
 StaysUnlessFailed folder name fault before after =
-    StaysUnlessFailedAt (paths_in (rests_alone folder before name) folder name) fault before after
+    StaysUnlessFailedAt (paths_in folder name) fault before after
 
 -- a call of the disk failed
 abbrev pub is_disk_failure : {T : Type 0} → Result T GiveUpFault → Bool
@@ -107,13 +92,6 @@ is_disk_failure (Err Unknown) = false
 is_disk_failure (Err Earlier) = false
 is_disk_failure (Err Disk) = true
 is_disk_failure (Err Memory) = false
-
--- it was only looked at
-abbrev pub IsPlainGiveUp : GiveUpFault → Type 0
-IsPlainGiveUp Unknown = ⊥
-IsPlainGiveUp Earlier = ⊥
-IsPlainGiveUp Disk = Unit {0}
-IsPlainGiveUp Memory = Unit {0}
 
 -- whether something is at a path was seen; nothing is then where it would go
 abbrev pub IsWayClear : Bool → Option (List ℕ) → Option (List ℕ) → Type 0

@@ -6,8 +6,7 @@ ghost use Rattle.bw_disk.specs.Volumes.{KeepsEach};
 ghost use Rattle.bw_take_files.specs.GivenUp.{PutsTakeAside, PutsTakeAsideAt, PutsAside, PutsBothAside};
 ghost use Rattle.bw_take_files.specs.GivenUp.{StaysUnlessFailed, StaysUnlessFailedAt, StopsBoth, FailsWith};
 ghost use Rattle.bw_take_files.specs.GivenUp.{AreTakePathsApart, AreWaysClear, ForbidsAside, IsBarred, IsWayClear};
-ghost use Rattle.bw_take_files.specs.GivenUp.{is_disk_failure, paths_in, paths_of, rests_alone as is_at_rest};
-ghost use Rattle.bw_take_files.specs.GivenUp.{IsPlainGiveUp, journal_ending, journal_ending_aside};
+ghost use Rattle.bw_take_files.specs.GivenUp.{is_disk_failure, paths_in, paths_of};
 
 use bw_disk::{ReadFault, Volume};
 use bw_recovery::path_in;
@@ -18,7 +17,7 @@ use thiserror::Error;
 /// Why a take isn't given up.
 #[derive(Clone, Copy, Debug, Drop, Error, PartialEq, Eq)]
 pub enum GiveUpFault {
-    /// Neither a journal, at rest or not, nor a file of the name exists.
+    /// Neither a journal nor a file of the name exists.
     #[error("no take of this name")]
     Unknown,
     /// What was given up earlier under the name is where its files would go.
@@ -33,12 +32,11 @@ pub enum GiveUpFault {
 }
 
 /// Gives up a take in a folder: its journal becomes `NAME.journal.given-up`, and then its file
-/// `NAME.wav.given-up`. Nothing is deleted or overwritten. The journal of a take that rests becomes
-/// `NAME.closed.given-up`; if the take also has a journal that doesn't rest, that one is put aside
-/// first, and the other by a further call. A server that starts afterwards doesn't know the name.
+/// `NAME.wav.given-up`. Nothing is deleted or overwritten. A server that starts afterwards doesn't
+/// know the name.
 ///
-/// The journal goes first, so that a kill leaves no journal whose file is gone: a server also
-/// starts over what a kill leaves. After an error the call may be made again.
+/// The journal goes first, so that a kill leaves no journal whose file is gone: a name is new, too,
+/// after what a kill leaves. After an error the call may be made again.
 ///
 /// # Errors
 /// `Unknown` if neither exists, `Earlier` if something is where one of them would go: nothing has
@@ -63,39 +61,10 @@ pub fn give_up_take<D: Volume>(
     ensures err { IsTrue (D.honest disk.old) → IfErr result (λ fault.
         StaysUnlessFailed folder.now name.now fault (D.contents disk.old) (D.contents disk.new)) }
 {
-    let rests = rests_alone(alloc, disk, folder, name)?;
-    let Ok(places) = places_of(alloc, folder, name, rests) else {
+    let Ok(places) = places_of(alloc, folder, name) else {
         return Err(GiveUpFault::Memory);
     };
     put_aside_all(disk, folder, &places)
-}
-
-/// Whether the journal of a name rests, and it has no other.
-///
-/// # Errors
-/// `Disk` if a call of the disk failed; `Memory` if memory was refused.
-fn rests_alone<D: Volume>(
-    alloc: Global,
-    disk: &mut D,
-    folder: &str,
-    name: &Name,
-) -> Result<bool, GiveUpFault>
-    ensures disk { StaysWhole D.Disk disk.old disk.new }
-    ensures failures { Counts (D.failures disk.old) (D.failures disk.new) (is_disk_failure result) }
-    ensures value { IsTrue (D.honest disk.old) →
-        IfOk result (λ rests. rests ≡ is_at_rest folder.now (D.contents disk.old) name.now) }
-    ensures err { IfErr result IsPlainGiveUp }
-{
-    let Ok(notes) = path_in(alloc, folder, name, ".journal") else {
-        return Err(GiveUpFault::Memory);
-    };
-    let Ok(closed) = path_in(alloc, folder, name, ".closed") else {
-        return Err(GiveUpFault::Memory);
-    };
-    if stands(disk, notes.as_str())? {
-        return Ok(false);
-    }
-    stands(disk, closed.as_str())
 }
 
 /// Where the files of a take are, and where they go if it is given up.
@@ -107,28 +76,15 @@ struct Places {
     wave_to: String,
 }
 
-fn places_of(alloc: Global, folder: &str, name: &Name, rests: bool) -> Result<Places, ReadFault>
-    ensures { IfOk result (λ places. paths_of places ≡ paths_in rests folder.now name.now) }
+fn places_of(alloc: Global, folder: &str, name: &Name) -> Result<Places, ReadFault>
+    ensures { IfOk result (λ places. paths_of places ≡ paths_in folder.now name.now) }
 {
-    let (ending, ending_aside) = journal_endings(rests);
     Ok(Places {
-        notes: path_in(alloc, folder, name, ending)?,
+        notes: path_in(alloc, folder, name, ".journal")?,
         wave: path_in(alloc, folder, name, ".wav")?,
-        notes_to: path_in(alloc, folder, name, ending_aside)?,
+        notes_to: path_in(alloc, folder, name, ".journal.given-up")?,
         wave_to: path_in(alloc, folder, name, ".wav.given-up")?,
     })
-}
-
-/// The endings of the path of a journal, at rest or not, and of the path to which it is put aside.
-fn journal_endings(rests: bool) -> (&'static str, &'static str)
-    ensures ending { result.0.now ≡ journal_ending rests }
-    ensures aside { result.1.now ≡ journal_ending_aside rests }
-{
-    if rests {
-        (".closed", ".closed.given-up")
-    } else {
-        (".journal", ".journal.given-up")
-    }
 }
 
 /// Which of a take's files exist.

@@ -11,9 +11,8 @@ use Rattle.std.proofs.lemmas.Str.{IsUtf8-append, IsUtf8-take, IsUtf8-from_ascii,
 use Rattle.std.proofs.Math.Seq.{take-append_seam}
 use Rattle.bw_model.specs.Wire.{is_name}
 use Rattle.bw_disk.specs.Volumes.{Lists, is_listed, in_folder}
-use Rattle.bw_recovery.proofs.PathLemmas.{path_listed, wave_no_notes, wave_no_rest, rest_no_notes}
-use Rattle.bw_recovery.proofs.NameBytes.{journal_is_listed, journal_is_utf8, ending_is_listed, ending_is_utf8, small_ascii}
-use Rattle.bw_recovery.specs.declared.ending.Ending.TheVariants.{Closed}
+use Rattle.bw_recovery.proofs.PathLemmas.{path_listed, wave_no_notes}
+use Rattle.bw_recovery.proofs.NameBytes.{journal_is_listed, journal_is_utf8, small_ascii}
 use Rattle.bw_recovery.proofs.ListForms.{contains_step}
 use Rattle.bw_takes.specs.TakeNames.{IsFileOf, IsTakeIn, ListsTakes, AddsTake}
 
@@ -51,14 +50,6 @@ wave_is_listed (c ∷ xs) fits =
 pub no_both : (file a b : List ℕ) → file ≡ a ++ codes ".wav" → file ≡ b ++ codes ".journal" → ⊥
 no_both file a b wave notes = wave_no_notes [] a b
     (sym (path_listed [] (codes ".wav") a) ∙ ap (in_folder []) (sym wave ∙ notes) ∙ path_listed [] (codes ".journal") b)
-
-pub no_both_at_rest : (file a b : List ℕ) → file ≡ a ++ codes ".wav" → file ≡ b ++ codes ".closed" → ⊥
-no_both_at_rest file a b wave rest = wave_no_rest [] a b
-    (sym (path_listed [] (codes ".wav") a) ∙ ap (in_folder []) (sym wave ∙ rest) ∙ path_listed [] (codes ".closed") b)
-
-pub no_two_journals : (file a b : List ℕ) → file ≡ a ++ codes ".closed" → file ≡ b ++ codes ".journal" → ⊥
-no_two_journals file a b rest notes = rest_no_notes [] a b
-    (sym (path_listed [] (codes ".closed") a) ∙ ap (in_folder []) (sym rest ∙ notes) ∙ path_listed [] (codes ".journal") b)
 
 -- one further in the files
 pub only_next : (files : List (List ℕ)) (i : ℕ) (file : List ℕ) (before after : List (List ℕ)) → i < length files →
@@ -101,12 +92,8 @@ listed_all folder contents files names i all lists only each name = (to, from)
           elim o.1.1 [
             | inl notes ↦ inl (subst (λ (p : List ℕ). IsSome (contents p)) (path_listed folder (codes ".journal") name)
                 (stands (codes ".journal") (subst (Contains files) notes o.1.2)))
-            | inr other ↦ inr (elim other [
-              | inl rest ↦ inl (subst (λ (p : List ℕ). IsSome (contents p)) (path_listed folder (codes ".closed") name)
-                  (stands (codes ".closed") (subst (Contains files) rest o.1.2)))
-              | inr wave ↦ inr (subst (λ (p : List ℕ). IsSome (contents p)) (path_listed folder (codes ".wav") name)
-                  (stands (codes ".wav") (subst (Contains files) wave o.1.2)))
-            ])
+            | inr wave ↦ inr (subst (λ (p : List ℕ). IsSome (contents p)) (path_listed folder (codes ".wav") name)
+                (stands (codes ".wav") (subst (Contains files) wave o.1.2)))
           ],
         )
 
@@ -118,14 +105,9 @@ listed_all folder contents files names i all lists only each name = (to, from)
       | inl notes ↦ each name (name ++ codes ".journal") h.0 (inl refl) (reached (name ++ codes ".journal")
           (lists.complete (name ++ codes ".journal") (journal_is_listed name h.0) (journal_is_utf8 name h.0)
           (subst (λ (p : List ℕ). IsSome (contents p)) (sym (path_listed folder (codes ".journal") name)) notes)))
-      | inr other ↦ elim other [
-        | inl rest ↦ each name (name ++ codes ".closed") h.0 (inr (inl refl)) (reached (name ++ codes ".closed")
-            (lists.complete (name ++ codes ".closed") (ending_is_listed Closed name h.0) (ending_is_utf8 Closed name h.0)
-            (subst (λ (p : List ℕ). IsSome (contents p)) (sym (path_listed folder (codes ".closed") name)) rest)))
-        | inr wave ↦ each name (name ++ codes ".wav") h.0 (inr (inr refl)) (reached (name ++ codes ".wav")
-            (lists.complete (name ++ codes ".wav") (wave_is_listed name h.0) (wave_is_utf8 name h.0)
-            (subst (λ (p : List ℕ). IsSome (contents p)) (sym (path_listed folder (codes ".wav") name)) wave)))
-      ]
+      | inr wave ↦ each name (name ++ codes ".wav") h.0 (inr refl) (reached (name ++ codes ".wav")
+          (lists.complete (name ++ codes ".wav") (wave_is_listed name h.0) (wave_is_utf8 name h.0)
+          (subst (λ (p : List ℕ). IsSome (contents p)) (sym (path_listed folder (codes ".wav") name)) wave)))
     ]
 
 -- the name of a file that has this stem

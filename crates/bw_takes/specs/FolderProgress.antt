@@ -21,7 +21,6 @@ progress_word states.Unopened = codes "unopened"
 progress_word states.Stood = codes "stood"
 progress_word (states.Faulty fault) = cause_word fault
 progress_word states.Changed = codes "ChangedBlock"
-progress_word states.Twice = codes "TwoJournals"
 
 -- the word for the state of a take of which this is reported
 abbrev pub summary_word : TakeSummary → List ℕ

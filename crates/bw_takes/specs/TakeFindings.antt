@@ -1,8 +1,5 @@
 -- What is found of a take without its samples.
 use Rattle.std.specs.Prelude.{◌≡◌, ℕ, Option, Some, None, IsSome, Result, Ok, Err, List, length}
-use Rattle.std.specs.Prelude.{◌&&◌, Bool, is_some}
-use Rattle.std.specs.Option.{option_or}
-use Rattle.bw_recovery.specs.Paths.{notes_path, rest_path}
 use Rattle.bw_journal.specs.Replays.{Story, JournalFault, NotBegun, replay}
 use Rattle.bw_journal.specs.Stories.{story_of}
 use Rattle.bw_recovery.specs.Findings.{cause_of}
@@ -10,17 +7,6 @@ use Rattle.bw_recovery.specs.Names.{NameFault, fault_beside}
 use Rattle.bw_takes.specs.TakeLines.{own_limit}
 use Rattle.bw_takes.specs.declared.finding.TakeFinding.{TakeFinding}
 use Rattle.bw_takes.specs.declared.finding.TakeFinding.TheVariants.{Stood, Unbegun, Refused, Begun, Changed}
-use Rattle.bw_takes.specs.declared.finding.TakeFinding.TheVariants.{Twice}
-
--- a name has a journal that rests and one that doesn't
-abbrev pub has_two_journals : List ℕ → (List ℕ → Option (List ℕ)) → List ℕ → Bool
-has_two_journals folder contents name =
-    is_some (contents (notes_path folder name)) && is_some (contents (rest_path folder name))
-
--- the journal of a name, which may rest
-abbrev pub journal_in : List ℕ → (List ℕ → Option (List ℕ)) → List ℕ → Option (List ℕ)
-journal_in folder contents name =
-    option_or (contents (notes_path folder name)) (contents (rest_path folder name))
 
 -- how many bytes a file has, if there is one
 abbrev pub IsLengthOf : Option (List ℕ) → ℕ → Type 0
@@ -34,7 +20,6 @@ IsFoundBy reported fault Unbegun = (reported ≡ Err NotBegun) × (fault ≡ Non
 IsFoundBy reported fault (Refused cause) = (fault ≡ cause_of cause) × IsSome (cause_of cause)
 IsFoundBy reported fault (Begun r) = (reported ≡ Ok (story_of r)) × (fault ≡ None)
 IsFoundBy reported fault (Changed number) = ⊥
-IsFoundBy reported fault Twice = ⊥
 
 -- the same by what its journal says, and its file
 abbrev pub IsFoundBeside : ℕ → Result Story JournalFault → Option (List ℕ) → TakeFinding → Type 0
@@ -49,10 +34,3 @@ abbrev pub IsTakeFound : List ℕ → Option (List ℕ) → Option (List ℕ) �
 IsTakeFound name None file found = IsStood found
 IsTakeFound name (Some journal) file found =
     IsFoundBeside (own_limit journal) (replay (own_limit journal) name journal) file found
-
--- the same of a take with these two journals, of which one may exist
-abbrev pub IsTakeFoundOf : List ℕ → Option (List ℕ) → Option (List ℕ) → Option (List ℕ) → TakeFinding →
-    Type 0
-IsTakeFoundOf name (Some journal) (Some resting) file found = found ≡ Twice
-IsTakeFoundOf name (Some journal) None file found = IsTakeFound name (Some journal) file found
-IsTakeFoundOf name None resting file found = IsTakeFound name resting file found

@@ -6,18 +6,16 @@ use Rattle.std.specs.Ordering.{nat_cmp}
 use Rattle.std.specs.Cmp.Lexicographic.{slice_cmp}
 use Rattle.bw_model.specs.Wire.{is_name}
 use Rattle.bw_recovery.specs.FoundNames.{AddsNameOf}
-use Rattle.bw_recovery.specs.Paths.{wave_path, notes_path, rest_path}
+use Rattle.bw_recovery.specs.Paths.{wave_path, notes_path}
 
--- a file of this name is the journal of a take, at rest or not, or its samples
+-- a file of this name is the journal of a take, or its samples
 abbrev pub IsFileOf : List ℕ → List ℕ → Type 0
-IsFileOf name file = (file ≡ name ++ codes ".journal") ⊎ (file ≡ name ++ codes ".closed")
-    ⊎ (file ≡ name ++ codes ".wav")
+IsFileOf name file = (file ≡ name ++ codes ".journal") ⊎ (file ≡ name ++ codes ".wav")
 
--- a take is in a folder: its journal, at rest or not, or a file of its name
+-- a take is in a folder: its journal, or a file of its name
 abbrev pub IsTakeIn : List ℕ → (List ℕ → Option (List ℕ)) → List ℕ → Type 0
 IsTakeIn folder contents name = IsTrue (is_name name)
-    × (IsSome (contents (notes_path folder name)) ⊎ IsSome (contents (rest_path folder name))
-    ⊎ IsSome (contents (wave_path folder name)))
+    × (IsSome (contents (notes_path folder name)) ⊎ IsSome (contents (wave_path folder name)))
 
 -- these are the takes of a folder
 abbrev pub ListsTakes : List ℕ → (List ℕ → Option (List ℕ)) → List (List ℕ) → Type 0

@@ -1,6 +1,6 @@
 -- What is reported of the takes of a folder.
 use Rattle.std.specs.Prelude.{◌≡◌, ℕ, Bool, true, false, ◌&&◌, Option, Some, None, List, [], ◌++◌, map, fold}
-use Rattle.std.specs.Prelude.{codes, if◌then◌else◌}
+use Rattle.std.specs.Prelude.{codes}
 use Rattle.serde_json.specs.Written.{compact_text}
 use Rattle.bw_console.specs.Text.{as_line}
 use Rattle.bw_journal.specs.Rows.{row_count}
@@ -8,10 +8,9 @@ use Rattle.bw_takes.specs.declared.listing.LineStyle.{LineStyle}
 use Rattle.bw_takes.specs.declared.listing.TakesReport.{TakesReport}
 use Rattle.bw_takes.specs.declared.listing.LineStyle.TheVariants.{Words, Json}
 use Rattle.bw_recovery.specs.Causes.{journal_text, file_cause_text}
-use Rattle.bw_recovery.specs.Paths.{wave_path}
+use Rattle.bw_recovery.specs.Paths.{wave_path, notes_path}
 use Rattle.bw_recovery.specs.declared.finding.NameFault.{NameFault as Fault}
 use Rattle.bw_recovery.specs.declared.finding.NameFault.TheVariants.{Journal, OtherLimit, File}
-use Rattle.bw_takes.specs.TakeFindings.{has_two_journals, journal_in}
 use Rattle.bw_takes.specs.TakeLines.{next_line, numbered_line, opened_line, state_word, word_line}
 use Rattle.bw_takes.specs.TakeNames.{ListsTakes, AreNamesInOrder}
 use Rattle.bw_takes.specs.TakeObjects.{summary_data}
@@ -21,7 +20,7 @@ use Rattle.bw_takes.specs.declared.comparing.Depth.{Depth}
 use Rattle.bw_takes.specs.declared.comparing.Depth.TheVariants.{Journals, Samples}
 use Rattle.bw_takes.specs.UnreadEntries.{entry_path, unread_text}
 use Rattle.bw_takes.specs.declared.finding.TakeFinding.{TakeFinding}
-use Rattle.bw_takes.specs.declared.finding.TakeFinding.TheVariants.{Stood, Unbegun, Refused, Begun, Twice}
+use Rattle.bw_takes.specs.declared.finding.TakeFinding.TheVariants.{Stood, Unbegun, Refused, Begun}
 use Rattle.bw_takes.specs.declared.finding.TakeFinding.TheVariants.{Changed as HasChanged}
 use Rattle.bw_takes.specs.declared.unread.TakeEntry.{TakeEntry}
 
@@ -38,7 +37,6 @@ finding_summary Unbegun = Unopened 0
 finding_summary (Refused cause) = Faulty (cause_word cause)
 finding_summary (Begun r) = story_summary r.state.parts (row_count r.table.items)
 finding_summary (HasChanged number) = Changed number
-finding_summary Twice = Faulty (codes "TwoJournals")
 
 -- its line of words
 abbrev pub summary_line : List ℕ → TakeSummary → List ℕ
@@ -61,10 +59,8 @@ is_deep Samples = true
 
 -- what is reported of a take in a folder
 abbrev pub summary_in : Depth → List ℕ → (List ℕ → Option (List ℕ)) → List ℕ → TakeSummary
-summary_in depth folder contents name =
-    if has_two_journals folder contents name then Faulty (codes "TwoJournals")
-    else take_summary (is_deep depth) name (journal_in folder contents name)
-    (contents (wave_path folder name))
+summary_in depth folder contents name = take_summary (is_deep depth) name
+    (contents (notes_path folder name)) (contents (wave_path folder name))
 
 -- its line
 abbrev pub line_in : LineStyle → Depth → List ℕ → (List ℕ → Option (List ℕ)) → List ℕ → List ℕ

@@ -2,7 +2,7 @@
 use Rattle.std.specs.Prelude.{ℕ, List, ◌++◌, codes}
 use Rattle.bw_recovery.specs.Paths.{path_with}
 use Rattle.bw_takes.specs.declared.unread.TakeEntry.{TakeEntry}
-use Rattle.bw_takes.specs.declared.unread.TakeEntry.TheVariants.{Wave, Journal, Closed}
+use Rattle.bw_takes.specs.declared.unread.TakeEntry.TheVariants.{Wave, Journal}
 
 -- what is reported of a path that can't be read
 abbrev pub unread_text : List ℕ → List ℕ
@@ -12,7 +12,6 @@ unread_text path = path ++ codes " can't be read\n"
 abbrev pub entry_ending : TakeEntry → List ℕ
 entry_ending Wave = codes ".wav"
 entry_ending Journal = codes ".journal"
-entry_ending Closed = codes ".closed"
 
 -- where a take's file is in a folder
 abbrev pub entry_path : TakeEntry → List ℕ → List ℕ → List ℕ

@@ -1,9 +1,9 @@
 //! What is found of a take, as far as it is to be looked at.
-ghost use Rattle.std.specs.Prelude.{◌≡◌, IsTrue, IfOk, option_map};
+ghost use Rattle.std.specs.Prelude.{◌≡◌, IsTrue, IfOk};
 ghost use Rattle.bw_disk.specs.DiskSteps.{StaysWhole};
 ghost use Rattle.bw_journal.specs.Rows.{row_count};
-ghost use Rattle.bw_recovery.specs.Paths.{wave_path, notes_path, rest_path};
-ghost use Rattle.bw_takes.specs.TakeFindings.{IsTakeFoundOf, journal_in as journal_of};
+ghost use Rattle.bw_recovery.specs.Paths.{wave_path, notes_path};
+ghost use Rattle.bw_takes.specs.TakeFindings.{IsTakeFound};
 ghost use Rattle.bw_takes.specs.TakeReports.{finding_summary, summary_in};
 ghost use Rattle.bw_takes.specs.TakeSummaries.{changed_beside, checked_summary, story_summary};
 
@@ -67,8 +67,7 @@ fn compare<D: Volume>(
 ) -> Result<TakeFinding, ReadFault>
     ensures disk { StaysWhole D.Disk disk.old disk.new }
     ensures found { IsTrue (D.honest disk.old) → IfOk result (λ after.
-        IsTakeFoundOf name.now (D.contents disk.old (notes_path folder.now name.now))
-        (D.contents disk.old (rest_path folder.now name.now))
+        IsTakeFound name.now (D.contents disk.old (notes_path folder.now name.now))
         (D.contents disk.old (wave_path folder.now name.now)) found →
         finding_summary after ≡ summary_in Depth.Samples folder.now (D.contents disk.old) name.now) }
 {
@@ -78,7 +77,6 @@ fn compare<D: Volume>(
         TakeFinding::Unbegun => Ok(TakeFinding::Unbegun),
         TakeFinding::Refused(fault) => Ok(TakeFinding::Refused(fault)),
         TakeFinding::Changed(number) => Ok(TakeFinding::Changed(number)),
-        TakeFinding::Twice => Ok(TakeFinding::Twice),
     }
 }
 
@@ -93,7 +91,7 @@ fn compare_begun<D: Volume>(
     ensures disk { StaysWhole D.Disk disk.old disk.new }
     ensures found { IsTrue (D.honest disk.old) → IfOk result (λ after. finding_summary after
         ≡ checked_summary (changed_beside name.now replayed.state.parts
-        (journal_of folder.now (D.contents disk.old) name.now)
+        (D.contents disk.old (notes_path folder.now name.now))
         (D.contents disk.old (wave_path folder.now name.now)))
         (story_summary replayed.state.parts (row_count replayed.table.items))) }
 {
@@ -114,31 +112,13 @@ fn look_at_samples<D: Volume>(
     ensures disk { StaysWhole D.Disk disk.old disk.new }
     ensures value { IsTrue (D.honest disk.old) → IfOk result (λ v. v
         ≡ changed_beside name.now state.now.parts
-        (journal_of folder.now (D.contents disk.old) name.now)
+        (D.contents disk.old (notes_path folder.now name.now))
         (D.contents disk.old (wave_path folder.now name.now))) }
 {
     let wave = path_in(alloc, folder, name, ".wav")?;
-    match read_journal(alloc, disk, folder, name)? {
+    let notes = path_in(alloc, folder, name, ".journal")?;
+    match read_file(disk, alloc, notes.as_str())? {
         Some(journal) => find_changed(alloc, disk, wave.as_str(), name, &journal, state),
         None => Ok(None),
     }
-}
-
-/// The journal of a name, which may rest.
-fn read_journal<D: Volume>(
-    alloc: Global,
-    disk: &mut D,
-    folder: &str,
-    name: &Name,
-) -> Result<Option<Vec<u8>>, ReadFault>
-    ensures disk { StaysWhole D.Disk disk.old disk.new }
-    ensures read { IsTrue (D.honest disk.old) → IfOk result (λ journal.
-        option_map (λ v. v.items) journal ≡ journal_of folder.now (D.contents disk.old) name.now) }
-{
-    let notes = path_in(alloc, folder, name, ".journal")?;
-    if let Some(journal) = read_file(disk, alloc, notes.as_str())? {
-        return Ok(Some(journal));
-    }
-    let closed = path_in(alloc, folder, name, ".closed")?;
-    read_file(disk, alloc, closed.as_str())
 }

@@ -5,8 +5,8 @@ ghost use Rattle.bw_journal.specs.Faults.{IsJournalFault};
 ghost use Rattle.bw_journal.specs.Replays.{Story, JournalFault, NotBegun as not_begun};
 ghost use Rattle.bw_journal.specs.Stories.{story_of};
 ghost use Rattle.bw_recovery.specs.FilesRead.{SeesRead};
-ghost use Rattle.bw_recovery.specs.Paths.{wave_path, notes_path, rest_path};
-ghost use Rattle.bw_takes.specs.TakeFindings.{IsTakeFound, IsTakeFoundOf, IsFoundBeside, IsLengthOf};
+ghost use Rattle.bw_recovery.specs.Paths.{wave_path, notes_path};
+ghost use Rattle.bw_takes.specs.TakeFindings.{IsTakeFound, IsFoundBeside, IsLengthOf};
 ghost use Rattle.hex.specs.Hex.{decode_sized};
 ghost use Rattle.bw_takes.specs.TakeLines.{own_limit as limit_in, limit_spelled as limit_spelled_by};
 ghost use Rattle.bw_takes.specs.TakeLines.{limit_or_largest as limit_or_largest_of, journal_front};
@@ -35,8 +35,6 @@ pub enum TakeFinding {
     Refused(NameFault),
     /// Its journal says this, and its file fits.
     Begun(Replayed),
-    /// It has a journal that rests and one that doesn't.
-    Twice,
     /// The samples of this number, the first one, aren't those that its journal has the digest of;
     /// all else fits.
     Changed(u32),
@@ -62,40 +60,31 @@ pub(crate) fn look_at_take<D: Volume>(
     name: &Name,
 ) -> Result<TakeFinding, ReadFault>
     ensures disk { StaysWhole D.Disk disk.old disk.new }
-    ensures found { IsTrue (D.honest disk.old) → IfOk result (IsTakeFoundOf name.now
+    ensures found { IsTrue (D.honest disk.old) → IfOk result (IsTakeFound name.now
         (D.contents disk.old (notes_path folder.now name.now))
-        (D.contents disk.old (rest_path folder.now name.now))
         (D.contents disk.old (wave_path folder.now name.now))) }
 {
     let wave = path_in(alloc, folder, name, ".wav")?;
     let notes = path_in(alloc, folder, name, ".journal")?;
-    let closed = path_in(alloc, folder, name, ".closed")?;
-    let (notes, closed) = (notes.as_str(), closed.as_str());
-    look_at_paths(alloc, disk, wave.as_str(), notes, closed, name)
+    look_at_paths(alloc, disk, wave.as_str(), notes.as_str(), name)
 }
 
-/// The same of a take with its file and its journal, or what rests of it, at these paths.
+/// The same of a take with its file and its journal at these paths.
 fn look_at_paths<D: Volume>(
     alloc: Global,
     disk: &mut D,
     wave: &str,
     notes: &str,
-    closed: &str,
     name: &Name,
 ) -> Result<TakeFinding, ReadFault>
     ensures disk { StaysWhole D.Disk disk.old disk.new }
-    ensures found { IsTrue (D.honest disk.old) → IfOk result (IsTakeFoundOf name.now
-        (D.contents disk.old notes.now) (D.contents disk.old closed.now)
-        (D.contents disk.old wave.now)) }
+    ensures found { IsTrue (D.honest disk.old) → IfOk result (IsTakeFound name.now
+        (D.contents disk.old notes.now) (D.contents disk.old wave.now)) }
 {
     let before = len_at(disk, wave)?;
-    let noted = read_file(disk, alloc, notes)?;
-    let resting = read_file(disk, alloc, closed)?;
-    match (noted, resting) {
-        (Some(_), Some(_)) => Ok(TakeFinding::Twice),
-        (Some(journal), None) => judge_journal(alloc, disk, wave, before, name, &journal),
-        (None, Some(journal)) => judge_journal(alloc, disk, wave, before, name, &journal),
-        (None, None) => Ok(TakeFinding::Stood),
+    match read_file(disk, alloc, notes)? {
+        Some(journal) => judge_journal(alloc, disk, wave, before, name, &journal),
+        None => Ok(TakeFinding::Stood),
     }
 }
 

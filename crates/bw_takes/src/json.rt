@@ -53,7 +53,6 @@ fn finding_value(alloc: Global, name: &str, finding: &TakeFinding) -> Result<Val
         TakeFinding::Stood => still_value(alloc, name, "stood", 0),
         TakeFinding::Unbegun => still_value(alloc, name, "unopened", 0),
         TakeFinding::Refused(fault) => faulty_value(alloc, name, cause_word(fault), None),
-        TakeFinding::Twice => faulty_value(alloc, name, "TwoJournals", None),
         TakeFinding::Begun(replayed) => begun_value(alloc, name, replayed),
         TakeFinding::Changed(number) => {
             faulty_value(alloc, name, "ChangedBlock", Some(u64::from(*number)))

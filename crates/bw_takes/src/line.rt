@@ -38,7 +38,6 @@ impl TakeFinding {
             TakeFinding::Stood => named.put_next("stood", 0, lines),
             TakeFinding::Unbegun => named.put_next("unopened", 0, lines),
             TakeFinding::Refused(fault) => named.put_word(cause_word(fault), lines),
-            TakeFinding::Twice => named.put_word("TwoJournals", lines),
             TakeFinding::Begun(replayed) => named.put_begun(replayed, lines),
             TakeFinding::Changed(number) => {
                 named.put_numbered("ChangedBlock", u64::from(*number), lines)

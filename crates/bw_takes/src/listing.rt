@@ -174,6 +174,5 @@ fn is_sound(finding: &TakeFinding) -> bool
         TakeFinding::Refused(_) => false,
         TakeFinding::Begun(_) => true,
         TakeFinding::Changed(_) => false,
-        TakeFinding::Twice => false,
     }
 }

@@ -1,17 +1,17 @@
 //! The names of the takes of a folder.
-ghost use Rattle.std.specs.Prelude.{◌≡◌, ◌⊎◌, ◌++◌, ℕ, List, Some, IsTrue, IfSome, IfOk, OnOk, codes};
+ghost use Rattle.std.specs.Prelude.{◌≡◌, ◌++◌, ℕ, List, Some, IsTrue, IfSome, IfOk, OnOk, codes};
 ghost use Rattle.bw_model.specs.Wire.{is_name as is_take_name};
 ghost use Rattle.bw_disk.specs.DiskSteps.{StaysWhole};
 ghost use Rattle.bw_takes.specs.TakeNames.{IsFileOf, ListsTakes, AreNamesInOrder, AddsTake};
 
 use bw_disk::{ReadFault, Volume};
-use bw_recovery::{closed_name, journal_name};
+use bw_recovery::journal_name;
 use bw_request::Name;
 use std::alloc::Global;
 use std::collections::BTreeSet;
 
-/// The names of the takes of a folder, which have a journal, at rest or not, or a file there, in the
-/// order of their bytes. Nothing is changed.
+/// The names of the takes of a folder, which have a journal or a file there, in the order of their
+/// bytes. Nothing is changed.
 ///
 /// # Errors
 /// `Disk` if a call of the disk failed; `Memory` if memory was refused.
@@ -50,27 +50,13 @@ fn add_take(file: &str, names: &mut BTreeSet<Name>) -> Result<(), ReadFault>
     }
 }
 
-/// The take whose journal or file has this name, if it is one: `NAME.journal`, `NAME.closed` or
-/// `NAME.wav`.
+/// The take whose journal or file has this name, if it is one: `NAME.journal` or `NAME.wav`.
 pub fn take_of(file: &str) -> Option<Name>
     ensures some { IfSome result (λ name. IsTrue (is_take_name name) × IsFileOf name file.now) }
     ensures each { (name : List ℕ) → IsTrue (is_take_name name) → IsFileOf name file.now →
         result ≡ Some name }
 {
     match journal_name(file) {
-        Some(name) => Some(name),
-        None => at_rest_or_wave(file),
-    }
-}
-
-/// The same of a file that is no journal: `NAME.closed` or `NAME.wav`.
-fn at_rest_or_wave(file: &str) -> Option<Name>
-    ensures some { IfSome result (λ name. IsTrue (is_take_name name) × IsFileOf name file.now) }
-    ensures each { (name : List ℕ) → IsTrue (is_take_name name) →
-        (file.now ≡ name ++ codes ".closed") ⊎ (file.now ≡ name ++ codes ".wav") →
-        result ≡ Some name }
-{
-    match closed_name(file) {
         Some(name) => Some(name),
         None => wave_name(file),
     }

@@ -30,8 +30,6 @@ pub enum ProgressState {
     Stood,
     /// This is wrong with its journal or its file.
     Faulty(NameFault),
-    /// It has a journal that rests and one that doesn't.
-    Twice,
     /// Samples aren't those that its journal has the digest of.
     Changed,
 }
@@ -120,7 +118,6 @@ fn progress_of(name: Name, finding: TakeFinding) -> TakeProgress
         TakeFinding::Refused(fault) => still(name, ProgressState::Faulty(fault), 0),
         TakeFinding::Begun(replayed) => begun_progress(name, &replayed),
         TakeFinding::Changed(_) => still(name, ProgressState::Changed, 0),
-        TakeFinding::Twice => still(name, ProgressState::Twice, 0),
     }
 }
 

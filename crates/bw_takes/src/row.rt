@@ -41,7 +41,6 @@ fn word_of(state: ProgressState) -> &'static str
         ProgressState::Stood => "stood",
         ProgressState::Faulty(fault) => cause_word(&fault),
         ProgressState::Changed => "ChangedBlock",
-        ProgressState::Twice => "TwoJournals",
     }
 }
 

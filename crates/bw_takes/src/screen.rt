@@ -242,7 +242,6 @@ fn is_open(state: ProgressState) -> bool
         ProgressState::Stood => false,
         ProgressState::Faulty(_) => false,
         ProgressState::Changed => false,
-        ProgressState::Twice => false,
     }
 }
 

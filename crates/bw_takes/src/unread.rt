@@ -15,8 +15,6 @@ pub enum TakeEntry {
     Wave,
     /// Its journal.
     Journal,
-    /// Its journal while it rests.
-    Closed,
 }
 
 /// How the name of a take's file ends.
@@ -26,12 +24,11 @@ pub(crate) fn ending(entry: TakeEntry) -> &'static str
     match entry {
         TakeEntry::Wave => ".wav",
         TakeEntry::Journal => ".journal",
-        TakeEntry::Closed => ".closed",
     }
 }
 
-/// Which file of a take that can't be looked at can't be read: a journal that can't, or else its
-/// samples. Nothing is changed.
+/// Which file of a take that can't be looked at can't be read: its journal, or else
+/// its samples. Nothing is changed.
 ///
 /// # Errors
 /// `Memory` if memory was refused.
@@ -47,12 +44,8 @@ pub(crate) fn find_unread<D: Volume>(
     ensures disk { StaysWhole D.Disk disk.old disk.new }
 {
     let notes = path_in(alloc, folder, name, ".journal")?;
-    if let Err(ReadFault::Disk) = read_file(disk, alloc, notes.as_str()) {
-        return Ok(TakeEntry::Journal);
-    }
-    let closed = path_in(alloc, folder, name, ".closed")?;
-    match read_file(disk, alloc, closed.as_str()) {
-        Err(ReadFault::Disk) => Ok(TakeEntry::Closed),
+    match read_file(disk, alloc, notes.as_str()) {
+        Err(ReadFault::Disk) => Ok(TakeEntry::Journal),
         Err(ReadFault::Memory) => Err(ReadFault::Memory),
         Ok(_) => Ok(TakeEntry::Wave),
     }

@@ -5,4 +5,4 @@ use Rattle.bw_take_files.proofs.giving_up.give_up_take.Goals as goal
 
 pub put_aside_all-requires : goal.put_aside_all-requires
 put_aside_all-requires g c =
-    record { apart = subst AreTakePathsApart (sym c.in-Ok.ensures) (paths_apart _ c.args.folder.now c.args.name.now) }
+    record { apart = subst AreTakePathsApart (sym c.in-Ok.ensures) (paths_apart c.args.folder.now c.args.name.now) }

@@ -1,5 +1,4 @@
-use Rattle.std.proofs.Common.{◌≡◌, List, ℕ, refl, ◌∙◌, ap}
-use Rattle.bw_recovery.specs.Paths.{path_with}
+use Rattle.std.proofs.Common.{◌≡◌, List, ℕ, refl}
 use Rattle.bw_take_files.specs.GivenUp.{TakePaths}
 use Rattle.bw_take_files.proofs.giving_up.places_of.Goals as goal
 
@@ -11,8 +10,5 @@ same_paths a b c d a' b' c' d' p q r s = rw (p, q, r, s) refl
 
 pub returns : goal.returns
 unfolding paths
-returns c =
-    let with_ending : List ℕ → List ℕ = λ ending. path_with c.args.folder.now ending c.args.name.now in
-    same_paths _ _ _ _ _ _ _ _ (c.in_ok-path_in.ensures ∙ ap with_ending c.journal_endings.ensures.ending)
-    c.in_ok-path_in-2.ensures (c.in_ok-path_in-3.ensures ∙ ap with_ending c.journal_endings.ensures.aside)
-    c.in_ok-path_in-4.ensures
+returns c = same_paths _ _ _ _ _ _ _ _ c.in_ok-path_in.ensures.path c.in_ok-path_in-2.ensures.path
+    c.in_ok-path_in-3.ensures.path c.in_ok-path_in-4.ensures.path
