@@ -191,7 +191,7 @@ def sends_many(name, server, path):
 
 
 def case_many_numbers(place):
-    """A take of very many numbers is sent, resumed by a start, compared, put to rest, woken, and compared at rest."""
+    """A take of very many numbers is sent, resumed by a start, compared, and recovered once other names took its place."""
     folder, path = folder_in(place), place / "many.pcm"
     path.write_bytes(CHANCE.randbytes(2 * MANY))
     line = f"many closed frames {MANY} seconds {MANY // 48_000}.{MANY % 48_000 // 48} next {MANY + 2}"
@@ -199,18 +199,17 @@ def case_many_numbers(place):
     sends_many("many numbers", server, path)
     server.stop(signal.SIGKILL)
     shows("many numbers after a kill", folder, [line])
-    server = journaled(folder, 1, "--rest")
+    server = journaled(folder, 1)
     sends_many("many numbers after a start", server, path)
     others = [small_take(f"n{number}") for number in range(256)]
     for take in others:
         says(take.name, server, take, range(len(take.messages())))
-    TALLY.holds("many numbers rest", (folder / "many.closed").exists(), sorted(it.name for it in folder.iterdir())[:9])
     status, out, _ = checked(folder)
-    TALLY.holds("many numbers at rest", status == 0 and f"{line}\n" in out, (status, out[:400]))
+    TALLY.holds("many numbers out of the table", status == 0 and f"{line}\n" in out, (status, out[:400]))
     opening = bytes([OPEN]) + little(48_000, 4) + little(1, 2) + little(16, 2) + little(0, 2)
     with connect(server.port) as peer:
         peer.sendall(message("many", 0, opening) + BYE_FRAME)
-        TALLY.same("many numbers woken", hear_all(peer), verdict("many", 0, STORED))
+        TALLY.same("many numbers recovered", hear_all(peer), verdict("many", 0, STORED))
     server.stop(signal.SIGKILL)
 
 

@@ -1,5 +1,5 @@
 #!/usr/bin/env python3
-"""Runs `takes --give-up` over folders that servers left: what is renamed, what isn't, and what a start does with the rest.
+"""Runs `takes --give-up` over folders that servers left: what is renamed, what isn't, and what the next server does with the rest.
 
 The program is the first argument, or the one of this repository. Prints what differs, and last 'N passed, M failed'.
 """
@@ -9,7 +9,8 @@ import sys
 
 sys.dont_write_bytecode = True  # nothing is left beside this script
 from kit.folders import folder_in, journaled, left_by, line_of, restored, says, small_take
-from kit.network import finish, run, run_cases, start, TALLY
+from kit.network import connect, finish, hear_all, run, run_cases, start, TALLY
+from kit.takes import BYE_FRAME, DELAYED_STORE, notice
 from kit.watcher import ClosingWatcher
 
 LONGEST_RUN = 120  # seconds, for all of it
@@ -94,13 +95,19 @@ def case_in_the_way(place):
 
 
 def case_refusing_takes(place):
-    """A take for which a server doesn't start is given up, and the server starts."""
-    folder = left_by(folder_in(place), [(small_take(), 5), (small_take("b2"), 5)])
+    """A take that a server leaves out is given up, and its name is free for the next server."""
+    take = small_take()
+    folder = left_by(folder_in(place), [(take, 5), (small_take("b2"), 5)])
     (folder / "a1.wav").unlink()
-    status, _, faults = run("serve", "--listen", "127.0.0.1:1", "--folder", str(folder), "--journal")
-    TALLY.same("a start", (status, faults), (1, f"{folder}/a1.journal: LostFile\n"))
+    server = journaled(folder, 2)
+    with connect(server.port) as peer:
+        peer.sendall(take.messages()[5] + BYE_FRAME)
+        TALLY.same("left out", hear_all(peer), notice("a1", 5, DELAYED_STORE, 0))
+    TALLY.same("its cause", server.stop()[2], f"{folder}/a1.journal: LostFile, left out\n")
     TALLY.same("given up", gives_up(folder, "a1"), given_up("a1"))
-    journaled(folder, 1).stop(signal.SIGKILL)
+    server = journaled(folder, 1)
+    says("the name is free", server, take, range(len(take.messages())))
+    server.stop(signal.SIGKILL)
 
 
 def case_running(place):

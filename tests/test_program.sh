@@ -282,7 +282,7 @@ Options:
       --log                Reports each connection in a line on standard error
       --journal            Keeps a journal of each take, and continues what an earlier server left
       --sync               With --journal: syncs file and journal before each reply
-      --rest               With --journal: lets closed takes rest, so that further ones find room
+      --rest               With --journal: still read; changes nothing
       --one-name           Ends a connection at a message under another name than its first
       --status <ADDR>      With --recorders: shows its status over HTTP at 127.0.0.1:PORT, or any address with --network
   -h, --help               Print help
@@ -366,7 +366,7 @@ done
 run serve --listen 127.0.0.1:4100 --folder . --sync
 has_line 'syncs without journals' 2 faults "error: '--sync' is for '--journal'"
 run serve --listen 127.0.0.1:4100 --folder . --rest
-has_line 'rest without journals' 2 faults "error: '--rest' is for '--journal', without '--status <ADDR>'"
+has_line 'rest without journals' 2 faults "error: '--rest' is for '--journal'"
 run send --connect 127.0.0.1:4100
 has_line 'no name to send under' 2 faults 'Usage: bwingest send --connect <ADDR> --name <NAME>'
 for fuse in x +3 3.0 4294967296 00000000003; do

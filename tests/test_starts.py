@@ -1,15 +1,14 @@
 #!/usr/bin/env python3
 """Starts `serve --journal` over folders that earlier servers left, and that something else has changed.
 
-What was answered holds after each stop; what can't be resumed is refused by name, and nothing of the folder changes.
+What was answered holds after each stop; a name that can't go on is left out alone, and nothing of it changes.
 Journals are cut at many of their bytes, and single bits of them are turned. Calls of the system are refused while a
-verdict is noted and while a server starts. With `--sync` samples, note and reply come in this order. Needs what
-tracer.py needs. The program is the first argument, or the one of this repository. Prints what differs, and last 'N
-passed, M failed'.
+verdict is noted, while a server starts, and while it recovers names. With `--sync` samples, note and reply come in this
+order. Needs what tracer.py needs. The program is the first argument, or the one of this repository. Prints what differs,
+and last 'N passed, M failed'.
 """
 import errno
 import os
-import pty
 import random
 import shutil
 import signal
@@ -99,10 +98,6 @@ def refused(name, folder, lines, *options, status=1):
     TALLY.same(f"{name}: the folder", state(folder), before)
 
 
-def cause(folder, name, text):
-    return f"{folder}/{name}.journal: {text}"
-
-
 # What goes on
 
 
@@ -148,21 +143,6 @@ def case_synced(place):
     goes_on(place, *JOURNAL, "--sync")
 
 
-def case_terminal(place):
-    """A terminal is shown how many journals are read; what isn't a terminal isn't."""
-    folder = left_by(place, *map(small_take, ("a1", "b2", "c3")), count=2)
-    terminal, end = pty.openpty()
-    words = ("serve", "--listen", f"{LOCAL}:{free_port()}", "--folder", str(folder), *JOURNAL)
-    process = start(*words, stdout=subprocess.PIPE, stderr=end)
-    TALLY.same("a start at a terminal", process.stdout.readline(), b"resumed 3 takes\n")
-    process.stdout.readline()
-    process.kill()
-    process.wait(LONGEST_WAIT)
-    TALLY.same("a terminal", os.read(terminal, 4_096), b"read 3 of 3 journals\r\n")
-    os.close(terminal)
-    os.close(end)
-
-
 # What is refused
 
 
@@ -194,34 +174,48 @@ def case_without_journal(place):
     stopped("no journal of a take", Server(folder, "--until-stopped"))
 
 
+# Names that are left out
+
+
+def left_out(name, folder, causes, *options):
+    """A server over the folder puts these names off, prints the cause of each once, and changes nothing of the folder."""
+    before = state(folder)
+    server = journaled(folder, len([*folder.glob("*.journal")]), *(options or JOURNAL))
+    for taken in causes:
+        for number, request in enumerate(small_take(taken).requests()[:2]):
+            delayed = notice(taken, number, DELAYED_STORE, 0)
+            TALLY.same(f"{name}: {taken}", exchange(server, message(taken, number, request)), delayed)
+    said = "".join(f"{folder}/{taken}.journal: {cause}, left out\n" for taken, cause in causes.items())
+    TALLY.same(f"{name}: what is printed", server.stop(signal.SIGTERM)[2], said)
+    TALLY.same(f"{name}: the folder", state(folder), before)
+
+
 def case_other_name(place):
     folder = left_by(place, small_take(), count=5)
     (folder / "a1.journal").rename(folder / "b2.journal")
     (folder / "a1.wav").rename(folder / "b2.wav")
-    refused("a renamed journal", folder, [cause(folder, "b2", "OtherName")])
+    left_out("a renamed journal", folder, {"b2": "OtherName"})
 
 
 def case_other_limit(place):
     folder = left_by(place, small_take(), count=5)
-    line = cause(folder, "a1", f"OtherLimit, needs --limit {LIMIT}")
-    refused("another limit", folder, [line], "--until-stopped", "--journal", "--limit", str(LIMIT + 2))
-    refused("the usual limit", folder, [line], "--until-stopped", "--journal")
-    stopped("the same limit", journaled(folder, 1))
-
-
-LOST = "LostFile"
+    causes = {"a1": f"OtherLimit, needs --limit {LIMIT}"}
+    left_out("another limit", folder, causes, "--until-stopped", "--journal", "--limit", str(LIMIT + 2))
+    left_out("the usual limit", folder, causes, "--until-stopped", "--journal")
+    server = journaled(folder, 1)
+    says("the same limit", server, small_take(), range(6))
+    server.stop(signal.SIGKILL)
 
 
 def case_files(place):
-    """Files that are gone, shorter, longer or changed; each name is a line, and one that is as it was has none."""
+    """Files that are gone, shorter, longer or changed are left out, and one that is as it was goes on."""
     takes = [small_take(name) for name in ("a1", "b2", "c3", "d4")]
     folder = left_by(place, *takes, count=5)
     whole = {take.name: (folder / f"{take.name}.wav").read_bytes() for take in takes}
     (folder / "a1.wav").unlink()
     (folder / "b2.wav").write_bytes(whole["b2"][:-34])
     (folder / "c3.wav").write_bytes(whole["c3"] + bytes(40_000))
-    lines = [cause(folder, "a1", LOST), cause(folder, "b2", LOST), cause(folder, "c3", "LongFile")]
-    refused("three files", folder, lines)
+    left_out("three files", folder, {"a1": "LostFile", "b2": "LostFile", "c3": "LongFile"})
     for name, content in whole.items():
         (folder / f"{name}.wav").write_bytes(content)
     server = journaled(folder, 4)
@@ -231,7 +225,7 @@ def case_files(place):
     for length in (-1, 1):
         content = takes[0].file(limit=LIMIT)
         (folder / "a1.wav").write_bytes(content[:length] if length < 0 else content + bytes(length))
-        refused("a closed file", folder, [cause(folder, "a1", "ChangedFile")])
+        left_out("a closed file", folder, {"a1": "ChangedFile"})
 
 
 def case_no_folder(place):
@@ -250,20 +244,23 @@ def case_no_folder(place):
 
 
 def case_odd_entry(place):
-    """A start that can't open a file names it, and what is wrong with it."""
+    """What can't be opened puts off its name alone, and is named with what is wrong with it."""
     for kind, why in (("wav", errno.EISDIR), ("journal", errno.EISDIR), ("wav", errno.ELOOP)):
         home = place / f"{kind}-{why}"
         home.mkdir()
-        folder = left_by(home, small_take("a1"), small_take("b2"), count=4)
+        sound, odd_take = small_take("a1"), small_take("b2")
+        folder = left_by(home, sound, odd_take, count=4)
         odd = folder / f"b2.{kind}"
         odd.unlink()
         if why == errno.EISDIR:
             odd.mkdir()
         else:
             odd.symlink_to(odd.name)
-        words = ("serve", "--listen", f"{LOCAL}:{free_port()}", "--folder", str(folder), *JOURNAL)
-        said = UNREADABLE.decode() + f"{odd}: {reason(why)}\n"
-        TALLY.same(f"an odd {kind}: {reason(why)}", run(*words), (3, "", said))
+        server = journaled(folder, 2)
+        name = f"an odd {kind}: {reason(why)}"
+        TALLY.same(name, exchange(server, odd_take.messages()[4]), notice("b2", 4, DELAYED_STORE, 0))
+        says(f"{name}: a sound take", server, sound, range(len(sound.messages())))
+        TALLY.same(f"{name}: what is printed", server.stop(signal.SIGTERM)[2], f"the store fails: {odd}: {reason(why)}\n")
     folder = folder_in(place)
     (folder / ".bwingest-lock").mkdir()
     words = ("serve", "--listen", f"{LOCAL}:{free_port()}", "--folder", str(folder), *JOURNAL)
@@ -301,7 +298,7 @@ def case_cuts(place):
         restored(folder, {**saved, "a1.journal": journal[:length]})
         done = sum(end <= length for end in ends) - 1
         name = f"a journal of {length} bytes"
-        server = journaled(folder, int(done > 0))
+        server = journaled(folder, 1)
         has_next(name, server, take, done)
         says(f"{name}: all", server, take, range(len(take.messages())))
         server.stop(signal.SIGKILL)
@@ -310,27 +307,32 @@ def case_cuts(place):
         TALLY.same(f"{name}: what is set aside", torn, {} if done else {"a1.torn": saved["a1.wav"]})
     for length in (0, 1, 12, HEADER_LEN - 1):
         restored(folder, {**saved, "a1.journal": journal[:length]})
-        refused(f"a header of {length} bytes beside a file", folder, [cause(folder, "a1", "Damaged")])
+        left_out(f"a header of {length} bytes beside a file", folder, {"a1": "Damaged"})
 
 
 def case_turned_bits(place):
-    """With one bit turned a journal is refused by name, whatever the bit, unless it ends there: at a zero, or without
-    its last byte."""
-    folder = left_by(place, small_take(), count=6)
+    """With one bit turned in its journal a name is left out, whatever the bit, unless the journal ends there: at a zero,
+    or without its last byte."""
+    take = small_take()
+    folder = left_by(place, take, count=6)
     saved = {path.name: path.read_bytes() for path in folder.iterdir()}
     journal = saved["a1.journal"]
+    server = journaled(folder, 1, *MANY)
     for bit in CHANCE.sample(range(8 * len(journal)), 60):
         turned = bytearray(journal)
         turned[bit // 8] ^= 1 << bit % 8
         if 0 in turned or turned[-1] != journal[-1]:
             continue
-        restored(folder, {**saved, "a1.journal": bytes(turned)})
+        (folder / "a1.journal").write_bytes(turned)
         before = state(folder)
-        words = ("serve", "--listen", f"{LOCAL}:{free_port()}", "--folder", str(folder), *JOURNAL)
-        status, out, faults = run(*words)
-        is_named = faults.startswith(f"{folder}/a1.journal: ") and faults.count("\n") == 1
-        TALLY.holds(f"bit {bit}", (status, out) == (1, "") and is_named, f"{status}, {out!r}, {faults!r}")
+        delayed = notice("a1", 5, DELAYED_STORE, 0)
+        TALLY.same(f"bit {bit}", exchange(server, take.messages()[5]), delayed)
         TALLY.same(f"bit {bit}: the folder", state(folder), before)
+    (folder / "a1.journal").write_bytes(journal)
+    says("no bit", server, take, range(len(take.messages())))
+    faults = server.stop(signal.SIGTERM)[2].splitlines()
+    is_named = all(line.startswith(f"{folder}/a1.journal: ") and line.endswith(", left out") for line in faults)
+    TALLY.holds("what is printed", faults and is_named, faults)
 
 
 # Calls that fail
@@ -358,15 +360,28 @@ def case_full_while_noting(place):
     server.stop(signal.SIGKILL)
 
 
-def ended(words, kind, number):
-    """A server with this call refused, which is killed once it listens: its status, both streams, and its calls."""
+def ended(words, kind, number, takes):
+    """A server with this call refused, which is killed once it has answered asks for these takes: its status, standard
+    error, the calls of the kind, and the answers, None without a server."""
     pipes = {"stdout": subprocess.PIPE, "stderr": subprocess.PIPE}
     with Refused([PROGRAM, *words], kind, number, **pipes) as server:
         out = server.stdout.readline() + server.stdout.readline()
+        answers = None
         if b"listening" in out:
+            answers = [asked(int(words[2].rpartition(":")[2]), take) for take in takes for _ in range(2)]
             server.kill()
-        more, faults = server.communicate(timeout=LONGEST_WAIT)
-        return server.returncode, out + more, faults, server.seen
+        _, faults = server.communicate(timeout=LONGEST_WAIT)
+        return server.returncode, faults, server.seen, answers
+
+
+def asked(port, take):
+    """What a server answers to an ask over a connection of its own; nothing, if the connection fails."""
+    try:
+        with connect(port) as peer:
+            peer.sendall(message(take.name, 0, bytes([ASK])) + BYE_FRAME)
+            return hear_all(peer)
+    except OSError:
+        return b""
 
 
 def torn(place):
@@ -380,26 +395,27 @@ def torn(place):
 
 
 def refuse_each(place, kind):
-    """Each call of a kind fails in turn at a start: it serves or says why not, and the next has all that was done."""
+    """Each call of a kind fails in turn while a server starts and recovers two names: it serves, and puts off at most
+    one message, or says why not; and the next has all that was done."""
     takes, folder, saved = torn(place)
     words = ("serve", "--listen", f"{LOCAL}:{free_port()}", "--folder", str(folder), *JOURNAL)
     restored(folder, saved)
-    seen, number = ended(words, kind, 0)[3], 0
+    seen, number = ended(words, kind, 0, takes)[2], 0
     TALLY.holds(f"{kind} at a start", seen, "none is seen")
+    right = [notice(take.name, 0, NEXT, done) for take, done in zip(takes, (5, 6)) for _ in range(2)]
     while number < seen:
         number += 1
         name = f"{kind} {number} is refused"
         restored(folder, saved)
-        status, out, faults, _ = ended(words, kind, number)
-        is_refused = status == 3 or status == 4 and kind == "growth"
-        # the end of a folder's list isn't taken for granted
-        is_served = status == -signal.SIGKILL and kind != "list"
-        said = faults.removeprefix(UNREADABLE)
-        # A disk's fault doesn't distinguish lack of memory, for which no path is to blame.
-        is_named = said == faults or kind == "growth" or said.startswith(f"{folder}/".encode()) and said.endswith(BROKEN)
-        is_reported = is_named and said.count(b"\n") <= 1 and faults
-        is_so = is_served or is_refused and out == b"" and is_reported
-        TALLY.holds(name, is_so, f"{status}, {out!r}, {faults!r}")
+        status, faults, _, answers = ended(words, kind, number, takes)
+        is_refused = answers is None and status in (3, 4) and faults
+        # a message that is put off, or whose connection fails
+        others = [given for given, wanted in zip(answers or (), right) if given != wanted]
+        delayed = [notice(take.name, 0, DELAYED_STORE, 0) for take in takes]
+        is_served = answers is not None and len(others) <= 1 and all(it in (b"", *delayed) for it in others)
+        # Where the folder can't be looked at the server ends.
+        is_refused |= kind == "stat" and faults == CANT_GO_ON.encode()
+        TALLY.holds(name, is_served or is_refused, f"{status}, {answers}, {faults!r}")
         server = journaled(folder, 2)
         has_next(f"{name}: a1", server, takes[0], 5)
         has_next(f"{name}: b2", server, takes[1], 6)
@@ -440,18 +456,20 @@ def case_unsynced_at_a_start(place):
         TALLY.same(f"{call} at a start: the folder", state(folder), before)
 
 
-def case_full_at_a_start(place):
-    """A disk that is full at a start is reported, and the next start mends what this one didn't."""
+def case_full_at_a_recovery(place):
+    """Where the disk is full while a name is recovered its message is put off, and the next one finds it mended."""
     takes, folder, saved = torn(place)
     restored(folder, saved)
-    fails("a full disk at a start", folder, Fault("write b2.wav", errno.ENOSPC), folder / "b2.wav")
-    server = journaled(folder, 2)
+    server = journaled(folder, 2, *JOURNAL, watch=lambda: Watcher(Fault("write b2.wav", errno.ENOSPC)))
+    said = message("b2", 0, bytes([ASK]))
+    TALLY.same("a full disk at a recovery", exchange(server, said), notice("b2", 0, DELAYED_STORE, 0))
     for take in takes:
-        says(f"a start after a full disk: {take.name}", server, take, range(len(take.messages())))
-    server.stop(signal.SIGKILL)
+        says(f"after a full disk: {take.name}", server, take, range(len(take.messages())))
+    why = f"the store fails: {folder}/b2.wav: {reason(errno.ENOSPC)}\n"
+    TALLY.same("a full disk at a recovery: what is printed", server.stop(signal.SIGTERM)[2], why)
     for take in takes:
         content = (folder / f"{take.name}.wav").read_bytes()
-        TALLY.same(f"a start after a full disk: the file of {take.name}", content, take.file(limit=LIMIT))
+        TALLY.same(f"after a full disk: the file of {take.name}", content, take.file(limit=LIMIT))
 
 
 # The order of writes

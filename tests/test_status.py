@@ -23,8 +23,8 @@ import threading
 import time
 
 sys.dont_write_bytecode = True  # nothing is left beside this script
-from kit.network import connect, ends_by_signal, free_port, LOCAL, LONGEST_WAIT, narrow, run, run_cases, same_file
-from kit.network import same_settled, send, send_all, Server, stopped, TALLY
+from kit.network import connect, ends_by_signal, free_port, hear_all, LOCAL, LONGEST_WAIT, narrow, run, run_cases
+from kit.network import same_file, same_settled, send, send_all, Server, stopped, TALLY
 from kit.takes import ASK, BYE_FRAME, message, Take
 
 LONGEST_RUN = 240  # seconds, for all of it
@@ -131,15 +131,21 @@ def case_values(folder):
 
 
 def case_resumed(folder, closed, opened):
-    """A server that goes on shows what it resumed, and nothing that another one counted."""
+    """A server that goes on shows how many takes its folder had, each of them once it is asked for, and nothing that
+    another one counted."""
     server = Shown(folder, "--until-stopped", "--recorders", "8", "--journal", opening=("resumed 2 takes",))
     values = server.values()
     TALLY.same("resumed: how many", values["resumed"], 2)
-    found = [(take["name"], take["state"], take["quiet_ms"], take["peer"]) for take in values["takes"]]
-    wanted = [(closed.name, "closed", None, None), (opened.name, "open", None, None)]
-    TALLY.same("resumed: the takes", found, wanted)
+    TALLY.same("resumed: none is known yet", values["takes"], [])
+    with connect(server.port) as peer:
+        peer.sendall(b"".join(message(take.name, 0, bytes([ASK])) for take in (closed, opened)) + BYE_FRAME)
+        hear_all(peer)
+    wait_for(lambda: not server.values()["connections"], "resumed: the recorder has gone")
+    values = server.values()
+    found = [(take["name"], take["state"], take["quiet_ms"]) for take in values["takes"]]
+    TALLY.same("resumed: the takes", found, [(closed.name, "closed", None), (opened.name, "open", None)])
     TALLY.same("resumed: the verdicts", counts(values, "verdicts"), {})
-    stopped("resumed", server)
+    server.stop()
 
 
 def wait_for(is_so, name):

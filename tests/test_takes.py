@@ -225,15 +225,17 @@ def case_files(place):
 
 
 def case_mended(place):
-    """What a start mends isn't wrong: a file that is some bytes longer, or whose header is of a shorter take."""
+    """What a server mends isn't wrong: a file that is some bytes longer, or whose header is of a shorter take."""
     take = small_take()
     folder = left_by(folder_in(place), [(take, 5)])
     content = bytearray((folder / "a1.wav").read_bytes())
     content[4:8] = bytes(4)
     (folder / "a1.wav").write_bytes(content + bytes(32_769))
-    shows("what a start mends", folder, [line_of(take, 5)])
-    journaled(folder, 1).stop(signal.SIGKILL)
-    shows("after a start", folder, [line_of(take, 5)])
+    shows("what a server mends", folder, [line_of(take, 5)])
+    server = journaled(folder, 1)
+    says("a repeat", server, take, range(1))
+    server.stop(signal.SIGKILL)
+    shows("what is mended", folder, [line_of(take, 5)])
 
 
 # What can't be read or written
@@ -253,10 +255,10 @@ def case_odd_entries(place):
     take = small_take("sound")
     folder = left_by(folder_in(place), [(take, 5)])
     (folder / "b-stood.wav").write_bytes(b"something else")
-    odd = ("a1.journal", "c3.wav", "t4.closed", "z5.wav", "z6.journal")
-    for name in odd[:3]:
+    odd = ("a1.journal", "c3.wav", "z5.wav", "z6.journal")
+    for name in odd[:2]:
         (folder / name).mkdir()
-    for name in odd[3:]:
+    for name in odd[2:]:
         (folder / name).symlink_to(name)
     lines = f"b-stood stood next 0\n{line_of(take, 5)}\n"
     unread = "".join(f"{folder}/{name} can't be read\n" for name in odd)

@@ -43,8 +43,11 @@ def opened(path, *how):
 
 
 def looked_up(name):
-    """The calls before a name's journal is made."""
-    return [opened(f"{name}.wav", MISSING), opened(f"{name}.journal", MISSING), opened(f"{name}.journal", "create new")]
+    """The calls before a name's journal is made: it has none, and whether it has a file is looked at as both disks show
+    it, and as its journal will say."""
+    lacks_file = opened(f"{name}.wav", MISSING)
+    lacks_journal = opened(f"{name}.journal", MISSING)
+    return [lacks_journal, *[lacks_file] * 3, lacks_journal, opened(f"{name}.journal", "create new")]
 
 
 def begun(name):
@@ -55,15 +58,14 @@ def begun(name):
 
 def synced_before(names):
     """The calls that sync what an earlier server left of these names."""
-    listed = ["open FOLDER/ to-read", "list takes", "list takes"]
     files = [f"{name}.{ending}" for name in names for ending in ("wav", "journal")]
-    return [*listed, *(call for file in files for call in (opened(file), f"sync-data {file}")), *FOLDER_SYNCED]
+    return [*LISTED, *(call for file in files for call in (opened(file), f"sync-data {file}")), *FOLDER_SYNCED]
 
 
 class Journaled(Watched):
-    """A server with journals, and with syncs if `--sync` is among the options; of these names it finds takes."""
+    """A server with journals, and with syncs if `--sync` is among the options; these names have journals."""
 
-    def __init__(self, folder, *options, faults=(), found=(), resuming=()):
+    def __init__(self, folder, *options, faults=(), found=()):
         locked = ["open FOLDER/.bwingest-lock to-read-and-write create", "stat .bwingest-lock", "lock .bwingest-lock"]
         synced = synced_before(found) if "--sync" in options else []
         super().__init__(
@@ -71,7 +73,7 @@ class Journaled(Watched):
             *("--exchanges", "1", *IN_TURN, "--journal", *options),
             faults=faults,
             opening=[f"resumed {len(found)} takes"],
-            starting=[*locked, *synced, *LISTED, *resuming],
+            starting=[*locked, *LISTED, *synced],
         )
         self.is_synced = "--sync" in options
         self.noted = {}  # bytes in the journal of a name
@@ -192,7 +194,8 @@ def case_stopped_at_its_samples(folder):
 
 
 def goes_on(folder, what, *options):
-    """A journal's torn end is cut, and its take goes on; the file is as it should be, so nothing of it is written."""
+    """A journal's torn end is cut at the first message, and its take goes on; the file is as it should be, so nothing of
+    it is written."""
     takes = folder / "takes"
     takes.mkdir()
     noted = header("a1") + entry("a1", 0, bytes.fromhex(OPEN[0])) + entry("a1", 1, bytes.fromhex(BLOCK[0]))
@@ -203,12 +206,12 @@ def goes_on(folder, what, *options):
     front = [opened("a1.wav"), "stat a1.wav", "seek a1.wav 0", f"read a1.wav {SMALL[: 2 * 690]}"]
     cut = [opened("a1.journal"), "stat a1.journal", "truncate a1.journal"]
     kept = [opened("a1.wav"), opened("a1.journal"), opened("a1.wav")]
-    resuming = [*seen, *front, "seek a1.wav 694", "read a1.wav ", *cut, *kept]
-    it = Journaled(folder, *options, found=["a1"], resuming=resuming)
+    recovered = [*seen, *front, "seek a1.wav 694", "read a1.wav ", *cut, *kept]
+    it = Journaled(folder, *options, found=["a1"])
     it.numbers["a1"], it.noted["a1"] = 2, len(noted)
     it.made.add("a1")
     peer = it.comes(accepted_in_turn(7))
-    it.asks(peer, "a1", CLOSE)
+    it.asks(peer, "a1", CLOSE, before=recovered)
     it.goes(peer, 0)
     it.ends(what, [0])
 
@@ -223,7 +226,7 @@ def case_resumed_and_synced(folder):
 
 
 def case_set_aside(folder):
-    """The beginning of a file whose OPEN isn't noted is renamed, and the OPEN makes another."""
+    """The beginning of a file whose OPEN isn't noted is renamed at the next message, and the OPEN makes another."""
     takes = folder / "takes"
     takes.mkdir()
     (takes / "a1.journal").write_bytes(header("a1"))
@@ -233,9 +236,10 @@ def case_set_aside(folder):
     front = [opened("a1.wav"), "stat a1.wav", "seek a1.wav 0", f"read a1.wav {EMPTY[:200]}"]
     ends = ["seek a1.wav 100", "read a1.wav ", "seek a1.wav 690", "read a1.wav "]
     moved = [f"stat FOLDER/a1.torn {MISSING}", "rename FOLDER/a1.wav FOLDER/a1.torn", opened("a1.journal")]
-    it = Journaled(folder, resuming=[*seen, *front, *ends, *moved])
+    lacks_file = [opened("a1.wav", MISSING)] * 2
+    it = Journaled(folder, found=["a1"])
     peer = it.comes(accepted_in_turn(7))
-    it.asks(peer, "a1", OPEN, before=again)
+    it.asks(peer, "a1", OPEN, before=[*seen, *front, *ends, *moved, *lacks_file, *again])
     it.goes(peer, 0)
     it.ends("a file that is set aside", [0])
 

@@ -99,23 +99,23 @@ class Left(NamedTuple):
 
     def cases(self):
         """Each call of the start is one in which a disk dies, of both disks, and a later one leaves a server. Then
-        such starts come one after the other, but for the one that dies in the last call of the takes' disk: what those
-        before it have mended takes no call again."""
+        such starts come one after the other, but for those that die in the last three calls of the takes' disk: what
+        those before them have mended takes no call again."""
         store, journal = ([f"start counting {disk} {it}" for it in range(n + 1)] for disk, n in zip(DISKS, self.calls))
         for failing, running in ((store[:-1], store[-1]), (journal[:-1], journal[-1])):
             for start in failing:
                 yield from self.cases_of(start, f"{start}\n", 0)
             yield from self.cases_of(running, f"{running}\n", 1)
-        in_a_row = [*store[:-2], *journal[:-1]]
+        in_a_row = [*store[:-4], *journal[:-1]]
         yield from self.cases_of(f"{len(in_a_row)} starts in a row", "".join(f"{it}\n" for it in in_a_row), 0)
 
 
 LEFT = [
-    Left("an empty journal", "journal 3", 0, [], (1, 5)),
-    Left("a file whose OPEN isn't noted", "journal 5", 0, [], (5, 5)),
-    Left("samples that the header doesn't count", "store 3", 1, [EMPTY_FILE], (7, 5)),
-    Left("a file that is ahead of its journal", "journal 6", 1, [EMPTY_FILE], (8, 5)),
-    Left("a file whose CLOSE isn't noted", "journal 7", 2, [SMALL_FILE], (6, 5)),
+    Left("an empty journal", "journal 5", 0, [], (4, 10)),
+    Left("a file whose OPEN isn't noted", "journal 7", 0, [], (8, 10)),
+    Left("samples that the header doesn't count", "store 4", 1, [EMPTY_FILE], (13, 8)),
+    Left("a file that is ahead of its journal", "journal 8", 1, [EMPTY_FILE], (14, 8)),
+    Left("a file whose CLOSE isn't noted", "journal 9", 2, [SMALL_FILE], (12, 8)),
 ]
 STARTS = [
     Case(
@@ -130,7 +130,7 @@ STARTS = [
     ),
     Case(
         "the count goes on in a later turn",
-        f"{LEFT[3].began()}start counting journal 5\ndeliver 0\ndeliver 1\ndeliver 2\n",
+        f"{LEFT[3].began()}start counting journal 8\ndeliver 0\ndeliver 1\ndeliver 2\n",
         ["offered 3 sent 3 replies 2", "stopped settled 1 stored 1"],
         [SMALL_FILE],
     ),

@@ -71,8 +71,8 @@ def accepted_at(place):
     ]
 
 
-# The names in the folder: of journals, and of journals at rest.
-LISTED = 2 * ["open FOLDER/ to-read", "list takes", "list takes"]
+# The names in the folder.
+LISTED = ["open FOLDER/ to-read", "list takes", "list takes"]
 
 
 class Watched:
