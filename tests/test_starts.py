@@ -408,14 +408,14 @@ def refuse_each(place, kind):
         name = f"{kind} {number} is refused"
         restored(folder, saved)
         status, faults, _, answers = ended(words, kind, number, takes)
-        is_refused = answers is None and status in (3, 4) and faults
         # a message that is put off, or whose connection fails
         others = [given for given, wanted in zip(answers or (), right) if given != wanted]
         delayed = [notice(take.name, 0, DELAYED_STORE, 0) for take in takes]
-        is_served = answers is not None and len(others) <= 1 and all(it in (b"", *delayed) for it in others)
-        # Where the folder can't be looked at the server ends.
-        is_refused |= kind == "stat" and faults == CANT_GO_ON.encode()
-        TALLY.holds(name, is_served or is_refused, f"{status}, {answers}, {faults!r}")
+        are_none = all(it in (b"", *delayed) for it in others)
+        is_served = status == -signal.SIGKILL and answers is not None and len(others) <= 1
+        # Where memory is refused, or the folder can't be looked at, the server says so and ends.
+        is_over = status in (3, 4) and bool(faults) or kind == "stat" and faults == CANT_GO_ON.encode()
+        TALLY.holds(name, are_none and (is_served or is_over), f"{status}, {answers}, {faults!r}")
         server = journaled(folder, 2)
         has_next(f"{name}: a1", server, takes[0], 5)
         has_next(f"{name}: b2", server, takes[1], 6)

@@ -5,8 +5,8 @@ from typing import Callable
 
 from bad_links import Heard, Lost, take_of
 from book import MOST_NAMES
-from frames import ask, BAD_MARKER, BLOCK, CLOSE, DUPLICATE_MARKER, frame, HELD, little, MARK, NEXT, notice, OPEN
-from frames import STORED, TABLE_FULL, TOO_FAR, TOO_MANY_MARKERS, verdict
+from frames import ask, BAD_MARKER, BLOCK, CLOSE, CONFLICT, DUPLICATE_MARKER, frame, HELD, little, MARK, NEXT, notice
+from frames import OPEN, reply_of, STORED, TABLE_FULL, TOO_FAR, TOO_MANY_MARKERS, verdict
 from links import Failed, Skipped
 from servers import fresh_name, Run
 from takes import MOST_MARKERS
@@ -75,9 +75,11 @@ class Markers:
 
 
 def too_many_names(server):
-    """A server that has no names yet takes as many as docs/FORMATS.md says, and turns a further one away."""
+    """A server of which as many names wait for a number as docs/FORMATS.md says turns a further one away."""
     if not server.is_fresh:
         raise Skipped("without --fresh")
+    for name in sorted(server.known):
+        have_wait(server, name)
     names = [fresh_name() for _ in range(MOST_NAMES - len(server.known))]
     other = fresh_name()
     rows = [(frame(name, 1, TWO_FRAMES), notice(name, 1, HELD, 0)) for name in names]
@@ -89,6 +91,18 @@ def too_many_names(server):
         (frame(names[0], 0, OPENING), verdict(names[0], 0, STORED) + verdict(names[0], 1, STORED)),
     ]
     says_at_once(server, *zip(*rows))
+
+
+def have_wait(server, name):
+    """Has a number of a name wait, the last one that may, unless one waits there already."""
+    link = server.link()
+    link.send(ask(name))
+    following = reply_of(link.reply()).following
+    link.send(frame(name, following + 15, TWO_FRAMES))
+    code = reply_of(link.reply()).code
+    if code not in (HELD, CONFLICT):
+        raise Failed(f"number {following + 15} of {name} gets {code}, not Held")
+    link.say_no_more()
 
 
 def says_at_once(server, said, replies):
