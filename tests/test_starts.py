@@ -413,8 +413,8 @@ def refuse_each(place, kind):
         delayed = [notice(take.name, 0, DELAYED_STORE, 0) for take in takes]
         are_none = all(it in (b"", *delayed) for it in others)
         is_served = status == -signal.SIGKILL and answers is not None and len(others) <= 1
-        # Where memory is refused, or the folder can't be looked at, the server says so and ends.
-        is_over = status in (3, 4) and bool(faults) or kind == "stat" and faults == CANT_GO_ON.encode()
+        # Where memory is refused, or the folder can't be looked at, the server says so and ends, perhaps before the kill.
+        is_over = status in (3, 4) and bool(faults) or faults in (CANT_GO_ON.encode(), b"out of memory\n")
         TALLY.holds(name, are_none and (is_served or is_over), f"{status}, {answers}, {faults!r}")
         server = journaled(folder, 2)
         has_next(f"{name}: a1", server, takes[0], 5)
