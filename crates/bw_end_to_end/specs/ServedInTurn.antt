@@ -36,11 +36,12 @@ pub record IsPeerEnd {R W : Type 0} (reader : Reader R) (writer : Writer W) (u :
   pub answered : writer.written u.writer_after ≡ Some l.answered
 
 module _ {T P R W O E : Type 0} (answers : T → Frame → List Reply → T → Type 0)
-    (commits : T → Result (Unit {0}) NotKept → T → Type 0) (peers : PeerGhosts P R W) (reader : Reader R) (writer : Writer W) (out : Writer O)
-    (reported : Writer E) (log : Bool) where
+    (commits : T → Result (Unit {0}) NotKept → T → Type 0) (peers : PeerGhosts P R W)
+    (reader : Reader R) (writer : Writer W) (out : Writer O) (reported : Writer E) (log : Bool) where
   -- the exchange of the next peer, if one came
   abbrev pub exchange_next : (index : ℕ) (x : ServedOutcome) (t t' : T) (p p' : P) (o o' : O)
-      (e e' : E) → ServesNext answers commits peers reader writer out reported log index x t t' p p' o o' e e' →
+      (e e' : E) →
+      ServesNext answers commits peers reader writer out reported log index x t t' p p' o o' e e' →
       List (ServedExchange R W)
   exchange_next index (Served end exit) t t' p p' o o' e e' next = record {
     number = index;
@@ -56,7 +57,8 @@ module _ {T P R W O E : Type 0} (answers : T → Frame → List Reply → T → 
 
   -- those of these peers, one after another
   abbrev pub exchanges_each : (index : ℕ) (xs : List ServedOutcome) (t t' : T) (p p' : P) (o o' : O)
-      (e e' : E) → ServesEach answers commits peers reader writer out reported log index xs t t' p p' o o' e e' →
+      (e e' : E) →
+      ServesEach answers commits peers reader writer out reported log index xs t t' p p' o o' e e' →
       List (ServedExchange R W)
   exchanges_each index [] t t' p p' o o' e e' each = []
   exchanges_each index (x ∷ xs) t t' p p' o o' e e' each =
@@ -65,7 +67,8 @@ module _ {T P R W O E : Type 0} (answers : T → Frame → List Reply → T → 
 
   -- if one of them ended the run
   abbrev pub exchanges_early : (exchanges : ℕ) (exit : Exit) (t t' : T) (p p' : P) (o o' : O)
-      (e e' : E) → EndsEarly answers commits peers reader writer out reported log exchanges exit t t' p p' o o' e e' →
+      (e e' : E) →
+      EndsEarly answers commits peers reader writer out reported log exchanges exit t t' p p' o o' e e' →
       List (ServedExchange R W)
   exchanges_early exchanges exit t t' p p' o o' e e' run =
       exchanges_each 0 run.before t run.m p run.q o run.n e run.f run.each
@@ -73,7 +76,8 @@ module _ {T P R W O E : Type 0} (answers : T → Frame → List Reply → T → 
 
   -- in a whole run
   abbrev pub exchanges_in_run : (exchanges : ℕ) (exit : Exit) (t t' : T) (p p' : P) (o o' : O)
-      (e e' : E) → ServesRun answers commits peers reader writer out reported log exchanges exit t t' p p' o o' e e' →
+      (e e' : E) →
+      ServesRun answers commits peers reader writer out reported log exchanges exit t t' p p' o o' e e' →
       List (ServedExchange R W)
   exchanges_in_run exchanges Done t t' p p' o o' e e' run =
       exchanges_each 0 run.outcomes t t' p p' o o' e e' run.each
@@ -89,5 +93,6 @@ module _ {T P R W O E : Type 0} (answers : T → Frame → List Reply → T → 
 
   abbrev pub RunsAnswerInTurn : Type 0
   RunsAnswerInTurn = (exchanges : ℕ) (exit : Exit) (t t' : T) (p p' : P) (o o' : O) (e e' : E)
-      (run : ServesRun answers commits peers reader writer out reported log exchanges exit t t' p p' o o' e e') →
+      (run : ServesRun answers commits peers reader writer out reported log exchanges exit t t' p p' o o'
+      e e') →
       AnswersInTurn (exchanges_in_run exchanges exit t t' p p' o o' e e' run) t t'
