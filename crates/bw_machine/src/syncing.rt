@@ -4,7 +4,7 @@ ghost use Rattle.std.specs.List.{Contains};
 ghost use Rattle.bw_machine.specs.SyncedFolders.{KeepsContents, SyncsAt, SyncsLeft, SyncsName};
 
 use bw_disk::{ReadFault, Volume};
-use bw_recovery::{Ending, list_files, path_in};
+use bw_recovery::{list_names, path_in};
 use bw_request::Name;
 use std::alloc::Global;
 
@@ -52,7 +52,7 @@ fn sync_left<D: Volume, E: Volume>(
     ensures synced { IsTrue (D.honest takes.old) → IsTrue (E.honest notes.old) → OnOk result (SyncsLeft
         folder.now (D.contents takes.old) (D.synced takes.new) (E.contents notes.old) (E.synced notes.new)) }
 {
-    let names = list_files(alloc, notes, folder, Ending::Journal)?;
+    let names = list_names(alloc, notes, folder)?;
     sync_each(alloc, takes, notes, folder, &names)?;
     match notes.sync_folder(folder) {
         Ok(()) => Ok(()),

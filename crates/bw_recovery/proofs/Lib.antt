@@ -7,7 +7,6 @@ pub mod Refusals
 pub mod PathLemmas
 pub mod NameBytes
 pub mod ListForms
-pub mod LookForms
 pub mod StoryForms
 pub mod PartForms
 pub mod NameStays

@@ -8,9 +8,6 @@ use Rattle.std.proofs.lemmas.Bool.{and_parts, and_from, or_cases, leb-true, ltb-
 use Rattle.std.proofs.lemmas.Str.{IsUtf8-append, IsUtf8-from_ascii}
 use Rattle.std.proofs.lemmas.Str.Ascii.{IsAscii-nil}
 use Rattle.std.proofs.lemmas.List.Folds.{list_all-append}
-use Rattle.bw_recovery.specs.FileEndings.{ending_text}
-use Rattle.bw_recovery.specs.declared.ending.Ending.{Ending}
-use Rattle.bw_recovery.specs.declared.ending.Ending.TheVariants.{Journal, Closed}
 use Rattle.bw_model.specs.Bytes.{is_within}
 use Rattle.bw_model.specs.Wire.{is_name, is_name_byte}
 use Rattle.bw_disk.specs.Volumes.{is_listed}
@@ -87,19 +84,14 @@ small_ascii (c ∷ xs) h = go (small_ascii xs p.1)
     go more zero = ltb-true c 128 p.0
     go more (suc i) = more i
 
--- a name with an ending is in UTF-8
-utf8_with : (ending name : List ℕ) → list_all (λ b. nat_lt b 128) ending ≡ true → IsTrue (is_name name) →
-    IsUtf8 (name ++ ending)
-utf8_with ending name small h =
-    IsUtf8-append name ending
+-- the journal of a name has a name in UTF-8
+pub journal_is_utf8 : (name : List ℕ) → IsTrue (is_name name) → IsUtf8 (name ++ codes ".journal")
+journal_is_utf8 name h =
+    IsUtf8-append name (codes ".journal")
     (IsUtf8-from_ascii name (ascii name (and_parts (is_within 1 32 (length name)) (list_all is_name_byte name) h).1))
-    (IsUtf8-from_ascii ending (small_ascii ending small))
+    (IsUtf8-from_ascii (codes ".journal") (small_ascii (codes ".journal") refl))
 
-pub ending_is_utf8 : (kind : Ending) (name : List ℕ) → IsTrue (is_name name) → IsUtf8 (name ++ ending_text kind)
-ending_is_utf8 Journal name h = utf8_with (codes ".journal") name refl h
-ending_is_utf8 Closed name h = utf8_with (codes ".closed") name refl h
-
--- and is listed
+-- a name with an ending that has no slash is listed
 listed_with : (ending name : List ℕ) → list_all (λ b. not (b == 47)) ending ≡ true → IsTrue (is_name name) →
     is_listed (name ++ ending) ≡ true
 listed_with ending [] none h = absurd cc
@@ -110,14 +102,5 @@ listed_with ending (c ∷ xs) none h =
     (list_all-append (λ b. not (b == 47)) (c ∷ xs) ending
     ∙ ap (λ (v : Bool). v && list_all (λ b. not (b == 47)) ending) (no_slashes (c ∷ xs) p.1) ∙ none)
 
-pub ending_is_listed : (kind : Ending) (name : List ℕ) → IsTrue (is_name name) →
-    is_listed (name ++ ending_text kind) ≡ true
-ending_is_listed Journal name h = listed_with (codes ".journal") name refl h
-ending_is_listed Closed name h = listed_with (codes ".closed") name refl h
-
--- the journal of a name has a name in UTF-8, and is listed
-pub journal_is_utf8 : (name : List ℕ) → IsTrue (is_name name) → IsUtf8 (name ++ codes ".journal")
-journal_is_utf8 name h = ending_is_utf8 Journal name h
-
 pub journal_is_listed : (name : List ℕ) → IsTrue (is_name name) → is_listed (name ++ codes ".journal") ≡ true
-journal_is_listed name h = ending_is_listed Journal name h
+journal_is_listed name h = listed_with (codes ".journal") name refl h

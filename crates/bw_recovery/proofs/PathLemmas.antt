@@ -6,7 +6,7 @@ use Rattle.std.proofs.lemmas.Fmt.{decimal_by_steps}
 use Rattle.bw_recovery.specs.Changes.{IsNoWave}
 use Rattle.std.proofs.lemmas.List.{append_cancel_left, append_cancel_right, get_or_at}
 use Rattle.bw_disk.specs.Volumes.{in_folder}
-use Rattle.bw_recovery.specs.Paths.{path_with, wave_path, notes_path, rest_path}
+use Rattle.bw_recovery.specs.Paths.{path_with, wave_path, notes_path}
 
 -- a file's name in a folder is its stem and its ending
 pub path_listed : (folder ending name : List ℕ) → in_folder folder (name ++ ending) ≡ path_with folder ending name
@@ -43,17 +43,6 @@ paths_apart folder a b s t x y e =
 pub wave_no_notes : (folder a b : List ℕ) → wave_path folder a ≡ notes_path folder b → ⊥
 wave_no_notes folder a b e =
     let same : 118 ≡ 108 = paths_apart folder a b (codes ".wa") (codes ".journa") 118 108 e in
-    omega (arith, same)
-
--- nor at the path of one that rests, which isn't that of one that doesn't
-pub wave_no_rest : (folder a b : List ℕ) → wave_path folder a ≡ rest_path folder b → ⊥
-wave_no_rest folder a b e =
-    let same : 118 ≡ 100 = paths_apart folder a b (codes ".wa") (codes ".close") 118 100 e in
-    omega (arith, same)
-
-pub rest_no_notes : (folder a b : List ℕ) → rest_path folder a ≡ notes_path folder b → ⊥
-rest_no_notes folder a b e =
-    let same : 100 ≡ 108 = paths_apart folder a b (codes ".close") (codes ".journa") 100 108 e in
     omega (arith, same)
 
 -- a number ends in a digit

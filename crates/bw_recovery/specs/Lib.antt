@@ -8,7 +8,6 @@ pub mod StaysLeft
 pub mod FilesRead
 pub mod Paths
 pub mod Findings
-pub mod FileEndings
 pub mod FoundNames
 pub mod Causes
 pub mod CountedFaults

@@ -12,7 +12,3 @@ wave_path folder name = path_with folder (codes ".wav") name
 -- the path of a name's journal
 abbrev pub notes_path : List ℕ → List ℕ → List ℕ
 notes_path folder name = path_with folder (codes ".journal") name
-
--- the path of a name's journal while it rests
-abbrev pub rest_path : List ℕ → List ℕ → List ℕ
-rest_path folder name = path_with folder (codes ".closed") name

@@ -5,7 +5,6 @@
 
 mod adoption;
 mod causes;
-mod ending;
 mod fault;
 mod finding;
 pub mod laws;
@@ -14,18 +13,15 @@ mod mending;
 mod paths;
 mod reading;
 mod resuming;
-mod watch;
 
 pub use adoption::{
     Adoption, FileFacts, Mending, data_end, data_place, file_len, header_of, judge_file,
 };
 pub use causes::{cause_of, file_cause, journal_cause};
-pub use ending::{Ending, list_files};
 pub use fault::FileFault;
 pub use finding::{Begun, Finding, NameFault, header_if, is_take, look};
-pub use listing::{FoundName, closed_name, journal_name, list_names, look_at_each};
+pub use listing::{journal_name, list_names};
 pub use mending::mend;
 pub use paths::path_in;
 pub use reading::{FileRead, read_take};
 pub use resuming::{adopt_file, cut_journal, restore_name};
-pub use watch::{StartWatch, Unwatched};

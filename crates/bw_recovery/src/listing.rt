@@ -1,26 +1,14 @@
-//! The names of a folder that have a journal, and what is found of each.
-ghost use Rattle.std.specs.Prelude.{◌≡◌, IsTrue, IfSome, IfOk, OnOk, ◌++◌, ◌∷◌, []};
-ghost use Rattle.std.specs.Prelude.{List, ℕ, codes, Some};
-ghost use Rattle.std.specs.List.{All};
+//! The names of a folder that have a journal.
+ghost use Rattle.std.specs.Prelude.{◌≡◌, IsTrue, IfSome, IfOk, OnOk, ◌++◌, List, ℕ, codes, Some};
 ghost use Rattle.bw_model.specs.Wire.{is_name as is_take_name};
 ghost use Rattle.bw_disk.specs.DiskSteps.{StaysWhole};
 ghost use Rattle.bw_disk.specs.Volumes.{AreDistinct};
-ghost use Rattle.bw_recovery.specs.FoundNames.{found_names, IsFoundIn, ListsJournals};
+ghost use Rattle.bw_recovery.specs.FoundNames.{ListsJournals, AddsName};
 
-use crate::ending::{Ending, list_files, name_with};
-use crate::finding::{Finding, look};
-use crate::watch::StartWatch;
 use bw_disk::{ReadFault, Volume};
-use bw_layout::Limit;
 use bw_request::Name;
-use std::alloc::Global;
-
-/// A name that has a journal, and what was found of it.
-#[derive(Drop)]
-pub struct FoundName {
-    pub name: Name,
-    pub finding: Finding,
-}
+use std::alloc::{AllocError, Global};
+use std::collections::BTreeSet;
 
 /// The names of a folder that have a journal, each once. Nothing is changed.
 ///
@@ -39,7 +27,51 @@ pub fn list_names<E: Volume>(
     ensures each { IsTrue (E.honest notes.old) →
         IfOk result (λ names. ListsJournals folder.now (E.contents notes.old) names.items) }
 {
-    list_files(alloc, notes, folder, Ending::Journal)
+    let names = name_set(alloc, notes, folder)?;
+    in_order(alloc, names)
+}
+
+/// The same names as a set, so that each is compared with few of the others.
+fn name_set<E: Volume>(
+    alloc: Global,
+    notes: &mut E,
+    folder: &str,
+) -> Result<BTreeSet<Name>, ReadFault>
+    ensures notes { StaysWhole E.Disk notes.old notes.new }
+    ensures each { IsTrue (E.honest notes.old) →
+        IfOk result (λ names. ListsJournals folder.now (E.contents notes.old) names.keys) }
+{
+    let listed = notes.list(folder)?;
+    let mut names = BTreeSet::new(alloc);
+    for file in &listed {
+        add_name(file.as_str(), &mut names)?;
+    }
+    Ok(names)
+}
+
+/// The names of a set in their order.
+fn in_order(alloc: Global, names: BTreeSet<Name>) -> Result<Vec<Name>, ReadFault>
+    ensures names { IfOk result (λ list. list.items ≡ names.keys) }
+    ensures distinct { IfOk result (λ list. AreDistinct list.items) }
+{
+    let list: Result<Vec<Name>, AllocError> = names.into_iter().collect(alloc);
+    match list {
+        Ok(list) => Ok(list),
+        Err(_error) => Err(ReadFault::Memory),
+    }
+}
+
+/// Adds the name of this file, if it is a journal.
+fn add_name(file: &str, names: &mut BTreeSet<Name>) -> Result<(), ReadFault>
+    ensures added { OnOk result (AddsName file.now names.old.keys names.new.keys) }
+{
+    let Some(name) = journal_name(file) else {
+        return Ok(());
+    };
+    match names.insert(name) {
+        Ok(_added) => Ok(()),
+        Err(_refused) => Err(ReadFault::Memory),
+    }
 }
 
 /// The name in the file name of a journal, `NAME.journal`; None for any other file name.
@@ -49,82 +81,8 @@ pub fn journal_name(file: &str) -> Option<Name>
     ensures each { (name : List ℕ) → IsTrue (is_take_name name) →
         file.now ≡ name ++ codes ".journal" → result ≡ Some name }
 {
-    name_with(file, Ending::Journal)
-}
-
-/// The name in the file name of a journal at rest, `NAME.closed`; None for any other file name.
-pub fn closed_name(file: &str) -> Option<Name>
-    ensures name { IfSome result (λ name. IsTrue (is_take_name name)) }
-    ensures some { IfSome result (λ name. file.now ≡ name ++ codes ".closed") }
-    ensures each { (name : List ℕ) → IsTrue (is_take_name name) →
-        file.now ≡ name ++ codes ".closed" → result ≡ Some name }
-{
-    name_with(file, Ending::Closed)
-}
-
-/// What is found of each of these names, in their order. Nothing is changed.
-///
-/// # Errors
-/// `Disk` if a call of a disk failed, or a name has no journal; `Memory` if memory was refused.
-///
-/// # Not specified
-/// When memory is refused.
-pub fn look_at_each<D: Volume, E: Volume, W: StartWatch>(
-    alloc: Global,
-    takes: &mut D,
-    notes: &mut E,
-    folder: &str,
-    limit: Limit,
-    names: &[Name],
-    watch: &mut W,
-) -> Result<Vec<FoundName>, ReadFault>
-    ensures takes { StaysWhole D.Disk takes.old takes.new }
-    ensures notes { StaysWhole E.Disk notes.old notes.new }
-    ensures names { IfOk result (λ found. found_names found.items ≡ names.now) }
-    // What `look` finds of each.
-    ensures found { IsTrue (D.honest takes.old) → IsTrue (E.honest notes.old) →
-        IfOk result (λ found. All (IsFoundIn limit folder.now (E.contents notes.old)
-        (D.contents takes.old)) found.items) }
-{
-    let mut all = Vec::new(alloc);
-    for (place, name) in names.iter().enumerate() {
-        let found = look_at(alloc, takes, notes, folder, limit, name)?;
-        push_found(&mut all, found)?;
-        watch.read_journal(place + 1, names.len());
-    }
-    Ok(all)
-}
-
-/// What is found of a name that has a journal.
-fn look_at<D: Volume, E: Volume>(
-    alloc: Global,
-    takes: &mut D,
-    notes: &mut E,
-    folder: &str,
-    limit: Limit,
-    name: &Name,
-) -> Result<FoundName, ReadFault>
-    ensures takes { StaysWhole D.Disk takes.old takes.new }
-    ensures notes { StaysWhole E.Disk notes.old notes.new }
-    ensures name { IfOk result (λ it. it.name ≡ name.now) }
-    ensures found { IsTrue (D.honest takes.old) → IsTrue (E.honest notes.old) → IfOk result
-        (IsFoundIn limit folder.now (E.contents notes.old) (D.contents takes.old)) }
-{
-    match look(alloc, takes, notes, folder, limit, name)? {
-        Some(finding) => Ok(FoundName {
-            name: name.copy(),
-            finding,
-        }),
-        None => Err(ReadFault::Disk),
-    }
-}
-
-/// Adds what was found of a name.
-fn push_found(all: &mut Vec<FoundName>, next: FoundName) -> Result<(), ReadFault>
-    ensures pushed { OnOk result (all.new.items ≡ all.old.items ++ next ∷ []) }
-{
-    match all.push(next) {
-        Ok(()) => Ok(()),
-        Err(_) => Err(ReadFault::Memory),
-    }
+    let Some(stem) = file.as_bytes().strip_suffix(b".journal") else {
+        return None;
+    };
+    Name::new(stem)
 }

@@ -4,7 +4,7 @@ use Rattle.bw_console.specs.Outcomes.{Outcome}
 use Rattle.bw_console.specs.declared.exit.Exit.{Exit}
 use Rattle.bw_disk.specs.DiskSteps.{StaysWhole}
 use Rattle.bw_disk.specs.declared.disk.Disk.{Ghosts}
-use Rattle.bw_recovery.proofs.LookForms.{whole_next}
+use Rattle.bw_disk.proofs.DiskChains.{stays_twice}
 use Rattle.bw_stream.specs.declared.sink.Sink.{Ghosts as Writer}
 use Rattle.bw_takes.specs.FolderProgress.{fails_folder, reads_folder}
 use Rattle.bw_takes.specs.Watches.{AreWatchRounds, EndsWatch, IsLastRound, IsWatchOver, Watches, WatchWorld, watch_side}
@@ -22,7 +22,7 @@ module _ {D F P W E : Type 0} (G : Ghosts D F) (waits : P → ℕ → P → Type
       StaysWhole G x.takes x'.takes
   rounds_stay zero rows x x' r = subst (λ (d : D). StaysWhole G x.takes d) (sym (ap (λ y. y.takes) r.1)) (whole_here x.takes)
   rounds_stay (suc n) rows x x' r =
-      whole_next G x.takes r.1.takes x'.takes (rounds_stay n r.0 x r.1 r.2) r.3.reads.disk
+      stays_twice G x.takes r.1.takes x'.takes (rounds_stay n r.0 x r.1 r.2) r.3.reads.disk
 
   last_stays : (before : List Row) (d d' : D) (did : Outcome) →
       IsLastRound (watch_side (reads_folder G) (fails_folder G) waits out reported) style folder before d d' did →
@@ -42,5 +42,5 @@ module _ {D F P W E : Type 0} (G : Ghosts D F) (waits : P → ℕ → P → Type
       Watches (watch_side (reads_folder G) (fails_folder G) waits out reported) style folder exit x x' →
       StaysWhole G x.takes x'.takes
   watch_stays exit x x' w =
-      whole_next G x.takes w.last.takes x'.takes (rounds_stay w.count w.rows x w.last w.rounds)
+      stays_twice G x.takes w.last.takes x'.takes (rounds_stay w.count w.rows x w.last w.rounds)
       (ends_stay w.count w.rows exit w.last x' w.ends)

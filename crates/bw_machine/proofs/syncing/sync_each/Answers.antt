@@ -1,7 +1,6 @@
-use Rattle.std.proofs.Common.{List, ℕ, sym, subst, take}
-use Rattle.std.proofs.lemmas.List.{take_all}
+use Rattle.std.proofs.Common.{◌++◌, ◌∷◌, [], List, ℕ, sym, ◌∙◌, ap, subst, take}
+use Rattle.std.proofs.lemmas.List.{take_all, take_more}
 use Rattle.std.specs.List.{Contains}
-use Rattle.bw_recovery.proofs.ListForms.{take_more}
 use Rattle.bw_machine.proofs.SyncedDisks.{kept_none, kept_next, none_in_none, synced_next}
 use Rattle.bw_machine.proofs.syncing.sync_each.Goals as goal
 
@@ -27,7 +26,8 @@ loop-name-preserved g c =
           c.in_ok-take.ensures.path c.as_str-in-loop-name.ensures.value c.in_ok-journal.ensures.path i.takes i.notes t.synced t.others n.synced
           n.others ht hn (i.synced ht hn) name
           (subst (λ (xs : List (List ℕ)). Contains xs name)
-          (take_more c.args.names.now c.loop-name.name-index c.name-item.result c.loop-name-test.true c.name-item.is)
+          (take_more c.args.names.now c.loop-name.name-index c.name-item.result c.loop-name-test.true
+          ∙ ap (λ (x : List ℕ). take c.loop-name.name-index c.args.names.now ++ x ∷ []) (sym c.name-item.is))
           has);
     }
 

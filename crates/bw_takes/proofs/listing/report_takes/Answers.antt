@@ -1,6 +1,6 @@
 use Rattle.std.proofs.Common.{◌≡◌, ◌∙◌, [], true, refl, rules, subst, sym}
 use Rattle.std.proofs.lemmas.Map.Iter.{iter_end}
-use Rattle.bw_recovery.proofs.LookForms.{whole_next}
+use Rattle.bw_disk.proofs.DiskChains.{stays_twice}
 use Rattle.bw_takes.specs.TakeNames.{AreNamesInOrder, ListsTakes}
 use Rattle.bw_takes.proofs.ListingLemmas.{TellsOf, lent, names_of, tells_next, tells_none, told_same}
 use Rattle.bw_takes.proofs.listing.report_takes.Goals as goal
@@ -25,7 +25,7 @@ loop-name-preserved g c =
     let r = c.in_ok-put_take.ensures in
     let a = c.args in
     record {
-      disk = whole_next g.D.Disk _ _ _ i.disk r.disk;
+      disk = stays_twice g.D.Disk _ _ _ i.disk r.disk;
       tells = λ honest. tells_next g.D.Disk a.style a.depth a.folder.now a.disk.now c.loop-name.disk i.disk honest
           c.loop-name.yielded c.in-Some.name _ _ (i.tells honest) r.told;
     }

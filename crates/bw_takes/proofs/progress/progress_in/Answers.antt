@@ -1,6 +1,6 @@
 use Rattle.std.proofs.Common.{◌≡◌, ◌∙◌, ◌++◌, ◌∷◌, [], rules, map, sym, subst}
 use Rattle.std.proofs.lemmas.Map.Iter.{iter_end}
-use Rattle.bw_recovery.proofs.LookForms.{whole_next}
+use Rattle.bw_disk.proofs.DiskChains.{stays_twice}
 use Rattle.bw_takes.specs.TakeNames.{AreNamesInOrder, ListsTakes}
 use Rattle.bw_takes.proofs.ProgressLemmas.{each_next, names_next}
 use Rattle.bw_takes.proofs.progress.progress_in.Goals as goal
@@ -12,7 +12,7 @@ loop-name-preserved g c =
     let p = c.progress_of.ensures in
     let pushed : c.push.new.self.items ≡ c.loop-name.takes.items ++ c.progress_of.result ∷ [] = search rules in
     record {
-      disk = whole_next g.D.Disk _ _ _ i.disk f.disk;
+      disk = stays_twice g.D.Disk _ _ _ i.disk f.disk;
       names = names_next _ _ c.progress_of.result _ c.in-Some.name pushed i.names (p.name ∙ c.copy.ensures);
       each = λ honest. each_next g.D.Disk c.args.folder.now c.args.disk.now c.loop-name.disk _ _
           c.progress_of.result _ _ pushed i.disk honest

@@ -1,7 +1,7 @@
 use Rattle.std.proofs.Common.{◌≡◌, rules, sym, subst}
 use Rattle.bw_disk.specs.Volumes.{AreDistinct}
 use Rattle.bw_recovery.proofs.SortedNames.{distinct_in_order}
-use Rattle.bw_recovery.proofs.ending.in_order.Goals as goal
+use Rattle.bw_recovery.proofs.listing.in_order.Goals as goal
 
 pub returns-in-Ok-clause-distinct : goal.returns-in-Ok-clause-distinct
 returns-in-Ok-clause-distinct c =
