@@ -67,21 +67,12 @@ pub one_option : (a : Command) (r : Result Command AllocError) (option : Arg) (a
     → IsCommand app a → IsOption rule option → IfOk r (AddsArg a option) → IfOk r (IsCommand (with_rule app rule))
 one_option a r option app rule is has adds = IfOk-weaker r _ _ (λ b. command_arg a b option app rule is has) adds
 
--- twice
-pub two_options : (a b : Command) (r : Result Command AllocError) (first second : Arg) (app : App) (one two : Rule)
-    → IsCommand app a → IsOption one first → AddsArg a first b → IsOption two second → IfOk r (AddsArg b second)
-    → IfOk r (IsCommand (with_rule (with_rule app one) two))
-two_options a b r first second app one two is has adds also more =
-    one_option b r second (with_rule app one) two (command_arg a b first app one is has adds) also more
-
--- three times
-pub three_options : (a b c : Command) (r : Result Command AllocError) (first second third : Arg) (app : App)
-    (one two three : Rule) → IsCommand app a → IsOption one first → AddsArg a first b → IsOption two second
-    → AddsArg b second c → IsOption three third → IfOk r (AddsArg c third)
-    → IfOk r (IsCommand (with_rule (with_rule (with_rule app one) two) three))
-three_options a b c r first second third app one two three is has adds also adds_more last more =
-    two_options b c r second third (with_rule app one) two three (command_arg a b first app one is has adds) also
-    adds_more last more
+-- the same, where memory may have run out before
+pub any_option : (a : Command) (o : Result Command AllocError) (option : Arg) (r : Result Command AllocError) → o ≡ Ok a
+    → IfOk r (AddsArg a option) → (app : App) (rule : Rule) → IfOk o (IsCommand app) → IsOption rule option
+    → IfOk r (IsCommand (with_rule app rule))
+any_option a o option r was adds app rule is has =
+    one_option a r option app rule (subst (λ o. IfOk o (IsCommand app)) was is) has adds
 
 -- `Command::subcommand`
 pub command_subcommand : (a b sub : Command) (app under : App) → app_of a ≡ app → IsCommand under sub
@@ -97,10 +88,9 @@ one_subcommand a sub r app under is command adds =
     IfOk-weaker r _ _ (λ b. command_subcommand a b sub app under is command) adds
 
 -- the same, where memory may have run out before
-pub any_subcommand : (a : Command) (o : Result Command AllocError) (sub : Command) (r : Result Command AllocError)
-    → o ≡ Ok sub → IfOk r (AddsSubcommand a sub)
-    → IfOk r (λ b. (app under : App) → app_of a ≡ app → IfOk o (IsCommand under)
-    → app_of b ≡ with_subcommand app under.top)
-any_subcommand a o sub r was adds = IfOk-weaker r _ _
-    (λ b is app under e holds. command_subcommand a b sub app under e (subst (λ o. IfOk o (IsCommand under)) was holds) is)
-    adds
+pub any_subcommand : (a sub : Command) (p o : Result Command AllocError) (r : Result Command AllocError) → p ≡ Ok a
+    → o ≡ Ok sub → IfOk r (AddsSubcommand a sub) → (app under : App) → IfOk p (λ b. app_of b ≡ app)
+    → IfOk o (IsCommand under) → IfOk r (λ b. app_of b ≡ with_subcommand app under.top)
+any_subcommand a sub p o r has was adds app under is command =
+    one_subcommand a sub r app under (subst (λ p. IfOk p (λ b. app_of b ≡ app)) has is)
+    (subst (λ o. IfOk o (IsCommand under)) was command) adds

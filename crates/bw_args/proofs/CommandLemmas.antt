@@ -1,5 +1,5 @@
 -- A command of another name, which `clap` doesn't let through.
-use Rattle.std.proofs.Common.{◌≡◌, List, [], Bool, true, false, Option, Some, None, codes, refl, subst, sym, ◌∙◌, inr}
+use Rattle.std.proofs.Common.{◌≡◌, List, [], Bool, true, false, Option, Some, codes, refl, subst, sym, ◌∙◌, inr}
 use Rattle.std.specs.Prelude.{if◌then◌else◌}
 use Rattle.std.specs.Str.{bytes_eq}
 use Rattle.std.proofs.lemmas.Slice.Eq.{bytes_eq-Decides}
@@ -25,11 +25,7 @@ none_of a b c d e p q r s t is_p is_q is_r is_s is_t = rw (is_p, is_q, is_r, is_
 a_limit : (p : Bool) → p ≡ false → Limit ≡ (if p then Inspection else Limit)
 a_limit p is = rw is refl
 
--- without a command nothing is asked for
-pub no_command_line : (command : Option (Text × List Row)) → None ≡ command → IsLineFor command (Bad Limit)
-no_command_line command same = subst (λ c. IsLineFor c (Bad Limit)) same ((λ wish asked. asked), refl)
-
--- nor with one of another name
+-- with a command of another name nothing is asked for
 pub unknown_line : (command : Option (Text × List Row)) (name : Text) (options : List Row)
     → Some (name, options) ≡ command → bytes_eq name (codes "replay") ≡ false
     → bytes_eq name (codes "rehearse") ≡ false → bytes_eq name (codes "inspect") ≡ false

@@ -1,10 +1,12 @@
 -- The forms of `pack` and of `send` with a recording, at values that are not known.
 use Rattle.std.proofs.Common.{◌≡◌, List, [], ◌∷◌, ◌++◌, true, false, Some, None, codes, refl}
 use Rattle.clap.specs.declared.error.ErrorKind.TheVariants.{MissingRequiredArgument}
+use Rattle.clap.specs.Simple.{built, built_leaf}
 use Rattle.clap.specs.Words.{Row, Text}
 use Rattle.clap.proofs.OnLiterals.{clap_on_literals}
 use Rattle.bw_args.specs.Numbers.{IsCountText, default_fruitless, default_timeout, most_fruitless, most_rounds, most_seconds}
 use Rattle.bw_args.specs.Numbers.{most_rate, number_written}
+use Rattle.bw_args.specs.Commands.{command_line, pack_command}
 use Rattle.bw_args.specs.ReadWords.{as_read}
 use Rattle.bw_args.specs.Sources.{GivesSource, PlainSource, is_mixed, path_given}
 use Rattle.bw_args.specs.PcmSources.{GivesSamples}
@@ -14,7 +16,8 @@ use Rattle.bw_args.specs.Forms.{IsPlain}
 use Rattle.bw_args.specs.FileForms.{RefusesFiles, RunsFileSender, RunsPack, plain_upload, source_at, with_file}
 use Rattle.bw_args.specs.declared.CommandLine.{CommandLine}
 use Rattle.bw_args.specs.declared.bad_value.BadValue.TheVariants.{Fruitless, Mixed, Rate}
-use Rattle.bw_args.proofs.FormLemmas.{asked_reports, asked_runs, asks, plain_byte}
+use Rattle.bw_args.proofs.FormLemmas.{asked_reports, asked_runs, asks}
+use Rattle.bw_args.proofs.PlainWords.{Enters, literal, unknown, values_ask}
 use Rattle.bw_args.proofs.SenderLemmas.{AsksSender, samples_by}
 use Rattle.bw_args.proofs.Asked.{bad, ◌and_then◌}
 use Rattle.bw_args.proofs.ValueLemmas.{LacksSender, not_mixed, nothing, reported}
@@ -23,29 +26,29 @@ use Rattle.bw_args.proofs.ValueLemmas.{LacksSender, not_mixed, nothing, reported
 abbrev AsksPack : List Text → PlainSource → Type 0
 AsksPack words source = (program : Text) → AsksFor (as_read (program ∷ codes "pack" ∷ words)) (Packing source)
 
+is_entered : Enters (built command_line) (codes "pack") (built_leaf pack_command.top)
+unfolding clap_on_literals
+is_entered = record { walks = refl; takes = refl; finds = refl }
+
 pack_asks : (path : Text) → IsPlain path → AsksPack (path ∷ []) (source_at path)
 unfolding clap_on_literals
-pack_asks [] plain program = asks refl (refl, record { from = refl; sets = refl; refuses = refl })
-pack_asks (d ∷ ds) plain program =
-    let value = plain_byte d plain in
-    asks (rw (value, value) (refl {a = []})) (simp value (refl, record { from = refl; sets = refl; refuses = refl }))
+pack_asks path is program = values_ask is_entered program (unknown path ∷ []) (is, tt) refl
+    (refl, record { from = refl; sets = refl; refuses = refl })
 
 strict_asks : (path : Text) → IsPlain path
     → AsksPack (codes "--strict" ∷ path ∷ []) (record (source_at path) { strict = true })
 unfolding clap_on_literals
-strict_asks [] plain program = asks refl (refl, record { from = refl; sets = refl; refuses = refl })
-strict_asks (d ∷ ds) plain program =
-    let value = plain_byte d plain in
-    asks (rw (value, value) (refl {a = []})) (simp value (refl, record { from = refl; sets = refl; refuses = refl }))
+strict_asks path is program =
+    values_ask is_entered program (literal (codes "--strict") ∷ unknown path ∷ []) (tt, (is, tt)) refl
+    (refl, record { from = refl; sets = refl; refuses = refl })
 
 sets_asks : (path a b : Text) → IsPlain path
     → AsksPack ((codes "--set=" ++ a) ∷ (codes "--set=" ++ b) ∷ path ∷ [])
     (record (source_at path) { settings = a ∷ b ∷ [] })
 unfolding clap_on_literals
-sets_asks [] a b plain program = asks refl (refl, record { from = refl; sets = refl; refuses = refl })
-sets_asks (d ∷ ds) a b plain program =
-    let value = plain_byte d plain in
-    asks (rw (value, value) (refl {a = []})) (simp value (refl, record { from = refl; sets = refl; refuses = refl }))
+sets_asks path a b is program = values_ask is_entered program
+    (literal (codes "--set=" ++ a) ∷ literal (codes "--set=" ++ b) ∷ unknown path ∷ []) (tt, (tt, (is, tt))) refl
+    (refl, record { from = refl; sets = refl; refuses = refl })
 
 pub runs_pack : (words : List Text) (line : CommandLine) → IsLineOf words line → RunsPack words line
 unfolding clap_on_literals

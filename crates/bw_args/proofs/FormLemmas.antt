@@ -1,32 +1,33 @@
 -- The forms of `replay`, at limits that are not known, and what words that ask for something run.
-use Rattle.std.proofs.Common.{◌≡◌, ℕ, List, [], ◌∷◌, ◌++◌, Bool, true, false, ◌==◌, ◌<◌, ◌≢◌, codes, refl, ap, subst}
+use Rattle.std.proofs.Common.{◌≡◌, ℕ, List, [], ◌∷◌, ◌++◌, ◌<◌, codes, refl, ap, subst}
 use Rattle.std.proofs.Common.{sym, ◌∙◌, arith, Option, Some, None, inl, inr}
 use Rattle.std.specs.Char.{digit_value}
-use Rattle.std.proofs.lemmas.Bool.{eqb-true}
 use Rattle.clap.specs.declared.error.ErrorKind.{ErrorKind}
 use Rattle.clap.specs.declared.error.ErrorKind.TheVariants.{DisplayHelp, DisplayVersion, MissingSubcommand}
+use Rattle.clap.specs.Simple.{built, built_leaf}
 use Rattle.clap.specs.Words.{IsAmong, Text, fault_of, kind_of, subcommand_of}
 use Rattle.clap.proofs.OnLiterals.{clap_on_literals}
-use Rattle.bw_args.specs.Commands.{command_line}
+use Rattle.bw_args.specs.Commands.{command_line, replay_command}
 use Rattle.bw_args.specs.Lines.{AsksFor, IsLineOf, IsLineRead, IsWishOf, Wish}
 use Rattle.bw_args.specs.ReadWords.{as_read}
 use Rattle.bw_args.specs.Lines.{Replaying, wish_of}
-use Rattle.bw_args.specs.Forms.{IsReportedAs, RunsFor, RunsReplay, ReportsHelp}
+use Rattle.bw_args.specs.Forms.{IsPlain, IsReportedAs, RunsFor, RunsReplay, ReportsHelp}
 use Rattle.bw_args.specs.Numbers.{IsLimitText, IsNumber, default_limit, number_written}
+use Rattle.bw_args.proofs.PlainWords.{Enters, literal, unknown, values_ask}
 use Rattle.bw_args.proofs.WishLemmas.{one_wish}
 use Rattle.bw_args.specs.declared.CommandLine.{CommandLine}
 use Rattle.bw_args.specs.declared.CommandLine.TheVariants.{Run, BadValue as Bad, Report}
 use Rattle.bw_args.specs.declared.Task.TheVariants.{Replay}
 
 -- a digit is no hyphen, so the word is read as a value
-pub no_hyphen : (d : ℕ) (ds : Text) → IsNumber (d ∷ ds) → (d == 45) ≡ false
-no_hyphen d ds given = go (d == 45) refl
-  where
-    go : (b : Bool) → (d == 45) ≡ b → b ≡ false
-    go false e = refl
-    go true e =
-        let digit : digit_value 45 < 10 = subst (λ c. digit_value c < 10) (eqb-true d 45 e) given.0.1.0 in
-        absurd (omega arith)
+pub number_plain : (text : Text) → IsNumber text → IsPlain text
+number_plain [] given = tt
+number_plain (d ∷ ds) given = λ e.
+    let digit : digit_value 45 < 10 = subst (λ c. digit_value c < 10) e given.0.1.0 in absurd (omega arith)
+
+is_entered : Enters (built command_line) (codes "replay") (built_leaf replay_command.top)
+unfolding clap_on_literals
+is_entered = record { walks = refl; takes = refl; finds = refl }
 
 -- words that `clap` takes ask for this
 pub asks : {words : List Text} {wish : Wish} → fault_of command_line words ≡ []
@@ -40,10 +41,8 @@ plain_asks program = asks refl (refl, refl, refl)
 apart_asks : (program text : Text) → IsLimitText text
     → AsksFor (program ∷ codes "replay" ∷ codes "--limit" ∷ text ∷ []) (Replaying (number_written text) None)
 unfolding clap_on_literals
-apart_asks program [] given = let bad : 0 < 0 = given.0.0.0 in absurd (omega arith)
-apart_asks program (d ∷ ds) given =
-    let value = no_hyphen d ds given.0 in
-    asks (rw (value, value) (refl {a = []})) (simp value (refl, (given, refl), refl))
+apart_asks program text given = values_ask is_entered program (literal (codes "--limit") ∷ unknown text ∷ [])
+    (tt, (number_plain text given.0, tt)) refl (refl, (given, refl), refl)
 
 joined_asks : (program text : Text) → IsLimitText text
     → AsksFor (program ∷ codes "replay" ∷ (codes "--limit=" ++ text) ∷ []) (Replaying (number_written text) None)
@@ -53,10 +52,8 @@ joined_asks program text given = asks refl (refl, (given, refl), refl)
 fuse_apart_asks : (program text : Text) → IsNumber text → AsksFor
     (program ∷ codes "replay" ∷ codes "--fuse" ∷ text ∷ []) (Replaying default_limit (Some (number_written text)))
 unfolding clap_on_literals
-fuse_apart_asks program [] given = let bad : 0 < 0 = given.0.0 in absurd (omega arith)
-fuse_apart_asks program (d ∷ ds) given =
-    let value = no_hyphen d ds given in
-    asks (rw (value, value) (refl {a = []})) (simp value (refl, refl, (given, refl)))
+fuse_apart_asks program text given = values_ask is_entered program (literal (codes "--fuse") ∷ unknown text ∷ [])
+    (tt, (number_plain text given, tt)) refl (refl, refl, (given, refl))
 
 fuse_joined_asks : (program text : Text) → IsNumber text → AsksFor
     (program ∷ codes "replay" ∷ (codes "--fuse=" ++ text) ∷ []) (Replaying default_limit (Some (number_written text)))
@@ -67,23 +64,17 @@ both_asks : (program limit fuse : Text) → IsLimitText limit → IsNumber fuse 
     (program ∷ codes "replay" ∷ codes "--limit" ∷ limit ∷ codes "--fuse" ∷ fuse ∷ [])
     (Replaying (number_written limit) (Some (number_written fuse)))
 unfolding clap_on_literals
-both_asks program [] fuse given burns = let bad : 0 < 0 = given.0.0.0 in absurd (omega arith)
-both_asks program (c ∷ cs) [] given burns = let bad : 0 < 0 = burns.0.0 in absurd (omega arith)
-both_asks program (c ∷ cs) (d ∷ ds) given burns =
-    let v = no_hyphen c cs given.0 in
-    let w = no_hyphen d ds burns in
-    asks (rw (v, v, w, w) (refl {a = []})) (simp (v, w) (refl, (given, refl), (burns, refl)))
+both_asks program limit fuse given burns = values_ask is_entered program
+    (literal (codes "--limit") ∷ unknown limit ∷ literal (codes "--fuse") ∷ unknown fuse ∷ [])
+    (tt, (number_plain limit given.0, (tt, (number_plain fuse burns, tt)))) refl (refl, (given, refl), (burns, refl))
 
 turned_asks : (program limit fuse : Text) → IsLimitText limit → IsNumber fuse → AsksFor
     (program ∷ codes "replay" ∷ codes "--fuse" ∷ fuse ∷ codes "--limit" ∷ limit ∷ [])
     (Replaying (number_written limit) (Some (number_written fuse)))
 unfolding clap_on_literals
-turned_asks program [] fuse given burns = let bad : 0 < 0 = given.0.0.0 in absurd (omega arith)
-turned_asks program (c ∷ cs) [] given burns = let bad : 0 < 0 = burns.0.0 in absurd (omega arith)
-turned_asks program (c ∷ cs) (d ∷ ds) given burns =
-    let v = no_hyphen c cs given.0 in
-    let w = no_hyphen d ds burns in
-    asks (rw (w, w, v, v) (refl {a = []})) (simp (v, w) (refl, (given, refl), (burns, refl)))
+turned_asks program limit fuse given burns = values_ask is_entered program
+    (literal (codes "--fuse") ∷ unknown fuse ∷ literal (codes "--limit") ∷ unknown limit ∷ [])
+    (tt, (number_plain fuse burns, (tt, (number_plain limit given.0, tt)))) refl (refl, (given, refl), (burns, refl))
 
 -- words that ask for something run it
 pub runs : (words : List Text) (line : CommandLine) (wish : Wish) → IsLineRead words line → AsksFor words wish →
@@ -145,11 +136,3 @@ reports_help words line is = record {
   version = λ program e. asked_reports DisplayVersion words _ line is e refl;
   bare = λ program e. asked_reports MissingSubcommand words _ line is e refl;
 }
-
--- a word that is no option is read as a value
-pub plain_byte : (d : ℕ) → d ≢ 45 → (d == 45) ≡ false
-plain_byte d plain = go (d == 45) refl
-  where
-    go : (b : Bool) → (d == 45) ≡ b → b ≡ false
-    go false e = refl
-    go true e = absurd (plain (eqb-true d 45 e))

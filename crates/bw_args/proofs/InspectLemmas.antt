@@ -1,13 +1,14 @@
 -- The forms of `inspect`, at paths that are not known.
-use Rattle.std.proofs.Common.{◌≡◌, List, [], ◌∷◌, Bool, true, false, codes, refl, ap, subst, ◌∙◌, Option, Some, None}
+use Rattle.std.proofs.Common.{◌≡◌, List, [], ◌∷◌, Bool, true, false, codes, refl, ap, subst, sym, ◌∙◌, Option, Some, None}
 use Rattle.std.proofs.Common.{inl, inr}
-use Rattle.std.specs.Prelude.{slice_index}
+use Rattle.std.specs.Prelude.{map, slice_index}
 use Rattle.std.proofs.lemmas.Slice.Eq.{bytes_eq-Decides}
 use Rattle.clap.specs.declared.error.ErrorKind.TheVariants.{MissingRequiredArgument}
+use Rattle.clap.specs.Simple.{Shape, built, built_leaf}
 use Rattle.clap.specs.Words.{IsAmong, Row, Text, fault_of, kind_of, subcommand_of}
 use Rattle.clap.specs.Walk.{all_of}
 use Rattle.clap.proofs.OnLiterals.{clap_on_literals}
-use Rattle.bw_args.specs.Commands.{command_line}
+use Rattle.bw_args.specs.Commands.{command_line, inspect_command}
 use Rattle.bw_args.specs.ReadWords.{as_read}
 use Rattle.bw_args.specs.Lines.{AsksFor, IsFirstBad, IsLineOf, IsLineRead, Lacks, bad_unlooked, given_on_line, is_set}
 use Rattle.bw_args.specs.Lines.{AsksNothing, Inspecting, InspectingFiles, looked_at, wish_of}
@@ -19,7 +20,9 @@ use Rattle.bw_args.specs.declared.Task.TheVariants.{Inspect}
 use Rattle.bw_args.specs.declared.bad_value.BadValue.{BadValue}
 use Rattle.bw_args.specs.declared.bad_value.BadValue.TheVariants.{Inspection}
 use Rattle.bw_args.proofs.Asked.{clashing, nothing_inspected}
-use Rattle.bw_args.proofs.FormLemmas.{asked_reports, asked_runs, asks, plain_byte}
+use Rattle.bw_args.proofs.FormLemmas.{asked_reports, asked_runs, asks}
+use Rattle.bw_args.proofs.PlainWords.{AreValues, Enters, Word, fault_of_values, level_by, literal, unknown, rows_by}
+use Rattle.bw_args.proofs.PlainWords.{rows_of_values, text_of, values_ask}
 
 -- a word that is no option isn't standard input
 plain_input : (path : Text) → IsPlain path → is_input path ≡ false
@@ -50,77 +53,54 @@ gives : {options : List Row} {i : PlainInspection} → all_of (codes "file") opt
 gives from prints explains digests possible =
     record { from = from; prints = prints; explains = explains; digests = digests; possible = possible }
 
+is_entered : Enters (built command_line) (codes "inspect") (built_leaf inspect_command.top)
+unfolding clap_on_literals
+is_entered = record { walks = refl; takes = refl; finds = refl }
+
 file_asks : (program path : Text) → IsPlain path → AsksFor (program ∷ codes "inspect" ∷ path ∷ []) (Inspecting path)
 unfolding clap_on_literals
-file_asks program [] plain = asks refl (refl, gives refl refl refl refl refl)
-file_asks program (d ∷ ds) plain =
-    let value = plain_byte d plain in
-    asks (rw (value, value) (refl {a = []})) (simp value (refl, gives refl refl refl refl refl))
+file_asks program path p = values_ask is_entered program
+    (unknown path ∷ []) (p, tt) refl
+    (refl, gives refl refl refl refl refl)
 
 json_asks : (program path : Text) → IsPlain path
     → AsksFor (program ∷ codes "inspect" ∷ codes "--json" ∷ path ∷ [])
     (InspectingFiles (record (inspection_of (path ∷ [])) { json = true }))
 unfolding clap_on_literals
-json_asks program [] plain = asks refl (refl, gives refl refl refl refl refl, refl)
-json_asks program (d ∷ ds) plain =
-    let value = plain_byte d plain in
-    asks (rw (value, value) (refl {a = []})) (simp value (refl, gives refl refl refl refl refl, refl))
+json_asks program path p = values_ask is_entered program
+    (literal (codes "--json") ∷ unknown path ∷ []) (tt, (p, tt)) refl
+    (refl, gives refl refl refl refl refl, refl)
 
 two_ask : (program path other : Text) → IsPlain path → IsPlain other
     → AsksFor (program ∷ codes "inspect" ∷ path ∷ other ∷ []) (InspectingFiles (inspection_of (path ∷ other ∷ [])))
 unfolding clap_on_literals
-two_ask program [] [] p q = asks refl (refl, gives refl refl refl refl refl, refl)
-two_ask program [] (d ∷ ds) p q =
-    let w = plain_byte d q in
-    let possible = possible_two [] (d ∷ ds) p q false in
-    asks (rw (w, w) (refl {a = []})) (simp w (refl, gives refl refl refl refl possible, refl))
-two_ask program (c ∷ cs) [] p q =
-    let v = plain_byte c p in
-    let possible = possible_two (c ∷ cs) [] p q false in
-    asks (rw (v, v) (refl {a = []})) (simp v (refl, gives refl refl refl refl possible, refl))
-two_ask program (c ∷ cs) (d ∷ ds) p q =
-    let v = plain_byte c p in
-    let w = plain_byte d q in
-    let possible = possible_two (c ∷ cs) (d ∷ ds) p q false in
-    asks (rw (v, v, w, w) (refl {a = []})) (simp (v, w) (refl, gives refl refl refl refl possible, refl))
+two_ask program path other p q = values_ask is_entered program
+    (unknown path ∷ unknown other ∷ []) (p, (q, tt)) refl
+    (refl, gives refl refl refl refl (possible_two path other p q false), refl)
 
 json_last_asks : (program path other : Text) → IsPlain path → IsPlain other
     → AsksFor (program ∷ codes "inspect" ∷ path ∷ other ∷ codes "--json" ∷ [])
     (InspectingFiles (record (inspection_of (path ∷ other ∷ [])) { json = true }))
 unfolding clap_on_literals
-json_last_asks program [] [] p q = asks refl (refl, gives refl refl refl refl refl, refl)
-json_last_asks program [] (d ∷ ds) p q =
-    let w = plain_byte d q in
-    let possible = possible_two [] (d ∷ ds) p q true in
-    asks (rw (w, w) (refl {a = []})) (simp w (refl, gives refl refl refl refl possible, refl))
-json_last_asks program (c ∷ cs) [] p q =
-    let v = plain_byte c p in
-    let possible = possible_two (c ∷ cs) [] p q true in
-    asks (rw (v, v) (refl {a = []})) (simp v (refl, gives refl refl refl refl possible, refl))
-json_last_asks program (c ∷ cs) (d ∷ ds) p q =
-    let v = plain_byte c p in
-    let w = plain_byte d q in
-    let possible = possible_two (c ∷ cs) (d ∷ ds) p q true in
-    asks (rw (v, v, w, w) (refl {a = []})) (simp (v, w) (refl, gives refl refl refl refl possible, refl))
+json_last_asks program path other p q = values_ask is_entered program
+    (unknown path ∷ unknown other ∷ literal (codes "--json") ∷ []) (p, (q, (tt, tt))) refl
+    (refl, gives refl refl refl refl (possible_two path other p q true), refl)
 
 human_asks : (program path : Text) → IsPlain path
     → AsksFor (program ∷ codes "inspect" ∷ codes "--human" ∷ path ∷ [])
     (InspectingFiles (record (inspection_of (path ∷ [])) { human = true }))
 unfolding clap_on_literals
-human_asks program [] plain = asks refl (refl, gives refl refl refl refl refl, refl)
-human_asks program (d ∷ ds) plain =
-    let value = plain_byte d plain in
-    asks (rw (value, value) (refl {a = []})) (simp value (refl, gives refl refl refl refl refl, refl))
+human_asks program path p = values_ask is_entered program
+    (literal (codes "--human") ∷ unknown path ∷ []) (tt, (p, tt)) refl
+    (refl, gives refl refl refl refl refl, refl)
 
 digest_asks : (program path : Text) → IsPlain path
     → AsksFor (program ∷ codes "inspect" ∷ codes "--digest" ∷ path ∷ [])
     (InspectingFiles (record (inspection_of (path ∷ [])) { digest = true }))
 unfolding clap_on_literals
-digest_asks program [] plain = asks refl (refl, gives refl refl refl refl refl, refl)
-digest_asks program (d ∷ ds) plain =
-    let value = plain_byte d plain in
-    let possible = possible_digest (d ∷ ds) plain in
-    asks (rw (value, value) (refl {a = []})) (simp value (refl, gives refl refl refl refl possible, refl))
+digest_asks program path p = values_ask is_entered program
+    (literal (codes "--digest") ∷ unknown path ∷ []) (tt, (p, tt)) refl
+    (refl, gives refl refl refl refl (possible_digest path p), refl)
 
 input_asks : (program : Text) → AsksFor (program ∷ codes "inspect" ∷ codes "-" ∷ []) (Inspecting (codes "-"))
 unfolding clap_on_literals
@@ -136,15 +116,21 @@ CannotInspect (Some command) =
 abbrev IsClash : List Text → Type 0
 IsClash words = (fault_of command_line words ≡ []) × CannotInspect (subcommand_of command_line words)
 
+-- so of a command's name and values
+values_clash : {name : Text} {s : Shape} → Enters (built command_line) name s → (program : Text) (words : List Word)
+    → AreValues words → level_by s words ≡ [] → CannotInspect (Some (s.name, rows_by s words))
+    → IsClash (program ∷ name ∷ map text_of words)
+values_clash is program words are taken none = (
+  fault_of_values is program words are ∙ taken,
+  subst CannotInspect (sym (rows_of_values is program words are)) none,
+)
+
 both_clash : (program path : Text) → IsPlain path
     → IsClash (program ∷ codes "inspect" ∷ codes "--json" ∷ codes "--human" ∷ path ∷ [])
 unfolding clap_on_literals
-both_clash program [] plain = (refl, (refl, clashing _ ([] ∷ []) true true false refl refl refl refl refl))
-both_clash program (d ∷ ds) plain =
-    let value = plain_byte d plain in (
-      rw (value, value) (refl {a = []}),
-      simp value (refl, clashing _ ((d ∷ ds) ∷ []) true true false refl refl refl refl refl),
-    )
+both_clash program path p = values_clash is_entered program
+    (literal (codes "--json") ∷ literal (codes "--human") ∷ unknown path ∷ []) (tt, (tt, (p, tt))) refl
+    (refl, clashing _ (path ∷ []) true true false refl refl refl refl refl)
 
 twice_clash : (program : Text) → IsClash (program ∷ codes "inspect" ∷ codes "--digest" ∷ codes "-" ∷ [])
 unfolding clap_on_literals
@@ -152,13 +138,9 @@ twice_clash program = (refl, (refl, clashing _ (codes "-" ∷ []) false false tr
 
 beside_clash : (program path : Text) → IsPlain path → IsClash (program ∷ codes "inspect" ∷ codes "-" ∷ path ∷ [])
 unfolding clap_on_literals
-beside_clash program [] plain =
-    (refl, (refl, clashing _ (codes "-" ∷ [] ∷ []) false false false refl refl refl refl refl))
-beside_clash program (d ∷ ds) plain =
-    let value = plain_byte d plain in (
-      rw (value, value) (refl {a = []}),
-      simp value (refl, clashing _ (codes "-" ∷ (d ∷ ds) ∷ []) false false false refl refl refl refl refl),
-    )
+beside_clash program path p = values_clash is_entered program
+    (literal (codes "-") ∷ unknown path ∷ []) (tt, (p, tt)) refl
+    (refl, clashing _ (codes "-" ∷ path ∷ []) false false false refl refl refl refl refl)
 
 -- what such a command lacks
 clash_lacked : (command : Option (Text × List Row)) (value : BadValue) → CannotInspect command → Lacks command value

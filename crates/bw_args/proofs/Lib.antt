@@ -4,6 +4,7 @@ pub mod WishLemmas
 pub mod Asked
 pub mod CommandLemmas
 pub mod LineLemmas
+pub mod PlainWords
 pub mod FormLemmas
 pub mod InspectLemmas
 pub mod ValueLemmas

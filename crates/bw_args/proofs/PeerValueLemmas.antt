@@ -24,7 +24,7 @@ use Rattle.bw_args.specs.declared.bad_value.BadValue.TheVariants.{UntilStopped, 
 use Rattle.bw_args.specs.declared.peers.End.TheVariants as when
 use Rattle.bw_args.specs.declared.peers.Recorders.{Recorders as Way}
 use Rattle.bw_args.specs.declared.peers.Recorders.TheVariants.{InTurn, AtOnce}
-use Rattle.bw_args.specs.declared.peers.Journaling.TheVariants.{Without, Kept}
+use Rattle.bw_args.specs.declared.peers.Journaling.TheVariants.{Without}
 use Rattle.bw_args.proofs.ServerLemmas.{serves_by}
 use Rattle.bw_args.proofs.WishLemmas.{same_way}
 

@@ -1,23 +1,26 @@
 -- The forms of `picture`, at paths that are not known.
-use Rattle.std.proofs.Common.{◌≡◌, List, [], ◌∷◌, codes, refl}
+use Rattle.std.proofs.Common.{◌≡◌, ◌∙◌, List, [], ◌∷◌, codes, refl}
 use Rattle.clap.specs.declared.error.ErrorKind.TheVariants.{MissingRequiredArgument, UnknownArgument}
+use Rattle.clap.specs.Simple.{built, built_leaf}
 use Rattle.clap.specs.Words.{Text, fault_of}
 use Rattle.clap.proofs.OnLiterals.{clap_on_literals}
-use Rattle.bw_args.specs.Commands.{command_line}
+use Rattle.bw_args.specs.Commands.{command_line, picture_command}
 use Rattle.bw_args.specs.ReadWords.{as_read}
 use Rattle.bw_args.specs.Lines.{AsksFor, IsLineOf, Picturing}
 use Rattle.bw_args.specs.Forms.{IsPlain}
 use Rattle.bw_args.specs.PictureForms.{RunsPicture}
 use Rattle.bw_args.specs.declared.CommandLine.{CommandLine}
-use Rattle.bw_args.proofs.FormLemmas.{asked_reports, asked_runs, asks, plain_byte}
+use Rattle.bw_args.proofs.FormLemmas.{asked_reports, asked_runs, asks}
+use Rattle.bw_args.proofs.PlainWords.{Enters, fault_of_values, unknown, values_ask}
+
+is_entered : Enters (built command_line) (codes "picture") (built_leaf picture_command.top)
+unfolding clap_on_literals
+is_entered = record { walks = refl; takes = refl; finds = refl }
 
 picture_asks : (program path : Text) → IsPlain path
     → AsksFor (as_read (program ∷ codes "picture" ∷ path ∷ [])) (Picturing path)
 unfolding clap_on_literals
-picture_asks program [] plain = asks refl (refl, refl)
-picture_asks program (d ∷ ds) plain =
-    let value = plain_byte d plain in
-    asks (rw (value, value) (refl {a = []})) (simp value (refl, refl))
+picture_asks program path is = values_ask is_entered program (unknown path ∷ []) (is, tt) refl (refl, refl)
 
 dash_asks : (program : Text) → AsksFor (as_read (program ∷ codes "picture" ∷ codes "-" ∷ [])) (Picturing (codes "-"))
 unfolding clap_on_literals
@@ -26,10 +29,8 @@ dash_asks program = asks refl (refl, refl)
 two_fault : (program path other : Text) → IsPlain path → IsPlain other
     → fault_of command_line (as_read (program ∷ codes "picture" ∷ path ∷ other ∷ [])) ≡ UnknownArgument ∷ []
 unfolding clap_on_literals
-two_fault program [] [] p q = refl
-two_fault program [] (d ∷ ds) p q = simp (plain_byte d q) refl
-two_fault program (c ∷ cs) [] p q = simp (plain_byte c p) refl
-two_fault program (c ∷ cs) (d ∷ ds) p q = simp (plain_byte c p, plain_byte d q) refl
+two_fault program path other p q =
+    fault_of_values is_entered program (unknown path ∷ unknown other ∷ []) (p, (q, tt)) ∙ refl
 
 pub runs_picture : (words : List Text) (line : CommandLine) → IsLineOf words line → RunsPicture words line
 unfolding clap_on_literals

@@ -1,62 +1,67 @@
 -- The forms of a rehearsal, at names and limits that are not known.
-use Rattle.std.proofs.Common.{◌≡◌, ℕ, List, [], ◌∷◌, ◌++◌, false, ◌<◌, ◌==◌, codes, refl, subst, sym}
-use Rattle.std.proofs.Common.{arith}
+use Rattle.std.proofs.Common.{◌≡◌, ℕ, List, [], ◌∷◌, ◌++◌, false, codes, refl, subst, sym}
+use Rattle.std.proofs.lemmas.Bool.{ne_eqb}
 use Rattle.clap.specs.declared.error.ErrorKind.TheVariants.{MissingRequiredArgument}
+use Rattle.clap.specs.Simple.{built, built_leaf}
 use Rattle.clap.specs.Words.{Text}
 use Rattle.clap.proofs.OnLiterals.{clap_on_literals}
+use Rattle.bw_args.specs.Commands.{command_line, rehearse_command}
 use Rattle.bw_args.specs.ReadWords.{as_read, joined}
 use Rattle.bw_args.specs.Lines.{AsksFor, IsLineOf, IsName, Rehearsing}
-use Rattle.bw_args.specs.Forms.{RunsFor, RunsRehearsal}
+use Rattle.bw_args.specs.Forms.{IsPlain, RunsFor, RunsRehearsal}
 use Rattle.bw_args.specs.Numbers.{IsLimitText, default_limit, number_written}
 use Rattle.bw_args.specs.declared.CommandLine.{CommandLine}
 use Rattle.bw_args.specs.declared.CommandLine.TheVariants.{Run, BadValue as Bad, Report}
 use Rattle.bw_args.specs.declared.Task.TheVariants.{Rehearse}
-use Rattle.bw_args.proofs.FormLemmas.{asked_reports, asked_runs, asks, no_hyphen}
+use Rattle.bw_args.proofs.FormLemmas.{asked_reports, asked_runs, asks, number_plain}
+use Rattle.bw_args.proofs.PlainWords.{Enters, literal, unknown, values_ask}
+
+is_entered : Enters (built command_line) (codes "rehearse") (built_leaf rehearse_command.top)
+unfolding clap_on_literals
+is_entered = record { walks = refl; takes = refl; finds = refl }
 
 -- a limit's word is read unchanged
-limit_stays : (d : ℕ) (ds : Text) (rest : List Text) → (d == 45) ≡ false
-    → joined (codes "--name") false ((d ∷ ds) ∷ rest) ≡ (d ∷ ds) ∷ joined (codes "--name") false rest
-limit_stays d ds rest value = rw value (refl {a = (d ∷ ds) ∷ joined (codes "--name") false rest})
+limit_stays : (limit : Text) (rest : List Text) → IsPlain limit
+    → joined (codes "--name") false (limit ∷ rest) ≡ limit ∷ joined (codes "--name") false rest
+limit_stays [] rest is = refl
+limit_stays (d ∷ ds) rest is = rw (ne_eqb d 45 is) (refl {a = (d ∷ ds) ∷ joined (codes "--name") false rest})
 
 joined_asks : (program name : Text) → IsName name
     → AsksFor (program ∷ codes "rehearse" ∷ (codes "--name=" ++ name) ∷ []) (Rehearsing name default_limit)
 unfolding clap_on_literals
 joined_asks program name named = asks refl (refl, (named, refl), refl)
 
-both_read : (program name : Text) (d : ℕ) (ds : Text) → (d == 45) ≡ false → IsName name → IsLimitText (d ∷ ds)
-    → AsksFor (program ∷ codes "rehearse" ∷ (codes "--name=" ++ name) ∷ codes "--limit" ∷ (d ∷ ds) ∷ [])
-    (Rehearsing name (number_written (d ∷ ds)))
+both_read : (program name limit : Text) → IsName name → IsLimitText limit
+    → AsksFor (program ∷ codes "rehearse" ∷ (codes "--name=" ++ name) ∷ codes "--limit" ∷ limit ∷ [])
+    (Rehearsing name (number_written limit))
 unfolding clap_on_literals
-both_read program name d ds value named given =
-    asks (rw (value, value) (refl {a = []})) (simp value (refl, (named, refl), (given, refl)))
+both_read program name limit named given = values_ask is_entered program
+    (literal (codes "--name=" ++ name) ∷ literal (codes "--limit") ∷ unknown limit ∷ [])
+    (tt, (tt, (number_plain limit given.0, tt))) refl (refl, (named, refl), (given, refl))
 
 both_asks : (program name limit : Text) → IsName name → IsLimitText limit → AsksFor
     (as_read (program ∷ codes "rehearse" ∷ codes "--name" ∷ name ∷ codes "--limit" ∷ limit ∷ []))
     (Rehearsing name (number_written limit))
-both_asks program name [] named given = let bad : 0 < 0 = given.0.0.0 in absurd (omega arith)
-both_asks program name (d ∷ ds) named given =
-    let value = no_hyphen d ds given.0 in
+both_asks program name limit named given =
     subst (λ w. AsksFor (program ∷ codes "rehearse" ∷ (codes "--name=" ++ name) ∷ codes "--limit" ∷ w)
-    (Rehearsing name (number_written (d ∷ ds)))) (sym (limit_stays d ds [] value))
-    (both_read program name d ds value named given)
+    (Rehearsing name (number_written limit))) (sym (limit_stays limit [] (number_plain limit given.0)))
+    (both_read program name limit named given)
 
-turned_read : (program name : Text) (d : ℕ) (ds : Text) → (d == 45) ≡ false → IsName name → IsLimitText (d ∷ ds)
-    → AsksFor (program ∷ codes "rehearse" ∷ codes "--limit" ∷ (d ∷ ds) ∷ (codes "--name=" ++ name) ∷ [])
-    (Rehearsing name (number_written (d ∷ ds)))
+turned_read : (program name limit : Text) → IsName name → IsLimitText limit
+    → AsksFor (program ∷ codes "rehearse" ∷ codes "--limit" ∷ limit ∷ (codes "--name=" ++ name) ∷ [])
+    (Rehearsing name (number_written limit))
 unfolding clap_on_literals
-turned_read program name d ds value named given =
-    asks (rw (value, value) (refl {a = []})) (simp value (refl, (named, refl), (given, refl)))
+turned_read program name limit named given = values_ask is_entered program
+    (literal (codes "--limit") ∷ unknown limit ∷ literal (codes "--name=" ++ name) ∷ [])
+    (tt, (number_plain limit given.0, (tt, tt))) refl (refl, (named, refl), (given, refl))
 
 turned_asks : (program name limit : Text) → IsName name → IsLimitText limit → AsksFor
     (as_read (program ∷ codes "rehearse" ∷ codes "--limit" ∷ limit ∷ codes "--name" ∷ name ∷ []))
     (Rehearsing name (number_written limit))
-turned_asks program name [] named given = let bad : 0 < 0 = given.0.0.0 in absurd (omega arith)
-turned_asks program name (d ∷ ds) named given =
-    let value = no_hyphen d ds given.0 in
-    subst (λ w. AsksFor (program ∷ codes "rehearse" ∷ codes "--limit" ∷ w)
-    (Rehearsing name (number_written (d ∷ ds))))
-    (sym (limit_stays d ds (codes "--name" ∷ name ∷ []) value))
-    (turned_read program name d ds value named given)
+turned_asks program name limit named given =
+    subst (λ w. AsksFor (program ∷ codes "rehearse" ∷ codes "--limit" ∷ w) (Rehearsing name (number_written limit)))
+    (sym (limit_stays limit (codes "--name" ∷ name ∷ []) (number_plain limit given.0)))
+    (turned_read program name limit named given)
 
 both_joined_asks : (program name limit : Text) → IsName name → IsLimitText limit → AsksFor
     (program ∷ codes "rehearse" ∷ (codes "--name=" ++ name) ∷ (codes "--limit=" ++ limit) ∷ [])

@@ -1,5 +1,5 @@
 //! What the commands of the program result in.
-ghost use Rattle.std.specs.Prelude.{codes, Some, IfOk, OnErr};
+ghost use Rattle.std.specs.Prelude.{◌≡◌, codes, option_map, Some, IfOk, OnErr};
 ghost use Rattle.clap.specs.Words.{first_value, found_of, rows_of, subcommand_rows_of};
 ghost use Rattle.bw_args.specs.Lines.{AsksForPath, IsFuseGiven, IsLimitGiven, IsLineFor};
 ghost use Rattle.bw_args.specs.Lines.{IsNameGiven};
@@ -31,19 +31,42 @@ pub fn line(alloc: Global, matches: &ArgMatches<'_>) -> Result<CommandLine, Allo
     ensures ok { IfOk result (IsLineFor (subcommand_rows_of matches.now)) }
     ensures err { OnErr result (AsksForPath (subcommand_rows_of matches.now)) }
 {
-    match matches.subcommand() {
-        Some(("replay", options)) => Ok(replay_line(options)),
-        Some(("rehearse", options)) => Ok(rehearse_line(options)),
-        Some(("inspect", options)) => inspecting::inspect_line(alloc, options),
-        Some(("serve", options)) => serving::serve_line(alloc, options),
-        Some(("send", options)) => sending::send_line(alloc, options),
-        Some(("pack", options)) => one_file::pack_line(alloc, options),
-        Some(("picture", options)) => one_file::picture_line(alloc, options),
-        Some(("repair", options)) => one_file::repair_line(alloc, options),
-        Some(("takes", options)) => listing::takes_line(alloc, options),
+    match entered(matches) {
+        Some((name, options)) => line_of(alloc, name, options),
+        None => Ok(CommandLine::BadValue(BadValue::Limit)),
+    }
+}
+
+/// What a command of this name results in, with these options.
+pub fn line_of(
+    alloc: Global,
+    name: &str,
+    options: &ArgMatches<'_>,
+) -> Result<CommandLine, AllocError>
+    ensures ok { IfOk result (IsLineFor (Some (name.now, rows_of (found_of options.now)))) }
+    ensures err { OnErr result (AsksForPath (Some (name.now, rows_of (found_of options.now)))) }
+{
+    match name {
+        "replay" => Ok(replay_line(options)),
+        "rehearse" => Ok(rehearse_line(options)),
+        "inspect" => inspecting::inspect_line(alloc, options),
+        "serve" => serving::serve_line(alloc, options),
+        "send" => sending::send_line(alloc, options),
+        "pack" => one_file::pack_line(alloc, options),
+        "picture" => one_file::picture_line(alloc, options),
+        "repair" => one_file::repair_line(alloc, options),
+        "takes" => listing::takes_line(alloc, options),
         // `clap` refuses words without a command of ours.
         _ => Ok(CommandLine::BadValue(BadValue::Limit)),
     }
+}
+
+/// The command that was entered, with its options.
+fn entered<'a, 'b>(matches: &'b ArgMatches<'a>) -> Option<(&'a str, &'b ArgMatches<'a>)>
+    ensures { option_map (λ p. (p.0.now, rows_of (found_of p.1.now))) result
+        ≡ subcommand_rows_of matches.now }
+{
+    matches.subcommand()
 }
 
 /// The limit is looked at first.

@@ -1,4 +1,5 @@
 use Rattle.std.proofs.Common.{◌∙◌, ap, true}
+use Rattle.std.proofs.lemmas.Result.{IfOk-weaker}
 use Rattle.clap.specs.Simple.{App, app_of_fields, on_top}
 use Rattle.bw_args.proofs.commands.grammar.program.Goals as goal
 
@@ -10,8 +11,8 @@ abbrev versioned : App → App
 versioned = on_top (λ s. record s { has_version = true })
 
 pub returns : goal.returns
-returns c = ap app_of_fields c.subcommand_required-command.ensures
+returns c = IfOk-weaker c.bin_name.result _ _ (λ b is. ap app_of_fields is.0
+    ∙ ap app_of_fields c.subcommand_required.ensures
     ∙ ap (λ f. commanded (app_of_fields f)) c.about.ensures
     ∙ ap (λ f. commanded (app_of_fields f)) c.version.ensures
-    ∙ ap (λ f. commanded (versioned (app_of_fields f))) c.in_ok-bin_name.ensures.0
-    ∙ ap (λ a. commanded (versioned a)) c.new.ensures.app
+    ∙ ap (λ a. commanded (versioned a)) c.new.ensures.app) c.bin_name.ensures
