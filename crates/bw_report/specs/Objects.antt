@@ -55,6 +55,14 @@ loudness_data (n ∷ ns) = object
     (member (codes "short") (level_data (slice_index (n ∷ ns) 4))
     (member (codes "value") (level_data (slice_index (n ∷ ns) 0)) no_members)))))
 
+-- members with the levels but the loudness itself
+abbrev pub with_other_levels : List ℕ → Members → Members
+with_other_levels ns members =
+    put (codes "momentary") (level_data (slice_index ns 3))
+    (put (codes "peak") (level_data (slice_index ns 2))
+    (put (codes "range") (level_data (slice_index ns 1))
+    (put (codes "short") (level_data (slice_index ns 4)) members)))
+
 -- a text of `bext`, before its first zero byte: 0 is the description, 1 the originator, 2 its
 -- reference, 3 the date, 4 the clock
 abbrev pub bext_text : RawBext → ℕ → List ℕ
@@ -190,3 +198,33 @@ with_fmt_chunk f members = put (codes "align") (number_data f.align)
     (put (codes "bytes") (number_data f.bytes_per_second)
     (put (codes "channels") (number_data f.channels)
     (put (codes "rate") (number_data f.rate) (put (codes "tag") (number_data f.tag) members)))))
+
+-- members with those of a cue point, at this rate
+abbrev pub with_cue_point : ℕ → RawCue → Members → Members
+with_cue_point rate c members = put (codes "id") (number_data c.id)
+    (put (codes "ms") (number_or_null (milliseconds c.offset rate))
+    (put (codes "offset") (number_data c.offset)
+    (put (codes "position") (number_data c.position) members)))
+
+-- members with those of the samples
+abbrev pub with_samples_place : ℕ → ℕ → RawFmt → Members → Members
+with_samples_place place size f members = put (codes "at") (number_data place)
+    (put (codes "bytes") (number_data size)
+    (put (codes "frames") (number_data (frames_of size f.align))
+    (put (codes "ms") (number_or_null (milliseconds (frames_of size f.align) f.rate)) members)))
+
+-- members with null for what is said of the whole file, its form and its format
+abbrev pub without_format : Members → Members
+without_format members = put (codes "fmt") null (put (codes "form") null
+    (put (codes "form_hex") null (put (codes "sha256") null (put (codes "size") null members))))
+
+-- members with null for the samples and the chunks
+abbrev pub without_parts : Members → Members
+without_parts members = put (codes "bext") null (put (codes "chunks") null
+    (put (codes "cues") null (put (codes "data") null members)))
+
+-- members with the name, and the fault with its place
+abbrev pub with_fault : List ℕ → List ℕ → Option ℕ → Members → Members
+with_fault name fault place members = put (codes "at") (number_or_null place)
+    (put (codes "fault") (string fault)
+    (put (codes "file") (string name) (put (codes "ok") (boolean false) members)))

@@ -2,14 +2,14 @@
 ghost use Rattle.std.specs.Prelude.{◌≡◌, IfOk, OnOk, option_map, unwrap_or, []};
 ghost use Rattle.serde_json.specs.View.{members_view, view};
 ghost use Rattle.bw_inspect.specs.Reports.{bext_by};
-ghost use Rattle.bw_report.specs.Objects.{bext_data, bext_or_null, loudness_data, with_others};
-ghost use Rattle.bw_report.specs.Objects.{with_texts, with_times};
+ghost use Rattle.bw_report.specs.Objects.{bext_data, bext_or_null, loudness_data};
+ghost use Rattle.bw_report.specs.Objects.{with_other_levels, with_others, with_texts, with_times};
 
 use crate::time::milliseconds;
 use crate::value::{hex_value, level_value, number_value, put_text};
 use bw_inspect::BextChunk;
 use bw_layout::{Loudness, RawBext};
-use serde_json::{Map, Value, json, put};
+use serde_json::{Map, Value, put};
 use std::alloc::{AllocError, Global};
 
 /// The `bext` chunk, with the time of day at this rate, or null.
@@ -46,10 +46,9 @@ fn put_times(
     ensures { OnOk result (members_view members.new.entries
         ≡ with_times rate fields.now.0 (members_view members.old.entries)) }
 {
-    let time_of_day = number_value(milliseconds(fields.time_reference, rate));
     put(members, alloc, "time", Value::from(fields.time_reference))?;
-    put(members, alloc, "time_of_day", time_of_day)?;
-    Ok(())
+    let time_of_day = number_value(milliseconds(fields.time_reference, rate));
+    put(members, alloc, "time_of_day", time_of_day)
 }
 
 /// Puts what is neither text nor time into an object.
@@ -62,11 +61,14 @@ fn put_others(
         ≡ with_others (bext_by chunk.now) (members_view members.old.entries)) }
 {
     let fields = &chunk.fields;
-    let loudness = loudness_value(alloc, &fields.loudness)?;
-    let umid = hex_value(alloc, &fields.umid)?;
     put(members, alloc, "history", Value::from(chunk.history_len))?;
-    put(members, alloc, "loudness", loudness)?;
-    put(members, alloc, "umid", umid)?;
+    put(
+        members,
+        alloc,
+        "loudness",
+        loudness_value(alloc, &fields.loudness)?,
+    )?;
+    put(members, alloc, "umid", hex_value(alloc, &fields.umid)?)?;
     put(members, alloc, "version", Value::from(fields.version))?;
     Ok(())
 }
@@ -125,11 +127,24 @@ fn loudness_value(alloc: Global, loudness: &Option<Loudness>) -> Result<Value, A
 fn levels_value(alloc: Global, levels: &Loudness) -> Result<Value, AllocError>
     ensures { IfOk result (λ v. view v ≡ loudness_data levels.now) }
 {
-    json!(in alloc; {
-        "momentary": level_value(levels.max_momentary),
-        "peak": level_value(levels.max_true_peak),
-        "range": level_value(levels.range),
-        "short": level_value(levels.max_short_term),
-        "value": level_value(levels.value)
-    })
+    let mut members = Map::new(alloc);
+    put(&mut members, alloc, "value", level_value(levels.value))?;
+    put_other_levels(alloc, &mut members, levels)?;
+    Ok(Value::Object(members))
+}
+
+/// Puts the levels but the loudness itself into an object.
+fn put_other_levels(
+    alloc: Global,
+    members: &mut Map<String, Value>,
+    levels: &Loudness,
+) -> Result<(), AllocError>
+    ensures { OnOk result (members_view members.new.entries
+        ≡ with_other_levels levels.now (members_view members.old.entries)) }
+{
+    put(members, alloc, "short", level_value(levels.max_short_term))?;
+    put(members, alloc, "range", level_value(levels.range))?;
+    put(members, alloc, "peak", level_value(levels.max_true_peak))?;
+    let momentary = level_value(levels.max_momentary);
+    put(members, alloc, "momentary", momentary)
 }

@@ -2,6 +2,7 @@
 ghost use Rattle.std.specs.Prelude.{◌≡◌, ◌++◌, ◌∷◌, ◌==◌, not, codes, flat_map, map, option_map};
 ghost use Rattle.std.specs.Prelude.{take_while, unwrap_or, [], OnOk};
 ghost use Rattle.bw_model.specs.Report.{frames_of, id_byte};
+ghost use Rattle.bw_console.specs.Text.{as_line};
 ghost use Rattle.bw_inspect.specs.Reports.{bext_by, reported_by};
 ghost use Rattle.bw_report.specs.HumanTexts.{human_bext, channels_text, human_chunk, dated_lines};
 ghost use Rattle.bw_report.specs.HumanTexts.{human_form, human_format, head_lines, human_text};
@@ -9,11 +10,12 @@ ghost use Rattle.bw_report.specs.HumanTexts.{level_line, level_lines, loudest_li
 ghost use Rattle.bw_report.specs.HumanTexts.{marker_line, named_lines, range_lines, rest_lines};
 ghost use Rattle.bw_report.specs.HumanTexts.{samples_lines, shown_line, sound_lines, tag_text};
 ghost use Rattle.bw_report.specs.HumanTexts.{time_line, true_peak_line};
+ghost use Rattle.bw_report.specs.UnitTexts.{size_text, time_text};
 
 use crate::parts::whole_frames;
 use crate::shown::put_shown;
 use crate::time::milliseconds;
-use crate::units::{put_level, put_number, put_size, put_time};
+use crate::units::{put_count, put_level, put_number, put_size, put_time};
 use crate::value::text_before_zero;
 use bw_inspect::{BextChunk, Chunks, Cues, ListedChunk, Report};
 use bw_layout::{ChunkId, Loudness, RawBext, RawCue, RawFmt};
@@ -73,10 +75,17 @@ fn put_form(text: &mut Vec<u8>, id: &ChunkId, size: u64) -> Result<(), AllocErro
 {
     text.extend_from_slice(b"form ")?;
     text.extend_from_slice(&id.0)?;
+    end_with_size(text, size)
+}
+
+/// Appends a space and a size, and ends the line.
+fn end_with_size(text: &mut Vec<u8>, size: u64) -> Result<(), AllocError>
+    ensures { OnOk result (text.new.items
+        ≡ text.old.items ++ as_line (codes " " ++ size_text size)) }
+{
     text.extend_from_slice(b" ")?;
     put_size(text, size)?;
-    text.extend_from_slice(b"\n")?;
-    Ok(())
+    text.extend_from_slice(b"\n")
 }
 
 /// Appends the line of the samples' format.
@@ -86,13 +95,10 @@ fn put_format(text: &mut Vec<u8>, fmt: &RawFmt) -> Result<(), AllocError>
     text.extend_from_slice(b"format ")?;
     put_tag(text, fmt.tag)?;
     text.extend_from_slice(b" ")?;
-    put_number(text, fmt.rate.into())?;
-    text.extend_from_slice(b" Hz ")?;
-    put_number(text, fmt.bits.into())?;
-    text.extend_from_slice(b" bits ")?;
+    put_count(text, fmt.rate.into(), " Hz ")?;
+    put_count(text, fmt.bits.into(), " bits ")?;
     put_channels(text, fmt.channels)?;
-    text.extend_from_slice(b"\n")?;
-    Ok(())
+    text.extend_from_slice(b"\n")
 }
 
 /// Appends the name of a format tag (RIFF WAVE), or its number.
@@ -100,28 +106,25 @@ fn put_tag(text: &mut Vec<u8>, tag: u16) -> Result<(), AllocError>
     ensures { OnOk result (text.new.items ≡ text.old.items ++ tag_text tag) }
 {
     if tag == 1 {
-        text.extend_from_slice(b"PCM")?;
+        text.extend_from_slice(b"PCM")
     } else if tag == 3 {
-        text.extend_from_slice(b"float")?;
+        text.extend_from_slice(b"float")
     } else if tag == 0xfffe {
-        text.extend_from_slice(b"extensible")?;
+        text.extend_from_slice(b"extensible")
     } else {
         text.extend_from_slice(b"tag ")?;
-        put_number(text, tag.into())?;
+        put_number(text, tag.into())
     }
-    Ok(())
 }
 
 fn put_channels(text: &mut Vec<u8>, channels: u16) -> Result<(), AllocError>
     ensures { OnOk result (text.new.items ≡ text.old.items ++ channels_text channels) }
 {
     if channels == 1 {
-        text.extend_from_slice(b"1 channel")?;
-        return Ok(());
+        text.extend_from_slice(b"1 channel")
+    } else {
+        put_count(text, channels.into(), " channels")
     }
-    put_number(text, channels.into())?;
-    text.extend_from_slice(b" channels")?;
-    Ok(())
 }
 
 /// Appends how long the samples last, and how many they are.
@@ -133,19 +136,24 @@ fn put_samples(text: &mut Vec<u8>, size: u64, fmt: &RawFmt) -> Result<(), AllocE
     text.extend_from_slice(b"samples ")?;
     put_size(text, size)?;
     text.extend_from_slice(b" ")?;
-    put_number(text, frames)?;
-    text.extend_from_slice(b" frames\n")?;
-    Ok(())
+    put_count(text, frames, " frames\n")
 }
 
 fn put_time_line(text: &mut Vec<u8>, name: &str, ms: Option<u64>) -> Result<(), AllocError>
     ensures { OnOk result (text.new.items ≡ text.old.items ++ time_line name.now ms) }
 {
     text.extend_from_slice(name.as_bytes())?;
+    end_with_time(text, ms)
+}
+
+/// Appends a space and a time, and ends the line.
+fn end_with_time(text: &mut Vec<u8>, ms: Option<u64>) -> Result<(), AllocError>
+    ensures { OnOk result (text.new.items
+        ≡ text.old.items ++ as_line (codes " " ++ time_text ms)) }
+{
     text.extend_from_slice(b" ")?;
     put_time(text, ms)?;
-    text.extend_from_slice(b"\n")?;
-    Ok(())
+    text.extend_from_slice(b"\n")
 }
 
 /// Appends the lines of a `bext` chunk, if there is one, with the time of day at this rate.
@@ -209,8 +217,7 @@ fn put_text(alloc: Global, text: &mut Vec<u8>, name: &str, field: &[u8]) -> Resu
     text.extend_from_slice(name.as_bytes())?;
     text.extend_from_slice(b" ")?;
     put_shown(alloc, text, bytes)?;
-    text.extend_from_slice(b"\n")?;
-    Ok(())
+    text.extend_from_slice(b"\n")
 }
 
 /// Appends the lines of the five levels, if the version has them.
@@ -250,8 +257,7 @@ fn put_level_lines(
 {
     put_ranges(text, value, range)?;
     put_true_peak(text, peak)?;
-    put_loudest(text, momentary, short)?;
-    Ok(())
+    put_loudest(text, momentary, short)
 }
 
 fn put_ranges(text: &mut Vec<u8>, value: u16, range: u16) -> Result<(), AllocError>
@@ -265,8 +271,7 @@ fn put_ranges(text: &mut Vec<u8>, value: u16, range: u16) -> Result<(), AllocErr
 fn put_true_peak(text: &mut Vec<u8>, peak: u16) -> Result<(), AllocError>
     ensures { OnOk result (text.new.items ≡ text.old.items ++ true_peak_line peak) }
 {
-    put_level_line(text, "true peak", peak, "dBTP")?;
-    Ok(())
+    put_level_line(text, "true peak", peak, "dBTP")
 }
 
 fn put_loudest(text: &mut Vec<u8>, momentary: u16, short: u16) -> Result<(), AllocError>
@@ -283,8 +288,7 @@ fn put_level_line(text: &mut Vec<u8>, name: &str, level: u16, unit: &str) -> Res
     text.extend_from_slice(name.as_bytes())?;
     text.extend_from_slice(b" ")?;
     put_level(text, level, unit)?;
-    text.extend_from_slice(b"\n")?;
-    Ok(())
+    text.extend_from_slice(b"\n")
 }
 
 /// Appends a line for each cue point: its identifier, and its time at this rate.
@@ -303,10 +307,7 @@ fn put_marker(text: &mut Vec<u8>, cue: &RawCue, rate: u32) -> Result<(), AllocEr
 {
     text.extend_from_slice(b"marker ")?;
     put_number(text, cue.id.into())?;
-    text.extend_from_slice(b" ")?;
-    put_time(text, milliseconds(cue.offset.into(), rate))?;
-    text.extend_from_slice(b"\n")?;
-    Ok(())
+    end_with_time(text, milliseconds(cue.offset.into(), rate))
 }
 
 /// Appends a line for each chunk: its identifier and its size.
@@ -324,10 +325,7 @@ fn put_chunk(text: &mut Vec<u8>, chunk: &ListedChunk) -> Result<(), AllocError>
 {
     text.extend_from_slice(b"chunk ")?;
     text.extend_from_slice(&visible(&chunk.id.0))?;
-    text.extend_from_slice(b" ")?;
-    put_size(text, chunk.size)?;
-    text.extend_from_slice(b"\n")?;
-    Ok(())
+    end_with_size(text, chunk.size)
 }
 
 /// An identifier, with a full stop for each byte that isn't visible.

@@ -4,7 +4,8 @@ ghost use Rattle.serde_json.specs.Read.{read};
 ghost use Rattle.serde_json.specs.View.{members_view, view};
 ghost use Rattle.serde_json.specs.Written.{compact_text};
 ghost use Rattle.bw_inspect.specs.Reports.{reported_by};
-ghost use Rattle.bw_report.specs.Objects.{fault_data, report_data};
+ghost use Rattle.bw_report.specs.Objects.{fault_data, report_data, with_fault, without_format};
+ghost use Rattle.bw_report.specs.Objects.{without_parts};
 ghost use Rattle.bw_report.specs.Objects.{with_form_and_format, with_placed_parts, with_placed_samples, with_whole_file};
 ghost use Rattle.bw_report.specs.Values.{hex_or_null};
 ghost use Rattle.bw_report.specs.Entries.{found_data};
@@ -14,7 +15,7 @@ use crate::found::Found;
 use crate::parts::{chunks_value, cues_value, fmt_value, samples_value};
 use crate::value::{hex_value, number_value, text_value};
 use bw_inspect::Report;
-use serde_json::{Map, Value, json, put};
+use serde_json::{Map, Value, put};
 use std::alloc::{AllocError, Global};
 
 /// The object of what is found under a name, as text without a line's end.
@@ -161,19 +162,49 @@ fn fault_value(
 ) -> Result<Value, AllocError>
     ensures { IfOk result (λ v. view v ≡ fault_data name.now fault.now place) }
 {
-    json!(in alloc; {
-        "at": number_value(place),
-        "bext": null,
-        "chunks": null,
-        "cues": null,
-        "data": null,
-        "fault": fault,
-        "file": name,
-        "fmt": null,
-        "form": null,
-        "form_hex": null,
-        "ok": false,
-        "sha256": null,
-        "size": null
-    })
+    let mut members = Map::new(alloc);
+    put_no_format(alloc, &mut members)?;
+    put_no_parts(alloc, &mut members)?;
+    put_fault(alloc, &mut members, name, fault, place)?;
+    Ok(Value::Object(members))
+}
+
+/// Puts null for what is said of the whole file, its form and its format into an object.
+fn put_no_format(alloc: Global, members: &mut Map<String, Value>) -> Result<(), AllocError>
+    ensures { OnOk result (members_view members.new.entries
+        ≡ without_format (members_view members.old.entries)) }
+{
+    put(members, alloc, "size", Value::Null)?;
+    put(members, alloc, "sha256", Value::Null)?;
+    put(members, alloc, "form_hex", Value::Null)?;
+    put(members, alloc, "form", Value::Null)?;
+    put(members, alloc, "fmt", Value::Null)
+}
+
+/// Puts null for the samples and the chunks into an object.
+fn put_no_parts(alloc: Global, members: &mut Map<String, Value>) -> Result<(), AllocError>
+    ensures { OnOk result (members_view members.new.entries
+        ≡ without_parts (members_view members.old.entries)) }
+{
+    put(members, alloc, "data", Value::Null)?;
+    put(members, alloc, "cues", Value::Null)?;
+    put(members, alloc, "chunks", Value::Null)?;
+    put(members, alloc, "bext", Value::Null)
+}
+
+/// Puts the name, and the fault with its place, into an object.
+fn put_fault(
+    alloc: Global,
+    members: &mut Map<String, Value>,
+    name: &str,
+    fault: &str,
+    place: Option<u64>,
+) -> Result<(), AllocError>
+    ensures { OnOk result (members_view members.new.entries
+        ≡ with_fault name.now fault.now place (members_view members.old.entries)) }
+{
+    put(members, alloc, "ok", Value::Bool(false))?;
+    put(members, alloc, "file", Value::try_from_str(alloc, name)?)?;
+    put(members, alloc, "fault", Value::try_from_str(alloc, fault)?)?;
+    put(members, alloc, "at", number_value(place))
 }

@@ -3,13 +3,14 @@ ghost use Rattle.std.specs.Prelude.{◌≡◌, IfOk, OnOk, map};
 ghost use Rattle.bw_model.specs.Report.{frames_of};
 ghost use Rattle.serde_json.specs.Data.{array};
 ghost use Rattle.serde_json.specs.View.{items_of, members_view, view};
-ghost use Rattle.bw_report.specs.Objects.{chunk_data, cue_data, fmt_data, samples_data, with_listed_chunk, with_fmt_chunk};
+ghost use Rattle.bw_report.specs.Objects.{chunk_data, cue_data, fmt_data, samples_data, with_cue_point};
+ghost use Rattle.bw_report.specs.Objects.{with_listed_chunk, with_fmt_chunk, with_samples_place};
 
 use crate::time::milliseconds;
 use crate::value::{hex_value, number_value, text_value};
 use bw_inspect::{Chunks, Cues, ListedChunk};
 use bw_layout::{RawCue, RawFmt};
-use serde_json::{Map, Value, json, put};
+use serde_json::{Map, Value, put};
 use std::alloc::{AllocError, Global};
 
 /// The chunks, in their order.
@@ -59,8 +60,25 @@ pub(crate) fn cues_value(alloc: Global, cues: &Cues, rate: u32) -> Result<Value,
 fn cue_value(alloc: Global, cue: &RawCue, rate: u32) -> Result<Value, AllocError>
     ensures { IfOk result (λ v. view v ≡ cue_data rate cue.now) }
 {
-    let ms = number_value(milliseconds(cue.offset.into(), rate));
-    json!(in alloc; {"id": cue.id, "ms": ms, "offset": cue.offset, "position": cue.position})
+    let mut members = Map::new(alloc);
+    put_cue(alloc, &mut members, cue, rate)?;
+    Ok(Value::Object(members))
+}
+
+fn put_cue(
+    alloc: Global,
+    members: &mut Map<String, Value>,
+    cue: &RawCue,
+    rate: u32,
+) -> Result<(), AllocError>
+    ensures { OnOk result (members_view members.new.entries
+        ≡ with_cue_point rate cue.now (members_view members.old.entries)) }
+{
+    put(members, alloc, "position", Value::from(cue.position))?;
+    put(members, alloc, "offset", Value::from(cue.offset))?;
+    let ms = milliseconds(cue.offset.into(), rate);
+    put(members, alloc, "ms", number_value(ms))?;
+    put(members, alloc, "id", Value::from(cue.id))
 }
 
 /// The `fmt ` chunk.
@@ -93,9 +111,27 @@ pub(crate) fn samples_value(
 ) -> Result<Value, AllocError>
     ensures { IfOk result (λ v. view v ≡ samples_data place size fmt.now) }
 {
+    let mut members = Map::new(alloc);
+    put_place(alloc, &mut members, place, size, fmt)?;
+    Ok(Value::Object(members))
+}
+
+fn put_place(
+    alloc: Global,
+    members: &mut Map<String, Value>,
+    place: u64,
+    size: u64,
+    fmt: &RawFmt,
+) -> Result<(), AllocError>
+    ensures { OnOk result (members_view members.new.entries
+        ≡ with_samples_place place size fmt.now (members_view members.old.entries)) }
+{
     let frames = whole_frames(size, fmt.align);
-    let ms = number_value(milliseconds(frames, fmt.rate));
-    json!(in alloc; {"at": place, "bytes": size, "frames": frames, "ms": ms})
+    let ms = milliseconds(frames, fmt.rate);
+    put(members, alloc, "ms", number_value(ms))?;
+    put(members, alloc, "frames", Value::from(frames))?;
+    put(members, alloc, "bytes", Value::from(size))?;
+    put(members, alloc, "at", Value::from(place))
 }
 
 /// How many whole frames this many bytes are; 0 if a frame has no bytes.

@@ -14,8 +14,7 @@ pub(crate) fn put_name(alloc: Global, text: &mut Vec<u8>, name: &str) -> Result<
     for byte in name.as_bytes() {
         put_name_byte(alloc, text, *byte)?;
     }
-    text.extend_from_slice(b"\n")?;
-    Ok(())
+    text.extend_from_slice(b"\n")
 }
 
 /// Appends a text of a file as a name is shown; of one that isn't UTF-8, each byte from 128 on is
@@ -71,6 +70,5 @@ fn put_escaped(alloc: Global, text: &mut Vec<u8>, byte: u8) -> Result<(), AllocE
 {
     let digits = hex::encode(alloc, &[byte])?;
     text.extend_from_slice(b"\\x")?;
-    text.extend_from_slice(digits.as_bytes())?;
-    Ok(())
+    text.extend_from_slice(digits.as_bytes())
 }

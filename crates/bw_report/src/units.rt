@@ -1,5 +1,5 @@
 //! Numbers with their units, by whole numbers alone.
-ghost use Rattle.std.specs.Prelude.{◌≡◌, ◌+◌, ◌<◌, ◌++◌, OnOk, decimal};
+ghost use Rattle.std.specs.Prelude.{◌≡◌, ◌+◌, ◌*◌, ◌/◌, ◌%◌, ◌^◌, ◌<◌, ◌≤◌, ◌++◌, OnOk, decimal};
 ghost use Rattle.bw_report.specs.UnitTexts.{clock_text, hundredths_text, level_text, size_text};
 ghost use Rattle.bw_report.specs.UnitTexts.{three_digits, time_text, two_digits, with_part};
 
@@ -14,8 +14,15 @@ pub fn put_number(text: &mut Vec<u8>, number: u64) -> Result<(), AllocError>
     ensures { OnOk result (text.new.items ≡ text.old.items ++ decimal number) }
 {
     let mut digits = Buffer::new();
-    text.extend_from_slice(digits.format(number).as_bytes())?;
-    Ok(())
+    text.extend_from_slice(digits.format(number).as_bytes())
+}
+
+/// Appends a number and what follows it, as its unit.
+pub(crate) fn put_count(text: &mut Vec<u8>, number: u64, unit: &str) -> Result<(), AllocError>
+    ensures { OnOk result (text.new.items ≡ text.old.items ++ decimal number ++ unit.now) }
+{
+    put_number(text, number)?;
+    text.extend_from_slice(unit.as_bytes())
 }
 
 /// Appends a duration or a time of day in milliseconds as hours, minutes and seconds: `1:02:03.456`,
@@ -28,10 +35,7 @@ pub fn put_time(text: &mut Vec<u8>, ms: Option<u64>) -> Result<(), AllocError>
 {
     match ms {
         Some(ms) => put_clock(text, ms),
-        None => {
-            text.extend_from_slice(b"unknown")?;
-            Ok(())
-        }
+        None => text.extend_from_slice(b"unknown"),
     }
 }
 
@@ -53,8 +57,7 @@ pub(crate) fn put_level(text: &mut Vec<u8>, level: u16, unit: &str) -> Result<()
     ensures { OnOk result (text.new.items ≡ text.old.items ++ level_text unit.now level) }
 {
     if level == 0x7fff {
-        text.extend_from_slice(b"unset")?;
-        return Ok(());
+        return text.extend_from_slice(b"unset");
     }
     if level < 0x8000 {
         return put_hundredths(text, level.into(), unit);
@@ -68,8 +71,7 @@ fn put_hundredths(text: &mut Vec<u8>, number: u64, unit: &str) -> Result<(), All
 {
     put_with_part(text, number / 100, number % 100)?;
     text.extend_from_slice(b" ")?;
-    text.extend_from_slice(unit.as_bytes())?;
-    Ok(())
+    text.extend_from_slice(unit.as_bytes())
 }
 
 /// Appends a number of bytes in the largest unit of which there is one, with two decimals that are
@@ -78,23 +80,25 @@ pub(crate) fn put_size(text: &mut Vec<u8>, size: u64) -> Result<(), AllocError>
     ensures { OnOk result (text.new.items ≡ text.old.items ++ size_text size) }
 {
     if size < 0x400 {
-        put_number(text, size)?;
-        text.extend_from_slice(b" B")?;
+        put_count(text, size, " B")
     } else if size < 0x10_0000 {
-        put_with_part(text, size / 0x400, size % 0x400 * 100 / 0x400)?;
-        text.extend_from_slice(b" KiB")?;
+        put_in_unit(text, size, 0x400, " KiB")
     } else if size < 0x4000_0000 {
-        put_with_part(text, size / 0x10_0000, size % 0x10_0000 * 100 / 0x10_0000)?;
-        text.extend_from_slice(b" MiB")?;
+        put_in_unit(text, size, 0x10_0000, " MiB")
     } else {
-        put_with_part(
-            text,
-            size / 0x4000_0000,
-            size % 0x4000_0000 * 100 / 0x4000_0000,
-        )?;
-        text.extend_from_slice(b" GiB")?;
+        put_in_unit(text, size, 0x4000_0000, " GiB")
     }
-    Ok(())
+}
+
+/// Appends a number of bytes in a unit of so many bytes, rounded down to hundredths.
+fn put_in_unit(text: &mut Vec<u8>, size: u64, unit: u64, name: &str) -> Result<(), AllocError>
+    requires some { 0 < unit }
+    requires small { unit ≤ 2 ^ 30 }
+    ensures { OnOk result (text.new.items
+        ≡ text.old.items ++ with_part (size / unit) (size % unit * 100 / unit) ++ name.now) }
+{
+    put_with_part(text, size / unit, size % unit * 100 / unit)?;
+    text.extend_from_slice(name.as_bytes())
 }
 
 /// Appends a number and its hundredths.
@@ -111,8 +115,7 @@ fn put_two_digits(text: &mut Vec<u8>, number: u64) -> Result<(), AllocError>
     requires { number < 100 }
     ensures { OnOk result (text.new.items ≡ text.old.items ++ two_digits number) }
 {
-    text.extend_from_slice(&[digit(number / 10), digit(number % 10)])?;
-    Ok(())
+    text.extend_from_slice(&[digit(number / 10), digit(number % 10)])
 }
 
 fn put_three_digits(text: &mut Vec<u8>, number: u64) -> Result<(), AllocError>
@@ -124,8 +127,7 @@ fn put_three_digits(text: &mut Vec<u8>, number: u64) -> Result<(), AllocError>
         digit(number / 10 % 10),
         digit(number % 10),
     ];
-    text.extend_from_slice(&digits)?;
-    Ok(())
+    text.extend_from_slice(&digits)
 }
 
 fn digit(number: u64) -> u8

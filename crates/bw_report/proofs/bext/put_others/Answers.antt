@@ -8,9 +8,9 @@ returns c =
       c.in_ok-put-4.ensures.ok,
       c.from-2.ensures,
       c.in_ok-put-3.ensures.ok,
-      c.in_ok-umid.ensures,
+      c.in_ok-hex_value.ensures,
       c.in_ok-put-2.ensures.ok,
-      c.in_ok-loudness.ensures,
+      c.in_ok-loudness_value.ensures,
       c.in_ok-put.ensures.ok,
       c.from.ensures,
     ) refl
