@@ -20,7 +20,7 @@ use Rattle.bw_journal.specs.declared.journal.Journal.{Ghosts as JournalGhosts}
 use Rattle.bw_session.specs.NextNumbers.{with_done, KeepsBoth, StaysInPlace}
 use Rattle.bw_session.specs.NameNotes.{IsNoted}
 use Rattle.bw_session.specs.Sessions.{Part, HoldsLog}
-use Rattle.bw_session.specs.Runs.{with_more_done, HasDrained}
+use Rattle.bw_session.specs.Runs.{with_more_done, HasDrained, EndsDraining}
 
 -- Calls in a row.
 
@@ -114,3 +114,18 @@ module _ (first : Option (List ℕ)) (log : Log) (replies : List Reply) where
             ∙ ap (λ (x : List ℕ). verdicts_from (is_some first) log.admitted x log.done (length all)) (sym same);
         none_past = none;
       }
+
+-- draining ends where no more is done
+pub drained_end : (first : Option (List ℕ)) (log : Log) (stopped : Bool) (replies : List Reply) (p q : Part)
+    (found found' : Option (List ℕ)) → HasDrained first log replies p found → q.growing.name ≡ p.growing.name →
+    HoldsLog first (with_more_done log (length replies)) q found' →
+    is_some (at log.admitted (log.done + length replies)) ≡ stopped → EndsDraining first log stopped replies q found'
+drained_end first log stopped replies p q found found' was same left end = record {
+  drained = record {
+    left = left;
+    reported = was.reported
+        ∙ ap (λ (n : List ℕ). verdicts_from (is_some first) log.admitted n log.done (length replies)) (sym same);
+    none_past = was.none_past;
+  };
+  end = end;
+}

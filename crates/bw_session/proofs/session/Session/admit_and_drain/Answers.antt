@@ -1,5 +1,5 @@
 use Rattle.std.proofs.lemmas.Result.{err_from_is_err_and}
-use Rattle.std.proofs.Common.{rules, ◌≡◌, ◌+◌, length, refl, sym, ◌∙◌, ap, subst, arith}
+use Rattle.std.proofs.Common.{rules, ◌≡◌, ◌+◌, false, length, refl, sym, ◌∙◌, ap, subst, arith}
 use Rattle.bw_model.specs.Wire.{Message}
 use Rattle.bw_session.specs.declared.borrowing.Tried.{Tried}
 use Rattle.bw_file.specs.GrowingFiles.{Growing}
@@ -12,6 +12,8 @@ use Rattle.bw_session.specs.Sessions.{part_of}
 use Rattle.bw_session.specs.Runs.{with_more_done}
 use Rattle.bw_session.proofs.RunForms.{both_then, noted_then}
 use Rattle.bw_session.proofs.PromiseForms.{run_since, runs_from_none}
+use Rattle.bw_session.specs.ServedReplies.{IsServing, IsTimely}
+use Rattle.bw_session.proofs.UseForms.{all_none}
 use Rattle.bw_session.proofs.ServeForms.{starts, starts_done, stops_at_once, ends_under, noted_start, noted_one}
 use Rattle.std.proofs.Common.{List, Option, ℕ}
 use Rattle.bw_session.specs.ConsecutiveCalls.{AsksNext, holding}
@@ -258,3 +260,39 @@ returns-in-Done-clause-ordered g c = λ honest honest_notes first log h existed 
 
 pub returns-in-Held-clause-ordered : goal.returns-in-Held-clause-ordered
 returns-in-Held-clause-ordered g c = c.in_ok-verdict.ensures.ordered
+
+pub returns-in_err-admit-clause-reported : goal.returns-in_err-admit-clause-reported
+returns-in_err-admit-clause-reported g c = all_none IsServing c.args.out.now.items c.requires.empty
+
+pub returns-in_err-admit-clause-timely : goal.returns-in_err-admit-clause-timely
+returns-in_err-admit-clause-timely g c = all_none (IsTimely false) c.args.out.now.items c.requires.empty
+
+pub returns-in_err-verdict-clause-reported : goal.returns-in_err-verdict-clause-reported
+returns-in_err-verdict-clause-reported g c = all_none IsServing c.args.out.now.items c.requires.empty
+
+pub returns-in_err-verdict-clause-timely : goal.returns-in_err-verdict-clause-timely
+returns-in_err-verdict-clause-timely g c = all_none (IsTimely false) c.args.out.now.items c.requires.empty
+
+pub returns-in-Held-clause-reported : goal.returns-in-Held-clause-reported
+returns-in-Held-clause-reported g c = all_none IsServing c.args.out.now.items c.requires.empty
+
+pub returns-in-Held-clause-timely : goal.returns-in-Held-clause-timely
+returns-in-Held-clause-timely g c = all_none (IsTimely false) c.args.out.now.items c.requires.empty
+
+pub returns-in_err-verdict-clause-take : goal.returns-in_err-verdict-clause-take
+returns-in_err-verdict-clause-take g c = c.do_next.ensures.take
+
+pub returns-in-Held-clause-take : goal.returns-in-Held-clause-take
+returns-in-Held-clause-take g c = c.do_next.ensures.take
+
+pub returns-then-is_held-clause-few : goal.returns-then-is_held-clause-few
+returns-then-is_held-clause-few g c = c.drain.ensures.few
+
+pub returns-then-is_held-clause-reported : goal.returns-then-is_held-clause-reported
+returns-then-is_held-clause-reported g c = c.drain.ensures.served (all_none IsServing c.args.out.now.items c.requires.empty)
+
+pub returns-then-is_held-clause-timely : goal.returns-then-is_held-clause-timely
+returns-then-is_held-clause-timely g c = c.drain.ensures.timely (all_none (IsTimely false) c.args.out.now.items c.requires.empty)
+
+pub returns-in-Done-clause-few : goal.returns-in-Done-clause-few
+returns-in-Done-clause-few g c = c.drain-in-Done.ensures.few

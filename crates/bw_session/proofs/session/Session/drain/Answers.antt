@@ -1,4 +1,5 @@
 use Rattle.std.proofs.Common.{rules, inl, inr, ◌≡◌, ◌+◌, ◌≤◌, ℕ, suc, false, length, refl, sym, ◌∙◌, ap, subst, arith}
+use Rattle.std.specs.Prelude.{is_some}
 use Rattle.std.specs.List.{All}
 use Rattle.std.proofs.lemmas.List.{length_push}
 use Rattle.std.proofs.lemmas.List.Elements.{All-append, All-push}
@@ -9,7 +10,7 @@ use Rattle.bw_session.specs.NameNotes.{IsNoted}
 use Rattle.bw_session.specs.NextNumbers.{with_done}
 use Rattle.bw_session.specs.Sessions.{part_of}
 use Rattle.bw_session.specs.Runs.{with_more_done}
-use Rattle.bw_session.proofs.RunForms.{both_then, holds_under, noted_then, drained_push}
+use Rattle.bw_session.proofs.RunForms.{both_then, holds_under, noted_then, drained_push, drained_end}
 use Rattle.bw_session.proofs.OrderForms.{order_then}
 use Rattle.bw_session.proofs.session.Session.drain.Goals as goal
 
@@ -219,3 +220,27 @@ returns-in-Stopped-clause-ordered g c = λ honest honest_notes first log h exist
 pub returns-clause-ordered : goal.returns-clause-ordered
 returns-clause-ordered g c = λ honest honest_notes first log h existed noted order.
     c.loop-slot.invariant.ordered honest honest_notes first log h existed noted order
+
+pub returns-in-Idle-clause-drained : goal.returns-in-Idle-clause-drained
+returns-in-Idle-clause-drained g c = λ honest first log h.
+    let loop = c.loop-slot.invariant in
+    let drained = loop.drained honest first log h in
+    let next = c.in-Idle.ensures.drained (loop.both.honest ∙ honest) first
+    (with_more_done log (length c.loop-slot.out.items))
+    (holds_under first _ _ (g.S.TakeStore.contents c.loop-slot.stores.store) _ _ (sym loop.take.name) drained.left) in
+    drained_end first log _ c.loop-slot.out.items (part_of c.loop-slot.self) _ _ _ drained
+    (ap (λ (x : Growing). x.name) c.in-Idle.ensures.known)
+    (holds_under first _ _ (g.S.TakeStore.contents c.drain_one.new.stores.store) _ _ loop.take.name next.left)
+    (ap is_some next.reported)
+
+pub returns-in-Stopped-clause-drained : goal.returns-in-Stopped-clause-drained
+returns-in-Stopped-clause-drained g c = λ honest first log h.
+    let loop = c.loop-slot.invariant in
+    let drained = loop.drained honest first log h in
+    let next = c.in-Stopped.ensures.drained (loop.both.honest ∙ honest) first
+    (with_more_done log (length c.loop-slot.out.items))
+    (holds_under first _ _ (g.S.TakeStore.contents c.loop-slot.stores.store) _ _ (sym loop.take.name) drained.left) in
+    drained_end first log _ c.loop-slot.out.items (part_of c.loop-slot.self) _ _ _ drained
+    (ap (λ (x : Growing). x.name) c.in-Stopped.ensures.known)
+    (holds_under first _ _ (g.S.TakeStore.contents c.drain_one.new.stores.store) _ _ loop.take.name next.left)
+    next.reported

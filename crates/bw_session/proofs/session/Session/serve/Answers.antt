@@ -1,6 +1,10 @@
 use Rattle.std.proofs.Common.{rules, ◌+◌, ◌≤◌, ℕ, [], ◌∷◌, false, length, inr, refl, sym, ◌∙◌, ap}
 use Rattle.std.proofs.Common.{subst, arith, append-nil}
 use Rattle.std.specs.Prelude.{is_some}
+use Rattle.std.specs.List.{All}
+use Rattle.std.proofs.lemmas.List.{length_push}
+use Rattle.std.proofs.lemmas.List.Elements.{All-push}
+use Rattle.std.proofs.lemmas.Result.{err_from_is_err_and}
 use Rattle.bw_model.specs.Wire.{Message}
 use Rattle.bw_model.specs.Book.{run_end}
 use Rattle.bw_model.specs.Replies as model
@@ -11,11 +15,11 @@ use Rattle.bw_session.specs.AdmittedMessages.{with_message}
 use Rattle.bw_session.specs.NameNotes.{IsNoted}
 use Rattle.bw_session.specs.Sessions.{part_of}
 use Rattle.bw_session.specs.ServedMessages.{log_after}
-use Rattle.bw_session.specs.ServedReplies.{IsTimely}
+use Rattle.bw_session.specs.ServedReplies.{IsServing, IsTimely}
 use Rattle.bw_session.proofs.AdmitForms.{outside_not_new, part_same, notes_same}
 use Rattle.bw_session.proofs.ReplyForms.{own_far}
 use Rattle.bw_session.proofs.ServeForms.{starts, serves, noted_start}
-use Rattle.bw_session.proofs.UseForms.{all_none, timely_any, timely_notice, timely_push}
+use Rattle.bw_session.proofs.UseForms.{all_none, timely_any, timely_notice, timely_push, uses_none}
 use Rattle.std.proofs.Common.{inl}
 use Rattle.bw_session.specs.KeptParts.{Part}
 use Rattle.bw_session.specs.ConsecutiveCalls.{DoesRun}
@@ -189,3 +193,67 @@ returns-in-Some-clause-ordered g c = c.in_ok-stopped.ensures.ordered
 
 pub returns-in_default-clause-ordered : goal.returns-in_default-clause-ordered
 returns-in_default-clause-ordered g c = c.in_ok-stopped.ensures.ordered
+
+pub returns-in_err-stopped-clause-both : goal.returns-in_err-stopped-clause-both
+returns-in_err-stopped-clause-both g c =
+    let left = c.in_err-stopped.ensures.refused.left in
+    uses_none g.S.TakeStore g.J.Journal c.args.self.now.progress.name c.args.stores.now.store
+    c.admit_and_drain.new.stores.store c.args.stores.now.journal c.admit_and_drain.new.stores.journal _ _ _ left.store
+    left.journal (ap length left.progress.outcomes) c.in_err-stopped.ensures.unreported
+
+pub returns-in_err-stopped-clause-asked : goal.returns-in_err-stopped-clause-asked
+returns-in_err-stopped-clause-asked g c =
+    let left = c.in_err-stopped.ensures.refused.left in
+    inr (left.store, left.progress.outcomes)
+
+pub returns-in_err-stopped-clause-take : goal.returns-in_err-stopped-clause-take
+returns-in_err-stopped-clause-take g c = c.admit_and_drain.ensures.take
+
+pub returns-in_err-stopped-clause-reported : goal.returns-in_err-stopped-clause-reported
+returns-in_err-stopped-clause-reported g c = c.admit_and_drain.ensures.reported
+
+pub returns-in_err-stopped-clause-refused : goal.returns-in_err-stopped-clause-refused
+returns-in_err-stopped-clause-refused g c =
+    let answer = err_from_is_err_and c.from_residual.result c.from_residual.ensures.1 in
+    rw answer.1 c.in_err-stopped.ensures.refused
+
+pub returns-in_err-stopped-clause-unreported : goal.returns-in_err-stopped-clause-unreported
+returns-in_err-stopped-clause-unreported g c =
+    let answer = err_from_is_err_and c.from_residual.result c.from_residual.ensures.1 in
+    rw answer.1 c.in_err-stopped.ensures.unreported
+
+pub returns-in_default-clause-take : goal.returns-in_default-clause-take
+returns-in_default-clause-take g c = c.admit_and_drain.ensures.take
+
+pub returns-in_default-clause-reported : goal.returns-in_default-clause-reported
+returns-in_default-clause-reported g c = c.admit_and_drain.ensures.reported
+
+pub returns-in-Some-clause-take : goal.returns-in-Some-clause-take
+returns-in-Some-clause-take g c = c.admit_and_drain.ensures.take
+
+pub returns-in-Some-clause-few : goal.returns-in-Some-clause-few
+returns-in-Some-clause-few g c =
+    let few = c.admit_and_drain.ensures.few in
+    let more = ap length c.push-in-Some.ensures.items ∙ length_push c.admit_and_drain.new.out.items c.in-Some.reply in
+    omega (arith, few, more)
+
+pub returns-in-Some-clause-reported : goal.returns-in-Some-clause-reported
+returns-in-Some-clause-reported g c =
+    subst (All IsServing) (sym c.push-in-Some.ensures.items)
+    (All-push IsServing c.admit_and_drain.new.out.items c.in-Some.reply c.admit_and_drain.ensures.reported
+    c.in-Some.ensures.served)
+
+pub returns-then-done-len-clause-take : goal.returns-then-done-len-clause-take
+returns-then-done-len-clause-take g c = c.drain.ensures.take
+
+pub returns-then-done-len-clause-few : goal.returns-then-done-len-clause-few
+returns-then-done-len-clause-few g c =
+    let few = c.drain.ensures.few in
+    let more = ap length c.push.ensures.items ∙ length_push c.drain.new.out.items c.notice.result in
+    omega (arith, few, more)
+
+pub returns-then-done-len-clause-reported : goal.returns-then-done-len-clause-reported
+returns-then-done-len-clause-reported g c =
+    subst (All IsServing) (sym c.push.ensures.items)
+    (All-push IsServing c.drain.new.out.items c.notice.result
+    (c.drain.ensures.served (all_none IsServing c.args.out.now.items c.requires.empty)) (search rules))
