@@ -11,10 +11,10 @@ use Rattle.std.proofs.lemmas.List.Folds.{find-append}
 use Rattle.std.proofs.lemmas.Option.{none-some}
 use Rattle.std.specs.Option.{option_or}
 use Rattle.bw_model.proofs.BookLemmas.{same_name, name_refl}
-use Rattle.bw_disk.proofs.MemoryDisks.{find_some, find_place}
+use Rattle.bw_disk.proofs.MemoryDisks.{find_some}
 use Rattle.bw_folder.specs.declared.journal.OpenJournal.{OpenJournal}
 use Rattle.bw_disk.specs.declared.disk.Disk.{Ghosts}
-use Rattle.bw_folder.specs.Journals.{journal_path, existences, existence_of, failure_of}
+use Rattle.bw_folder.specs.Journals.{journal_path, existences, existence_of}
 use Rattle.bw_folder.proofs.Existences.{existence_at, find_mapped}
 
 some_map : {X Y : Type 0} (f : X → Y) (o : Option X) → is_some (option_map f o) ≡ is_some o
@@ -51,11 +51,6 @@ module _ {F : Type 0} (journals : List (OpenJournal F)) (name : List ℕ) where
     within has_name journals i (sym e),
     λ d. (same_name _ _ (position-Some has_name journals i d (sym e)).1, existence_at journals name i d (sym e)),
   )
-
-  pub failed_at : (r : Option ℕ) → r ≡ position has_name journals →
-      IfSome r (λ place. HoldsAt (λ (j : OpenJournal F). failure_of journals name ≡ Some j.failed) journals place)
-  failed_at None e = tt
-  failed_at (Some i) e = λ d. ap (option_map (λ (j : OpenJournal F). j.failed)) (find_place has_name journals i d (sym e))
 
 -- nothing is known of a name without a place
 pub unknown : (r : Option ℕ) (o : Option Bool) → IsSome r ↔ IsSome o → is_some r ≡ false → is_some o ≡ false

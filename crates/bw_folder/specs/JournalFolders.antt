@@ -2,7 +2,7 @@
 use Rattle.std.specs.Prelude.{◌≡◌, ℕ, Bool, List, Option, string_bytes}
 use Rattle.bw_disk.specs.declared.disk.Disk.{Ghosts}
 use Rattle.bw_journal.specs.JournalHeaders.{Header}
-use Rattle.bw_folder.specs.Journals.{notes_at, existences, header_at, failure_of}
+use Rattle.bw_folder.specs.Journals.{notes_at, existences, header_at}
 use Rattle.bw_folder.specs.declared.journal.FolderJournal.{FolderJournal}
 
 module _ {D F : Type 0} {G : Ghosts D F} where
@@ -32,9 +32,9 @@ module _ {D F : Type 0} {G : Ghosts D F} where
   abbrev pub open_journals : FolderJournal D F G → List (List ℕ × Bool)
   open_journals j = existences j.journals.items
 
-  -- whether a sync failed for a name's journal, if it is open
-  abbrev pub sync_failed_in : FolderJournal D F G → List ℕ → Option Bool
-  sync_failed_in j name = failure_of j.journals.items name
+  -- the name of which a sync failed, if one has
+  abbrev pub failed_sync_in : FolderJournal D F G → Option (List ℕ)
+  failed_sync_in j = j.failed_sync
 
   -- how many calls have failed
   abbrev pub journals_failures : FolderJournal D F G → ℕ

@@ -54,8 +54,3 @@ adopted_header (Ok true) name existed before other =
     if bytes_eq name other then record (before other) { existed = existed } else before other
 adopted_header (Ok false) name existed before other = before other
 adopted_header (Err fault) name existed before other = before other
-
--- whether a sync failed for a name's journal, if it is open
-abbrev pub failure_of : {F : Type 0} → List (OpenJournal F) → List ℕ → Option Bool
-failure_of journals name =
-    option_map (λ journal. journal.failed) (find (λ journal. bytes_eq journal.name name) journals)

@@ -13,7 +13,7 @@ use Rattle.bw_folder.specs.Folders.{take_path}
 use Rattle.bw_folder.specs.TakeFolders.{takes_disk, takes_folder, open_takes, takes_calls}
 use Rattle.bw_folder.specs.TakeFolders.{takes_failures, take_in_folder}
 use Rattle.bw_folder.specs.JournalFolders.{journals_disk, journals_folder, open_journals}
-use Rattle.bw_folder.specs.JournalFolders.{journals_failures, noted_in_folder, SameSettings}
+use Rattle.bw_folder.specs.JournalFolders.{journals_failures, failed_sync_in, noted_in_folder, SameSettings}
 use Rattle.bw_folder.specs.declared.folder.FolderStore.{FolderStore}
 use Rattle.bw_folder.specs.declared.journal.FolderJournal.{FolderJournal}
 
@@ -41,11 +41,12 @@ module _ {D F : Type 0} {G : Ghosts D F} where
     pub calls : takes_calls new ≡ takes_calls old
     pub failures : takes_failures new ≡ takes_failures old
 
-  -- The journal has the same settings and open journals, and no call of it has failed.
+  -- The journal has the same settings and open journals, and no call or sync of it has failed.
   pub record KeepsFolderJournal (old new : FolderJournal D F G) : Type 0 where
     pub settings : SameSettings old new
     pub journals : open_journals new ≡ open_journals old
     pub failures : journals_failures new ≡ journals_failures old
+    pub failed_sync : failed_sync_in new ≡ failed_sync_in old
 
 module _ {D E F H : Type 0} {G : Ghosts D F} {K : Ghosts E H} where
   -- Store and journal are those of one folder, on honest disks.

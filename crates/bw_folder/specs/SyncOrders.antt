@@ -1,5 +1,5 @@
 -- In which order a note and what it speaks of are synced.
-use Rattle.std.specs.Prelude.{◌≡◌, ◌⊎◌, ℕ, Bool, false, List, IsSome, IsTrue, OnOk, Result, Option}
+use Rattle.std.specs.Prelude.{◌≡◌, ◌⊎◌, ℕ, Bool, false, List, Some, IsSome, IsTrue, OnOk, Result, Option}
 use Rattle.bw_store.specs.Stores.{KeepsOthers}
 use Rattle.bw_disk.specs.Disks.{AsksOnce}
 use Rattle.bw_disk.specs.Volumes.{KeepsEach}
@@ -8,6 +8,14 @@ use Rattle.bw_disk.specs.declared.disk.Disk.{Ghosts}
 -- what is at a path, if anything, is synced as it is
 abbrev pub IsSyncedAt : (List ℕ → Option (List ℕ)) → (List ℕ → Option (List ℕ)) → List ℕ → Type 0
 IsSyncedAt contents synced path = IsSome (contents path) → synced path ≡ contents path
+
+-- The name of which a sync failed, before and after a call for a name: the first one is kept, and a
+-- call that succeeds changes nothing.
+pub record MarksSync {T E : Type 0} (name : List ℕ) (answer : Result T E) (before after : Option (List ℕ)) :
+    Type 0 where
+  pub kept : OnOk answer (after ≡ before)
+  pub first : IsSome before → after ≡ before
+  pub marked : (after ≡ before) ⊎ (after ≡ Some name)
 
 -- The journal of a name begins: no other file changes. Without syncs nothing is synced; with them the
 -- journal is, if the call succeeds.

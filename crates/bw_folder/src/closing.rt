@@ -16,6 +16,7 @@ impl<D: Volume> FolderJournal<D> {
         ensures settings { (self.new.limit ≡ self.old.limit) × (self.new.sync ≡ self.old.sync)
             × (self.new.folder ≡ self.old.folder) }
         ensures failures { self.new.failures ≡ self.old.failures }
+        ensures failed_sync { self.new.failed_sync ≡ self.old.failed_sync }
     {
         self.journals.retain(|journal| journal.name != *name);
     }
@@ -27,6 +28,7 @@ impl<D: Volume> FolderJournal<D> {
         ensures settings { (self.new.limit ≡ self.old.limit) × (self.new.sync ≡ self.old.sync)
             × (self.new.folder ≡ self.old.folder) }
         ensures journals { self.new.journals ≡ self.old.journals }
+        ensures failed_sync { self.new.failed_sync ≡ self.old.failed_sync }
     {
         if fails {
             self.failures = self.failures.saturating_add(1);

@@ -1,14 +1,14 @@
 //! Journals in a folder.
-ghost use Rattle.std.specs.Prelude.{◌≡◌, [], Some, IsTrue, IsErr};
+ghost use Rattle.std.specs.Prelude.{◌≡◌, [], None, IsSome, IsTrue, IsErr};
 ghost use Rattle.std.specs.Prelude.{IfOk, Ok};
-ghost use Rattle.std.specs.Prelude.{OnOk, OnErr, string_bytes, is_err, false, true};
+ghost use Rattle.std.specs.Prelude.{OnOk, OnErr, string_bytes, is_err, false};
 ghost use Rattle.std.specs.List.{All};
 ghost use Rattle.bw_store.specs.Stores.{Counts, KeepsOthers};
 ghost use Rattle.bw_journal.specs.Notes.{BeginsNotes, BeginsInPart, Notes, NotesInPart};
 ghost use Rattle.bw_journal.specs.Notes.{KeepsHeaders};
 ghost use Rattle.bw_folder.specs.Folders.{take_path as path_of_take};
 ghost use Rattle.bw_folder.specs.Journals.{journal_path as path_of_journal};
-ghost use Rattle.bw_folder.specs.SyncOrders.{BeginsJournal, NotesPlainly, SyncsInOrder};
+ghost use Rattle.bw_folder.specs.SyncOrders.{BeginsJournal, MarksSync, NotesPlainly, SyncsInOrder};
 
 use bw_disk::{SystemDisk, Volume};
 use bw_journal::Journal;
@@ -29,8 +29,6 @@ pub(crate) struct OpenJournal<F: Drop> {
     pub(crate) beside_take: bool,
     /// The folder was synced since the journal was opened and the take's file found.
     pub(crate) listed: bool,
-    /// A sync failed: what survives a loss of power isn't known until the next start.
-    pub(crate) failed: bool,
 }
 
 impl<F: Drop> OpenJournal<F> {
@@ -45,7 +43,6 @@ impl<F: Drop> OpenJournal<F> {
             file,
             beside_take: false,
             listed: false,
-            failed: false,
         }
     }
 }
@@ -62,8 +59,8 @@ impl<F: Drop> OpenJournal<F> {
 /// A note is made in steps: the take's file is synced, then the folder if this is the first note since
 /// a journal was reopened or the first that finds the take's file, the bytes are appended, and
 /// the journal is synced. So no note of this journal survives a loss of power without its samples, and
-/// none that it reported is lost. After a note whose sync failed each `note` of the name fails: another
-/// try could succeed although bytes are lost. Without `sync` nothing is synced.
+/// none that it reported is lost. After a sync that failed each `begin` and each `note` fails, of any
+/// name: another try could succeed although bytes are lost. Without `sync` nothing is synced.
 #[derive(Drop)]
 pub struct FolderJournal<D: Volume> {
     pub(crate) disk: D,
@@ -73,6 +70,8 @@ pub struct FolderJournal<D: Volume> {
     pub(crate) sync: bool,
     pub(crate) journals: Vec<OpenJournal<D::File>>,
     pub(crate) failures: u64,
+    /// The name of which a sync failed.
+    pub(crate) failed_sync: Option<Name>,
     ghost paths: { IsTrue (D.honest disk) → All
         (λ journal. D.path_of journal.file ≡ path_of_journal (string_bytes folder) journal.name)
         journals.items },
@@ -81,7 +80,7 @@ pub struct FolderJournal<D: Volume> {
 impl<R: Files + AllocGlobal + Clone + Drop> FolderJournal<SystemDisk<R>> {
     ghost use Rattle.bw_folder.specs.JournalFolders.{journals_disk, journals_folder};
     ghost use Rattle.bw_folder.specs.JournalFolders.{journals_limit, journals_sync, open_journals};
-    ghost use Rattle.bw_folder.specs.JournalFolders.{journals_failures};
+    ghost use Rattle.bw_folder.specs.JournalFolders.{journals_failures, failed_sync_in};
 
     /// The journals of a folder of the system, for a server of this limit. None is open yet.
     ///
@@ -104,6 +103,7 @@ impl<R: Files + AllocGlobal + Clone + Drop> FolderJournal<SystemDisk<R>> {
         ensures sync { IfOk result (λ j. journals_sync j ≡ sync) }
         ensures journals { IfOk result (λ j. open_journals j ≡ []) }
         ensures failures { IfOk result (λ j. journals_failures j ≡ 0) }
+        ensures failed_sync { IfOk result (λ j. failed_sync_in j ≡ None) }
     {
         FolderJournal::over(SystemDisk::new(rt), alloc, folder, limit, sync)
     }
@@ -112,8 +112,8 @@ impl<R: Files + AllocGlobal + Clone + Drop> FolderJournal<SystemDisk<R>> {
 impl<D: Volume> FolderJournal<D> {
     ghost use Rattle.bw_folder.specs.JournalFolders.{journals_disk, journals_folder};
     ghost use Rattle.bw_folder.specs.JournalFolders.{journals_limit, journals_sync, open_journals};
-    ghost use Rattle.bw_folder.specs.JournalFolders.{journals_failures, noted_in_folder};
-    ghost use Rattle.bw_folder.specs.JournalFolders.{header_in_folder, SameSettings};
+    ghost use Rattle.bw_folder.specs.JournalFolders.{journals_failures, failed_sync_in};
+    ghost use Rattle.bw_folder.specs.JournalFolders.{noted_in_folder, header_in_folder, SameSettings};
     ghost use Rattle.bw_folder.specs.Journals.{known_but};
 
     /// The journals of a folder of a disk, for a server of this limit. None is open yet.
@@ -136,6 +136,7 @@ impl<D: Volume> FolderJournal<D> {
         ensures sync { IfOk result (λ j. journals_sync j ≡ sync) }
         ensures journals { IfOk result (λ j. open_journals j ≡ []) }
         ensures failures { IfOk result (λ j. journals_failures j ≡ 0) }
+        ensures failed_sync { IfOk result (λ j. failed_sync_in j ≡ None) }
     {
         let folder = String::from_str(alloc, folder)?;
         Ok(FolderJournal::in_folder(disk, alloc, folder, limit, sync))
@@ -155,6 +156,7 @@ impl<D: Volume> FolderJournal<D> {
         ensures sync { journals_sync result ≡ sync }
         ensures journals { open_journals result ≡ [] }
         ensures failures { journals_failures result ≡ 0 }
+        ensures failed_sync { failed_sync_in result ≡ None }
     {
         FolderJournal {
             disk,
@@ -164,6 +166,7 @@ impl<D: Volume> FolderJournal<D> {
             sync,
             journals: Vec::new(alloc),
             failures: 0,
+            failed_sync: None,
         }
     }
 
@@ -188,11 +191,22 @@ impl<D: Volume> FolderJournal<D> {
         self.limit
     }
 
+    /// The name of which a sync failed, if one has.
+    pub fn failed_sync(&self) -> Option<Name>
+        ensures { result ≡ failed_sync_in self.now }
+    {
+        match &self.failed_sync {
+            Some(name) => Some(name.copy()),
+            None => None,
+        }
+    }
+
     /// Closes the journal of a name, if it is open. The disk isn't called.
     pub fn release(&mut self, name: &Name)
         ensures disk { journals_disk self.new ≡ journals_disk self.old }
         ensures settings { SameSettings self.old self.new }
         ensures failures { journals_failures self.new ≡ journals_failures self.old }
+        ensures failed_sync { failed_sync_in self.new ≡ failed_sync_in self.old }
         ensures known { open_journals self.new ≡ known_but name.now (open_journals self.old) }
     {
         self.close(name);
@@ -210,6 +224,7 @@ impl<D: Volume> FolderJournal<D> {
             sync: _,
             journals: _,
             failures: _,
+            failed_sync: _,
         } = self;
         disk
     }
@@ -218,7 +233,7 @@ impl<D: Volume> FolderJournal<D> {
 impl<D: Volume> Journal for FolderJournal<D> {
     ghost use Rattle.bw_folder.specs.JournalFolders.{journals_disk, journals_folder};
     ghost use Rattle.bw_folder.specs.JournalFolders.{journals_limit, journals_sync, open_journals};
-    ghost use Rattle.bw_folder.specs.JournalFolders.{sync_failed_in, journals_failures};
+    ghost use Rattle.bw_folder.specs.JournalFolders.{failed_sync_in, journals_failures};
     ghost use Rattle.bw_folder.specs.JournalFolders.{noted_in_folder, header_in_folder, SameSettings};
 
     ghost notes = { noted_in_folder };
@@ -236,7 +251,7 @@ impl<D: Volume> Journal for FolderJournal<D> {
     ///
     /// # Errors
     /// `StoreFault` if a call of the disk failed, memory was refused before any change, other bytes
-    /// are there, or a sync failed in an earlier call for this name.
+    /// are there, or a sync failed in an earlier call.
     ///
     /// # Not specified
     /// - When memory is refused.
@@ -259,6 +274,10 @@ impl<D: Volume> Journal for FolderJournal<D> {
             (noted_in_folder self.new name.now)) }
         ensures others { IsTrue (D.honest (journals_disk self.old)) → KeepsOthers
             (noted_in_folder self.old) (noted_in_folder self.new) name.now }
+        ensures failed_sync { MarksSync name.now result (failed_sync_in self.old) (failed_sync_in self.new) }
+        // After a failed sync each call fails, and the disk isn't called.
+        ensures stopped { IsSome (failed_sync_in self.old) →
+            IsErr result × (journals_disk self.new ≡ journals_disk self.old) }
         // No other file changes, on errors too; with `sync` the journal is synced.
         ensures rest { BeginsJournal D.Disk (journals_sync self.old) result
             (path_of_journal (journals_folder self.old) name.now)
@@ -275,7 +294,7 @@ impl<D: Volume> Journal for FolderJournal<D> {
     ///
     /// # Errors
     /// `StoreFault` if a call of the disk failed, memory was refused before any change, the name's
-    /// journal was neither begun nor reopened, or a sync failed in an earlier call for this name.
+    /// journal was neither begun nor reopened, or a sync failed in an earlier call.
     ///
     /// # Not specified
     /// - When memory is refused.
@@ -299,8 +318,9 @@ impl<D: Volume> Journal for FolderJournal<D> {
         ensures files { IsTrue (D.honest (journals_disk self.old)) → KeepsOthers
             (D.contents (journals_disk self.old)) (D.contents (journals_disk self.new))
             (path_of_journal (journals_folder self.old) name.now) }
-        // After a failed sync each note of the name fails, and the disk isn't called.
-        ensures stopped { sync_failed_in self.old name.now ≡ Some true →
+        ensures failed_sync { MarksSync name.now result (failed_sync_in self.old) (failed_sync_in self.new) }
+        // After a failed sync each call fails, and the disk isn't called.
+        ensures stopped { IsSome (failed_sync_in self.old) →
             IsErr result × (journals_disk self.new ≡ journals_disk self.old) }
         // Without `sync` it is one call, and nothing is synced.
         ensures plain { journals_sync self.old ≡ false →

@@ -1,6 +1,6 @@
 //! The files that a folder's journals are noted in: how one is found, begun and written.
 ghost use Rattle.std.specs.Prelude.{◌≡◌, ◌<◌, ◌↔◌, Some, IsTrue, IsErr, IsSome, IfOk, IfSome};
-ghost use Rattle.std.specs.Prelude.{OnOk, OnErr, string_bytes, length, false, true};
+ghost use Rattle.std.specs.Prelude.{OnOk, OnErr, string_bytes, length, false};
 ghost use Rattle.std.specs.List.{HoldsAt, position};
 ghost use Rattle.std.specs.Str.{bytes_eq};
 ghost use Rattle.bw_store.specs.Stores.{KeepsOthers};
@@ -9,8 +9,8 @@ ghost use Rattle.bw_journal.specs.Notes.{BeginsNotes, BeginsInPart, Notes, Notes
 ghost use Rattle.bw_journal.specs.Notes.{KeepsHeaders};
 ghost use Rattle.bw_folder.specs.Folders.{take_path as path_of_take};
 ghost use Rattle.bw_folder.specs.Journals.{journal_path as path_of_journal, notes_at, existences};
-ghost use Rattle.bw_folder.specs.Journals.{existence_of, header_at, failure_of, IsOpenAt};
-ghost use Rattle.bw_folder.specs.SyncOrders.{BeginsJournal, NotesPlainly, SyncsInOrder};
+ghost use Rattle.bw_folder.specs.Journals.{existence_of, header_at, IsOpenAt};
+ghost use Rattle.bw_folder.specs.SyncOrders.{BeginsJournal, MarksSync, NotesPlainly, SyncsInOrder};
 
 use crate::heading::{append, exists, open_or_make, put_header};
 use crate::journal::{FolderJournal, OpenJournal};
@@ -43,9 +43,14 @@ impl<D: Volume> FolderJournal<D> {
             (string_bytes self.old.folder) name.now)
             (notes_at (D.contents self.old.disk) (string_bytes self.old.folder) name.now)
             (notes_at (D.contents self.new.disk) (string_bytes self.old.folder) name.now)) }
+        ensures failed_sync { MarksSync name.now result self.old.failed_sync self.new.failed_sync }
+        ensures stopped { IsSome self.old.failed_sync → IsErr result × (self.new.disk ≡ self.old.disk) }
         ensures rest { BeginsJournal D.Disk self.old.sync result
             (path_of_journal (string_bytes self.old.folder) name.now) self.old.disk self.new.disk }
     {
+        if self.failed_sync.is_some() {
+            return Err(StoreFault);
+        }
         self.write_header(name)?;
         if !self.sync {
             return Ok(());
@@ -53,7 +58,12 @@ impl<D: Volume> FolderJournal<D> {
         let Some(place) = find(&self.journals, name) else {
             return Err(StoreFault);
         };
-        sync_begun(&mut self.disk, &mut self.journals[place], &self.folder)
+        sync_begun(
+            &mut self.disk,
+            &mut self.journals[place],
+            &mut self.failed_sync,
+            &self.folder,
+        )
     }
 
     /// Writes the header into the file of a name's journal, which is opened or made.
@@ -76,6 +86,7 @@ impl<D: Volume> FolderJournal<D> {
             (string_bytes self.old.folder) name.now)
             (notes_at (D.contents self.old.disk) (string_bytes self.old.folder) name.now)
             (notes_at (D.contents self.new.disk) (string_bytes self.old.folder) name.now)) }
+        ensures failed_sync { self.new.failed_sync ≡ self.old.failed_sync }
         ensures rest { ChangesAt D.Disk (path_of_journal (string_bytes self.old.folder) name.now)
             self.old.disk self.new.disk }
     {
@@ -108,6 +119,7 @@ impl<D: Volume> FolderJournal<D> {
         ensures failed { IsTrue (D.honest self.old.disk) → OnErr result
             (notes_at (D.contents self.new.disk) (string_bytes self.old.folder) name.now
             ≡ notes_at (D.contents self.old.disk) (string_bytes self.old.folder) name.now) }
+        ensures failed_sync { self.new.failed_sync ≡ self.old.failed_sync }
         ensures rest { ChangesAt D.Disk (path_of_journal (string_bytes self.old.folder) name.now)
             self.old.disk self.new.disk }
     {
@@ -147,19 +159,19 @@ impl<D: Volume> FolderJournal<D> {
             (notes_at (D.contents self.new.disk) (string_bytes self.old.folder) name.now)) }
         ensures files { IsTrue (D.honest self.old.disk) → KeepsOthers (D.contents self.old.disk)
             (D.contents self.new.disk) (path_of_journal (string_bytes self.old.folder) name.now) }
-        ensures stopped { failure_of self.old.journals.items name.now ≡ Some true →
-            IsErr result × (self.new.disk ≡ self.old.disk) }
+        ensures failed_sync { MarksSync name.now result self.old.failed_sync self.new.failed_sync }
+        ensures stopped { IsSome self.old.failed_sync → IsErr result × (self.new.disk ≡ self.old.disk) }
         ensures plain { self.old.sync ≡ false → NotesPlainly D.Disk result self.old.disk self.new.disk }
         ensures order { IsTrue (D.honest self.old.disk) → IsTrue self.old.sync → SyncsInOrder D.Disk
             result (path_of_take (string_bytes self.old.folder) name.now)
             (path_of_journal (string_bytes self.old.folder) name.now) self.old.disk self.new.disk }
     {
+        if self.failed_sync.is_some() {
+            return Err(StoreFault);
+        }
         let Some(place) = find(&self.journals, name) else {
             return Err(StoreFault);
         };
-        if self.journals[place].failed {
-            return Err(StoreFault);
-        }
         if !self.sync {
             let journal = &mut self.journals[place];
             return append(&mut self.disk, &mut journal.file, offset, bytes);
@@ -168,6 +180,7 @@ impl<D: Volume> FolderJournal<D> {
         append_synced(
             &mut self.disk,
             &mut self.journals[place],
+            &mut self.failed_sync,
             &take,
             &self.folder,
             offset,
@@ -183,8 +196,6 @@ pub(crate) fn find<F: Drop>(journals: &[OpenJournal<F>], name: &Name) -> Option<
         × HoldsAt (λ journal. (journal.name ≡ name.now)
         × (existence_of (existences journals.now) name.now ≡ Some journal.existed))
         journals.now place) }
-    ensures failed { IfSome result (λ place. HoldsAt
-        (λ journal. failure_of journals.now name.now ≡ Some journal.failed) journals.now place) }
 {
     first_of(journals, name)
 }

@@ -73,7 +73,7 @@ impl<D: Volume> FolderStore<D> {
 
 impl<D: Volume> FolderJournal<D> {
     ghost use Rattle.bw_folder.specs.JournalFolders.{journals_disk, SameSettings};
-    ghost use Rattle.bw_folder.specs.JournalFolders.{open_journals, journals_failures};
+    ghost use Rattle.bw_folder.specs.JournalFolders.{open_journals, journals_failures, failed_sync_in};
     ghost use Rattle.bw_folder.specs.JournalFolders.{noted_in_folder, header_in_folder};
 
     /// Opens the journal of a name that an earlier server wrote, by at most one call of the disk,
@@ -88,6 +88,7 @@ impl<D: Volume> FolderJournal<D> {
     /// When memory is refused.
     pub fn reopen(&mut self, name: &Name, existed: bool) -> Result<bool, ReadFault>
         ensures failures { journals_failures self.new ≡ journals_failures self.old }
+        ensures failed_sync { failed_sync_in self.new ≡ failed_sync_in self.old }
         ensures settings { SameSettings self.old self.new }
         ensures known { open_journals self.new
             ≡ adopted_by result name.now existed (open_journals self.old) }

@@ -1,5 +1,5 @@
 //! Notes that survive a loss of power: the samples are synced, then the note is written and synced.
-ghost use Rattle.std.specs.Prelude.{◌≡◌, ◌≢◌, ◌⊎◌, IsTrue, IsErr, OnOk, OnErr, true};
+ghost use Rattle.std.specs.Prelude.{◌≡◌, ◌≢◌, ◌⊎◌, Some, IsTrue, OnOk, OnErr, true};
 ghost use Rattle.bw_store.specs.Stores.{Written, KeepsOthers};
 ghost use Rattle.bw_disk.specs.Disks.{Syncs};
 ghost use Rattle.bw_disk.specs.DiskSteps.{StaysWhole};
@@ -8,17 +8,19 @@ ghost use Rattle.bw_folder.specs.SyncOrders.{IsSyncedAt};
 
 use crate::journal::OpenJournal;
 use bw_disk::Volume;
+use bw_request::Name;
 use bw_store::StoreFault;
 
 /// Syncs a take's file, if there is one, and the folder, unless it was synced since the journal was
 /// opened and the take's file found; then appends to its name's journal, and syncs that.
 ///
 /// # Errors
-/// `StoreFault` if a call of the disk failed. If that was a sync the journal is marked, so that
-/// nothing is noted any more.
+/// `StoreFault` if a call of the disk failed. If that was a sync the name is kept, so that nothing is
+/// noted any more.
 pub(crate) fn append_synced<D: Volume>(
     disk: &mut D,
     journal: &mut OpenJournal<D::File>,
+    failed_sync: &mut Option<Name>,
     take: &str,
     folder: &str,
     offset: u64,
@@ -27,6 +29,8 @@ pub(crate) fn append_synced<D: Volume>(
     ensures name { journal.new.name ≡ journal.old.name }
     ensures existed { journal.new.existed ≡ journal.old.existed }
     ensures path { D.path_of journal.new.file ≡ D.path_of journal.old.file }
+    ensures unmarked { OnOk result (failed_sync.new ≡ failed_sync.old) }
+    ensures marked { (failed_sync.new ≡ failed_sync.old) ⊎ (failed_sync.new ≡ Some journal.old.name) }
     ensures honest { D.honest disk.new ≡ D.honest disk.old }
     ensures written { IsTrue (D.honest disk.old) → OnOk result (Written
         (D.contents disk.old (D.path_of journal.old.file)) offset bytes.now
@@ -44,40 +48,37 @@ pub(crate) fn append_synced<D: Volume>(
     ensures synced { IsTrue (D.honest disk.old) → OnOk result (IsSyncedAt (D.contents disk.new)
         (D.synced disk.new) (D.path_of journal.old.file)) }
 {
-    sync_take(disk, journal, take)?;
-    sync_names(disk, journal, folder)?;
+    sync_take(disk, journal, failed_sync, take)?;
+    sync_names(disk, journal, failed_sync, folder)?;
     disk.append(&mut journal.file, offset, bytes)
         .map_err(|_| StoreFault)?;
-    sync_file(disk, &journal.file, &mut journal.failed)
+    sync_file(disk, &journal.file, &journal.name, failed_sync)
 }
 
 /// Syncs a journal that has its header, and the folder, unless it was synced since the journal was
 /// opened: so no loss of power leaves a take's file beside a journal without its header.
 ///
 /// # Errors
-/// `StoreFault` if a call of the disk failed, or a sync of the journal did before: the journal is
-/// marked, so that nothing is noted any more.
+/// `StoreFault` if a sync failed: the name is kept, so that nothing is noted any more.
 pub(crate) fn sync_begun<D: Volume>(
     disk: &mut D,
     journal: &mut OpenJournal<D::File>,
+    failed_sync: &mut Option<Name>,
     folder: &str,
 ) -> Result<(), StoreFault>
     ensures name { journal.new.name ≡ journal.old.name }
     ensures existed { journal.new.existed ≡ journal.old.existed }
     ensures file { journal.new.file ≡ journal.old.file }
-    ensures marked { OnErr result (journal.new.failed ≡ true) }
-    ensures stopped { journal.old.failed ≡ true → IsErr result × (disk.new ≡ disk.old) }
+    ensures marked { OnErr result (failed_sync.new ≡ Some journal.old.name) }
+    ensures unmarked { OnOk result (failed_sync.new ≡ failed_sync.old) }
     ensures listed { OnOk result (journal.new.listed ≡ true) }
     ensures honest { D.honest disk.new ≡ D.honest disk.old }
     ensures contents { IsTrue (D.honest disk.old) → KeepsEach (D.contents disk.old) (D.contents disk.new) }
     ensures synced { IsTrue (D.honest disk.old) → OnOk result (IsSyncedAt (D.contents disk.new)
         (D.synced disk.new) (D.path_of journal.old.file)) }
 {
-    if journal.failed {
-        return Err(StoreFault);
-    }
-    sync_file(disk, &journal.file, &mut journal.failed)?;
-    sync_names(disk, journal, folder)
+    sync_file(disk, &journal.file, &journal.name, failed_sync)?;
+    sync_names(disk, journal, failed_sync, folder)
 }
 
 /// Syncs a take's file, if there is one.
@@ -87,11 +88,14 @@ pub(crate) fn sync_begun<D: Volume>(
 fn sync_take<D: Volume>(
     disk: &mut D,
     journal: &mut OpenJournal<D::File>,
+    failed_sync: &mut Option<Name>,
     take: &str,
 ) -> Result<(), StoreFault>
     ensures name { journal.new.name ≡ journal.old.name }
     ensures existed { journal.new.existed ≡ journal.old.existed }
     ensures file { journal.new.file ≡ journal.old.file }
+    ensures unmarked { OnOk result (failed_sync.new ≡ failed_sync.old) }
+    ensures marked { (failed_sync.new ≡ failed_sync.old) ⊎ (failed_sync.new ≡ Some journal.old.name) }
     ensures honest { D.honest disk.new ≡ D.honest disk.old }
     ensures contents { IsTrue (D.honest disk.old) → KeepsEach (D.contents disk.old) (D.contents disk.new) }
     ensures synced { IsTrue (D.honest disk.old) → OnOk result
@@ -104,16 +108,21 @@ fn sync_take<D: Volume>(
         journal.beside_take = true;
         journal.listed = false;
     }
-    sync_file(disk, &file, &mut journal.failed)
+    sync_file(disk, &file, &journal.name, failed_sync)
 }
 
 /// Syncs a file.
 ///
 /// # Errors
-/// `StoreFault` if the disk failed: that is marked.
-fn sync_file<D: Volume>(disk: &mut D, file: &D::File, failed: &mut bool) -> Result<(), StoreFault>
-    ensures marked { OnErr result (failed.new ≡ true) }
-    ensures unmarked { OnOk result (failed.new ≡ failed.old) }
+/// `StoreFault` if the disk failed: the name is kept.
+fn sync_file<D: Volume>(
+    disk: &mut D,
+    file: &D::File,
+    name: &Name,
+    failed_sync: &mut Option<Name>,
+) -> Result<(), StoreFault>
+    ensures marked { OnErr result (failed_sync.new ≡ Some name.now) }
+    ensures unmarked { OnOk result (failed_sync.new ≡ failed_sync.old) }
     ensures honest { D.honest disk.new ≡ D.honest disk.old }
     ensures contents { IsTrue (D.honest disk.old) → KeepsEach (D.contents disk.old) (D.contents disk.new) }
     ensures synced { IsTrue (D.honest disk.old) → Syncs result
@@ -122,7 +131,7 @@ fn sync_file<D: Volume>(disk: &mut D, file: &D::File, failed: &mut bool) -> Resu
 {
     let answer = disk.sync_data(file).map_err(|_| StoreFault);
     if answer.is_err() {
-        *failed = true;
+        *failed_sync = Some(name.copy());
     }
     answer
 }
@@ -130,25 +139,28 @@ fn sync_file<D: Volume>(disk: &mut D, file: &D::File, failed: &mut bool) -> Resu
 /// Syncs the folder, unless it was synced since the journal was opened and the take's file found.
 ///
 /// # Errors
-/// `StoreFault` if the disk failed: the journal is marked.
+/// `StoreFault` if the disk failed: the name is kept.
 fn sync_names<D: Volume>(
     disk: &mut D,
     journal: &mut OpenJournal<D::File>,
+    failed_sync: &mut Option<Name>,
     folder: &str,
 ) -> Result<(), StoreFault>
     ensures name { journal.new.name ≡ journal.old.name }
     ensures existed { journal.new.existed ≡ journal.old.existed }
     ensures file { journal.new.file ≡ journal.old.file }
-    ensures marked { OnErr result (journal.new.failed ≡ true) }
+    ensures marked { OnErr result (failed_sync.new ≡ Some journal.old.name) }
     ensures listed { OnOk result (journal.new.listed ≡ true) }
-    ensures unmarked { OnOk result (journal.new.failed ≡ journal.old.failed) }
+    ensures unmarked { OnOk result (failed_sync.new ≡ failed_sync.old) }
     ensures rest { StaysWhole D.Disk disk.old disk.new }
 {
     if journal.listed {
         return Ok(());
     }
     let answer = disk.sync_folder(folder).map_err(|_| StoreFault);
-    journal.failed = journal.failed || answer.is_err();
+    if answer.is_err() {
+        *failed_sync = Some(journal.name.copy());
+    }
     journal.listed = answer.is_ok();
     answer
 }
