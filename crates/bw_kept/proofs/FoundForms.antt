@@ -31,6 +31,7 @@ use Rattle.bw_session.specs.declared.session.Session.{Session}
 use Rattle.bw_session.specs.declared.server.Server.{Server}
 use Rattle.bw_session.proofs.JournalForms.{OrderIn}
 use Rattle.bw_kept.specs.FoundNames.{KeepsFolderBooks, KeepsDisks, KeepsSessions, StaysOutside, has_left, is_declined}
+use Rattle.bw_kept.specs.FoundNames.{OnlyForgets}
 use Rattle.bw_kept.specs.KeptFolders.{HoldsKept}
 use Rattle.bw_kept.specs.KeptTurns.{KeepsCounts, NoneMayLeave, HasPlace}
 use Rattle.bw_kept.specs.declared.room.Leaving.{Leaving}
@@ -246,6 +247,47 @@ module _ {D E F H : Type 0} {G : DiskGhosts D F} {K : DiskGhosts E H} {S : Store
       mid.stores.store ≡ old.stores.store → mid.stores.journal ≡ old.stores.journal → KeepsDisks mid new →
       KeepsDisks old new
   disks_forgotten old mid new store journal b = disks_then old mid new (disks_same old mid store journal) b
+
+  -- at most a name is forgotten
+
+  pub forgets_none : (it : Leaving) (old new : Server (FolderStore D F G) (FolderJournal E H K) S J) → new ≡ old →
+      OnlyForgets it old new
+  forgets_none it old new e = subst (OnlyForgets it old) (sym e) (record {
+    kept = keeps_none S J old;
+    disks = disks_none old;
+    outside = outside_none S J old;
+    same = λ stays name. refl;
+  })
+
+  -- it was to be forgotten, and couldn't
+  pub forgets_table : (it : Leaving) (old new : Server (FolderStore D F G) (FolderJournal E H K) S J) →
+      KeepsTable S J old new → OnlyForgets it old new
+  forgets_table it old new k = record {
+    kept = keeps_table S J old new k;
+    disks = disks_same old new k.stores.0 k.stores.1;
+    outside = outside_same S J old new k.sessions;
+    same = λ stays. k.sessions;
+  }
+
+  -- where none has left, it may be said otherwise
+  pub forgets_still : (it now : Leaving) (old new : Server (FolderStore D F G) (FolderJournal E H K) S J) →
+      has_left it ≡ false → OnlyForgets it old new → OnlyForgets now old new
+  forgets_still it now old new stays f = record {
+    kept = f.kept;
+    disks = f.disks;
+    outside = f.outside;
+    same = λ e. f.same stays;
+  }
+
+  -- none had left before
+  pub forgets_then : (it : Leaving) (old mid new : Server (FolderStore D F G) (FolderJournal E H K) S J) →
+      OnlyForgets leaving.NoneMay old mid → OnlyForgets it mid new → OnlyForgets it old new
+  forgets_then it old mid new a b = record {
+    kept = keeps_then S J old mid new a.kept b.kept;
+    disks = disks_then old mid new a.disks b.disks;
+    outside = outside_then S J old mid new a.outside b.outside;
+    same = λ stays name. b.same stays name ∙ a.same refl name;
+  }
 
 -- it goes on with the next name, and this one may not leave, if none was refused
 pub none_may : (before : Bool) (r : Leaving) → has_left r ≡ false → before || is_declined r ≡ false →

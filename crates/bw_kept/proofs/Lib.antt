@@ -16,6 +16,7 @@ pub mod FoundForms
 pub mod TurnForms
 pub mod OpenLists
 pub mod SeenAlike
+pub mod SeenRecoveries
 pub mod RecoveryForms
 pub mod RecoveredLogs
 pub mod WhereTurns

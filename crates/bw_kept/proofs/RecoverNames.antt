@@ -10,7 +10,8 @@ use Rattle.bw_journal.specs.Replays.{Story}
 use Rattle.bw_folder.specs.Folders.{take_path}
 use Rattle.bw_folder.specs.Journals.{journal_path, existence_of, known_but}
 use Rattle.bw_folder.specs.TakeFolders.{takes_disk, takes_folder, take_in_folder}
-use Rattle.bw_folder.specs.JournalFolders.{journals_disk, journals_folder, journals_limit, noted_in_folder, header_in_folder, open_journals}
+use Rattle.bw_folder.specs.JournalFolders.{journals_disk, journals_folder, journals_limit, noted_in_folder}
+use Rattle.bw_folder.specs.JournalFolders.{header_in_folder, open_journals}
 use Rattle.bw_folder.specs.RecoveredNames.{AreOfOneFolder, ShowsAlike}
 use Rattle.bw_folder.specs.declared.folder.FolderStore.{FolderStore}
 use Rattle.bw_folder.specs.declared.journal.FolderJournal.{FolderJournal}
@@ -92,7 +93,8 @@ module _ {D E F H : Type 0} (G : Ghosts D F) (K : Ghosts E H) (name : List ℕ)
 
   -- which journal of the name is open
   Knows : Type 0
-  Knows = (s : Option Story) × (open_journals later_journal ≡ known_but name (open_journals journal) ++ journal_opened name s)
+  Knows = (s : Option Story)
+      × (open_journals later_journal ≡ known_but name (open_journals journal) ++ journal_opened name s)
 
   knows : Knows
   unfolding Knows
@@ -100,7 +102,8 @@ module _ {D E F H : Type 0} (G : Ghosts D F) (K : Ghosts E H) (name : List ℕ)
     where
       go : (x : Result Recovered Delay) → IfOk x (OpensIn old.limit name store journal later later_journal) →
           OnErr x (ClosesFiles name store journal later later_journal) →
-          (s : Option Story) × (open_journals later_journal ≡ known_but name (open_journals journal) ++ journal_opened name s)
+          (s : Option Story)
+          × (open_journals later_journal ≡ known_but name (open_journals journal) ++ journal_opened name s)
       go (Ok x) o c = (opened_story old.limit name notes x, o.journals)
       go (Err d) o c = (None, c.journals ∙ sym (append-nil (known_but name (open_journals journal))))
 
@@ -117,7 +120,8 @@ module _ {D E F H : Type 0} (G : Ghosts D F) (K : Ghosts E H) (name : List ℕ)
     sessions = sessions;
     contents = λ n apart.
         ap (λ (f : List ℕ). G.contents (takes_disk later) (take_path f n)) r.settings.folder
-        ∙ file_else folder name n (G.contents (takes_disk store)) (G.contents (takes_disk later)) kept.others.takes apart;
+        ∙ file_else folder name n (G.contents (takes_disk store)) (G.contents (takes_disk later)) kept.others.takes
+        apart;
     notes = λ n apart.
         ap (λ (f : List ℕ). K.contents (journals_disk later_journal) (journal_path f n)) at_folder
         ∙ notes_else folder name n (K.contents (journals_disk journal)) (K.contents (journals_disk later_journal))
@@ -181,11 +185,11 @@ module _ {D E F H : Type 0} (G : Ghosts D F) (K : Ghosts E H) (name : List ℕ)
 
   not_recovered : HoldsKept (folder_store G) (folder_journal K) first new book
   not_recovered =
-      recovered_not (folder_store G) (folder_journal K) old new first book h honest honest_notes name named changes gone may
-      same_folder r.settings.folder head_limit lies_after
+      recovered_not (folder_store G) (folder_journal K) old new first book h honest honest_notes name named changes
+      gone may same_folder r.settings.folder head_limit lies_after
 
-  pub was_recovered : WasRecovered (folder_store G) (folder_journal K) (DiskFails G K) (DisksDiffer G K) first old new book
-      name result
+  pub was_recovered : WasRecovered (folder_store G) (folder_journal K) (DiskFails G K) (DisksDiffer G K) first old new
+      book name result
   was_recovered = go result recovered opened (r.alike one) (r.why one)
     where
       go : (x : Result Recovered Delay) → IfOk x (RecoversIn old.limit name store journal later later_journal) →
@@ -194,14 +198,14 @@ module _ {D E F H : Type 0} (G : Ghosts D F) (K : Ghosts E H) (name : List ℕ)
           IfErr x (IsReason name store journal later later_journal) →
           WasRecovered (folder_store G) (folder_journal K) (DiskFails G K) (DisksDiffer G K) first old new book name x
       go (Ok New) made o alike why =
-          recovered_new (folder_store G) (folder_journal K) old new first book h honest honest_notes name named changes gone
-          may same_folder r.settings.folder head_limit (says New o) (shows o alike) made
+          recovered_new (folder_store G) (folder_journal K) old new first book h honest honest_notes name named
+          changes gone may same_folder r.settings.folder head_limit (says New o) (shows o alike) made
       go (Ok (LeftOut cause)) made o alike why =
-          recovered_out (folder_store G) (folder_journal K) old new first book h honest honest_notes name named changes gone
-          may same_folder r.settings.folder head_limit cause made
+          recovered_out (folder_store G) (folder_journal K) old new first book h honest honest_notes name named
+          changes gone may same_folder r.settings.folder head_limit cause made
       go (Ok (Kept k)) made o alike why =
-          recovered_kept (folder_store G) (folder_journal K) old new first book h honest honest_notes name named changes gone
-          may same_folder r.settings.folder head_limit k (says (Kept k) o) made
+          recovered_kept (folder_store G) (folder_journal K) old new first book h honest honest_notes name named
+          changes gone may same_folder r.settings.folder head_limit k (says (Kept k) o) made
       go (Err delay.CallFailed) made o alike why = (not_recovered, why)
       go (Err delay.NoMemory) made o alike why = (not_recovered, tt)
       go (Err (delay.LeftOut cause)) made o alike why = absurd why

@@ -65,7 +65,8 @@ module _ {X Y : Type 0} (S : StoreGhosts X) (J : JournalGhosts Y) where
       IsOfLog (server_limit s) (first name) (log_of book name) (J.header (server_journal s) name) take
       (J.notes (server_journal s) name) (S.contents (server_store s) name)
 
-  module _ (Fails : List ℕ → Server X Y S J → Server X Y S J → Type 0) (Differs : List ℕ → Server X Y S J → Type 0) where
+  module _ (Fails : List ℕ → Server X Y S J → Server X Y S J → Type 0)
+      (Differs : List ℕ → Server X Y S J → Type 0) where
     -- A name was put off, for this reason; the server holds the book.
     abbrev pub WasPutOff : (List ℕ → Option (List ℕ)) → Server X Y S J → Server X Y S J → Book → List ℕ →
         Delay → Type 0
@@ -124,3 +125,13 @@ module _ {X Y : Type 0} (S : StoreGhosts X) (J : JournalGhosts Y) where
   IsWhere name Known s = IsSome (session_kept s name)
   IsWhere name IsNew s = session_kept s name ≡ None
   IsWhere name (PutOff delay) s = session_kept s name ≡ None
+
+-- At most a name was forgotten, and this came of it: the books stay, no disk is called, and no name
+-- comes into the table.
+pub record OnlyForgets {D E F H : Type 0} {G : DiskGhosts D F} {K : DiskGhosts E H}
+    {S : StoreGhosts (FolderStore D F G)} {J : JournalGhosts (FolderJournal E H K)} (it : Leaving)
+    (old new : Server (FolderStore D F G) (FolderJournal E H K) S J) : Type 0 where
+  pub kept : KeepsFolderBooks S J old new
+  pub disks : KeepsDisks old new
+  pub outside : StaysOutside S J old new
+  pub same : has_left it ≡ false → KeepsSessions (session_kept old) (session_kept new)

@@ -2,6 +2,7 @@ pub mod FolderRuns
 pub mod FoundNames
 pub mod KeptFolders
 pub mod KeptServers
+pub mod KeptCommits
 pub mod KeptTurns
 pub mod LeftFolders
 pub mod LeftNames

@@ -1,20 +1,25 @@
 -- The steps of recovering a name from its folder.
 use Rattle.std.specs.Prelude.{◌≡◌, ◌≤◌, ◌+◌, ◌*◌, ℕ, Option, Some, None, IsSome, IsTrue, List, ◌++◌, length}
+use Rattle.std.specs.Prelude.{Result, IfOk}
 use Rattle.bw_model.specs.Wire.{Second, last_number}
 use Rattle.bw_journal.specs.Replays.{Story}
 use Rattle.bw_journal.specs.Stories.{story_of}
 use Rattle.bw_disk.specs.declared.reading.ReadFault.{ReadFault}
 use Rattle.bw_disk.specs.declared.reading.ReadFault.TheVariants.{Disk as DiskFailed, Memory as NoMemory}
+use Rattle.bw_disk.specs.DiskSteps.{StaysWhole}
 use Rattle.bw_disk.specs.declared.disk.Disk.{Ghosts}
 use Rattle.bw_recovery.specs.declared.finding.Finding.{Finding}
 use Rattle.bw_recovery.specs.declared.finding.Finding.TheVariants.{Refused, Unbegun, Begun}
-use Rattle.bw_folder.specs.TakeFolders.{open_takes}
-use Rattle.bw_folder.specs.JournalFolders.{open_journals, noted_in_folder}
-use Rattle.bw_folder.specs.RecoveredNames.{AreOfOneFolder, FindsIn}
+use Rattle.bw_folder.specs.Journals.{existence_of}
+use Rattle.bw_folder.specs.TakeFolders.{takes_disk, open_takes}
+use Rattle.bw_folder.specs.JournalFolders.{journals_disk, open_journals, noted_in_folder}
+use Rattle.bw_folder.specs.RecoveredNames.{AreOfOneFolder, FindsIn, CountsUnlessCrowded}
 use Rattle.bw_folder.specs.declared.folder.FolderStore.{FolderStore}
 use Rattle.bw_folder.specs.declared.journal.FolderJournal.{FolderJournal}
 use Rattle.bw_kept.specs.KeptFolders.{HasManyDone}
 use Rattle.bw_kept.specs.Recoveries.{is_written_on, MadeOfStory, take_opened, journal_opened, opened_story}
+use Rattle.bw_kept.specs.Recoveries.{IfNumbers, IfUntouched, IsKeptUnder, KeepsBothSettings, KeepsInFolder}
+use Rattle.bw_kept.specs.Recoveries.{KeepsOthersOpen, RecoversIn, HasTooManyIn, is_failed_call}
 use Rattle.bw_kept.specs.declared.recovery.RecoverFault.{RecoverFault}
 use Rattle.bw_kept.specs.declared.recovery.RecoverFault.TheVariants.{Disk, Memory}
 use Rattle.bw_kept.specs.declared.recovery.Recovered.{Recovered}
@@ -72,3 +77,27 @@ module _ {D E F H : Type 0} {G : Ghosts D F} {K : Ghosts E H} where
   OpensMoreIn limit name store journal later_store later_journal r =
       OpensMore name (opened_story limit name (noted_in_folder journal name) r)
       store journal later_store later_journal
+
+  -- Settings, the honesty of the disks and what is open of other names stay, a take that is kept is of
+  -- the name, and nothing changes of one that is left out or has too many numbers done.
+  pub record RecoversAlone (name : List ℕ) (result : Result Recovered RecoverFault)
+      (store : FolderStore D F G) (journal : FolderJournal E H K) (later_store : FolderStore D F G)
+      (later_journal : FolderJournal E H K) : Type 0 where
+    pub settings : KeepsBothSettings store journal later_store later_journal
+    pub takes : G.honest (takes_disk later_store) ≡ G.honest (takes_disk store)
+    pub notes : K.honest (journals_disk later_journal) ≡ K.honest (journals_disk journal)
+    pub named : IfOk result (IsKeptUnder name)
+    pub apart : KeepsOthersOpen name store journal later_store later_journal
+    pub unchanged : IfUntouched result (StaysWhole G (takes_disk store) (takes_disk later_store)
+        × StaysWhole K (journals_disk journal) (journals_disk later_journal))
+
+  -- What was made of a name in the folder, what was opened of it, what of it stays, and when it failed.
+  pub record RecoversFrom (limit : ℕ) (name : List ℕ) (result : Result Recovered RecoverFault)
+      (store : FolderStore D F G) (journal : FolderJournal E H K) (later_store : FolderStore D F G)
+      (later_journal : FolderJournal E H K) : Type 0 where
+    pub recovered : IfOk result (RecoversIn limit name store journal later_store later_journal)
+    pub opened : IfOk result (OpensMoreIn limit name store journal later_store later_journal)
+    pub kept : KeepsInFolder limit name store journal later_store later_journal
+    pub many : IfNumbers result (HasTooManyIn limit name store journal)
+    pub failures : existence_of (open_journals journal) name ≡ None →
+        CountsUnlessCrowded name store journal later_store later_journal (is_failed_call result)

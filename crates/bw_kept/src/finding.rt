@@ -2,7 +2,7 @@
 ghost use Rattle.std.specs.Prelude.{◌≡◌, ◌≢◌, ◌<◌, ◌⊎◌, true, false, None, IsSome};
 ghost use Rattle.bw_model.specs.Turn.{most_takes};
 ghost use Rattle.bw_session.specs.SeenServers.{session_kept, names_kept};
-ghost use Rattle.bw_kept.specs.FoundNames.{KeepsFolderBooks, KeepsDisks, KeepsSessions, StaysOutside, FindsBooks, FindsNewIn};
+ghost use Rattle.bw_kept.specs.FoundNames.{KeepsFolderBooks, OnlyForgets, KeepsSessions, FindsBooks, FindsNewIn};
 ghost use Rattle.bw_kept.specs.FoundNames.{PutsInBooks, IsWhere};
 ghost use Rattle.bw_kept.specs.KeptTurns.{KeepsCounts, NoneMayLeave, HasPlace, DiskFails, DisksDiffer};
 
@@ -36,11 +36,7 @@ fn drop_one<D: Volume, E: Volume>(
     server: &mut Server<FolderStore<D>, FolderJournal<E>>,
     used: &[Name],
 ) -> Leaving
-    ensures kept { KeepsFolderBooks ⟦<FolderStore<D> as TakeStore>⟧ ⟦<FolderJournal<E> as Journal>⟧
-        server.old server.new }
-    ensures disks { KeepsDisks server.old server.new }
-    ensures outside { StaysOutside ⟦<FolderStore<D> as TakeStore>⟧ ⟦<FolderJournal<E> as Journal>⟧
-        server.old server.new }
+    ensures forgets { OnlyForgets result server.old server.new }
     ensures none { result ≡ Leaving.NoneMay → NoneMayLeave ⟦<FolderStore<D> as TakeStore>⟧
         ⟦<FolderJournal<E> as Journal>⟧ server.new }
 {

@@ -185,7 +185,7 @@ impl<S: TakeStore, J: Journal> HasTable for KeptServer<S, J> {
 }
 
 impl<D: Volume, E: Volume> Turns for KeptServer<FolderStore<D>, FolderJournal<E>> {
-    ghost use Rattle.bw_exchange.specs.Commits.{CommitsNothing};
+    ghost use Rattle.bw_kept.specs.KeptCommits.{CommitsSynced};
     ghost use Rattle.bw_kept.specs.KeptTurns.{KeptTurn, DiskFails, DisksDiffer};
     ghost use Rattle.bw_kept.specs.KeptServers.{table_server};
 
@@ -197,7 +197,7 @@ impl<D: Volume, E: Volume> Turns for KeptServer<FolderStore<D>, FolderJournal<E>
     /// Nothing is ever uncommitted.
     ghost committed = { λ _. Unit {0} };
 
-    ghost commits = { CommitsNothing };
+    ghost commits = { CommitsSynced };
 
     fn turn(&mut self, message: &Message<'_>, replies: &mut ArrayVec<Reply, 17>) {
         let name = message.name();
@@ -230,9 +230,12 @@ impl<D: Volume, E: Volume> Turns for KeptServer<FolderStore<D>, FolderJournal<E>
         }
     }
 
-    /// Each turn keeps what it answers.
+    /// Each turn keeps what it answers, unless a sync failed.
     fn commit(&mut self) -> Result<(), NotKept> {
-        Ok(())
+        match self.server.journal().failed_sync() {
+            Some(_name) => Err(NotKept::SyncFault),
+            None => Ok(()),
+        }
     }
 }
 

@@ -18,7 +18,8 @@ ghost use Rattle.bw_kept.specs.Recoveries.{is_failed_call, KeepsBothSettings, Ke
 ghost use Rattle.bw_kept.specs.Recoveries.{OpensStory, RecoversIn, OpensIn, take_opened};
 ghost use Rattle.bw_kept.specs.Recoveries.{IsKeptUnder, KeepsInFolder, IfNumbers, HasTooManyIn};
 ghost use Rattle.bw_kept.specs.RecoverySteps.{fault_of_read, MadeOfFinding, story_found, HasFiles};
-ghost use Rattle.bw_kept.specs.RecoverySteps.{OpensMore, OpensMoreIn, IsManyDone, IsFewDone, IsFoundThere};
+ghost use Rattle.bw_kept.specs.RecoverySteps.{OpensMore, IsManyDone, IsFewDone, IsFoundThere};
+ghost use Rattle.bw_kept.specs.RecoverySteps.{RecoversAlone, RecoversFrom};
 
 use bw_disk::{ReadFault, Volume};
 use bw_folder::{FolderJournal, FolderStore, look_at_name, restore_in_folder};
@@ -128,24 +129,9 @@ fn recover_closed<D: Volume, E: Volume>(
     limit: Limit,
     name: &Name,
 ) -> Result<Recovered, RecoverFault>
-    ensures settings { KeepsBothSettings store.old journal.old store.new journal.new }
-    ensures takes { D.honest (takes_disk store.new) ≡ D.honest (takes_disk store.old) }
-    ensures notes { E.honest (journals_disk journal.new) ≡ E.honest (journals_disk journal.old) }
-    ensures named { IfOk result (IsKeptUnder name.now) }
-    ensures recovered { AreOfOneFolder store.old journal.old → IfOk result
-        (RecoversIn limit name.now store.old journal.old store.new journal.new) }
-    ensures opened { AreOfOneFolder store.old journal.old → IfOk result
-        (OpensMoreIn limit name.now store.old journal.old store.new journal.new) }
-    ensures apart { KeepsOthersOpen name.now store.old journal.old store.new journal.new }
-    ensures unchanged { IfUntouched result (StaysWhole D.Disk (takes_disk store.old) (takes_disk store.new)
-        × StaysWhole E.Disk (journals_disk journal.old) (journals_disk journal.new)) }
-    ensures kept { AreOfOneFolder store.old journal.old →
-        KeepsInFolder limit name.now store.old journal.old store.new journal.new }
-    ensures many { AreOfOneFolder store.old journal.old →
-        IfNumbers result (HasTooManyIn limit name.now store.old journal.old) }
-    ensures failures { AreOfOneFolder store.old journal.old →
-        existence_of (open_journals journal.old) name.now ≡ None → CountsUnlessCrowded name.now
-        store.old journal.old store.new journal.new (is_failed_call result) }
+    ensures alone { RecoversAlone name.now result store.old journal.old store.new journal.new }
+    ensures recovered { AreOfOneFolder store.old journal.old →
+        RecoversFrom limit name.now result store.old journal.old store.new journal.new }
 {
     match look_at_name(alloc, store, journal, limit, name) {
         Ok(None) => Ok(Recovered::New),
@@ -162,24 +148,9 @@ fn recover_found<D: Volume, E: Volume>(
     name: &Name,
     finding: Finding,
 ) -> Result<Recovered, RecoverFault>
-    ensures settings { KeepsBothSettings store.old journal.old store.new journal.new }
-    ensures takes { D.honest (takes_disk store.new) ≡ D.honest (takes_disk store.old) }
-    ensures notes { E.honest (journals_disk journal.new) ≡ E.honest (journals_disk journal.old) }
-    ensures named { IfOk result (IsKeptUnder name.now) }
+    ensures alone { RecoversAlone name.now result store.old journal.old store.new journal.new }
     ensures recovered { (limit : ℕ) → IsFoundThere limit name.now store.old journal.old finding →
-        IfOk result (RecoversIn limit name.now store.old journal.old store.new journal.new) }
-    ensures opened { (limit : ℕ) → IsFoundThere limit name.now store.old journal.old finding →
-        IfOk result (OpensMoreIn limit name.now store.old journal.old store.new journal.new) }
-    ensures apart { KeepsOthersOpen name.now store.old journal.old store.new journal.new }
-    ensures unchanged { IfUntouched result (StaysWhole D.Disk (takes_disk store.old) (takes_disk store.new)
-        × StaysWhole E.Disk (journals_disk journal.old) (journals_disk journal.new)) }
-    ensures kept { (limit : ℕ) → IsFoundThere limit name.now store.old journal.old finding →
-        KeepsInFolder limit name.now store.old journal.old store.new journal.new }
-    ensures many { (limit : ℕ) → IsFoundThere limit name.now store.old journal.old finding →
-        IfNumbers result (HasTooManyIn limit name.now store.old journal.old) }
-    ensures failures { (limit : ℕ) → IsFoundThere limit name.now store.old journal.old finding →
-        existence_of (open_journals journal.old) name.now ≡ None → CountsUnlessCrowded name.now
-        store.old journal.old store.new journal.new (is_failed_call result) }
+        RecoversFrom limit name.now result store.old journal.old store.new journal.new }
 {
     if let Finding::Refused(fault) = &finding {
         return Ok(Recovered::LeftOut(*fault));

@@ -4,7 +4,7 @@ ghost use Rattle.std.specs.List.{All};
 ghost use Rattle.bw_model.specs.Turn.{most_takes};
 ghost use Rattle.bw_session.specs.SeenServers.{session_kept, names_kept};
 ghost use Rattle.bw_session.specs.TableChanges.{forgettable_kept};
-ghost use Rattle.bw_kept.specs.FoundNames.{KeepsFolderBooks, KeepsDisks, StaysOutside, KeepsSessions, has_left, is_declined};
+ghost use Rattle.bw_kept.specs.FoundNames.{OnlyForgets, has_left, is_declined};
 ghost use Rattle.bw_kept.specs.KeptTurns.{NoneMayLeave, HasPlace};
 ghost use Rattle.bw_kept.specs.UseOrder.{FirstHasLeft};
 
@@ -44,13 +44,7 @@ fn drop_name<D: Volume, E: Volume>(
     server: &mut Server<FolderStore<D>, FolderJournal<E>>,
     name: &Name,
 ) -> Leaving
-    ensures kept { KeepsFolderBooks ⟦<FolderStore<D> as TakeStore>⟧ ⟦<FolderJournal<E> as Journal>⟧
-        server.old server.new }
-    ensures disks { KeepsDisks server.old server.new }
-    ensures outside { StaysOutside ⟦<FolderStore<D> as TakeStore>⟧ ⟦<FolderJournal<E> as Journal>⟧
-        server.old server.new }
-    ensures same { has_left result ≡ false →
-        KeepsSessions (session_kept server.old) (session_kept server.new) }
+    ensures forgets { OnlyForgets result server.old server.new }
     ensures unable { result ≡ Leaving.NoneMay → forgettable_kept server.old name.now ≡ false }
     ensures gone { result ≡ Leaving.Left → session_kept server.new name.now ≡ None }
 {
@@ -69,13 +63,7 @@ pub(crate) fn drop_oldest<D: Volume, E: Volume>(
     server: &mut Server<FolderStore<D>, FolderJournal<E>>,
     names: &[Name],
 ) -> Leaving
-    ensures kept { KeepsFolderBooks ⟦<FolderStore<D> as TakeStore>⟧ ⟦<FolderJournal<E> as Journal>⟧
-        server.old server.new }
-    ensures disks { KeepsDisks server.old server.new }
-    ensures outside { StaysOutside ⟦<FolderStore<D> as TakeStore>⟧ ⟦<FolderJournal<E> as Journal>⟧
-        server.old server.new }
-    ensures same { has_left result ≡ false →
-        KeepsSessions (session_kept server.old) (session_kept server.new) }
+    ensures forgets { OnlyForgets result server.old server.new }
     ensures first { result ≡ Leaving.Left →
         FirstHasLeft (forgettable_kept server.old) names.now (session_kept server.new) }
 {
@@ -101,13 +89,7 @@ fn drop_first<D: Volume, E: Volume>(
     server: &mut Server<FolderStore<D>, FolderJournal<E>>,
     names: &[Name],
 ) -> Leaving
-    ensures kept { KeepsFolderBooks ⟦<FolderStore<D> as TakeStore>⟧ ⟦<FolderJournal<E> as Journal>⟧
-        server.old server.new }
-    ensures disks { KeepsDisks server.old server.new }
-    ensures outside { StaysOutside ⟦<FolderStore<D> as TakeStore>⟧ ⟦<FolderJournal<E> as Journal>⟧
-        server.old server.new }
-    ensures same { has_left result ≡ false →
-        KeepsSessions (session_kept server.old) (session_kept server.new) }
+    ensures forgets { OnlyForgets result server.old server.new }
     ensures unable { result ≡ Leaving.NoneMay →
         All (λ name. forgettable_kept server.old name ≡ false) names.now }
 {
@@ -145,11 +127,7 @@ pub(crate) fn drop_any<D: Volume, E: Volume>(
     alloc: Global,
     server: &mut Server<FolderStore<D>, FolderJournal<E>>,
 ) -> Leaving
-    ensures kept { KeepsFolderBooks ⟦<FolderStore<D> as TakeStore>⟧ ⟦<FolderJournal<E> as Journal>⟧
-        server.old server.new }
-    ensures disks { KeepsDisks server.old server.new }
-    ensures outside { StaysOutside ⟦<FolderStore<D> as TakeStore>⟧ ⟦<FolderJournal<E> as Journal>⟧
-        server.old server.new }
+    ensures forgets { OnlyForgets result server.old server.new }
     ensures none { result ≡ Leaving.NoneMay → NoneMayLeave ⟦<FolderStore<D> as TakeStore>⟧
         ⟦<FolderJournal<E> as Journal>⟧ server.new }
 {

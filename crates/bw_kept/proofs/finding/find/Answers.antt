@@ -7,7 +7,7 @@ use Rattle.bw_kept.proofs.finding.find.Goals as goal
 
 pub returns-in-Ok-New-clause-counts : goal.returns-in-Ok-New-clause-counts
 returns-in-Ok-New-clause-counts g c =
-    counts_then _ _ _ _ _ c.drop_one-leaving.ensures.kept.counts
+    counts_then _ _ _ _ _ c.drop_one-leaving.ensures.forgets.kept.counts
     (counts_then _ _ _ _ _ c.recover_name.ensures.counts c.found_new.ensures.counts)
 
 pub returns-in-Ok-New-clause-inside : goal.returns-in-Ok-New-clause-inside
@@ -15,7 +15,7 @@ returns-in-Ok-New-clause-inside g c = not_known _ _ c.is_known.ensures.kept c.if
 
 pub found_new-requires : goal.found_new-requires
 found_new-requires g c = record {
-  fresh = c.recover_name.ensures.sessions c.args.name.now ∙ c.drop_one-leaving.ensures.outside c.args.name.now
+  fresh = c.recover_name.ensures.sessions c.args.name.now ∙ c.drop_one-leaving.ensures.forgets.outside c.args.name.now
       (absent _ _ c.is_known.ensures.kept c.if-is_known.false);
 }
 
@@ -23,8 +23,9 @@ pub returns-in-Ok-New-clause-books : goal.returns-in-Ok-New-clause-books
 returns-in-Ok-New-clause-books g c =
     finds_new _ _ (DiskFails g.D.Disk g.E.Disk) (DisksDiffer g.D.Disk g.E.Disk) c.args.name.now c.args.server.now
     c.drop_one-leaving.new.server c.recover_name.new.server c.found_new.new.server c.in-Ok-New.field-0
-    c.found_new.result c.in-Ok-New.field-0-is c.drop_one-leaving.ensures.kept
-    (c.drop_one-leaving.ensures.outside c.args.name.now (absent _ _ c.is_known.ensures.kept c.if-is_known.false))
+    c.found_new.result c.in-Ok-New.field-0-is c.drop_one-leaving.ensures.forgets.kept
+    (c.drop_one-leaving.ensures.forgets.outside c.args.name.now
+    (absent _ _ c.is_known.ensures.kept c.if-is_known.false))
     c.recover_name.ensures.counts c.in-Ok-New.ensures.recovered c.found_new.ensures.books
 
 pub returns-in-Ok-New-clause-place : goal.returns-in-Ok-New-clause-place
@@ -35,26 +36,27 @@ returns-in-Ok-New-clause-place g c = λ new.
 
 pub returns-in-Ok-LeftOut-clause-counts : goal.returns-in-Ok-LeftOut-clause-counts
 returns-in-Ok-LeftOut-clause-counts g c =
-    counts_then _ _ _ _ _ c.drop_one-leaving.ensures.kept.counts c.recover_name.ensures.counts
+    counts_then _ _ _ _ _ c.drop_one-leaving.ensures.forgets.kept.counts c.recover_name.ensures.counts
 
 pub returns-in-Ok-LeftOut-clause-inside : goal.returns-in-Ok-LeftOut-clause-inside
 returns-in-Ok-LeftOut-clause-inside g c = not_known _ _ c.is_known.ensures.kept c.if-is_known.false
 
 pub returns-in-Ok-LeftOut-clause-found : goal.returns-in-Ok-LeftOut-clause-found
 returns-in-Ok-LeftOut-clause-found g c =
-    c.recover_name.ensures.sessions c.args.name.now ∙ c.drop_one-leaving.ensures.outside c.args.name.now
+    c.recover_name.ensures.sessions c.args.name.now ∙ c.drop_one-leaving.ensures.forgets.outside c.args.name.now
     (absent _ _ c.is_known.ensures.kept c.if-is_known.false)
 
 pub returns-in-Ok-LeftOut-clause-books : goal.returns-in-Ok-LeftOut-clause-books
 returns-in-Ok-LeftOut-clause-books g c =
-    finds_out _ _ (DiskFails g.D.Disk g.E.Disk) (DisksDiffer g.D.Disk g.E.Disk) c.args.name.now c.args.server.now c.drop_one-leaving.new.server c.recover_name.new.server
-    c.in-Ok-LeftOut.field-0 _ c.in-Ok-LeftOut.field-0-is c.drop_one-leaving.ensures.kept
-    (c.drop_one-leaving.ensures.outside c.args.name.now (absent _ _ c.is_known.ensures.kept c.if-is_known.false))
-    c.in-Ok-LeftOut.ensures.recovered
+    finds_out _ _ (DiskFails g.D.Disk g.E.Disk) (DisksDiffer g.D.Disk g.E.Disk) c.args.name.now c.args.server.now
+    c.drop_one-leaving.new.server c.recover_name.new.server c.in-Ok-LeftOut.field-0 _ c.in-Ok-LeftOut.field-0-is
+    c.drop_one-leaving.ensures.forgets.kept
+    (c.drop_one-leaving.ensures.forgets.outside c.args.name.now
+    (absent _ _ c.is_known.ensures.kept c.if-is_known.false)) c.in-Ok-LeftOut.ensures.recovered
 
 pub returns-in-Ok-Kept-clause-counts : goal.returns-in-Ok-Kept-clause-counts
 returns-in-Ok-Kept-clause-counts g c =
-    counts_then _ _ _ _ _ c.drop_one-leaving.ensures.kept.counts
+    counts_then _ _ _ _ _ c.drop_one-leaving.ensures.forgets.kept.counts
     (counts_then _ _ _ _ _ c.recover_name.ensures.counts c.put_in.ensures.counts)
 
 pub returns-in-Ok-Kept-clause-inside : goal.returns-in-Ok-Kept-clause-inside
@@ -62,26 +64,28 @@ returns-in-Ok-Kept-clause-inside g c = not_known _ _ c.is_known.ensures.kept c.i
 
 pub returns-in-Ok-Kept-clause-books : goal.returns-in-Ok-Kept-clause-books
 returns-in-Ok-Kept-clause-books g c =
-    finds_kept _ _ (DiskFails g.D.Disk g.E.Disk) (DisksDiffer g.D.Disk g.E.Disk) c.args.name.now c.args.server.now c.drop_one-leaving.new.server c.recover_name.new.server
-    c.put_in.new.server c.in-Ok-Kept.field-0 _ c.put_in.result c.in-Ok-Kept.field-0-is c.drop_one-leaving.ensures.kept
-    (c.drop_one-leaving.ensures.outside c.args.name.now (absent _ _ c.is_known.ensures.kept c.if-is_known.false))
+    finds_kept _ _ (DiskFails g.D.Disk g.E.Disk) (DisksDiffer g.D.Disk g.E.Disk) c.args.name.now c.args.server.now
+    c.drop_one-leaving.new.server c.recover_name.new.server c.put_in.new.server c.in-Ok-Kept.field-0 _ c.put_in.result
+    c.in-Ok-Kept.field-0-is c.drop_one-leaving.ensures.forgets.kept
+    (c.drop_one-leaving.ensures.forgets.outside c.args.name.now
+    (absent _ _ c.is_known.ensures.kept c.if-is_known.false))
     c.recover_name.ensures.counts c.in-Ok-Kept.ensures.recovered c.put_in.ensures.books
 
 pub returns-in-Err-clause-counts : goal.returns-in-Err-clause-counts
 returns-in-Err-clause-counts g c =
-    counts_then _ _ _ _ _ c.drop_one-leaving.ensures.kept.counts c.recover_name.ensures.counts
+    counts_then _ _ _ _ _ c.drop_one-leaving.ensures.forgets.kept.counts c.recover_name.ensures.counts
 
 pub returns-in-Err-clause-inside : goal.returns-in-Err-clause-inside
 returns-in-Err-clause-inside g c = not_known _ _ c.is_known.ensures.kept c.if-is_known.false
 
 pub returns-in-Err-clause-found : goal.returns-in-Err-clause-found
 returns-in-Err-clause-found g c =
-    c.recover_name.ensures.sessions c.args.name.now ∙ c.drop_one-leaving.ensures.outside c.args.name.now
+    c.recover_name.ensures.sessions c.args.name.now ∙ c.drop_one-leaving.ensures.forgets.outside c.args.name.now
     (absent _ _ c.is_known.ensures.kept c.if-is_known.false)
 
 pub returns-in-Err-clause-books : goal.returns-in-Err-clause-books
 returns-in-Err-clause-books g c =
-    finds_not g.D.Disk g.E.Disk _ _ c.args.name.now c.args.server.now c.drop_one-leaving.new.server c.recover_name.new.server
-    _ c.drop_one-leaving.ensures.kept c.drop_one-leaving.ensures.disks
-    (c.drop_one-leaving.ensures.outside c.args.name.now (absent _ _ c.is_known.ensures.kept c.if-is_known.false))
-    c.in-Err.ensures.recovered
+    finds_not g.D.Disk g.E.Disk _ _ c.args.name.now c.args.server.now c.drop_one-leaving.new.server
+    c.recover_name.new.server _ c.drop_one-leaving.ensures.forgets.kept c.drop_one-leaving.ensures.forgets.disks
+    (c.drop_one-leaving.ensures.forgets.outside c.args.name.now
+    (absent _ _ c.is_known.ensures.kept c.if-is_known.false)) c.in-Err.ensures.recovered

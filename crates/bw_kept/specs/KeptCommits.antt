@@ -1,0 +1,27 @@
+-- What a commit of a server over a folder does.
+use Rattle.std.specs.Prelude.{◌≡◌, ℕ, List, Option, None, Some, Result, Ok, Err}
+use Rattle.bw_store.specs.declared.store.TakeStore.{Ghosts as StoreGhosts}
+use Rattle.bw_disk.specs.declared.disk.Disk.{Ghosts as DiskGhosts}
+use Rattle.bw_journal.specs.declared.journal.Journal.{Ghosts as JournalGhosts}
+use Rattle.bw_exchange.specs.declared.turns.NotKept.{NotKept}
+use Rattle.bw_exchange.specs.declared.turns.NotKept.TheVariants.{SyncFault}
+use Rattle.bw_folder.specs.JournalFolders.{failed_sync_in}
+use Rattle.bw_folder.specs.declared.folder.FolderStore.{FolderStore}
+use Rattle.bw_folder.specs.declared.journal.FolderJournal.{FolderJournal}
+use Rattle.bw_session.specs.SeenServers.{server_journal}
+use Rattle.bw_kept.specs.KeptServers.{table_server}
+use Rattle.bw_kept.specs.declared.keeping.KeptServer.{KeptServer}
+
+-- what a commit returns, by the name of which a sync failed
+abbrev pub commit_after : Option (List ℕ) → Result (Unit {0}) NotKept
+commit_after None = Ok tt
+commit_after (Some name) = Err SyncFault
+
+-- It fails exactly if a sync of the journal has failed, since each turn keeps all else that it answers;
+-- and it changes nothing.
+abbrev pub CommitsSynced : {D E F H : Type 0} {G : DiskGhosts D F} {K : DiskGhosts E H}
+    {S : StoreGhosts (FolderStore D F G)} {J : JournalGhosts (FolderJournal E H K)} →
+    KeptServer (FolderStore D F G) (FolderJournal E H K) S J → Result (Unit {0}) NotKept →
+    KeptServer (FolderStore D F G) (FolderJournal E H K) S J → Type 0
+CommitsSynced s result later =
+    (result ≡ commit_after (failed_sync_in (server_journal (table_server s)))) × (later ≡ s)
