@@ -21,7 +21,8 @@ use Rattle.bw_connections.specs.Places.{begun_of}
 use Rattle.bw_connections.specs.ConnectionBytes.{EachIsServed}
 use Rattle.bw_exchange.specs.LinkCounts.{up_to_last}
 use Rattle.bw_serve.specs.EventLoops.{Advances, CountsOwn, IsNew}
-use Rattle.bw_serve.specs.Rounds.{GoOnAfterEach, GoOnUntilLast, ServesInRounds, ServesRound, IsShut, ended_of_run, frames_of_run, goes_on_after}
+use Rattle.bw_serve.specs.Rounds.{GoOnAfterEach, GoOnUntilLast, ServesInRounds, ServesRound, IsShut, ended_of_run}
+use Rattle.bw_serve.specs.Rounds.{frames_of_run, goes_on_after}
 use Rattle.bw_serve.specs.Admissions.{HostsAll}
 use Rattle.bw_ports.specs.Reactors.{Admission}
 use Rattle.bw_serve.specs.Lines.{LogsEnds, ReportsEnds}
@@ -45,15 +46,15 @@ waited_more round waits below le = go (nat_lt waits (2 ^ 64 - 1)) refl
     go false e = (let all = ltb-false waits (2 ^ 64 - 1) e in omega (arith, below, all))
 
 -- as many have ended as were asked for
-pub all_ended : {L : Type 0} (exchanges : ℕ) (c : EventLoop L) (over : List (Closed L)) → c.ended ≡ up_to_last (length over) →
-    exchanges ≤ c.ended → exchanges ≤ length over
+pub all_ended : {L : Type 0} (exchanges : ℕ) (c : EventLoop L) (over : List (Closed L)) →
+    c.ended ≡ up_to_last (length over) → exchanges ≤ c.ended → exchanges ≤ length over
 all_ended exchanges c over is all = omega (arith, is, all)
 
 module _ {L S O E : Type 0} (G : LinkGhosts L) (answers : S → Frame → List Reply → S → Type 0) (out : Writer O)
     (reported : Writer E) (log : Bool) where
   -- what a run has resulted in
-  pub record SoFar (trace : List Tagged) (over : List (Closed L)) (links : List (Admission L)) (c : EventLoop L) (s s' : S)
-      (o o' : O) (e e' : E) : Type 0 where
+  pub record SoFar (trace : List Tagged) (over : List (Closed L)) (links : List (Admission L)) (c : EventLoop L)
+      (s s' : S) (o o' : O) (e e' : E) : Type 0 where
     pub by_server : AnswersAll answers s (all_answered trace) s'
     pub keeps : KeepsConnections G c.connections over trace
     pub counts : CountsOwn G c trace
@@ -67,7 +68,10 @@ module _ {L S O E : Type 0} (G : LinkGhosts L) (answers : S → Frame → List R
   none_so_far places c s o e n = record {
     by_server = refl;
     keeps = n.keeps;
-    counts = λ i d at. let below = (n.keeps.lives i d at).0 in let begun = n.begun in absurd (omega (arith, below, begun));
+    counts = λ i d at.
+        let below = (n.keeps.lives i d at).0 in
+        let begun = n.begun in
+        absurd (omega (arith, below, begun));
     printed = refl;
     logged = refl;
     ended = n.ended;
@@ -108,11 +112,11 @@ lacks_sync commits mid (Err kept.WriteFault) s h stops = absurd (cc)
 lacks_sync commits mid (Err kept.SyncFault) s h stops = (mid, h)
 
 module _ {B L S O E V : Type 0} (reactor : ReactorGhosts B L) (G : LinkGhosts L)
-    (answers : S → Frame → List Reply → S → Type 0) (commits : S → Result (Unit {0}) NotKept → S → Type 0) (out : Writer O) (reported : Writer E) (log : Bool)
-    (looks : V → S → RoundReport → V → Type 0) where
+    (answers : S → Frame → List Reply → S → Type 0) (commits : S → Result (Unit {0}) NotKept → S → Type 0)
+    (out : Writer O) (reported : Writer E) (log : Bool) (looks : V → S → RoundReport → V → Type 0) where
   -- what rounds have resulted in, one after another, and what the observer has
-  pub record Runs (last : Result (Unit {0}) NotKept) (places idle exchanges : ℕ) (c : EventLoop L) (s s' : S) (b b' : B) (o o' : O) (e e' : E) (v v' : V)
-      : Type 0 where
+  pub record Runs (last : Result (Unit {0}) NotKept) (places idle exchanges : ℕ) (c : EventLoop L) (s s' : S)
+      (b b' : B) (o o' : O) (e e' : E) (v v' : V) : Type 0 where
     pub rounds : ServesInRounds reactor G answers commits out reported log places idle exchanges c s s' b b' o o' e e'
     -- the last commit returned this
     pub went_on : GoOnUntilLast reactor G answers commits out reported log idle exchanges rounds.count rounds.empty
@@ -123,10 +127,11 @@ module _ {B L S O E V : Type 0} (reactor : ReactorGhosts B L) (G : LinkGhosts L)
     pub gave : (xs : List (Admission L)) → reactor.admitted b xs → reactor.admitted b' (xs ++ links)
     pub so_far : SoFar G answers out reported log
         (frames_of_run reactor G answers commits out reported log places idle exchanges c s s' b b' o o' e e' rounds)
-        (ended_of_run reactor G answers commits out reported log places idle exchanges c s s' b b' o o' e e' rounds) links c s s' o o'
-        e e'
+        (ended_of_run reactor G answers commits out reported log places idle exchanges c s s' b b' o o' e e' rounds)
+        links c s s' o o' e e'
     pub looked : LooksAtEach looks
-        (states_of_run reactor G answers commits out reported log places idle exchanges c s s' b b' o o' e e' rounds) v v'
+        (states_of_run reactor G answers commits out reported log places idle exchanges c s s' b b' o o' e e' rounds)
+        v v'
 
   -- no round yet
   pub runs_none : (places idle exchanges : ℕ) (c : EventLoop L) (s : S) (b : B) (o : O) (e : E) (v : V) →
@@ -143,14 +148,15 @@ module _ {B L S O E V : Type 0} (reactor : ReactorGhosts B L) (G : LinkGhosts L)
   }
 
   -- one round more
-  pub runs_more : (last : Result (Unit {0}) NotKept) → goes_on_after last ≡ true → (places idle exchanges : ℕ) (a b : EventLoop L) (s t u : S) (x y z : B) (o p q : O) (e f g : E)
+  pub runs_more : (last : Result (Unit {0}) NotKept) → goes_on_after last ≡ true → (places idle exchanges : ℕ)
+      (a b : EventLoop L) (s t u : S) (x y z : B) (o p q : O) (e f g : E)
       (v w v' : V) → Runs last places idle exchanges a s t x y o p e f v w → a.ended < exchanges →
       (round : ServesRound reactor G answers commits out reported log idle exchanges a b t u y z p q f g) →
       LooksAtRound looks b u w v' → Runs round.outcome places idle exchanges b s u x z o q e g v v'
   unfolding rounds_more
   runs_more last goes places idle exchanges a b s t u x y z o p q e f g v w v' r few round look = record {
-    rounds = rounds_more reactor G answers commits out reported log places idle exchanges a b s t u x y z o p q e f g r.rounds few
-        round;
+    rounds = rounds_more reactor G answers commits out reported log places idle exchanges a b s t u x y z o p q e f g
+        r.rounds few round;
     went_on = r.goes_on goes;
     goes_on = λ more. (r.goes_on goes, more);
     links = r.links ++ round.welcomes.links;
@@ -158,12 +164,14 @@ module _ {B L S O E V : Type 0} (reactor : ReactorGhosts B L) (G : LinkGhosts L)
         (round.welcomes.gave (xs ++ r.links) (r.gave xs was));
     so_far = more_so_far G answers out reported log _ _ _ _ r.links round.welcomes.links a b s t u o p q e f g r.so_far
         (round_advances reactor G answers commits out reported log idle exchanges a b t u y z p q f g round);
-    looked = looks_then looks (states_of_run reactor G answers commits out reported log places idle exchanges a s t x y o p e f r.rounds)
+    looked = looks_then looks
+        (states_of_run reactor G answers commits out reported log places idle exchanges a s t x y o p e f r.rounds)
         ((b, u) ∷ []) v w v' r.looked (v', look, refl);
   }
 
   -- nothing else was done
-  runs_still : (last : Result (Unit {0}) NotKept) (places idle exchanges : ℕ) (c : EventLoop L) (s t u : S) (b b' : B) (o p q : O) (e f g : E) (v v' : V) →
+  runs_still : (last : Result (Unit {0}) NotKept) (places idle exchanges : ℕ) (c : EventLoop L) (s t u : S) (b b' : B)
+      (o p q : O) (e f g : E) (v v' : V) →
       Runs last places idle exchanges c s t b b' o p e f v v' → u ≡ t → q ≡ p → g ≡ f →
       Runs last places idle exchanges c s u b b' o q e g v v'
   runs_still last places idle n c s t u b b' o p q e f g v v' r server printed logged =
@@ -172,7 +180,8 @@ module _ {B L S O E V : Type 0} (reactor : ReactorGhosts B L) (G : LinkGhosts L)
       (subst (λ (h : E). Runs last places idle n c s t b b' o p e h v v') (sym logged) r))
 
   -- it ends so
-  pub runs_over : EachIsServed G → (last : Result (Unit {0}) NotKept) (bounds : Bounds) (exit : Exit) (c : EventLoop L) (s s' : S) (b b' : B) (o o' : O)
+  pub runs_over : EachIsServed G → (last : Result (Unit {0}) NotKept) (bounds : Bounds) (exit : Exit)
+      (c : EventLoop L) (s s' : S) (b b' : B) (o o' : O)
       (e e' : E) (v v' : V) (r : Runs last bounds.places bounds.idle bounds.exchanges c s s' b b' o o' e e' v v') →
       begun_of c.connections ≤ bounds.exchanges → ((over : List (Closed L)) → c.ended ≡ up_to_last (length over) →
       EndsAt reactor commits exit bounds.exchanges (length over) s' b b') →
@@ -183,12 +192,12 @@ module _ {B L S O E V : Type 0} (reactor : ReactorGhosts B L) (G : LinkGhosts L)
       reactor_after = b';
       in_rounds = r.rounds;
       went_on = r.went_on;
-      trace = frames_of_run reactor G answers commits out reported log bounds.places bounds.idle bounds.exchanges c s s' b b' o o' e e'
-          r.rounds;
+      trace = frames_of_run reactor G answers commits out reported log bounds.places bounds.idle bounds.exchanges c s
+          s' b b' o o' e e' r.rounds;
       taken = refl;
       by_server = r.so_far.by_server;
-      over = ended_of_run reactor G answers commits out reported log bounds.places bounds.idle bounds.exchanges c s s' b b' o o' e e'
-          r.rounds;
+      over = ended_of_run reactor G answers commits out reported log bounds.places bounds.idle bounds.exchanges c s s'
+          b b' o o' e e' r.rounds;
       are_over = refl;
       event_loop = c;
       last = grows_still G c;
@@ -206,7 +215,8 @@ module _ {B L S O E V : Type 0} (reactor : ReactorGhosts B L) (G : LinkGhosts L)
   }
 
   -- a run that ends because no more are accepted
-  pub runs_shut : EachIsServed G → (last : Result (Unit {0}) NotKept) (bounds : Bounds) (exit : Exit) (c d : EventLoop L) (s t u : S) (b x y : B) (o p q : O)
+  pub runs_shut : EachIsServed G → (last : Result (Unit {0}) NotKept) (bounds : Bounds) (exit : Exit)
+      (c d : EventLoop L) (s t u : S) (b x y : B) (o p q : O)
       (e f g : E) (v v' : V) → Runs last bounds.places bounds.idle bounds.exchanges c s t b x o p e f v v' →
       IsShut reactor G c d t u x y p q f g → begun_of d.connections ≤ bounds.exchanges →
       ((over : List (Closed L)) → EndsAt reactor commits exit bounds.exchanges (length over) u b y) →
@@ -214,10 +224,10 @@ module _ {B L S O E V : Type 0} (reactor : ReactorGhosts B L) (G : LinkGhosts L)
   runs_shut law last bounds exit c d s t u b x y o p q e f g v v' before shut most ends =
       let r = runs_still last bounds.places bounds.idle bounds.exchanges c s t u b x o p q e f g v v' before shut.server
       shut.printed shut.logged in
-      let trace = frames_of_run reactor G answers commits out reported log bounds.places bounds.idle bounds.exchanges c s u b x o q e g
-      r.rounds in
-      let over = ended_of_run reactor G answers commits out reported log bounds.places bounds.idle bounds.exchanges c s u b x o q e g
-      r.rounds in
+      let trace = frames_of_run reactor G answers commits out reported log bounds.places bounds.idle bounds.exchanges
+      c s u b x o q e g r.rounds in
+      let over = ended_of_run reactor G answers commits out reported log bounds.places bounds.idle bounds.exchanges c
+      s u b x o q e g r.rounds in
       let received = shut.welcomes.links in
       let grows = grows_then G c shut.noticed d shut.notices.grows shut.grows in
       let now = more_so_far G answers out reported log trace [] over [] r.links received c d s u u o q q e g g r.so_far

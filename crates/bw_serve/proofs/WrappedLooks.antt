@@ -43,7 +43,8 @@ module _ {L S O E : Type 0} (G : LinkGhosts L) (answers : S → Frame → List R
   -- a server has answered the frames of these quanta, one after another
   turn_answers : (now idle n : ℕ) (c c' : EventLoop L) (s s' : S) (o o' : O) (e e' : E)
       (h : InTurn G answers out reported log now idle n c c' s s' o o' e e') →
-      AnswersAll answers s (all_answered (frames_in_turn G answers out reported log now idle n c c' s s' o o' e e' h)) s'
+      AnswersAll answers s (all_answered (frames_in_turn G answers out reported log now idle n c c' s s' o o' e e' h))
+      s'
   turn_answers now idle zero c c' s s' o o' e e' h = h.1
   turn_answers now idle (suc n) c c' s s' o o' e e' h =
       let before = frames_in_turn G answers out reported log now idle n c h.0 s h.1 o h.2 e h.3 h.4 in
@@ -59,13 +60,14 @@ module _ {L S O E : Type 0} (G : LinkGhosts L) (answers : S → Frame → List R
     rounds_answer : (idle exchanges n : ℕ) (c c' : EventLoop L) (s s' : S) (b b' : B) (o o' : O) (e e' : E)
         (h : ServesRounds reactor G answers commits out reported log idle exchanges n c c' s s' b b' o o' e e') →
         AnswersAll answers s
-        (all_answered (frames_in_rounds reactor G answers commits out reported log idle exchanges n c c' s s' b b' o o' e e' h)) s'
+        (all_answered (frames_in_rounds reactor G answers commits out reported log idle exchanges n c c' s s' b b' o
+        o' e e' h)) s'
     rounds_answer idle exchanges zero c c' s s' b b' o o' e e' h = h.1
     rounds_answer idle exchanges (suc n) c c' s s' b b' o o' e e' h =
-        let before = frames_in_rounds reactor G answers commits out reported log idle exchanges n c h.0 s h.1 b h.2 o h.3 e h.4
-        h.5 in
-        let more = frames_in_round reactor G answers commits out reported log idle exchanges h.0 c' h.1 s' h.2 b' h.3 o' h.4 e'
-        h.7 in
+        let before = frames_in_rounds reactor G answers commits out reported log idle exchanges n c h.0 s h.1 b h.2 o
+        h.3 e h.4 h.5 in
+        let more = frames_in_round reactor G answers commits out reported log idle exchanges h.0 c' h.1 s' h.2 b' h.3
+        o' h.4 e' h.7 in
         subst (λ (xs : List Answered). AnswersAll answers s xs s') (sym (all_more before more))
         (answers_append answers (all_answered before) (all_answered more) s h.1 s'
         (rounds_answer idle exchanges n c h.0 s h.1 b h.2 o h.3 e h.4 h.5)
@@ -83,8 +85,8 @@ module _ {L S O E : Type 0} (G : LinkGhosts L) (answers : S → Frame → List R
         (record {
           event_loop = c';
           server = s';
-          answered = all_answered (frames_in_rounds reactor G answers commits out reported log idle exchanges (suc n) c c' s s' b b' o
-              o' e e' h);
+          answered = all_answered (frames_in_rounds reactor G answers commits out reported log idle exchanges (suc n)
+              c c' s s' b b' o o' e e' h);
         }) (left_answers idle exchanges n c h.0 s h.1 b h.2 o h.3 e h.4 h.5)
         (rounds_answer idle exchanges (suc n) c c' s s' b b' o o' e e' h)
 
@@ -102,7 +104,8 @@ module _ {L S O E : Type 0} (G : LinkGhosts L) (answers : S → Frame → List R
 module _ {T S : Type 0} (inner : T → S) (outer : T → Frame → List Reply → T → Type 0)
     (answers : S → Frame → List Reply → S → Type 0)
     (passes : (t : T) (frame : Frame) (replies : List Reply) (t' : T) → outer t frame replies t' →
-    answers (inner t) frame replies (inner t')) (ends : T → Result (Unit {0}) NotKept → T → Type 0) (commits : S → Result (Unit {0}) NotKept → S → Type 0)
+    answers (inner t) frame replies (inner t')) (ends : T → Result (Unit {0}) NotKept → T → Type 0)
+    (commits : S → Result (Unit {0}) NotKept → S → Type 0)
     (passes_commits : (t : T) (r : Result (Unit {0}) NotKept) (t' : T) → ends t r t' → commits (inner t) r (inner t'))
     (makes : S → List Answered → T) where
   module _ {B L O E : Type 0} (reactor : ReactorGhosts B L) (G : LinkGhosts L) (out : Writer O) (reported : Writer E)
@@ -111,20 +114,22 @@ module _ {T S : Type 0} (inner : T → S) (outer : T → Frame → List Reply �
         (h : ServesRounds reactor G outer ends out reported log idle exchanges n c c' t t' b b' o o' e e') →
         ((xs : List Answered) (x : T) → AnswersAll outer t xs x → makes (inner x) xs ≡ x) →
         map (λ (left : RoundLeft L S). (left.event_loop, makes left.server left.answered))
-        (left_in_rounds reactor G answers commits out reported log idle exchanges n c c' (inner t) (inner t') b b' o o' e e'
-        (rounds_inner inner outer answers passes ends commits passes_commits G out reported log reactor idle exchanges n c c' t t' b b' o o' e e' h))
+        (left_in_rounds reactor G answers commits out reported log idle exchanges n c c' (inner t) (inner t') b b' o
+        o' e e' (rounds_inner inner outer answers passes ends commits passes_commits G out reported log reactor
+        idle exchanges n c c' t t' b b' o o' e e' h))
         ≡ states_in_rounds reactor G outer ends out reported log idle exchanges n c c' t t' b b' o o' e e' h
     states_made idle exchanges zero c c' t t' b b' o o' e e' h made = refl
     states_made idle exchanges (suc n) c c' t t' b b' o o' e e' h made =
-        let before = left_in_rounds reactor G answers commits out reported log idle exchanges n c h.0 (inner t) (inner h.1) b h.2 o
-        h.3 e h.4 (rounds_inner inner outer answers passes ends commits passes_commits G out reported log reactor idle exchanges n c h.0 t h.1 b h.2 o
-        h.3 e h.4 h.5) in
-        let within = frames_in_rounds reactor G answers commits out reported log idle exchanges (suc n) c c' (inner t) (inner t') b
-        b' o o' e e' (rounds_inner inner outer answers passes ends commits passes_commits G out reported log reactor idle exchanges (suc n) c c' t t' b
-        b' o o' e e' h) in
-        let frames = frames_in_rounds reactor G outer ends out reported log idle exchanges (suc n) c c' t t' b b' o o' e e' h in
-        let states = states_in_rounds reactor G outer ends out reported log idle exchanges n c h.0 t h.1 b h.2 o h.3 e h.4 h.5
-        in
+        let before = left_in_rounds reactor G answers commits out reported log idle exchanges n c h.0 (inner t)
+        (inner h.1) b h.2 o h.3 e h.4 (rounds_inner inner outer answers passes ends commits passes_commits G out
+        reported log reactor idle exchanges n c h.0 t h.1 b h.2 o h.3 e h.4 h.5) in
+        let within = frames_in_rounds reactor G answers commits out reported log idle exchanges (suc n) c c' (inner t)
+        (inner t') b b' o o' e e' (rounds_inner inner outer answers passes ends commits passes_commits G out
+        reported log reactor idle exchanges (suc n) c c' t t' b b' o o' e e' h) in
+        let frames = frames_in_rounds reactor G outer ends out reported log idle exchanges (suc n) c c' t t' b b' o o'
+        e e' h in
+        let states = states_in_rounds reactor G outer ends out reported log idle exchanges n c h.0 t h.1 b h.2 o h.3 e
+        h.4 h.5 in
         let last : T → List (EventLoop L × T) = λ x. (c', x) ∷ [] in
         map-append (λ (left : RoundLeft L S). (left.event_loop, makes left.server left.answered)) before
         (record { event_loop = c'; server = inner t'; answered = all_answered within } ∷ [])
@@ -132,25 +137,26 @@ module _ {T S : Type 0} (inner : T → S) (outer : T → Frame → List Reply �
         (states_made idle exchanges n c h.0 t h.1 b h.2 o h.3 e h.4 h.5 made)
         ∙ ap (λ (x : T). states ++ last x)
         (ap (λ (xs : List Tagged). makes (inner t') (all_answered xs))
-        (frames_rounds inner outer answers passes ends commits passes_commits G out reported log reactor idle exchanges (suc n) c c' t t' b b' o o' e e'
-        h)
-        ∙ made (all_answered frames) t' (rounds_answer G outer out reported log reactor ends idle exchanges (suc n) c c' t t' b
-        b' o o' e e' h))
+        (frames_rounds inner outer answers passes ends commits passes_commits G out reported log reactor idle
+        exchanges (suc n) c c' t t' b b' o o' e e' h)
+        ∙ made (all_answered frames) t' (rounds_answer G outer out reported log reactor ends idle exchanges (suc n) c
+        c' t t' b b' o o' e e' h))
 
     module _ {V : Type 0} (looks : V → T → RoundReport → V → Type 0) where
       -- a run of the wrapped server, and the looks after each of its rounds
       abbrev pub RunsSeen : Bounds → Exit → S → S → B → B → O → O → E → E → V → V → Type 0
       RunsSeen bounds exit s s' b b' o o' e e' v v' =
           (run : RunsEventLoop reactor G answers commits out reported log bounds exit s s' b b' o o' e e')
-          × LooksAfterEach looks makes (left_in_run reactor G answers commits out reported log bounds exit s s' b b' o o' e e' run)
-          v v'
+          × LooksAfterEach looks makes (left_in_run reactor G answers commits out reported log bounds exit s s' b b' o
+          o' e e' run) v v'
 
       looks_made : (bounds : Bounds) (exit : Exit) (t t' : T) (b b' : B) (o o' : O) (e e' : E) (v v' : V) →
           ((xs : List Answered) (x : T) → AnswersAll outer t xs x → makes (inner x) xs ≡ x) →
           (seen : HasObserved reactor G outer ends out reported log looks bounds exit t t' b b' o o' e e' v v') →
-          LooksAfterEach looks makes (left_in_rounds reactor G answers commits out reported log bounds.idle bounds.exchanges
-          seen.run.in_rounds.count seen.run.in_rounds.empty seen.run.following (inner t) (inner t') b
-          seen.run.reactor_after o o' e e' (rounds_inner inner outer answers passes ends commits passes_commits G out reported log reactor bounds.idle
+          LooksAfterEach looks makes (left_in_rounds reactor G answers commits out reported log bounds.idle
+          bounds.exchanges seen.run.in_rounds.count seen.run.in_rounds.empty seen.run.following (inner t) (inner t') b
+          seen.run.reactor_after o o' e e' (rounds_inner inner outer answers passes ends commits passes_commits G out
+          reported log reactor bounds.idle
           bounds.exchanges seen.run.in_rounds.count seen.run.in_rounds.empty seen.run.following t t' b
           seen.run.reactor_after o o' e e' seen.run.in_rounds.each)) v v'
       looks_made bounds exit t t' b b' o o' e e' v v' made seen =
@@ -167,6 +173,7 @@ module _ {T S : Type 0} (inner : T → S) (outer : T → Frame → List Reply �
       run_seen bounds Memory t t' b b' o o' e e' v v' made run same =
           ((ap inner run.0, run.1, run.2, run.3), same)
       run_seen bounds exit t t' b b' o o' e e' v v' made run seen = (
-        served_inner inner outer answers passes ends commits passes_commits G out reported log reactor bounds exit t t' b b' o o' e e' seen.run,
+        served_inner inner outer answers passes ends commits passes_commits G out reported log reactor bounds exit t
+            t' b b' o o' e e' seen.run,
         looks_made bounds exit t t' b b' o o' e e' v v' made seen,
       )

@@ -18,8 +18,9 @@ const RUNNING: &str = "another server runs here\n";
 /// What is reported if a file of the folder can't be read or written.
 const BROKEN: &str = "the server can't start: its folder can't be read or written\n";
 
-/// What is reported if no more peers are accepted.
-const GONE: &str = "the server can't go on: its folder is gone, or nothing can be waited for\n";
+/// What is reported if no more peers are accepted, or a sync failed.
+const GONE: &str =
+    "the server can't go on: a sync failed, its folder is gone, or nothing can be waited for\n";
 
 /// Reports why no server was started over a folder.
 ///
@@ -77,8 +78,8 @@ pub fn report_unbound<E: Sink>(
 
 /// Reports why a run ended, if it didn't end after its last exchange.
 ///
-/// Nothing is reported for `Done`; `out of memory` for `Memory`; otherwise the folder is gone, or
-/// waiting is impossible, and the result is `Device`.
+/// Nothing is reported for `Done`; `out of memory` for `Memory`; otherwise a sync failed, the folder
+/// is gone, or waiting is impossible, and the result is `Device`.
 pub fn report_end<E: Sink>(exit: Exit, faults: &mut E) -> Exit
     ensures { ReportsExit E.Sink exit result faults.old faults.new }
 {
