@@ -1,4 +1,5 @@
 pub mod KeptOpenings
 pub mod OpensHere
+pub mod PutOffs
 pub mod SeenMachine
 pub mod SyncedFolders

@@ -1,9 +1,12 @@
 //! A server that says which names it leaves out.
 ghost use Rattle.std.specs.Prelude.{◌≡◌, List};
+ghost use Rattle.std.specs.List.{list_any};
 ghost use Rattle.bw_kept.specs.KeptServers.{table_server};
 ghost use Rattle.bw_model.specs.Wire.{Frame};
 ghost use Rattle.bw_model.specs.Replies.{Reply as ModelReply};
+ghost use Rattle.bw_wire.specs.Replies.{reply_of};
 ghost use Rattle.bw_machine.specs.OpensHere.{server_in};
+ghost use Rattle.bw_machine.specs.PutOffs.{puts_off};
 
 use arrayvec::ArrayVec;
 use bw_disk::Volume;
@@ -14,7 +17,7 @@ use bw_net::NotedFiles;
 use bw_recovery::{NameFault, cause_of};
 use bw_request::Name;
 use bw_session::{HasTable, Server};
-use bw_wire::{Ask, Message, Reply};
+use bw_wire::{Ask, Message, Notice, Reply};
 use std::alloc::AllocError;
 
 /// After how many names that were left out the rest waits for the next frame.
@@ -33,6 +36,12 @@ pub trait LeavesOut: Turns {
             Self.Turns.answers before frame replies self.new }
         ensures committed { Self.Turns.committed self.old → Self.Turns.committed self.new };
 
+    /// The name of which a sync failed, if one has.
+    ///
+    /// # Not specified
+    /// Anything beyond what each implementation says of itself.
+    fn failed_sync(&self) -> Option<Name>;
+
     /// The folder of its names.
     ///
     /// # Not specified
@@ -45,13 +54,18 @@ impl<D: Volume, E: Volume> LeavesOut for KeptServer<FolderStore<D>, FolderJourna
         KeptServer::take_left_out(self)
     }
 
+    fn failed_sync(&self) -> Option<Name> {
+        self.server().journal().failed_sync()
+    }
+
     fn folder(&self) -> &str {
         self.server().store().folder()
     }
 }
 
 /// A server that answers as the one in it. When something is found to be wrong with a name, that is a
-/// line on standard error: `DIR/NAME.journal: CAUSE, left out`.
+/// line on standard error, `DIR/NAME.journal: CAUSE, left out`, and operators see it until a frame of the
+/// name isn't put off. Another line names the take of which a sync failed.
 ///
 /// # Not specified
 /// What is said, and when.
@@ -86,6 +100,38 @@ impl<T: LeavesOut> ReportingServer<'_, T> {
             let _ = note_name(self.files, self.server.folder(), &name, &fault);
         }
     }
+
+    /// Reports of which name a sync failed.
+    fn report_sync(&self) {
+        if let Some(name) = self.server.failed_sync() {
+            let _ = note_sync(self.files, self.server.folder(), &name);
+        }
+    }
+}
+
+/// Says that a name is served.
+fn note_served(files: NotedFiles<'_>, name: &Name) {
+    if let Ok(name) = std::str::from_utf8(name.as_bytes()) {
+        files.note_served(name);
+    }
+}
+
+/// Whether one of these replies puts its frame off.
+fn are_put_off(replies: &[Reply]) -> bool
+    ensures { result ≡ list_any (λ r. puts_off (reply_of r)) replies.now }
+{
+    replies.iter().any(|reply| puts_off(reply))
+}
+
+/// Whether a reply puts its frame off: nothing is done of its name, and nothing can be now.
+fn puts_off(reply: &Reply) -> bool
+    ensures { result ≡ puts_off (reply_of reply.now) }
+{
+    match reply {
+        Reply::Verdict { .. } => false,
+        Reply::Notice { code, next, .. } => *code == Notice::DelayedStore && *next == 0,
+        Reply::BadFrame { .. } => false,
+    }
 }
 
 /// Says why a name of a folder is left out.
@@ -101,8 +147,19 @@ fn note_name(
     let alloc = files.alloc();
     let cause = cause_of(alloc, fault)?;
     if let Ok(name) = std::str::from_utf8(name.as_bytes()) {
-        let path = format!(in alloc; "{folder}/{name}.journal")?;
-        files.note_left_out(path.as_str(), cause.as_str());
+        files.note_left_out(folder, name, cause.as_str());
+    }
+    Ok(())
+}
+
+/// Says of which name of a folder a sync failed.
+///
+/// # Errors
+/// `AllocError` if memory was refused.
+fn note_sync(files: NotedFiles<'_>, folder: &str, name: &Name) -> Result<(), AllocError> {
+    if let Ok(name) = std::str::from_utf8(name.as_bytes()) {
+        let path = format!(in files.alloc(); "{folder}/{name}.wav")?;
+        files.note_failed_sync(path.as_str());
     }
     Ok(())
 }
@@ -132,16 +189,26 @@ impl<T: LeavesOut> Turns for ReportingServer<'_, T> {
 
     fn turn(&mut self, message: &Message<'_>, replies: &mut ArrayVec<Reply, 17>) {
         self.server.turn(message, replies);
+        if !are_put_off(replies.as_slice()) {
+            note_served(self.files, &message.name());
+        }
         self.report();
     }
 
     fn ask(&mut self, ask: &Ask<'_>) -> Reply {
         let reply = self.server.ask(ask);
+        if !puts_off(&reply) {
+            note_served(self.files, &ask.name());
+        }
         self.report();
         reply
     }
 
     fn commit(&mut self) -> Result<(), NotKept> {
-        self.server.commit()
+        let kept = self.server.commit();
+        if let Err(NotKept::SyncFault) = kept {
+            self.report_sync();
+        }
+        kept
     }
 }

@@ -11,6 +11,7 @@ mod followed;
 mod host;
 mod input;
 mod kinds;
+mod left_out;
 mod lines;
 mod link_stream;
 mod lock;

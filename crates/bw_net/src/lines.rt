@@ -4,6 +4,8 @@ ghost use Rattle.bw_net.specs.SeenLinks.{is_short_of_handles, left_out_text};
 
 use crate::counting::counted;
 use crate::faults::{FaultNotes, fault_line, is_fault};
+use crate::left_out::LeftOutNotes;
+use bw_status::LeftOutName;
 use bw_stream::{IoFailed, Sink, StdIo, write_all};
 use mio::unix::SourceFd;
 use mio::{Events, Interest, Poll, Token};
@@ -15,6 +17,11 @@ use std::time::Duration;
 
 /// The descriptor of standard error.
 const FAULTS: RawFd = 2;
+
+/// What is said of a take of which a sync failed: the system may have dropped what it had of it, and
+/// a new process reads what the system has.
+const FAILED_SYNC: &str =
+    "a sync of it or its journal failed; mount its file system anew, or restart the machine";
 
 /// The most bytes of a write: a pipe that is reported ready has room for as many.
 const PIECE: usize = 4_096;
@@ -52,6 +59,10 @@ pub struct LineCell {
     room: RefCell<Option<Room>>,
     /// Which calls of the server's store failed.
     faults: FaultNotes,
+    /// Which names the server leaves out.
+    names: LeftOutNotes,
+    /// Whether the last call of its store to begin a take failed.
+    fails_to_begin: Cell<bool>,
 }
 
 impl LineCell {
@@ -63,6 +74,8 @@ impl LineCell {
             is_told: Cell::new(false),
             room: RefCell::new(None),
             faults: FaultNotes::new(),
+            names: LeftOutNotes::new(),
+            fails_to_begin: Cell::new(false),
         }
     }
 
@@ -112,19 +125,77 @@ impl LineCell {
         }
     }
 
-    /// Says on standard error why the name whose journal is at a path is left out. If the line can't be
-    /// written at once, it is left out and counted.
+    /// Says on standard error why a name of a folder is left out, and keeps it for operators. If the line
+    /// can't be written at once, it is left out and counted.
     ///
     /// # Not specified
     /// Anything: it has no contract.
-    pub(crate) fn note_fault_of_name(&self, rt: &HostRuntime, path: &str, cause: &str) {
+    pub(crate) fn note_fault_of_name(
+        &self,
+        rt: &HostRuntime,
+        folder: &str,
+        name: &str,
+        cause: &str,
+    ) {
+        self.names.note(rt.alloc(), name, cause);
         if !self.has_room(FAULTS) {
             self.leave_out();
             return;
         }
-        if let Ok(line) = format!(in rt.alloc(); "{path}: {cause}, left out\n") {
+        let line = format!(in rt.alloc(); "{folder}/{name}.journal: {cause}, left out\n");
+        if let Ok(line) = line {
             let _ = write_all(&mut StdIo::new(rt.stderr()), line.as_bytes());
         }
+    }
+
+    /// Says on standard error that a sync failed of the take's file at a path, or of its journal. If
+    /// the line can't be written at once, it is left out and counted.
+    ///
+    /// # Not specified
+    /// Anything: it has no contract.
+    pub(crate) fn note_failed_sync(&self, rt: &HostRuntime, path: &str) {
+        if !self.has_room(FAULTS) {
+            self.leave_out();
+            return;
+        }
+        if let Ok(line) = format!(in rt.alloc(); "{path}: {FAILED_SYNC}\n") {
+            let _ = write_all(&mut StdIo::new(rt.stderr()), line.as_bytes());
+        }
+    }
+
+    /// A call to begin a take succeeded, or failed.
+    ///
+    /// # Not specified
+    /// Anything: it has no contract.
+    pub(crate) fn note_beginning(&self, fails: bool) {
+        self.fails_to_begin.set(fails);
+    }
+
+    /// Whether the last call to begin a take succeeded; true before the first.
+    ///
+    /// # Not specified
+    /// Whether it did.
+    pub(crate) fn begins(&self) -> bool {
+        !self.fails_to_begin.get()
+    }
+
+    /// A name is served.
+    ///
+    /// # Not specified
+    /// Anything: it has no contract.
+    pub(crate) fn note_served(&self, name: &str) {
+        self.names.forget(name);
+    }
+
+    /// The names that are left out.
+    ///
+    /// # Errors
+    /// `AllocError` if memory was refused.
+    ///
+    /// # Not specified
+    /// Which names these are, and when memory is refused.
+    pub(crate) fn names_left_out(&self, alloc: Global) -> Result<Vec<LeftOutName>, AllocError> {
+        self.names.list(alloc)
     }
 
     /// How many lines were left out.

@@ -23,19 +23,34 @@ pub(crate) fn connect<'a>(
     timeout: Option<Duration>,
 ) -> io::Result<(LinkStream<'a>, LinkStream<'a>)> {
     if spool.is_open() {
-        let stream = SpoolStream::connect(rt, spool, address, timeout)?;
-        let (one, other) = stream.into_two()?;
-        return Ok((LinkStream::Spooled(one), LinkStream::Spooled(other)));
+        return connect_spooled(rt, spool, address, timeout);
     }
     let stream = match timeout {
         Some(most) => TcpStream::connect_timeout(rt, &address, most)?,
         None => TcpStream::connect(rt, address)?,
     };
-    stream.set_nodelay(true)?;
-    stream.set_read_timeout(timeout)?;
-    stream.set_write_timeout(timeout)?;
+    limit_waits(&stream, timeout)?;
     let other = stream.try_clone()?;
     Ok((LinkStream::Plain(stream), LinkStream::Plain(other)))
+}
+
+/// The same, where the spool is filled meanwhile.
+fn connect_spooled<'a>(
+    rt: &'a HostRuntime,
+    spool: &'a SpoolCell,
+    address: SocketAddr,
+    timeout: Option<Duration>,
+) -> io::Result<(LinkStream<'a>, LinkStream<'a>)> {
+    let stream = SpoolStream::connect(rt, spool, address, timeout)?;
+    let (one, other) = stream.into_two()?;
+    Ok((LinkStream::Spooled(one), LinkStream::Spooled(other)))
+}
+
+/// Has each call of a stream wait no longer than `timeout`, and a batch's last bytes be sent at once.
+fn limit_waits(stream: &TcpStream, timeout: Option<Duration>) -> io::Result<()> {
+    stream.set_nodelay(true)?;
+    stream.set_read_timeout(timeout)?;
+    stream.set_write_timeout(timeout)
 }
 
 impl Read for LinkStream<'_> {

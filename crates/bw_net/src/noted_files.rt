@@ -3,8 +3,9 @@ ghost use Rattle.std.specs.Prelude.{◌≡◌};
 
 use crate::lines::LineCell;
 use std::alloc::{Allocator, Global};
+use std::cell::Cell;
 use std::fs::{Files, Metadata, OpenFile, OpenOptions};
-use std::io::{self, Read, Seek, SeekFrom, Write};
+use std::io::{self, ErrorKind, Read, Seek, SeekFrom, Write};
 
 /// What a file is called whose path there was no memory for.
 const SOME_FILE: &str = "a file";
@@ -26,13 +27,29 @@ impl<'a> NotedFiles<'a> {
         NotedFiles { rt, lines }
     }
 
-    /// Says on standard error why the name whose journal is at a path is left out: `PATH: CAUSE, left
-    /// out`.
+    /// Says on standard error why a name of a folder is left out: `FOLDER/NAME.journal: CAUSE, left out`.
+    /// Operators see it until it is served.
     ///
     /// # Not specified
     /// Anything: it has no contract.
-    pub fn note_left_out(&self, path: &str, cause: &str) {
-        self.lines.note_fault_of_name(self.rt, path, cause);
+    pub fn note_left_out(&self, folder: &str, name: &str, cause: &str) {
+        self.lines.note_fault_of_name(self.rt, folder, name, cause);
+    }
+
+    /// A name is served: it isn't left out.
+    ///
+    /// # Not specified
+    /// Anything: it has no contract.
+    pub fn note_served(&self, name: &str) {
+        self.lines.note_served(name);
+    }
+
+    /// Says on standard error that a sync failed of the take's file at a path, or of its journal.
+    ///
+    /// # Not specified
+    /// Anything: it has no contract.
+    pub fn note_failed_sync(&self, path: &str) {
+        self.lines.note_failed_sync(self.rt, path);
     }
 
     /// What a call for a path gave. If it failed, that is noted.
@@ -45,14 +62,33 @@ impl<'a> NotedFiles<'a> {
         given
     }
 
-    /// What was opened at a path, whose failed calls are noted too.
-    fn opened<F>(&self, path: &str, given: io::Result<F>) -> io::Result<NotedFile<'a, F>> {
+    /// What was opened at a path, whose failed calls are noted too; a take begins with it if it is new.
+    fn opened<F>(
+        &self,
+        path: &str,
+        is_new: bool,
+        given: io::Result<F>,
+    ) -> io::Result<NotedFile<'a, F>> {
+        if is_new {
+            self.note_creation(&given);
+        }
         let inner = self.noted(path, given)?;
         Ok(NotedFile {
             inner,
             path: String::from_str(self.rt.alloc(), path).ok(),
             files: *self,
+            unwritten: Cell::new(is_new),
+            unsynced: Cell::new(is_new),
         })
+    }
+
+    /// Notes that a file of a take can't be made, unless there is one.
+    fn note_creation<F>(&self, given: &io::Result<F>) {
+        if let Err(error) = given {
+            if error.kind() != ErrorKind::AlreadyExists {
+                self.lines.note_beginning(true);
+            }
+        }
     }
 }
 
@@ -70,11 +106,11 @@ impl<'a> Files for NotedFiles<'a> {
     type Dir = NotedFile<'a, <HostRuntime as Files>::Dir>;
 
     fn open_file(&self, how: &OpenOptions, path: &str) -> io::Result<Self::File> {
-        self.opened(path, self.rt.open_file(how, path))
+        self.opened(path, how.asks_create_new(), self.rt.open_file(how, path))
     }
 
     fn open_dir(&self, path: &str) -> io::Result<Self::Dir> {
-        self.opened(path, self.rt.open_dir(path))
+        self.opened(path, false, self.rt.open_dir(path))
     }
 
     fn metadata(&self, path: &str) -> io::Result<Metadata> {
@@ -118,6 +154,10 @@ pub struct NotedFile<'a, F> {
     /// None if memory was refused for it.
     path: Option<String>,
     files: NotedFiles<'a>,
+    /// Whether it was made and nothing is written yet.
+    unwritten: Cell<bool>,
+    /// Whether it was made and not synced yet.
+    unsynced: Cell<bool>,
 }
 
 impl<F> NotedFile<'_, F> {
@@ -130,6 +170,21 @@ impl<F> NotedFile<'_, F> {
             None => SOME_FILE,
         };
         self.files.noted(path, given)
+    }
+
+    /// Notes whether a take begins: by the first write of a new file, and by its first sync.
+    fn note_first<T>(&self, is_first: &Cell<bool>, given: &io::Result<T>) {
+        if !is_first.get() {
+            return;
+        }
+        match given {
+            Ok(_) => {
+                is_first.set(false);
+                self.files.lines.note_beginning(false);
+            }
+            Err(error) if error.kind() == ErrorKind::Interrupted => {}
+            Err(_) => self.files.lines.note_beginning(true),
+        }
     }
 }
 
@@ -147,6 +202,7 @@ impl<F: Write> Write for NotedFile<'_, F> {
 
     fn write(&mut self, buf: &[u8]) -> io::Result<usize> {
         let given = self.inner.write(buf);
+        self.note_first(&self.unwritten, &given);
         self.noted(given)
     }
 
@@ -177,7 +233,9 @@ impl<F: OpenFile> OpenFile for NotedFile<'_, F> {
     }
 
     fn sync_all(&self) -> io::Result<()> {
-        self.noted(self.inner.sync_all())
+        let given = self.inner.sync_all();
+        self.note_first(&self.unsynced, &given);
+        self.noted(given)
     }
 
     fn sync_data(&self) -> io::Result<()> {

@@ -76,10 +76,7 @@ impl<'a> TcpReactor<'a> {
             return Err(io::Error::from(ErrorKind::OutOfMemory));
         };
         let events = Events::with_capacity(rt.alloc(), room)?;
-        let poll = Poll::new(rt)?;
-        let mut listener = TcpListener::bind(rt, address)?;
-        poll.registry()
-            .register(&mut listener, LISTENER, Interest::READABLE)?;
+        let (poll, listener) = listening(rt, address)?;
         Ok(TcpReactor {
             rt,
             lines,
@@ -96,6 +93,15 @@ impl<'a> TcpReactor<'a> {
             waits: 0,
         })
     }
+}
+
+/// A listener at an address, and what reports those who connect to it.
+fn listening(rt: &HostRuntime, address: SocketAddr) -> io::Result<(Poll, TcpListener)> {
+    let poll = Poll::new(rt)?;
+    let mut listener = TcpListener::bind(rt, address)?;
+    poll.registry()
+        .register(&mut listener, LISTENER, Interest::READABLE)?;
+    Ok((poll, listener))
 }
 
 impl Reactor for TcpReactor<'_> {

@@ -142,6 +142,12 @@ impl SpoolCell {
     }
 }
 
+/// Standard input, and the file at a path that it is appended to.
+fn input_spool(rt: &HostRuntime, path: &str) -> io::Result<Spool<InputLink, SpoolFile<File>>> {
+    let spool = Spool::new(rt.alloc(), InputLink::new(rt)?, SpoolFile::open(rt, path)?)?;
+    Ok(spool)
+}
+
 /// A spool, and what its waits look at.
 #[derive(Drop)]
 struct Spooling {
@@ -159,7 +165,7 @@ impl Spooling {
     fn new(rt: &HostRuntime, path: &str) -> io::Result<Spooling> {
         let poll = Poll::new(rt)?;
         let is_told = watch_input(&poll)?;
-        let spool = Spool::new(rt.alloc(), InputLink::new(rt)?, SpoolFile::open(rt, path)?)?;
+        let spool = input_spool(rt, path)?;
         Ok(Spooling {
             spool,
             poll,

@@ -32,15 +32,7 @@ impl<'a> SpoolStream<'a> {
     ) -> io::Result<SpoolStream<'a>> {
         let most = timeout.unwrap_or(Duration::from_secs(FOR_GOOD));
         let mut stream = TcpStream::connect(rt, address)?;
-        spool.watch_link(&mut stream)?;
-        if !spool.wait(rt, most, true)? {
-            return Err(io::Error::from(ErrorKind::TimedOut));
-        }
-        if let Some(error) = stream.take_error()? {
-            return Err(error);
-        }
-        let _peer = stream.peer_addr()?;
-        stream.set_nodelay(true)?;
+        finish_connecting(rt, spool, &mut stream, most)?;
         Ok(SpoolStream {
             rt,
             spool,
@@ -81,6 +73,24 @@ impl<'a> SpoolStream<'a> {
         }
         Err(io::Error::from(ErrorKind::TimedOut))
     }
+}
+
+/// Waits until a stream is connected, and has a batch's last bytes be sent at once.
+fn finish_connecting(
+    rt: &HostRuntime,
+    spool: &SpoolCell,
+    stream: &mut TcpStream,
+    most: Duration,
+) -> io::Result<()> {
+    spool.watch_link(stream)?;
+    if !spool.wait(rt, most, true)? {
+        return Err(io::Error::from(ErrorKind::TimedOut));
+    }
+    if let Some(error) = stream.take_error()? {
+        return Err(error);
+    }
+    let _peer = stream.peer_addr()?;
+    stream.set_nodelay(true)
 }
 
 impl Read for SpoolStream<'_> {

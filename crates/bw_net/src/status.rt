@@ -6,8 +6,10 @@ use crate::lines::LineCell;
 use crate::reactor::{STATUS, TcpReactor};
 use crate::socket::Socket;
 use bw_operators::StatusPort;
+use bw_status::LeftOutName;
 use mio::net::{TcpListener, TcpStream};
 use mio::{Interest, Registry, Waker};
+use std::alloc::{AllocError, Global};
 use std::net::SocketAddr;
 use std::time::{Instant, SystemTime, UNIX_EPOCH};
 use std::{fs, io};
@@ -100,6 +102,10 @@ impl StatusPort for TcpStatusPort<'_> {
 
     ghost used = { λ _ _. ⊤ };
 
+    ghost omitted = { λ _ _. ⊤ };
+
+    ghost beginning = { λ _ _. ⊤ };
+
     fn accept(&mut self) -> Option<Socket> {
         match self.listener.accept() {
             Ok((stream, _address)) => self.link_over(stream).ok(),
@@ -129,8 +135,16 @@ impl StatusPort for TcpStatusPort<'_> {
         has_folder(self.rt, self.folder.as_str())
     }
 
+    fn begins(&mut self) -> bool {
+        self.lines.begins()
+    }
+
     fn lines_dropped(&mut self) -> u64 {
         self.lines.left_out()
+    }
+
+    fn left_out(&mut self, alloc: Global) -> Result<Vec<LeftOutName>, AllocError> {
+        self.lines.names_left_out(alloc)
     }
 
     fn memory(&mut self) -> Option<u64> {

@@ -1,10 +1,13 @@
 //! What the status of a server asks of the system.
-ghost use Rattle.std.specs.Prelude.{◌≡◌, ℕ, Bool, List, Option, Result, IfSome, []};
+ghost use Rattle.std.specs.Prelude.{◌≡◌, ℕ, Bool, List, Option, Result, IfOk, IfSome, []};
 ghost use Rattle.std.specs.declared.io.Error.{Error as IoError};
 ghost use Rattle.std.specs.declared.net.socket_addr.SocketAddr.{SocketAddr};
+ghost use Rattle.bw_status.specs.declared.snapshot.LeftOutName.{LeftOutName as NameLeftOut};
 ghost use Rattle.bw_stream.specs.Moves.{failures_after};
 
 use bw_ports::Link;
+use bw_status::LeftOutName;
+use std::alloc::{AllocError, Global};
 use std::io;
 use std::net::SocketAddr;
 
@@ -23,11 +26,17 @@ pub trait StatusPort {
     /// This may have been reported: whether the server's folder can be used.
     ghost usable: { Self → Bool → Type 0 };
 
+    /// This may have been reported: whether takes can begin in the store and its journal.
+    ghost beginning: { Self → Bool → Type 0 };
+
     /// This may have been reported: how many lines were left out.
     ghost dropped: { Self → ℕ → Type 0 };
 
     /// This may have been reported: how many bytes of memory the process uses, if that is known.
     ghost used: { Self → Option ℕ → Type 0 };
+
+    /// This may have been reported: which names are left out.
+    ghost omitted: { Self → List NameLeftOut → Type 0 };
 
     /// The next operator who waits to be accepted, if there is one.
     ///
@@ -68,12 +77,33 @@ pub trait StatusPort {
         ensures time { time self.new ≡ time self.old }
         ensures started { started self.new ≡ started self.old };
 
+    /// Whether the last call of the store or its journal to begin a take succeeded; true before the first.
+    ///
+    /// # Not specified
+    /// Whether it did.
+    fn begins(&mut self) -> bool
+        ensures beginning { beginning self.new result }
+        ensures time { time self.new ≡ time self.old }
+        ensures started { started self.new ≡ started self.old };
+
     /// How many lines of the server were left out, since they couldn't be written at once.
     ///
     /// # Not specified
     /// How many these are.
     fn lines_dropped(&mut self) -> u64
         ensures dropped { dropped self.new result }
+        ensures time { time self.new ≡ time self.old }
+        ensures started { started self.new ≡ started self.old };
+
+    /// The names that the server leaves out, in the order in which they were found.
+    ///
+    /// # Errors
+    /// `AllocError` if memory was refused.
+    ///
+    /// # Not specified
+    /// Which names these are, and when memory is refused.
+    fn left_out(&mut self, alloc: Global) -> Result<Vec<LeftOutName>, AllocError>
+        ensures omitted { IfOk result (λ names. omitted self.new names.items) }
         ensures time { time self.new ≡ time self.old }
         ensures started { started self.new ≡ started self.old };
 

@@ -14,13 +14,13 @@ use Rattle.bw_serve_status.specs.Looks.{Accepts, Moment, RespondsToOne, ShowsOrC
 use Rattle.bw_serve_status.specs.declared.growth.Growth.{Growth}
 use Rattle.bw_serve_status.specs.declared.tallied.Tallied.{Tallied}
 
-abbrev pub moment_with : ℕ → ℕ → ℕ → List Growth → Moment
+abbrev pub moment_with : ℕ → ℕ → Option ℕ → List Growth → Moment
 moment_with now since resumed growth =
     record { now = now; since = since; resumed = resumed; growth = growth }
 
 -- the port reported the same time and the same start
-pub same_moment : (now now' since since' resumed : ℕ) (growth : List Growth) → now' ≡ now → since' ≡ since →
-    moment_with now' since' resumed growth ≡ moment_with now since resumed growth
+pub same_moment : (now now' since since' : ℕ) (resumed : Option ℕ) (growth : List Growth) → now' ≡ now →
+    since' ≡ since → moment_with now' since' resumed growth ≡ moment_with now since resumed growth
 same_moment now now' since since' resumed growth e f = rw (e, f) refl
 
 -- one more operator is accepted

@@ -24,11 +24,11 @@ abbrev pub Accepts : {L : Type 0} → ℕ → Operators L → Operators L → Ty
 Accepts now o o' = (count : ℕ) × LetsOperatorIn now count o o'
 
 -- what an observer responds by: the time that its port reported last, when it was started, how many
--- takes were resumed then, and when each name grew last
+-- takes were resumed then, if there are journals, and when each name grew last
 pub record Moment : Type 0 where
   pub now : ℕ
   pub since : ℕ
-  pub resumed : ℕ
+  pub resumed : Option ℕ
   pub growth : List Growth
 
 -- an observer's
@@ -48,6 +48,7 @@ pub record Surrounds {P L : Type 0} (port : PortGhosts P L) (m : Moment) (around
   pub resumed : around.resumed ≡ m.resumed
   pub growth : around.growth.now ≡ m.growth
   pub has_folder : (p : P) × port.usable p around.has_folder
+  pub begins : (p : P) × port.beginning p around.begins
   pub memory : (p : P) × port.used p around.memory
   pub lines_dropped : (p : P) × port.dropped p around.lines_dropped
 
@@ -70,6 +71,7 @@ module _ {T : Type 0} (holds : T → (List ℕ → Option (List ℕ)) → Book �
       pub surrounds : Surrounds port m around
       pub snapshot : Snapshot
       pub shows : ShowsServer server round around snapshot
+      pub left_out : (p : P) × port.omitted p snapshot.left_out.items
       pub is : text ≡ response_text answer snapshot
 
     -- the connection at a place is sent such a response; or it is closed, where memory was refused

@@ -19,16 +19,15 @@ uncounted at name = record {
   stored = 0;
   refused = 0;
   delayed = 0;
-  is_delayed = false;
   first = at;
   last = at;
 }
 
 -- the counts of a name after one change more, which is this one of all
 abbrev pub change_of : Change → ℕ → NameTally → NameTally
-change_of Stored at t = record t { stored = up_to_last (t.stored + 1); is_delayed = false; last = at }
-change_of Refused at t = record t { refused = up_to_last (t.refused + 1); is_delayed = false; last = at }
-change_of Delayed at t = record t { delayed = up_to_last (t.delayed + 1); is_delayed = true; last = at }
+change_of Stored at t = record t { stored = up_to_last (t.stored + 1); last = at }
+change_of Refused at t = record t { refused = up_to_last (t.refused + 1); last = at }
+change_of Delayed at t = record t { delayed = up_to_last (t.delayed + 1); last = at }
 
 -- the counts of another name
 abbrev pub is_other : List ℕ → NameTally → Bool

@@ -1,5 +1,5 @@
 -- What operators are shown in a run: its server, as each of its rounds left it.
-use Rattle.std.specs.Prelude.{◌≡◌, ◌<◌, ℕ, Option, List, unwrap_or}
+use Rattle.std.specs.Prelude.{◌≡◌, ◌<◌, ℕ, Option, List}
 use Rattle.std.specs.List.{AllByRecursion}
 use Rattle.bw_model.specs.Book.{Book}
 use Rattle.bw_model.specs.Wire.{Frame}
@@ -26,7 +26,7 @@ pub record BeginsToShow {P K : Type 0} (opened : P) (takes : Option ℕ) (observ
   pub port : observer.port ≡ opened
   pub places : place_count observer.operators ≡ 32
   pub free : (place : ℕ) → place < 32 → IsFreeAt observer.operators place
-  pub resumed : observer.resumed ≡ unwrap_or takes 0
+  pub resumed : observer.resumed ≡ takes
   pub growth : observer.growth.items ≡ no_growth
 
 module _ {T : Type 0} (answers : T → Frame → List Reply → T → Type 0)

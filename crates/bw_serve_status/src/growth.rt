@@ -8,7 +8,7 @@ use bw_request::Name;
 /// When a name grew last.
 #[derive(Clone, Copy, Drop)]
 pub(crate) struct Growth {
-    /// At which change it was counted first, which tells whether it is still the same name.
+    /// At which change it was counted first, by which the same name is known.
     pub(crate) first: u64,
     /// How many of its messages were stored then.
     pub(crate) stored: u64,

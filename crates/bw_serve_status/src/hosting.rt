@@ -100,7 +100,7 @@ fn begin_to_show<T: Drop, P: StatusPort + Drop>(
     ensures tallies { IfOk result (λ begun. (metered_server begun.0).tallies ≡ none_tallied) }
     ensures shows { IfOk result (λ begun. BeginsToShow port takes begun.1) }
 {
-    let observer = StatusObserver::new(alloc, port, takes.unwrap_or(0))?;
+    let observer = StatusObserver::new(alloc, port, takes)?;
     match Tallied::new(alloc, server) {
         Ok(server) => Ok((Metered::new(server), observer)),
         Err((error, _server)) => Err(error),

@@ -21,9 +21,6 @@ pub(crate) struct NameTally {
     pub(crate) refused: u64,
     /// Notices that the store failed.
     pub(crate) delayed: u64,
-    /// Whether such a notice is the last reply that was counted of the name: others than these
-    /// notices and verdicts aren't.
-    pub(crate) is_delayed: bool,
     /// At which of all changes of names it was counted first; the number stays at 2^64 - 1.
     pub(crate) first: u64,
     /// At which it was counted last.
@@ -51,7 +48,6 @@ impl NameTally {
             stored: 0,
             refused: 0,
             delayed: 0,
-            is_delayed: false,
             first: at,
             last: at,
         }
@@ -65,15 +61,12 @@ impl NameTally {
         match change {
             Change::Stored => {
                 self.stored = self.stored.saturating_add(1);
-                self.is_delayed = false;
             }
             Change::Refused => {
                 self.refused = self.refused.saturating_add(1);
-                self.is_delayed = false;
             }
             Change::Delayed => {
                 self.delayed = self.delayed.saturating_add(1);
-                self.is_delayed = true;
             }
         }
     }

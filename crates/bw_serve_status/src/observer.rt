@@ -19,8 +19,8 @@ pub(crate) struct StatusObserver<P: StatusPort> {
     operators: Operators<P::Link>,
     /// When each name grew last, at the place of its counts.
     growth: Vec<Growth>,
-    /// How many takes the server resumed.
-    resumed: u64,
+    /// How many takes the server resumed; None without journals.
+    resumed: Option<u64>,
 }
 
 impl<P: StatusPort + Drop> StatusObserver<P> {
@@ -34,7 +34,11 @@ impl<P: StatusPort + Drop> StatusObserver<P> {
     ///
     /// # Errors
     /// `AllocError` if memory was refused.
-    pub(crate) fn new(alloc: Global, port: P, resumed: u64) -> Result<StatusObserver<P>, AllocError>
+    pub(crate) fn new(
+        alloc: Global,
+        port: P,
+        resumed: Option<u64>,
+    ) -> Result<StatusObserver<P>, AllocError>
         ensures connections { IfOk result (λ o. AreConnections P.Link.Link o.operators) }
         ensures port { IfOk result (λ o. o.port ≡ port) }
         ensures resumed { IfOk result (λ o. o.resumed ≡ resumed) }
@@ -140,6 +144,7 @@ impl<P: StatusPort + Drop> StatusObserver<P> {
         ensures shows { IfOk result (λ bytes. ShowsIn T.holds P.StatusPort server.now
             round.now (moment_of P.StatusPort self.new) answer bytes.items) }
     {
+        let left_out = self.port.left_out(self.alloc)?;
         let around = Surroundings {
             now,
             since: self.port.since(),
@@ -147,9 +152,10 @@ impl<P: StatusPort + Drop> StatusObserver<P> {
             memory: self.port.memory(),
             lines_dropped: self.port.lines_dropped(),
             has_folder: self.port.has_folder(),
+            begins: self.port.begins(),
             growth: self.growth.as_slice(),
         };
-        let snapshot = snapshot_of(self.alloc, server, round, around)?;
+        let snapshot = snapshot_of(self.alloc, server, round, around, left_out)?;
         response(self.alloc, answer, &snapshot)
     }
 

@@ -3,16 +3,16 @@ ghost use Rattle.std.specs.Prelude.{◌≡◌, ℕ, List, Option, IfOk, is_some}
 ghost use Rattle.bw_serve_status.specs.Takes.{ShowsTakes};
 ghost use Rattle.std.specs.List.{list_any};
 ghost use Rattle.bw_model.specs.Book.{Book};
-ghost use Rattle.bw_serve_status.specs.Snapshots.{CopiesCounts, health_of};
+ghost use Rattle.bw_serve_status.specs.Snapshots.{CopiesCounts, finds_place, health_of, is_idle};
 
 use crate::counts::{message_counts, notice_counts, verdict_counts};
 use crate::growth::Growth;
-use crate::name_tally::NameTally;
+use crate::name_tally::NAMES;
 use crate::takes::takes_of;
 use crate::tallied::Tallied;
 use bw_serve::RoundReport;
 use bw_session::HasTable;
-use bw_status::{Health, Snapshot};
+use bw_status::{Health, LeftOutName, Snapshot, TakeStatus};
 use std::alloc::{AllocError, Global};
 
 /// What isn't kept by the server.
@@ -22,19 +22,21 @@ pub(crate) struct Surroundings<'a> {
     pub(crate) now: u64,
     /// When the server was started, in seconds since 1970.
     pub(crate) since: u64,
-    /// How many takes it resumed then.
-    pub(crate) resumed: u64,
+    /// How many takes it resumed then; None without journals, where no name leaves the table.
+    pub(crate) resumed: Option<u64>,
     /// How much memory the process uses, in bytes, if that is known.
     pub(crate) memory: Option<u64>,
     /// How many lines were left out.
     pub(crate) lines_dropped: u64,
     /// Whether the folder can be used.
     pub(crate) has_folder: bool,
+    /// Whether the last call to begin a take succeeded.
+    pub(crate) begins: bool,
     /// When each name grew last, at the place of its counts.
     pub(crate) growth: &'a [Growth],
 }
 
-/// What a server is doing at the end of a round.
+/// What a server is doing at the end of a round, and that these names are left out.
 ///
 /// # Errors
 /// `AllocError` if memory was refused.
@@ -47,7 +49,9 @@ pub(crate) fn snapshot_of<T: HasTable>(
     server: &Tallied<T>,
     round: &RoundReport<'_>,
     around: Surroundings<'_>,
+    left_out: Vec<LeftOutName>,
 ) -> Result<Snapshot, AllocError>
+    ensures left_out { IfOk result (λ s. s.left_out ≡ left_out) }
     ensures counts { IfOk result (CopiesCounts server.now.tallies round.now around.entry) }
     ensures takes { (first : List ℕ → Option (List ℕ)) (book : Book) →
         T.holds server.now.server first book →
@@ -55,17 +59,20 @@ pub(crate) fn snapshot_of<T: HasTable>(
         round.now.peers.now around.entry s.takes.items) }
 {
     let tallies = server.tallies();
+    let takes = takes_of(
+        alloc,
+        server.server().table(),
+        tallies.names(),
+        round.peers,
+        around,
+    )?;
+    let health = health_of(takes.as_slice(), around);
     Ok(Snapshot {
-        takes: takes_of(
-            alloc,
-            server.server().table(),
-            tallies.names(),
-            round.peers,
-            around,
-        )?,
+        takes,
+        left_out,
         since: around.since,
         uptime_ms: around.now,
-        resumed: around.resumed,
+        resumed: around.resumed.unwrap_or(0),
         connections: round.connections,
         places: round.places as u64,
         ended: round.ended,
@@ -75,26 +82,46 @@ pub(crate) fn snapshot_of<T: HasTable>(
         messages: message_counts(alloc, tallies.kinds())?,
         verdicts: verdict_counts(alloc, tallies.verdicts())?,
         notices: notice_counts(alloc, tallies.notices())?,
-        health: health_of(tallies.names(), around.has_folder),
+        health,
     })
 }
 
-/// Whether a server is well: its folder can be used, and for none of the names that are counted did
-/// the store fail after the last verdict.
-pub(crate) fn health_of(names: &[NameTally], has_folder: bool) -> Health
-    ensures { result ≡ health_of names.now has_folder }
+/// Whether a server with these takes is well: new ones can begin.
+pub(crate) fn health_of(takes: &[TakeStatus], around: Surroundings<'_>) -> Health
+    ensures { result ≡ health_of takes.now around.entry }
 {
-    if !has_folder {
+    if !around.has_folder {
         return Health::Folder;
     }
-    if has_delay(names) {
+    if !around.begins {
         return Health::Store;
     }
-    Health::Ready
+    if finds_place(takes, around.resumed.is_some()) {
+        Health::Ready
+    } else {
+        Health::Full
+    }
 }
 
-fn has_delay(names: &[NameTally]) -> bool
-    ensures { result ≡ list_any (λ t. t.is_delayed) names.now }
+/// Whether a new name finds a place beside these takes, of which some may leave the table or none does.
+fn finds_place(takes: &[TakeStatus], may_leave: bool) -> bool
+    ensures { result ≡ finds_place may_leave takes.now }
 {
-    names.iter().any(|tally| tally.is_delayed)
+    if takes.len() < NAMES {
+        return true;
+    }
+    may_leave && has_idle(takes)
+}
+
+fn has_idle(takes: &[TakeStatus]) -> bool
+    ensures { result ≡ list_any is_idle takes.now }
+{
+    takes.iter().any(|take| is_idle(take))
+}
+
+/// Whether nothing of a take waits, and a number of it is done.
+fn is_idle(take: &TakeStatus) -> bool
+    ensures { result ≡ is_idle take.now }
+{
+    take.held == 0 && 0 < take.next
 }

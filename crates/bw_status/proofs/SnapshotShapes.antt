@@ -7,11 +7,12 @@ use Rattle.serde_json.specs.Data.{Data, depth, items_depth}
 use Rattle.serde_json.specs.View.{items_of}
 use Rattle.serde_json.specs.Written.{has_float, items_have_float}
 use Rattle.bw_status.specs.declared.snapshot.Count.{Count}
+use Rattle.bw_status.specs.declared.snapshot.LeftOutName.{LeftOutName}
 use Rattle.bw_status.specs.declared.snapshot.Snapshot.{Snapshot}
 use Rattle.bw_status.specs.declared.snapshot.SoundFormat.{SoundFormat}
 use Rattle.bw_status.specs.declared.snapshot.TakeStatus.{TakeStatus}
 use Rattle.bw_status.specs.Objects.{unsigned_or_null, format_number, peer_data, take_data, count_data}
-use Rattle.bw_status.specs.Objects.{snapshot_data}
+use Rattle.bw_status.specs.Objects.{left_out_data, left_outs_data, snapshot_data}
 
 -- No float.
 
@@ -39,8 +40,12 @@ counts : (cs : List Count) → items_have_float (items_of (map count_data cs)) �
 counts [] = refl
 counts (c ∷ cs) = simp (counts cs)
 
+left_outs : (ns : List LeftOutName) → items_have_float (items_of (map left_out_data ns)) ≡ false
+left_outs [] = refl
+left_outs (n ∷ ns) = simp (left_outs ns)
+
 pub snapshot-has_float : (s : Snapshot) → has_float (snapshot_data s) ≡ false
-snapshot-has_float s = simp (maybe_number, takes, counts)
+snapshot-has_float s = simp (maybe_number, takes, counts, left_outs)
 
 -- Few levels.
 
@@ -70,6 +75,12 @@ counts_depth (c ∷ cs) =
     let one : depth (count_data c) ≤ 1 = lit≤ tt in
     max-le one (counts_depth cs)
 
+left_outs_depth : (ns : List LeftOutName) → items_depth (items_of (map left_out_data ns)) ≤ 1
+left_outs_depth [] = omega arith
+left_outs_depth (n ∷ ns) =
+    let one : depth (left_out_data n) ≤ 1 = lit≤ tt in
+    max-le one (left_outs_depth ns)
+
 flat : (n : ℕ) (d : Data) → depth d ≡ 0 → depth d ≤ n
 flat n d is = rw is (omega arith)
 
@@ -82,7 +93,9 @@ snapshot-depth s =
     let ns : items_depth (items_of (map count_data s.notices.items)) ≤ 1 = counts_depth s.notices.items in
     let ts : items_depth (items_of (map take_data s.takes.items)) ≤ 1 = takes_depth s.takes.items in
     let vs : items_depth (items_of (map count_data s.verdicts.items)) ≤ 1 = counts_depth s.verdicts.items in
+    let ls : items_depth (items_of (map left_out_data s.left_out.items)) ≤ 1 =
+    left_outs_depth s.left_out.items in
     below _ (max-le (lit≤ tt) (max-le (lit≤ tt) (max-le (lit≤ tt) (max-le (lit≤ tt)
-    (max-le (lit≤ tt) (max-le (flat 3 _ (number_depth s.memory)) (max-le (omega (arith, ms)) (max-le (omega (arith, ns))
+    (max-le (omega (arith, ls)) (max-le (lit≤ tt) (max-le (flat 3 _ (number_depth s.memory)) (max-le (omega (arith, ms)) (max-le (omega (arith, ns))
     (max-le (lit≤ tt) (max-le (lit≤ tt) (max-le (lit≤ tt) (max-le (omega (arith, ts)) (max-le (lit≤ tt)
-    (max-le (omega (arith, vs)) (lit≤ tt)))))))))))))))
+    (max-le (omega (arith, vs)) (lit≤ tt))))))))))))))))

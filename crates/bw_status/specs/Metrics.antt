@@ -1,5 +1,5 @@
 -- Metrics in Prometheus' text format, version 0.0.4.
-use Rattle.std.specs.Prelude.{ℕ, ◌==◌, Bool, List, [], ◌++◌, codes, decimal, flat_map}
+use Rattle.std.specs.Prelude.{ℕ, ◌==◌, Bool, List, [], ◌++◌, codes, decimal, flat_map, length}
 use Rattle.std.specs.Prelude.{Option, Some, None}
 use Rattle.std.specs.List.{count_by}
 use Rattle.bw_status.specs.declared.snapshot.Count.{Count}
@@ -48,6 +48,12 @@ unfoldable pub state_line : List TakeStatus → ShownState → List ℕ
 state_line takes state = kind_line (codes "bwingest_takes") (codes "state") (take_state_word state)
     (count_by (in_state state) takes)
 
+-- the names that are left out
+abbrev pub left_out_metric : Snapshot → List ℕ
+left_out_metric s = metric (codes "bwingest_takes_left_out")
+    (codes "Names left out, since something is wrong with their journals or files.") (codes "gauge")
+    (length s.left_out.items)
+
 -- the takes
 abbrev pub take_metrics : Snapshot → List ℕ
 take_metrics s = metric_head (codes "bwingest_takes") (codes "Takes by state.") (codes "gauge")
@@ -55,6 +61,7 @@ take_metrics s = metric_head (codes "bwingest_takes") (codes "Takes by state.") 
     ++ state_line s.takes.items Closed ++ state_line s.takes.items Stood
     ++ metric (codes "bwingest_takes_resumed") (codes "Takes resumed at the start.") (codes "gauge")
     s.resumed
+    ++ left_out_metric s
 
 -- the connections
 abbrev pub connection_metrics : Snapshot → List ℕ

@@ -7,6 +7,7 @@ use Rattle.serde_json.specs.Data.{Data, null, number, string, unsigned, array, o
 use Rattle.serde_json.specs.Data.{Members, no_members, put}
 use Rattle.serde_json.specs.View.{items_of}
 use Rattle.bw_status.specs.declared.snapshot.Count.{Count}
+use Rattle.bw_status.specs.declared.snapshot.LeftOutName.{LeftOutName}
 use Rattle.bw_status.specs.declared.snapshot.Snapshot.{Snapshot}
 use Rattle.bw_status.specs.declared.snapshot.SoundFormat.{SoundFormat}
 use Rattle.bw_status.specs.declared.snapshot.TakeStatus.{TakeStatus}
@@ -86,13 +87,20 @@ count_data c = object
     (member (codes "count") (unsigned_data c.count)
     (member (codes "kind") (string c.kind.now) no_members))
 
+-- a name that is left out, and why
+abbrev pub left_out_data : LeftOutName → Data
+left_out_data n = object
+    (member (codes "cause") (string (string_bytes n.cause))
+    (member (codes "name") (string (string_bytes n.name)) no_members))
+
 -- a server, with the members that are lists, or aren't always known
-abbrev pub snapshot_object : Snapshot → Data → Data → Data → Data → Data → Data
-snapshot_object s memory messages notices takes verdicts = object
+abbrev pub snapshot_object : Snapshot → Data → Data → Data → Data → Data → Data → Data
+snapshot_object s left_out memory messages notices takes verdicts = object
     (member (codes "bytes") (unsigned_data s.bytes)
     (member (codes "connections") (unsigned_data s.connections)
     (member (codes "ended") (unsigned_data s.ended)
     (member (codes "health") (string (health_text s.health))
+    (member (codes "left_out") left_out
     (member (codes "lines_dropped") (unsigned_data s.lines_dropped)
     (member (codes "memory") memory
     (member (codes "messages") messages
@@ -102,24 +110,29 @@ snapshot_object s memory messages notices takes verdicts = object
     (member (codes "since") (unsigned_data s.since)
     (member (codes "takes") takes
     (member (codes "uptime_ms") (unsigned_data s.uptime_ms)
-    (member (codes "verdicts") verdicts no_members))))))))))))))
+    (member (codes "verdicts") verdicts no_members)))))))))))))))
 
 -- how often each of these happened
 abbrev pub counts_data : List Count → Data
 counts_data counts = array (items_of (map count_data counts))
 
+-- these names are left out
+abbrev pub left_outs_data : List LeftOutName → Data
+left_outs_data names = array (items_of (map left_out_data names))
+
 -- what a server is doing
 abbrev pub snapshot_data : Snapshot → Data
-snapshot_data s = snapshot_object s (unsigned_or_null s.memory) (counts_data s.messages.items)
-    (counts_data s.notices.items) (array (items_of (map take_data s.takes.items)))
-    (counts_data s.verdicts.items)
+snapshot_data s = snapshot_object s (left_outs_data s.left_out.items) (unsigned_or_null s.memory)
+    (counts_data s.messages.items) (counts_data s.notices.items)
+    (array (items_of (map take_data s.takes.items))) (counts_data s.verdicts.items)
 
 -- members with those that are lists
 abbrev pub with_lists : Snapshot → Members → Members
-with_lists s members = put (codes "messages") (counts_data s.messages.items)
+with_lists s members = put (codes "left_out") (left_outs_data s.left_out.items)
+    (put (codes "messages") (counts_data s.messages.items)
     (put (codes "notices") (counts_data s.notices.items)
     (put (codes "takes") (array (items_of (map take_data s.takes.items)))
-    (put (codes "verdicts") (counts_data s.verdicts.items) members)))
+    (put (codes "verdicts") (counts_data s.verdicts.items) members))))
 
 -- members with how the server is, and for how long it has been running
 abbrev pub with_server : Snapshot → Members → Members

@@ -1,8 +1,9 @@
 -- The page. Its texts that never change are constants of the code.
-use Rattle.std.specs.Prelude.{ℕ, List, ◌++◌, codes, decimal, flat_map}
-use Rattle.bw_status.specs.declared.page_text.TheConstants.{PAGE_COUNTS, PAGE_END, PAGE_START}
-use Rattle.bw_status.specs.declared.page_text.TheConstants.{PAGE_TAKES}
+use Rattle.std.specs.Prelude.{ℕ, List, ◌++◌, codes, decimal, flat_map, string_bytes}
+use Rattle.bw_status.specs.declared.page_text.TheConstants.{PAGE_COUNTS, PAGE_END, PAGE_FACTS}
+use Rattle.bw_status.specs.declared.page_text.TheConstants.{PAGE_START, PAGE_TAKES}
 use Rattle.bw_status.specs.declared.snapshot.Count.{Count}
+use Rattle.bw_status.specs.declared.snapshot.LeftOutName.{LeftOutName}
 use Rattle.bw_status.specs.declared.snapshot.Snapshot.{Snapshot}
 use Rattle.bw_status.specs.Rows.{row}
 use Rattle.bw_status.specs.Texts.{duration_text, html_escaped}
@@ -41,7 +42,16 @@ abbrev pub all_counts : Snapshot → List ℕ
 all_counts s = counts_facts s.messages.items ++ counts_facts s.verdicts.items
     ++ counts_facts s.notices.items
 
--- the page: the server, a row for each take, and the counts
+-- a name that is left out, and why
+abbrev pub left_out_item : LeftOutName → List ℕ
+left_out_item n = codes "<li>" ++ html_escaped (string_bytes n.name) ++ codes ": "
+    ++ html_escaped (string_bytes n.cause) ++ codes ", left out</li>\n"
+
+-- the start of the page: the names that are left out, and the server
+abbrev pub page_start : Snapshot → List ℕ
+page_start s = PAGE_START.now ++ flat_map left_out_item s.left_out.items ++ PAGE_FACTS.now ++ facts s
+
+-- the page: that, a row for each take, and the counts
 abbrev pub status_page : Snapshot → List ℕ
-status_page s = PAGE_START.now ++ facts s ++ PAGE_TAKES.now ++ flat_map row s.takes.items
+status_page s = page_start s ++ PAGE_TAKES.now ++ flat_map row s.takes.items
     ++ PAGE_COUNTS.now ++ all_counts s ++ PAGE_END.now

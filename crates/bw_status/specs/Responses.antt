@@ -10,7 +10,7 @@ use Rattle.bw_status.specs.declared.answer.ResponsePart.{ResponsePart}
 use Rattle.bw_status.specs.declared.answer.ResponsePart.TheVariants.{Whole, Head}
 use Rattle.bw_status.specs.declared.page_text.TheConstants.{PAGE_POLICY}
 use Rattle.bw_status.specs.declared.snapshot.Health.{Health as HealthOf}
-use Rattle.bw_status.specs.declared.snapshot.Health.TheVariants.{Ready, Folder, Store}
+use Rattle.bw_status.specs.declared.snapshot.Health.TheVariants.{Ready, Folder, Full, Store}
 use Rattle.bw_status.specs.declared.snapshot.Snapshot.{Snapshot}
 use Rattle.bw_status.specs.Metrics.{metrics}
 use Rattle.bw_status.specs.Objects.{snapshot_data}
@@ -26,6 +26,7 @@ abbrev pub health_status : HealthOf → List ℕ
 health_status Ready = codes "200 OK"
 health_status Folder = codes "503 Service Unavailable"
 health_status Store = codes "503 Service Unavailable"
+health_status Full = codes "503 Service Unavailable"
 
 -- the status of a response
 abbrev pub response_status : Content → HealthOf → List ℕ

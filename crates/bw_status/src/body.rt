@@ -74,6 +74,7 @@ fn health_status(health: Health) -> &'static str
         Health::Ready => "200 OK",
         Health::Folder => "503 Service Unavailable",
         Health::Store => "503 Service Unavailable",
+        Health::Full => "503 Service Unavailable",
     }
 }
 

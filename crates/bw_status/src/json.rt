@@ -4,11 +4,12 @@ ghost use Rattle.serde_json.specs.Data.{array};
 ghost use Rattle.serde_json.specs.Read.{read};
 ghost use Rattle.serde_json.specs.View.{items_of, members_view, view};
 ghost use Rattle.serde_json.specs.Written.{compact_text};
-ghost use Rattle.bw_status.specs.Objects.{count_data, snapshot_data, take_data};
+ghost use Rattle.bw_status.specs.Objects.{count_data, left_out_data, snapshot_data, take_data};
+ghost use Rattle.bw_status.specs.Objects.{left_outs_data};
 ghost use Rattle.bw_status.specs.Objects.{with_lists, with_server, with_links};
 
 use crate::json_take::{number_value, take_value};
-use crate::snapshot::{Count, Snapshot, TakeStatus, health_text};
+use crate::snapshot::{Count, LeftOutName, Snapshot, TakeStatus, health_text};
 use serde_json::{Map, ToValue, Value, json, put};
 use std::alloc::{AllocError, Global};
 
@@ -64,6 +65,12 @@ fn put_lists(
         alloc,
         "messages",
         counts_value(alloc, snapshot.messages.as_slice())?,
+    )?;
+    put(
+        members,
+        alloc,
+        "left_out",
+        left_outs_value(alloc, snapshot.left_out.as_slice())?,
     )
 }
 
@@ -123,6 +130,23 @@ fn takes_value(alloc: Global, takes: &[TakeStatus]) -> Result<Value, AllocError>
         values.push(take_value(alloc, take)?)?;
     }
     Ok(Value::Array(values))
+}
+
+/// The names that are left out, in their order.
+fn left_outs_value(alloc: Global, names: &[LeftOutName]) -> Result<Value, AllocError>
+    ensures { IfOk result (λ v. view v ≡ left_outs_data names.now) }
+{
+    let mut values = Vec::new(alloc);
+    for name in names {
+        values.push(left_out_value(alloc, name)?)?;
+    }
+    Ok(Value::Array(values))
+}
+
+fn left_out_value(alloc: Global, name: &LeftOutName) -> Result<Value, AllocError>
+    ensures { IfOk result (λ v. view v ≡ left_out_data name.now) }
+{
+    json!(in alloc; {"cause": name.cause.as_str(), "name": name.name.as_str()})
 }
 
 /// The counts, in their order.

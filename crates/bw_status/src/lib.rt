@@ -20,4 +20,4 @@ mod text;
 pub use answer::{Answer, Content, ResponsePart};
 pub use request::{LONGEST_REQUEST, answer_to};
 pub use responding::response;
-pub use snapshot::{Count, Health, ShownState, Snapshot, SoundFormat, TakeStatus};
+pub use snapshot::{Count, Health, LeftOutName, ShownState, Snapshot, SoundFormat, TakeStatus};

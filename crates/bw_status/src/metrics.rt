@@ -1,7 +1,7 @@
 //! Metrics in Prometheus' text format, version 0.0.4.
 ghost use Rattle.std.specs.Prelude.{◌≡◌, ◌++◌, OnOk};
 ghost use Rattle.std.specs.List.{count_by};
-ghost use Rattle.bw_status.specs.Metrics.{connection_metrics, in_state, memory_metric};
+ghost use Rattle.bw_status.specs.Metrics.{connection_metrics, in_state, left_out_metric, memory_metric};
 ghost use Rattle.bw_status.specs.Metrics.{message_metric, metrics};
 ghost use Rattle.bw_status.specs.Metrics.{notice_metric, process_metrics, reply_metrics};
 ghost use Rattle.bw_status.specs.Metrics.{state_line, state_rank};
@@ -38,6 +38,20 @@ fn put_takes(out: &mut Vec<u8>, snapshot: &Snapshot) -> Result<(), AllocError>
         "Takes resumed at the start.",
         "gauge",
         snapshot.resumed,
+    )?;
+    put_left_out(out, snapshot)
+}
+
+/// Appends how many names are left out.
+fn put_left_out(out: &mut Vec<u8>, snapshot: &Snapshot) -> Result<(), AllocError>
+    ensures { OnOk result (out.new.items ≡ out.old.items ++ left_out_metric snapshot.now) }
+{
+    put_metric(
+        out,
+        "bwingest_takes_left_out",
+        "Names left out, since something is wrong with their journals or files.",
+        "gauge",
+        snapshot.left_out.len() as u64,
     )
 }
 

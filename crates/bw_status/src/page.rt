@@ -1,13 +1,13 @@
 //! The page.
 ghost use Rattle.std.specs.Prelude.{◌≡◌, ◌++◌, flat_map, OnOk};
 ghost use Rattle.bw_status.specs.Pages.{all_counts, count_fact, counts_facts, fact_start, facts};
-ghost use Rattle.bw_status.specs.Pages.{places_fact, status_page};
+ghost use Rattle.bw_status.specs.Pages.{left_out_item, page_start, places_fact, status_page};
 ghost use Rattle.bw_status.specs.Pages.{server_facts};
 ghost use Rattle.bw_status.specs.Rows.{row};
 
-use crate::page_text::{PAGE_COUNTS, PAGE_END, PAGE_START, PAGE_TAKES};
+use crate::page_text::{PAGE_COUNTS, PAGE_END, PAGE_FACTS, PAGE_START, PAGE_TAKES};
 use crate::row::put_row;
-use crate::snapshot::{Count, Snapshot, TakeStatus, health_text};
+use crate::snapshot::{Count, LeftOutName, Snapshot, TakeStatus, health_text};
 use crate::text::{put_clock, put_escaped, put_number, put_text};
 use std::alloc::{AllocError, Global};
 
@@ -20,13 +20,52 @@ pub(crate) fn put_page(
 ) -> Result<(), AllocError>
     ensures { OnOk result (out.new.items ≡ out.old.items ++ status_page snapshot.now) }
 {
-    put_text(out, PAGE_START)?;
-    put_facts(out, snapshot)?;
+    put_start(out, snapshot)?;
     put_text(out, PAGE_TAKES)?;
     put_all_rows(alloc, out, snapshot)?;
     put_text(out, PAGE_COUNTS)?;
     put_all_counts(out, snapshot)?;
     put_text(out, PAGE_END)
+}
+
+/// Appends the start of the page: the names that are left out, and what is reported of the server.
+#[tactic(auto, using(std::proofs::lemmas::List::append_assoc))]
+fn put_start(out: &mut Vec<u8>, snapshot: &Snapshot) -> Result<(), AllocError>
+    ensures { OnOk result (out.new.items ≡ out.old.items ++ page_start snapshot.now) }
+{
+    put_text(out, PAGE_START)?;
+    put_all_left_outs(out, snapshot)?;
+    put_text(out, PAGE_FACTS)?;
+    put_facts(out, snapshot)
+}
+
+/// Appends the names that are left out.
+fn put_all_left_outs(out: &mut Vec<u8>, snapshot: &Snapshot) -> Result<(), AllocError>
+    ensures { OnOk result (out.new.items
+        ≡ out.old.items ++ flat_map left_out_item snapshot.now.left_out.items) }
+{
+    put_left_outs(out, snapshot.left_out.as_slice())
+}
+
+fn put_left_outs(out: &mut Vec<u8>, names: &[LeftOutName]) -> Result<(), AllocError>
+    ensures { OnOk result (out.new.items ≡ out.old.items ++ flat_map left_out_item names.now) }
+{
+    for name in names {
+        put_left_out(out, name)?;
+    }
+    Ok(())
+}
+
+/// Appends a name that is left out, and why.
+#[tactic(auto, using(std::proofs::lemmas::List::append_assoc))]
+fn put_left_out(out: &mut Vec<u8>, name: &LeftOutName) -> Result<(), AllocError>
+    ensures { OnOk result (out.new.items ≡ out.old.items ++ left_out_item name.now) }
+{
+    out.extend_from_slice(b"<li>")?;
+    put_escaped(out, name.name.as_str())?;
+    put_text(out, ": ")?;
+    put_escaped(out, name.cause.as_str())?;
+    put_text(out, ", left out</li>\n")
 }
 
 /// Appends what is reported of the server.

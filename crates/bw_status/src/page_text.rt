@@ -3,9 +3,9 @@
 /// What the page may load and run: its own style and script, named by their SHA-256 digests, and
 /// requests to the server that it came from.
 pub(crate) const PAGE_POLICY: &str =
-    "default-src 'none'; style-src 'sha256-IJ3G5VBVdM7TnevedWTJFW2peOZe2FTBvjaqq+BvJ3s='; script-src 'sha256-KKU1cvASbvnM6YBHVEmq2XwGrUj4/FCUb+Ozt0CHupQ='; connect-src 'self'; base-uri 'none'; form-action 'none'; frame-ancestors 'none'";
+    "default-src 'none'; style-src 'sha256-61yKOp2FVebirQQkufTegONGlcWrYLElY4JPyvSbn/4='; script-src 'sha256-XKL521xl+kOBs0QhgHVWJLHDWaTQU7qlqpjZf4aZLFs='; connect-src 'self'; base-uri 'none'; form-action 'none'; frame-ancestors 'none'";
 
-/// The page up to what is reported of the server.
+/// The page up to the names that are left out.
 pub(crate) const PAGE_START: &str = "<!DOCTYPE html>
 <html lang=\"en\">
 <head>
@@ -19,6 +19,7 @@ pub(crate) const PAGE_START: &str = "<!DOCTYPE html>
 body { font: 15px/1.45 system-ui, sans-serif; margin: 1.5rem auto; max-width: 84rem; padding: 0 1rem; }
 h1 { font-size: 1.25rem; margin: 0 0 1rem; }
 .lost h1::after { color: var(--bad); content: \" gives no answer\"; font-weight: 400; }
+#left_out { color: var(--bad); list-style: none; margin: 0 0 1rem; overflow-wrap: anywhere; padding: 0; }
 dl { display: grid; gap: .5rem; grid-template-columns: repeat(auto-fill, minmax(8.5rem, 1fr)); margin: 0 0 1.25rem; }
 dl div { background: var(--soft); border-radius: .4rem; display: flex; flex-direction: column-reverse; padding: .4rem .7rem; }
 dt, th, td::before { font-size: .8rem; font-weight: 400; opacity: .7; }
@@ -48,6 +49,11 @@ td:nth-child(3), td:last-child { grid-column: 1 / -1; }
 </head>
 <body>
 <h1>bwingest</h1>
+<ul id=\"left_out\">
+";
+
+/// From there to what is reported of the server.
+pub(crate) const PAGE_FACTS: &str = "</ul>
 <dl id=\"facts\">
 ";
 
@@ -103,6 +109,7 @@ return cell;
 const fact = (name, value, color) => element('div', [element('dt', [name]), element('dd', [String(value)], color)]);
 const inOrder = (one, other) => order.indexOf(one.state) - order.indexOf(other.state) || (one.state === 'closed' ? (one.quiet_ms ?? Infinity) - (other.quiet_ms ?? Infinity) || 0 : 0);
 const show = (now) => {
+document.getElementById('left_out').replaceChildren(...now.left_out.map((one) => element('li', [one.name + ': ' + one.cause + ', left out'])));
 document.getElementById('facts').replaceChildren(fact('Server', now.health, colors[now.health] ?? 'bad'), fact('Up', clock(now.uptime_ms)), fact('Connections', now.connections + ' of ' + now.places), fact('Ended', now.ended), fact('Resumed', now.resumed), fact('Bytes', size(now.bytes)), fact('Rate', speed(now)));
 document.getElementById('takes').replaceChildren(...now.takes.sort(inOrder).map((take) => row(take, now)));
 document.getElementById('counts').replaceChildren(...[...now.messages, ...now.verdicts, ...now.notices].map((one) => fact(one.kind, one.count, one.count ? '' : 'none')));

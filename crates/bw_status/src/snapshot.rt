@@ -56,6 +56,15 @@ pub struct TakeStatus {
     pub peer: Option<SocketAddr>,
 }
 
+/// A name that is left out: its frames are put off.
+#[derive(Drop)]
+pub struct LeftOutName {
+    /// The name.
+    pub name: String,
+    /// What is wrong with its journal or its file.
+    pub cause: String,
+}
+
 /// How often something happened.
 #[derive(Clone, Copy, Debug)]
 pub struct Count {
@@ -65,15 +74,17 @@ pub struct Count {
     pub count: u64,
 }
 
-/// Whether a server is well.
+/// Whether a server is well: new takes can begin.
 #[derive(Clone, Copy, Debug, PartialEq, Eq)]
 pub enum Health {
-    /// Takes are stored.
+    /// They can.
     Ready,
     /// Its folder can't be used.
     Folder,
-    /// The store failed at the last message of a take.
+    /// The last call of the store or its journal to begin a take failed.
     Store,
+    /// The table has no place for a new name.
+    Full,
 }
 
 /// What a server is doing at one moment.
@@ -81,6 +92,8 @@ pub enum Health {
 pub struct Snapshot {
     /// The takes that are listed, in their order.
     pub takes: Vec<TakeStatus>,
+    /// The names that are left out, in the order in which they were found.
+    pub left_out: Vec<LeftOutName>,
     /// When the server began, in seconds since the start of 1970 (UTC); 0 if that couldn't be read.
     pub since: u64,
     /// How long it has been running, in milliseconds.
@@ -129,5 +142,6 @@ pub(crate) fn health_text(health: Health) -> &'static str
         Health::Ready => "ready",
         Health::Folder => "the folder can't be used",
         Health::Store => "the store fails",
+        Health::Full => "no place in the table",
     }
 }
