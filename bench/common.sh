@@ -37,7 +37,7 @@ noted() {
 }
 
 used() {
-    if [ -e "$work/$1.used" ]; then printf ' (%s)' "$(cat "$work/$1.used")"; fi
+    if [ -e "$work/$1.used" ]; then printf ' (%s)' "$(tail -n 1 "$work/$1.used")"; fi
 }
 
 # A port that is perhaps free; another one each time.

@@ -10,7 +10,7 @@ trap 'exit 1' HUP INT TERM
 
 crate=$folder/crates/bench_replay
 mkdir -p "$crate/src" "$crate/specs" "$crate/proofs" || exit
-for name in bw_model bw_bytes bw_request bw_wire bw_layout bw_take bw_store bw_journal; do
+for name in bw_model bw_bytes bw_digest bw_request bw_wire bw_layout bw_take bw_store bw_journal; do
     cp -r "$here/../crates/$name" "$folder/crates" && grep "^$name:" "$here/../crates.txt" || exit
 done >"$folder/crates.txt"
 echo 'bench_replay: bw_request bw_layout bw_journal anyhow' >>"$folder/crates.txt"
@@ -25,18 +25,21 @@ cat >"$crate/src/main.rt" <<'END'
 use anyhow::Result;
 use bw_journal::{JournalHeader, put_entry, replay};
 use bw_layout::Limit;
-use bw_request::{RequestRef, Verdict};
+use bw_request::{Name, RequestRef, Verdict};
 use std::time::Instant;
 
 fn main(rt: HostRuntime) -> Result<()> {
     let alloc = rt.alloc();
+    let Some(name) = Name::new(b"take") else {
+        return Ok(());
+    };
     for entries in [250_000u32, 500_000, 1_000_000] {
-        let mut journal = Vec::with_capacity(alloc, 48 * entries as usize + 100)?;
+        let mut journal = Vec::with_capacity(alloc, 56 * entries as usize + 100)?;
         let header = JournalHeader {
             limit: Limit::default(),
             existed: false,
         };
-        journal.extend_from_slice(&header.to_bytes())?;
+        journal.extend_from_slice(&header.to_bytes(&name))?;
         let opening = RequestRef::OpenTake {
             rate: 48_000,
             channels: 1,
@@ -54,7 +57,7 @@ fn main(rt: HostRuntime) -> Result<()> {
             return Ok(());
         }
         let start = Instant::now(&rt)?;
-        let replayed = replay(alloc, Limit::default(), journal.as_slice())?;
+        let replayed = replay(alloc, Limit::default(), &name, journal.as_slice())?;
         let elapsed = start.elapsed(&rt)?;
         println!(rt; "{entries} entries: {} ms", elapsed.as_millis())?;
         println!(rt; "  {} bytes read, {} kept", replayed.used, replayed.table.len())?;

@@ -10,8 +10,8 @@ trap 'exit 1' HUP INT TERM
 
 crate=$folder/crates/bench_turn
 mkdir -p "$crate/src" "$crate/specs" "$crate/proofs" || exit
-for name in bw_model bw_bytes bw_stream bw_request bw_wire bw_layout bw_take bw_store bw_file bw_journal bw_exchange \
-    bw_session; do
+for name in bw_model bw_bytes bw_digest bw_stream bw_request bw_wire bw_layout bw_take bw_store bw_file bw_journal \
+    bw_exchange bw_session; do
     cp -r "$here/../crates/$name" "$folder/crates" && grep "^$name:" "$here/../crates.txt" || exit
 done >"$folder/crates.txt"
 echo 'bench_turn: bw_request bw_wire bw_layout bw_store bw_session arrayvec sha2 anyhow' >>"$folder/crates.txt"

@@ -93,6 +93,7 @@ def case_panels(_folder):
 def case_promtool(folder):
     """promtool accepts the cases, and the dashboard's queries, each as a rule."""
     if not shutil.which("promtool"):
+        print("promtool isn't installed: the alerts' cases aren't tried", flush=True)
         return
     rules = folder / "queries.yml"
     plain = [query.replace("$__rate_interval", "5m").replace("$instance", ".*") for _, query in queries()]

@@ -1,8 +1,8 @@
 #!/usr/bin/env python3
 """Runs `replay`, `rehearse` and `inspect` of the built program on worked inputs, and compares what they print.
 
-The inputs of `replay` are in cases_of_takes.py, cases_of_orders.py, cases_of_faults.py and cases_of_frames.py, those of
-`rehearse` in cases_of_rehearsals.py, and the files of `inspect` in cases_of_inspections.py. Other inputs and outputs
+The inputs of `replay` are in cases/takes.py, cases/orders.py, cases/faults.py and cases/frames.py, those of
+`rehearse` in cases/rehearsals.py, and the files of `inspect` in cases/inspections.py. Other inputs and outputs
 give or take a part at a time, or fail. The program is the first argument, or the one of this repository. Prints what
 differs, and last 'N passed, M failed'.
 """

@@ -1,7 +1,7 @@
 #!/usr/bin/env python3
 """Runs worked exchanges of `send` and `serve` of the built program over 127.0.0.1, and compares them byte by byte.
 
-cases_of_sends.py has what `send` should say over each link and print, and the replies that it gets; `serve` receives
+cases/sends.py has what `send` should say over each link and print, and the replies that it gets; `serve` receives
 the messages of worked.py. Then links break after a few bytes: one of the program's calls is refused. Each wait has a
 limit, and what was started is ended. Needs what tracer.py needs. The program is the first argument, or the one of this
 repository. Prints what differs, and last 'N passed, M failed'.

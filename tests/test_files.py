@@ -1,7 +1,7 @@
 #!/usr/bin/env python3
 """Runs `serve` of the built program, notes each of its calls on the takes' files, and refuses some of them.
 
-cases_of_files.py has the takes with their calls and files, and cases_of_turns.py those whose turns are compared one by
+cases/files.py has the takes with their calls and files, and cases/turns.py those whose turns are compared one by
 one. The server runs under tracer.py, with an observer that notes the calls. Needs what tracer.py needs. The program is
 the first argument, or the one of this repository. Prints what differs, and last 'N passed, M failed'.
 """

@@ -1,5 +1,5 @@
 #!/usr/bin/env python3
-"""Runs `takes --give-up` over folders that servers left: what is renamed, what isn't, and what the next server does with the rest.
+"""Runs `takes --give-up` over folders that servers left: what is renamed, what isn't, and what the next server finds.
 
 The program is the first argument, or the one of this repository. Prints what differs, and last 'N passed, M failed'.
 """
@@ -9,12 +9,12 @@ import sys
 
 sys.dont_write_bytecode = True  # nothing is left beside this script
 from kit.folders import folder_in, journaled, left_by, line_of, restored, says, small_take
+from kit.hints import USAGE
 from kit.network import connect, finish, hear_all, run, run_cases, start, TALLY
 from kit.takes import BYE_FRAME, DELAYED_STORE, notice
 from kit.watcher import ClosingWatcher
 
 LONGEST_RUN = 120  # seconds, for all of it
-USAGE = "\nUsage: bwingest <COMMAND>\n\nFor more information, try '--help'.\n"
 BAD_NAME = (
     "error: '--give-up <NAME>' takes 1 to 32 bytes of a-z, 0-9, '-' and '_', without '--check' and '--json'\n" + USAGE
 )

@@ -1,7 +1,7 @@
 #!/usr/bin/env python3
 """Runs `inspect` of the built program on several files, and with its options.
 
-The files are in cases_of_inspections.py and cases_of_recordings.py. What is printed in JSON is read by python's json, and
+The files are in cases/inspections.py and cases/recordings.py. What is printed in JSON is read by python's json, and
 compared with what a reader of its own finds in the file (waves.py) and with the plain report. Files of ffmpeg and sox are
 among them where these are installed. The program is the first argument, or the one of this repository. Prints what
 differs, and last 'N passed, M failed'.

@@ -28,7 +28,7 @@ from kit.takes import BEXT, BLOCK, BYE_FRAME, CONFLICT, MARK, STORED
 from kit.takes import little, message, Take
 
 RECORDERS = 16
-TAKES = 15  # of one recorder; a server takes 256 names
+TAKES = 15  # of one recorder, so that all have places in a server's table
 MOST_BLOCKS = 300
 LIMIT = 65_536  # bytes; longer files turn from RIFF to BW64
 DATA_PLACE = 690  # of the samples in a file, in bytes

@@ -6,66 +6,36 @@ arrives is compared with the samples by their SHA-256, as they stand in the serv
 followed, its server is stopped and started again. Refusals are tried against a listener that must see no connection.
 The program is the first argument, or the one of this repository. Prints what differs, and last 'N passed, M failed'.
 """
-import contextlib
 import hashlib
 import os
 import random
-import select
 import shutil
 import signal
-import socket
 import subprocess
 import sys
 import threading
 import time
 
 sys.dont_write_bytecode = True  # nothing is left beside this script
-from kit.hints import hinted, SHORT
-from kit.network import finish, free_port, LOCAL, LONGEST_WAIT, prepare_child, reason, run, run_cases, Server
-from kit.network import start, start_with_pipes, STARTED, TALLY
+from kit import hints, uploads
+from kit.hints import CHANGED, FRUITLESS, hinted, SHORT
+from kit.network import finish, free_port, LOCAL, LONGEST_WAIT, reason, run, run_cases, start_with_pipes, STARTED, TALLY
+from kit.network import wait_until
+from kit.processes import prepare_child
 from kit.recordings import data, fmt, Recording, riff
+from kit.takes import LONGEST_BLOCK
+from kit.uploads import requests_of, serve_again, serving, settled, unseen, written
 
 LONGEST_RUN = 170  # seconds, for all of it
-FRUITLESS = "Fruitless: as many links in a row as are allowed settled nothing\n"
-LONGEST_BLOCK = 32_768
 DOWN = 2.0  # seconds for which a server is away
 
 
 def words_of(port, name, path, pcm, *options):
-    words = ("send", "--connect", f"{LOCAL}:{port}", "--name", name, "--file", str(path), "--pcm", pcm)
-    return (*words, *options)
+    return uploads.words_of(port, name, path, "--pcm", pcm, *options)
 
 
 def upload(port, name, path, pcm, *options):
     return run(*words_of(port, name, path, pcm, *options))
-
-
-def settled(count):
-    return f"settled {count}\nstored {count}\n"
-
-
-def requests_of(samples, align, frames=None):
-    """How many requests bring samples: OPEN, a block for each so many frames, CLOSE."""
-    size = align * (frames or LONGEST_BLOCK // align)
-    return 2 + -(-len(samples) // size)
-
-
-def written(folder, file, name="take.raw"):
-    path = folder / name
-    path.write_bytes(file)
-    return path
-
-
-@contextlib.contextmanager
-def serving(folder, *options):
-    """A server over a new folder, which is stopped at the end."""
-    (folder / "takes").mkdir()
-    server = Server(folder / "takes", "--until-stopped", *options)
-    try:
-        yield server
-    finally:
-        server.process.terminate()
-        server.process.wait()
 
 
 def report_of(folder, name):
@@ -128,14 +98,6 @@ def case_crashed_header(folder):
         found = upload(server.port, "followed", path, "48000,1,16", "--skip=44", "--follow", "--until", str(done))
         TALLY.same("a crashed header, followed", found, (0, settled(requests_of(samples, 2)), ""))
         holds_samples(folder, "followed", samples, FORMATS[0][2])
-
-
-@contextlib.contextmanager
-def unseen(name):
-    """A listener that must see no connection."""
-    with socket.create_server((LOCAL, 0)) as listener:
-        yield listener.getsockname()[1]
-        TALLY.holds(f"{name}: before any link", not select.select([listener], [], [], 0)[0], "a link was made")
 
 
 REFUSED = [  # the length of the file, the format, the options, and what is said
@@ -297,7 +259,8 @@ def case_ended_before(folder):
         holds_samples(folder, "many", samples, FORMATS[1][2])
         samples = random.Random(15).randbytes(6 * 9_000)
         folder_end = folder / "takes"
-        found = upload(server.port, "by-folder", written(folder, samples), "48000,2,24", "--follow", "--until", str(folder_end))
+        path, options = written(folder, samples), ("--follow", "--until", str(folder_end))
+        found = upload(server.port, "by-folder", path, "48000,2,24", *options)
         TALLY.same("a folder says that it has ended", found, (0, settled(requests_of(samples, 6)), ""))
 
 
@@ -341,16 +304,7 @@ def case_changed_once_opened(folder):
             observer = Changing(path, lambda path=path: os.utime(path, ns=(1, 1)))
             status, _out, said = finish(start_with_pipes(*words, observer=observer), b"", name)
             TALLY.holds(f"{name}: changed", observer.opened, "it wasn't opened")
-            changed = (1, "Changed: the file isn't any more what it was\n")
-            TALLY.same(f"{name}, changed once it was opened", (status, said), changed)
-
-
-def serve_again(port, folder):
-    """A server at this port that goes on with what an earlier one left."""
-    words = ("serve", "--listen", f"{LOCAL}:{port}", "--folder", str(folder), "--until-stopped", "--journal")
-    process = start(*words, stdout=subprocess.PIPE, stderr=subprocess.DEVNULL)
-    process.stdout.readline()
-    return process
+            TALLY.same(f"{name}, changed once it was opened", (status, said), (1, CHANGED))
 
 
 def case_link_down(folder):
@@ -364,10 +318,12 @@ def case_link_down(folder):
     writer.start()
     words = words_of(port, "down", path, "48000,2,16", "--follow", "--until", str(end), "--log", "--timeout", "5")
     sender = start_with_pipes(*words)
+    arrived, length = takes / "down.wav", 0
     for kill in (signal.SIGTERM, signal.SIGKILL, signal.SIGTERM):
-        time.sleep(1.0)
+        wait_until(lambda: arrived.exists() and arrived.stat().st_size > length, "nothing arrives")
         server.send_signal(kill)
         server.wait(LONGEST_WAIT)
+        length = arrived.stat().st_size
         time.sleep(DOWN)
         server = serve_again(port, takes)
     status, out, said = finish(sender)
@@ -388,9 +344,9 @@ def case_rerun(folder):
         writer = Writer(path, end, samples, 19, 0.1)
         writer.start()
         words = words_of(server.port, "again", path, "44100,1,16", "--block", "1000", "--follow", "--until", str(end))
-        time.sleep(0.2)
         sender = start_with_pipes(*words)
-        time.sleep(0.8)
+        arrived = folder / "takes" / "again.wav"
+        wait_until(lambda: arrived.exists() and arrived.stat().st_size > 100_000, "too little arrives")
         sender.kill()
         sender.wait()
         TALLY.same("run again", run(*words), (0, settled(requests_of(samples, 2, 1_000)), ""))
@@ -403,7 +359,8 @@ def case_no_server(folder):
     path, end = written(folder, bytes(8)), written(folder, b"", "end")
     words = words_of(free_port(), "none", path, "48000,1,16", "--follow", "--until", str(end))
     TALLY.same("no server, 2 links", run(*words, "--fruitless", "2"), (3, settled(0), FRUITLESS))
-    TALLY.same("no server, as it is", upload(free_port(), "x", path, "48000,1,16", "--fruitless", "1"), (3, settled(0), FRUITLESS))
+    found = upload(free_port(), "x", path, "48000,1,16", "--fruitless", "1")
+    TALLY.same("no server, as it is", found, (3, settled(0), FRUITLESS))
 
 
 def change_while_sent(folder, name, change):
@@ -411,13 +368,13 @@ def change_while_sent(folder, name, change):
     path = written(folder, random.Random(20).randbytes(LONGEST_BLOCK * 40), f"{name}.raw")
     port = free_port()
     sender = start_with_pipes(*words_of(port, name, path, "48000,1,16", "--fruitless", "20"))
-    time.sleep(0.3)
+    TALLY.same(f"a file that is {name}: no link", sender.stderr.readline().decode(), hints.REFUSED)
     change(path)
     takes = folder / name
     takes.mkdir()
     server = serve_again(port, takes)
     status, _out, said = finish(sender)
-    TALLY.same(f"a file that is {name}", (status, said), (1, "Changed: the file isn't any more what it was\n"))
+    TALLY.same(f"a file that is {name}", (status, said), (1, CHANGED))
     server.send_signal(signal.SIGTERM)
     server.wait(LONGEST_WAIT)
 

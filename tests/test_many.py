@@ -24,6 +24,7 @@ from kit.network import CANT_GO_ON, close_at_once, connect, connect_deaf, ends_b
 from kit.network import hear_until_it_breaks, LOCAL, LONGEST_WAIT, MANY_ASKS, narrow, reason, Relay, run, run_cases
 from kit.network import same_exchanges, same_file, same_port_in_use, same_settled, send, send_all, Server, start
 from kit.network import stopped, TALLY
+from kit.processes import seconds_of
 from kit.takes import ASK, BYE_FRAME, CONFLICT, NEXT, OPEN, STORED
 from kit.takes import bad_frame, little, message, notice, Take, verdict
 
@@ -222,9 +223,9 @@ def case_few_files(folder):
     peers = [connect(server.port) for _ in range(20)]
     for peer in peers:
         peer.sendall(ASKED)
-    spent = processor_seconds(server)
+    spent = seconds_of(server.process.pid)
     time.sleep(2)
-    spent = processor_seconds(server) - spent
+    spent = seconds_of(server.process.pid) - spent
     TALLY.holds("few files", spent < 0.5, f"{spent:.2f} s of the processor in two seconds of waiting")
     for peer in peers:
         TALLY.same("few files", hear(peer, len(ANSWER)), ANSWER)
@@ -234,12 +235,6 @@ def case_few_files(folder):
     TALLY.same("few files", ends_of(server.lines(20)), ["Bye"] * 20)
     said = f"nobody more can connect: {reason(errno.EMFILE)}\n"
     TALLY.same("few files: it is said once", server.stop(), (-signal.SIGTERM, [], said))
-
-
-def processor_seconds(server):
-    with open(f"/proc/{server.process.pid}/stat") as stat:
-        user, system = stat.read().rsplit(")", 1)[1].split()[11:13]
-    return (int(user) + int(system)) / os.sysconf("SC_CLK_TCK")
 
 
 def case_log(folder):

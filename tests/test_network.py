@@ -21,9 +21,10 @@ sys.dont_write_bytecode = True  # nothing is left beside this script
 from cases.disks import case_bad_folder, case_folder_goes_away, case_full_disk, case_name_taken
 from cases.peers import case_bad_servers, case_cut_client, case_deaf_peer, case_garbage, case_silent_peer
 from kit.hints import hinted, REFUSED
-from kit.network import connect, ends_by_signal, Fault, finish, free_port, hear_all, LEAST_LIMIT, LOCAL, LONGEST_WAIT, Relay
+from kit.network import connect, ends_by_signal, finish, free_port, hear_all, LEAST_LIMIT, LOCAL, LONGEST_WAIT, Relay
 from kit.network import run, run_cases, same_exchanges, same_file, same_port_in_use, same_replay, same_settled, send
-from kit.network import send_all, send_words, Server, start, start_with_pipes, stopped, TALLY, UNSETTLED, WINDOW
+from kit.network import send_all, send_words, Server, start, start_with_pipes, stopped, TALLY, UNSETTLED, wait_until
+from kit.network import WINDOW
 from kit.takes import ASK, BYE_FRAME, LARGEST_LIMIT, message, Take
 
 LONGEST_RUN = 170  # seconds, for all of it
@@ -234,7 +235,8 @@ def case_signals(folder):
         feeder = threading.Thread(target=lambda: sender.stdin.write(take.lines()) and sender.stdin.close())
         feeder.start()
         path = folder / f"{take.name}.wav"
-        wait_for_length(path, chance.randint(100_000, 1_500_000))
+        length = chance.randint(100_000, 1_500_000)
+        wait_until(lambda: path.exists() and path.stat().st_size >= length, f"{path.name} doesn't grow")
         status, _lines, faults = server.stop(number)
         TALLY.same(f"{number.name}: the server", (status, faults), (-number, ""))
         feeder.join(LONGEST_WAIT)
@@ -244,14 +246,6 @@ def case_signals(folder):
         settled, stored = map(int, re.fullmatch(r"settled (\d+)\nstored (\d+)\n", out).groups())
         TALLY.same(f"{number.name}: what is settled", settled, stored)
         same_stopped_file(number.name, path, take, stored, limit)
-
-
-def wait_for_length(path, length):
-    until = time.monotonic() + LONGEST_WAIT
-    while not path.exists() or path.stat().st_size < length:
-        if time.monotonic() > until:
-            raise Fault(f"{path.name} doesn't grow to {length} bytes")
-        time.sleep(0.001)
 
 
 def same_stopped_file(name, path, take, stored, limit):

@@ -13,16 +13,14 @@ import time
 
 sys.dont_write_bytecode = True  # nothing is left beside this script
 from cases.recordings import TONE, TONE_FILE
-from kit.hints import CLOSED, outages_in, REFUSED, STORE_FAILS, TABLE_FULL, TIMED_OUT
+from kit.hints import CLOSED, FRUITLESS, outages_in, REFUSED, STORE_FAILS, TABLE_FULL, TIMED_OUT
 from kit.network import close_at_once, connect, finish_whole, free_port, hear_batch, LOCAL, LONGEST_WAIT, pass_both_ways
-from kit.network import run_cases, start_with_pipes, TALLY, UNSETTLED
+from kit.network import run_cases, start_with_pipes, TALLY, UNSETTLED, WINDOW
 from kit.takes import DELAYED_STORE, notice, STORED, verdict
 from kit import worked
 from kit.uploads import long_recording, serving, settled, words_of, written
 
 LONGEST_RUN = 120  # seconds, for all of it
-FRUITLESS = "Fruitless: as many links in a row as are allowed settled nothing\n"
-WINDOW = 16
 
 
 def port_of(listener):
@@ -111,9 +109,9 @@ def case_changes(folder):
         listener.settimeout(10)
         peer, _ = listener.accept()
     with peer:
-        hear_numbers(peer, 1)
+        hear_numbers(peer, WINDOW)
         peer.sendall(verdict("changes", 0, STORED))
-        time.sleep(0.2)
+        TALLY.same("once the verdict is heard", hear_numbers(peer, 1), [WINDOW])
     status, out, said = finish_whole(sender)
     TALLY.same("then", (status, out, said), (3, settled(1), CLOSED + REFUSED + FRUITLESS))
 

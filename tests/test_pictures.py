@@ -2,7 +2,7 @@
 """Runs `picture` of the built program on files of recordings.
 
 Each picture is compared with the one that pictures.py makes of the same file, and read as XML. The files are in
-cases_of_recordings.py, and more are made here: each width of samples, many channels, numbers of frames around those of
+cases/recordings.py, and more are made here: each width of samples, many channels, numbers of frames around those of
 the columns, markers. Files without a recording are refused as `pack` refuses them. The program is the first argument,
 or the one of this repository. Prints what differs, and last 'N passed, M failed'.
 """

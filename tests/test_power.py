@@ -15,7 +15,7 @@ from concurrent.futures import ThreadPoolExecutor
 
 sys.dont_write_bytecode = True  # nothing is left beside this script
 from kit.folders import restored, small_take
-from kit.network import connect, Fault, free_port, hear, hear_all, LOCAL, run_cases, Server, start, TALLY
+from kit.network import connect, free_port, hear, hear_all, LOCAL, run_cases, Server, start, TALLY
 from kit.power import Folder, KINDS
 from kit.takes import ASK, BYE_FRAME, message, STORED, verdict
 from kit.watcher import Watcher

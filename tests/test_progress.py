@@ -16,24 +16,23 @@ import threading
 import time
 
 sys.dont_write_bytecode = True  # nothing is left beside this script
-from kit.hints import CLOSED, floats, hinted, OUTAGES, REFUSED
+from kit.hints import CHANGED, CLOSED, floats, FRUITLESS, hinted, OUTAGES, REFUSED
 from kit.network import Fault, free_port, LOCAL, LONGEST_WAIT, run, run_cases, start, TALLY
 from kit.recordings import data, fmt, Recording, riff
 from kit.terminals import Glass, open_terminal, pieces_of
-from kit.uploads import folder_in, serving, settled, words_of, written
+from kit.takes import LONGEST_BLOCK
+from kit.uploads import folder_in, serve_again, serving, settled, words_of, written
 
 LONGEST_RUN = 170  # seconds, for all of it
 PIPE = subprocess.PIPE
-BLOCK = 32_768  # bytes
 RATE = 100  # frames a second: a block of one channel with 16 bits lasts 163.84 seconds
-FRAMES = BLOCK // 2  # of a block
+FRAMES = LONGEST_BLOCK // 2  # of a block
 SHOWN = re.compile(r"\r\x1b\[\?7l([^\r\x1b]*)\x1b\[K\x1b\[\?7h")
 CLOCK = r"\d+:[0-5]\d:[0-5]\d"
 LINE = re.compile(
     rf"(?P<name>[a-z0-9_-]+) (?:(?P<percent>\d+)% (?P<done>{CLOCK})/(?P<all>{CLOCK})|(?P<so_far>{CLOCK}))"
     r" (?P<speed>\d+\.\d) MB/s pending (?P<pending>\d+) link (?:up|down, (?P<down>\d+) s)"
 )
-FRUITLESS = "Fruitless: as many links in a row as are allowed settled nothing"
 
 
 def clock(seconds):
@@ -42,7 +41,7 @@ def clock(seconds):
 
 def slow_recording(blocks, more=0):
     """A recording of so many whole blocks and some frames more, which lasts for hours; with its file."""
-    recording = Recording(rate=RATE, samples=random.Random(blocks).randbytes(BLOCK * blocks + 2 * more))
+    recording = Recording(rate=RATE, samples=random.Random(blocks).randbytes(LONGEST_BLOCK * blocks + 2 * more))
     return recording, riff(fmt(recording), data(recording.samples))
 
 
@@ -241,10 +240,11 @@ def case_refused(folder):
     bad = written(folder, file[:20] + b"\3\0" + file[22:], "bad.wav")
     port = free_port()
     sender = Sender(*words_of(port, "bad", bad))
-    TALLY.same("no PCM", (*sender.end(), sender.lines), (1, hinted("send", "NotPcm at 12", floats(16)).splitlines(), []))
+    wanted = hinted("send", "NotPcm at 12", floats(16)).splitlines()
+    TALLY.same("no PCM", (*sender.end(), sender.lines), (1, wanted, []))
     path = written(folder, file)
     sender = Sender(*words_of(port, "unheard", path, "--fruitless", "3"))
-    TALLY.same("no server", sender.end(), (3, [*settled(0).splitlines(), FRUITLESS]))
+    TALLY.same("no server", sender.end(), (3, (settled(0) + FRUITLESS).splitlines()))
     TALLY.same("no server: why", sender.outages, [REFUSED.strip()])
     parts = parts_of("no server", sender)
     never_falls("no server", [int(match["down"]) for _, match in parts])
@@ -254,20 +254,11 @@ def case_refused(folder):
         sender.until(lambda line: "link up" in line, "a file that changes")
         os.utime(path, ns=(1, 1))
         status, shown = sender.end()
-        wanted = "Changed: the file isn't any more what it was"
-        TALLY.same("a file that changes", (status, shown[-1]), (1, wanted))
+        TALLY.same("a file that changes", (status, shown[-1]), (1, CHANGED.strip()))
         TALLY.holds("a file that changes", shown[:-1][0].startswith("settled ") and len(shown) == 3, shown)
 
 
 # A link that goes away
-
-
-def serve_again(port, takes):
-    """A server at this port that goes on with what an earlier one left."""
-    words = ("serve", "--listen", f"{LOCAL}:{port}", "--folder", str(takes), "--until-stopped", "--journal")
-    process = start(*words, stdout=PIPE, stderr=subprocess.DEVNULL)
-    process.stdout.readline()
-    return process
 
 
 def stop(server):
@@ -396,7 +387,7 @@ def case_rounds(folder):
         source.write_bytes(requests)
         with source.open("rb") as given:
             sender = Sender("send", "--connect", f"{LOCAL}:{server.port}", "--name", "rounds", given=given)
-        wanted = [f"round 1 settled 3 stored 3 bytes {BLOCK}", *settled(3).splitlines()]
+        wanted = [f"round 1 settled 3 stored 3 bytes {LONGEST_BLOCK}", *settled(3).splitlines()]
         TALLY.same("rounds", (*sender.end(), "\x1b" in sender.text), (0, wanted, False))
 
 

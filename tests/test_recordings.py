@@ -1,7 +1,7 @@
 #!/usr/bin/env python3
 """Runs `pack` of the built program on files of recordings, and sends what it prints to the built server.
 
-The files are in cases_of_recordings.py. The requests that are printed, what is said of what a file loses, and each
+The files are in cases/recordings.py. The requests that are printed, what is said of what a file loses, and each
 refusal with its status are compared with what docs/FORMATS.md says of the file. A small file is also cut at each of
 its bytes. The program is the first argument, or the one of this repository. Prints what differs, and last 'N passed, M
 failed'.

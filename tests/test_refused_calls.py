@@ -26,7 +26,7 @@ from kit.refused_commands import STEREO_FILE, try_file_senders, try_pictures, tr
 from kit.refused_runs import is_prefix, KINDS, LONGEST_RUN, PIPES, Runs, what_a_pack_breaks, what_a_run_breaks
 from kit.refuser import Refused
 from kit.repository import ROOT
-from kit.takes import BYE_FRAME, message, STORED, Take, verdict
+from kit.takes import BYE_FRAME, STORED, Take, verdict
 from kit.worked import BLOCK, CLOSE, EXCHANGE, EXCHANGE_1, held, no_room, OPEN, Case, SMALL_FILE, stored
 
 

@@ -23,10 +23,10 @@ import sys
 import time
 
 sys.dont_write_bytecode = True  # nothing is left beside this script
-from kit.network import TALLY, connect, finish, hear_all, run_cases
-from kit.shards import Balancer, Shard, SHARDS, Standby, Tunnel, answers, recording_of, samples_in, send_file, slot_of
-from kit.shards import RECORDER, wait_until
-from kit.takes import ASK, BYE_FRAME, NEXT, little, message
+from kit.network import connect, finish, hear_all, run_cases, TALLY, wait_until
+from kit.shards import answers, Balancer, recording_of, RECORDER, samples_in, send_file, Shard, SHARDS, slot_of
+from kit.shards import Standby, Tunnel
+from kit.takes import ASK, bad_frame, BYE_FRAME, message, NEXT, notice
 
 NAMED = 3  # the reason of a frame that is bad for its name
 
@@ -37,12 +37,11 @@ def ask(name):
 
 def next_zero(name):
     """The answer that number 0 comes next under a name."""
-    body = bytes([0x82, len(name)]) + name.encode() + little(0, 4) + bytes([NEXT]) + little(0, 4)
-    return little(len(body), 4) + body
+    return notice(name, 0, NEXT, 0)
 
 
 def bad_name(place):
-    return b"\x0a\0\0\0\x83" + bytes([NAMED]) + little(place, 8)
+    return bad_frame(NAMED, place)
 
 
 def send_all(work, port, count):

@@ -11,7 +11,6 @@ import contextlib
 import hashlib
 import os
 import random
-import signal
 import socket
 import subprocess
 import sys
@@ -19,15 +18,16 @@ import threading
 import time
 
 sys.dont_write_bytecode = True  # nothing is left beside this script
-from kit.hints import OUTAGES, without_outages
-from kit.network import finish, free_port, LOCAL, LONGEST_WAIT, run, run_cases, Server, start, start_with_pipes, TALLY
+from kit.hints import FRUITLESS, OUTAGES, without_outages
+from kit.network import finish, free_port, LOCAL, LONGEST_WAIT, run, run_cases, start, start_with_pipes, TALLY
+from kit.network import wait_until
+from kit.takes import LONGEST_BLOCK
+from kit.uploads import requests_of, samples_of, serve_again, serving, settled
 
 LONGEST_RUN = 170  # seconds, for all of it
-LONGEST_BLOCK = 32_768
 PIPE = 65_536  # bytes that a pipe holds
 SOON = 2.0  # seconds in which an input is taken that needn't wait
 DOWN = 10.0  # seconds for which there is no server
-FRUITLESS = "Fruitless: as many links in a row as are allowed settled nothing"
 KEEPS = "send: the input is kept in the spool until it ends"
 
 
@@ -35,34 +35,8 @@ def words_of(port, name, spool, pcm, *options):
     return ("send", "--connect", f"{LOCAL}:{port}", "--name", name, "--spool", str(spool), "--pcm", pcm, *options)
 
 
-def settled(count):
-    return f"settled {count}\nstored {count}\n"
-
-
-def requests_of(samples, align):
-    """How many requests bring samples: OPEN, a block for each so many frames, CLOSE."""
-    return 2 + -(-len(samples) // (LONGEST_BLOCK // align * align))
-
-
-@contextlib.contextmanager
-def serving(folder):
-    """A server over a new folder, which is stopped at the end."""
-    (folder / "takes").mkdir()
-    server = Server(folder / "takes", "--until-stopped")
-    try:
-        yield server
-    finally:
-        server.process.terminate()
-        server.process.wait()
-
-
-def samples_of(folder, name):
-    """The samples in a take's file, by what `inspect` reports."""
-    path = folder / "takes" / f"{name}.wav"
-    _status, out, _faults = run("inspect", str(path))
-    found = next((one for one in out.splitlines() if one.startswith("data at=")), "data at=0 bytes=0")
-    at, count = (int(word.partition("=")[2]) for word in found.split()[1:3])
-    return path.read_bytes()[at : at + count]
+def samples_in(folder, name):
+    return samples_of(folder / "takes" / f"{name}.wav")
 
 
 def digest(samples):
@@ -110,7 +84,7 @@ def finish_written(sender):
 def is_whole(name, folder, spool, samples, align, found):
     """All of it was sent, and the spool holds it."""
     TALLY.same(name, found, (0, settled(requests_of(samples, align)), ""))
-    TALLY.same(f"{name}: the samples", digest(samples_of(folder, name)), digest(samples))
+    TALLY.same(f"{name}: the samples", digest(samples_in(folder, name)), digest(samples))
     TALLY.same(f"{name}: the spool", digest(spool.read_bytes()), digest(samples))
 
 
@@ -124,9 +98,10 @@ def case_slow_writer(folder):
         is_whole("slow", folder, spool, samples, 6, finish_written(sender))
         found = run(*words_of(server.port, "none", folder / "none.raw", "48000,1,16"))
         TALLY.same("no input", found, (1, settled(0), "send: Empty at 0\n"))
-        found = run(*words_of(server.port, "skip", folder / "skip.raw", "48000,1,16", "--skip", "44"), given=bytes(44) + samples)
+        words = words_of(server.port, "skip", folder / "skip.raw", "48000,1,16", "--skip", "44")
+        found = run(*words, given=bytes(44) + samples)
         TALLY.same("bytes before the samples", found, (0, settled(requests_of(samples, 2)), ""))
-        TALLY.same("bytes before the samples", digest(samples_of(folder, "skip")), digest(samples))
+        TALLY.same("bytes before the samples", digest(samples_in(folder, "skip")), digest(samples))
 
 
 def case_file_as_input(folder):
@@ -144,13 +119,6 @@ def case_file_as_input(folder):
         TALLY.same("input from /dev/null", finish(sender), (1, settled(0), "send: Empty at 0\n"))
 
 
-def serve_at(port, takes):
-    words = ("serve", "--listen", f"{LOCAL}:{port}", "--folder", str(takes), "--until-stopped", "--journal")
-    process = start(*words, stdout=subprocess.PIPE, stderr=subprocess.DEVNULL)
-    process.stdout.readline()
-    return process
-
-
 def case_link_down(folder):
     """While there is no server, and while one is stopped and another comes, the writer doesn't wait."""
     samples = random.Random(34).randbytes(2 * 1_500_000)
@@ -162,12 +130,12 @@ def case_link_down(folder):
     writer.start()
     time.sleep(DOWN)
     TALLY.holds("link down", spool.stat().st_size + PIPE + 40_000 >= writer.written, "the input isn't in the spool")
-    server = serve_at(port, takes)
+    server = serve_again(port, takes)
     time.sleep(1.0)
     server.kill()
     server.wait(LONGEST_WAIT)
     time.sleep(1.0)
-    server = serve_at(port, takes)
+    server = serve_again(port, takes)
     found = finish_written(sender)
     server.terminate()
     server.wait(LONGEST_WAIT)
@@ -180,12 +148,12 @@ def takes_at_once(name, port, folder):
     samples = random.Random(36).randbytes(4_000_000)
     spool = folder / f"{name}.raw"
     sender = start_with_pipes(*words_of(port, name, spool, "48000,1,16"))
-    time.sleep(0.5)
+    wait_until(spool.exists, "no spool is made")
     writer = Writer(sender, samples, 37, 0.0)
     writer.start()
     writer.join(LONGEST_WAIT)
     TALLY.holds(f"{name}: the writer", writer.longest < SOON, f"it waited {writer.longest:.1f} seconds")
-    time.sleep(0.5)
+    wait_until(lambda: spool.stat().st_size >= len(samples), f"{name}: the spool doesn't grow")
     TALLY.same(f"{name}: the spool", digest(spool.read_bytes()), digest(samples))
     sender.kill()
     sender.wait()
@@ -217,7 +185,7 @@ def case_rerun(folder):
         words = words_of(server.port, "again", spool, "48000,2,16")
         sender = start_with_pipes(*words)
         Writer(sender, samples, 39, 0.06, closes=False).start()
-        time.sleep(0.8)
+        wait_until(lambda: spool.exists() and spool.stat().st_size > 100_000, "the spool doesn't grow")
         sender.kill()
         sender.wait()
         kept = spool.read_bytes()
@@ -280,7 +248,8 @@ def case_refusals(folder):
     port = free_port()
     none = folder / "none" / "x.raw"
     status, out, said = run(*words_of(port, "x", none, "48000,1,16"), given=bytes(8))
-    TALLY.holds("no folder", status == 3 and out == "" and said.startswith(f"{none} can't be opened"), f"{status}, {said!r}")
+    is_named = status == 3 and out == "" and said.startswith(f"{none} can't be opened")
+    TALLY.holds("no folder", is_named, f"{status}, {said!r}")
     status, _out, said = run(*words_of(port, "x", folder, "48000,1,16"), given=bytes(8))
     TALLY.holds("a folder", status == 3 and said.startswith(f"{folder} can't be opened"), f"{status}, {said!r}")
     for options in (("--file=x",), ("--follow", "--until=x"), ("--state=x",)):
@@ -306,7 +275,7 @@ def keeps_all(name, folder, port, take, first, status, *options):
     writer.start()
     said = [next_line(sender), next_line(sender)]
     is_early = writer.written < len(samples) // 2
-    TALLY.same(f"{name}: said at once", said, [f"{first}\n", f"{KEEPS}\n"])
+    TALLY.same(f"{name}: said at once", said, [first, f"{KEEPS}\n"])
     TALLY.holds(f"{name}: said at once", is_early, f"after {writer.written} bytes")
     writer.join(LONGEST_WAIT)
     found = finish_written(sender)
@@ -319,12 +288,13 @@ def case_refused_name(folder):
     """While the server refuses, the whole input is kept, and can be sent under another name."""
     with serving(folder) as server:
         other = random.Random(45).randbytes(2 * 60_000)
-        TALLY.same("taken", run(*words_of(server.port, "taken", folder / "other.raw", "48000,1,16"), given=other)[0], 0)
-        first = "Conflict: another request was sent under number 1"
+        words = words_of(server.port, "taken", folder / "other.raw", "48000,1,16")
+        TALLY.same("taken", run(*words, given=other)[0], 0)
+        first = "Conflict: another request was sent under number 1\n"
         spool, samples = keeps_all("conflict", folder, server.port, "taken", first, 1)
         words = ["--file" if word == "--spool" else word for word in words_of(server.port, "free", spool, "48000,1,16")]
         TALLY.same("sent under another name", run(*words), (0, settled(requests_of(samples, 2)), ""))
-        TALLY.same("sent under another name", digest(samples_of(folder, "free")), digest(samples))
+        TALLY.same("sent under another name", digest(samples_in(folder, "free")), digest(samples))
 
 
 def case_given_up(folder):
@@ -344,7 +314,7 @@ def case_one_sender(folder):
         sender = start_with_pipes(*words)
         sender.stdin.write(samples)
         sender.stdin.flush()
-        time.sleep(1.0)
+        wait_until(lambda: spool.exists() and spool.stat().st_size == len(samples), "the spool doesn't grow")
         found = run(*words, given=bytes(1_000))
         TALLY.same("a second sender", found, (3, "", f"{spool} can't be opened: another sender uses it\n"))
         sender.stdin.close()
@@ -404,9 +374,11 @@ def case_full_disk(folder):
             TALLY.holds("a full disk: soon", time.monotonic() - begun < LONGEST_WAIT / 3, "it took too long")
             lines = said.splitlines()
             is_said = len(lines) == 2 and lines[0].startswith("send: the spool can't be written: ")
-            TALLY.holds("a full disk", status == 3 and is_said and lines[1].startswith("send: Read at "), f"{status}, {said!r}")
+            is_said = is_said and lines[1].startswith("send: Read at ")
+            TALLY.holds("a full disk", status == 3 and is_said, f"{status}, {said!r}")
             kept = spool.read_bytes()
-            TALLY.holds("a full disk: the spool", len(kept) > 400_000 and samples.startswith(kept), f"{len(kept)} bytes")
+            is_kept = len(kept) > 400_000 and samples.startswith(kept)
+            TALLY.holds("a full disk: the spool", is_kept, f"{len(kept)} bytes")
             # its whole blocks have their verdicts before that is said
             TALLY.same("a full disk: sent", out, settled(1 + len(kept) // LONGEST_BLOCK))
     finally:

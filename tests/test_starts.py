@@ -16,17 +16,17 @@ import subprocess
 import sys
 
 sys.dont_write_bytecode = True  # nothing is left beside this script
+from kit.folders import ends_of, exchange, folder_in, has_next, HEADER_LEN, restored, says, small_take
 from kit.network import CANT_GO_ON, connect, finish, free_port, hear_all, LOCAL, LONGEST_WAIT, PROGRAM, reason, run
 from kit.network import run_cases, Server, start, stopped, TALLY
 from kit.refuser import Refused
-from kit.takes import ASK, BYE_FRAME, CONFLICT, DELAYED_STORE, message, NEXT, notice, STORED, Take, verdict
+from kit.takes import ASK, BYE_FRAME, CONFLICT, DELAYED_STORE, message, NEXT, notice, STORED, verdict
 from kit.watcher import ClosingWatcher, Fault, Watcher
 
 LONGEST_RUN = 240  # seconds, for all of it
 LIMIT = 65_536  # bytes
 JOURNAL = ("--until-stopped", "--journal", "--limit", str(LIMIT))
 MANY = (*JOURNAL, "--recorders", "4")
-HEADER_LEN = 47  # of a journal, in bytes
 UNREADABLE = b"the server can't start: its folder can't be read or written\n"
 BROKEN = f"{reason(errno.EIO)}\n".encode()
 CHANCE = random.Random(1)
@@ -39,38 +39,6 @@ def resumed(count):
 def journaled(folder, count, *options, watch=None):
     """A server over the folder that resumes this many takes."""
     return Server(folder, *(options or JOURNAL), opening=resumed(count), watch=watch)
-
-
-def exchange(server, said):
-    """What the server replies to these messages."""
-    with connect(server.port) as peer:
-        peer.sendall(said + BYE_FRAME)
-        return hear_all(peer)
-
-
-def says(name, server, take, numbers, code=STORED):
-    """These numbers of a take get this verdict."""
-    messages = take.messages()
-    said = b"".join(messages[number] for number in numbers)
-    wanted = b"".join(verdict(take.name, number, code) for number in numbers)
-    TALLY.same(name, exchange(server, said), wanted)
-
-
-def has_next(name, server, take, number):
-    """The server asks for this number of a take next."""
-    said = message(take.name, 0, bytes([ASK]))
-    TALLY.same(name, exchange(server, said), notice(take.name, 0, NEXT, number))
-
-
-def small_take(name="a1"):
-    """A take of eleven requests, whose blocks have an odd length."""
-    return Take(name, 99, 7, block=33, markers=[(1, 4), (2, 9)])
-
-
-def folder_in(place):
-    folder = place / "takes"
-    folder.mkdir()
-    return folder
 
 
 def left_by(place, *takes, count=None):
@@ -271,18 +239,6 @@ def case_odd_entry(place):
 # Journals that were cut, or changed
 
 
-def restored(folder, saved):
-    for path in folder.iterdir():
-        path.unlink()
-    for name, content in saved.items():
-        (folder / name).write_bytes(content)
-
-
-def ends_of(journal):
-    """Where the header and each entry of a journal end."""
-    return [place + 1 for place, byte in enumerate(journal) if byte == 2]
-
-
 def case_cuts(place):
     """A journal that is cut has the numbers of its whole entries; what comes again is stored again, at its place."""
     take = small_take()
@@ -470,6 +426,26 @@ def case_full_at_a_recovery(place):
     for take in takes:
         content = (folder / f"{take.name}.wav").read_bytes()
         TALLY.same(f"after a full disk: the file of {take.name}", content, take.file(limit=LIMIT))
+
+
+def case_failed_sync(place):
+    """A sync that fails ends the server before a reply leaves, and names the take, which the next server stores."""
+    take, told = small_take(), "a sync of it or its journal failed; mount its file system anew, or restart the machine"
+    for options, printed in ((JOURNAL, ["exchange 0 NotKept"]), (MANY, [])):
+        for name in ("a1.journal", "a1.wav"):
+            home = place / f"{len(options)}-{name}"
+            home.mkdir()
+            folder = folder_in(home)
+            fault = Fault(f"sync-data {name}")
+            server = journaled(folder, 0, *options, "--sync", watch=lambda fault=fault: Watcher(fault))
+            with connect(server.port) as peer:
+                peer.sendall(take.messages()[0])
+                TALLY.same(f"no sync of {name}: the peer", hear_all(peer), b"")
+            why = f"the store fails: {folder}/{name}: {reason(errno.EIO)}\n{folder}/a1.wav: {told}\n"
+            TALLY.same(f"no sync of {name}: the server", server.end(), (3, printed, why + CANT_GO_ON))
+            server = journaled(folder, 1, *options, "--sync")
+            says(f"no sync of {name}: the next server", server, take, range(len(take.messages())))
+            server.stop(signal.SIGKILL)
 
 
 # The order of writes

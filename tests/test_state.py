@@ -19,6 +19,7 @@ import time
 
 sys.dont_write_bytecode = True  # nothing is left beside this script
 from cases.recordings import TONE_FILE
+from kit.hints import FRUITLESS
 from kit.network import free_port, LOCAL, run, run_cases, Server, start_with_pipes, TALLY
 from kit.uploads import CountingRelay, long_recording, samples_of, serving, settled, words_of, written
 
@@ -277,7 +278,7 @@ def case_no_answer(folder):
         upload(server.port, "none", path, state)
         port = server.port
     found = upload(port, "none", path, state, "--fruitless", "2")
-    TALLY.same("no answer", found, (3, "", "Fruitless: as many links in a row as are allowed settled nothing\n"))
+    TALLY.same("no answer", found, (3, "", FRUITLESS))
 
 
 CASES = [

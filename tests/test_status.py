@@ -8,6 +8,7 @@ sends N made-up requests (default 10000). `promtool` is asked too, where it is i
 """
 import base64
 import contextlib
+import errno
 import hashlib
 import html
 import itertools
@@ -16,6 +17,7 @@ import os
 import random
 import re
 import shutil
+import signal
 import socket
 import subprocess
 import sys
@@ -24,8 +26,9 @@ import time
 
 sys.dont_write_bytecode = True  # nothing is left beside this script
 from kit.network import connect, ends_by_signal, free_port, hear_all, LOCAL, LONGEST_WAIT, narrow, run, run_cases
-from kit.network import same_file, same_settled, send, send_all, Server, stopped, TALLY
-from kit.takes import ASK, BYE_FRAME, message, Take
+from kit.network import same_file, same_settled, send, send_all, Server, stopped, TALLY, wait_until
+from kit.takes import ASK, BYE_FRAME, DELAYED_STORE, message, notice, STORED, Take, verdict
+from kit.watcher import Fault, Watcher
 
 LONGEST_RUN = 240  # seconds, for all of it
 LONGEST_REQUEST = 8_192
@@ -116,7 +119,7 @@ def case_values(folder):
     begun = opened.messages()[:-1]
     with connect(server.port) as peer:
         peer.sendall(b"".join(begun))
-        wait_for(lambda: server.values()["takes"][-1]["next"] == len(begun), "values: the second take")
+        wait_until(lambda: server.values()["takes"][-1]["next"] == len(begun), "the second take doesn't come")
         address = "{}:{}".format(*peer.getsockname())
         values = server.values()
         TALLY.same("values: the peer", values["takes"][-1]["peer"], address)
@@ -127,10 +130,10 @@ def case_values(folder):
         same_page(server, values)
         peer.sendall(BYE_FRAME)
     ends_by_signal("values", server)
-    case_resumed(folder, closed, opened)
+    is_resumed(folder, closed, opened)
 
 
-def case_resumed(folder, closed, opened):
+def is_resumed(folder, closed, opened):
     """A server that goes on shows how many takes its folder had, each of them once it is asked for, and nothing that
     another one counted."""
     server = Shown(folder, "--until-stopped", "--recorders", "8", "--journal", opening=("resumed 2 takes",))
@@ -140,21 +143,12 @@ def case_resumed(folder, closed, opened):
     with connect(server.port) as peer:
         peer.sendall(b"".join(message(take.name, 0, bytes([ASK])) for take in (closed, opened)) + BYE_FRAME)
         hear_all(peer)
-    wait_for(lambda: not server.values()["connections"], "resumed: the recorder has gone")
+    wait_until(lambda: not server.values()["connections"], "the recorder doesn't go")
     values = server.values()
     found = [(take["name"], take["state"], take["quiet_ms"]) for take in values["takes"]]
     TALLY.same("resumed: the takes", found, [(closed.name, "closed", None), (opened.name, "open", None)])
     TALLY.same("resumed: the verdicts", counts(values, "verdicts"), {})
     server.stop()
-
-
-def wait_for(is_so, name):
-    until = time.monotonic() + LONGEST_WAIT
-    while not is_so():
-        if time.monotonic() > until:
-            TALLY.holds(name, False, "doesn't come")
-            return
-        time.sleep(0.05)
 
 
 def same_takes(folder, values, closed, opened):
@@ -248,7 +242,7 @@ def case_refused(folder):
     ]
     with connect(server.port) as peer:
         peer.sendall(b"".join(sent))
-        wait_for(lambda: len(server.values()["takes"]) == 3, "refused: three takes")
+        wait_until(lambda: len(server.values()["takes"]) == 3, "three takes don't come")
         values = server.values()
     wanted = {"Stored": 4, "AlreadyOpen": 1, "NameTaken": 1, "NotOpen": 1}
     TALLY.same("refused: verdicts", counts(values, "verdicts"), wanted)
@@ -383,7 +377,7 @@ def case_unread(folder):
     narrow(server.process.stdout)
     for _ in range(ENDED):
         connect(server.port).close()
-    wait_for(lambda: server.values()["ended"] == ENDED, "unread: each connection ends")
+    wait_until(lambda: server.values()["ended"] == ENDED, "not each connection ends")
     dropped = server.values()["lines_dropped"]
     TALLY.holds("unread: some are left out", 0 < dropped < ENDED, f"{dropped} of {ENDED}")
     found = metrics(server.ask("/metrics")[2].decode()).get("bwingest_lines_dropped_total")
@@ -407,6 +401,61 @@ def case_folder(folder):
     TALLY.same("no folder", server.ask("/healthz")[::2], ("503 Service Unavailable", b"the folder can't be used\n"))
     TALLY.same("no folder: the metrics", server.ask("/metrics")[0], "200 OK")
     stopped("no folder", server)
+
+
+def case_left_out(folder):
+    """A name that is left out is shown with its cause until it is served again."""
+    words = ("--until-stopped", "--recorders", "2", "--journal")
+    take = Take("lost-1", 90_000, 6)
+    server = Shown(folder, *words, opening=("resumed 0 takes",))
+    with connect(server.port) as peer:
+        peer.sendall(b"".join(take.messages()[:3]) + BYE_FRAME)
+        hear_all(peer)
+    server.stop()
+    (folder / "lost-1.wav").rename(folder / "moved")
+    server = Shown(folder, *words, opening=("resumed 1 takes",))
+    TALLY.same("left out: none was asked for", server.values()["left_out"], [])
+    for at in range(2):
+        same_exchange(f"left out: put off, {at}", server, take.messages()[3], notice(take.name, 3, DELAYED_STORE, 0))
+    TALLY.same("left out: well", server.ask("/healthz")[::2], ("200 OK", b"ready\n"))
+    TALLY.same("left out: its cause", server.values()["left_out"], [{"cause": "LostFile", "name": take.name}])
+    found = metrics(server.ask("/metrics")[2].decode()).get("bwingest_takes_left_out")
+    TALLY.same("left out: the metric", found, 1)
+    page = server.ask("/")[2].decode()
+    listed = '<ul id="left_out">\n<li>lost-1: LostFile, left out</li>\n</ul>'
+    TALLY.holds("left out: the page", listed in page, "doesn't list it")
+    (folder / "moved").rename(folder / "lost-1.wav")
+    count = len(take.requests())
+    same_settled("left out: a sender", send(server.port, take), count, count, 0)
+    TALLY.same("left out: served again", server.values()["left_out"], [])
+    ends_by_signal("left out", server, f"{folder}/lost-1.journal: LostFile, left out\n")
+
+
+def case_beginning(folder):
+    """The server isn't well once a take can't begin, until one does. What else fails is a matter of its take."""
+    faults = [Fault("write b2.journal", errno.ENOSPC, 1)]
+    words = ("--until-stopped", "--recorders", "2", "--journal")
+    server = Shown(folder, *words, opening=("resumed 0 takes",), watch=lambda: Watcher(*faults))
+    begun, failing = Take("a1", 90_000, 7), Take("b2", 300, 8)
+    well, unwell = ("200 OK", b"ready\n"), ("503 Service Unavailable", b"the store fails\n")
+    for name, said, answer, health in (
+        ("begins", begun.messages()[0], verdict("a1", 0, STORED), well),
+        ("can't begin", failing.messages()[0], notice("b2", 0, DELAYED_STORE, 0), unwell),
+        ("another goes on", begun.messages()[1], verdict("a1", 1, STORED), unwell),
+        ("begins then", failing.messages()[0], verdict("b2", 0, STORED), well),
+    ):
+        same_exchange(f"beginning: {name}", server, said, answer)
+        TALLY.same(f"beginning: {name}: healthz", server.ask("/healthz")[::2], health)
+    server.observer.faults.append(Fault("write a1.journal", errno.ENOSPC, 1))
+    same_exchange("beginning: one that has begun", server, begun.messages()[2], notice("a1", 2, DELAYED_STORE, 2))
+    TALLY.same("beginning: one that has begun: healthz", server.ask("/healthz")[::2], well)
+    server.stop(signal.SIGKILL)
+
+
+def same_exchange(name, server, said, answer):
+    with connect(server.port) as peer:
+        peer.sendall(said + BYE_FRAME)
+        TALLY.same(name, hear_all(peer), answer)
 
 
 def case_unbound(folder):
@@ -465,6 +514,6 @@ def bother(server, seed):
 if __name__ == "__main__":
     cases = (
         *(case_values, case_refused, case_each_path, case_named_statuses, case_slow, case_idle, case_unread),
-        *(case_folder, case_unbound, case_made_up),
+        *(case_folder, case_left_out, case_beginning, case_unbound, case_made_up),
     )
     sys.exit(run_cases(cases, LONGEST_RUN))

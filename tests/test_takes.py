@@ -11,22 +11,20 @@ import subprocess
 import sys
 
 sys.dont_write_bytecode = True  # nothing is left beside this script
-from kit.folders import FastTake, folder_in, journaled, left_by, line_of, restored, says, small_take, state
-from kit.network import connect, hear_all, run, run_cases, send_words, Server, start, TALLY
-from kit.takes import BYE_FRAME, message, Take, verdict
+from kit.folders import ends_of, exchange, FastTake, folder_in, HEADER_LEN, journaled, left_by, line_of, restored, says
+from kit.folders import small_take, state
+from kit.hints import USAGE
+from kit.network import run, run_cases, send_words, Server, start, TALLY
+from kit.takes import message, Take, verdict
 
 LONGEST_RUN = 180  # seconds, for all of it
-HEADER_LEN = 47  # of a journal, in bytes
 NAME_TAKEN, NOT_OPEN = 1, 3  # verdicts
 CHANCE = random.Random(1)
-USAGE = "\nUsage: bwingest <COMMAND>\n\nFor more information, try '--help'.\n"
 
 
 def is_told(server, name, request, code):
     """The first request of a name gets this verdict."""
-    with connect(server.port) as peer:
-        peer.sendall(message(name, 0, request) + BYE_FRAME)
-        TALLY.same(f"{name}: the server", hear_all(peer), verdict(name, 0, code))
+    TALLY.same(f"{name}: the server", exchange(server, message(name, 0, request)), verdict(name, 0, code))
 
 
 def listed(folder):
@@ -35,11 +33,6 @@ def listed(folder):
 
 def shows(name, folder, lines, status=0):
     TALLY.same(name, listed(folder), (status, "".join(line + "\n" for line in lines), ""))
-
-
-def ends_of(journal):
-    """Where the header and each entry of a journal end."""
-    return [place + 1 for place, byte in enumerate(journal) if byte == 2]
 
 
 # What servers leave

@@ -6,21 +6,23 @@
 Twenty recorders write samples, half of them with OLD's sender and half with PROGRAM's. OLD serves them and is stopped;
 PROGRAM goes on with the open takes; then OLD again, as whoever goes back; and PROGRAM last. Each sender must end with
 status 0, each take be closed, and its file have the samples that were written. Where OLD writes journals of another
-format, PROGRAM must refuse them by name and change nothing, and start once they are given up. The second argument, or
-git with a history, is needed. Prints what differs, and last 'N passed, M failed'.
+format, PROGRAM must leave out its takes by name and change nothing, and take them anew once they are given up. The
+second argument, or git with a history, is needed. Prints what differs, and last 'N passed, M failed'.
 """
 import pathlib
 import subprocess
 import sys
 
 sys.dont_write_bytecode = True  # nothing is left beside this script
-from kit.network import free_port, LOCAL, LONGEST_WAIT, PROGRAM, run, run_cases, STARTED, TALLY
+from kit.network import free_port, LOCAL, LONGEST_WAIT, PROGRAM, run, run_cases, Server, STARTED, TALLY
 from kit.processes import prepare_child
 from kit.recorders import Recorder, wait_until_sent
 from kit.repository import ROOT
-from kit.uploads import folder_in, samples_of
+from kit.uploads import folder_in, samples_of, settled, words_of
 
 RECORDERS = 20
+TONE = ROOT / "examples/tone.wav"
+TONE_REQUESTS = 9
 RELEASED = "release/bwingest"
 OPTIONS = ("--until-stopped", "--journal", "--recorders", "64")
 
@@ -71,7 +73,7 @@ def leave_take(program, takes):
     """Has a program serve and close a take; the first bytes of its journal."""
     port = free_port()
     server = serve(program, takes, port, 0)
-    run("send", "--connect", f"{LOCAL}:{port}", "--name", "tone", "--file", str(ROOT / "examples/tone.wav"))
+    run(*words_of(port, "tone", TONE))
     stop(server)
     return (takes / "tone.journal").read_bytes()[:8]
 
@@ -80,15 +82,18 @@ def files_of(takes):
     return {it.name: it.read_bytes() for it in takes.glob("*.*")}
 
 
-def check_refused(takes, old):
-    """What OLD left is refused, and as it was, until it is given up."""
-    before, address = files_of(takes), f"{LOCAL}:{free_port()}"
-    status, _out, faults = run("serve", "--listen", address, "--folder", str(takes), *OPTIONS)
-    TALLY.same("start over another format", (status, faults), (1, f"{takes}/tone.journal: NotAJournal\n"))
-    TALLY.same("refused files", files_of(takes), before)
+def check_left_out(takes, old):
+    """What OLD left is left out, and stays as it was for OLD, until it is given up: its name is free then."""
+    before, server = files_of(takes), Server(takes, *OPTIONS, opening=("resumed 1 takes",))
+    status, out, _faults = run(*words_of(server.port, "tone", TONE, "--fruitless", "1"))
+    TALLY.same("a take of another format", (status, out), (3, settled(0)))
+    TALLY.same("what is printed of it", server.stop()[2], f"{takes}/tone.journal: NotAJournal, left out\n")
+    TALLY.same("its files", files_of(takes), before)
     stop(serve(old, takes, free_port(), 1))
     TALLY.same("given up", run("takes", "--folder", str(takes), "--give-up", "tone")[0], 0)
-    stop(serve(PROGRAM, takes, free_port(), 0))
+    server = Server(takes, *OPTIONS, opening=("resumed 0 takes",))
+    TALLY.same("taken anew", run(*words_of(server.port, "tone", TONE)), (0, settled(TONE_REQUESTS), ""))
+    server.stop()
 
 
 def case_upgrade(folder):
@@ -96,7 +101,7 @@ def case_upgrade(folder):
     if leave_take(old, left) == leave_take(PROGRAM, folder_in(folder, "own")):
         check_live(folder, old)
     else:
-        check_refused(left, old)
+        check_left_out(left, old)
 
 
 def check_live(folder, old):

@@ -1,7 +1,7 @@
 #!/usr/bin/env python3
 """Runs `send --file` of the built program on files of recordings, against the built server and peers of its own.
 
-The files are in cases_of_recordings.py. What arrives is compared with what hex lines of the same requests bring, which
+The files are in cases/recordings.py. What arrives is compared with what hex lines of the same requests bring, which
 are written by docs/FORMATS.md, and with the samples of the file. Refusals are tried against a listener that must see no
 connection. Links that are cut, other files under a name, servers that go away, and files that change while they are
 sent end as docs/OPERATING.md says. The program is the first argument, or the one of this repository. Prints what
@@ -11,7 +11,6 @@ import contextlib
 import os
 import random
 import re
-import select
 import signal
 import socket
 import sys
@@ -19,18 +18,16 @@ import time
 
 sys.dont_write_bytecode = True  # nothing is left beside this script
 from cases.recordings import CUT, FIELDS, HISTORY, PLAIN, REFUSED, SECOND, SENT, TONE, TONE_FILE
-from kit.hints import bad_setting, hinted, OTHER_NAME
-from kit.network import connect, finish, free_port, hear, hear_batch, LOCAL, LONGEST_WAIT, pass_both_ways
-from kit.network import reason, run, run_cases, Server, start, start_with_pipes, TALLY
+from kit.hints import bad_setting, CHANGED, FRUITLESS, hinted, LOST_TAKE, OTHER_NAME
+from kit.network import connect, finish, free_port, hear, hear_batch, hear_until_it_breaks, LOCAL, LONGEST_WAIT
+from kit.network import pass_both_ways, reason, run, run_cases, Server, start, start_with_pipes, TALLY
+from kit.network import wait_until, WINDOW
 from kit.recordings import cue, data, DESCRIPTION, fmt, Recording, riff
 from kit.takes import BEXT, CONFLICT, DELAYED_STORE, message, notice, STORED, verdict
-from kit.worked import HELD
-from kit.uploads import CountingRelay, folder_in, long_recording, samples_of, serving, settled, words_of, written
+from kit.worked import HELD, TOO_FAR
+from kit.uploads import CountingRelay, folder_in, long_recording, samples_of, serving, settled, unseen, words_of, written
 
 LONGEST_RUN = 170  # seconds, for all of it
-NUMBERS_IN_WINDOW = 16
-CHANGED = "Changed: the file isn't any more what it was\n"
-FRUITLESS = "Fruitless: as many links in a row as are allowed settled nothing\n"
 
 
 def upload(port, name, path, *options):
@@ -81,14 +78,6 @@ def case_fields(folder):
         TALLY.holds("inspect", line in lines, f"no line {line!r} in {out!r}")
 
 
-@contextlib.contextmanager
-def unseen(name):
-    """A listener that must see no connection."""
-    with socket.create_server((LOCAL, 0)) as listener:
-        yield listener.getsockname()[1]
-        TALLY.holds(f"{name}: before any link", not select.select([listener], [], [], 0)[0], "a link was made")
-
-
 def case_refusals(folder):
     """Each file that isn't taken is refused before any link is made."""
     with unseen("refusals") as port:
@@ -106,7 +95,8 @@ def case_refusals(folder):
         TALLY.same("a pipe as input", run(*words, given=TONE_FILE), (3, "", "/dev/stdin is a pipe: use --spool\n"))
         for file in (path, written(folder, TONE_FILE)):
             for text in ("description", "other=x", "date=2024_05_17"):
-                TALLY.same(f"--set={text}", upload(port, "x", file, f"--set={text}"), (2, "", bad_setting(text.split("=")[0])))
+                found = upload(port, "x", file, f"--set={text}")
+                TALLY.same(f"--set={text}", found, (2, "", bad_setting(text.split("=")[0])))
 
 
 def case_garbage(folder):
@@ -182,7 +172,7 @@ def case_taken_name(folder):
     is_refused = status == 1 and said == "" and re.match(r"settled (\d+)\nstored 0\nrefused 0 NameTaken\n", out)
     TALLY.holds("a taken name", is_refused, f"{status}, {out!r}, {said!r}")
     count = int(out.split()[1]) if is_refused else 0
-    TALLY.holds("a taken name", count <= NUMBERS_IN_WINDOW, f"{count} requests were sent")
+    TALLY.holds("a taken name", count <= WINDOW, f"{count} requests were sent")
     server.process.terminate()
     server.process.wait()
     TALLY.same("a taken name: the file", (takes / "old.wav").read_bytes(), b"what stood there")
@@ -206,9 +196,7 @@ def case_server_goes_away(folder):
     words = words_of(server.port, "gone", written(folder, file), "--fruitless", "2")
     sender = start_with_pipes(*words)
     arrived = folder / "takes" / "gone.wav"
-    until = time.monotonic() + LONGEST_WAIT
-    while time.monotonic() < until and not (arrived.exists() and arrived.stat().st_size > 1_000_000):
-        time.sleep(0.01)
+    wait_until(lambda: arrived.exists() and arrived.stat().st_size > 1_000_000, "too little arrives")
     server.process.kill()
     server.process.wait()
     status, out, said = finish(sender)
@@ -265,21 +253,13 @@ def case_delayed(folder):
         with peer:
             peer.recv(65_536)
             peer.sendall(notice("late", 0, DELAYED_STORE, 0))
-            TALLY.holds("DelayedStore", hear_to_the_end(peer), "the link stays")
+            peer.settimeout(LONGEST_WAIT)
+            hear_until_it_breaks(peer)  # a link that stays ends the case
         peer, _ = listener.accept()
         with connect(server.port) as there:
             pass_both_ways({peer: there, there: peer}, {peer: 1 << 40, there: 1 << 40})
         peer.close()
         TALLY.same("DelayedStore", finish(sender), (0, settled(9), ""))
-
-
-def hear_to_the_end(peer):
-    """Whether the other side ends the link, within a while."""
-    peer.settimeout(LONGEST_WAIT)
-    with contextlib.suppress(ConnectionError):
-        while peer.recv(65_536):
-            pass
-    return True
 
 
 def case_conflict_by_peer(folder):
@@ -308,6 +288,23 @@ def case_conflict_beside_stored(folder):
             peer.sendall(stored + notice("two", 1, CONFLICT, count))
             said = "Conflict: another request was sent under number 1\n" + OTHER_NAME
             TALLY.same("Conflict beside Stored", finish(sender), (1, settled(count), said))
+
+
+def case_too_far_by_peer(folder):
+    """A peer that has lost the take finds the next request too far: that ends it, with what was settled before."""
+    recording, file = long_recording(40)
+    said = [message("lost", number, request) for number, request in enumerate(recording.requests())]
+    first = WINDOW
+    with socket.create_server((LOCAL, 0)) as listener:
+        sender = start_with_pipes(*words_of(listener.getsockname()[1], "lost", written(folder, file)))
+        peer, _ = listener.accept()
+        with peer:
+            TALLY.same("TooFar: the window", hear(peer, len(b"".join(said[:first]))), b"".join(said[:first]))
+            peer.sendall(b"".join(verdict("lost", number, STORED) for number in range(first)))
+            TALLY.same("TooFar: the next request", hear(peer, len(said[first])), said[first])
+            peer.sendall(notice("lost", first, TOO_FAR, 0))
+            wanted = f"TooFar: the server lacks requests before number {first}\n{LOST_TAKE}"
+            TALLY.same("TooFar by a peer", finish(sender), (1, settled(first), wanted))
 
 
 def case_body_of_another(folder):
@@ -356,6 +353,7 @@ CASES = [
     case_delayed,
     case_conflict_by_peer,
     case_conflict_beside_stored,
+    case_too_far_by_peer,
     case_body_of_another,
     case_killed,
 ]

@@ -13,13 +13,13 @@ import time
 
 sys.dont_write_bytecode = True  # nothing is left beside this script
 from kit.folders import folder_in, journaled, left_by, line_of, says, seconds, small_take, state
+from kit.hints import USAGE
 from kit.network import LONGEST_WAIT, run, run_cases, start, TALLY
 from kit.takes import Take
 from kit.terminals import Glass, open_terminal, pieces_of
 
 LONGEST_RUN = 120  # seconds, for all of it
 HEADING = "STATE         RECORDED    GROWTH     UNCHANGED  NAME"
-USAGE = "\nUsage: bwingest <COMMAND>\n\nFor more information, try '--help'.\n"
 PIPE = subprocess.PIPE
 
 
@@ -44,7 +44,7 @@ class Screens:
             self.glass.feed(text)
 
     def until(self, screens):
-        """Reads until so many screens are whole: nothing follows for a second."""
+        """Reads until so many screens are whole; the next one comes a second after the last."""
         end = time.monotonic() + LONGEST_WAIT
         while self.glass.screens < screens and time.monotonic() < end:
             self.read(0.05)
@@ -93,11 +93,11 @@ def case_pipe(place):
     says("b2: the server", server, growing, range(5))
     says("a1: the server", server, still, range(len(still.messages())))
     process = start("takes", "--folder", str(folder), "--watch", stdout=PIPE, stderr=PIPE)
-    time.sleep(0.5)
+    shown = screen_lines(process)
     says("b2: the next block", server, growing, [5])
-    time.sleep(2.0)
+    shown += screen_lines(process) + screen_lines(process)
     process.kill()
-    out, faults = process.communicate()
+    _, faults = process.communicate()
     grown = frames_of(growing, 6) - frames_of(growing, 5)
     whole = len(still.messages())
     wanted = [
@@ -108,8 +108,16 @@ def case_pipe(place):
         *screen(1, [row(growing, 6, 0, 1), row(still, whole, 0, 2)]),
         "",
     ]
-    TALLY.same("three screens", (out.decode().split("\n"), faults), ([*wanted, ""], b""))
+    TALLY.same("three screens", (shown, faults), (wanted, b""))
     server.stop(signal.SIGKILL)
+
+
+def screen_lines(process):
+    """The lines of the next screen in a pipe, up to the empty one that ends it."""
+    lines = [process.stdout.readline().decode()]
+    while lines[-1] not in ("\n", ""):
+        lines.append(process.stdout.readline().decode())
+    return [line.removesuffix("\n") for line in lines]
 
 
 def case_long(place):

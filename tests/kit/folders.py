@@ -2,9 +2,10 @@
 import signal
 
 from kit.network import connect, hear_all, Server, TALLY
-from kit.takes import BYE_FRAME, STORED, Take, verdict
+from kit.takes import ASK, BYE_FRAME, message, NEXT, notice, STORED, Take, verdict
 
 JOURNAL = ("--until-stopped", "--journal")
+HEADER_LEN = 47  # of a journal, in bytes
 
 
 class FastTake(Take):
@@ -20,12 +21,24 @@ def journaled(folder, count, *options):
     return Server(folder, *JOURNAL, *options, opening=(f"resumed {count} takes",))
 
 
+def exchange(server, said):
+    """What the server replies to these messages."""
+    with connect(server.port) as peer:
+        peer.sendall(said + BYE_FRAME)
+        return hear_all(peer)
+
+
 def says(name, server, take, numbers, code=STORED):
     """These numbers of a take get this verdict."""
     messages = take.messages()
-    with connect(server.port) as peer:
-        peer.sendall(b"".join(messages[number] for number in numbers) + BYE_FRAME)
-        TALLY.same(name, hear_all(peer), b"".join(verdict(take.name, number, code) for number in numbers))
+    said = b"".join(messages[number] for number in numbers)
+    TALLY.same(name, exchange(server, said), b"".join(verdict(take.name, number, code) for number in numbers))
+
+
+def has_next(name, server, take, number):
+    """The server asks for this number of a take next."""
+    said = message(take.name, 0, bytes([ASK]))
+    TALLY.same(name, exchange(server, said), notice(take.name, 0, NEXT, number))
 
 
 def folder_in(place, name="takes"):
@@ -65,7 +78,13 @@ def line_of(take, count):
     return f"{take.name} {word} frames {frames} seconds {seconds(frames, take.RATE)} next {count}"
 
 
+def ends_of(journal):
+    """Where the header and each entry of a journal end."""
+    return [place + 1 for place, byte in enumerate(journal) if byte == 2]
+
+
 def restored(folder, saved):
+    """The folder has these files, and no others."""
     for path in folder.iterdir():
         path.unlink()
     for name, content in saved.items():

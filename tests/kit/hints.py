@@ -18,12 +18,16 @@ OTHER_NAME = (
 )
 LOST_TAKE = "hint: the server hasn't the take any more: send it again under another name\n"
 
+USAGE = "\nUsage: bwingest <COMMAND>\n\nFor more information, try '--help'.\n"
+
 HINTS = (
     (r"NotWave at 0", CONVERT),
     (r"NotWave at 4|NoSize at \d+|Truncated at \d+", MEND),
     (r"Read at 0", NO_BYTES),
 )
 
+CHANGED = "Changed: the file isn't any more what it was\n"
+FRUITLESS = "Fruitless: as many links in a row as are allowed settled nothing\n"
 REFUSED = "send: connection refused\n"
 TIMED_OUT = "send: timed out: the server doesn't answer\n"
 CLOSED = "send: the server closed the connection\n"

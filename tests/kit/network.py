@@ -30,12 +30,22 @@ STARTED = []
 
 WINDOW = 16
 LEAST_LIMIT = 8_192
-CANT_GO_ON = "the server can't go on: its folder is gone, or nothing can be waited for\n"
+CANT_GO_ON = "the server can't go on: a sync failed, its folder is gone, or nothing can be waited for\n"
 UNSETTLED = "not every request has its verdict yet\n"
 
 
 class Fault(Exception):
     """Something that was waited for didn't happen."""
+
+
+def wait_until(is_so, what):
+    """Waits until something is so; after how many seconds it was."""
+    began = time.monotonic()
+    while not is_so():
+        if time.monotonic() - began > LONGEST_WAIT:
+            raise Fault(what)
+        time.sleep(0.01)
+    return time.monotonic() - began
 
 
 TALLY = Tally()

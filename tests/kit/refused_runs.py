@@ -1,4 +1,4 @@
-"""The runs of refuse_calls: of a command with one call refused, and what may come of it."""
+"""The runs of test_refused_calls.py: of a command with one call refused, and what may come of it."""
 import subprocess
 
 from kit.refuser import Refused

@@ -1,4 +1,4 @@
-"""Shards and HAProxy, by the files of deploy/: servers with standbys, the balancer, certificates, and senders of files."""
+"""Shards and HAProxy, by the files of deploy/: servers with standbys, the balancer, certificates, senders of files."""
 import socket
 import ssl
 import subprocess
@@ -6,7 +6,7 @@ import threading
 import time
 
 from kit import network
-from kit.network import Fault, LOCAL, free_port, prepare_child, start, start_with_pipes
+from kit.network import free_port, LOCAL, prepare_child, start, start_with_pipes, wait_until
 from kit.recordings import data, fmt, Recording, riff
 from kit.repository import ROOT
 from kit.takes import ASK, BYE_FRAME, message
@@ -70,16 +70,6 @@ def answers(port):
             return bool(peer.recv(64))
     except OSError:
         return False
-
-
-def wait_until(is_so, what, seconds=30):
-    """Waits until something is so; after how many seconds it was."""
-    began = time.monotonic()
-    while not is_so():
-        if time.monotonic() - began > seconds:
-            raise Fault(what)
-        time.sleep(0.05)
-    return time.monotonic() - began
 
 
 class Balancer:

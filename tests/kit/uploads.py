@@ -1,9 +1,13 @@
 """What the scripts that send recordings share: files, servers over them, a relay that counts."""
 import contextlib
 import random
+import select
+import socket
+import subprocess
 
-from kit.network import close_at_once, connect, LOCAL, pass_both_ways, Relay, run, Server
+from kit.network import close_at_once, connect, LOCAL, pass_both_ways, Relay, run, Server, start, TALLY
 from kit.recordings import data, fmt, Recording, riff
+from kit.takes import LONGEST_BLOCK
 
 
 def written(folder, file, name="take.wav"):
@@ -36,6 +40,28 @@ def serving(folder, *options):
     finally:
         server.process.terminate()
         server.process.wait()
+
+
+def serve_again(port, takes):
+    """A server at this port that goes on with what an earlier one left."""
+    words = ("serve", "--listen", f"{LOCAL}:{port}", "--folder", str(takes), "--until-stopped", "--journal")
+    process = start(*words, stdout=subprocess.PIPE, stderr=subprocess.DEVNULL)
+    process.stdout.readline()
+    return process
+
+
+@contextlib.contextmanager
+def unseen(name):
+    """The port of a listener that must see no connection."""
+    with socket.create_server((LOCAL, 0)) as listener:
+        yield listener.getsockname()[1]
+        TALLY.holds(f"{name}: before any link", not select.select([listener], [], [], 0)[0], "a link was made")
+
+
+def requests_of(samples, align, frames=None):
+    """How many requests bring samples: OPEN, a block for each so many frames, CLOSE."""
+    size = align * (frames or LONGEST_BLOCK // align)
+    return 2 + -(-len(samples) // size)
 
 
 def long_recording(blocks, seed=9):
