@@ -487,7 +487,7 @@ def case_made_up(folder):
     strangers = [threading.Thread(target=bother, args=(server, at)) for at in range(STRANGERS)]
     for stranger in strangers:
         stranger.start()
-    for batch in itertools.cycle(range(32)):  # of eight names each, as many as a server takes; then they are sent again
+    for batch in itertools.cycle(range(31)):  # of eight names each, so that a place stays free; then they are sent again
         takes = [Take(f"beside-{batch}-{at}", 60_000, 8 * batch + at) for at in range(8)]
         outputs = send_all(server.port, takes, "--rounds", "1000", "--timeout", "20")
         for take, output in zip(takes, outputs):

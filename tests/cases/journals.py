@@ -5,6 +5,7 @@ Headers and entries are worked out from docs/FORMATS.md, with Python's SHA-256.
 import errno
 import hashlib
 
+from kit.network import CANT_GO_ON, hear_all, TALLY
 from kit.takes import BLOCK as BLOCK_KIND, DELAYED_STORE, LARGEST_LIMIT, little, message, notice, STORED, verdict
 from kit.watched import accepted_in_turn, BLOCK, CLOSE, CLOSE_EMPTY, CLOSE_MARKED, IN_TURN, LISTED, MARK, OPEN
 from kit.watched import said_to_a_file, store_fails, Watched
@@ -167,21 +168,24 @@ def case_noted_again(folder):
 
 
 def stops_at(folder, file):
-    """After a failed sync of this file a name has no note more, and another name has."""
+    """After a failed sync of this file no reply leaves and nothing more is written or synced: the server ends."""
     it = Journaled(folder, "--sync", faults=[Fault(f"sync-data {file}")])
     peer = it.comes(accepted_in_turn(7))
     it.made.add("a1")
-    noted = entry("a1", 0, bytes.fromhex(OPEN[0]))
-    calls = [*it.begin_calls("a1"), *OPEN[1]("a1"), *it.note_calls("a1", noted)]
+    content = bytes.fromhex(OPEN[0])
+    calls = [*it.begin_calls("a1"), *OPEN[1]("a1"), *it.note_calls("a1", entry("a1", 0, content))]
+    said = message("a1", 0, content)
+    it.peers[peer].sendall(said)
+    TALLY.same(f"a failed sync of {file}: the peer", hear_all(it.peers[peer]), b"")
+    lost = f"{it.folder}/a1.wav: a sync of it or its journal failed; mount its file system anew, or restart the machine\n"
+    why = f"{store_fails(it.folder / file)}{lost}{CANT_GO_ON}"
+    it.ended(f"a failed sync of {file}", (3, ["exchange 0 NotKept"], why))
+    kinds = ("write a1.", "sync", "send ")
     until = calls.index(f"sync-data {file}")
-    why = store_fails(it.folder / file)
-    failed = [f"sync-data {file} fails {errno.EIO}", *said_to_a_file(why)]
-    it.is_delayed(peer, "a1", OPEN, [*calls[:until], *failed])
-    again = ["seek a1.journal 0", f"read a1.journal {header('a1').hex()}"]
-    it.is_delayed(peer, "a1", OPEN, again)
-    it.asks(peer, "b2", OPEN)
-    it.goes(peer, 0)
-    it.ends(f"a failed sync of {file}", [0], why)
+    wanted = [*(call for call in calls[:until] if call.startswith(kinds)), f"sync-data {file} fails {errno.EIO}"]
+    lines = it.lines()
+    made = [line for line in lines[lines.index(f"receive peer-{peer} {said.hex()}") :] if line.startswith(kinds)]
+    TALLY.same(f"a failed sync of {file}: the calls", made, wanted)
 
 
 def case_stopped_at_its_header(folder):
