@@ -124,7 +124,8 @@ def case_exchanged(place):
 
 
 def case_files(place):
-    """What is wrong without the samples is reported first: a file that is gone, cut, longer, or with another header."""
+    """What is wrong without the samples is reported first: a file that is gone or cut, and that of a closed take that has
+    another header or is longer; nothing is wrong with a longer one of an open take."""
     takes = [small_take(name) for name in ("a1", "b2", "c3", "d4", "e5", "f6", "g7")]
     counts = [5, 5, 5, len(takes[3].messages()), len(takes[4].messages()), 5, 5]
     folder = left_by(folder_in(place), zip(takes, counts))
@@ -135,7 +136,7 @@ def case_files(place):
     (folder / "e5.wav").write_bytes((folder / "e5.wav").read_bytes() + bytes(1))
     (folder / "h8.journal").write_bytes((folder / "f6.journal").read_bytes())
     (folder / "g7.wav").write_bytes(turned((folder / "g7.wav").read_bytes(), 32) + bytes(9))
-    lines = ["a1 LostFile", "b2 LostFile", "c3 LongFile", "d4 ChangedFile", "e5 ChangedFile"]
+    lines = ["a1 LostFile", "b2 LostFile", line_of(takes[2], 5), "d4 ChangedFile", "e5 ChangedFile"]
     lines += [line_of(takes[5], 5), line_of(takes[6], 5), "h8 OtherName"]
     before = state(folder)
     shows("damages", folder, lines, 1)

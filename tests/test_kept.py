@@ -209,7 +209,6 @@ def journal_of_another(folder, take):
 FAULTS = {
     "lost": (lambda folder, take: (folder / f"{take.name}.wav").unlink(), "LostFile"),
     "cut": (cut_file, "LostFile"),
-    "long": (grown_file, "LongFile"),
     "other": (journal_of_another, "OtherName"),
     "magic": (changed_journal(0, 4), "NotAJournal"),
     "turned": (changed_journal(60, 4), "Damaged"),
@@ -217,13 +216,15 @@ FAULTS = {
 
 
 def case_one_bad_name_of_each_kind(place):
-    """All others go on; the bad one is put off and named once, isn't changed, and goes on once it is whole again."""
+    """All others go on, one with a file that is far too long too; the bad one is put off and named once, isn't changed, and
+    goes on once it is whole again."""
     bad = {kind: Take(kind, 99, 1, block=33) for kind in FAULTS}
     sound = takes_of(3, "sound")
     folder = left_by(place, [*bad.values(), *sound], 4)
     whole = {name: found for name, (found, _) in state(folder).items()}
     for kind, (change, _) in FAULTS.items():
         change(folder, bad[kind])
+    grown_file(folder, sound[1])
     before = state(folder)
     server = kept(folder, len(bad) + len(sound))
     for kind, take in bad.items():

@@ -198,7 +198,8 @@ def case_turned_bits(place):
 
 
 def case_files(place):
-    """Files that are gone, shorter, longer or changed, journals of other names, and one take that is as it was."""
+    """Files that are gone or shorter, those of closed takes that are longer or changed, journals of other names, and takes
+    that are as they were, or open with a longer file."""
     takes = [small_take(name) for name in ("a1", "b2", "c3", "d4", "e5", "f6")]
     counts = [5, 5, 5, len(takes[3].messages()), len(takes[4].messages()), 5]
     folder = left_by(folder_in(place), zip(takes, counts))
@@ -210,7 +211,7 @@ def case_files(place):
     (folder / "d4.wav").write_bytes(header)
     (folder / "e5.wav").write_bytes((folder / "e5.wav").read_bytes() + bytes(1))
     (folder / "g7.journal").write_bytes((folder / "f6.journal").read_bytes())
-    lines = ["a1 LostFile", "b2 LostFile", "c3 LongFile", "d4 ChangedFile", "e5 ChangedFile"]
+    lines = ["a1 LostFile", "b2 LostFile", line_of(takes[2], 5), "d4 ChangedFile", "e5 ChangedFile"]
     lines += [line_of(takes[5], 5), "g7 OtherName"]
     before = state(folder)
     shows("damages", folder, lines, 1)
@@ -218,12 +219,12 @@ def case_files(place):
 
 
 def case_mended(place):
-    """What a server mends isn't wrong: a file that is some bytes longer, or whose header is of a shorter take."""
+    """What a server mends isn't wrong: a file that is longer, by whatever, and whose header is of a shorter take."""
     take = small_take()
     folder = left_by(folder_in(place), [(take, 5)])
     content = bytearray((folder / "a1.wav").read_bytes())
     content[4:8] = bytes(4)
-    (folder / "a1.wav").write_bytes(content + bytes(32_769))
+    (folder / "a1.wav").write_bytes(content + bytes(200_000))
     shows("what a server mends", folder, [line_of(take, 5)])
     server = journaled(folder, 1)
     says("a repeat", server, take, range(1))

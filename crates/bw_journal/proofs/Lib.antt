@@ -14,6 +14,7 @@ pub mod HeaderStands
 pub mod BareLaws
 pub mod ReportLaws
 pub mod SurvivingEntries
+pub mod Prefixes
 pub mod WrittenEntries
 pub mod CutLaws
 pub mod Taken
@@ -23,4 +24,5 @@ pub mod BetweenLaws
 pub mod Starts
 pub mod StopLaws
 pub mod ClosedForms
+pub mod ClosingLaws
 pub mod Overwritten

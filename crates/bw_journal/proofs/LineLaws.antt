@@ -6,7 +6,8 @@ use Rattle.std.proofs.lemmas.List.{append-nil, take-append-le}
 use Rattle.std.proofs.lemmas.Bool.{ne_eqb, cases_eq, eqb-true}
 use Rattle.bw_journal.specs.Lines.{AreLineBytes, journal_lines_after, journal_lines, before_zero, IsTorn}
 
-clean_step : (b : ℕ) (line bs : List ℕ) → b ≢ 0 → b ≢ 2 → journal_lines_after line (b ∷ bs) ≡ journal_lines_after (line ++ b ∷ []) bs
+clean_step : (b : ℕ) (line bs : List ℕ) → b ≢ 0 → b ≢ 2 →
+    journal_lines_after line (b ∷ bs) ≡ journal_lines_after (line ++ b ∷ []) bs
 clean_step b line bs h k = rw (ne_eqb b 0 h, ne_eqb b 2 k) refl
 
 zero_ends : (b : ℕ) (line bs : List ℕ) → b ≡ 0 → journal_lines_after line (b ∷ bs) ≡ []
@@ -87,8 +88,10 @@ none_read all b line m h = (0, zero_ends b line m h)
 line_read : (b : ℕ) (line m : List ℕ) → b ≡ 2 → journal_lines_after line (b ∷ m) ≡ line ∷ journal_lines m
 line_read b line m h = rw h refl
 
-whole : (w : ℕ) (written m line : List ℕ) → ((l : List ℕ) → AreFirst (journal_lines_after l written) (journal_lines_after l m)) →
-    (w ≡ 0) ⊎ (w ≡ 0 → ⊥) → (w ≡ 2) ⊎ (w ≡ 2 → ⊥) → AreFirst (journal_lines_after line (w ∷ written)) (journal_lines_after line (w ∷ m))
+whole : (w : ℕ) (written m line : List ℕ) →
+    ((l : List ℕ) → AreFirst (journal_lines_after l written) (journal_lines_after l m)) →
+    (w ≡ 0) ⊎ (w ≡ 0 → ⊥) → (w ≡ 2) ⊎ (w ≡ 2 → ⊥) →
+    AreFirst (journal_lines_after line (w ∷ written)) (journal_lines_after line (w ∷ m))
 whole w written m line below (inl zeroed) other = none_read (journal_lines_after line (w ∷ written)) w line m zeroed
 whole w written m line below (inr some) (inl ends) =
     let found = below [] in (
@@ -132,7 +135,8 @@ torn_prefix (w ∷ written) (b ∷ m) torn = go (cases_eq b 0) torn.0 (torn_pref
     zeroed : b ≡ 0 → IsPrefixBeforeZero (w ∷ written) (b ∷ m)
     zeroed e = record { count = 0; prefix = rw e refl; whole = inl (omega arith) }
 
-    longer : (k : ℕ) → b ≡ w → (k < length written) ⊎ (m ≡ written) → (suc k < length (w ∷ written)) ⊎ (b ∷ m ≡ w ∷ written)
+    longer : (k : ℕ) → b ≡ w → (k < length written) ⊎ (m ≡ written) →
+        (suc k < length (w ∷ written)) ⊎ (b ∷ m ≡ w ∷ written)
     longer k e (inl short) = inl (omega (arith, short))
     longer k e (inr all) = inr (ap (λ (x : ℕ). x ∷ m) e ∙ ap (λ (x : List ℕ). w ∷ x) all)
 

@@ -140,7 +140,8 @@ reports t name n (Some r ∷ rest) used table h =
     })) sum
 
 -- the lines of entries are read, and then those of what follows
-pub entry_lines : (es : List JournalEntry) (more : List ℕ) → journal_lines (sealed_entries es ++ more) ≡ lines_of es ++ journal_lines more
+pub entry_lines : (es : List JournalEntry) (more : List ℕ) → journal_lines (sealed_entries es ++ more) ≡ lines_of es
+    ++ journal_lines more
 entry_lines [] more = refl
 entry_lines (e ∷ es) more =
     ap (λ (x : List ℕ). journal_lines x) (append_assoc (sealed_entry e) (sealed_entries es) more)

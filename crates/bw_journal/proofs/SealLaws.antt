@@ -19,7 +19,8 @@ line_clean c = stuffed_clean (c ++ check c)
 
 pub sealed_first : (c more : List ℕ) → journal_lines (sealed c ++ more) ≡ sealed_line c ∷ journal_lines more
 sealed_first c more =
-    ap (λ (x : List ℕ). journal_lines x) (append_assoc (sealed_line c) (2 ∷ []) more) ∙ line_first (sealed_line c) more (line_clean c)
+    ap (λ (x : List ℕ). journal_lines x) (append_assoc (sealed_line c) (2 ∷ []) more)
+    ∙ line_first (sealed_line c) more (line_clean c)
 
 checked_again : (c : List ℕ) → checked (c ++ check c) ≡ Some c
 checked_again c =

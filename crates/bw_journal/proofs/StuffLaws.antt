@@ -178,7 +178,8 @@ only_end xs len i place low long start last =
           ∙ ap (λ (l : List ℕ). stuffed l ++ 2 ∷ []) (sym (take_none i (take len xs) (omega (arith, size, start))));
       long = length-set xs place 2 ∙ long;
       at = omega (arith, last, long)
-          ∙ ap (λ (l : List ℕ). length (stuffed l)) (sym (ap (λ (n : ℕ). take n (take len xs)) start ∙ take-take len len xs (omega arith)));
+          ∙ ap (λ (l : List ℕ). length (stuffed l))
+          (sym (ap (λ (n : ℕ). take n (take len xs)) start ∙ take-take len len xs (omega arith)));
     }
 
 module _ (p now : List ℕ) (i place : ℕ) (h : IsStuffedFrom p now (suc i) place) where
@@ -225,7 +226,8 @@ module _ (p now : List ℕ) (i place : ℕ) (h : IsStuffedFrom p now (suc i) pla
       let at = two_places few_here in
       let inner = slice_set now a (byte + 3) in
       let inner_long = length-set now a (byte + 3) in
-      let whole : length (stuffed (take i p)) + 2 ≤ length now = omega (arith, at, h.long, ap length h.done, length-drop place now, length-append (stuffed (drop (suc i) p)) (2 ∷ [])) in
+      let whole : length (stuffed (take i p)) + 2 ≤ length now =
+      omega (arith, at, h.long, ap length h.done, length-drop place now, length-append (stuffed (drop (suc i) p)) (2 ∷ [])) in
       record {
         within = omega (arith, h.within);
         waits = take-set-le i inner b 1 (omega (arith, at, eb, low)) ∙ take-set-le i now a (byte + 3) (omega (arith, at, ea, low))

@@ -89,7 +89,8 @@ entries_survive h name log kept tail small whole low torn = (most, fits_in, all)
 
     all_lines : journal_lines (sealed_entries next) ≡ lines_of next
     all_lines =
-        ap (λ (x : List ℕ). journal_lines x) (sym (append-nil (sealed_entries next))) ∙ entry_lines next [] ∙ append-nil (lines_of next)
+        ap (λ (x : List ℕ). journal_lines x) (sym (append-nil (sealed_entries next))) ∙ entry_lines next []
+        ∙ append-nil (lines_of next)
 
     read : journal_lines tail ≡ lines_of (take most next)
     read =

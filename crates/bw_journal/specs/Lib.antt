@@ -12,6 +12,7 @@ pub mod HeaderRefs
 pub mod Faults
 pub mod Stories
 pub mod NotedJournals
+pub mod Closings
 pub mod Rows
 pub mod Stops
 pub mod Recovery

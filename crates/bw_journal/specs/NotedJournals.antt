@@ -144,3 +144,21 @@ EntriesSurvive = (h : Header) (name : List ℕ) (log : Log) (kept : ℕ) (tail :
     (more : ℕ) × (kept + more ≤ log.done)
     × (replay h.limit name (journal_of h name (up_to kept log) ++ tail)
     ≡ Ok (story_of_log h name (up_to (kept + more) log)))
+
+-- These are the journal of some first numbers, among them each whose entry ends within so many bytes,
+-- and a prefix of an entry.
+pub record IsJournalUpTo (h : Header) (name : List ℕ) (log : Log) (count : ℕ) (bytes : List ℕ) :
+    Type 0 where
+  pub kept : ℕ
+  pub fewer : kept ≤ log.done
+  pub each : (n : ℕ) → n ≤ log.done → length (journal_of h name (up_to n log)) ≤ count →
+      n ≤ kept
+  pub tail : List ℕ
+  pub cut : IsCut tail
+  pub notes : bytes ≡ journal_of h name (up_to kept log) ++ tail
+
+-- this holds of each prefix of a journal that has its header
+abbrev pub PrefixesAreJournals : Type 0
+PrefixesAreJournals = (h : Header) (name : List ℕ) (log : Log) (tail : List ℕ) (count : ℕ) →
+    AdmitsDone log → IsCut tail → header_len ≤ count →
+    IsJournalUpTo h name log count (take count (journal_of h name log ++ tail))

@@ -4,18 +4,21 @@ ghost use Rattle.bw_journal.specs.NotedJournals.{CutEntriesAreNone, EntriesAreCl
 ghost use Rattle.bw_journal.specs.NotedJournals.{HeadersReadBack, ReadHeadersStand, HeadersAreClean};
 ghost use Rattle.bw_journal.specs.NotedJournals.{CutHeadersAreNotBegun, TornHeadersAreNotBegun};
 ghost use Rattle.bw_journal.specs.NotedJournals.{JournalsReportLogs, EntriesSurvive};
+ghost use Rattle.bw_journal.specs.NotedJournals.{PrefixesAreJournals};
 ghost use Rattle.bw_journal.specs.Stops.{BooksAreCut, CutBooksAreBooks, EachWorldGoesOn};
 ghost use Rattle.bw_journal.specs.Recovery.{HeldFilesSurvive, FilesAreRepaired, RecoveryHolds};
+ghost use Rattle.bw_journal.specs.Closings.{StoredClosesAreNoted};
 ghost use Rattle.bw_journal.specs.Recovery.{ClosedFilesAreWhole, NewFilesAreBetween};
 
 /// An entry is read back from its bytes, whatever follows; if one is read, its bytes are there; and
-/// none is read from a prefix of one. No byte of one is zero.
+/// none is read from a prefix of one. No byte of one is zero. It notes a close if its CLOSE is stored.
 pub fn law_entries()
     ensures back { JournalEntriesReadBack }
     ensures stand { ReadEntriesStand }
     ensures cut { CutEntriesAreNone }
     ensures clean { EntriesAreClean }
     ensures short { EntriesAreShort }
+    ensures closes { StoredClosesAreNoted }
 {}
 
 /// The same of headers: a prefix of one, or one with zeros, means that the journal isn't begun.
@@ -32,6 +35,8 @@ pub fn law_headers()
 pub fn law_journals()
     ensures cut { JournalsReportLogs }
     ensures torn { EntriesSurvive }
+    // A prefix of a journal is one of fewer numbers.
+    ensures prefix { PrefixesAreJournals }
 {}
 
 /// A stop leaves the done numbers, and a book. In every world of a sender, a network and servers

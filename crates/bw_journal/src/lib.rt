@@ -3,6 +3,7 @@
 //! call.
 #![tactic(auto)]
 
+mod closing;
 mod entry;
 mod fault;
 mod fuse;
@@ -16,6 +17,7 @@ mod seal;
 mod story;
 mod writer;
 
+pub use closing::notes_close;
 pub use entry::{ENTRY_MAX, EntryRef, entry_of};
 pub use fault::ReplayFault;
 pub use fuse::FuseJournal;

@@ -132,7 +132,7 @@ module _ (log : Log) (journal : List ℕ) (is : IsLog log) (ends : ends_with_req
 -- the files
 file_of_open : IsLeftFile None (made false (log_with 1 1).admitted 1) example_limit (Some small_file)
 unfolding computing
-file_of_open = record { long = omega arith; samples = refl; short = omega arith }
+file_of_open = record { long = omega arith; samples = refl }
 
 file_of_closed : IsLeftFile None (made false (log_with 3 3).admitted 3) example_limit (Some small_file)
 unfolding computing

@@ -129,7 +129,8 @@ module _ (existed : List ℕ → Bool) (m : Message) (faults : Faults) (known : 
   filled : (n : ℕ) → n < log.done → (r : Request) × (at log.admitted n ≡ Some r)
   filled n below = go known is_log is_none
     where
-      go : (k : Bool) → (k ≡ true → IsLog log) → (k ≡ false → log ≡ no_log) → (r : Request) × (at log.admitted n ≡ Some r)
+      go : (k : Bool) → (k ≡ true → IsLog log) → (k ≡ false → log ≡ no_log) → (r : Request)
+          × (at log.admitted n ≡ Some r)
       go true h none = let all = (h refl).all_done in at-first_free log.admitted n (omega (arith, all, below))
       go false h none = let empty = ap (λ (l : Log). l.done) (none refl) in absurd (omega (arith, empty, below))
 

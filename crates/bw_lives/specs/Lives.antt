@@ -61,7 +61,8 @@ abbrev pub WasGiven : List Answered → List ℕ → ℕ → Verdict → Type 0
 WasGiven answered name n v = Contains (replies_of answered) (Judged name n v)
 
 -- If a name's take is closed, its file is that of the take, byte for byte.
-abbrev pub HasClosedFile : ℕ → (List ℕ → Option (List ℕ)) → Book → Folder → List ℕ → Type 0
+abbrev pub HasClosedFile : ℕ → (List ℕ → Option (List ℕ)) → Book → Folder → List ℕ →
+    Type 0
 HasClosedFile limit first book f name =
     let t = take_in (is_some (first name)) book name in
     IsTrue t.closed → f.files name ≡ file_of t limit
@@ -96,7 +97,8 @@ module _ {X Y : Type 0} (S : StoreGhosts X) (J : JournalGhosts Y)
   -- As it began it held the book; its frames were turns on that, each on what the one before left, and
   -- it held the last. Of that, or of one in which numbers that waited are done, the done numbers lie in
   -- its folder: the next server begins with these.
-  pub record LifeLeavesBook (limit : ℕ) (first : List ℕ → Option (List ℕ)) (book : Book) (life : Life) :
+  pub record LifeLeavesBook (limit : ℕ) (first : List ℕ → Option (List ℕ)) (book : Book)
+      (life : Life) :
       Type 0 where
     pub began : HoldsKept S J first life.began book
     pub later : Book
@@ -107,7 +109,8 @@ module _ {X Y : Type 0} (S : StoreGhosts X) (J : JournalGhosts Y)
 
   -- so it is from each book that lies there
   abbrev pub LivesLeaveBooks : Type 0
-  LivesLeaveBooks = (limit : ℕ) (first : List ℕ → Option (List ℕ)) (book : Book) (f : Folder) (life : Life) →
+  LivesLeaveBooks = (limit : ℕ) (first : List ℕ → Option (List ℕ)) (book : Book) (f : Folder)
+      (life : Life) →
       LiesIn limit first book f → IsLife limit f life → LifeLeavesBook limit first book life
 
   -- each began over what the one before left
@@ -123,7 +126,8 @@ module _ {X Y : Type 0} (S : StoreGhosts X) (J : JournalGhosts Y)
   -- They leave a folder in which a book lies: it keeps each number that was done at first, each verdict
   -- that one of them gave is that of a done number, each closed take has its file, and each that was
   -- closed at first is what it was.
-  pub record LivesKeepVerdicts (limit : ℕ) (first : List ℕ → Option (List ℕ)) (book : Book) (f : Folder)
+  pub record LivesKeepVerdicts (limit : ℕ) (first : List ℕ → Option (List ℕ)) (book : Book)
+      (f : Folder)
       (lives : List Life) : Type 0 where
     pub after : Book
     pub lies : LiesIn limit first after (folder_after f lives)

@@ -24,7 +24,8 @@ pub record SenderBefore : Type 0 where
 
 -- Under its name nothing but its requests was admitted, and each of these verdicts is that of a done
 -- number.
-pub record IsItsLog (s : SenderBefore) (first : List ℕ → Option (List ℕ)) (Has : ℕ → Verdict → Type 0)
+pub record IsItsLog (s : SenderBefore) (first : List ℕ → Option (List ℕ))
+    (Has : ℕ → Verdict → Type 0)
     (log : Log) : Type 0 where
   pub only : HasOnly s.requests log
   pub kept : (n : ℕ) (v : Verdict) → Has n v → IsVerdictOf (is_some (first s.name)) log n v
@@ -77,5 +78,5 @@ module _ {X Y : Type 0} (S : StoreGhosts X) (J : JournalGhosts Y)
   SendersCountDone = (limit : ℕ) (first : List ℕ → Option (List ℕ)) (book : Book) (f : Folder)
       (s : SenderBefore) (sent : List SentLife) → LiesIn limit first book f → IsTrue (is_name s.name) →
       IsItsLog s first (Had s) (log_of book s.name) →
-      FollowOn S J Fails Differs limit f (map (λ x. x.life) sent) → AllByRecursion (CameOverLinks s) sent →
-      CountsDone limit first f s sent
+      FollowOn S J Fails Differs limit f (map (λ x. x.life) sent) →
+      AllByRecursion (CameOverLinks s) sent → CountsDone limit first f s sent

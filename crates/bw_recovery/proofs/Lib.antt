@@ -10,6 +10,7 @@ pub mod ListForms
 pub mod StoryForms
 pub mod PartForms
 pub mod NameStays
+pub mod FewerDone
 pub mod SortedNames
 pub mod CountForms
 pub mod RestoreForms

@@ -8,17 +8,17 @@ use Rattle.std.proofs.lemmas.List.{take_all, take-take, length-take, length-repl
 use Rattle.std.proofs.Math.Seq.{take-append-add}
 use Rattle.bw_model.specs.Layout.{pad}
 use Rattle.bw_model.specs.Take.{Take, Parts, Format, AreFields, parts}
-use Rattle.bw_model.specs.File.{file_of, file_with, data_place, cues}
+use Rattle.bw_model.specs.File.{file_of, data_place, cues}
 use Rattle.bw_model.specs.Book.{Log, made}
 use Rattle.bw_model.proofs.HeaderLaws.{length-header}
 use Rattle.bw_disk.specs.Volumes.{IsCutInPart}
 use Rattle.bw_journal.specs.JournalHeaders.{Header, header_bytes}
-use Rattle.bw_journal.specs.Entries.{sealed_entry}
-use Rattle.bw_journal.specs.NotedJournals.{IsCut, AdmitsDone, journal_of, story_of_log}
+use Rattle.bw_journal.specs.NotedJournals.{AdmitsDone, journal_of, story_of_log}
 use Rattle.bw_journal.specs.Replays.{Story, JournalFault, NotBegun, replay}
 use Rattle.bw_journal.specs.Stories.{story_of}
+use Rattle.bw_journal.proofs.Prefixes.{cut_shorter}
 use Rattle.bw_journal.proofs.Taken.{taken-made}
-use Rattle.bw_recovery.specs.Files.{header_by, mended, file_after, longest_excess}
+use Rattle.bw_recovery.specs.Files.{header_by, mended, file_after}
 use Rattle.bw_recovery.specs.Left.{IsLeftOpen, IsLeftFile}
 use Rattle.bw_recovery.specs.LeftNames.{header_beside, IsLeftName, IsLeftTorn}
 use Rattle.bw_recovery.specs.Adoptions.{with_header, shortened, with_pad, patched, adopted, SparesSamples, SparesTake}
@@ -30,7 +30,7 @@ use Rattle.bw_recovery.specs.declared.adoption.Mending.{Mending}
 use Rattle.bw_recovery.specs.declared.adoption.Adoption.{Adoption}
 use Rattle.bw_recovery.specs.declared.adoption.Adoption.TheVariants.{Keep, SetAside, Mend}
 use Rattle.bw_recovery.specs.declared.finding.Begun.{Begun}
-use Rattle.bw_recovery.proofs.FileLemmas.{after_open, file_long}
+use Rattle.bw_recovery.proofs.FileLemmas.{after_open}
 use Rattle.bw_recovery.proofs.MadeLemmas.{made_fields}
 use Rattle.bw_recovery.proofs.PartForms.{headed_length, shortened_length}
 use Rattle.bw_recovery.proofs.StoryForms.{begun_story, torn_story, ok_no_err, same_story}
@@ -78,19 +78,14 @@ pad_fits limit t f m header bytes fields same front pads =
     let s = shortened_length m.cut (with_header m.header header bytes) bytes (headed_length m.header header bytes front) in
     omega (arith, a, b, c, d, e, h, r, p, s)
 
-still_short : (now found ends whole : ℕ) → (now ≤ found) ⊎ (now ≤ ends + 1) → found ≤ whole + longest_excess → ends ≤ whole →
-    now ≤ whole + longest_excess
-still_short now found ends whole (inl s) h l = omega (arith, s, h)
-still_short now found ends whole (inr s) h l = omega (arith, s, l)
-
 -- the file of an open take that is mended
 mend_stays : (limit : ℕ) (t : Take) (m : Mending) (header : List ℕ) (file later : Option (List ℕ)) (closed : Bool)
     (o : Option Format) → AreFields t.fields → t.taken ≡ false → t.closed ≡ closed → t.format ≡ o →
     (IsTrue (t.taken || t.closed) → Mend m ≡ Keep) →
     option_map (patched m header) file ≡ file_after limit (parts t) file → SparesSamples (parts t) m header →
     ((place count : ℕ) → MendsInPart place count m header file later) →
-    MatchBool closed (file ≡ file_of t limit) (IsLeftOpen t limit o file) →
-    MatchBool closed (later ≡ file_of t limit) (IsLeftOpen t limit o later)
+    MatchBool closed (file ≡ file_of t limit) (IsLeftOpen t o file) →
+    MatchBool closed (later ≡ file_of t limit) (IsLeftOpen t o later)
 mend_stays limit t m header file later true o fields free c e keeps after spares part left =
     absurd (mend_no_keep m (keeps (right_holds t.taken t.closed c)))
 mend_stays limit t m header file later false None fields free c e keeps after spares part left =
@@ -110,25 +105,20 @@ mend_stays limit t m header (Some bytes) later false (Some f) fields free c e ke
       pad = pad_fits limit t f m header bytes fields same (omega (arith, long, front));
     } in
     let k = part place n bytes refl around in
-    subst (IsLeftOpen t limit (Some f)) (sym k.stands) (record {
-      long = k.long;
-      samples = k.samples ∙ left.samples;
-      short = still_short (length k.later) (length bytes) (place + n) (length (file_with f t limit)) k.short left.short
-          (file_long t f limit fields);
-    })
+    subst (IsLeftOpen t (Some f)) (sym k.stands) (record { long = k.long; samples = k.samples ∙ left.samples })
 
 -- what stands under the name of a take that isn't opened
 aside_stays : (limit : ℕ) (t : Take) (file later : Option (List ℕ)) (closed : Bool) (o : Option Format) →
     t.taken ≡ false → t.closed ≡ closed → t.format ≡ o → (IsTrue (t.taken || t.closed) → SetAside ≡ Keep) →
     None ≡ file_after limit (parts t) file → (later ≡ file) ⊎ (later ≡ None) →
-    MatchBool closed (file ≡ file_of t limit) (IsLeftOpen t limit o file) →
-    MatchBool closed (later ≡ file_of t limit) (IsLeftOpen t limit o later)
+    MatchBool closed (file ≡ file_of t limit) (IsLeftOpen t o file) →
+    MatchBool closed (later ≡ file_of t limit) (IsLeftOpen t o later)
 aside_stays limit t file later true o free c e keeps after part left =
     absurd (aside_no_keep (keeps (right_holds t.taken t.closed c)))
 aside_stays limit t file later false None free c e keeps after (inl same) left =
-    subst (IsLeftOpen t limit None) (sym same) left
+    subst (IsLeftOpen t None) (sym same) left
 aside_stays limit t file later false None free c e keeps after (inr none) left =
-    subst (IsLeftOpen t limit None) (sym none) tt
+    subst (IsLeftOpen t None) (sym none) tt
 aside_stays limit t None later false (Some f) free c e keeps after part left = absurd left
 aside_stays limit t (Some bytes) later false (Some f) free c e keeps after part left =
     absurd (none_some _ (after ∙ after_open limit (parts t) (Some f) (Some bytes) free c e))
@@ -171,32 +161,6 @@ adopted_file limit name journal file later b found spares part first log whole i
     (found.after ∙ ap (λ (r : Result Story JournalFault). file_beside limit r file) found.story
     ∙ ap (λ (p : Parts). file_after limit p file) is)
     (subst (λ (p : Parts). SparesTake p b.adoption b.header.items) is spares) part left
-
--- fewer bytes of an entry
-cut_shorter : (tail : List ℕ) (k : ℕ) → IsCut tail → IsCut (take k tail)
-cut_shorter tail k c = go (cases_lt k c.count)
-  where
-    bytes : List ℕ
-    bytes = sealed_entry c.entry
-
-    go : (k < c.count) ⊎ (c.count ≤ k) → IsCut (take k tail)
-    go (inl below) = record {
-      entry = c.entry;
-      notable = c.notable;
-      count = k;
-      short = (let s = c.short in omega (arith, below, s));
-      prefix = ap (take k) c.prefix ∙ take-take k c.count bytes (omega (arith, below));
-    }
-    go (inr above) =
-        let l = ap (λ (z : List ℕ). length z) c.prefix in
-        let n = length-take c.count bytes in
-        record {
-          entry = c.entry;
-          notable = c.notable;
-          count = c.count;
-          short = c.short;
-          prefix = take_all k tail (omega (arith, l, n, above)) ∙ c.prefix;
-        }
 
 -- a name whose journal is begun: some bytes past its entries were cut, and its file is one that stays
 pub begun_left : (limit : ℕ) (name journal : List ℕ) (file later_journal later : Option (List ℕ)) (b : Begun) →

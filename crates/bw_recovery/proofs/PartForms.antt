@@ -62,8 +62,8 @@ same_from (suc place) (x ∷ xs) (y ∷ ys) l h =
     same_from place xs ys (omega (arith, l)) (λ k b. h (suc k) (omega (arith, b)))
 
 -- any bytes over those before the samples
-pub torn_part : (place count n : ℕ) (found later : List ℕ) (after : Option (List ℕ)) → n ≤ place → place + count ≤ length found →
-    Torn found 0 n later → after ≡ Some later → KeepsSamples place count found after
+pub torn_part : (place count n : ℕ) (found later : List ℕ) (after : Option (List ℕ)) → n ≤ place →
+    place + count ≤ length found → Torn found 0 n later → after ≡ Some later → KeepsSamples place count found after
 torn_part place count n found later after front long torn is =
     let low : length found ≤ length later = torn.no_shorter in
     let high : length later ≤ max (length found) (0 + n) = torn.no_longer in

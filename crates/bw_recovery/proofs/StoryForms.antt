@@ -24,8 +24,8 @@ same_story s t r a b = same (sym a ∙ b)
     same x = cc
 
 -- what a journal that a stop left begun says
-pub begun_story : (limit : ℕ) (first : Option (List ℕ)) (name : List ℕ) (log : Log) (journal : List ℕ) (file : Option (List ℕ)) →
-    limit < 2 ^ 32 → AdmitsDone log → IsLeftBegun limit first name log journal file →
+pub begun_story : (limit : ℕ) (first : Option (List ℕ)) (name : List ℕ) (log : Log) (journal : List ℕ)
+    (file : Option (List ℕ)) → limit < 2 ^ 32 → AdmitsDone log → IsLeftBegun limit first name log journal file →
     replay limit name journal ≡ Ok (story_of_log (header_beside limit first) name log)
 begun_story limit first name log journal file small whole left =
     ap (replay limit name) left.notes

@@ -87,13 +87,15 @@ pub record MendsAround (place count : ℕ) (m : Mending) (header found : List �
   pub pad : m.pad ≡ true → length (shortened m.cut found) ≤ place + count
 
 -- what a mending leaves of a file, whole or in part
-abbrev pub MendsInPart : ℕ → ℕ → Mending → List ℕ → Option (List ℕ) → Option (List ℕ) → Type 0
+abbrev pub MendsInPart : ℕ → ℕ → Mending → List ℕ → Option (List ℕ) → Option (List ℕ) →
+    Type 0
 MendsInPart place count m header before after =
     (found : List ℕ) → before ≡ Some found → MendsAround place count m header found →
     KeepsSamples place count found after
 
 -- what is left under the name, whichever call fails
-abbrev pub AdoptsInPart : ℕ → ℕ → Adoption → List ℕ → Option (List ℕ) → Option (List ℕ) → Type 0
+abbrev pub AdoptsInPart : ℕ → ℕ → Adoption → List ℕ → Option (List ℕ) →
+    Option (List ℕ) → Type 0
 AdoptsInPart place count Keep header before after = after ≡ before
 AdoptsInPart place count SetAside header before after = (after ≡ before) ⊎ (after ≡ None)
 AdoptsInPart place count (Mend m) header before after = MendsInPart place count m header before after

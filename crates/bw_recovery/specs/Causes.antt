@@ -6,7 +6,7 @@ use Rattle.bw_journal.specs.declared.fault.ReplayFault.TheVariants.{OtherLimit a
 use Rattle.bw_journal.specs.declared.fault.ReplayFault.TheVariants.{OtherVerdict, NotAnEntry, Damaged}
 use Rattle.bw_journal.specs.declared.fault.ReplayFault.TheVariants.{Memory as NoMemory}
 use Rattle.bw_recovery.specs.declared.fault.FileFault.{FileFault}
-use Rattle.bw_recovery.specs.declared.fault.FileFault.TheVariants.{Lost, Changed, Long}
+use Rattle.bw_recovery.specs.declared.fault.FileFault.TheVariants.{Lost, Changed}
 use Rattle.bw_recovery.specs.declared.finding.NameFault.{NameFault as Fault}
 use Rattle.bw_recovery.specs.declared.finding.NameFault.TheVariants.{Journal, OtherLimit, File}
 
@@ -25,7 +25,6 @@ journal_text NoMemory = codes "Memory"
 abbrev pub file_cause_text : FileFault → List ℕ
 file_cause_text Lost = codes "LostFile"
 file_cause_text Changed = codes "ChangedFile"
-file_cause_text Long = codes "LongFile"
 
 -- why a name can't be resumed; of another limit, which one to give
 abbrev pub cause_text : Fault → List ℕ

@@ -46,7 +46,8 @@ abbrev pub BecomesAs : (Option (List ℕ) → Option (List ℕ)) → Option (Lis
 BecomesAs f before after = after ≡ f before
 
 -- the take's file was moved, or nothing was changed
-abbrev pub MayMove : List ℕ → List ℕ → (List ℕ → Option (List ℕ)) → (List ℕ → Option (List ℕ)) → Type 0
+abbrev pub MayMove : List ℕ → List ℕ → (List ℕ → Option (List ℕ)) →
+    (List ℕ → Option (List ℕ)) → Type 0
 MayMove folder name before after = KeepsEach before after ⊎ IsAside folder name before after
 
 -- A file keeps so many bytes from a place on, and is no longer than it was, or than one byte past them.

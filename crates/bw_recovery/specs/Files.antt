@@ -8,7 +8,7 @@ use Rattle.bw_model.specs.Take.{Format, Parts}
 use Rattle.bw_model.specs.File.{header, data_place, form_size, cues}
 use Rattle.bw_model.specs.Layout.{pad}
 use Rattle.bw_recovery.specs.declared.fault.FileFault.{FileFault}
-use Rattle.bw_recovery.specs.declared.fault.FileFault.TheVariants.{Lost, Changed, Long}
+use Rattle.bw_recovery.specs.declared.fault.FileFault.TheVariants.{Lost, Changed}
 
 -- where the samples end
 abbrev pub data_end : Parts → ℕ
@@ -22,10 +22,6 @@ header_by limit p f = header f p.fields p.history p.samples_len (length (cues p.
 abbrev pub file_len : Parts → ℕ
 file_len p = 8 + form_size (length p.history) p.samples_len (length (cues p.closed p.markers))
 
--- the most bytes that a killed call leaves after a file: a block and a pad byte
-abbrev pub longest_excess : ℕ
-longest_excess = 32769
-
 -- it has the length and the header of its take
 abbrev pub is_unchanged : ℕ → Parts → Format → List ℕ → Bool
 is_unchanged limit p f found =
@@ -37,7 +33,6 @@ unfoldable pub opened_fault : ℕ → Parts → Format → List ℕ → Option F
 opened_fault limit p f found = first_that_holds (
     (nat_lt (length found) (data_end p), Lost)
     ∷ (p.closed && not (is_unchanged limit p f found), Changed)
-    ∷ (nat_lt (file_len p + longest_excess) (length found), Long)
     ∷ [])
 
 -- the same of a take that may have no format, and a file that may be missing

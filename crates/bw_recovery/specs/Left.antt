@@ -1,30 +1,27 @@
 -- What a stop leaves of a take's file.
 use Rattle.std.specs.Prelude.{◌≡◌, ℕ, ◌+◌, ◌≤◌, true, Option, Some, None, is_some}
-use Rattle.std.specs.Prelude.{IfSome, List, length, take, drop}
+use Rattle.std.specs.Prelude.{List, length, take, drop}
 use Rattle.std.specs.Bool.{MatchBool}
 use Rattle.bw_model.specs.Take.{Take, Format, AreFields, parts}
-use Rattle.bw_model.specs.File.{file_of, file_with, data_place}
-use Rattle.bw_model.specs.Limits.{longest_history}
-use Rattle.bw_recovery.specs.Files.{longest_excess, file_fault, file_after}
+use Rattle.bw_model.specs.File.{file_of, data_place}
+use Rattle.bw_recovery.specs.Files.{file_fault, file_after}
 
--- The samples are at their place, and no more follows the file than a killed call leaves.
-pub record IsMendable (t : Take) (f : Format) (limit : ℕ) (found : List ℕ) : Type 0 where
+-- The samples are at their place, whatever follows them.
+pub record IsMendable (t : Take) (found : List ℕ) : Type 0 where
   pub long : data_place (length t.history) + length t.samples ≤ length found
   pub samples : take (length t.samples) (drop (data_place (length t.history)) found) ≡ t.samples
-  pub short : length found ≤ length (file_with f t limit) + longest_excess
 
--- the file of a take whose name was free: there is none without a format, or the beginning of one;
--- an open one is mendable
-abbrev pub IsLeftOpen : Take → ℕ → Option Format → Option (List ℕ) → Type 0
-IsLeftOpen t limit None found = IfSome found (λ bytes. length bytes ≤ data_place longest_history)
-IsLeftOpen t limit (Some f) None = ⊥
-IsLeftOpen t limit (Some f) (Some found) = IsMendable t f limit found
+-- the file of a take whose name was free: any or none without a format, and an open one is mendable
+abbrev pub IsLeftOpen : Take → Option Format → Option (List ℕ) → Type 0
+IsLeftOpen t None found = Unit {0}
+IsLeftOpen t (Some f) None = ⊥
+IsLeftOpen t (Some f) (Some found) = IsMendable t found
 
 -- the file of a take by what was under its name: that stays, and a closed take's file is whole
 abbrev pub IsLeftFile : Option (List ℕ) → Take → ℕ → Option (List ℕ) → Type 0
 IsLeftFile (Some stood) t limit found = found ≡ Some stood
 IsLeftFile None t limit found =
-    MatchBool t.closed (found ≡ file_of t limit) (IsLeftOpen t limit t.format found)
+    MatchBool t.closed (found ≡ file_of t limit) (IsLeftOpen t t.format found)
 
 -- what is to be under the name: what was, or the file of the take
 abbrev pub wanted_file : Option (List ℕ) → Take → ℕ → Option (List ℕ)

@@ -5,6 +5,7 @@ pub mod Changes
 pub mod Names
 pub mod LeftNames
 pub mod StaysLeft
+pub mod FewerDone
 pub mod FilesRead
 pub mod Paths
 pub mod Findings

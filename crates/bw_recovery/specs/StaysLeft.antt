@@ -14,21 +14,23 @@ StaysLeft limit name journal file later_journal later_file =
     IsLeftName limit first name log later_journal later_file
 
 -- the same of each name of a folder
-abbrev pub NamesStayLeft : ℕ → List ℕ → (List ℕ → Option (List ℕ)) → (List ℕ → Option (List ℕ)) →
+abbrev pub NamesStayLeft : ℕ → List ℕ → (List ℕ → Option (List ℕ)) →
+    (List ℕ → Option (List ℕ)) →
     (List ℕ → Option (List ℕ)) → (List ℕ → Option (List ℕ)) → Type 0
 NamesStayLeft limit folder notes takes later_notes later_takes = (name : List ℕ) →
     StaysLeft limit name (notes (notes_path folder name)) (takes (wave_path folder name))
     (later_notes (notes_path folder name)) (later_takes (wave_path folder name))
 
 -- a server over this book and these files left this in a folder
-abbrev pub IsLeftOf : ℕ → List ℕ → (List ℕ → Option (List ℕ)) → Book → (List ℕ → Option (List ℕ)) →
-    (List ℕ → Option (List ℕ)) → Type 0
+abbrev pub IsLeftOf : ℕ → List ℕ → (List ℕ → Option (List ℕ)) → Book →
+    (List ℕ → Option (List ℕ)) → (List ℕ → Option (List ℕ)) → Type 0
 IsLeftOf limit folder first book notes takes =
     IsLeft limit first book (λ name. notes (notes_path folder name))
     (λ name. takes (wave_path folder name))
 
 -- Whatever book an earlier server left in a folder, it is left there still.
-abbrev pub BooksStayLeft : ℕ → List ℕ → (List ℕ → Option (List ℕ)) → (List ℕ → Option (List ℕ)) →
+abbrev pub BooksStayLeft : ℕ → List ℕ → (List ℕ → Option (List ℕ)) →
+    (List ℕ → Option (List ℕ)) →
     (List ℕ → Option (List ℕ)) → (List ℕ → Option (List ℕ)) → Type 0
 BooksStayLeft limit folder notes takes later_notes later_takes =
     (first : List ℕ → Option (List ℕ)) (book : Book) →

@@ -16,9 +16,6 @@ use bw_layout::{Heading, Limit, form_size};
 use bw_take::TakeState;
 use std::alloc::{AllocError, Global};
 
-/// At most this many bytes follow a file that a killed call leaves: a block and a pad byte.
-const REST_MAX: u64 = 32_769;
-
 /// What is read of a take's file.
 #[derive(Clone, Copy)]
 pub struct FileFacts<'a> {
@@ -130,7 +127,7 @@ pub fn judge_file(
     // Left as it is, set aside, or header, samples and pad byte, as the definitions say.
     ensures after { (file : Option (List ℕ)) → Sees state.now.parts file found.entry →
         IfOk result (λ a. adopted a header.now file ≡ file_after limit state.now.parts file) }
-    // The first fault that the definitions have (Lost, Changed, Long), and only then.
+    // The first fault that the definitions have (Lost, Changed), and only then.
     ensures err { (file : Option (List ℕ)) → Sees state.now.parts file found.entry →
         IfErr result (λ e. file_fault limit state.now.parts file ≡ Some e) }
     // A file that existed before, and that of a closed take, is kept.
@@ -220,8 +217,6 @@ fn opened_fault(state: &TakeState, len: u64, unchanged: bool) -> Option<FileFaul
         Some(FileFault::Lost)
     } else if state.is_closed() && !unchanged {
         Some(FileFault::Changed)
-    } else if len > file_len(state) + REST_MAX {
-        Some(FileFault::Long)
     } else {
         None
     }

@@ -51,6 +51,5 @@ pub fn file_cause(fault: FileFault) -> &'static str
     match fault {
         FileFault::Lost => "LostFile",
         FileFault::Changed => "ChangedFile",
-        FileFault::Long => "LongFile",
     }
 }

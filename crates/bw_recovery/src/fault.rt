@@ -12,7 +12,4 @@ pub enum FileFault {
     /// Its take is closed, and it has another length or another header.
     #[error("the file of a closed take has changed")]
     Changed,
-    /// More follows it than a killed call leaves.
-    #[error("the take's file is too long")]
-    Long,
 }

@@ -1,11 +1,11 @@
 //! Laws of what a stop leaves. Each function's contract is one; nothing runs.
 ghost use Rattle.bw_recovery.specs.Left.{LeftFilesAreMended};
 ghost use Rattle.bw_recovery.specs.LeftNames.{LeftNamesAreResumed};
+ghost use Rattle.bw_recovery.specs.FewerDone.{LeftFilesAreOfFewer, CutNamesAreOfFewer};
 
 /// Nothing is wrong with a file that a stop left, and what becomes of it is the file of its take.
 pub fn law_left_files()
-    // One that existed before stays, a closed take's is whole, and of an unopened take there is at
-    // most a header.
+    // One that existed before stays, a closed take's is whole, and an open take's has its samples.
     ensures { LeftFilesAreMended }
 {}
 
@@ -13,4 +13,12 @@ pub fn law_left_files()
 /// numbers, and journal and file are those of its log afterwards.
 pub fn law_left_names()
     ensures { LeftNamesAreResumed }
+{}
+
+/// What a stop left of a name, with a prefix of its journal in place of the whole, is what it leaves of
+/// a log of which fewer numbers are done: so a file may be ahead of its journal by any numbers.
+pub fn law_fewer_done()
+    ensures files { LeftFilesAreOfFewer }
+    // Each number stays done whose entry ends in the prefix.
+    ensures names { CutNamesAreOfFewer }
 {}

@@ -34,7 +34,8 @@ paths_of places = record {
 }
 
 -- what was at a path is at another, where nothing was; if nothing was there, nothing has changed
-abbrev pub IsPutAside : Option (List ℕ) → Option (List ℕ) → Option (List ℕ) → Option (List ℕ) → Type 0
+abbrev pub IsPutAside : Option (List ℕ) → Option (List ℕ) → Option (List ℕ) →
+    Option (List ℕ) → Type 0
 IsPutAside None aside from to = (from ≡ None) × (to ≡ aside)
 IsPutAside (Some found) aside from to = (aside ≡ None) × (from ≡ None) × (to ≡ Some found)
 
@@ -47,8 +48,8 @@ pub record PutsAside (from to : List ℕ) (before after : List ℕ → Option (L
 pub record PutsBothAside (p : TakePaths) (before after : List ℕ → Option (List ℕ)) : Type 0 where
   pub journal : IsPutAside (before p.notes) (before p.notes_to) (after p.notes) (after p.notes_to)
   pub take : IsPutAside (before p.wave) (before p.wave_to) (after p.wave) (after p.wave_to)
-  pub others : (path : List ℕ) → path ≢ p.notes → path ≢ p.notes_to → path ≢ p.wave → path ≢ p.wave_to →
-      after path ≡ before path
+  pub others : (path : List ℕ) → path ≢ p.notes → path ≢ p.notes_to → path ≢ p.wave →
+      path ≢ p.wave_to → after path ≡ before path
 
 -- A take of which a journal or a file exists is given up.
 pub record PutsTakeAsideAt (p : TakePaths) (before after : List ℕ → Option (List ℕ)) : Type 0 where
@@ -60,7 +61,8 @@ abbrev pub IsBarred : List ℕ → List ℕ → (List ℕ → Option (List ℕ))
 IsBarred from to contents = IsSome (contents from) × IsSome (contents to)
 
 -- the disk failed before anything was put aside, after the journal was, or after both were
-abbrev pub StopsBoth : TakePaths → (List ℕ → Option (List ℕ)) → (List ℕ → Option (List ℕ)) → Type 0
+abbrev pub StopsBoth : TakePaths → (List ℕ → Option (List ℕ)) → (List ℕ → Option (List ℕ)) →
+    Type 0
 StopsBoth p before after =
     KeepsEach before after ⊎ PutsAside p.notes p.notes_to before after ⊎ PutsBothAside p before after
 
@@ -75,7 +77,8 @@ StaysUnlessFailedAt p Disk before after = StopsBoth p before after
 StaysUnlessFailedAt p Memory before after = KeepsEach before after
 
 -- a take of a folder is given up
-abbrev pub PutsTakeAside : List ℕ → List ℕ → (List ℕ → Option (List ℕ)) → (List ℕ → Option (List ℕ)) → Type 0
+abbrev pub PutsTakeAside : List ℕ → List ℕ → (List ℕ → Option (List ℕ)) →
+    (List ℕ → Option (List ℕ)) → Type 0
 PutsTakeAside folder name before after =
     PutsTakeAsideAt (paths_in folder name) before after
 

@@ -25,8 +25,8 @@ names_next takes new take ys y is so named =
 
 -- and one more take that is as far as is reported of it
 pub each_next : {D F : Type 0} (G : Ghosts D F) (folder : List ℕ) (d e : D) (takes new : List TakeProgress)
-    (take : TakeProgress) (name : List ℕ) (found : TakeSummary) → new ≡ takes ++ take ∷ [] → StaysWhole G d e → IsTrue (G.honest d) →
-    All (λ t. ShowsSummary (summary_in Journals folder (G.contents d) t.name) t) takes → take.name ≡ name →
+    (take : TakeProgress) (name : List ℕ) (found : TakeSummary) → new ≡ takes ++ take ∷ [] → StaysWhole G d e →
+    IsTrue (G.honest d) → All (λ t. ShowsSummary (summary_in Journals folder (G.contents d) t.name) t) takes → take.name ≡ name →
     ShowsSummary found take → (IsTrue (G.honest e) → found ≡ summary_in Journals folder (G.contents e) name) →
     All (λ t. ShowsSummary (summary_in Journals folder (G.contents d) t.name) t) new
 each_next G folder d e takes new take name found pushed same honest so named shows is =

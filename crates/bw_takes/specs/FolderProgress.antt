@@ -70,7 +70,8 @@ pub record ReadsFolder {D F : Type 0} (G : Ghosts D F) (d : D) (folder : List �
   pub are : IsTrue (G.honest d) → AreTakesOf folder (G.contents d) takes
 
 -- the same as what a reader of a disk may read
-abbrev pub reads_folder : {D F : Type 0} → Ghosts D F → D → List ℕ → List TakeProgress → D → Type 0
+abbrev pub reads_folder : {D F : Type 0} → Ghosts D F → D → List ℕ → List TakeProgress → D →
+    Type 0
 reads_folder G d folder takes d' = ReadsFolder G d folder takes d'
 
 -- a disk that can't be read stays as it is

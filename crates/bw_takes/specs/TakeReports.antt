@@ -63,7 +63,8 @@ summary_in depth folder contents name = take_summary (is_deep depth) name
     (contents (notes_path folder name)) (contents (wave_path folder name))
 
 -- its line
-abbrev pub line_in : LineStyle → Depth → List ℕ → (List ℕ → Option (List ℕ)) → List ℕ → List ℕ
+abbrev pub line_in : LineStyle → Depth → List ℕ → (List ℕ → Option (List ℕ)) → List ℕ →
+    List ℕ
 line_in style depth folder contents name =
     styled_line style name (summary_in depth folder contents name)
 
@@ -101,8 +102,8 @@ told_after style depth folder contents told (name, Some entry) = record {
 }
 
 -- one more take is reported
-abbrev pub TellsTake : LineStyle → Depth → List ℕ → (List ℕ → Option (List ℕ)) → List ℕ → Told → Told →
-    Type 0
+abbrev pub TellsTake : LineStyle → Depth → List ℕ → (List ℕ → Option (List ℕ)) → List ℕ →
+    Told → Told → Type 0
 TellsTake style depth folder contents name before after = (unread : Option TakeEntry)
     × (after ≡ told_after style depth folder contents before (name, unread))
 

@@ -49,7 +49,8 @@ changed_beside name p None file = None
 changed_beside name p (Some journal) file = changed_in name p journal file
 
 -- the same by what the journal says
-abbrev pub changed_by : List ℕ → List ℕ → Result Story JournalFault → Option (List ℕ) → Option ℕ
+abbrev pub changed_by : List ℕ → List ℕ → Result Story JournalFault → Option (List ℕ) →
+    Option ℕ
 changed_by name journal (Err f) file = None
 changed_by name journal (Ok s) file = changed_in name s.parts journal file
 

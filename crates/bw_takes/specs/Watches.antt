@@ -22,8 +22,8 @@ pub record WatchSide (T P W E : Type 0) : Type 1 where
   pub reported : Writer E
 
 abbrev pub watch_side : {T P W E : Type 0} → (T → List ℕ → List TakeProgress → T → Type 0) →
-    (T → List ℕ → ReadFault → T → Type 0) → (P → ℕ → P → Type 0) → Writer W → Writer E →
-    WatchSide T P W E
+    (T → List ℕ → ReadFault → T → Type 0) → (P → ℕ → P → Type 0) → Writer W →
+    Writer E → WatchSide T P W E
 watch_side reads fails waits out reported = record {
   reads = reads;
   fails = fails;
@@ -55,8 +55,8 @@ pub record IsWatchRound {T P W E : Type 0} (side : WatchSide T P W E) (style : S
   pub reports : x'.faults ≡ x.faults
 
 -- so many rounds, the first after no screen, and the rows of the last screen
-abbrev pub AreWatchRounds : {T P W E : Type 0} → WatchSide T P W E → ScreenStyle → List ℕ → ℕ → List Row →
-    WatchWorld T P W E → WatchWorld T P W E → Type 0
+abbrev pub AreWatchRounds : {T P W E : Type 0} → WatchSide T P W E → ScreenStyle → List ℕ → ℕ →
+    List Row → WatchWorld T P W E → WatchWorld T P W E → Type 0
 AreWatchRounds side style folder zero rows x x' = (rows ≡ []) × (x' ≡ x)
 AreWatchRounds side style folder (suc n) rows x x' = (before : List Row) × (mid : WatchWorld _ _ _ _)
     × AreWatchRounds side style folder n before x mid × IsWatchRound side style folder before rows mid x'
@@ -73,8 +73,8 @@ TellsUnread Memory folder did = IsOutOfMemory did
 
 -- what was done in the round in which a watch ended: the takes couldn't be read, or the screen of what
 -- was read wasn't printed
-abbrev pub IsLastRound : {T P W E : Type 0} → WatchSide T P W E → ScreenStyle → List ℕ → List Row →
-    T → T → Outcome → Type 0
+abbrev pub IsLastRound : {T P W E : Type 0} → WatchSide T P W E → ScreenStyle → List ℕ →
+    List Row → T → T → Outcome → Type 0
 IsLastRound side style folder before t t' did =
     ((fault : ReadFault) × side.fails t folder fault t' × TellsUnread fault folder did)
     ⊎ ((takes : List TakeProgress) × side.reads t folder takes t' × CutsScreen style before takes did)
@@ -89,7 +89,8 @@ pub record EndsWatch {T P W E : Type 0} (side : WatchSide T P W E) (style : Scre
   pub unpaused : x'.pause ≡ x.pause
 
 -- all rounds that there may be are over
-pub record IsWatchOver {T P W E : Type 0} (count : ℕ) (exit : Exit) (x x' : WatchWorld T P W E) : Type 0 where
+pub record IsWatchOver {T P W E : Type 0} (count : ℕ) (exit : Exit)
+    (x x' : WatchWorld T P W E) : Type 0 where
   pub most : count ≡ 2 ^ 64 - 1
   pub exit_is : exit ≡ Done
   pub same : x' ≡ x

@@ -26,8 +26,10 @@ loop-step-preserved c =
     let last : i ≡ c.args.len - (c.loop-step.step + 1) = omega arith in
     subst (λ (n : ℕ). IsStuffedFrom (take c.args.len c.args.bytes.now) c.if-byte-lt-ADDED.bytes n c.if-byte-lt-ADDED.place) last
     (elim c.if-byte-lt-ADDED.branch [
-      | then-byte-lt-ADDED w ↦ two_put _ c.loop-step.bytes i c.loop-step.place h _ _ _ _ w.if-byte-lt-ADDED.true refl refl w.bytes-is w.place-is
-      | else-byte-lt-ADDED w ↦ one_put _ c.loop-step.bytes i c.loop-step.place h _ _ _ (omega (arith, w.if-byte-lt-ADDED.false)) refl w.bytes-is w.place-is
+      | then-byte-lt-ADDED w ↦ two_put _ c.loop-step.bytes i c.loop-step.place h _ _ _ _ w.if-byte-lt-ADDED.true refl refl w.bytes-is
+          w.place-is
+      | else-byte-lt-ADDED w ↦ one_put _ c.loop-step.bytes i c.loop-step.place h _ _ _ (omega (arith, w.if-byte-lt-ADDED.false)) refl
+          w.bytes-is w.place-is
     ])
 
 pub returns : goal.returns

@@ -56,7 +56,8 @@ loop-step-preserved c =
     let short : length line + 1 ≤ length (drop c.loop-step.used bytes) =
     omega (arith, c.in-Some.ensures.within, ap length (take_rest bytes c.loop-step.used)) in
     let more : List (List ℕ) = journal_lines (drop (c.loop-step.used + (length line + 1)) bytes) in
-    let few : length line + 1 ≤ 8297 = omega (arith, opened_short line content opens, c.in-Some-entry_of.ensures.short, c.as_slice.ensures.len) in
+    let few : length line + 1 ≤ 8297 =
+    omega (arith, opened_short line content opens, c.in-Some-entry_of.ensures.short, c.as_slice.ensures.len) in
     record {
       known = same_story more s (e, suc (length line)) c.apply.new.state.parts c.apply.new.table.items
           (c.loop-step.used + (length line + 1))

@@ -8,7 +8,8 @@ returns-in-Ok-clause-ok g c =
     round_is _ _ _ _ (λ rows. rows.items) _ _ _ _ _ c.deref.ensures.value c.in-Ok.ensures.ok s.rows s.printed s.waited s.unreported
 
 pub returns-in-Ok-clause-err : goal.returns-in-Ok-clause-err
-returns-in-Ok-clause-err g c = end_is _ _ _ _ (λ rows. rows.items) _ _ _ _ _ c.deref.ensures.value c.in-Ok.ensures.ok c.show_read.ensures.err
+returns-in-Ok-clause-err g c =
+    end_is _ _ _ _ (λ rows. rows.items) _ _ _ _ _ c.deref.ensures.value c.in-Ok.ensures.ok c.show_read.ensures.err
 
 pub returns-in-Err-clause-err : goal.returns-in-Err-clause-err
 returns-in-Err-clause-err g c =
