@@ -278,7 +278,7 @@ UNREADABLE = b"the server can't start: its folder can't be read or written\n"
 def what_a_server_breaks(kind, found, wanted):
     """One that serves to its end has stored and reported the whole take: what was refused is stored when sent again."""
     status, out, errors, file, is_stored = found
-    if (status, out) == (3, b"") and errors.startswith(UNREADABLE):
+    if (status, out) == (3, b"") and UNREADABLE in errors:
         return "a file" if file else None
     if status == 0 and not is_stored:
         return "other replies"
@@ -295,6 +295,7 @@ SERVERS = {
     (): ("growth", "write", "seek", "open", "sync", "receive", "send"),
     ("--recorders", "2"): ("growth", "write", "seek", "open", "sync", "receive", "send"),
     ("--journal", "--sync"): ("growth", "write", "open", "sync", "list", "lock"),
+    ("--journal",): ("sync",),  # those at a CLOSE
     ("--recorders", "2", "--status"): ("growth", "receive", "send"),
 }
 

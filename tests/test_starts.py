@@ -17,8 +17,8 @@ import sys
 
 sys.dont_write_bytecode = True  # nothing is left beside this script
 from kit.folders import ends_of, exchange, folder_in, has_next, HEADER_LEN, restored, says, small_take
-from kit.network import CANT_GO_ON, connect, finish, free_port, hear_all, LOCAL, LONGEST_WAIT, PROGRAM, reason, run
-from kit.network import run_cases, Server, start, stopped, TALLY
+from kit.network import CANT_GO_ON, connect, finish, free_port, hear, hear_all, LOCAL, LONGEST_WAIT, PROGRAM, reason
+from kit.network import run, run_cases, Server, start, stopped, TALLY
 from kit.refuser import Refused
 from kit.takes import ASK, BYE_FRAME, CONFLICT, DELAYED_STORE, message, NEXT, notice, STORED, verdict
 from kit.watcher import ClosingWatcher, Fault, Watcher
@@ -176,19 +176,21 @@ def case_other_limit(place):
 
 
 def case_files(place):
-    """Files that are gone, shorter, longer or changed are left out, and one that is as it was goes on."""
+    """Files that are gone or shorter, and that of a closed take that has changed, are left out; those of open takes go on
+    that are as they were, or longer."""
     takes = [small_take(name) for name in ("a1", "b2", "c3", "d4")]
     folder = left_by(place, *takes, count=5)
     whole = {take.name: (folder / f"{take.name}.wav").read_bytes() for take in takes}
     (folder / "a1.wav").unlink()
     (folder / "b2.wav").write_bytes(whole["b2"][:-34])
     (folder / "c3.wav").write_bytes(whole["c3"] + bytes(40_000))
-    left_out("three files", folder, {"a1": "LostFile", "b2": "LostFile", "c3": "LongFile"})
-    for name, content in whole.items():
-        (folder / f"{name}.wav").write_bytes(content)
+    left_out("two files", folder, {"a1": "LostFile", "b2": "LostFile"})
+    for name in ("a1", "b2"):
+        (folder / f"{name}.wav").write_bytes(whole[name])
     server = journaled(folder, 4)
     for take in takes:
         says(f"{take.name}: the rest", server, take, range(5, len(take.messages())))
+        TALLY.same(f"{take.name}: its file", (folder / f"{take.name}.wav").read_bytes(), take.file(limit=LIMIT))
     server.stop(signal.SIGKILL)
     for length in (-1, 1):
         content = takes[0].file(limit=LIMIT)
@@ -448,6 +450,34 @@ def case_failed_sync(place):
             server.stop(signal.SIGKILL)
 
 
+def case_failed_sync_at_close(place):
+    """So does one of a take's file at its CLOSE, with and without `--sync`, and without it one of its journal."""
+    take, told = small_take(), "a sync of it or its journal failed; mount its file system anew, or restart the machine"
+    *others, close = take.messages()
+    kinds = [((), "sync", "a1.wav", 0), (("--sync",), "sync", "a1.wav", 0), ((), "sync-data", "a1.journal", 1)]
+    for options, printed in ((JOURNAL, ["exchange 0 NotKept"]), (MANY, [])):
+        for at, (synced, call, file, noted) in enumerate(kinds):
+            home = place / f"{len(options)}-{at}"
+            home.mkdir()
+            folder = folder_in(home)
+            fault = Fault(f"{call} {file}")
+            server = journaled(folder, 0, *options, *synced, watch=lambda fault=fault: Watcher(fault))
+            with connect(server.port) as peer:
+                for number, said in enumerate(others):
+                    peer.sendall(said)
+                    wanted = verdict("a1", number, STORED)
+                    TALLY.same("no sync at a CLOSE: a reply before it", hear(peer, len(wanted)), wanted)
+                peer.sendall(close)
+                TALLY.same("no sync at a CLOSE: the peer", hear_all(peer), b"")
+            why = f"the store fails: {folder}/{file}: {reason(errno.EIO)}\n{folder}/a1.wav: {told}\n"
+            TALLY.same("no sync at a CLOSE: the server", server.end(), (3, printed, why + CANT_GO_ON))
+            server = journaled(folder, 1, *options, *synced)
+            has_next("no sync at a CLOSE: the next server", server, take, len(others) + noted)
+            says("no sync at a CLOSE: all again", server, take, range(len(take.messages())))
+            server.stop(signal.SIGKILL)
+            TALLY.same("no sync at a CLOSE: the file", (folder / "a1.wav").read_bytes(), take.file(limit=LIMIT))
+
+
 # The order of writes
 
 
@@ -466,17 +496,24 @@ def has_order(name, lines, samples, synced):
     """The take's file is written and then synced, then the journal is, and then the reply is sent.
 
     For an OPEN the journal's header is written first, and it and the folder are synced before anything is written to
-    the take's file; the folder is synced once more before the note.
+    the take's file; the folder is synced once more before the note. Without syncs a CLOSE still has its file synced
+    before the note, and journal and folder after it.
     """
     wave, wave_synced = places(lines, "write a1.wav"), places(lines, "sync-data a1.wav")
+    finished = places(lines, "sync a1.wav")
     notes, notes_synced = places(lines, "write a1.journal"), places(lines, "sync-data a1.journal")
     folder_synced, reply = places(lines, "sync takes"), places(lines, "send ")[:1]
-    is_open = name == "OPEN"
-    counts = (bool(wave), len(wave_synced), len(notes), len(notes_synced), len(folder_synced), len(reply))
-    wanted = (samples, synced, 1 + is_open, synced * (1 + is_open), 2 * (synced and is_open), 1)
+    is_open, is_close = name == "OPEN", name == "CLOSE"
+    alone = is_close and not synced
+    found = (finished, wave_synced, notes, notes_synced, folder_synced, reply)
+    counts = (bool(wave), *map(len, found))
+    syncs = synced * (1 + is_open) + alone, 2 * (synced and is_open) + alone
+    wanted = (samples, is_close, synced, 1 + is_open, *syncs, 1)
     TALLY.same(f"{name}: how often", counts, wanted)
     begun = [*notes[:-1], *notes_synced[:-1], *folder_synced[:-1], *wave[:1]]
-    in_order = [*begun, *wave[-1:], *wave_synced, *folder_synced[-1:], *notes[-1:], *notes_synced[-1:], *reply]
+    noted = [*notes[-1:], *notes_synced[-1:]]
+    noted = [*noted, *folder_synced] if alone else [*folder_synced[-1:], *noted]
+    in_order = [*begun, *wave[-1:], *finished, *wave_synced, *noted, *reply]
     TALLY.same(f"{name}: the order", in_order, sorted(in_order))
 
 

@@ -6,9 +6,10 @@ import errno
 import hashlib
 
 from kit.network import CANT_GO_ON, hear_all, TALLY
-from kit.takes import BLOCK as BLOCK_KIND, DELAYED_STORE, LARGEST_LIMIT, little, message, notice, STORED, verdict
+from kit.takes import BLOCK as BLOCK_KIND, CLOSE as CLOSE_KIND, DELAYED_STORE, LARGEST_LIMIT, little, message, notice
+from kit.takes import STORED, verdict
 from kit.watched import accepted_in_turn, BLOCK, CLOSE, CLOSE_EMPTY, CLOSE_MARKED, IN_TURN, LISTED, MARK, OPEN
-from kit.watched import said_to_a_file, store_fails, Watched
+from kit.watched import said_to_a_file, store_fails, Watched, written
 from kit.watcher import Fault
 from kit.worked import EMPTY, SMALL
 
@@ -81,12 +82,12 @@ class Journaled(Watched):
         self.made = set()  # names whose files are made
         self.listed = {}  # names with a synced entry in the folder, and whether their files have one too
 
-    def note_calls(self, name, content):
-        """The calls that note this."""
+    def note_calls(self, name, content, closes=False):
+        """The calls that note this. The note of a stored CLOSE is synced without `--sync` too."""
         place = self.noted.setdefault(name, len(header(name)))
         calls = [f"seek {name}.journal {place}", f"write {name}.journal {content.hex()}"]
         if not self.is_synced:
-            return calls
+            return [*calls, f"sync-data {name}.journal", *self.folder_calls(name)] if closes else calls
         take = opened(f"{name}.wav", *[MISSING] * (name not in self.made))
         samples = [f"sync-data {name}.wav"] * (name in self.made)
         return [take, *samples, *self.folder_calls(name), *calls, f"sync-data {name}.journal"]
@@ -115,7 +116,8 @@ class Journaled(Watched):
         file_calls = request[1](name) if code == STORED else []
         self.made |= {name} if request is OPEN and code == STORED else set()
         noted = entry(name, number, content, code)
-        calls = [*before, *file_calls, *self.note_calls(name, noted)]
+        closes = content[0] == CLOSE_KIND and code == STORED
+        calls = [*before, *file_calls, *self.note_calls(name, noted, closes)]
         self.noted[name] += len(noted)
         self.says(peer, message(name, number, content), calls, verdict(name, number, code))
 
@@ -137,7 +139,9 @@ def takes_of_two(it):
 
 
 def case_noted(folder):
-    """Each number is noted after its file was written and before its reply, and nothing but a closed file is synced."""
+    """Each number is noted after its file was written and before its reply, and nothing is synced but at a CLOSE: the
+    file, and after the note journal and folder.
+    """
     it = Journaled(folder)
     takes_of_two(it)
     it.ends("notes", [0])
@@ -167,25 +171,30 @@ def case_noted_again(folder):
     it.ends("failed notes", [0], why)
 
 
+def stops(it, peer, said, file, calls, more=()):
+    """After the last of these calls, a sync of this file, has failed no reply leaves and nothing is written or synced but
+    by these others: the server ends.
+    """
+    what = f"a failed {calls[-1]}"
+    it.peers[peer].sendall(said)
+    TALLY.same(f"{what}: the peer", hear_all(it.peers[peer]), b"")
+    lost = f"{it.folder}/a1.wav: a sync of it or its journal failed; mount its file system anew, or restart the machine\n"
+    it.ended(what, (3, ["exchange 0 NotKept"], f"{store_fails(it.folder / file)}{lost}{CANT_GO_ON}"))
+    kinds = ("write a1.", "sync", "send ")
+    wanted = [call for call in [*calls[:-1], f"{calls[-1]} fails {errno.EIO}", *more] if call.startswith(kinds)]
+    lines = it.lines()
+    made = [line for line in lines[lines.index(f"receive peer-{peer} {said.hex()}") :] if line.startswith(kinds)]
+    TALLY.same(f"{what}: the calls", made, wanted)
+
+
 def stops_at(folder, file):
-    """After a failed sync of this file no reply leaves and nothing more is written or synced: the server ends."""
+    """A failed sync of this file at an OPEN ends the server."""
     it = Journaled(folder, "--sync", faults=[Fault(f"sync-data {file}")])
     peer = it.comes(accepted_in_turn(7))
     it.made.add("a1")
     content = bytes.fromhex(OPEN[0])
     calls = [*it.begin_calls("a1"), *OPEN[1]("a1"), *it.note_calls("a1", entry("a1", 0, content))]
-    said = message("a1", 0, content)
-    it.peers[peer].sendall(said)
-    TALLY.same(f"a failed sync of {file}: the peer", hear_all(it.peers[peer]), b"")
-    lost = f"{it.folder}/a1.wav: a sync of it or its journal failed; mount its file system anew, or restart the machine\n"
-    why = f"{store_fails(it.folder / file)}{lost}{CANT_GO_ON}"
-    it.ended(f"a failed sync of {file}", (3, ["exchange 0 NotKept"], why))
-    kinds = ("write a1.", "sync", "send ")
-    until = calls.index(f"sync-data {file}")
-    wanted = [*(call for call in calls[:until] if call.startswith(kinds)), f"sync-data {file} fails {errno.EIO}"]
-    lines = it.lines()
-    made = [line for line in lines[lines.index(f"receive peer-{peer} {said.hex()}") :] if line.startswith(kinds)]
-    TALLY.same(f"a failed sync of {file}: the calls", made, wanted)
+    stops(it, peer, message("a1", 0, content), file, calls[: calls.index(f"sync-data {file}") + 1])
 
 
 def case_stopped_at_its_header(folder):
@@ -195,6 +204,17 @@ def case_stopped_at_its_header(folder):
 
 def case_stopped_at_its_samples(folder):
     stops_at(folder, "a1.wav")
+
+
+def case_stopped_at_its_close(folder):
+    """A failed sync of a file at its CLOSE ends the server without `--sync` too. A repeat that comes before that writes
+    the header again, and is neither synced nor noted.
+    """
+    it = Journaled(folder, faults=[Fault("sync a1.wav")])
+    peer = it.comes(accepted_in_turn(7))
+    it.asks(peer, "a1", OPEN)
+    said, calls = 2 * message("a1", 1, bytes.fromhex(CLOSE_EMPTY[0])), CLOSE_EMPTY[1]("a1")
+    stops(it, peer, said, "a1.wav", calls, written("a1", 0, EMPTY))
 
 
 def goes_on(folder, what, *options):
@@ -250,5 +270,5 @@ def case_set_aside(folder):
 
 CASES = [
     *(case_noted, case_noted_and_synced, case_noted_again, case_stopped_at_its_header, case_stopped_at_its_samples),
-    *(case_resumed, case_resumed_and_synced, case_set_aside),
+    *(case_stopped_at_its_close, case_resumed, case_resumed_and_synced, case_set_aside),
 ]

@@ -180,9 +180,11 @@ BODIES = [
     # Journals
     Body("no lock", "noted", left_out(LOCK)),
     Body("notes go to the end of their file", "noted", with_word(OPEN, 2, opened_at_its_end)),
+    Body("no sync of the note of a CLOSE", "noted", left_out(SYNC_DATA)),
     Body("no sync of a note", "noted_and_synced", left_out(SYNC_DATA)),
     Body("times are synced too", "noted_and_synced", when(SYNC_DATA, sync_whole_file)),
     Body("a failed sync of a note is taken for a done one", "stopped_at_its_samples", after=when(SYNC_DATA, seem_done)),
+    Body("a failed sync at a CLOSE is taken for a done one", "stopped_at_its_close", after=when(SYNC, seem_done)),
     Body("a failed note is taken for a done one", "noted_again", after=when(WRITE, seem_done, is_file)),
     Body("a torn end isn't cut", "resumed", left_out(TRUNCATE)),
     Body("no sync of what was left", "resumed_and_synced", left_out(SYNC_DATA)),

@@ -97,3 +97,14 @@ failed_whole (Err e) before after place bytes w = (
       ∙ sym (ap (option_map (λ (old : List ℕ). overwritten old place (take (length bytes) bytes))) w.1
       ∙ ap (λ (b : List ℕ). Some (overwritten w.0 place b)) (take_all (length bytes) bytes (omega arith))),
 )
+
+-- all was noted, and then something else failed that changes nothing
+pub failed_noted : {T E : Type 0} (r : Result T E) (offset : ℕ) (bytes : List ℕ) (before after later : Option (List ℕ)) →
+    Notes offset bytes before after → later ≡ after → OnErr r (NotesInPart offset bytes before later)
+failed_noted (Ok x) offset bytes before after later noted same = tt
+failed_noted (Err e) offset bytes before after later noted same = λ base count was long. (
+  length bytes,
+  same
+      ∙ noted base count was long
+      ∙ ap (λ (z : List ℕ). Some (base ++ z)) (sym (take_all (length bytes) bytes (omega arith))),
+)

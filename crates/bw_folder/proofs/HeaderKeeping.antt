@@ -64,7 +64,8 @@ header_adopted limit known before after folder name existed new keeps n =
         ≡ cond b (header_of existed) (header_of (unwrap_or (option_map (λ it. it.1) o) (is_some (before (take_path folder n)))))
     go (Some it) found true e =
         let same : existence_of known name ≡ existence_of known n = ap (λ (x : List ℕ). existence_of known x) (same_name name n e) in
-        let some : is_some (existence_of known n) ≡ true = ap (λ (o : Option (List ℕ × Bool)). is_some (option_map (λ it. it.1) o)) found in
+        let some : is_some (existence_of known n) ≡ true =
+        ap (λ (o : Option (List ℕ × Bool)). is_some (option_map (λ it. it.1) o)) found in
         let none : is_some (existence_of known n) ≡ false = sym (ap (λ (o : Option Bool). is_some o) same) ∙ new in
         cc
     go (Some it) found false e = refl

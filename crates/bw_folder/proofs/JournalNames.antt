@@ -84,7 +84,8 @@ module _ {F : Type 0} (journals : List (OpenJournal F)) (j : OpenJournal F) (nam
       ap (λ (known : List (List ℕ × Bool)). existence_of known name) (known_pushed journals j name j.existed is refl)
       ∙ ap (option_map (λ (it : List ℕ × Bool). it.1))
       (find-append (λ (it : List ℕ × Bool). bytes_eq it.0 name) (existences journals) ((name, j.existed) ∷ [])
-      ∙ ap (λ (o : Option (List ℕ × Bool)). option_or o (find (λ (it : List ℕ × Bool). bytes_eq it.0 name) ((name, j.existed) ∷ [])))
+      ∙ ap (λ (o : Option (List ℕ × Bool)).
+      option_or o (find (λ (it : List ℕ × Bool). bytes_eq it.0 name) ((name, j.existed) ∷ [])))
       none_found
       ∙ ap (λ (b : Bool). cond b (Some (name, j.existed)) None) (name_refl name))
 

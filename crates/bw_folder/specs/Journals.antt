@@ -26,7 +26,8 @@ existence_of known name = option_map (λ it. it.1) (find (λ it. bytes_eq it.0 n
 
 -- What the journal of a name begins with: of an open one, what is known; else whether something
 -- is now where the take's file is to be.
-abbrev pub header_at : ℕ → List (List ℕ × Bool) → (List ℕ → Option (List ℕ)) → List ℕ → List ℕ → Header
+abbrev pub header_at : ℕ → List (List ℕ × Bool) → (List ℕ → Option (List ℕ)) → List ℕ →
+    List ℕ → Header
 header_at limit known contents folder name = record {
   limit = limit;
   existed = unwrap_or (existence_of known name) (is_some (contents (take_path folder name)));
@@ -48,8 +49,8 @@ abbrev pub known_but : List ℕ → List (List ℕ × Bool) → List (List ℕ �
 known_but name known = filter (λ it. not (bytes_eq it.0 name)) known
 
 -- what the journals of names begin with after one more was opened: that one has what is said of it
-abbrev pub adopted_header : {E : Type 0} → Result Bool E → List ℕ → Bool → (List ℕ → Header) → List ℕ →
-    Header
+abbrev pub adopted_header : {E : Type 0} → Result Bool E → List ℕ → Bool → (List ℕ → Header) →
+    List ℕ → Header
 adopted_header (Ok true) name existed before other =
     if bytes_eq name other then record (before other) { existed = existed } else before other
 adopted_header (Ok false) name existed before other = before other

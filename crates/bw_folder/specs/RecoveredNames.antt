@@ -11,14 +11,15 @@ use Rattle.bw_recovery.specs.StaysLeft.{StaysLeft}
 use Rattle.bw_recovery.specs.declared.finding.Finding.{Finding}
 use Rattle.bw_folder.specs.Folders.{take_path}
 use Rattle.bw_folder.specs.TakeFolders.{takes_disk, takes_folder, open_takes, takes_calls}
-use Rattle.bw_folder.specs.TakeFolders.{takes_failures, take_in_folder}
+use Rattle.bw_folder.specs.TakeFolders.{takes_failures, take_in_folder, KeepsSyncs}
 use Rattle.bw_folder.specs.JournalFolders.{journals_disk, journals_folder, open_journals}
 use Rattle.bw_folder.specs.JournalFolders.{journals_failures, failed_sync_in, noted_in_folder, SameSettings}
 use Rattle.bw_folder.specs.declared.folder.FolderStore.{FolderStore}
 use Rattle.bw_folder.specs.declared.journal.FolderJournal.{FolderJournal}
 
 -- This is found of a name with this journal, if it has one, and this file.
-abbrev pub FindsName : ℕ → List ℕ → Option (List ℕ) → Option (List ℕ) → Option Finding → Type 0
+abbrev pub FindsName : ℕ → List ℕ → Option (List ℕ) → Option (List ℕ) → Option Finding →
+    Type 0
 FindsName limit name None file None = Unit {0}
 FindsName limit name None file (Some finding) = ⊥
 FindsName limit name (Some journal) file None = ⊥
@@ -26,20 +27,21 @@ FindsName limit name (Some journal) file (Some finding) =
     IsFound limit name journal file finding × SparesFile finding
 
 -- A name that isn't refused has the journal and the file that it is to have.
-abbrev pub RestoresName : ℕ → List ℕ → Option (List ℕ) → Option (List ℕ) → Option (List ℕ) →
-    Option (List ℕ) → Type 0
+abbrev pub RestoresName : ℕ → List ℕ → Option (List ℕ) → Option (List ℕ) →
+    Option (List ℕ) → Option (List ℕ) → Type 0
 RestoresName limit name None file later_journal later_file = Unit {0}
 RestoresName limit name (Some journal) file later_journal later_file =
     name_fault limit name journal file ≡ None →
     IsRestored limit name journal file later_journal later_file
 
 module _ {D F : Type 0} {G : Ghosts D F} where
-  -- The store has the same folder and open takes, and has got no call.
+  -- The store has the same folder and open takes, and has got no call; no sync of it has failed.
   pub record KeepsStore (old new : FolderStore D F G) : Type 0 where
     pub folder : takes_folder new ≡ takes_folder old
     pub takes : open_takes new ≡ open_takes old
     pub calls : takes_calls new ≡ takes_calls old
     pub failures : takes_failures new ≡ takes_failures old
+    pub syncs : KeepsSyncs old new
 
   -- The journal has the same settings and open journals, and no call or sync of it has failed.
   pub record KeepsFolderJournal (old new : FolderJournal D F G) : Type 0 where
@@ -61,20 +63,21 @@ module _ {D E F H : Type 0} {G : Ghosts D F} {K : Ghosts E H} where
       ≡ is_some (K.contents (journals_disk journal) (take_path (takes_folder store) name))
 
   -- this is found of a name in the folder
-  abbrev pub FindsIn : ℕ → List ℕ → FolderStore D F G → FolderJournal E H K → Option Finding → Type 0
+  abbrev pub FindsIn : ℕ → List ℕ → FolderStore D F G → FolderJournal E H K → Option Finding →
+      Type 0
   FindsIn limit name store journal found =
       FindsName limit name (noted_in_folder journal name) (take_in_folder store name) found
 
   -- a name in the folder has the journal and the file that it is to have
-  abbrev pub RestoresIn : ℕ → List ℕ → FolderStore D F G → FolderJournal E H K → FolderStore D F G →
-      FolderJournal E H K → Type 0
+  abbrev pub RestoresIn : ℕ → List ℕ → FolderStore D F G → FolderJournal E H K →
+      FolderStore D F G → FolderJournal E H K → Type 0
   RestoresIn limit name store journal later_store later_journal =
       RestoresName limit name (noted_in_folder journal name) (take_in_folder store name)
       (noted_in_folder later_journal name) (take_in_folder later_store name)
 
   -- whatever a stop left of a name in the folder stays so
-  abbrev pub StaysLeftIn : ℕ → List ℕ → FolderStore D F G → FolderJournal E H K → FolderStore D F G →
-      FolderJournal E H K → Type 0
+  abbrev pub StaysLeftIn : ℕ → List ℕ → FolderStore D F G → FolderJournal E H K →
+      FolderStore D F G → FolderJournal E H K → Type 0
   StaysLeftIn limit name store journal later_store later_journal =
       StaysLeft limit name (noted_in_folder journal name) (take_in_folder store name)
       (noted_in_folder later_journal name) (take_in_folder later_store name)

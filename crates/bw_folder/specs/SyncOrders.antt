@@ -1,21 +1,23 @@
 -- In which order a note and what it speaks of are synced.
-use Rattle.std.specs.Prelude.{◌≡◌, ◌⊎◌, ℕ, Bool, false, List, Some, IsSome, IsTrue, OnOk, Result, Option}
+use Rattle.std.specs.Prelude.{◌≡◌, ◌⊎◌, ℕ, Bool, false, List, Some, IsSome, IsTrue, IsErr, OnOk, Result, Option}
 use Rattle.bw_store.specs.Stores.{KeepsOthers}
 use Rattle.bw_disk.specs.Disks.{AsksOnce}
 use Rattle.bw_disk.specs.Volumes.{KeepsEach}
 use Rattle.bw_disk.specs.declared.disk.Disk.{Ghosts}
 
 -- what is at a path, if anything, is synced as it is
-abbrev pub IsSyncedAt : (List ℕ → Option (List ℕ)) → (List ℕ → Option (List ℕ)) → List ℕ → Type 0
+abbrev pub IsSyncedAt : (List ℕ → Option (List ℕ)) → (List ℕ → Option (List ℕ)) → List ℕ →
+    Type 0
 IsSyncedAt contents synced path = IsSome (contents path) → synced path ≡ contents path
 
 -- The name of which a sync failed, before and after a call for a name: the first one is kept, and a
--- call that succeeds changes nothing.
-pub record MarksSync {T E : Type 0} (name : List ℕ) (answer : Result T E) (before after : Option (List ℕ)) :
-    Type 0 where
+-- call that succeeds changes nothing. Once one has failed the call fails, and the disk isn't called.
+pub record StopsAtSync {D T E : Type 0} (name : List ℕ) (answer : Result T E)
+    (before after : Option (List ℕ)) (old new : D) : Type 0 where
   pub kept : OnOk answer (after ≡ before)
   pub first : IsSome before → after ≡ before
   pub marked : (after ≡ before) ⊎ (after ≡ Some name)
+  pub stopped : IsSome before → IsErr answer × (new ≡ old)
 
 -- The journal of a name begins: no other file changes. Without syncs nothing is synced; with them the
 -- journal is, if the call succeeds.
@@ -41,3 +43,14 @@ pub record SyncsInOrder {D F T E : Type 0} (G : Ghosts D F) (answer : Result T E
       ⊎ IsSyncedAt (G.contents new) (G.synced new) take_path
   pub take : OnOk answer (IsSyncedAt (G.contents new) (G.synced new) take_path)
   pub journal : OnOk answer (IsSyncedAt (G.contents new) (G.synced new) journal_path)
+
+-- How a note under a name is synced, by whether each is, and whether it notes a close: that is always
+-- synced. If that sync fails, the name is kept (`after`): any other failure is that of a plain note.
+pub record SyncsNote {D F T E : Type 0} (G : Ghosts D F) (sync closes : Bool) (name : List ℕ)
+    (answer : Result T E) (after : Option (List ℕ)) (take_path journal_path : List ℕ) (old new : D) :
+    Type 0 where
+  pub plain : sync ≡ false → closes ≡ false → NotesPlainly G answer old new
+  pub closed : IsTrue closes → IsTrue (G.honest old) →
+      OnOk answer (IsSyncedAt (G.contents new) (G.synced new) journal_path)
+  pub failed : sync ≡ false → IsErr answer → (after ≡ Some name) ⊎ NotesPlainly G answer old new
+  pub order : IsTrue sync → IsTrue (G.honest old) → SyncsInOrder G answer take_path journal_path old new

@@ -1,14 +1,11 @@
 //! A store in a folder.
 ghost use Rattle.std.specs.Prelude.{◌≡◌, ◌<◌, ℕ, List, [], true, IsTrue, IsErr, IfOk, OnOk, OnErr};
-ghost use Rattle.std.specs.Prelude.{IsSome, IfSome, ◌↔◌, is_err, string_bytes, length};
+ghost use Rattle.std.specs.Prelude.{IsSome, IfSome, None, false, ◌↔◌, is_err, string_bytes, length};
 ghost use Rattle.std.specs.List.{All, Contains, HoldsAt};
 ghost use Rattle.bw_store.specs.Stores.{Counts, Creates, Written, MayTear, KeepsOthers};
 ghost use Rattle.bw_disk.specs.Disks.{IsOneCall, AsksOnce, Syncs};
 ghost use Rattle.bw_folder.specs.Folders.{take_path as path_of_take, take_content, open_names};
-ghost use Rattle.bw_folder.specs.Folders.{opened_by};
-ghost use Rattle.bw_folder.specs.Folders.{closed_by};
-ghost use Rattle.std.specs.Prelude.{filter, not};
-ghost use Rattle.std.specs.Str.{bytes_eq};
+ghost use Rattle.bw_folder.specs.Folders.{opened_by, closed_by};
 
 use crate::paths::take_path;
 use bw_disk::{Disk, SystemDisk};
@@ -29,6 +26,9 @@ pub(crate) struct OpenTake<F: Drop> {
 /// Only files that this store made or reopened are written: `create` never opens a file that is
 /// there already. Over an honest disk it is an honest store. A call fails if the disk does;
 /// `create` also if memory is refused, and the others for a name whose file isn't open.
+///
+/// After a sync that failed each `finish` fails, of any name: another try could succeed although bytes
+/// are lost. A store `with_retries` tries again.
 #[derive(Drop)]
 pub struct FolderStore<D: Disk> {
     pub(crate) disk: D,
@@ -36,13 +36,18 @@ pub struct FolderStore<D: Disk> {
     pub(crate) folder: String,
     pub(crate) takes: Vec<OpenTake<D::File>>,
     pub(crate) call_counter: CallCounter,
+    /// The name of which a sync failed first.
+    pub(crate) failed_sync: Option<Name>,
+    /// Whether files are synced though a sync has failed.
+    pub(crate) retries: bool,
     ghost paths: { IsTrue (D.honest disk) → All
         (λ take. D.path_of take.file ≡ path_of_take (string_bytes folder) take.name) takes.items },
 }
 
 impl<R: Files + Drop> FolderStore<SystemDisk<R>> {
     ghost use Rattle.bw_folder.specs.TakeFolders.{takes_disk, takes_folder, open_takes};
-    ghost use Rattle.bw_folder.specs.TakeFolders.{takes_calls, takes_failures};
+    ghost use Rattle.bw_folder.specs.TakeFolders.{takes_calls, takes_failures, takes_failed_sync};
+    ghost use Rattle.bw_folder.specs.TakeFolders.{takes_retry};
 
     /// The store of a folder of the system, which need not exist yet.
     ///
@@ -58,6 +63,8 @@ impl<R: Files + Drop> FolderStore<SystemDisk<R>> {
         ensures takes { IfOk result (λ s. open_takes s ≡ []) }
         ensures failures { IfOk result (λ s. takes_failures s ≡ 0) }
         ensures calls { IfOk result (λ s. takes_calls s ≡ 0) }
+        ensures failed_sync { IfOk result (λ s. takes_failed_sync s ≡ None) }
+        ensures retries { IfOk result (λ s. takes_retry s ≡ false) }
     {
         FolderStore::over(SystemDisk::new(rt), alloc, folder)
     }
@@ -65,7 +72,8 @@ impl<R: Files + Drop> FolderStore<SystemDisk<R>> {
 
 impl<D: Disk> FolderStore<D> {
     ghost use Rattle.bw_folder.specs.TakeFolders.{takes_disk, takes_folder, open_takes};
-    ghost use Rattle.bw_folder.specs.TakeFolders.{takes_calls, takes_failures};
+    ghost use Rattle.bw_folder.specs.TakeFolders.{takes_calls, takes_failures, takes_failed_sync};
+    ghost use Rattle.bw_folder.specs.TakeFolders.{takes_retry};
 
     /// The store of a folder of a disk.
     ///
@@ -80,6 +88,8 @@ impl<D: Disk> FolderStore<D> {
         ensures takes { IfOk result (λ s. open_takes s ≡ []) }
         ensures failures { IfOk result (λ s. takes_failures s ≡ 0) }
         ensures calls { IfOk result (λ s. takes_calls s ≡ 0) }
+        ensures failed_sync { IfOk result (λ s. takes_failed_sync s ≡ None) }
+        ensures retries { IfOk result (λ s. takes_retry s ≡ false) }
     {
         let folder = String::from_str(alloc, folder)?;
         Ok(FolderStore::in_folder(disk, alloc, folder))
@@ -92,6 +102,8 @@ impl<D: Disk> FolderStore<D> {
         ensures takes { open_takes result ≡ [] }
         ensures failures { takes_failures result ≡ 0 }
         ensures calls { takes_calls result ≡ 0 }
+        ensures failed_sync { takes_failed_sync result ≡ None }
+        ensures retries { takes_retry result ≡ false }
     {
         FolderStore {
             disk,
@@ -99,6 +111,8 @@ impl<D: Disk> FolderStore<D> {
             folder,
             takes: Vec::new(alloc),
             call_counter: CallCounter::new(),
+            failed_sync: None,
+            retries: false,
         }
     }
 
@@ -126,6 +140,8 @@ impl<D: Disk> FolderStore<D> {
             folder: _,
             takes: _,
             call_counter: _,
+            failed_sync: _,
+            retries: _,
         } = self;
         disk
     }
@@ -149,6 +165,8 @@ impl<D: Disk> FolderStore<D> {
         ensures asks { AsksOnce D.calls D.failures self.old.disk self.new.disk result }
         ensures opened { open_names self.new.takes.items
             ≡ opened_by result name.now (open_names self.old.takes.items) }
+        ensures failed_sync { self.new.failed_sync ≡ self.old.failed_sync }
+        ensures retries { self.new.retries ≡ self.old.retries }
     {
         // Whatever needs memory comes first, so that a call that fails makes no file.
         let path = take_path(self.alloc, &self.folder, name)?;
@@ -164,47 +182,11 @@ impl<D: Disk> FolderStore<D> {
     }
 }
 
-impl<D: Disk> FolderStore<D> {
-    /// Syncs the file of an open take.
-    #[tactic(auto, using(crate::proofs::TakePaths::take_path_injective))]
-    fn sync_take(&mut self, name: &Name) -> Result<(), StoreFault>
-        ensures call_counter { self.new.call_counter ≡ self.old.call_counter }
-        ensures folder { self.new.folder ≡ self.old.folder }
-        ensures takes { self.new.takes ≡ self.old.takes }
-        ensures honest { D.honest self.new.disk ≡ D.honest self.old.disk }
-        ensures unchanged { IsTrue (D.honest self.old.disk) →
-            (path : List ℕ) → D.contents self.new.disk path ≡ D.contents self.old.disk path }
-        ensures synced { IsTrue (D.honest self.old.disk) → Syncs result
-            (take_content (D.contents self.old.disk) (string_bytes self.old.folder) name.now)
-            (take_content (D.synced self.old.disk) (string_bytes self.old.folder))
-            (take_content (D.synced self.new.disk) (string_bytes self.old.folder)) name.now }
-        ensures own { Contains (open_names self.old.takes.items) name.now →
-            IsOneCall D.calls D.failures self.old.disk self.new.disk (is_err result) }
-        ensures foreign { (Contains (open_names self.old.takes.items) name.now → ⊥) →
-            IsErr result × (self.new.disk ≡ self.old.disk) }
-    {
-        let Some(place) = find(&self.takes, name) else {
-            return Err(StoreFault);
-        };
-        let take = &self.takes[place];
-        self.disk.sync(&take.file).map_err(|_| StoreFault)
-    }
-
-    /// Closes the file of a take. The disk isn't called.
-    pub(crate) fn close(&mut self, name: &Name)
-        ensures rest { (self.new.disk ≡ self.old.disk) × (self.new.folder ≡ self.old.folder)
-            × (self.new.call_counter ≡ self.old.call_counter) }
-        ensures opened { open_names self.new.takes.items
-            ≡ filter (λ other. not (bytes_eq other name.now)) (open_names self.old.takes.items) }
-    {
-        self.takes.retain(|take| take.name != *name);
-    }
-}
-
 impl<D: Disk> TakeStore for FolderStore<D> {
     ghost use Rattle.bw_folder.specs.TakeFolders.{takes_disk, takes_folder, open_takes};
     ghost use Rattle.bw_folder.specs.TakeFolders.{takes_calls, takes_failures, take_in_folder};
-    ghost use Rattle.bw_folder.specs.TakeFolders.{synced_in_folder};
+    ghost use Rattle.bw_folder.specs.TakeFolders.{synced_in_folder, have_stopped, marked_if};
+    ghost use Rattle.bw_folder.specs.TakeFolders.{takes_failed_sync, takes_retry, KeepsSyncs};
 
     ghost contents = { take_in_folder };
 
@@ -244,6 +226,7 @@ impl<D: Disk> TakeStore for FolderStore<D> {
         ensures asks { AsksOnce D.calls D.failures (takes_disk self.old) (takes_disk self.new)
             result }
         ensures opened { open_takes self.new ≡ opened_by result name.now (open_takes self.old) }
+        ensures syncs { KeepsSyncs self.old self.new }
     {
         let answer = self.make(name);
         self.call_counter.count(answer.is_err());
@@ -281,6 +264,7 @@ impl<D: Disk> TakeStore for FolderStore<D> {
         ensures foreign { (Contains (open_takes self.old) name.now → ⊥) →
             IsErr result × (takes_disk self.new ≡ takes_disk self.old) }
         ensures opened { open_takes self.new ≡ open_takes self.old }
+        ensures syncs { KeepsSyncs self.old self.new }
     {
         let Some(place) = find(&self.takes, name) else {
             self.call_counter.count(true);
@@ -299,8 +283,9 @@ impl<D: Disk> TakeStore for FolderStore<D> {
     /// nothing is written to it any more.
     ///
     /// # Errors
-    /// `StoreFault` if that call failed: the file stays open then. Also for a name that this store
-    /// neither made nor reopened, or has finished: the disk isn't called then.
+    /// `StoreFault` if that call failed: the file stays open then, and the name is kept if it is the
+    /// first one. Also after a failed sync, unless this store retries, and for a name that it neither
+    /// made nor reopened, or has finished: the disk isn't called then.
     fn finish(&mut self, name: &Name) -> Result<(), StoreFault>
         ensures failures { Counts (takes_failures self.old) (takes_failures self.new)
             (is_err result) }
@@ -314,11 +299,20 @@ impl<D: Disk> TakeStore for FolderStore<D> {
         ensures synced { IsTrue (D.honest (takes_disk self.old)) → Syncs result
             (take_in_folder self.old name.now) (synced_in_folder self.old)
             (synced_in_folder self.new) name.now }
-        ensures own { Contains (open_takes self.old) name.now →
+        ensures own { Contains (open_takes self.old) name.now → have_stopped self.old ≡ false →
             IsOneCall D.calls D.failures (takes_disk self.old) (takes_disk self.new)
             (is_err result) }
+        // After a failed sync each call fails, unless the store retries, and the disk isn't called.
+        ensures stopped { IsTrue (have_stopped self.old) →
+            IsErr result × (takes_disk self.new ≡ takes_disk self.old) }
         ensures foreign { (Contains (open_takes self.old) name.now → ⊥) →
             IsErr result × (takes_disk self.new ≡ takes_disk self.old) }
+        // The first name of which a sync failed is kept.
+        ensures marked { Contains (open_takes self.old) name.now → takes_failed_sync self.new
+            ≡ marked_if (is_err result) name.now (takes_failed_sync self.old) }
+        ensures unmarked { (Contains (open_takes self.old) name.now → ⊥) →
+            takes_failed_sync self.new ≡ takes_failed_sync self.old }
+        ensures retries { takes_retry self.new ≡ takes_retry self.old }
         ensures opened { open_takes self.new ≡ closed_by result name.now (open_takes self.old) }
     {
         let answer = self.sync_take(name);
@@ -331,7 +325,7 @@ impl<D: Disk> TakeStore for FolderStore<D> {
 }
 
 /// The place of a name among the open takes.
-fn find<F: Drop>(takes: &[OpenTake<F>], name: &Name) -> Option<usize>
+pub(crate) fn find<F: Drop>(takes: &[OpenTake<F>], name: &Name) -> Option<usize>
     ensures open { IsSome result ↔ Contains (open_names takes.now) name.now }
     ensures place { IfSome result (λ place. (place < length takes.now)
         × HoldsAt (λ take. take.name ≡ name.now) takes.now place) }

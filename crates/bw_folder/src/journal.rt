@@ -1,5 +1,5 @@
 //! Journals in a folder.
-ghost use Rattle.std.specs.Prelude.{◌≡◌, [], None, IsSome, IsTrue, IsErr};
+ghost use Rattle.std.specs.Prelude.{◌≡◌, [], None, IsTrue};
 ghost use Rattle.std.specs.Prelude.{IfOk, Ok};
 ghost use Rattle.std.specs.Prelude.{OnOk, OnErr, string_bytes, is_err, false};
 ghost use Rattle.std.specs.List.{All};
@@ -8,7 +8,8 @@ ghost use Rattle.bw_journal.specs.Notes.{BeginsNotes, BeginsInPart, Notes, Notes
 ghost use Rattle.bw_journal.specs.Notes.{KeepsHeaders};
 ghost use Rattle.bw_folder.specs.Folders.{take_path as path_of_take};
 ghost use Rattle.bw_folder.specs.Journals.{journal_path as path_of_journal};
-ghost use Rattle.bw_folder.specs.SyncOrders.{BeginsJournal, MarksSync, NotesPlainly, SyncsInOrder};
+ghost use Rattle.bw_journal.specs.Closings.{notes_close};
+ghost use Rattle.bw_folder.specs.SyncOrders.{BeginsJournal, StopsAtSync, SyncsNote};
 
 use bw_disk::{SystemDisk, Volume};
 use bw_journal::Journal;
@@ -60,7 +61,8 @@ impl<F: Drop> OpenJournal<F> {
 /// a journal was reopened or the first that finds the take's file, the bytes are appended, and
 /// the journal is synced. So no note of this journal survives a loss of power without its samples, and
 /// none that it reported is lost. After a sync that failed each `begin` and each `note` fails, of any
-/// name: another try could succeed although bytes are lost. Without `sync` nothing is synced.
+/// name: another try could succeed although bytes are lost. Without `sync` only the note of a CLOSE is
+/// synced, and the folder with it.
 #[derive(Drop)]
 pub struct FolderJournal<D: Volume> {
     pub(crate) disk: D,
@@ -72,6 +74,8 @@ pub struct FolderJournal<D: Volume> {
     pub(crate) failures: u64,
     /// The name of which a sync failed.
     pub(crate) failed_sync: Option<Name>,
+    /// What the line of the last note stands for.
+    pub(crate) content: Vec<u8>,
     ghost paths: { IsTrue (D.honest disk) → All
         (λ journal. D.path_of journal.file ≡ path_of_journal (string_bytes folder) journal.name)
         journals.items },
@@ -167,6 +171,7 @@ impl<D: Volume> FolderJournal<D> {
             journals: Vec::new(alloc),
             failures: 0,
             failed_sync: None,
+            content: Vec::new(alloc),
         }
     }
 
@@ -225,6 +230,7 @@ impl<D: Volume> FolderJournal<D> {
             journals: _,
             failures: _,
             failed_sync: _,
+            content: _,
         } = self;
         disk
     }
@@ -274,10 +280,9 @@ impl<D: Volume> Journal for FolderJournal<D> {
             (noted_in_folder self.new name.now)) }
         ensures others { IsTrue (D.honest (journals_disk self.old)) → KeepsOthers
             (noted_in_folder self.old) (noted_in_folder self.new) name.now }
-        ensures failed_sync { MarksSync name.now result (failed_sync_in self.old) (failed_sync_in self.new) }
         // After a failed sync each call fails, and the disk isn't called.
-        ensures stopped { IsSome (failed_sync_in self.old) →
-            IsErr result × (journals_disk self.new ≡ journals_disk self.old) }
+        ensures failed_sync { StopsAtSync name.now result (failed_sync_in self.old) (failed_sync_in self.new)
+            (journals_disk self.old) (journals_disk self.new) }
         // No other file changes, on errors too; with `sync` the journal is synced.
         ensures rest { BeginsJournal D.Disk (journals_sync self.old) result
             (path_of_journal (journals_folder self.old) name.now)
@@ -289,8 +294,9 @@ impl<D: Volume> Journal for FolderJournal<D> {
     }
 
     /// Writes the bytes into the file of a journal that was begun or reopened. Without `sync` that
-    /// is one call of the disk. With it the take's file is synced before anything is written, and
-    /// the journal afterwards.
+    /// is one call of the disk; with it the take's file is synced before anything is written, and
+    /// the journal afterwards. If the bytes note that the take is closed, journal and folder are
+    /// synced also without `sync`: whoever has that verdict may delete the recording.
     ///
     /// # Errors
     /// `StoreFault` if a call of the disk failed, memory was refused before any change, the name's
@@ -318,21 +324,16 @@ impl<D: Volume> Journal for FolderJournal<D> {
         ensures files { IsTrue (D.honest (journals_disk self.old)) → KeepsOthers
             (D.contents (journals_disk self.old)) (D.contents (journals_disk self.new))
             (path_of_journal (journals_folder self.old) name.now) }
-        ensures failed_sync { MarksSync name.now result (failed_sync_in self.old) (failed_sync_in self.new) }
         // After a failed sync each call fails, and the disk isn't called.
-        ensures stopped { IsSome (failed_sync_in self.old) →
-            IsErr result × (journals_disk self.new ≡ journals_disk self.old) }
-        // Without `sync` it is one call, and nothing is synced.
-        ensures plain { journals_sync self.old ≡ false →
-            NotesPlainly D.Disk result (journals_disk self.old) (journals_disk self.new) }
-        // With `sync` the take's file is synced first, then the note is written and synced.
-        ensures order { IsTrue (D.honest (journals_disk self.old)) →
-            IsTrue (journals_sync self.old) → SyncsInOrder D.Disk result
-            (path_of_take (journals_folder self.old) name.now)
+        ensures failed_sync { StopsAtSync name.now result (failed_sync_in self.old) (failed_sync_in self.new)
+            (journals_disk self.old) (journals_disk self.new) }
+        // Without `sync` nothing is synced but the note of a close; with it the take's file comes first.
+        ensures syncs { SyncsNote D.Disk (journals_sync self.old) (notes_close bytes.now) name.now
+            result (failed_sync_in self.new) (path_of_take (journals_folder self.old) name.now)
             (path_of_journal (journals_folder self.old) name.now)
             (journals_disk self.old) (journals_disk self.new) }
     {
-        let answer = self.note_in_file(name, offset, bytes);
+        let answer = self.note_and_sync(name, offset, bytes);
         self.count(answer.is_err());
         answer
     }

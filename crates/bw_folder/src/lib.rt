@@ -4,6 +4,7 @@
 
 mod closing;
 mod comparing;
+mod finishing;
 mod folder;
 mod heading;
 mod journal;

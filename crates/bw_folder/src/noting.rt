@@ -1,5 +1,5 @@
 //! The files that a folder's journals are noted in: how one is found, begun and written.
-ghost use Rattle.std.specs.Prelude.{◌≡◌, ◌<◌, ◌↔◌, Some, IsTrue, IsErr, IsSome, IfOk, IfSome};
+ghost use Rattle.std.specs.Prelude.{◌≡◌, ◌⊎◌, ◌<◌, ◌↔◌, Some, IsTrue, IsSome, IfOk, IfSome};
 ghost use Rattle.std.specs.Prelude.{OnOk, OnErr, string_bytes, length, false};
 ghost use Rattle.std.specs.List.{HoldsAt, position};
 ghost use Rattle.std.specs.Str.{bytes_eq};
@@ -10,14 +10,17 @@ ghost use Rattle.bw_journal.specs.Notes.{KeepsHeaders};
 ghost use Rattle.bw_folder.specs.Folders.{take_path as path_of_take};
 ghost use Rattle.bw_folder.specs.Journals.{journal_path as path_of_journal, notes_at, existences};
 ghost use Rattle.bw_folder.specs.Journals.{existence_of, header_at, IsOpenAt};
-ghost use Rattle.bw_folder.specs.SyncOrders.{BeginsJournal, MarksSync, NotesPlainly, SyncsInOrder};
+ghost use Rattle.bw_folder.specs.SyncOrders.{BeginsJournal, IsSyncedAt, NotesPlainly, StopsAtSync};
+ghost use Rattle.bw_folder.specs.SyncOrders.{SyncsInOrder, SyncsNote};
+ghost use Rattle.bw_disk.specs.Volumes.{KeepsEach};
+ghost use Rattle.bw_journal.specs.Closings.{notes_close};
 
 use crate::heading::{append, exists, open_or_make, put_header};
 use crate::journal::{FolderJournal, OpenJournal};
 use crate::paths::{journal_path, take_path};
 use crate::syncing::{append_synced, sync_begun};
 use bw_disk::Volume;
-use bw_journal::JournalHeader;
+use bw_journal::{JournalHeader, notes_close};
 use bw_request::Name;
 use bw_store::StoreFault;
 
@@ -43,8 +46,8 @@ impl<D: Volume> FolderJournal<D> {
             (string_bytes self.old.folder) name.now)
             (notes_at (D.contents self.old.disk) (string_bytes self.old.folder) name.now)
             (notes_at (D.contents self.new.disk) (string_bytes self.old.folder) name.now)) }
-        ensures failed_sync { MarksSync name.now result self.old.failed_sync self.new.failed_sync }
-        ensures stopped { IsSome self.old.failed_sync → IsErr result × (self.new.disk ≡ self.old.disk) }
+        ensures failed_sync { StopsAtSync name.now result self.old.failed_sync self.new.failed_sync
+            self.old.disk self.new.disk }
         ensures rest { BeginsJournal D.Disk self.old.sync result
             (path_of_journal (string_bytes self.old.folder) name.now) self.old.disk self.new.disk }
     {
@@ -55,6 +58,30 @@ impl<D: Volume> FolderJournal<D> {
         if !self.sync {
             return Ok(());
         }
+        self.sync_journal(name)
+    }
+
+    /// Syncs a name's journal, and the folder, unless it was synced since the journal was opened.
+    ///
+    /// # Errors
+    /// `StoreFault` if a sync failed: the name is kept. Also if the journal isn't open.
+    fn sync_journal(&mut self, name: &Name) -> Result<(), StoreFault>
+        ensures failures { self.new.failures ≡ self.old.failures }
+        ensures settings { (self.new.limit ≡ self.old.limit) × (self.new.sync ≡ self.old.sync)
+            × (self.new.folder ≡ self.old.folder) }
+        ensures known { existences self.new.journals.items ≡ existences self.old.journals.items }
+        ensures unmarked { OnOk result (self.new.failed_sync ≡ self.old.failed_sync) }
+        ensures marked { (self.new.failed_sync ≡ self.old.failed_sync)
+            ⊎ (self.new.failed_sync ≡ Some name.now) }
+        ensures failed { IsSome (existence_of (existences self.old.journals.items) name.now) →
+            OnErr result (self.new.failed_sync ≡ Some name.now) }
+        ensures honest { D.honest self.new.disk ≡ D.honest self.old.disk }
+        ensures contents { IsTrue (D.honest self.old.disk) →
+            KeepsEach (D.contents self.old.disk) (D.contents self.new.disk) }
+        ensures synced { IsTrue (D.honest self.old.disk) → OnOk result (IsSyncedAt
+            (D.contents self.new.disk) (D.synced self.new.disk)
+            (path_of_journal (string_bytes self.old.folder) name.now)) }
+    {
         let Some(place) = find(&self.journals, name) else {
             return Err(StoreFault);
         };
@@ -138,9 +165,12 @@ impl<D: Volume> FolderJournal<D> {
         Ok(place)
     }
 
-    /// Writes bytes into the file of a name's journal; with `sync` the take's file is synced before
-    /// that, and the journal after it.
-    pub(crate) fn note_in_file(
+    /// Writes bytes into the file of a name's journal, and syncs them as it is to be: without `sync`
+    /// only if they note that the take is closed.
+    ///
+    /// # Errors
+    /// `StoreFault` as `note` has it.
+    pub(crate) fn note_and_sync(
         &mut self,
         name: &Name,
         offset: u64,
@@ -159,8 +189,45 @@ impl<D: Volume> FolderJournal<D> {
             (notes_at (D.contents self.new.disk) (string_bytes self.old.folder) name.now)) }
         ensures files { IsTrue (D.honest self.old.disk) → KeepsOthers (D.contents self.old.disk)
             (D.contents self.new.disk) (path_of_journal (string_bytes self.old.folder) name.now) }
-        ensures failed_sync { MarksSync name.now result self.old.failed_sync self.new.failed_sync }
-        ensures stopped { IsSome self.old.failed_sync → IsErr result × (self.new.disk ≡ self.old.disk) }
+        ensures failed_sync { StopsAtSync name.now result self.old.failed_sync self.new.failed_sync
+            self.old.disk self.new.disk }
+        ensures syncs { SyncsNote D.Disk self.old.sync (notes_close bytes.now) name.now result
+            self.new.failed_sync (path_of_take (string_bytes self.old.folder) name.now)
+            (path_of_journal (string_bytes self.old.folder) name.now) self.old.disk self.new.disk }
+    {
+        let closes = notes_close(bytes, &mut self.content).map_err(|_| StoreFault)?;
+        self.note_in_file(name, offset, bytes)?;
+        if !closes || self.sync {
+            return Ok(());
+        }
+        self.sync_journal(name)
+    }
+
+    /// Writes bytes into the file of a name's journal; with `sync` the take's file is synced before
+    /// that, and the journal after it.
+    pub(crate) fn note_in_file(
+        &mut self,
+        name: &Name,
+        offset: u64,
+        bytes: &[u8],
+    ) -> Result<(), StoreFault>
+        ensures failures { self.new.failures ≡ self.old.failures }
+        ensures settings { (self.new.limit ≡ self.old.limit) × (self.new.sync ≡ self.old.sync)
+            × (self.new.folder ≡ self.old.folder) }
+        ensures honest { D.honest self.new.disk ≡ D.honest self.old.disk }
+        ensures known { existences self.new.journals.items ≡ existences self.old.journals.items }
+        ensures open { OnOk result
+            (IsSome (existence_of (existences self.old.journals.items) name.now)) }
+        ensures noted { IsTrue (D.honest self.old.disk) → OnOk result (Notes offset bytes.now
+            (notes_at (D.contents self.old.disk) (string_bytes self.old.folder) name.now)
+            (notes_at (D.contents self.new.disk) (string_bytes self.old.folder) name.now)) }
+        ensures failed { IsTrue (D.honest self.old.disk) → OnErr result (NotesInPart offset bytes.now
+            (notes_at (D.contents self.old.disk) (string_bytes self.old.folder) name.now)
+            (notes_at (D.contents self.new.disk) (string_bytes self.old.folder) name.now)) }
+        ensures files { IsTrue (D.honest self.old.disk) → KeepsOthers (D.contents self.old.disk)
+            (D.contents self.new.disk) (path_of_journal (string_bytes self.old.folder) name.now) }
+        ensures failed_sync { StopsAtSync name.now result self.old.failed_sync self.new.failed_sync
+            self.old.disk self.new.disk }
         ensures plain { self.old.sync ≡ false → NotesPlainly D.Disk result self.old.disk self.new.disk }
         ensures order { IsTrue (D.honest self.old.disk) → IsTrue self.old.sync → SyncsInOrder D.Disk
             result (path_of_take (string_bytes self.old.folder) name.now)

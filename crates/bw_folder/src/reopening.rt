@@ -16,7 +16,7 @@ use bw_request::Name;
 
 impl<D: Disk> FolderStore<D> {
     ghost use Rattle.bw_folder.specs.TakeFolders.{takes_disk, takes_folder, open_takes};
-    ghost use Rattle.bw_folder.specs.TakeFolders.{takes_calls, takes_failures};
+    ghost use Rattle.bw_folder.specs.TakeFolders.{takes_calls, takes_failures, KeepsSyncs};
 
     /// Closes the file of a take, if it is open. The disk isn't called.
     pub fn release(&mut self, name: &Name)
@@ -25,6 +25,7 @@ impl<D: Disk> FolderStore<D> {
         ensures calls { takes_calls self.new ≡ takes_calls self.old }
         ensures failures { takes_failures self.new ≡ takes_failures self.old }
         ensures opened { open_takes self.new ≡ names_but name.now (open_takes self.old) }
+        ensures syncs { KeepsSyncs self.old self.new }
     {
         self.close(name);
     }
@@ -33,6 +34,7 @@ impl<D: Disk> FolderStore<D> {
 impl<D: Volume> FolderStore<D> {
     ghost use Rattle.bw_folder.specs.TakeFolders.{takes_disk, takes_folder, open_takes};
     ghost use Rattle.bw_folder.specs.TakeFolders.{takes_calls, takes_failures, take_in_folder};
+    ghost use Rattle.bw_folder.specs.TakeFolders.{KeepsSyncs};
 
     /// Opens the file of a take that an earlier server made, by one call of the disk, so that it
     /// can be written from then on. That is no call of the store. It returns false if nothing is
@@ -53,6 +55,7 @@ impl<D: Volume> FolderStore<D> {
         ensures asks { AsksOnce D.calls D.failures (takes_disk self.old) (takes_disk self.new)
             result }
         ensures opened { open_takes self.new ≡ found_by result name.now (open_takes self.old) }
+        ensures syncs { KeepsSyncs self.old self.new }
         ensures disk_failures { Counts (D.failures (takes_disk self.old))
             (D.failures (takes_disk self.new)) (is_disk_fault result) }
     {

@@ -20,7 +20,7 @@ use Rattle.bw_session.specs.TableChanges.{with_asleep}
 use Rattle.bw_kept.proofs.KeptForms.{never}
 use Rattle.bw_kept.proofs.LeftEntries.{nothing_cut}
 use Rattle.bw_kept.proofs.LeftNames.{header_is}
-use Rattle.bw_kept.proofs.OpenFiles.{empty_made, left_file}
+use Rattle.bw_kept.proofs.OpenFiles.{left_file}
 
 -- what is in one place of a table by name, and in the others
 pub first_there : (now : List ℕ → Option (List ℕ)) (name : List ℕ) (content : Option (List ℕ)) →
@@ -73,8 +73,7 @@ whole_left limit first name log h journal file right same existed notes is =
     of_first (Some bytes) e = e
     of_first None e =
         left_file None (made false log.admitted log.done) limit None file
-        (is_made false log.admitted log.done right) (empty_made false log.admitted log.done)
-        (λ r none. absurd (none_some none)) (λ bytes none. absurd (none_some none)) (λ none. inl e)
+        (is_made false log.admitted log.done right).fields (λ bytes none. absurd (none_some none)) (λ none. inl e)
 
 -- a log has an admitted request
 log_some : (log : Log) → IsLog log → (log ≡ no_log → ⊥)

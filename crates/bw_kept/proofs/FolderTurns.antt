@@ -179,7 +179,8 @@ module _ {X Y : Type 0} (S : StoreGhosts X) (J : JournalGhosts Y) (ready new : S
               }
 
       abbrev IsOut : Option Log → List ℕ → Type 0
-      IsOut p n = IsOutOfTable new.limit (first n) n (log_of (with_change book name p) n) (J.notes new.stores.journal n) (S.contents new.stores.store n)
+      IsOut p n = IsOutOfTable new.limit (first n) n (log_of (with_change book name p) n) (J.notes new.stores.journal n)
+          (S.contents new.stores.store n)
 
       -- another name
       other_out : (n : List ℕ) (log : Log) → bytes_eq name n ≡ false → log ≡ log_of book n →
@@ -202,7 +203,8 @@ module _ {X Y : Type 0} (S : StoreGhosts X) (J : JournalGhosts Y) (ready new : S
           no_session (session_in new.sessions name) (sym (on.held.holds.names name) ∙ none) in
           let file : S.contents new.stores.store name ≡ h.now name =
           on.held.holds.others (t.honest ∙ honest) name (inr none) in
-          subst (λ (l : Log). IsOutOfTable new.limit (first name) name l (J.notes new.stores.journal name) (S.contents new.stores.store name))
+          subst (λ (l : Log). IsOutOfTable new.limit (first name) name l (J.notes new.stores.journal name)
+          (S.contents new.stores.store name))
           (sym (unknown_log book name (says.known ∙ e)))
           (unknown_lies new.limit (first name) name (J.header new.stores.journal name) (J.notes new.stores.journal name)
           (S.contents new.stores.store name) (subst (λ (v : ℕ). v < 2 ^ 32) (sym t.limit) h.small) limit

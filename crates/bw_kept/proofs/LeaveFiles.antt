@@ -59,7 +59,7 @@ closed_lies limit first name log journal file closed lies = go journal lies
     of_first (Some bytes) left = left
     of_first None left =
         closed_file (made false log.admitted log.done).closed (file ≡ file_of (made false log.admitted log.done) limit)
-        (IsLeftOpen (made false log.admitted log.done) limit (made false log.admitted log.done).format file) closed left
+        (IsLeftOpen (made false log.admitted log.done) (made false log.admitted log.done).format file) closed left
 
     go : (o : Option (List ℕ)) → LiesInFolder limit first name log o file → file ≡ file_by first limit log
     go None (inl left) = none left.0

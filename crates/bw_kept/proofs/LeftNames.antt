@@ -7,6 +7,7 @@ use Rattle.std.proofs.lemmas.Bool.{false≢true, cases_lt}
 use Rattle.std.proofs.lemmas.List.{append-nil, take_all}
 use Rattle.bw_model.specs.Bytes.{at}
 use Rattle.bw_model.specs.Take.{Request}
+use Rattle.bw_model.specs.Wire.{is_request}
 use Rattle.bw_model.specs.File.{file_of}
 use Rattle.bw_model.specs.Book.{Log, made}
 use Rattle.bw_model.specs.CountedTurn.{is_pending}
@@ -29,7 +30,7 @@ use Rattle.bw_recovery.specs.LeftNames.{header_beside, IsLeftBegun}
 use Rattle.bw_recovery.proofs.NameLemmas.{unopened}
 use Rattle.bw_kept.specs.KeptFolders.{HasNameFault, LiesInFolder}
 use Rattle.bw_kept.specs.LeftNames.{IsWrittenInOrder, LiesAsEither}
-use Rattle.bw_kept.proofs.OpenFiles.{Waits, empty_made, left_file}
+use Rattle.bw_kept.proofs.OpenFiles.{left_file}
 use Rattle.bw_kept.proofs.LeftEntries.{journal_begun, nothing_cut, Ends, Cut, Whole, ends}
 
 -- The journal of a name has what its log says, or no more than a prefix of the header where no number
@@ -48,7 +49,8 @@ pub record Known (limit : ℕ) (first : Option (List ℕ)) (name : List ℕ) (lo
   pub order : is_pending log ≡ true → IsWrittenInOrder limit first name log journal file
 
 -- a request that waits is one of a message
-waits_right : (s : List (Option Request)) (n : ℕ) → list_all is_admitted s ≡ true → Waits (at s n)
+waits_right : (s : List (Option Request)) (n : ℕ) → list_all is_admitted s ≡ true → (r : Request) → at s n ≡ Some r →
+    IsTrue (is_request r)
 waits_right [] n h r e = absurd (none e)
   where
     none : None ≡ Some r → ⊥
@@ -70,8 +72,7 @@ module _ (limit : ℕ) (first : Option (List ℕ)) (name : List ℕ) (log : Log)
   file_left : IsLeftFile first (made (is_some first) log.admitted log.done) limit file
   file_left =
       left_file first (made (is_some first) log.admitted log.done) limit (at log.admitted log.done) file
-      (is_made_of (is_some first) log.done) (empty_made (is_some first) log.admitted log.done)
-      (waits_right log.admitted log.done k.right) k.stood
+      (is_made_of (is_some first) log.done).fields k.stood
       (λ none. subst (λ (o : Option (List ℕ)). IsOnTheWay (made (is_some o) log.admitted log.done) limit
       (at log.admitted log.done) file) (sym none) (k.own none))
 
@@ -116,14 +117,10 @@ module _ (limit : ℕ) (first : Option (List ℕ)) (name : List ℕ) (log : Log)
           IsLeftFile o (made (is_some o) log.admitted (with_done log).done) limit file
       by_first o e =
           left_file o (made (is_some o) log.admitted (with_done log).done) limit None file
-          (is_made_of (is_some o) (with_done log).done) (empty_made (is_some o) log.admitted (with_done log).done)
-          (λ r n. absurd (none_some n)) (λ bytes same. k.stood bytes (e ∙ same))
+          (is_made_of (is_some o) (with_done log).done).fields (λ bytes same. k.stood bytes (e ∙ same))
           (λ none. inl (now ∙ ap (λ (x : Option (List ℕ)). wanted_file x
           (made (is_some x) log.admitted (with_done log).done) limit) (e ∙ none)
           ∙ sym (ap (λ (x : Option (List ℕ)). file_of (made (is_some x) log.admitted (with_done log).done) limit) none)))
-        where
-          none_some : {X : Type 0} {x : X} → None ≡ Some x → ⊥
-          none_some e = cc
 
   -- with its header only
   header_left : (bytes : List ℕ) → log.done ≡ 0 → bytes ≡ header_bytes name h →

@@ -53,7 +53,8 @@ pub existence_opened : (name : List ℕ) (known : List (List ℕ × Bool)) (exis
 existence_opened name known existed =
     ap (option_map (λ (it : List ℕ × Bool). it.1))
     (find-append (λ (it : List ℕ × Bool). bytes_eq it.0 name) (known_but name known) ((name, existed) ∷ [])
-    ∙ ap (λ (o : Option (List ℕ × Bool)). option_or o (find (λ (it : List ℕ × Bool). bytes_eq it.0 name) ((name, existed) ∷ [])))
+    ∙ ap (λ (o : Option (List ℕ × Bool)).
+    option_or o (find (λ (it : List ℕ × Bool). bytes_eq it.0 name) ((name, existed) ∷ [])))
     (none_found name known)
     ∙ ap (λ (b : Bool). cond b (Some (name, existed)) None) (name_refl name))
 

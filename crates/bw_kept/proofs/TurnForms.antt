@@ -189,7 +189,8 @@ module _ {X Y : Type 0} (S : StoreGhosts X) (J : JournalGhosts Y)
   -- The same, where the name was read from the frame.
 
   pub known_turn_of : (old ready new : Server X Y S J) (f : Frame) (replies : List Reply) (n : List ℕ) → n ≡ name_of_frame f →
-      IsTrue (is_name n) → KeepsCounts S J old ready → (IsSome (session_kept old n) → (found.Known ≡ found.Known) × (ready ≡ old)) →
+      IsTrue (is_name n) → KeepsCounts S J old ready →
+      (IsSome (session_kept old n) → (found.Known ≡ found.Known) × (ready ≡ old)) →
       IsWhere S J n found.Known ready → FindsBooks S J Fails Differs old ready n found.Known →
       ServerTurn S J ready f replies new → KeptTurn S J Fails Differs old f replies new
   known_turn_of old ready new f replies n is named counts inside there books t =

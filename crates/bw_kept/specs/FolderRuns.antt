@@ -19,7 +19,8 @@ name_of_frame Bye = []
 
 -- the replies to a frame, and its name's log if it changes, where it is said whether a further name
 -- fits
-abbrev pub turn_where : Bool → (List ℕ → Bool) → Book → Frame → Faults → List Reply × Option Log
+abbrev pub turn_where : Bool → (List ℕ → Bool) → Book → Frame → Faults →
+    List Reply × Option Log
 turn_where full existed book (Says m) faults =
     turn_by (existed m.name) (is_known book m.name) full (log_of book m.name) m faults
 turn_where full existed book (Asks name n) faults =

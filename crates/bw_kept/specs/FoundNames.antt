@@ -50,7 +50,8 @@ pub record KeepsDisks {D E F H : Type 0} {G : DiskGhosts D F} {K : DiskGhosts E 
 module _ {X Y : Type 0} (S : StoreGhosts X) (J : JournalGhosts Y) where
   -- a name that isn't in the table stays outside
   abbrev pub StaysOutside : Server X Y S J → Server X Y S J → Type 0
-  StaysOutside old new = (name : List ℕ) → session_kept old name ≡ None → session_kept new name ≡ None
+  StaysOutside old new = (name : List ℕ) → session_kept old name ≡ None →
+      session_kept new name ≡ None
 
   -- Each book of the folder that was held still is, over honest store and journal; and the counts stay.
   pub record KeepsFolderBooks (old new : Server X Y S J) : Type 0 where
@@ -60,7 +61,8 @@ module _ {X Y : Type 0} (S : StoreGhosts X) (J : JournalGhosts Y) where
         HoldsKept S J first new book
 
   -- a take is that of a name's log in the folder, with its journal and its file
-  abbrev pub IsOfFolder : (List ℕ → Option (List ℕ)) → Server X Y S J → Book → List ℕ → KeptTake → Type 0
+  abbrev pub IsOfFolder : (List ℕ → Option (List ℕ)) → Server X Y S J → Book → List ℕ →
+      KeptTake → Type 0
   IsOfFolder first s book name take =
       IsOfLog (server_limit s) (first name) (log_of book name) (J.header (server_journal s) name) take
       (J.notes (server_journal s) name) (S.contents (server_store s) name)
@@ -68,15 +70,15 @@ module _ {X Y : Type 0} (S : StoreGhosts X) (J : JournalGhosts Y) where
   module _ (Fails : List ℕ → Server X Y S J → Server X Y S J → Type 0)
       (Differs : List ℕ → Server X Y S J → Type 0) where
     -- A name was put off, for this reason; the server holds the book.
-    abbrev pub WasPutOff : (List ℕ → Option (List ℕ)) → Server X Y S J → Server X Y S J → Book → List ℕ →
-        Delay → Type 0
+    abbrev pub WasPutOff : (List ℕ → Option (List ℕ)) → Server X Y S J → Server X Y S J → Book →
+        List ℕ → Delay → Type 0
     WasPutOff first old new book name delay =
         (h : HoldsKept S J first new book) × IsWhy S J Fails Differs name old new h.table delay
 
     -- A name outside the table was recovered from its folder: it is new, and awake; or something is
     -- wrong with it; or its take is that of its log.
-    abbrev pub WasRecovered : (List ℕ → Option (List ℕ)) → Server X Y S J → Server X Y S J → Book → List ℕ →
-        Result Recovered Delay → Type 0
+    abbrev pub WasRecovered : (List ℕ → Option (List ℕ)) → Server X Y S J → Server X Y S J →
+        Book → List ℕ → Result Recovered Delay → Type 0
     WasRecovered first old new book name (Ok New) = HoldsReady S J name first new book
     WasRecovered first old new book name (Ok (LeftOut cause)) = HoldsKept S J first new book
         × HasThisFault (server_limit new) name (J.notes (server_journal new) name)
@@ -86,15 +88,16 @@ module _ {X Y : Type 0} (S : StoreGhosts X) (J : JournalGhosts Y) where
     WasRecovered first old new book name (Err delay) = WasPutOff first old new book name delay
 
     -- from each book of the folder
-    abbrev pub RecoversBooks : Server X Y S J → Server X Y S J → List ℕ → Result Recovered Delay → Type 0
+    abbrev pub RecoversBooks : Server X Y S J → Server X Y S J → List ℕ → Result Recovered Delay →
+        Type 0
     RecoversBooks old new name result = IsTrue (S.honest (server_store old)) →
         IsTrue (J.honest (server_journal old)) → (first : List ℕ → Option (List ℕ)) (book : Book) →
         HoldsKept S J first old book → session_kept old name ≡ None →
         WasRecovered first old new book name result
 
     -- A name was found: in the table, or new and awake, or its frame is put off.
-    abbrev pub WasFound : (List ℕ → Option (List ℕ)) → Server X Y S J → Server X Y S J → Book → List ℕ →
-        Found → Type 0
+    abbrev pub WasFound : (List ℕ → Option (List ℕ)) → Server X Y S J → Server X Y S J → Book →
+        List ℕ → Found → Type 0
     WasFound first old new book name Known = HoldsKept S J first new book
     WasFound first old new book name IsNew = HoldsReady S J name first new book
     WasFound first old new book name (PutOff delay) = WasPutOff first old new book name delay

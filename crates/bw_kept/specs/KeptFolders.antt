@@ -24,7 +24,8 @@ HasNameFault limit name None file = ⊥
 HasNameFault limit name (Some journal) file = IsSome (name_fault limit name journal file)
 
 -- this is wrong with it
-abbrev pub HasThisFault : ℕ → List ℕ → Option (List ℕ) → Option (List ℕ) → NameFault → Type 0
+abbrev pub HasThisFault : ℕ → List ℕ → Option (List ℕ) → Option (List ℕ) → NameFault →
+    Type 0
 HasThisFault limit name None file cause = ⊥
 HasThisFault limit name (Some journal) file cause = RefusesName limit name journal file cause
 
@@ -51,8 +52,8 @@ pub record IsFaulty (limit : ℕ) (name : List ℕ) (log : Log) (journal file : 
   pub fault : HasNameFault limit name journal file
 
 -- What lies in the folder under a name: what a stop leaves of its log, or something is wrong with it.
-abbrev pub LiesInFolder : ℕ → Option (List ℕ) → List ℕ → Log → Option (List ℕ) → Option (List ℕ) →
-    Type 0
+abbrev pub LiesInFolder : ℕ → Option (List ℕ) → List ℕ → Log → Option (List ℕ) →
+    Option (List ℕ) → Type 0
 LiesInFolder limit first name log journal file =
     IsLeftName limit first name log journal file ⊎ IsFaulty limit name log journal file
 

@@ -46,7 +46,8 @@ module _ {D E F H : Type 0} (G : DiskGhosts D F) (K : DiskGhosts E H)
 -- Of two servers it is said elsewhere that a call failed between them for a name, and of one that its
 -- disks differ there.
 module _ {X Y : Type 0} (S : StoreGhosts X) (J : JournalGhosts Y)
-    (Fails : List ℕ → Server X Y S J → Server X Y S J → Type 0) (Differs : List ℕ → Server X Y S J → Type 0) where
+    (Fails : List ℕ → Server X Y S J → Server X Y S J → Type 0)
+    (Differs : List ℕ → Server X Y S J → Type 0) where
   -- Why a frame of this name is put off, by the server before and after, and the book of its table: if
   -- there is no place for it, it lies in the folder.
   abbrev pub IsWhy : List ℕ → Server X Y S J → Server X Y S J → Book → Delay → Type 0
@@ -113,7 +114,8 @@ module _ {X Y : Type 0} (S : StoreGhosts X) (J : JournalGhosts Y) where
 -- the table, and that makes another server ready; or the frame is put off. A name that isn't in the
 -- table then has its files closed.
 pub record KeptTurn {X Y : Type 0} (S : StoreGhosts X) (J : JournalGhosts Y)
-    (Fails : List ℕ → Server X Y S J → Server X Y S J → Type 0) (Differs : List ℕ → Server X Y S J → Type 0)
+    (Fails : List ℕ → Server X Y S J → Server X Y S J → Type 0)
+    (Differs : List ℕ → Server X Y S J → Type 0)
     (old : Server X Y S J) (f : Frame) (replies : List Reply) (new : Server X Y S J) : Type 0 where
   pub named : IsTrue (is_name (name_of_frame f))
   pub ready : Server X Y S J

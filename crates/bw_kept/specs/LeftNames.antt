@@ -19,7 +19,8 @@ pub record IsWrittenInOrder (limit : ℕ) (first : Option (List ℕ)) (name : Li
       file ≡ wanted_file first (made (is_some first) log.admitted (with_done log).done) limit
 
 -- it lies there by this log, or by it with the number done that waits
-abbrev pub LiesAsEither : ℕ → Option (List ℕ) → List ℕ → Log → Option (List ℕ) → Option (List ℕ) → Type 0
+abbrev pub LiesAsEither : ℕ → Option (List ℕ) → List ℕ → Log → Option (List ℕ) →
+    Option (List ℕ) → Type 0
 LiesAsEither limit first name log journal file =
     LiesInFolder limit first name log journal file
     ⊎ ((is_pending log ≡ true) × IsLeftName limit first name (with_done log) journal file)

@@ -28,7 +28,8 @@ pub record IsNewLog (limit : ℕ) (first : Option (List ℕ)) (name : List ℕ) 
   pub notes : IsPrefixOf (header_bytes name (header_beside limit first)) journal
 
 -- this is made of a name with this log, and none is left out
-abbrev pub MadeOfLog : ℕ → Option (List ℕ) → List ℕ → Log → Recovered → Option (List ℕ) → Type 0
+abbrev pub MadeOfLog : ℕ → Option (List ℕ) → List ℕ → Log → Recovered → Option (List ℕ) →
+    Type 0
 MadeOfLog limit first name log New journal = IsNewLog limit first name log journal
 MadeOfLog limit first name log (LeftOut cause) journal = ⊥
 MadeOfLog limit first name log (Kept k) journal = IsKeptLog limit first name log k journal
@@ -36,7 +37,8 @@ MadeOfLog limit first name log (Kept k) journal = IsKeptLog limit first name log
 -- A name is recovered: its file is that of its log, and a journal that is open says whether a file
 -- was there at first.
 pub record IsRecoveredLog (limit : ℕ) (first : Option (List ℕ)) (name : List ℕ) (log : Log)
-    (journal : Option (List ℕ)) (r : Recovered) (later_journal later_file : Option (List ℕ)) : Type 0 where
+    (journal : Option (List ℕ)) (r : Recovered)
+    (later_journal later_file : Option (List ℕ)) : Type 0 where
   pub made_of : MadeOfLog limit first name log r later_journal
   pub file : later_file ≡ wanted_file first (made (is_some first) log.admitted log.done) limit
   pub existed : IfSome (opened_story limit name journal r) (λ s. s.parts.taken ≡ is_some first)

@@ -120,8 +120,8 @@ IfNumbers (Err Memory) Holds = Unit {0}
 IfNumbers (Err Numbers) Holds = Holds
 
 -- nothing changes of a name with a fault
-abbrev pub KeepsFaulty : ℕ → List ℕ → Option (List ℕ) → Option (List ℕ) → Option (List ℕ) →
-    Option (List ℕ) → Type 0
+abbrev pub KeepsFaulty : ℕ → List ℕ → Option (List ℕ) → Option (List ℕ) →
+    Option (List ℕ) → Option (List ℕ) → Type 0
 KeepsFaulty limit name journal file later_journal later_file =
     HasNameFault limit name journal file → (later_journal ≡ journal) × (later_file ≡ file)
 
@@ -150,15 +150,15 @@ module _ {D E F H : Type 0} {G : Ghosts D F} {K : Ghosts E H} where
         ≡ known_but name (open_journals journal) ++ journal_opened name s
 
   -- of a name in the folder this was made
-  abbrev pub RecoversIn : ℕ → List ℕ → FolderStore D F G → FolderJournal E H K → FolderStore D F G →
-      FolderJournal E H K → Recovered → Type 0
+  abbrev pub RecoversIn : ℕ → List ℕ → FolderStore D F G → FolderJournal E H K →
+      FolderStore D F G → FolderJournal E H K → Recovered → Type 0
   RecoversIn limit name store journal later_store later_journal r =
       Recovers limit name (noted_in_folder journal name) (take_in_folder store name) r
       (noted_in_folder later_journal name) (take_in_folder later_store name)
 
   -- what is open of a name in the folder of which this was made
-  abbrev pub OpensIn : ℕ → List ℕ → FolderStore D F G → FolderJournal E H K → FolderStore D F G →
-      FolderJournal E H K → Recovered → Type 0
+  abbrev pub OpensIn : ℕ → List ℕ → FolderStore D F G → FolderJournal E H K →
+      FolderStore D F G → FolderJournal E H K → Recovered → Type 0
   OpensIn limit name store journal later_store later_journal r =
       OpensStory name (opened_story limit name (noted_in_folder journal name) r)
       store journal later_store later_journal
@@ -169,8 +169,8 @@ module _ {D E F H : Type 0} {G : Ghosts D F} {K : Ghosts E H} where
       HasTooMany limit name (noted_in_folder journal name) (take_in_folder store name)
 
   -- nothing changes of a name in the folder, if it has a fault
-  abbrev pub KeepsFaultyIn : ℕ → List ℕ → FolderStore D F G → FolderJournal E H K → FolderStore D F G →
-      FolderJournal E H K → Type 0
+  abbrev pub KeepsFaultyIn : ℕ → List ℕ → FolderStore D F G → FolderJournal E H K →
+      FolderStore D F G → FolderJournal E H K → Type 0
   KeepsFaultyIn limit name store journal later_store later_journal =
       KeepsFaulty limit name (noted_in_folder journal name) (take_in_folder store name)
       (noted_in_folder later_journal name) (take_in_folder later_store name)

@@ -72,8 +72,8 @@ module _ {D E F H : Type 0} {G : Ghosts D F} {K : Ghosts E H} where
     pub journals : open_journals later_journal ≡ open_journals journal ++ journal_opened name s
 
   -- the same of a name in the folder of which this was made
-  abbrev pub OpensMoreIn : ℕ → List ℕ → FolderStore D F G → FolderJournal E H K → FolderStore D F G →
-      FolderJournal E H K → Recovered → Type 0
+  abbrev pub OpensMoreIn : ℕ → List ℕ → FolderStore D F G → FolderJournal E H K →
+      FolderStore D F G → FolderJournal E H K → Recovered → Type 0
   OpensMoreIn limit name store journal later_store later_journal r =
       OpensMore name (opened_story limit name (noted_in_folder journal name) r)
       store journal later_store later_journal

@@ -21,7 +21,8 @@ module _ {X Y : Type 0} (S : StoreGhosts X) (J : JournalGhosts Y) where
   pub record LeavesFiles (first : List ℕ → Option (List ℕ)) (book : Book) (old new : Server X Y S J)
       (answered : List Answered) : Type 0 where
     pub run : KeepsOn S J first old new book answered
-    pub closed : (name : List ℕ) → IsTrue (is_name name) → (take_in false run.later name).closed ≡ true →
+    pub closed : (name : List ℕ) → IsTrue (is_name name) →
+        (take_in false run.later name).closed ≡ true →
         S.contents (server_store new) name ≡ content_in first (server_limit new) run.later name
     pub quiet : (name : List ℕ) → is_known run.held.table name ≡ true →
         is_pending (log_of run.later name) ≡ false →
@@ -31,8 +32,8 @@ module _ {X Y : Type 0} (S : StoreGhosts X) (J : JournalGhosts Y) where
 
 -- so it is after any frames, over honest store and journal
 abbrev pub RunsLeaveFiles : {X Y : Type 0} (S : StoreGhosts X) (J : JournalGhosts Y)
-    (Fails : List ℕ → Server X Y S J → Server X Y S J → Type 0) (Differs : List ℕ → Server X Y S J → Type 0) →
-    Type 0
+    (Fails : List ℕ → Server X Y S J → Server X Y S J → Type 0)
+    (Differs : List ℕ → Server X Y S J → Type 0) → Type 0
 RunsLeaveFiles {X} {Y} S J Fails Differs = (old new : Server X Y S J) (answered : List Answered) →
     AnswersAll (KeptTurn S J Fails Differs) old answered new → IsTrue (S.honest (server_store old)) →
     IsTrue (J.honest (server_journal old)) → (first : List ℕ → Option (List ℕ)) (book : Book) →

@@ -23,8 +23,8 @@ module _ {X Y : Type 0} (S : StoreGhosts X) (J : JournalGhosts Y) where
 
 -- So it is after any frames, over honest store and journal.
 abbrev pub RunsKeepOn : {X Y : Type 0} (S : StoreGhosts X) (J : JournalGhosts Y)
-    (Fails : List ℕ → Server X Y S J → Server X Y S J → Type 0) (Differs : List ℕ → Server X Y S J → Type 0) →
-    Type 0
+    (Fails : List ℕ → Server X Y S J → Server X Y S J → Type 0)
+    (Differs : List ℕ → Server X Y S J → Type 0) → Type 0
 RunsKeepOn {X} {Y} S J Fails Differs = (old new : Server X Y S J) (answered : List Answered) →
     AnswersAll (KeptTurn S J Fails Differs) old answered new → IsTrue (S.honest (server_store old)) →
     IsTrue (J.honest (server_journal old)) → (first : List ℕ → Option (List ℕ)) (book : Book) →

@@ -55,7 +55,8 @@ module _ {D E F H : Type 0} {G : Ghosts D F} {K : Ghosts E H} where
   IsDifference name store journal later_store later_journal NoMemory = Unit {0}
   IsDifference name store journal later_store later_journal (IsLeftOut cause) = ⊥
   IsDifference name store journal later_store later_journal TooManyNumbers = ⊥
-  IsDifference name store journal later_store later_journal TwoFolders = ShowsAlike name later_store later_journal → ⊥
+  IsDifference name store journal later_store later_journal TwoFolders =
+      ShowsAlike name later_store later_journal → ⊥
   IsDifference name store journal later_store later_journal NoPlace = ⊥
 
   -- why a name isn't recovered now
@@ -69,7 +70,8 @@ module _ {D E F H : Type 0} {G : Ghosts D F} {K : Ghosts E H} where
   IsReason name store journal later_store later_journal (IsLeftOut cause) = ⊥
   IsReason name store journal later_store later_journal TooManyNumbers =
       HasTooManyIn (journals_limit journal) name later_store later_journal
-  IsReason name store journal later_store later_journal TwoFolders = ShowsAlike name later_store later_journal → ⊥
+  IsReason name store journal later_store later_journal TwoFolders =
+      ShowsAlike name later_store later_journal → ⊥
   IsReason name store journal later_store later_journal NoPlace = ⊥
 
   -- A name was recovered by its journal and its file, and both disks show alike whether a new one has a

@@ -184,6 +184,22 @@ impl<S: TakeStore, J: Journal> HasTable for KeptServer<S, J> {
     }
 }
 
+impl<D: Volume, E: Volume> KeptServer<FolderStore<D>, FolderJournal<E>> {
+    ghost use Rattle.bw_kept.specs.KeptCommits.{failed_sync_of};
+    ghost use Rattle.bw_kept.specs.KeptServers.{table_server};
+
+    /// The name of which a sync failed, if one has: that of a take's file at its CLOSE, or else of a
+    /// journal.
+    pub fn failed_sync(&self) -> Option<Name>
+        ensures { result ≡ failed_sync_of (table_server self.now) }
+    {
+        match self.server.store().failed_sync() {
+            Some(name) => Some(name),
+            None => self.server.journal().failed_sync(),
+        }
+    }
+}
+
 impl<D: Volume, E: Volume> Turns for KeptServer<FolderStore<D>, FolderJournal<E>> {
     ghost use Rattle.bw_kept.specs.KeptCommits.{CommitsSynced};
     ghost use Rattle.bw_kept.specs.KeptTurns.{KeptTurn, DiskFails, DisksDiffer};
@@ -232,7 +248,7 @@ impl<D: Volume, E: Volume> Turns for KeptServer<FolderStore<D>, FolderJournal<E>
 
     /// Each turn keeps what it answers, unless a sync failed.
     fn commit(&mut self) -> Result<(), NotKept> {
-        match self.server.journal().failed_sync() {
+        match self.failed_sync() {
             Some(_name) => Err(NotKept::SyncFault),
             None => Ok(()),
         }

@@ -1,5 +1,6 @@
-//! Tests of journals in a folder, over a disk in memory that dies in each call.
+//! Tests of journals and takes in a folder, over a disk in memory that dies in a call.
 #![tactic(auto)]
 
 mod deaths;
+mod finishing;
 mod noting;

@@ -20,7 +20,8 @@ returns-in-Ok-clause-found g c =
 
 pub returns-in-Ok-clause-books : goal.returns-in-Ok-clause-books
 returns-in-Ok-clause-books g c =
-    insert_in _ _ (DiskFails g.D.Disk g.E.Disk) (DisksDiffer g.D.Disk g.E.Disk) c.args.take c.args.name.now c.args.server.now c.insert.new.self c.requires.named
+    insert_in _ _ (DiskFails g.D.Disk g.E.Disk) (DisksDiffer g.D.Disk g.E.Disk) c.args.take c.args.name.now c.args.server.now
+    c.insert.new.self c.requires.named
     c.in-Ok.ensures.inserted
 
 pub returns-in-Err-clause-counts : goal.returns-in-Err-clause-counts
@@ -37,5 +38,6 @@ returns-in-Err-clause-books g c =
     subst (λ (s : _). PutsInBooks _ _ (DiskFails g.D.Disk g.E.Disk) (DisksDiffer g.D.Disk g.E.Disk)
     s c.close_files.new.server c.args.name.now c.args.take
     (found.PutOff delay.NoMemory)) c.in-Err.ensures.failed
-    (closed_off _ _ (DiskFails g.D.Disk g.E.Disk) (DisksDiffer g.D.Disk g.E.Disk) c.args.take c.args.name.now c.insert.new.self c.close_files.new.server c.close_files.ensures.books
+    (closed_off _ _ (DiskFails g.D.Disk g.E.Disk) (DisksDiffer g.D.Disk g.E.Disk) c.args.take c.args.name.now c.insert.new.self
+    c.close_files.new.server c.close_files.ensures.books
     (ap (λ (s : _). session_kept s c.args.name.now) c.in-Err.ensures.failed ∙ c.requires.fresh))

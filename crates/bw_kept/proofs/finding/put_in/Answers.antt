@@ -8,7 +8,8 @@ returns-in-Full-clause-found g c = c.close_files.ensures.sessions c.args.name.no
 
 pub returns-in-Full-clause-books : goal.returns-in-Full-clause-books
 returns-in-Full-clause-books g c =
-    closed_full _ _ (DiskFails g.D.Disk g.E.Disk) (DisksDiffer g.D.Disk g.E.Disk) c.args.take c.args.name.now c.args.server.now c.close_files.new.server c.close_files.ensures.books
+    closed_full _ _ (DiskFails g.D.Disk g.E.Disk) (DisksDiffer g.D.Disk g.E.Disk) c.args.take c.args.name.now c.args.server.now
+    c.close_files.new.server c.close_files.ensures.books
     c.requires.fresh c.close_files.ensures.sessions c.close_files.ensures.notes
     (c.requires.none (c.in-Full.ensures.none refl)) (c.in-Full.ensures.full refl)
 
@@ -17,5 +18,6 @@ returns-in-Refused-clause-found g c = c.close_files-in-Refused.ensures.sessions 
 
 pub returns-in-Refused-clause-books : goal.returns-in-Refused-clause-books
 returns-in-Refused-clause-books g c =
-    closed_off _ _ (DiskFails g.D.Disk g.E.Disk) (DisksDiffer g.D.Disk g.E.Disk) c.args.take c.args.name.now c.args.server.now c.close_files-in-Refused.new.server
+    closed_off _ _ (DiskFails g.D.Disk g.E.Disk) (DisksDiffer g.D.Disk g.E.Disk) c.args.take c.args.name.now c.args.server.now
+    c.close_files-in-Refused.new.server
     c.close_files-in-Refused.ensures.books c.requires.fresh

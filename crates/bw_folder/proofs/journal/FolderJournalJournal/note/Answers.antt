@@ -7,7 +7,7 @@ pub returns-clause-headers : goal.returns-clause-headers
 returns-clause-headers g c = λ honest n.
     let old = c.args.self.now in
     let new = c.count.new.self in
-    let ens = c.note_in_file-answer.ensures in
+    let ens = c.note_and_sync-answer.ensures in
     let counts = c.count.ensures in
     header_noted old.limit new.limit (existences old.journals.items) (existences new.journals.items)
     (g.D.Disk.contents old.disk) (g.D.Disk.contents new.disk) (string_bytes old.folder) (string_bytes new.folder)

@@ -1,0 +1,29 @@
+//! Stores over a disk that dies in a sync.
+use crate::noting::{FOLDER, a1};
+use bw_disk::{MemoryDisk, MortalDisk};
+use bw_folder::FolderStore;
+use bw_store::TakeStore;
+use std::test::Fail;
+
+#[test]
+fn a_store_keeps_the_name_whose_sync_failed(rt: HostRuntime) -> Result<(), Fail> {
+    let name = a1()?;
+    let disk = MortalDisk::new(MemoryDisk::new(rt.alloc()), 1, 0);
+    let mut store = FolderStore::over(disk, rt.alloc(), FOLDER)?;
+    store.create(&name)?;
+    assert!(rt; store.failed_sync().is_none());
+    assert!(rt; store.finish(&name).is_err());
+    assert!(rt; store.failed_sync() == Some(name));
+    Ok(())
+}
+
+#[test]
+fn a_store_with_retries_closes_a_file(rt: HostRuntime) -> Result<(), Fail> {
+    let name = a1()?;
+    let disk = MemoryDisk::new(rt.alloc());
+    let mut store = FolderStore::over(disk, rt.alloc(), FOLDER)?.with_retries();
+    store.create(&name)?;
+    store.finish(&name)?;
+    assert!(rt; store.failed_sync().is_none());
+    Ok(())
+}
