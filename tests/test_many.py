@@ -20,6 +20,7 @@ import threading
 import time
 
 sys.dont_write_bytecode = True  # nothing is left beside this script
+from kit import logs
 from kit.network import CANT_GO_ON, close_at_once, connect, connect_deaf, ends_by_signal, free_port, hear, hear_all
 from kit.network import hear_until_it_breaks, LOCAL, LONGEST_WAIT, MANY_ASKS, narrow, reason, Relay, run, run_cases
 from kit.network import same_exchanges, same_file, same_port_in_use, same_settled, send, send_all, Server, start
@@ -238,7 +239,7 @@ def case_few_files(folder):
 
 
 def case_log(folder):
-    """With `--log` each connection has a line, in the order of the ends, which counts its own messages alone."""
+    """With `--log` the start, and each connection as it begins and ends, has a line; the last counts its own messages."""
     server = Server(folder, "--exchanges", "3", "--recorders", "3", "--idle", "1", "--log")
     takes = [Take("left", 3_000, 9), Take("right", 6_000, 10)]
     with connect(server.port) as left, connect(server.port) as right, connect(server.port) as silent:
@@ -259,7 +260,9 @@ def case_log(folder):
         f"peer {LOCAL}:{ports[2]} names end Idle messages 0 bytes 0",
     ]
     TALLY.same("a log: the server", (status, ends_of(lines)), (0, ["Bye", "Bye", "Idle"]))
-    TALLY.same("a log", faults.splitlines(), wanted)
+    begun = [f"peer {LOCAL}:{port} begun" for port in ports]
+    opening = [f"started {LOCAL}:{server.port} folder {folder}", *begun]
+    TALLY.same("a log", logs.untimed("a log", faults), opening + wanted)
 
 
 def case_goes_on(folder):
@@ -319,9 +322,11 @@ def unread_lines(name, folder, options):
     end_at(port)
     for stream, lines in zip(streams, printed):
         TALLY.holds(f"{name}: some are left out", 100 < len(lines) < ENDED or stream is server.stderr, f"{len(lines)}")
-        found = next_lines(stream, 2)
-        TALLY.same(f"{name}: how many", found[0], f"left out {ENDED + 1 - len(lines)} lines")
-        last = f"exchange {ENDED + 1} EndOfInput" if stream is server.stdout else "end EndOfInput messages 0 bytes 0"
+        found, made = next_lines(stream, 2), ENDED + 1
+        if stream is server.stderr:  # the start, and two lines a connection
+            found, made = logs.untimed(name, "\n".join(found)), 1 + 2 * made
+        TALLY.same(f"{name}: how many", found[0], f"left out {made - len(lines)} lines")
+        last = f"exchange {ENDED + 1} EndOfInput" if stream is server.stdout else " begun"
         TALLY.same(f"{name}: the next", found[1][-len(last) :], last)
     server.terminate()
     TALLY.same(f"{name}: the end", server.wait(LONGEST_WAIT), -signal.SIGTERM)

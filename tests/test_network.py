@@ -20,6 +20,7 @@ import time
 sys.dont_write_bytecode = True  # nothing is left beside this script
 from cases.disks import case_bad_folder, case_folder_goes_away, case_full_disk, case_name_taken
 from cases.peers import case_bad_servers, case_cut_client, case_deaf_peer, case_garbage, case_silent_peer
+from kit import logs
 from kit.hints import hinted, REFUSED
 from kit.network import connect, ends_by_signal, finish, free_port, hear_all, LEAST_LIMIT, LOCAL, LONGEST_WAIT, Relay
 from kit.network import run, run_cases, same_exchanges, same_file, same_port_in_use, same_replay, same_settled, send
@@ -193,7 +194,7 @@ def case_bad_line(folder):
 
 
 def case_log(folder):
-    """With `--log` each connection has a line, which counts its own messages alone."""
+    """With `--log` the start, and each connection as it begins and ends, has a line; the last counts its own messages."""
     take = Take("logged", 3_000, 22)
     names = [f"take-{at}" for at in range(9)]
     opening = take.requests()[0]
@@ -211,9 +212,49 @@ def case_log(folder):
     status, lines, faults = server.end()
     TALLY.same("a log: the status", status, 0)
     same_exchanges("a log: the exchanges", lines, ["Bye", "Bye", "EndOfInput"])
-    logged = [re.fullmatch(r"peer 127\.0\.0\.1:(\d+) (.*)", line) for line in faults.splitlines()]
+    logged = [re.fullmatch(r"peer 127\.0\.0\.1:(\d+) (.*)", line) for line in logs.ends("a log", faults)]
     TALLY.same("a log: the lines", [line and line[2] for line in logged], wanted)
     TALLY.same("a log: the peers", [line and int(line[1]) for line in logged[1:]], ends)
+    lines = [f"started {LOCAL}:{server.port} folder {folder}"]
+    for line in filter(None, logged):
+        lines += [f"peer {LOCAL}:{line[1]} begun", line[0]]
+    TALLY.same("a log: all of it", logs.untimed("a log", faults), lines)
+
+
+def case_log_of_takes(folder):
+    """With `--log` and journals a take is logged as it is opened and closed, each message that is refused, and, with their
+    times, names that are left out."""
+    take = Take("lasting", 144_003, 23)
+    last = len(take.requests())
+    messages = take.messages()
+    late = message(take.name, last, take.requests()[0])  # an OPEN after CLOSE
+    for at, options in enumerate((("--recorders", "2"), ())):
+        name = f"a log of takes, {' '.join(options) or 'in turn'}"
+        place = folder / str(at)
+        place.mkdir()
+        server = Server(place, "--exchanges", "2", "--journal", "--log", *options, opening=("resumed 0 takes",))
+        # CLOSE is held, and done with what comes last
+        for said in (messages[0] + messages[-1], b"".join(messages[1:-1]) + late):
+            say_logged(server.port, said)
+        status, _, faults = server.end()
+        wanted = [
+            "take lasting opened frames 0",
+            "take lasting closed frames 48001 seconds 1.000 MB 0.144",
+            f"take lasting refused {last} Closed",
+        ]
+        found = [line for line in logs.untimed(name, faults) if line.startswith("take ")]
+        TALLY.same(name, (status, found), (0, wanted))
+        again = ["take lasting opened frames 48001"]
+        for what, said, wanted in (("repeats", b"".join(messages[1:]), []), ("a repeated OPEN", messages[0], again)):
+            server = Server(place, "--exchanges", "1", "--journal", "--log", *options, opening=("resumed 1 takes",))
+            say_logged(server.port, said)
+            found = [line for line in logs.untimed(name, server.end()[2]) if line.startswith("take ")]
+            TALLY.same(f"{name}: {what} after a start", found, wanted)
+        (place / f"{take.name}.wav").unlink()
+        server = Server(place, "--exchanges", "1", "--journal", "--log", *options, opening=("resumed 1 takes",))
+        say_logged(server.port, messages[0])
+        found = logs.untimed(name, server.end()[2])
+        TALLY.holds(f"{name}: a fault", f"{place}/{take.name}.journal: LostFile, left out" in found, f"{found}")
 
 
 def say_logged(port, said):
@@ -307,6 +348,7 @@ CASES = [
     case_name_taken,
     case_garbage,
     case_log,
+    case_log_of_takes,
     case_typed,
     case_silent_peer,
     case_deaf_peer,

@@ -12,6 +12,7 @@ import sys
 import time
 
 sys.dont_write_bytecode = True  # nothing is left beside this script
+from kit import logs
 from kit.network import CANT_GO_ON, connect, Fault, hear, hear_all, hear_until_it_breaks, LOCAL, LONGEST_WAIT, reason, run
 from kit.network import run_cases, same_exchanges, Server, stopped, TALLY
 from kit.takes import BYE_FRAME, little
@@ -90,9 +91,11 @@ def serves_another(name, server):
 
 
 def ends_with(name, server, *ends, first=0, log=""):
-    """The server ends by itself after these exchanges, with status 0 and this log on standard error."""
-    lines = [f"exchange {first + at} {end}" for at, end in enumerate(ends)]
-    TALLY.same(f"{name}: the server", server.end(), (0, lines, log))
+    """The server ends by itself after these exchanges, with status 0 and these ends in its log."""
+    wanted = [f"exchange {first + at} {end}" for at, end in enumerate(ends)]
+    status, lines, faults = server.end()
+    found = logs.ends(name, faults) if log else faults
+    TALLY.same(f"{name}: the server", (status, lines, found), (0, wanted, log))
 
 
 def has_files(name, folder, files):
@@ -103,7 +106,7 @@ def has_files(name, folder, files):
 
 def log_line(peer, end):
     """The line of the log for a peer that sent no request."""
-    return f"peer {LOCAL}:{peer.getsockname()[1]} names end {end} messages 0 bytes 0\n"
+    return f"peer {LOCAL}:{peer.getsockname()[1]} names end {end} messages 0 bytes 0"
 
 
 # One after another
@@ -129,7 +132,7 @@ def case_silent(folder):
     """A silent peer ends only its own exchange, which is logged, and the server ends as asked."""
     server = Server(folder, "--exchanges", "1", "--timeout", "1", "--log")
     with connect(server.port) as silent:
-        ends_with("a silent peer", server, "ReadFault", log=log_line(silent, "ReadFault"))
+        ends_with("a silent peer", server, "ReadFault", log=[log_line(silent, "ReadFault")])
 
 
 # Both kinds of servers
@@ -156,7 +159,9 @@ def case_folder_gone(folder):
         place.rmdir()
         with connect(server.port) as late:
             TALLY.same(name, hear_until_it_breaks(late), b"")
-        TALLY.same(f"{name}: the server", server.end(), (3, [], CANT_GO_ON))
+        status, lines, faults = server.end()
+        wanted = [f"started {LOCAL}:{server.port} folder {place}", CANT_GO_ON.rstrip()]
+        TALLY.same(f"{name}: the server", (status, lines, logs.untimed(name, faults)), (3, [], wanted))
 
 
 def case_second_name(folder):
@@ -208,7 +213,7 @@ def case_nobody_comes(folder):
     away.rename(place)
     with connect(server.port) as peer:
         hears_to_the_end("the first peer", peer, ASK + BYE_FRAME, NEXT)
-        ends_with("the first peer", server, "Bye", log=log_line(peer, "Bye"))
+        ends_with("the first peer", server, "Bye", log=[log_line(peer, "Bye")])
 
 
 def case_stuck_in_a_frame(folder):
@@ -267,8 +272,8 @@ def case_places(folder):
         hears_to_the_end("the first of five: its end", first, BYE_FRAME, b"")
         each_hears("a peer that waits for a place", others, [NEXT] * 3, to_the_end=True)
         hears_to_the_end("a peer that keeps its place", lasting, OTHER, OTHERS)
-        log = "".join(log_line(peer, "Bye") for peer in (first, *others))
-        log += f"peer {LOCAL}:{lasting.getsockname()[1]} names b2 end Bye messages 3 bytes 46\n"
+        log = [log_line(peer, "Bye") for peer in (first, *others)]
+        log.append(f"peer {LOCAL}:{lasting.getsockname()[1]} names b2 end Bye messages 3 bytes 46")
         ends_with("places", server, *["Bye"] * 5, log=log)
 
 

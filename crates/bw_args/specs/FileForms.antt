@@ -27,7 +27,8 @@ pub record RunsPack (words : List Text) (line : CommandLine) : Type 0 where
       → RunsFor (Packing (record (source_at path) { strict = true })) line
   -- `pack --set=A --set=B FILE`
   pub sets : (program path a b : Text) → IsPlain path
-      → words ≡ program ∷ codes "pack" ∷ (codes "--set=" ++ a) ∷ (codes "--set=" ++ b) ∷ path ∷ []
+      → words ≡ program ∷ codes "pack" ∷ (codes "--set=" ++ a) ∷ (codes "--set="
+      ++ b) ∷ path ∷ []
       → RunsFor (Packing (record (source_at path) { settings = a ∷ b ∷ [] })) line
   -- `pack`
   pub none : (program : Text) → words ≡ program ∷ codes "pack" ∷ []
@@ -51,7 +52,8 @@ abbrev pub with_file : Text → List Text → List Text
 with_file path more = (codes "--file=" ++ path) ∷ more
 
 -- the line runs the plain sender of this file with this change
-abbrev pub AsksToUpload : CommandLine → Text → (FileUpload → FileUpload) → SocketAddr → Text → Type 0
+abbrev pub AsksToUpload : CommandLine → Text → (FileUpload → FileUpload) → SocketAddr → Text →
+    Type 0
 AsksToUpload line path change address name =
     RunsFor (Uploading (change (plain_upload address name path))) line
 

@@ -32,7 +32,8 @@ pub record RunsTakes (words : List Text) (line : CommandLine) : Type 0 where
       → RunsFor (Listing folder Watch) line
   -- `takes --folder DIR --check --watch`
   pub both : (program folder : Text) → folder ≢ []
-      → words ≡ program ∷ codes "takes" ∷ codes "--folder" ∷ folder ∷ codes "--check" ∷ codes "--watch" ∷ []
+      → words ≡ program ∷ codes "takes" ∷ codes "--folder" ∷ folder ∷ codes "--check" ∷ codes
+      "--watch" ∷ []
       → line ≡ Bad BadWatch
   -- `takes --folder DIR --watch --give-up=NAME`
   pub beside : (program folder name : Text) → folder ≢ []

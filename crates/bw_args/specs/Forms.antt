@@ -124,7 +124,8 @@ pub record RefusesValues (words : List Text) (line : CommandLine) : Type 0 where
 -- `--help` and `--version` are answered, and no command at all is a fault, whatever the program's
 -- name
 pub record ReportsHelp (words : List Text) (line : CommandLine) : Type 0 where
-  pub help : (program : Text) → words ≡ program ∷ codes "--help" ∷ [] → IsReportedAs DisplayHelp line
+  pub help : (program : Text) → words ≡ program ∷ codes "--help" ∷ [] →
+      IsReportedAs DisplayHelp line
   pub version : (program : Text) → words ≡ program ∷ codes "--version" ∷ []
       → IsReportedAs DisplayVersion line
   pub bare : (program : Text) → words ≡ program ∷ [] → IsReportedAs MissingSubcommand line

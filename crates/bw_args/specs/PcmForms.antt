@@ -35,8 +35,8 @@ abbrev pub with_spool : Text → Text → List Text → List Text
 with_spool path text more = (codes "--spool=" ++ path) ∷ (codes "--pcm=" ++ text) ∷ more
 
 -- the line runs the plain sender of such samples with this change
-abbrev pub AsksToSendPcm : CommandLine → Text → WrittenFormat → (PcmUpload → PcmUpload) → SocketAddr →
-    Text → Type 0
+abbrev pub AsksToSendPcm : CommandLine → Text → WrittenFormat → (PcmUpload → PcmUpload) →
+    SocketAddr → Text → Type 0
 AsksToSendPcm line path format change address name =
     RunsFor (SendingPcm (change (plain_pcm_upload address name path format))) line
 

@@ -1,14 +1,15 @@
 -- What the opening of a kept server over a folder results in, where its folder is locked first.
-use Rattle.std.specs.Prelude.{◌≡◌, ◌⊎◌, ℕ, Bool, List, length, Option, Some, IsTrue, Result, Ok, Err}
+use Rattle.std.specs.Prelude.{◌≡◌, ◌⊎◌, ℕ, Bool, false, List, length, Option, None, Some, IsTrue, Result, Ok, Err}
 use Rattle.bw_disk.specs.Volumes.{AreDistinct}
 use Rattle.bw_disk.specs.declared.disk.Disk.{Ghosts as DiskGhosts}
 use Rattle.bw_disk.specs.declared.reading.ReadFault.{ReadFault}
 use Rattle.bw_disk.specs.declared.reading.ReadFault.TheVariants as reads
-use Rattle.bw_folder.specs.TakeFolders.{takes_disk, takes_folder}
+use Rattle.bw_folder.specs.TakeFolders.{takes_disk, takes_folder, takes_retry}
 use Rattle.bw_folder.specs.JournalFolders.{journals_disk, journals_folder, journals_limit, journals_sync}
 use Rattle.bw_folder.specs.declared.folder.FolderStore.{FolderStore}
 use Rattle.bw_folder.specs.declared.journal.FolderJournal.{FolderJournal}
 use Rattle.bw_journal.specs.declared.journal.Journal.{Ghosts as JournalGhosts}
+use Rattle.bw_kept.specs.KeptCommits.{failed_sync_of}
 use Rattle.bw_kept.specs.LeftFolders.{KnowsNone}
 use Rattle.bw_lock.specs.declared.folder_locks.LockRefusal.{LockRefusal}
 use Rattle.bw_lock.specs.declared.folder_locks.LockRefusal.TheVariants as locks
@@ -43,7 +44,8 @@ CountsJournals K folder notes count = IsTrue (K.honest notes) → (names : List 
 
 module _ {D E F H : Type 0} {G : DiskGhosts D F} {K : DiskGhosts E H}
     {S : StoreGhosts (FolderStore D F G)} {J : JournalGhosts (FolderJournal E H K)} where
-  -- The server has this limit, and its store and its journal are those of this folder.
+  -- The server has this limit, and its store and its journal are those of this folder; neither has seen a
+  -- sync that failed, and after one neither syncs any more.
   pub record IsServerOver (limit : ℕ) (folder : List ℕ) (sync : Bool)
       (s : Server (FolderStore D F G) (FolderJournal E H K) S J) : Type 0 where
     pub limit_is : server_limit s ≡ limit
@@ -51,6 +53,8 @@ module _ {D E F H : Type 0} {G : DiskGhosts D F} {K : DiskGhosts E H}
     pub journal : journals_folder (server_journal s) ≡ folder
     pub journal_limit : journals_limit (server_journal s) ≡ limit
     pub journal_sync : journals_sync (server_journal s) ≡ sync
+    pub store_retry : takes_retry (server_store s) ≡ false
+    pub failed_sync : failed_sync_of s ≡ None
 
   -- These are its disks.
   pub record HasDisks (takes : D) (notes : E)

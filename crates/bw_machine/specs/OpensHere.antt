@@ -19,7 +19,8 @@ use Rattle.bw_serve.specs.declared.opening.OpenedServer.{OpenedServer}
 use Rattle.bw_store.specs.declared.store.TakeStore.{Ghosts as StoreGhosts}
 
 -- what may have led to the first state may have led to the second
-abbrev pub KeepsAnswers : {T : Type 0} → (T → Frame → List Reply → T → Type 0) → T → T → Type 0
+abbrev pub KeepsAnswers : {T : Type 0} → (T → Frame → List Reply → T → Type 0) → T → T →
+    Type 0
 KeepsAnswers {T} answers old new = (first : T) (frame : Frame) (replies : List Reply) →
     answers first frame replies old → answers first frame replies new
 

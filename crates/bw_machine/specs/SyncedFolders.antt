@@ -20,14 +20,15 @@ pub record SyncsAt {D F T E : Type 0} (G : DiskGhosts D F) (answer : Result T E)
   pub others : IsTrue (G.honest old) → KeepsOthers (G.synced old) (G.synced new) path
 
 -- the take's file of a name is synced, and its journal: each disk by its contents and what is synced
-abbrev pub SyncsName : List ℕ → (takes takes_synced notes notes_synced : List ℕ → Option (List ℕ)) →
-    List ℕ → Type 0
+abbrev pub SyncsName : List ℕ →
+    (takes takes_synced notes notes_synced : List ℕ → Option (List ℕ)) → List ℕ → Type 0
 SyncsName folder takes takes_synced notes notes_synced name =
     IsSyncedAt takes takes_synced (wave_path folder name)
     × IsSyncedAt notes notes_synced (notes_path folder name)
 
 -- those of each name that has a journal
-abbrev pub SyncsLeft : List ℕ → (takes takes_synced notes notes_synced : List ℕ → Option (List ℕ)) → Type 0
+abbrev pub SyncsLeft : List ℕ →
+    (takes takes_synced notes notes_synced : List ℕ → Option (List ℕ)) → Type 0
 SyncsLeft folder takes takes_synced notes notes_synced = (name : List ℕ) → IsTrue (is_name name) →
     IsSome (notes (notes_path folder name)) →
     SyncsName folder takes takes_synced notes notes_synced name

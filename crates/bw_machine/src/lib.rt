@@ -10,6 +10,7 @@ mod reporting;
 mod starting;
 mod status;
 mod syncing;
+mod take_events;
 mod terminal;
 
 pub use folder_server::FolderServer;

@@ -1,12 +1,13 @@
 //! The network and the folders of this machine, for `serve` and `send`.
-ghost use Rattle.std.specs.Prelude.{◌≡◌, ◌*◌, ◌+◌, IfOk, option_map, string_bytes};
+ghost use Rattle.std.specs.Prelude.{◌≡◌, ◌*◌, ◌+◌, true, IfOk, option_map, string_bytes};
 ghost use Rattle.std.specs.Duration.{as_nanos};
-ghost use Rattle.bw_folder.specs.TakeFolders.{takes_folder};
+ghost use Rattle.bw_folder.specs.TakeFolders.{takes_folder, takes_retry};
 
 use crate::journals::refuse_journals;
 use bw_causes::CauseCell;
 use bw_disk::SystemDisk;
 use bw_folder::FolderStore;
+use bw_log::{EventLog, started_line};
 use bw_net::{
     FolderLock, LineCell, NotedFiles, SpoolCell, TcpDial, TcpPeers, TcpReactor, check_folder,
 };
@@ -83,7 +84,7 @@ impl<'a> TcpNetwork<'a> {
     {
         let folder = String::from_str(self.rt.alloc(), folder)?;
         self.lines.open(self.rt)?;
-        TcpPeers::listen(self.rt, address, folder, span(timeout))
+        TcpPeers::listen(self.rt, self.files(), address, folder, span(timeout))
     }
 
     fn open_reactor(
@@ -100,6 +101,25 @@ impl<'a> TcpNetwork<'a> {
         let folder = String::from_str(self.rt.alloc(), folder)?;
         self.lines.open(self.rt)?;
         TcpReactor::listen(self.rt, self.lines, address, folder, places)
+    }
+}
+
+impl TcpNetwork<'_> {
+    /// Says that a server listens at an address, over a folder.
+    fn note_start(&self, address: SocketAddr, folder: &str) {
+        let files = self.files();
+        if files.logs() {
+            files.note_event(started_line(self.rt.alloc(), address, folder));
+        }
+    }
+}
+
+/// With a log each line on standard error begins with its time.
+impl EventLog for TcpNetwork<'_> {
+    ghost chooses = { λ n log n'. n' ≡ n };
+
+    fn log_events(&mut self, log: bool) {
+        self.lines.log_events(log);
     }
 }
 
@@ -132,7 +152,8 @@ impl<'a> Network for TcpNetwork<'a> {
 
     ghost failures = { network_failures };
 
-    ghost stores = { λ n folder result n'. IfOk result (λ store. takes_folder store ≡ folder) };
+    ghost stores = { λ n folder result n'. IfOk result (λ store. (takes_folder store ≡ folder)
+        × (takes_retry store ≡ true)) };
 
     ghost listens = { λ n address folder timeout result n'. IfOk result (λ peers.
         (peers_address peers ≡ address) × (string_bytes (peers_folder peers) ≡ folder)
@@ -152,7 +173,8 @@ impl<'a> Network for TcpNetwork<'a> {
             return Err(refusal);
         }
         match FolderStore::new(self.files(), alloc, folder) {
-            Ok(store) => Ok(store),
+            // No other server takes over what this one has, so a CLOSE may be tried again.
+            Ok(store) => Ok(store.with_retries()),
             Err(error) => {
                 self.failures = self.failures.saturating_add(1);
                 Err(StartRefusal::Unusable(io::Error::from(error)))
@@ -169,7 +191,9 @@ impl<'a> Network for TcpNetwork<'a> {
         let peers = self.open_peers(address, folder, timeout);
         if peers.is_err() {
             self.failures = self.failures.saturating_add(1);
+            return peers;
         }
+        self.note_start(address, folder);
         peers
     }
 
@@ -226,7 +250,9 @@ impl<'a> ListenerSetup for TcpNetwork<'a> {
         let reactor = self.open_reactor(address, folder, places);
         if reactor.is_err() {
             self.failures = self.failures.saturating_add(1);
+            return reactor;
         }
+        self.note_start(address, folder);
         reactor
     }
 }

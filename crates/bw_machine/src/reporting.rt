@@ -8,6 +8,7 @@ ghost use Rattle.bw_wire.specs.Replies.{reply_of};
 ghost use Rattle.bw_machine.specs.OpensHere.{server_in};
 ghost use Rattle.bw_machine.specs.PutOffs.{puts_off};
 
+use crate::take_events::{note_turn, stage_to_note};
 use arrayvec::ArrayVec;
 use bw_disk::Volume;
 use bw_exchange::{NotKept, Turns};
@@ -55,7 +56,7 @@ impl<D: Volume, E: Volume> LeavesOut for KeptServer<FolderStore<D>, FolderJourna
     }
 
     fn failed_sync(&self) -> Option<Name> {
-        self.server().journal().failed_sync()
+        KeptServer::failed_sync(self)
     }
 
     fn folder(&self) -> &str {
@@ -65,7 +66,8 @@ impl<D: Volume, E: Volume> LeavesOut for KeptServer<FolderStore<D>, FolderJourna
 
 /// A server that answers as the one in it. When something is found to be wrong with a name, that is a
 /// line on standard error, `DIR/NAME.journal: CAUSE, left out`, and operators see it until a frame of the
-/// name isn't put off. Another line names the take of which a sync failed.
+/// name isn't put off. Another line names the take of which a sync failed. With a log each take that is
+/// opened or closed is a line, and each message that is refused.
 ///
 /// # Not specified
 /// What is said, and when.
@@ -178,7 +180,7 @@ impl<T: HasTable> HasTable for ReportingServer<'_, T> {
     }
 }
 
-impl<T: LeavesOut> Turns for ReportingServer<'_, T> {
+impl<T: LeavesOut + HasTable> Turns for ReportingServer<'_, T> {
     ghost use Rattle.bw_machine.specs.OpensHere.{server_in};
 
     ghost answers = { λ s frame replies s'. T.Turns.answers (server_in s) frame replies (server_in s') };
@@ -188,7 +190,17 @@ impl<T: LeavesOut> Turns for ReportingServer<'_, T> {
     ghost commits = { λ s result s'. T.Turns.commits (server_in s) result (server_in s') };
 
     fn turn(&mut self, message: &Message<'_>, replies: &mut ArrayVec<Reply, 17>) {
+        let before = stage_to_note(self.files, &self.server, &message.name());
         self.server.turn(message, replies);
+        if let Some(before) = before {
+            note_turn(
+                self.files,
+                &self.server,
+                message,
+                before,
+                replies.as_slice(),
+            );
+        }
         if !are_put_off(replies.as_slice()) {
             note_served(self.files, &message.name());
         }

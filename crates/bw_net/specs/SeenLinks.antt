@@ -7,7 +7,7 @@ use Rattle.std.specs.declared.net.socket_addr.SocketAddr.{SocketAddr}
 use Rattle.std.specs.declared.time.Duration.{Duration}
 use Rattle.mio.specs.Events.{capacity}
 use Rattle.bw_stream.specs.Shown.{std_flushed}
-use Rattle.bw_net.specs.declared.lines.LineSink.{LineSink}
+use Rattle.bw_net.specs.declared.line_sink.LineSink.{LineSink}
 use Rattle.bw_net.specs.declared.reactor.TcpReactor.{TcpReactor}
 use Rattle.bw_net.specs.declared.status.TcpStatusPort.{TcpStatusPort}
 use Rattle.bw_net.specs.declared.tcp.TcpDial.{TcpDial}

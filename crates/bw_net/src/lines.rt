@@ -1,19 +1,17 @@
 //! The lines of a server: none of them waits for its reader.
-ghost use Rattle.std.specs.Prelude.{◌≡◌, ◌<◌, ◌≤◌, length, None, IfOk, string_bytes};
+ghost use Rattle.std.specs.Prelude.{◌≡◌, IfOk, string_bytes};
 ghost use Rattle.bw_net.specs.SeenLinks.{is_short_of_handles, left_out_text};
 
-use crate::counting::counted;
 use crate::faults::{FaultNotes, fault_line, is_fault};
 use crate::left_out::LeftOutNotes;
+use crate::room::Room;
+use crate::stamping::write_stamped;
 use bw_status::LeftOutName;
-use bw_stream::{IoFailed, Sink, StdIo, write_all};
-use mio::unix::SourceFd;
-use mio::{Events, Interest, Poll, Token};
+use bw_stream::{StdIo, write_all};
 use std::alloc::{AllocError, Global};
 use std::cell::{Cell, RefCell};
 use std::io::{self, ErrorKind, Write};
-use std::os::fd::{AsRawFd, RawFd};
-use std::time::Duration;
+use std::os::fd::RawFd;
 
 /// The descriptor of standard error.
 const FAULTS: RawFd = 2;
@@ -22,9 +20,6 @@ const FAULTS: RawFd = 2;
 /// a new process reads what the system has.
 const FAILED_SYNC: &str =
     "a sync of it or its journal failed; mount its file system anew, or restart the machine";
-
-/// The most bytes of a write: a pipe that is reported ready has room for as many.
-const PIECE: usize = 4_096;
 
 /// The error of a call that finds no handle left to the process.
 const EMFILE: i32 = 24;
@@ -53,6 +48,10 @@ pub struct LineCell {
     phase: Cell<LinePhase>,
     /// How many lines were left out; it stays at 2^64 - 1.
     left_out: Cell<u64>,
+    /// How many of standard output were since it was last said how many.
+    unsaid_output: Cell<u64>,
+    /// How many of standard error.
+    unsaid_faults: Cell<u64>,
     /// Whether it was said that no handle is left.
     is_told: Cell<bool>,
     /// Reports which descriptors have room, once a server listens.
@@ -63,6 +62,8 @@ pub struct LineCell {
     names: LeftOutNotes,
     /// Whether the last call of its store to begin a take failed.
     fails_to_begin: Cell<bool>,
+    /// Whether what happens is said, and each line on standard error begins with its time.
+    logs: Cell<bool>,
 }
 
 impl LineCell {
@@ -71,11 +72,14 @@ impl LineCell {
         LineCell {
             phase: Cell::new(LinePhase::Waiting),
             left_out: Cell::new(0),
+            unsaid_output: Cell::new(0),
+            unsaid_faults: Cell::new(0),
             is_told: Cell::new(false),
             room: RefCell::new(None),
             faults: FaultNotes::new(),
             names: LeftOutNotes::new(),
             fails_to_begin: Cell::new(false),
+            logs: Cell::new(false),
         }
     }
 
@@ -96,13 +100,56 @@ impl LineCell {
         Ok(())
     }
 
+    /// Chooses whether what happens from now on is said, and each line on standard error begins with its
+    /// time.
+    ///
+    /// # Not specified
+    /// Anything: it has no contract.
+    pub fn log_events(&self, log: bool) {
+        self.logs.set(log);
+    }
+
+    /// Whether what happens is said.
+    ///
+    /// # Not specified
+    /// Whether it is.
+    pub(crate) fn logs(&self) -> bool {
+        self.logs.get()
+    }
+
+    /// Says what happens in a line on standard error, if that is asked for. If memory was refused for the
+    /// line, or it can't be written at once, it is left out and counted.
+    ///
+    /// # Not specified
+    /// Anything: it has no contract.
+    pub(crate) fn note_event(&self, rt: &HostRuntime, line: Result<Vec<u8>, AllocError>) {
+        if !self.logs() {
+            return;
+        }
+        let is_ready = self.say_left_out(rt, FAULTS, &mut StdIo::new(rt.stderr()));
+        match line {
+            Ok(line) if is_ready && self.has_room(FAULTS) => self.say(rt, &line),
+            _ => self.leave_out(FAULTS),
+        }
+    }
+
+    /// Writes a line on standard error, with its time if that is asked for.
+    fn say(&self, rt: &HostRuntime, line: &[u8]) {
+        let mut faults = StdIo::new(rt.stderr());
+        let _ = if self.logs() {
+            write_stamped(rt, &mut faults, line)
+        } else {
+            write_all(&mut faults, line)
+        };
+    }
+
     /// Prints on standard error which call of a start failed first, if one did and no server listens.
     ///
     /// # Not specified
     /// Anything: it has no contract.
     pub fn report_start(&self, rt: &HostRuntime) {
         if let Some(line) = self.faults.take() {
-            let _ = write_all(&mut StdIo::new(rt.stderr()), line.as_bytes());
+            self.say(rt, line.as_bytes());
         }
     }
 
@@ -121,7 +168,7 @@ impl LineCell {
         }
         if let Ok(line) = fault_line(rt.alloc(), path, error) {
             self.faults.printed(rt);
-            let _ = write_all(&mut StdIo::new(rt.stderr()), line.as_bytes());
+            self.say(rt, line.as_bytes());
         }
     }
 
@@ -139,12 +186,12 @@ impl LineCell {
     ) {
         self.names.note(rt.alloc(), name, cause);
         if !self.has_room(FAULTS) {
-            self.leave_out();
+            self.count_left_out();
             return;
         }
         let line = format!(in rt.alloc(); "{folder}/{name}.journal: {cause}, left out\n");
         if let Ok(line) = line {
-            let _ = write_all(&mut StdIo::new(rt.stderr()), line.as_bytes());
+            self.say(rt, line.as_bytes());
         }
     }
 
@@ -155,11 +202,11 @@ impl LineCell {
     /// Anything: it has no contract.
     pub(crate) fn note_failed_sync(&self, rt: &HostRuntime, path: &str) {
         if !self.has_room(FAULTS) {
-            self.leave_out();
+            self.count_left_out();
             return;
         }
         if let Ok(line) = format!(in rt.alloc(); "{path}: {FAILED_SYNC}\n") {
-            let _ = write_all(&mut StdIo::new(rt.stderr()), line.as_bytes());
+            self.say(rt, line.as_bytes());
         }
     }
 
@@ -219,29 +266,80 @@ impl LineCell {
         }
         if let Ok(line) = format!(in rt.alloc(); "nobody more can connect: {error}\n") {
             self.is_told.set(true);
-            let _ = write_all(&mut StdIo::new(rt.stderr()), line.as_bytes());
+            self.say(rt, line.as_bytes());
         }
     }
 
     /// A line was written.
-    fn wrote(&self) {
+    pub(crate) fn wrote(&self) {
         if self.phase.get() == LinePhase::Opening {
             self.phase.set(LinePhase::Serving);
         }
     }
 
     /// Whether no line waits any more.
-    fn is_serving(&self) -> bool {
+    pub(crate) fn is_serving(&self) -> bool {
         self.phase.get() == LinePhase::Serving
     }
 
+    /// Counts a line of a descriptor that is left out, and of which it is to be said.
+    pub(crate) fn leave_out(&self, fd: RawFd) {
+        let unsaid = self.unsaid(fd);
+        unsaid.set(unsaid.get().saturating_add(1));
+        self.count_left_out();
+    }
+
     /// Counts a line that is left out.
-    fn leave_out(&self) {
+    fn count_left_out(&self) {
         self.left_out.set(self.left_out.get().saturating_add(1));
     }
 
+    /// How many lines of a descriptor were left out since it was last said how many.
+    fn unsaid(&self, fd: RawFd) -> &Cell<u64> {
+        if fd == FAULTS {
+            &self.unsaid_faults
+        } else {
+            &self.unsaid_output
+        }
+    }
+
+    /// Whether the lines of a descriptor begin with their time.
+    pub(crate) fn is_stamped(&self, fd: RawFd) -> bool {
+        fd == FAULTS && self.logs()
+    }
+
+    /// Says how many lines of a descriptor were left out, if any were and there is room. Whether it is
+    /// said of all of them.
+    pub(crate) fn say_left_out<W: Write>(
+        &self,
+        rt: &HostRuntime,
+        fd: RawFd,
+        writer: &mut StdIo<W>,
+    ) -> bool {
+        let count = self.unsaid(fd).get();
+        if count == 0 {
+            return true;
+        }
+        if !self.has_room(fd) {
+            return false;
+        }
+        let Ok(line) = left_out_line(rt.alloc(), count) else {
+            return false;
+        };
+        let written = if self.is_stamped(fd) {
+            write_stamped(rt, writer, line.as_bytes())
+        } else {
+            write_all(writer, line.as_bytes())
+        };
+        if written.is_err() {
+            return false;
+        }
+        self.unsaid(fd).set(0);
+        true
+    }
+
     /// Whether a piece can be written at once.
-    fn has_room(&self, fd: RawFd) -> bool {
+    pub(crate) fn has_room(&self, fd: RawFd) -> bool {
         let Ok(mut guard) = self.room.try_borrow_mut() else {
             return true;
         };
@@ -249,149 +347,6 @@ impl LineCell {
             Some(room) => room.is_at(fd),
             None => true,
         }
-    }
-}
-
-/// Reports which descriptors have room. They stay as they are, since they may be those of other
-/// processes too.
-#[derive(Drop)]
-struct Room {
-    poll: Poll,
-    /// Of standard output and standard error.
-    events: Events,
-}
-
-impl Room {
-    fn new(rt: &HostRuntime) -> io::Result<Room> {
-        Ok(Room {
-            poll: Poll::new(rt)?,
-            events: Events::with_capacity(rt.alloc(), 2)?,
-        })
-    }
-
-    /// Whether a descriptor has room. One that can't be asked, as a file, always has.
-    fn is_at(&mut self, fd: RawFd) -> bool {
-        let token = Token(fd.unsigned_abs() as usize);
-        if self.watch(fd, token).is_err() {
-            return true;
-        }
-        if self
-            .poll
-            .poll(&mut self.events, Some(Duration::ZERO))
-            .is_err()
-        {
-            return true;
-        }
-        for event in self.events.iter() {
-            if event.token() == token {
-                return true;
-            }
-        }
-        false
-    }
-
-    /// Has a descriptor reported, also where nothing has changed.
-    fn watch(&self, fd: RawFd, token: Token) -> io::Result<()> {
-        let registry = self.poll.registry();
-        match registry.reregister(&mut SourceFd(&fd), token, Interest::WRITABLE) {
-            Err(error) if error.kind() == ErrorKind::NotFound => {
-                registry.register(&mut SourceFd(&fd), token, Interest::WRITABLE)
-            }
-            again => again,
-        }
-    }
-}
-
-/// Standard output or standard error, for lines. Where these don't wait any more, one that can't be
-/// written at once is left out, which is a failure of this writer; before the next one that can, it
-/// says how many were.
-///
-/// It doesn't report what is written, since no clause of std says what a reader gets.
-#[derive(Drop)]
-pub struct LineSink<'a, W> {
-    alloc: Global,
-    lines: &'a LineCell,
-    inner: StdIo<W>,
-    fd: RawFd,
-    /// How many lines were left out since it was last said how many.
-    unsaid: u64,
-    failures: u64,
-}
-
-impl<'a, W: Write + AsRawFd + Drop> LineSink<'a, W> {
-    ghost use Rattle.bw_net.specs.SeenLinks.{lines_failures};
-
-    /// This writer, which has not failed yet.
-    ///
-    /// # Not specified
-    /// What it writes, and when.
-    pub fn new(alloc: Global, lines: &'a LineCell, writer: W) -> LineSink<'a, W>
-        ensures { lines_failures result ≡ 0 }
-    {
-        let fd = writer.as_raw_fd();
-        LineSink {
-            alloc,
-            lines,
-            inner: StdIo::new(writer),
-            fd,
-            unsaid: 0,
-            failures: 0,
-        }
-    }
-
-    /// Writes a piece, at once if lines don't wait any more.
-    fn write_piece(&mut self, bytes: &[u8]) -> Result<usize, IoFailed>
-        ensures within { IfOk result (λ n. n ≤ length bytes.now) }
-        ensures some { IfOk result (λ n. 0 < length bytes.now → 0 < n) }
-        ensures failures { self.new.failures ≡ self.old.failures }
-    {
-        if !self.lines.is_serving() {
-            return self.inner.write(bytes);
-        }
-        self.say_left_out();
-        if self.unsaid > 0 || !self.lines.has_room(self.fd) {
-            self.unsaid = self.unsaid.saturating_add(1);
-            self.lines.leave_out();
-            return Err(IoFailed);
-        }
-        let most = bytes.len().min(PIECE);
-        self.inner.write(&bytes[..most])
-    }
-
-    /// Says how many lines were left out, if any were and there is room.
-    fn say_left_out(&mut self)
-        ensures { self.new.failures ≡ self.old.failures }
-    {
-        if self.unsaid == 0 || !self.lines.has_room(self.fd) {
-            return;
-        }
-        let Ok(line) = left_out_line(self.alloc, self.unsaid) else {
-            return;
-        };
-        if write_all(&mut self.inner, line.as_bytes()).is_ok() {
-            self.unsaid = 0;
-        }
-    }
-}
-
-impl<W: Write + AsRawFd + Drop> Sink for LineSink<'_, W> {
-    ghost use Rattle.bw_net.specs.SeenLinks.{lines_failures, lines_flushed};
-
-    ghost written = { λ _. None };
-
-    ghost failures = { lines_failures };
-
-    ghost is_flushed = { lines_flushed };
-
-    fn write(&mut self, bytes: &[u8]) -> Result<usize, IoFailed> {
-        let given = self.write_piece(bytes);
-        counted(given, &mut self.failures)
-    }
-
-    fn flush(&mut self) -> Result<(), IoFailed> {
-        self.lines.wrote();
-        let given = self.inner.flush();
-        counted(given, &mut self.failures)
     }
 }
 

@@ -2,7 +2,7 @@
 ghost use Rattle.std.specs.Prelude.{◌≡◌};
 
 use crate::lines::LineCell;
-use std::alloc::{Allocator, Global};
+use std::alloc::{AllocError, Allocator, Global};
 use std::cell::Cell;
 use std::fs::{Files, Metadata, OpenFile, OpenOptions};
 use std::io::{self, ErrorKind, Read, Seek, SeekFrom, Write};
@@ -34,6 +34,30 @@ impl<'a> NotedFiles<'a> {
     /// Anything: it has no contract.
     pub fn note_left_out(&self, folder: &str, name: &str, cause: &str) {
         self.lines.note_fault_of_name(self.rt, folder, name, cause);
+    }
+
+    /// Chooses whether what happens from now on is said on standard error, each line with its time.
+    ///
+    /// # Not specified
+    /// Anything: it has no contract.
+    pub fn log_events(&self, log: bool) {
+        self.lines.log_events(log);
+    }
+
+    /// Whether what happens is said.
+    ///
+    /// # Not specified
+    /// Whether it is.
+    pub fn logs(&self) -> bool {
+        self.lines.logs()
+    }
+
+    /// Says what happens in this line, if that is asked for. One for which memory was refused is left out.
+    ///
+    /// # Not specified
+    /// Anything: it has no contract.
+    pub fn note_event(&self, line: Result<Vec<u8>, AllocError>) {
+        self.lines.note_event(self.rt, line);
     }
 
     /// A name is served: it isn't left out.

@@ -6,6 +6,7 @@ ghost use Rattle.mio.specs.Event.{is_writable, is_write_closed};
 use crate::folder::has_folder;
 use crate::lines::LineCell;
 use crate::socket::Socket;
+use bw_log::begun_line;
 use bw_ports::{Accepted, Reactor, Ready, TryAcceptFault, WaitFault};
 use mio::event::Event;
 use mio::net::{TcpListener, TcpStream};
@@ -176,6 +177,10 @@ impl Reactor for TcpReactor<'_> {
         let Ok(link) = self.link_at(place, stream) else {
             return Err(TryAcceptFault::Gone);
         };
+        if self.lines.logs() {
+            let line = begun_line(self.rt.alloc(), address);
+            self.lines.note_event(self.rt, line);
+        }
         Ok(Accepted { address, link })
     }
 

@@ -4,11 +4,13 @@ ghost use Rattle.std.specs.Prelude.{◌≡◌, IfOk, None};
 use crate::counting::counted;
 use crate::folder::has_folder;
 use crate::link_stream::{LinkStream, connect};
+use crate::noted_files::NotedFiles;
 use crate::noted_stream::{NotedStream, noted};
 use crate::pause::SpoolPause;
 use crate::spool::SpoolCell;
 use crate::stopwatch::ClockStopwatch;
 use bw_causes::CauseCell;
+use bw_log::begun_line;
 use bw_pace::PacedSink;
 use bw_ports::{AcceptFault, Dial, DialFault, Duplex, Peer, Peers};
 use bw_stream::StdIo;
@@ -142,6 +144,8 @@ pub struct TcpPeers<'a, R, L: Drop> {
     listener: L,
     folder: String,
     timeout: Option<Duration>,
+    /// Says which links begin.
+    notes: NotedFiles<'a>,
     failures: u64,
 }
 
@@ -149,7 +153,8 @@ impl<'a, R: Net> TcpPeers<'a, R, R::Listener> {
     ghost use Rattle.bw_net.specs.SeenLinks.{peers_address, peers_folder, peers_timeout};
     ghost use Rattle.bw_net.specs.SeenLinks.{peers_failures};
 
-    /// Listens at an address for those who connect to a server over this folder.
+    /// Listens at an address for those who connect to a server over this folder. With a log it is said
+    /// whose link begins.
     ///
     /// # Errors
     /// Why the system refuses. The folder's text isn't given back.
@@ -160,6 +165,7 @@ impl<'a, R: Net> TcpPeers<'a, R, R::Listener> {
     /// - Of `accept`, when `Gone` and when `Closed` is returned.
     pub fn listen(
         rt: &'a R,
+        notes: NotedFiles<'a>,
         address: SocketAddr,
         folder: String,
         timeout: Option<Duration>,
@@ -175,6 +181,7 @@ impl<'a, R: Net> TcpPeers<'a, R, R::Listener> {
             listener: TcpListener::bind(rt, address)?,
             folder,
             timeout,
+            notes,
             failures: 0,
         })
     }
@@ -211,6 +218,10 @@ impl<R: Net + Files> TcpPeers<'_, R, R::Listener> {
             return Err(AcceptFault::Gone);
         };
         let link = link_over(stream, self.timeout).map_err(|_| AcceptFault::Gone)?;
+        if self.notes.logs() {
+            self.notes
+                .note_event(begun_line(self.notes.alloc(), address));
+        }
         Ok(Peer { address, link })
     }
 }

@@ -64,5 +64,6 @@ pub record OpensFiltered {N T U E : Type 0} (filters : Bool → T → U) (opens 
   pub kept : n'.one_name ≡ n.one_name
 
 -- a call was passed on, and the choice stays
-abbrev pub PassedOn : {N R : Type 0} → (R → N → Type 0) → FilteredNetwork N → R → FilteredNetwork N → Type 0
+abbrev pub PassedOn : {N R : Type 0} → (R → N → Type 0) → FilteredNetwork N → R →
+    FilteredNetwork N → Type 0
 PassedOn calls n result n' = calls result n'.network × (n'.one_name ≡ n.one_name)

@@ -13,7 +13,7 @@ mod reader;
 
 pub use filter::NameFilter;
 pub use link::FilteredLink;
-pub use network::{FilteredNetwork, NameRule};
+pub use network::{FilteredNetwork, ServeRules};
 pub use peers::FilteredPeers;
 pub use reactor::FilteredReactor;
 pub use reader::FilteredReader;

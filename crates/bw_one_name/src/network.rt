@@ -6,6 +6,7 @@ ghost use Rattle.bw_one_name.specs.FilteredParts.{inner_reactor, inner_network, 
 use crate::peers::FilteredPeers;
 use crate::reactor::FilteredReactor;
 use bw_layout::Limit;
+use bw_log::EventLog;
 use bw_operators::StatusSetup;
 use bw_pace::PacedNetwork;
 use bw_ports::{ListenerSetup, Network, StartRefusal};
@@ -13,17 +14,18 @@ use bw_serve::{OpenedServer, Opens};
 use std::io;
 use std::net::SocketAddr;
 
-/// A choice whether each link of a server may have one name alone.
-pub trait NameRule {
-    /// After a call for this choice it may be in the second state.
-    ghost chooses: { Self → Bool → Self → Type 0 };
+/// A choice whether each link of a server may have one name alone, and whether what happens is said.
+pub trait ServeRules {
+    /// After a call for these choices it may be in the second state.
+    ghost chooses: { Self → Bool → Bool → Self → Type 0 };
 
-    /// Chooses whether each link that comes from now on may have one name alone, or any.
+    /// Chooses whether each link that comes from now on may have one name alone, or any; and whether
+    /// what happens from now on is said, each line with its time.
     ///
     /// # Not specified
     /// Anything beyond what each implementation says of itself.
-    fn choose(&mut self, one_name: bool)
-        ensures { chooses self.old one_name self.new };
+    fn choose(&mut self, one_name: bool, log: bool)
+        ensures { chooses self.old one_name log self.new };
 }
 
 /// A network, and whether each link to its servers may have one name alone.
@@ -46,11 +48,12 @@ impl<N> FilteredNetwork<N> {
     }
 }
 
-impl<N> NameRule for FilteredNetwork<N> {
-    ghost chooses = { λ n one_name n'.
-        (inner_network n' ≡ inner_network n) × (network_has_one_name n' ≡ one_name) };
+impl<N: EventLog> ServeRules for FilteredNetwork<N> {
+    ghost chooses = { λ n one_name log n'.
+        N.chooses (inner_network n) log (inner_network n') × (network_has_one_name n' ≡ one_name) };
 
-    fn choose(&mut self, one_name: bool) {
+    fn choose(&mut self, one_name: bool, log: bool) {
+        self.network.log_events(log);
         self.one_name = one_name;
     }
 }

@@ -40,11 +40,13 @@ abbrev pub is_input_alone : Inspection → Bool
 is_input_alone i = is_only_input (map string_bytes i.files.items)
 
 -- standard input was inspected, or the file of a path
-abbrev pub IsLookBy : Bool → Option (List ℕ) → Option (List ℕ) → Text → Bool → Outcome → Type 0
+abbrev pub IsLookBy : Bool → Option (List ℕ) → Option (List ℕ) → Text → Bool → Outcome →
+    Type 0
 IsLookBy true file input path gives_all did = IsInspection input did × (gives_all ≡ true)
 IsLookBy false file input path gives_all did = IsLook file path gives_all did
 
-abbrev pub IsInspectedAt : (Text → Option (List ℕ)) → Option (List ℕ) → Text → Bool → Outcome → Type 0
+abbrev pub IsInspectedAt : (Text → Option (List ℕ)) → Option (List ℕ) → Text → Bool →
+    Outcome → Type 0
 IsInspectedAt file_at input path gives_all did =
     IsLookBy (is_input path) (file_at path) input path gives_all did
 
@@ -59,7 +61,8 @@ module _ {F H G M I O E : Type 0} (files : FileGhosts F H G M) (input : Reader I
     pub writes : HasWritten out reported did o o' e e'
 
   -- by whether standard input is the only file
-  abbrev pub InspectsBy : Bool → Inspection → Exit → F → F → I → I → O → O → E → E → Type 0
+  abbrev pub InspectsBy : Bool → Inspection → Exit → F → F → I → I → O → O → E → E →
+      Type 0
   InspectsBy true inspection exit f f' i i' o o' e e' =
       InspectsInput (wanted_of inspection).style exit i i' o o' e e' × (f' ≡ f)
   InspectsBy false inspection exit f f' i i' o o' e e' =

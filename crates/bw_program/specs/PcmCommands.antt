@@ -48,12 +48,14 @@ module _ {U J F H G M Q N X P R W D A B O E K : Type 0} (upload : UploadSide U J
     pub unprinted : o' ≡ o
 
   -- from a spool, which may not be had, or from a file
-  abbrev pub SendsBySpool : Bool → PcmSender → Exit → F → F → N → Q → Q → O → O → E → E → Type 0
+  abbrev pub SendsBySpool : Bool → PcmSender → Exit → F → F → N → Q → Q → O → O → E →
+      E → Type 0
   SendsBySpool true sender exit f f' n q q' o o' e e' =
       SendsSpool sender exit f f' n q q' o o' e e' ⊎ RefusesSpool sender exit f f' q q' o o' e e'
   SendsBySpool false sender exit f f' n q q' o o' e e' =
       SendsPcm upload side network files out reported sender exit f f' n q q' o o' e e'
 
   -- from what the command line names
-  abbrev pub SendsPcmCommand : PcmSender → Exit → F → F → N → Q → Q → O → O → E → E → Type 0
+  abbrev pub SendsPcmCommand : PcmSender → Exit → F → F → N → Q → Q → O → O → E → E →
+      Type 0
   SendsPcmCommand sender = SendsBySpool sender.pcm.is_spooled sender

@@ -54,8 +54,8 @@ module _ {U J F H G M Q N X P R W D A B O E : Type 0} (upload : UploadSide U J Q
     (out : Writer O) (reported : Writer E) where
   -- the samples were sent: of a file as it is; or, of a recording that is still made, of one that is
   -- still being written, by another program or from standard input
-  abbrev pub SendsSamples : Option Bool → Recorder → PcmFile → F → Ways Q D → Ways Q D → Packing →
-      Type 0
+  abbrev pub SendsSamples : Option Bool → Recorder → PcmFile → F → Ways Q D → Ways Q D →
+      Packing → Type 0
   SendsSamples None recorder file f old new did =
       IsPcmSent upload.feed upload.pause side.dial side.replies side.requests recorder file
       (OpensSamples upload.feed upload.looks_at (files.file_at f file.file.path.now)

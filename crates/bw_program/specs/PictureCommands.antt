@@ -8,8 +8,8 @@ use Rattle.bw_draw.specs.Pictures.{IsDrawing}
 use Rattle.bw_ports.specs.declared.recording_files.RecordingFiles.{Ghosts as FileGhosts}
 
 -- the picture of the recording in the file at this path was printed, as far as it is one
-abbrev pub DrawsFile : {F H G M O E : Type 0} → FileGhosts F H G M → Writer O → Writer E → List ℕ → Exit →
-    F → F → O → O → E → E → Type 0
+abbrev pub DrawsFile : {F H G M O E : Type 0} → FileGhosts F H G M → Writer O → Writer E →
+    List ℕ → Exit → F → F → O → O → E → E → Type 0
 DrawsFile files out reported path exit f f' o o' e e' =
     (did : Outcome) × (did.exit ≡ exit) × (gives_all : Bool)
     × IsDrawing (files.file_at f path) path gives_all did

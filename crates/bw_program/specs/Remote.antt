@@ -60,8 +60,8 @@ module _ {N X P R W L K SP SK D A B O E : Type 0} (network : NetworkGhosts N X P
   module _ {T : Type 0} (turns : TurnsSide T) where
     -- a server that was opened serves recorders in the way that is asked for: one after another, at
     -- once, or so that operators are shown what it is doing
-    abbrev pub ServesBy : Recorders → Option SocketAddr → Serve → OpenedServer T → Exit → N → N → O → O → E → E →
-        Type 0
+    abbrev pub ServesBy : Recorders → Option SocketAddr → Serve → OpenedServer T → Exit → N →
+        N → O → O → E → E → Type 0
     ServesBy (recorders.InTurn timeout) status server opened exit n n' o o' e e' =
         (serving : Serving) × IsServingAs server timeout serving
         × ServesInTurn turns.answers turns.commits reach.peers reach.reader reach.writer out
@@ -76,7 +76,8 @@ module _ {N X P R W L K SP SK D A B O E : Type 0} (network : NetworkGhosts N X P
         reported reach.status listener_setup showing opened exit n n' o o' e e'
 
     -- if one was opened; else it is reported why none was
-    abbrev pub ServesOpened : Serve → Result (OpenedServer T) StartRefusal → Exit → N → N → O → O → E → E → Type 0
+    abbrev pub ServesOpened : Serve → Result (OpenedServer T) StartRefusal → Exit → N → N → O →
+        O → E → E → Type 0
     ServesOpened server (Ok opened) exit n n' o o' e e' =
         ServesBy server.recorders server.status server opened exit n n' o o' e e'
     ServesOpened server (Err refusal) exit n n' o o' e e' = (n' ≡ n) × (o' ≡ o)
@@ -97,7 +98,8 @@ module _ {X Z P R W L K O E N SP SK D A B T : Type 0} (side : ServerSide X Z P R
   -- a server with journals, over what is in the folder
   abbrev pub ServesKept : Bool → Serve → Exit → N → N → O → O → E → E → Type 0
   ServesKept sync server exit n n' o o' e e' = OpensAndServes
-      (counted_calls kept.failures (λ n. kept.opens n (string_bytes server.folder) server.limit sync)) kept.server
+      (counted_calls kept.failures (λ n. kept.opens n (string_bytes server.folder) server.limit sync))
+      kept.server
       server exit n n' o o' e e'
 
   -- a server with journals, or a new one without
@@ -108,11 +110,11 @@ module _ {X Z P R W L K O E N SP SK D A B T : Type 0} (side : ServerSide X Z P R
   ServesWith journals.Kept server exit n n' o o' e e' = ServesKept false server exit n n' o o' e e'
   ServesWith journals.Synced server exit n n' o o' e e' = ServesKept true server exit n n' o o' e e'
 
-  -- after it was chosen whether each link may have one name alone
+  -- after it was chosen whether each link may have one name alone, and whether what happens is said
   pub record ServesByRule (server : Serve) (exit : Exit) (n n' : N) (o o' : O) (e e' : E)
       : Type 0 where
     pub chosen : N
-    pub chooses : side.rule.chooses n server.one_name chosen
+    pub chooses : side.rules.chooses n server.one_name server.log chosen
     pub serves : ServesWith server.journal server exit chosen n' o o' e e'
 
 module _ {N X P R W D A B I O E : Type 0} (network : NetworkGhosts N X P D R W A B)

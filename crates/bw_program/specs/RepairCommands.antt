@@ -8,8 +8,8 @@ use Rattle.bw_edit.specs.declared.edited_files.EditedFiles.{Ghosts as EditGhosts
 use Rattle.bw_repair_file.specs.Repairs.{IsRepair}
 
 -- the file at this path was repaired, or its repair was printed, as far as it lacks sizes
-abbrev pub RepairsFile : {F J O E : Type 0} → EditGhosts F J → Writer O → Writer E → List ℕ → Bool → Exit →
-    F → F → O → O → E → E → Type 0
+abbrev pub RepairsFile : {F J O E : Type 0} → EditGhosts F J → Writer O → Writer E → List ℕ →
+    Bool → Exit → F → F → O → O → E → E → Type 0
 RepairsFile files out reported path write exit f f' o o' e e' =
     (did : Outcome) × (did.exit ≡ exit) × (gives_all : Bool)
     × IsRepair (files.content_at f) (files.content_at f') path write gives_all did

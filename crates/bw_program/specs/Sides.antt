@@ -4,7 +4,7 @@ use Rattle.bw_stream.specs.declared.sink.Sink.{Ghosts as Writer}
 use Rattle.bw_stream.specs.declared.source.Source.{Ghosts as Reader}
 use Rattle.bw_store.specs.declared.store.TakeStore.{Ghosts as StoreGhosts}
 use Rattle.bw_journal.specs.declared.journal.Journal.{Ghosts as JournalGhosts}
-use Rattle.bw_one_name.specs.declared.network.NameRule.{Ghosts as RuleGhosts}
+use Rattle.bw_one_name.specs.declared.network.ServeRules.{Ghosts as RuleGhosts}
 use Rattle.bw_disk.specs.declared.disk.Disk.{Ghosts as DiskGhosts}
 use Rattle.bw_ports.specs.declared.dial.Dial.{Ghosts as DialGhosts}
 use Rattle.bw_ports.specs.declared.link.Link.{Ghosts as LinkGhosts}
@@ -107,21 +107,21 @@ reach_side peers reader writer reactor link status = record {
 }
 
 -- what a new server keeps files in, and its journal, which is none; how it is reached; and how it is
--- chosen whether a link may have one name alone
+-- chosen whether a link may have one name alone, and whether what happens is said
 pub record ServerSide (X Z P R W L K N SP SK : Type 0) : Type 1 where
   pub store : StoreGhosts X
   pub none : JournalGhosts Z
   pub reach : ReachSide P R W L K N SP SK
-  pub rule : RuleGhosts N
+  pub rules : RuleGhosts N
 
 abbrev pub server_side : {X Z P R W L K N SP SK : Type 0} → StoreGhosts X → JournalGhosts Z →
     PeerGhosts P R W → Reader R → Writer W → ReactorGhosts L K → LinkGhosts K → RuleGhosts N → StatusSide N L SP SK →
     ServerSide X Z P R W L K N SP SK
-server_side store none peers reader writer reactor link rule status = record {
+server_side store none peers reader writer reactor link rules status = record {
   store = store;
   none = none;
   reach = reach_side peers reader writer reactor link status;
-  rule = rule;
+  rules = rules;
 }
 
 -- what a server answers and commits, and which books its table holds

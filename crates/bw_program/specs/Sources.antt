@@ -31,7 +31,8 @@ module _ {F Q O E : Type 0} (kinds : KindGhosts F) (reported : Writer E) where
     pub reports : IsPrint reported print e e'
 
   -- a file is at the path, as far as that is known, and this is done; or it is refused
-  abbrev pub IfFile : List ℕ → Bool → Exit → F → F → Q → Q → O → O → E → E → Type 0 → Type 0
+  abbrev pub IfFile : List ℕ → Bool → Exit → F → F → Q → Q → O → O → E → E →
+      Type 0 → Type 0
   IfFile path is_spool exit f f' q q' o o' e e' done =
       (kind : FileKind) × kinds.kinds f path kind
       × (RefusesKind path kind is_spool exit f f' q q' o o' e e'

@@ -29,8 +29,8 @@ pub record FolderSide (D DF F L P O E : Type 0) : Type 1 where
   pub out : Writer O
   pub reported : Writer E
 
-abbrev pub folder_side : {D DF F L P O E : Type 0} → DiskGhosts D DF → LockGhosts F L → PauseGhosts P →
-    Writer O → Writer E → FolderSide D DF F L P O E
+abbrev pub folder_side : {D DF F L P O E : Type 0} → DiskGhosts D DF → LockGhosts F L →
+    PauseGhosts P → Writer O → Writer E → FolderSide D DF F L P O E
 folder_side disk locks pause out reported =
     record { disk = disk; locks = locks; pause = pause; out = out; reported = reported }
 
@@ -56,8 +56,8 @@ depth_if check = if check then Samples else Journals
 
 -- this is done once in a folder: its takes are reported, and nothing has changed; or one is given up,
 -- if the folder's lock is taken
-abbrev pub IsWorkDone : {D DF F L P O E : Type 0} → FolderSide D DF F L P O E → FolderWork → List ℕ →
-    D → D → F → F → Outcome → Type 0
+abbrev pub IsWorkDone : {D DF F L P O E : Type 0} → FolderSide D DF F L P O E → FolderWork →
+    List ℕ → D → D → F → F → Outcome → Type 0
 IsWorkDone side (Report check json) folder d d' f f' did =
     IsShowing (style_if json) (depth_if check) (side.disk.honest d) folder (side.disk.contents d) did
     × StaysWhole side.disk d d' × (f' ≡ f)

@@ -85,12 +85,14 @@ module _ {U J F H G M S L Q N X P R W D A B O E : Type 0} (upload : UploadSide U
     pub unpaused : q' ≡ q
     pub writes : HasPacked out reported did o o' e e'
 
-  abbrev pub SendsOrGivesUp : List ℕ → FileSender → Exit → F → F → N → Q → Q → O → O → E → E → Type 0
+  abbrev pub SendsOrGivesUp : List ℕ → FileSender → Exit → F → F → N → Q → Q → O → O →
+      E → E → Type 0
   SendsOrGivesUp path sender exit f f' n q q' o o' e e' =
       SendsKept path sender exit f f' n q q' o o' e e' ⊎ GivesUpState exit f f' q q' o o' e e'
 
   -- with a state or without
-  abbrev pub SendsByState : FileSender → Exit → F → F → N → Q → Q → O → O → E → E → Type 0
+  abbrev pub SendsByState : FileSender → Exit → F → F → N → Q → Q → O → O → E → E →
+      Type 0
   SendsByState sender exit f f' n q q' o o' e e' = elim sender.state [
     | None ↦ SendsRecording upload side network files out reported sender exit f f' n q q' o o' e e'
     | Some state ↦ SendsOrGivesUp (string_bytes state) sender exit f f' n q q' o o' e e'

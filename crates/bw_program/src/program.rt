@@ -28,7 +28,7 @@ use bw_journal::{Journal, NoJournal};
 use bw_kind::FileKinds;
 use bw_layout::Limit;
 use bw_lock::FolderLocks;
-use bw_one_name::NameRule;
+use bw_one_name::ServeRules;
 use bw_operators::StatusSetup;
 use bw_pace::PacedNetwork;
 use bw_ports::{ListenerSetup, Network, Pause, RecordingFiles, System, Watch};
@@ -57,7 +57,7 @@ pub fn start<
     S: System,
     F: RecordingFiles + StateKeeping + SpoolKeeping + EditedFiles + FolderLocks + FileKinds,
     D: Volume,
-    N: PacedNetwork + ListenerSetup + Opens + NameRule + StatusSetup<N::Reactor>,
+    N: PacedNetwork + ListenerSetup + Opens + ServeRules + StatusSetup<N::Reactor>,
     P: Pause,
     R: Source,
     W: Sink,
@@ -70,7 +70,7 @@ pub fn start<
         (host_side S.System F.RecordingFiles (state_side F.kept_at F.States.StateFiles F.States.Log.StateLog)
         (spool_side F.lends F.Keeper.SpoolKeeper) F.EditedFiles F.FolderLocks F.FileKinds D.Disk R.Source W.Sink E.Sink)
         (server_side N.Store.TakeStore ⟦<NoJournal as Journal>⟧ N.Peers.Peers
-        N.Peers.Reader.Source N.Peers.Writer.Sink N.Reactor.Reactor N.Reactor.Link.Link N.NameRule
+        N.Peers.Reader.Source N.Peers.Writer.Sink N.Reactor.Reactor N.Reactor.Link.Link N.ServeRules
         (status_side N.StatusSetup N.Port.StatusPort N.Port.Link.Link))
         (sender_side N.Dial.Dial N.Dial.Reader.Source N.Dial.Writer.Sink)
         (upload_side ⟦<PlanFeed<F::File, F::Stamped> as Feed>⟧ (LooksAt F.Stamped.Stamped)
@@ -87,7 +87,7 @@ fn obey<
     S: System,
     F: RecordingFiles + StateKeeping + SpoolKeeping + EditedFiles + FolderLocks + FileKinds,
     D: Volume,
-    N: PacedNetwork + ListenerSetup + Opens + NameRule + StatusSetup<N::Reactor>,
+    N: PacedNetwork + ListenerSetup + Opens + ServeRules + StatusSetup<N::Reactor>,
     P: Pause,
     R: Source,
     W: Sink,
@@ -98,7 +98,7 @@ fn obey<
     ensures { IsProgram (host_side S.System F.RecordingFiles (state_side F.kept_at F.States.StateFiles F.States.Log.StateLog)
         (spool_side F.lends F.Keeper.SpoolKeeper) F.EditedFiles F.FolderLocks F.FileKinds D.Disk R.Source W.Sink E.Sink)
         (server_side N.Store.TakeStore ⟦<NoJournal as Journal>⟧ N.Peers.Peers
-        N.Peers.Reader.Source N.Peers.Writer.Sink N.Reactor.Reactor N.Reactor.Link.Link N.NameRule
+        N.Peers.Reader.Source N.Peers.Writer.Sink N.Reactor.Reactor N.Reactor.Link.Link N.ServeRules
         (status_side N.StatusSetup N.Port.StatusPort N.Port.Link.Link))
         (sender_side N.Dial.Dial N.Dial.Reader.Source N.Dial.Writer.Sink)
         (upload_side ⟦<PlanFeed<F::File, F::Stamped> as Feed>⟧ (LooksAt F.Stamped.Stamped)
@@ -118,7 +118,7 @@ fn answer<
     S: System,
     F: RecordingFiles + StateKeeping + SpoolKeeping + EditedFiles + FolderLocks + FileKinds,
     D: Volume,
-    N: PacedNetwork + ListenerSetup + Opens + NameRule + StatusSetup<N::Reactor>,
+    N: PacedNetwork + ListenerSetup + Opens + ServeRules + StatusSetup<N::Reactor>,
     P: Pause,
     R: Source,
     W: Sink,
@@ -129,7 +129,7 @@ fn answer<
     ensures { IsProgram (host_side S.System F.RecordingFiles (state_side F.kept_at F.States.StateFiles F.States.Log.StateLog)
         (spool_side F.lends F.Keeper.SpoolKeeper) F.EditedFiles F.FolderLocks F.FileKinds D.Disk R.Source W.Sink E.Sink)
         (server_side N.Store.TakeStore ⟦<NoJournal as Journal>⟧ N.Peers.Peers
-        N.Peers.Reader.Source N.Peers.Writer.Sink N.Reactor.Reactor N.Reactor.Link.Link N.NameRule
+        N.Peers.Reader.Source N.Peers.Writer.Sink N.Reactor.Reactor N.Reactor.Link.Link N.ServeRules
         (status_side N.StatusSetup N.Port.StatusPort N.Port.Link.Link))
         (sender_side N.Dial.Dial N.Dial.Reader.Source N.Dial.Writer.Sink)
         (upload_side ⟦<PlanFeed<F::File, F::Stamped> as Feed>⟧ (LooksAt F.Stamped.Stamped)
@@ -149,7 +149,7 @@ fn perform<
     S: System,
     F: RecordingFiles + StateKeeping + SpoolKeeping + EditedFiles + FolderLocks + FileKinds,
     D: Volume,
-    N: PacedNetwork + ListenerSetup + Opens + NameRule + StatusSetup<N::Reactor>,
+    N: PacedNetwork + ListenerSetup + Opens + ServeRules + StatusSetup<N::Reactor>,
     P: Pause,
     R: Source,
     W: Sink,
@@ -161,7 +161,7 @@ fn perform<
     ensures { IsDoneFor (host_side S.System F.RecordingFiles (state_side F.kept_at F.States.StateFiles F.States.Log.StateLog)
         (spool_side F.lends F.Keeper.SpoolKeeper) F.EditedFiles F.FolderLocks F.FileKinds D.Disk R.Source W.Sink E.Sink)
         (server_side N.Store.TakeStore ⟦<NoJournal as Journal>⟧ N.Peers.Peers
-        N.Peers.Reader.Source N.Peers.Writer.Sink N.Reactor.Reactor N.Reactor.Link.Link N.NameRule
+        N.Peers.Reader.Source N.Peers.Writer.Sink N.Reactor.Reactor N.Reactor.Link.Link N.ServeRules
         (status_side N.StatusSetup N.Port.StatusPort N.Port.Link.Link))
         (sender_side N.Dial.Dial N.Dial.Reader.Source N.Dial.Writer.Sink)
         (upload_side ⟦<PlanFeed<F::File, F::Stamped> as Feed>⟧ (LooksAt F.Stamped.Stamped)
@@ -186,7 +186,7 @@ fn run<
     S: System,
     F: RecordingFiles + StateKeeping + SpoolKeeping + EditedFiles + FolderLocks + FileKinds,
     D: Volume,
-    N: PacedNetwork + ListenerSetup + Opens + NameRule + StatusSetup<N::Reactor>,
+    N: PacedNetwork + ListenerSetup + Opens + ServeRules + StatusSetup<N::Reactor>,
     P: Pause,
     R: Source,
     W: Sink,
@@ -198,7 +198,7 @@ fn run<
     ensures { IsDoneFor (host_side S.System F.RecordingFiles (state_side F.kept_at F.States.StateFiles F.States.Log.StateLog)
         (spool_side F.lends F.Keeper.SpoolKeeper) F.EditedFiles F.FolderLocks F.FileKinds D.Disk R.Source W.Sink E.Sink)
         (server_side N.Store.TakeStore ⟦<NoJournal as Journal>⟧ N.Peers.Peers
-        N.Peers.Reader.Source N.Peers.Writer.Sink N.Reactor.Reactor N.Reactor.Link.Link N.NameRule
+        N.Peers.Reader.Source N.Peers.Writer.Sink N.Reactor.Reactor N.Reactor.Link.Link N.ServeRules
         (status_side N.StatusSetup N.Port.StatusPort N.Port.Link.Link))
         (sender_side N.Dial.Dial N.Dial.Reader.Source N.Dial.Writer.Sink)
         (upload_side ⟦<PlanFeed<F::File, F::Stamped> as Feed>⟧ (LooksAt F.Stamped.Stamped)

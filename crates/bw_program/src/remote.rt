@@ -13,7 +13,7 @@ use bw_console::print::print_diagnostic;
 use bw_exchange::Turns;
 use bw_journal::{Journal, NoJournal};
 use bw_layout::Limit;
-use bw_one_name::NameRule;
+use bw_one_name::ServeRules;
 use bw_operators::StatusSetup;
 use bw_ports::{ListenerSetup, Network, StartRefusal, Watch};
 use bw_send::send_run;
@@ -28,14 +28,14 @@ use std::alloc::Global;
 
 /// Serves as the command line asks for.
 pub(crate) fn serve_as<
-    N: Network + ListenerSetup + Opens + NameRule + StatusSetup<N::Reactor>,
+    N: Network + ListenerSetup + Opens + ServeRules + StatusSetup<N::Reactor>,
     W: Sink,
     E: Sink,
 >(alloc: Global, server: &Serve, network: &mut N, out: &mut W, faults: &mut E) -> Exit
     requires { IsLimit server.now.limit }
     ensures { ServesByRule (server_side N.Store.TakeStore ⟦<NoJournal as Journal>⟧
         N.Peers.Peers N.Peers.Reader.Source N.Peers.Writer.Sink N.Reactor.Reactor
-        N.Reactor.Link.Link N.NameRule (status_side N.StatusSetup N.Port.StatusPort N.Port.Link.Link))
+        N.Reactor.Link.Link N.ServeRules (status_side N.StatusSetup N.Port.StatusPort N.Port.Link.Link))
         W.Sink E.Sink N.Network N.ListenerSetup
         (kept_side N.Opens.opens N.Opens.failures
         (turns_side N.Server.Turns.answers N.Server.Turns.commits N.Server.HasTable.holds)) server.now result
@@ -44,7 +44,7 @@ pub(crate) fn serve_as<
     let Some(limit) = Limit::new(server.limit) else {
         unreachable!();
     };
-    network.choose(server.one_name);
+    network.choose(server.one_name, server.log);
     let folder = server.folder.as_str();
     match server.journal {
         Journaling::Without => {

@@ -824,7 +824,7 @@ static TEXTS: [(&[&str], &str); 17] = [
     ),
     (
         &["/tmp/x", "serve", "--help"],
-        "Reports each connection in a line on standard error\n",
+        "Reports connections and takes in lines on standard error, each with its time\n",
     ),
     (
         &["/tmp/x", "send", "--help"],

@@ -153,7 +153,7 @@ fn pack<'a>(alloc: Global) -> Result<Command<'a>, AllocError>
     let command = named(
         alloc,
         "pack",
-        "Prints the requests of a recording, as send and replay take them",
+        "Prints the requests of a recording, a line of hex each, as send reads them",
         "Example: bwingest pack take.wav --set description='River at dawn' > take.hex",
     )
     .arg(file_argument(alloc));

@@ -209,7 +209,7 @@ pub(crate) fn until_stopped_flag<'a>(alloc: Global) -> Arg<'a>
 pub(crate) fn log_flag<'a>(alloc: Global) -> Arg<'a>
     ensures { IsOption log_flag result }
 {
-    let help = "Reports each connection in a line on standard error";
+    let help = "Reports connections and takes in lines on standard error, each with its time";
     flag_option(alloc, "log", help)
 }
 

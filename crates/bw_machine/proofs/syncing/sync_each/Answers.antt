@@ -23,7 +23,8 @@ loop-name-preserved g c =
           synced_next g.D.Disk g.E.Disk c.args.folder.now c.args.takes.now c.loop-name.takes c.sync_at.new.disk
           c.args.notes.now c.loop-name.notes c.sync_at-in-loop-name.new.disk
           (take c.loop-name.name-index c.args.names.now) c.name-item.result _ _ _ _ c.as_str.ensures.value
-          c.in_ok-take.ensures.path c.as_str-in-loop-name.ensures.value c.in_ok-journal.ensures.path i.takes i.notes t.synced t.others n.synced
+          c.in_ok-take.ensures.path c.as_str-in-loop-name.ensures.value c.in_ok-journal.ensures.path i.takes i.notes t.synced t.others
+          n.synced
           n.others ht hn (i.synced ht hn) name
           (subst (λ (xs : List (List ℕ)). Contains xs name)
           (take_more c.args.names.now c.loop-name.name-index c.name-item.result c.loop-name-test.true
