@@ -27,6 +27,7 @@ import time
 sys.dont_write_bytecode = True  # nothing is left beside this script
 from kit.network import connect, ends_by_signal, free_port, hear_all, LOCAL, LONGEST_WAIT, narrow, run, run_cases
 from kit.network import same_file, same_settled, send, send_all, Server, stopped, TALLY, wait_until
+from kit.repository import ROOT
 from kit.takes import ASK, BYE_FRAME, DELAYED_STORE, message, notice, STORED, Take, verdict
 from kit.watcher import Fault, Watcher
 
@@ -220,6 +221,31 @@ def same_page(server, values):
         digest = base64.b64encode(hashlib.sha256(inner.encode()).digest()).decode()
         TALLY.holds(f"page: its {kind}", f"{kind}-src 'sha256-{digest}'" in policy, policy)
     TALLY.holds("page: nothing from outside", not re.search(r"https?://|src=|href=", text), "an address")
+    if node := shutil.which("node"):
+        same_shown(node, body)
+
+
+def same_shown(node, page):
+    """What the page's script shows of takes, by tests/cases/status_page.mjs: open ones first and closed ones last, or in
+    the order of a column; those that have each word of the filter; at most 500."""
+    script = str(ROOT / "tests/cases/status_page.mjs")
+    ran = subprocess.run([node, script], input=page, capture_output=True, check=False)
+    TALLY.same("page: its script runs", (ran.returncode, ran.stderr.decode()), (0, ""))
+    found = json.loads(ran.stdout)
+    by_state, by_length = "147258036", "036258147"  # seconds of take-N: the last digit of 7 N
+    wanted = [
+        ["opened", by_state, 9],
+        ["by length, 1: ascending", by_length, 9],
+        ["by length, 2: descending", by_length[::-1], 9],
+        ["by length, 3: none", by_state, 9],
+        ["filtered", "175", 3],
+    ]
+    for (what, names, count), shown in zip(wanted, found["shown"], strict=True):
+        takes = [f"take-{it}" for it in names]
+        TALLY.same(f"page: {what}", shown, [what, takes, f"{count} of 9"])
+    TALLY.same("page: of ten thousand takes", found["many"], [500, "500 of 10000"])
+    TALLY.same("page: its title", found["title"], "host:1 - bwingest")
+    TALLY.same("page: names that are left out", (found["lost"], found["left_out"]), ("", "bad: a cause, left out"))
 
 
 def case_refused(folder):

@@ -3,7 +3,7 @@
 /// What the page may load and run: its own style and script, named by their SHA-256 digests, and
 /// requests to the server that it came from.
 pub(crate) const PAGE_POLICY: &str =
-    "default-src 'none'; style-src 'sha256-61yKOp2FVebirQQkufTegONGlcWrYLElY4JPyvSbn/4='; script-src 'sha256-XKL521xl+kOBs0QhgHVWJLHDWaTQU7qlqpjZf4aZLFs='; connect-src 'self'; base-uri 'none'; form-action 'none'; frame-ancestors 'none'";
+    "default-src 'none'; style-src 'sha256-DmMnigVsw+QmGzN0LQBWyoUBj/5OkThue1Cd7rlLnvw='; script-src 'sha256-G6pnN0R76MMIK8M5ir2TuTsempxetSORZVwqocnCxC0='; connect-src 'self'; base-uri 'none'; form-action 'none'; frame-ancestors 'none'";
 
 /// The page up to the names that are left out.
 pub(crate) const PAGE_START: &str = "<!DOCTYPE html>
@@ -14,7 +14,7 @@ pub(crate) const PAGE_START: &str = "<!DOCTYPE html>
 <title>bwingest</title>
 <noscript><meta http-equiv=\"refresh\" content=\"5\"></noscript>
 <style>
-:root { color-scheme: light dark; --line: #8883; --soft: #8881; --good: #0a7d3c; --bad: #c22f2f; --busy: #b26a00; }
+:root { color-scheme: light dark; --line: #8883; --soft: #8881; --good: #0a7d3c; --bad: #c22f2f; --busy: #9a5b00; }
 @media (prefers-color-scheme: dark) { :root { --good: #4cc38a; --bad: #ff7b72; --busy: #e3a008; } body { background: #111417; color: #e6e8ea; } }
 body { font: 15px/1.45 system-ui, sans-serif; margin: 1.5rem auto; max-width: 84rem; padding: 0 1rem; }
 h1 { font-size: 1.25rem; margin: 0 0 1rem; }
@@ -26,10 +26,17 @@ dt, th, td::before { font-size: .8rem; font-weight: 400; opacity: .7; }
 dd { font-size: 1.15rem; margin: 0; overflow-wrap: anywhere; }
 dd, td { font-variant-numeric: tabular-nums; }
 #counts dd { font-size: 1rem; }
-.none { opacity: .5; }
+.none { opacity: .65; }
 .good { color: var(--good); }
 .bad { color: var(--bad); }
 .busy { color: var(--busy); }
+#tools { display: flex; gap: 1rem; margin: 0 0 .5rem; }
+#tools[hidden] { display: none; }
+input, th button { background: none; border: 1px solid var(--line); border-radius: .4rem; color: inherit; font: inherit; padding: .2rem .5rem; }
+th button { border: 0; cursor: pointer; padding: 0; }
+th button::after { content: \"\\00a0\\00a0\"; }
+th[aria-sort=ascending] button::after { content: \"\\00a0\\2191\"; }
+th[aria-sort=descending] button::after { content: \"\\00a0\\2193\"; }
 table { border-collapse: collapse; margin: 0 0 1.25rem; width: 100%; }
 th, td { border-bottom: 1px solid var(--line); padding: .3rem .9rem .3rem 0; text-align: left; white-space: nowrap; }
 td:first-child { font-weight: 600; overflow-wrap: anywhere; white-space: normal; }
@@ -59,8 +66,9 @@ pub(crate) const PAGE_FACTS: &str = "</ul>
 
 /// From there to the rows of the takes.
 pub(crate) const PAGE_TAKES: &str = "</dl>
+<div id=\"tools\" role=\"search\" hidden><input id=\"filter\" type=\"search\" placeholder=\"Filter takes\" aria-label=\"Filter takes\"><output id=\"shown\" for=\"filter\"></output></div>
 <table>
-<thead><tr><th>Take</th><th>State</th><th>Format</th><th>Recorded</th><th>Growth</th><th>Quiet</th><th>Next</th><th>Held</th><th>Refused</th><th>Delayed</th><th>Peer</th></tr></thead>
+<thead><tr><th scope=\"col\">Take</th><th scope=\"col\">State</th><th scope=\"col\">Format</th><th scope=\"col\">Recorded</th><th scope=\"col\">Growth</th><th scope=\"col\">Quiet</th><th scope=\"col\">Next</th><th scope=\"col\">Held</th><th scope=\"col\">Refused</th><th scope=\"col\">Delayed</th><th scope=\"col\">Peer</th></tr></thead>
 <tbody id=\"takes\">
 ";
 
@@ -78,7 +86,10 @@ const headings = ['Take', 'State', 'Format', 'Recorded', 'Growth', 'Quiet', 'Nex
 const colors = { ready: 'good', open: 'good', unopened: 'busy', stood: 'busy' };
 const order = ['open', 'unopened', 'stood', 'closed'];
 const units = ['B', 'KB', 'MB', 'GB', 'TB', 'PB'];
-let before = { takes: [], uptime_ms: 0, bytes: 0 };
+const most = 500;
+let before = { takes: [], uptime_ms: 0, bytes: 0 }, now = null;
+let column = null, descending = false;
+const at = (id) => document.getElementById(id);
 const two = (n) => String(Math.floor(n) % 60).padStart(2, '0');
 const clock = (ms) => ms === null ? '' : Math.floor(ms / 3600000) + ':' + two(ms / 60000) + ':' + two(ms / 1000);
 const format = (take) => take.rate === null ? '' : take.rate + ' Hz, ' + take.bits + ' bit, ' + take.channels + ' ch';
@@ -86,14 +97,11 @@ const size = (bytes) => {
 const unit = bytes < 1000 ? 0 : Math.min(Math.floor(Math.log10(bytes) / 3), units.length - 1);
 return (bytes / 1000 ** unit).toFixed(unit ? 1 : 0) + ' ' + units[unit];
 };
-const passed = (now) => before.uptime_ms && now.uptime_ms > before.uptime_ms ? now.uptime_ms - before.uptime_ms : null;
-const speed = (now) => passed(now) === null ? '' : size((now.bytes - before.bytes) * 1000 / passed(now)) + '/s';
-const growth = (take, now) => {
-const old = before.takes.find((one) => one.name === take.name);
-if (!old || old.ms === null || take.ms === null || passed(now) === null || take.state === 'closed') { return ''; }
-return ((take.ms - old.ms) / passed(now)).toFixed(2) + 'x';
-};
-const texts = (take, now) => [take.name, take.state, format(take), clock(take.ms), growth(take, now), clock(take.quiet_ms), take.next, take.held, take.refused, take.delayed, take.peer ?? ''];
+const passed = () => before.uptime_ms && now.uptime_ms > before.uptime_ms ? now.uptime_ms - before.uptime_ms : null;
+const speed = () => passed() === null ? '' : size((now.bytes - before.bytes) * 1000 / passed()) + '/s';
+const growth = (take, old) => !old || old.ms === null || take.ms === null || passed() === null || take.state === 'closed' ? null : (take.ms - old.ms) / passed();
+const texts = (take) => [take.name, take.state, format(take), clock(take.ms), take.growth === null ? '' : take.growth.toFixed(2) + 'x', clock(take.quiet_ms), take.next, take.held, take.refused, take.delayed, take.peer ?? ''];
+const keys = (take) => [take.name, order.indexOf(take.state), format(take), take.ms ?? -1, take.growth ?? -1, take.quiet_ms ?? Infinity, take.next, take.held, take.refused, take.delayed, take.peer ?? ''];
 const element = (kind, content, color) => {
 const made = document.createElement(kind);
 made.append(...content);
@@ -101,30 +109,61 @@ if (color) { made.className = color; }
 return made;
 };
 const colorOf = (place, text) => place === 1 ? colors[text] ?? 'none' : place > 6 && place < 10 ? (text === 0 ? 'none' : place === 7 ? '' : 'bad') : '';
-const row = (take, now) => element('tr', texts(take, now).map((text, place) => {
+const row = (take) => element('tr', texts(take).map((text, place) => {
 const cell = element('td', text === '' ? [] : [String(text)], colorOf(place, text));
 cell.dataset.heading = headings[place];
 return cell;
 }));
 const fact = (name, value, color) => element('div', [element('dt', [name]), element('dd', [String(value)], color)]);
-const inOrder = (one, other) => order.indexOf(one.state) - order.indexOf(other.state) || (one.state === 'closed' ? (one.quiet_ms ?? Infinity) - (other.quiet_ms ?? Infinity) || 0 : 0);
-const show = (now) => {
-document.getElementById('left_out').replaceChildren(...now.left_out.map((one) => element('li', [one.name + ': ' + one.cause + ', left out'])));
-document.getElementById('facts').replaceChildren(fact('Server', now.health, colors[now.health] ?? 'bad'), fact('Up', clock(now.uptime_ms)), fact('Connections', now.connections + ' of ' + now.places), fact('Ended', now.ended), fact('Resumed', now.resumed), fact('Bytes', size(now.bytes)), fact('Rate', speed(now)));
-document.getElementById('takes').replaceChildren(...now.takes.sort(inOrder).map((take) => row(take, now)));
-document.getElementById('counts').replaceChildren(...[...now.messages, ...now.verdicts, ...now.notices].map((one) => fact(one.kind, one.count, one.count ? '' : 'none')));
-before = now;
+const compare = (one, other) => one < other ? -1 : one > other ? 1 : 0;
+const byState = (one, other) => order.indexOf(one.state) - order.indexOf(other.state) || (one.state === 'closed' ? compare(one.quiet_ms ?? Infinity, other.quiet_ms ?? Infinity) : 0);
+const byColumn = (one, other) => (descending ? -1 : 1) * compare(keys(one)[column], keys(other)[column]);
+const matches = (take, words) => words.every((word) => texts(take).some((text) => String(text).toLowerCase().includes(word)));
+const showTakes = () => {
+const words = at('filter').value.toLowerCase().split(' ').filter(Boolean);
+const found = now.takes.filter((take) => matches(take, words)).sort(column === null ? byState : byColumn);
+at('takes').replaceChildren(...found.slice(0, most).map(row));
+at('shown').value = Math.min(found.length, most) + ' of ' + now.takes.length;
+};
+const show = () => {
+const old = new Map(before.takes.map((take) => [take.name, take]));
+now.takes.forEach((take) => { take.growth = growth(take, old.get(take.name)); });
+at('left_out').replaceChildren(...now.left_out.map((one) => element('li', [one.name + ': ' + one.cause + ', left out'])));
+at('facts').replaceChildren(fact('Server', now.health, colors[now.health] ?? 'bad'), fact('Up', clock(now.uptime_ms)), fact('Connections', now.connections + ' of ' + now.places), fact('Ended', now.ended), fact('Resumed', now.resumed), fact('Bytes', size(now.bytes)), fact('Rate', speed()));
+showTakes();
+at('counts').replaceChildren(...[...now.messages, ...now.verdicts, ...now.notices].map((one) => fact(one.kind, one.count, one.count ? '' : 'none')));
+};
+const sortBy = (place) => {
+if (column !== place) { column = place; descending = false; } else if (!descending) { descending = true; } else { column = null; }
+document.querySelectorAll('th').forEach((heading, other) => { heading.ariaSort = other !== column ? 'none' : descending ? 'descending' : 'ascending'; });
+if (now) { showTakes(); }
+};
+const begin = () => {
+document.title = location.host + ' - bwingest';
+document.querySelectorAll('th').forEach((heading, place) => {
+const button = element('button', [headings[place]]);
+button.type = 'button';
+button.onclick = () => sortBy(place);
+heading.replaceChildren(button);
+heading.ariaSort = 'none';
+});
+at('filter').oninput = () => { if (now) { showTakes(); } };
+at('tools').hidden = false;
 };
 const renew = async () => {
 try {
 const response = await fetch('/takes.json');
-show(await response.json());
+const next = await response.json();
+if (now) { before = now; }
+now = next;
+show();
 document.body.className = '';
 } catch {
 document.body.className = 'lost';
 }
 setTimeout(renew, 1000);
 };
+begin();
 renew();
 </script>
 </body>
