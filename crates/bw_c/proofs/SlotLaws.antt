@@ -144,7 +144,8 @@ judges k s x y n slot v f below place room none long name name_len offered settl
     | inl e ↦ ap (λ (j : ℕ). get_or (set x.verdicts slot (verdict_code v + 1)) j 0) e
         ∙ get_or-set_same x.verdicts slot (verdict_code v + 1) 0 (omega (arith, room, long))
         ∙ (let one : verdict_code v + 1 ≡ suc (verdict_code v) = omega arith in one)
-        ∙ sym (ap slot_of (ap (at (put s.verdicts n v)) (let w : k + i ≡ n = omega (arith, e, place) in w) ∙ at-put_same s.verdicts n v))
+        ∙ sym (ap slot_of (ap (at (put s.verdicts n v)) (let w : k + i ≡ n = omega (arith, e, place) in w)
+        ∙ at-put_same s.verdicts n v))
     | inr e ↦ get_or-set_other x.verdicts slot i (verdict_code v + 1) 0 e ∙ f.slots i h
         ∙ sym (ap slot_of (at-put_other s.verdicts n (k + i) v (λ w. e (omega (arith, w, place)))))
   ];

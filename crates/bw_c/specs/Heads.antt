@@ -14,7 +14,8 @@ abbrev pub has_place : BwiSender → Bool
 has_place x = nat_le x.settled x.offered && nat_lt x.offered (x.settled + 16)
     && nat_le x.offered (last_number Second)
 
--- The sender's next message with this request has a frame, its window isn't full, and the head fits into the room.
+-- The sender's next message with this request has a frame, its window isn't full, and the head fits into the
+-- room.
 pub record CanWrite (x : BwiSender) (r : Request) (room : ℕ) : Type 0 where
   pub frame : IsTrue (is_frame Second (said (sender_name x) x.offered r))
   pub settled : x.settled ≤ x.offered
@@ -22,7 +23,8 @@ pub record CanWrite (x : BwiSender) (r : Request) (room : ℕ) : Type 0 where
   pub enough : length (framed (body (said (sender_name x) x.offered r))) ≤ room + length (carried_bytes r)
 
 -- The first n bytes are the head of its frame, and the rest is as it was. The request was offered.
-pub record WroteHead (old : BwiSender) (r : Request) (before : List ℕ) (new : BwiSender) (after : List ℕ) (n : ℕ)
+pub record WroteHead (old : BwiSender) (r : Request) (before : List ℕ) (new : BwiSender) (after : List ℕ)
+    (n : ℕ)
     : Type 0 where
   pub frame : IsFrameOf (said (sender_name old) old.offered r) (take n after ++ carried_bytes r)
   pub rest : drop n after ≡ drop n before

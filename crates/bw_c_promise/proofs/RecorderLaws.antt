@@ -119,8 +119,8 @@ later c cs x h = Contains-append_right (c ∷ []) cs x h
 abbrev HeardIn : Sender → List RecorderCall → ℕ → Verdict → Type 0
 HeardIn s cs n v = (bytes : List ℕ) × Contains cs (Hears bytes) × IsFirst s n v bytes
 
-heard_later : (s t : Sender) (c : RecorderCall) (cs : List RecorderCall) (n : ℕ) (v : Verdict) → t.name ≡ s.name → HeardIn t cs n v →
-    HeardIn s (c ∷ cs) n v
+heard_later : (s t : Sender) (c : RecorderCall) (cs : List RecorderCall) (n : ℕ) (v : Verdict) → t.name ≡ s.name →
+    HeardIn t cs n v → HeardIn s (c ∷ cs) n v
 heard_later s t c cs n v own (bytes, has, first) =
     (bytes, later c cs (Hears bytes) has, (first.0, first.1 ∙ ap (λ (x : List ℕ). Ok (Judged x n v, first.0)) own))
 
@@ -184,7 +184,8 @@ numbered (Offers q h ∷ cs) s x y f (z, did, rest) r head (zero, below, e) =
       frame = subst (λ (b : List ℕ). IsFrameOf (said s.name (length s.offered) r) (b ++ carried_bytes r)) (sym did.head_is ∙ same)
           (subst (λ (p : Request). IsFrameOf (said s.name (length s.offered) p) (take did.count did.after ++ carried_bytes p)) own
           (subst (λ (n : ℕ). IsFrameOf (said s.name n q) (take did.count did.after ++ carried_bytes q)) f.offered
-          (subst (λ (b : List ℕ). IsFrameOf (said b x.offered q) (take did.count did.after ++ carried_bytes q)) f.name did.wrote.frame)));
+          (subst (λ (b : List ℕ). IsFrameOf (said b x.offered q) (take did.count did.after ++ carried_bytes q)) f.name
+          did.wrote.frame)));
       place = stays cs (with_offer s q) (length s.offered) r (get-last s.offered q ∙ ap Some own);
     }
   where

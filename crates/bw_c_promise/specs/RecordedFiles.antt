@@ -12,7 +12,8 @@ use Rattle.bw_c_promise.specs.Recorders.{Recorder, IsRecorder, sender_part}
 -- its requests is a CLOSE, the disk has the file of the take that they make, byte for byte, after the
 -- run, and after whatever more is answered.
 abbrev pub RecordersHaveFiles : {T : Type 0} → ServerKind T → Type 0
-RecordersHaveFiles {T} kind = (name : List ℕ) (count : ℕ) (s : Sender) (p : Recorder) (r : ServerPart T) →
+RecordersHaveFiles {T} kind =
+    (name : List ℕ) (count : ℕ) (s : Sender) (p : Recorder) (r : ServerPart T) →
     IsRecorder name count s p → DidServe kind (sender_part s p) r → Premises kind (sender_part s p) r →
     p.ended.stored ≡ p.ended.offered → IsTrue (list_any is_close (sender_part s p).requests) →
     (more : List Answered) (last : T) → AnswersAll kind.answers r.new more last →

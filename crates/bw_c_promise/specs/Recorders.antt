@@ -44,7 +44,8 @@ DidCalls (c ∷ cs) old new = (next : BwiSender) × DidCall c old next × DidCal
 -- the frame of a request that was offered, its head and then what it carries
 abbrev pub IsOffered : List RecorderCall → List ℕ → Type 0
 IsOffered calls bytes =
-    (r : Request) × (head : List ℕ) × Contains calls (Offers r head) × (bytes ≡ head ++ carried_bytes r)
+    (r : Request) × (head : List ℕ) × Contains calls (Offers r head)
+    × (bytes ≡ head ++ carried_bytes r)
 
 -- the frame of one of these requests, under its number
 abbrev pub IsEarlier : Sender → List ℕ → Type 0
@@ -86,7 +87,8 @@ pub record IsRecorder (name : List ℕ) (count : ℕ) (s : Sender) (p : Recorder
   pub called : DidCalls p.calls p.begun p.ended
   pub wrote : (k : ℕ) (l : LinkBytes) → Contains p.links (k, l) → WroteFrames s p.calls l.said
   pub heard : (bytes : List ℕ) → Contains p.calls (Hears bytes) →
-      (k : ℕ) × (l : LinkBytes) × Contains p.links (k, l) × StandsIn l.heard bytes × IsTrue (are_bytes bytes)
+      (k : ℕ) × (l : LinkBytes) × Contains p.links (k, l) × StandsIn l.heard bytes
+      × IsTrue (are_bytes bytes)
 
 -- a sender after calls
 abbrev pub sender_after : Sender → List RecorderCall → Sender

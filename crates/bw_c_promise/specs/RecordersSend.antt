@@ -20,6 +20,7 @@ StructsCount = (name : List ℕ) (count : ℕ) (s : Sender) (p : Recorder) → I
 
 -- If it counts as many stored as were offered, each request has the verdict Stored.
 abbrev pub CountedAreStored : Type 0
-CountedAreStored = (name : List ℕ) (count : ℕ) (s : Sender) (p : Recorder) → IsRecorder name count s p →
+CountedAreStored = (name : List ℕ) (count : ℕ) (s : Sender) (p : Recorder) →
+    IsRecorder name count s p →
     p.ended.stored ≡ p.ended.offered → (n : ℕ) → n < length (sender_part s p).requests →
     at (sender_part s p).has n ≡ Some Stored

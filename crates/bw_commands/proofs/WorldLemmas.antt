@@ -52,7 +52,8 @@ same_progress prefix done done' settled settled' stored stored' d e f =
 
 same_counts : (a a' b b' c c' : ℕ) → a ≡ a' → b ≡ b' → c ≡ c' → world_counts_line a b c ≡ world_counts_line a' b' c'
 same_counts a a' b b' c c' e f g =
-    ap (λ (n : ℕ). world_counts_line n b c) e ∙ ap (λ (n : ℕ). world_counts_line a' n c) f ∙ ap (λ (n : ℕ). world_counts_line a' b' n) g
+    ap (λ (n : ℕ). world_counts_line n b c) e ∙ ap (λ (n : ℕ). world_counts_line a' n c) f
+    ∙ ap (λ (n : ℕ). world_counts_line a' b' n) g
 
 -- the three parts of the text, one after another
 pub world_put : (w : Reported) (x : World) (store store' : MemoryStore) (none counts progress whole : List ℕ) →

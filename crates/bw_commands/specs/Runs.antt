@@ -62,7 +62,8 @@ pub record AreExchangesOf (limit : ℕ) (inputs : List (List ℕ)) (reported : L
 
 -- The inputs are answered so, one exchange after another, by a new server over an empty store, of
 -- which this many calls failed, and which then has these contents.
-pub record IsReplayRun (limit : ℕ) (inputs : List (List ℕ)) (failures : ℕ) (reported : List ReportedExchange)
+pub record IsReplayRun (limit : ℕ) (inputs : List (List ℕ)) (failures : ℕ)
+    (reported : List ReportedExchange)
     (contents : List ℕ → Option (List ℕ)) : Type 0 where
   pub answered : List (List Answered)
   pub reports : ReportInputs inputs answered reported

@@ -72,7 +72,8 @@ pub not_at : {X : Type 0} {place : Option (Option X)} (x : X) → place ≡ Some
 not_at x a b = not_some x (some_is None (Some x) (sym a ∙ b))
 
 -- a place that was taken from, and then put to
-pub sets_again : {X : Type 0} (xs ys zs : List X) (i : ℕ) (x y : X) → SetsPlace xs i x ys → SetsPlace ys i y zs → SetsPlace xs i y zs
+pub sets_again : {X : Type 0} (xs ys zs : List X) (i : ℕ) (x y : X) → SetsPlace xs i x ys → SetsPlace ys i y zs →
+    SetsPlace xs i y zs
 sets_again xs ys zs i x y a b = record {
   there = b.there;
   elsewhere = λ j other. b.elsewhere j other ∙ a.elsewhere j other;

@@ -51,8 +51,8 @@ module _ {L : Type 0} (G : LinkGhosts L) where
       (stream_end ≡ Some end) × (unsent ≡ []) × (IsFinal end ⊎ G.ended link)
 
   -- what an end of a connection reports
-  abbrev pub ConnectionReportsEnd : ConnectionEnd → L → Option End → List Answered → List ℕ → List ℕ →
-      Type 0
+  abbrev pub ConnectionReportsEnd : ConnectionEnd → L → Option End → List Answered → List ℕ →
+      List ℕ → Type 0
   ConnectionReportsEnd (Over ends.Bye) link stream_end answered input unsent =
       ConnectionReachesEnd link stream_end unsent SaidBye
   ConnectionReportsEnd (Over ends.EndOfInput) link stream_end answered input unsent =
@@ -117,4 +117,5 @@ module _ {L : Type 0} (G : LinkGhosts L) where
   -- replies to committed frames leave in it, however it ends.
   abbrev pub QuantaLeaveCommitted : Type 0
   QuantaLeaveCommitted = (c : Connection L) (committed : List Answered) (link : L) →
-      Lives G c committed → LeavesOf G (waiting_in c.exchange) c.link link → LeavesCommitted link committed
+      Lives G c committed → LeavesOf G (waiting_in c.exchange) c.link link →
+      LeavesCommitted link committed

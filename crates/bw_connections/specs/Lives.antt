@@ -129,7 +129,8 @@ pub record Moved {L : Type 0} (G : LinkGhosts L) (c : Connection L) (answered : 
   -- fewer frames than a quantum were answered only if the exchange must wait
   pub waits : length answered < quantum → MustWait c'.exchange
   -- some went where replies waited, if there might be room, or there is none now
-  pub sends : c.writable ≡ true → 1 ≤ length (waiting_in c.exchange) → (1 ≤ length bytes) ⊎ IsFull G c'
+  pub sends : c.writable ≡ true → 1 ≤ length (waiting_in c.exchange) → (1 ≤ length bytes)
+      ⊎ IsFull G c'
 
 -- the state of a connection's exchange if it ended so, and what it was not fed of what the link
 -- gave

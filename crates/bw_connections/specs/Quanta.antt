@@ -35,7 +35,8 @@ ExistedAt {L} place m m' = (c : Connection L) → HoldsConnectionAt m' place c �
 -- the connection there now was there before, under the same number and from the same address
 abbrev pub ExistedUnder : {L : Type 0} → LinkGhosts L → ℕ → Connections L → Connections L → Type 0
 ExistedUnder {L} G place m m' = (c' : Connection L) → HoldsConnectionAt m' place c' →
-    (c : Connection L) × HoldsConnectionAt m place c × (c'.number ≡ c.number) × KeepsPeer G c.link c'.link
+    (c : Connection L) × HoldsConnectionAt m place c × (c'.number ≡ c.number)
+    × KeepsPeer G c.link c'.link
 
 -- the connection that is over, if one is, has the number of the one that was there, and the same
 -- peer
@@ -71,7 +72,8 @@ pub record Wakes {L : Type 0} (bytes room : Bool) (c c' : Connection L) : Type 0
 
 -- no replies wait at a place over a connection that is served
 abbrev pub HoldsNoReplies : {L : Type 0} → ℕ → Connections L → Type 0
-HoldsNoReplies {L} place m = (c : Connection L) → HoldsConnectionAt m place c → c.phase ≡ phases.Serving →
+HoldsNoReplies {L} place m = (c : Connection L) → HoldsConnectionAt m place c →
+    c.phase ≡ phases.Serving →
     waiting_in c.exchange ≡ []
 
 -- the connection at this place, if there is one, may have bytes again, or room

@@ -25,12 +25,6 @@ abbrev pub asked_by : List ℕ → Asked
 asked_by input = if nat_lt longest_input (length input) then TooLong
     else asked_by_lines (decoded_from 1 (lines_of input))
 
--- an input that has a fault
-abbrev pub IsRefused : Asked → Type 0
-IsRefused TooLong = Unit {0}
-IsRefused (NotHex n) = Unit {0}
-IsRefused (Exchanges inputs) = ⊥
-
 -- at most one byte more than the longest input was read
 pub record IsReadAhead (input : List ℕ) (left : Option (List ℕ)) : Type 0 where
   pub reached : ℕ

@@ -32,8 +32,8 @@ all-weaker p q f (x ∷ xs) h =
     let both = and_parts (p x) (list_all p xs) h in
     and_from (q x) (list_all q xs) (f x both.0) (all-weaker p q f xs both.1)
 
-map-same : (p : ℕ → Bool) (g : ℕ → ℕ) → ((c : ℕ) → p c ≡ true → g c ≡ c) → (xs : List ℕ) → list_all p xs ≡ true →
-    map g xs ≡ xs
+map-same : (p : ℕ → Bool) (g : ℕ → ℕ) → ((c : ℕ) → p c ≡ true → g c ≡ c) → (xs : List ℕ) →
+    list_all p xs ≡ true → map g xs ≡ xs
 map-same p g f [] h = refl
 map-same p g f (x ∷ xs) h =
     let both = and_parts (p x) (list_all p xs) h in pushed (f x both.0) (map-same p g f xs both.1)

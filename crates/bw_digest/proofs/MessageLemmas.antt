@@ -18,7 +18,8 @@ length-padded m = length-append m (padding (length m)) ∙ ap (λ n. length m + 
 -- a block that is whole in the message
 pub block_inside : (m : List ℕ) (place : ℕ) → place < length m / 64 → take 64 (drop (place * 64) m) ≡ block_of m place
 block_inside m place inside =
-    let at : drop (place * 64) (padded_message m) ≡ drop (place * 64) m ++ padding (length m) = drop-append-le (place * 64) m (padding (length m)) (omega arith) in
+    let at : drop (place * 64) (padded_message m) ≡ drop (place * 64) m ++ padding (length m) =
+    drop-append-le (place * 64) m (padding (length m)) (omega arith) in
     sym (ap (take 64) at ∙ take-append-le 64 (drop (place * 64) m) (padding (length m)) (omega (arith, length-drop (place * 64) m)))
 
 -- a block after the last that is whole in the message
@@ -38,7 +39,8 @@ block_after m tail place is after before =
     sym (take-take 64 r (drop k tail) (omega (arith, count))) ∙ ap (take 64) from
 
 -- what is written one after the other: the end of the message, a bit 1 and zeros, the length
-pub tail_is : (m rest after p l : List ℕ) (e j k : ℕ) → rest ≡ drop (length m / 64 * 64) m → p ≡ 0x80 ∷ replicate ((119 - length m % 64) % 64) 0
+pub tail_is : (m rest after p l : List ℕ) (e j k : ℕ) → rest ≡ drop (length m / 64 * 64) m →
+    p ≡ 0x80 ∷ replicate ((119 - length m % 64) % 64) 0
     → l ≡ to_be_bytes w64 (length m * 8 % 2 ^ 64) → length (rest ++ after) ≡ 128 → e ≡ length m % 64 + length p
     → IsTail m (put_mid e j (put_mid (length m % 64) k (rest ++ after) p) l)
 tail_is m rest after p l e j k er ep el long ee =
@@ -47,11 +49,14 @@ tail_is m rest after p l e j k er ep el long ee =
     let second : List ℕ = put_mid u k first p in
     let used : length rest ≡ u = ap length er ∙ length-drop (length m / 64 * 64) m ∙ omega arith in
     let eight : length l ≡ 8 = rw el refl in
-    let marks : length p ≡ (119 - length m % 64) % 64 + 1 = ap length ep ∙ omega (arith, length-replicate {A = ℕ} ((119 - length m % 64) % 64) 0) in
+    let marks : length p ≡ (119 - length m % 64) % 64 + 1 = ap length ep
+    ∙ omega (arith, length-replicate {A = ℕ} ((119 - length m % 64) % 64) 0) in
     let one : take u first ≡ rest = take_at rest after u used in
-    let two : take e second ≡ rest ++ p = take-put_mid u k first p e ee (omega (arith, used, length-append rest after)) ∙ ap (λ x. x ++ p) one in
+    let two : take e second ≡ rest ++ p = take-put_mid u k first p e ee (omega (arith, used, length-append rest after))
+    ∙ ap (λ x. x ++ p) one in
     let room : e ≤ length second = omega (arith, ap length two, length-append rest p, used, length-take e second) in
-    let three : take (e + 8) (put_mid e j second l) ≡ (rest ++ p) ++ l = take-put_mid e j second l (e + 8) (omega arith) room ∙ ap (λ x. x ++ l) two in
+    let three : take (e + 8) (put_mid e j second l) ≡ (rest ++ p) ++ l = take-put_mid e j second l (e + 8) (omega arith) room
+    ∙ ap (λ x. x ++ l) two in
     let count : length (padded_message m) - length m / 64 * 64 ≡ e + 8 = omega (arith, length-padded m, marks) in
     rw count three
     ∙ append_assoc rest p l ∙ rw (er, ep, el) (sym (drop-append-le (length m / 64 * 64) m (padding (length m)) (omega arith)))

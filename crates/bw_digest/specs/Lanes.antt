@@ -12,5 +12,6 @@ InEachLane holds = (j : ℕ) → j < 8 → holds j
 
 -- in lane j, after t rounds of block b from the hash value h, the window is w and the working
 -- variables are v
-abbrev pub AreRoundsIn : ℕ → List ℕ → List ℕ → List (List ℕ) → List (List ℕ) → ℕ → Type 0
+abbrev pub AreRoundsIn : ℕ → List ℕ → List ℕ → List (List ℕ) → List (List ℕ) → ℕ →
+    Type 0
 AreRoundsIn j b h w v t = IsRoundsAt b h (lane j w) (lane j v) t

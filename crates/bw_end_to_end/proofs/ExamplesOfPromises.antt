@@ -43,7 +43,8 @@ unfolding computing
 served = record { spelled = refl; read = ([], refl); spelled_back = refl; end = None; part = ([], refl) }
 
 -- of the only link
-of_link : (P : ℕ × LinkBytes → Type 0) → P (0, rest_link) → (n : ℕ) (l : LinkBytes) → Contains going_on.links (n, l) → P (n, l)
+of_link : (P : ℕ × LinkBytes → Type 0) → P (0, rest_link) → (n : ℕ) (l : LinkBytes) → Contains going_on.links (n, l) →
+    P (n, l)
 of_link P p n l has = each-contains P going_on.links (n, l) (p, tt) has
 
 abbrev IsLinked : Tagged → Type 0

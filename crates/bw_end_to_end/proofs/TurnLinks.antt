@@ -91,7 +91,8 @@ all_answered-tagged n [] = refl
 all_answered-tagged n (x ∷ xs) = ap (λ (zs : List Answered). x ∷ zs) (all_answered-tagged n xs)
 
 module _ {T P R W O E : Type 0} (answers : T → Frame → List Reply → T → Type 0)
-    (commits : T → Result (Unit {0}) NotKept → T → Type 0) (peers : PeerGhosts P R W) (reader : Reader R) (writer : Writer W) (out : Writer O)
+    (commits : T → Result (Unit {0}) NotKept → T → Type 0) (peers : PeerGhosts P R W) (reader : Reader R) (writer : Writer W)
+    (out : Writer O)
     (reported : Writer E) (log : Bool) where
   -- what exchanges in a row are
   record InTurn (i k : ℕ) (xs : List (ServedExchange R W)) (t t' : T) : Type 0 where

@@ -41,8 +41,8 @@ module _ {D R W : Type 0} (dial : DialGhosts D R W) (reader : Reader R) (writer 
   abbrev pub RoundsSendRequests : Type 0
   RoundsSendRequests = (name : List ℕ) (requests : List Request) (rounds : ℕ) (last : Sending)
       (d d' : D) (went : MakesRounds dial reader writer rounds (new_sending name requests) last d d')
-      (links : List (ℕ × LinkBytes)) → IsTrue (is_name name) → IsTrue (list_all is_request requests) →
-      AreSenderEnds reader writer
+      (links : List (ℕ × LinkBytes)) → IsTrue (is_name name) →
+      IsTrue (list_all is_request requests) → AreSenderEnds reader writer
       (links_in_rounds (new_sending name requests) went.heard went.following d d' went.went) links →
       SendsOver name requests last.sender.verdicts links
 

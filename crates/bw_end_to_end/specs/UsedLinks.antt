@@ -31,7 +31,8 @@ module _ {R W : Type 0} (reader : Reader R) (writer : Writer W) where
 
 -- A sender from number 0, as the promise takes it: what it wrote over these links are frames of these
 -- requests, and each verdict that it has came over one of them.
-abbrev pub SendsOver : List ℕ → List Request → List (Option Verdict) → List (ℕ × LinkBytes) → Type 0
+abbrev pub SendsOver : List ℕ → List Request → List (Option Verdict) → List (ℕ × LinkBytes) →
+    Type 0
 SendsOver name requests verdicts links = DidSend (record {
   name = name;
   requests = requests;
@@ -53,7 +54,8 @@ SendsOnOver requests s last links = DidSend (record {
 
 -- each request that has no verdict yet has a number that a message can have
 abbrev pub PendingHaveNumbers : Sender → Type 0
-PendingHaveNumbers s = (n : ℕ) → n < length s.offered → at s.verdicts n ≡ None → n ≤ last_number Second
+PendingHaveNumbers s = (n : ℕ) → n < length s.offered → at s.verdicts n ≡ None →
+    n ≤ last_number Second
 
 -- each of these requests has the verdict Stored
 abbrev pub HasAllStored : List Request → List (Option Verdict) → Type 0

@@ -37,7 +37,8 @@ ended_kept streams.Bye = tt
 ended_kept streams.EndOfInput = tt
 ended_kept (streams.BadFrame fault) = tt
 
-module _ {S : Type 0} (answers : S → Frame → List Reply → S → Type 0) (commits : S → Result (Unit {0}) NotKept → S → Type 0) where
+module _ {S : Type 0} (answers : S → Frame → List Reply → S → Type 0)
+    (commits : S → Result (Unit {0}) NotKept → S → Type 0) where
   batches_on : (xs ys : List (List Answered)) (s mid later : S) → CommitsBatches answers commits s xs mid →
       CommitsBatches answers commits mid ys later → CommitsBatches answers commits s (xs ++ ys) later
   batches_on [] ys s mid later f g = subst (λ x. CommitsBatches answers commits x ys later) f g
@@ -47,7 +48,8 @@ module _ {S : Type 0} (answers : S → Frame → List Reply → S → Type 0) (c
   pub batches_none : (s : S) → HasBatches answers commits s s
   batches_none s = ([], refl)
 
-  pub batches_more : (s mid later : S) → HasBatches answers commits s mid → CommitsBatch answers commits mid later → HasBatches answers commits s later
+  pub batches_more : (s mid later : S) → HasBatches answers commits s mid → CommitsBatch answers commits mid later →
+      HasBatches answers commits s later
   batches_more s mid later f (inl same) = (f.0, subst (λ x. CommitsBatches answers commits s f.0 x) (sym same) f.1)
   batches_more s mid later f (inr g) =
       (f.0 ++ g.0 ∷ [], batches_on f.0 (g.0 ∷ []) s mid later f.1 (g.1, later, g.2, g.3, refl))
@@ -67,11 +69,12 @@ module _ {S : Type 0} (answers : S → Frame → List Reply → S → Type 0) (c
       LosesBatch answers commits cause mid later → CommitsUntil answers commits (ends.NotKept cause) s later
   until_unkept cause s mid later h g = (mid, h, g)
 
-  join : (s mid later : S) → HasBatches answers commits s mid → HasBatches answers commits mid later → HasBatches answers commits s later
+  join : (s mid later : S) → HasBatches answers commits s mid → HasBatches answers commits mid later →
+      HasBatches answers commits s later
   join s mid later f g = (f.0 ++ g.0, batches_on f.0 g.0 s mid later f.1 g.1)
 
-  pub until_on : (end : ExchangeEnd) (s mid later : S) → HasBatches answers commits s mid → CommitsUntil answers commits end mid later →
-      CommitsUntil answers commits end s later
+  pub until_on : (end : ExchangeEnd) (s mid later : S) → HasBatches answers commits s mid →
+      CommitsUntil answers commits end mid later → CommitsUntil answers commits end s later
   until_on ends.Bye s mid later f g = join s mid later f g
   until_on ends.EndOfInput s mid later f g = join s mid later f g
   until_on (ends.BadFrame fault) s mid later f g = join s mid later f g
@@ -81,7 +84,8 @@ module _ {S : Type 0} (answers : S → Frame → List Reply → S → Type 0) (c
   until_on ends.TurnLimit s mid later f g = join s mid later f g
   until_on ends.Memory s mid later f g = join s mid later f g
 
-  pub batches_join : (s mid later : S) → HasBatches answers commits s mid → HasBatches answers commits mid later → HasBatches answers commits s later
+  pub batches_join : (s mid later : S) → HasBatches answers commits s mid → HasBatches answers commits mid later →
+      HasBatches answers commits s later
   batches_join s mid later f g = join s mid later f g
 
   pub none_in_batch : (one : Bool) (s t : S) (a b : Exchange) → one ≡ false →

@@ -17,8 +17,8 @@ use Rattle.bw_exchange.proofs.Reading.{has_given-piece}
 -- some bytes were read, and then fed
 pub feeds_next : (r : Result (Unit {0}) ExchangeEnd) (left left' : Option (List ℕ)) (moved moved' count most : ℕ)
     (buf : List ℕ) (e e' : Exchange) → Reads left most count buf left' → count ≤ length buf →
-    length buf ≡ longest_message_piece → (count ≡ 0 → ⊥) → moved' ≡ min (moved + count) (2 ^ 64 - 1) → e.wants_read ≡ true →
-    OnOk r (DoesMore e (take count buf) [] [] e') → OnOk r (e'.end ≡ e.end) →
+    length buf ≡ longest_message_piece → (count ≡ 0 → ⊥) → moved' ≡ min (moved + count) (2 ^ 64 - 1) →
+    e.wants_read ≡ true → OnOk r (DoesMore e (take count buf) [] [] e') → OnOk r (e'.end ≡ e.end) →
     OnOk r (FeedsNext left left' moved moved' e e')
 feeds_next (Err why) left left' moved moved' count most buf e e' reads within long some m wants_read does end = tt
 feeds_next (Ok x) left left' moved moved' count most buf e e' reads within long some m wants_read does end =

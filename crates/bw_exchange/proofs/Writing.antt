@@ -143,8 +143,8 @@ stops_first answers s w w' e most begins =
 -- a batch was answered, and then this part of its replies was written
 stops_after : {S : Type 0} (answers : S → Frame → List Reply → S → Type 0) (end : ExchangeEnd) (n : ℕ)
     (s mid later : S) (w w' w'' : Option (List ℕ)) (a b c : Exchange) (part rest : List ℕ) →
-    length c.outgoing.items ≤ most_waiting → EndsUnwritten end → MayLeave end part → WritesAnswers answers s mid w w' a b → is_some b.end ≡ false →
-    AnswersUpTo answers n mid later b c → Writes w' part w'' → part ++ rest ≡ c.outgoing.items →
+    length c.outgoing.items ≤ most_waiting → EndsUnwritten end → MayLeave end part → WritesAnswers answers s mid w w' a b →
+    is_some b.end ≡ false → AnswersUpTo answers n mid later b c → Writes w' part w'' → part ++ rest ≡ c.outgoing.items →
     StopsWriting answers end s later w w'' a
 stops_after answers end n s mid later w w' w'' a b c part rest most stop kept f running g taken whole = record {
   stop = stop;

@@ -33,8 +33,8 @@ pub record AnswersFrame {S : Type 0} (answers : S → Frame → List Reply → S
   pub spelled : IsTrue (list_all is_reply replies)
 
 -- the result of what the framer reports
-abbrev pub Comes : {S : Type 0} → (S → Frame → List Reply → S → Type 0) → Step → Reported Frame →
-    S → S → List ℕ → List ℕ → Type 0
+abbrev pub Comes : {S : Type 0} → (S → Frame → List Reply → S → Type 0) → Step →
+    Reported Frame → S → S → List ℕ → List ℕ → Type 0
 Comes answers WantsRead reported s later waiting waiting' =
     (reported ≡ Nothing) × (later ≡ s) × (waiting' ≡ waiting)
 Comes answers Answered reported s later waiting waiting' =

@@ -59,7 +59,8 @@ fault_again f =
     if is_of_bytes f.kind then Changed else Refused (record { kind = Unread f.kind; offset = f.offset })
 
 -- the bytes have this report and these extras, and the recording of them this outline
-pub record IsOutlined (b : List ℕ) (o : Options) (r : Report) (x : Extras) (outline : Outline) : Type 0 where
+pub record IsOutlined (b : List ℕ) (o : Options) (r : Report) (x : Extras)
+    (outline : Outline) : Type 0 where
   pub report : HasReport b r
   pub extras : HasExtras b r x
   pub outlined : outline_of o (notes_by r x.extension.items x.history.items) ≡ Ok outline

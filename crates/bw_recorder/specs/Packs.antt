@@ -64,7 +64,8 @@ abbrev pub FinishesPrint : {W : Type 0} → Writer W → List Request → Result
     Result (Unit {0}) PackFault → W → W → Type 0
 FinishesPrint w given put result old new =
     (print : Print) × IsPrintOfPack given result print × IsPrint w print old new
-    × ((requests : List Request) → GivesRequests requests given put → GivesRequests requests given result)
+    × ((requests : List Request) → GivesRequests requests given put →
+    GivesRequests requests given result)
 
 -- the writer failed
 abbrev pub is_unwritable : PackFault → Bool
@@ -173,7 +174,8 @@ pub record PacksFile (file : Option (List ℕ)) (o : Options) (did : Packing) : 
   pub reports : ReportsPack outcome did.faults
 
 -- the command did this with the file at a path
-abbrev pub IsPack : Option (List ℕ) → List ℕ → List (List ℕ) → Bool → Option ℕ → Packing → Type 0
+abbrev pub IsPack : Option (List ℕ) → List ℕ → List (List ℕ) → Bool → Option ℕ → Packing →
+    Type 0
 IsPack file path texts strict frames did =
     RefusesSettings texts strict frames did ⊎ RunsOutOfMemory did
     ⊎ ((o : Options) × ((options_of texts strict frames ≡ Some o)

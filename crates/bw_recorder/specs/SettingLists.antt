@@ -39,7 +39,8 @@ first_bad_key (text ∷ texts) = elim (setting_of text) [
 abbrev pub bad_setting_line : List (List ℕ) → List ℕ
 bad_setting_line texts =
     codes "a value of '--set' isn't KEY=VALUE, or isn't allowed\nhint: in '" ++ first_bad_key texts
-    ++ codes "': KEY is description, originator, reference, date, clock, time, umid, history, value, range, peak, momentary or short\n"
+    ++ codes
+    "': KEY is description, originator, reference, date, clock, time, umid, history, value, range, peak, momentary or short\n"
 
 -- a fault says so, or that memory was refused
 abbrev pub SaysBadSetting : List (List ℕ) → OptionsFault → Type 0

@@ -23,7 +23,8 @@ same_counts a a' b b' c c' e f g =
 pub in_parts : (none first second whole a a' b c : List ℕ) → none ≡ [] → first ≡ none ++ a → a ≡ a' →
     second ≡ first ++ b → whole ≡ second ++ c → whole ≡ a' ++ b ++ c
 in_parts none first second whole a a' b c empty put same more rest =
-    rest ∙ ap (λ (z : List ℕ). z ++ c) (more ∙ ap (λ (z : List ℕ). z ++ b) (put ∙ ap (λ (z : List ℕ). z ++ a) empty ∙ same))
+    rest ∙ ap (λ (z : List ℕ). z ++ c)
+    (more ∙ ap (λ (z : List ℕ). z ++ b) (put ∙ ap (λ (z : List ℕ). z ++ a) empty ∙ same))
 
 -- four parts, from the last one on
 pub of_four : (a b c d : List ℕ) → a ++ (b ++ (c ++ d)) ≡ a ++ b ++ c ++ d

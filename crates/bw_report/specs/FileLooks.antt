@@ -101,8 +101,8 @@ module _ {W E : Type 0} (out : Writer W) (reported : Writer E) where
     pub reports : ArePrints reported (map (λ l. l.reported) (looks ++ last ∷ []) ++ line ∷ []) e e'
 
   -- the files at these paths were inspected
-  abbrev pub AreInspected : (List ℕ → Option (List ℕ)) → List (List ℕ) → Wanted → Exit → ℕ → ℕ →
-      W → W → E → E → Type 0
+  abbrev pub AreInspected : (List ℕ → Option (List ℕ)) → List (List ℕ) → Wanted → Exit →
+      ℕ → ℕ → W → W → E → E → Type 0
   AreInspected file_at paths wanted exit n n' o o' e e' =
       IsShown file_at paths wanted exit n n' o o' e e'
       ⊎ IsStoppedEarly file_at paths wanted exit n n' o o' e e'

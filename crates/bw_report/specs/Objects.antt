@@ -118,7 +118,8 @@ bext_or_null rate None = null
 bext_or_null rate (Some b) = bext_data rate b
 
 -- what is in a file, under its name
-abbrev pub contents_data : List ℕ → ℕ → Data → Data → Data → Data → Data → Data → Data → Data → Data
+abbrev pub contents_data : List ℕ → ℕ → Data → Data → Data → Data → Data → Data → Data →
+    Data → Data
 contents_data name size bext chunks cues samples fmt form form_hex sha256 = object
     (member (codes "at") null
     (member (codes "bext") bext

@@ -22,7 +22,8 @@ use Rattle.bw_send_file.specs.declared.fault.FeedFault.TheVariants.{Unsendable, 
 -- the lines, whose first word is the cause; of two of them with the line of a hint below
 abbrev pub conflict_line : ℕ → List ℕ
 conflict_line n = as_line (codes "Conflict: another request was sent under number " ++ decimal n)
-    ++ codes "hint: another recording has this name: use another, or give that one up: bwingest takes --folder DIR --give-up NAME\n"
+    ++ codes
+    "hint: another recording has this name: use another, or give that one up: bwingest takes --folder DIR --give-up NAME\n"
 
 abbrev pub too_far_line : ℕ → List ℕ
 too_far_line n = as_line (codes "TooFar: the server lacks requests before number " ++ decimal n)

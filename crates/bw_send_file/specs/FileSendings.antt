@@ -52,16 +52,18 @@ module _ {F P D R W : Type 0} (feed : FeedGhosts F FeedFault) (pause : PauseGhos
     pub exit_is : did.exit ≡ sent.exit
 
   -- nothing was sent: what is set can't be read, memory was refused, or the file isn't opened
-  abbrev pub RefusesToSend : List ℕ → Option (List ℕ) → List (List ℕ) → Bool → Option ℕ → Packing → Type 0
+  abbrev pub RefusesToSend : List ℕ → Option (List ℕ) → List (List ℕ) → Bool → Option ℕ →
+      Packing → Type 0
   RefusesToSend path file texts strict frames did =
       RefusesSettings texts strict frames did ⊎ RunsOutOfMemory did
       ⊎ ((o : Options) × (options_of texts strict frames ≡ Some o)
       × IsNotOpened (codes "send") file path o did)
 
   -- the command did this for a recorder with a file of these bytes, which its feed looks at again
-  abbrev pub IsFileSent : Recorder → RecordingFile → Option (List ℕ) → (F → Type 0) → Ways P D → Ways P D →
-      Packing → Type 0
+  abbrev pub IsFileSent : Recorder → RecordingFile → Option (List ℕ) → (F → Type 0) → Ways P D →
+      Ways P D → Packing → Type 0
   IsFileSent recorder f file is_looked_at old new did =
-      (RefusesToSend f.path.now file (map string_bytes f.settings.now) f.is_strict f.frames did × (new ≡ old))
+      (RefusesToSend f.path.now file (map string_bytes f.settings.now) f.is_strict f.frames did
+      × (new ≡ old))
       ⊎ ((o : Options) × (options_of (map string_bytes f.settings.now) f.is_strict f.frames ≡ Some o)
       × SendsFile o (errand_of recorder f) file is_looked_at old new did)

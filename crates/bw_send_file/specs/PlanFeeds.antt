@@ -22,8 +22,8 @@ abbrev pub feed_stamp : {R S : Type 0} → PlanFeed R S → FileStamp
 feed_stamp f = f.stamp
 
 -- its state, by what a reader has left and by the stamp that is reported
-abbrev pub feed_state : {R S : Type 0} → (R → Option (List ℕ)) → (S → Option FileStamp) → PlanFeed R S →
-    FeedState
+abbrev pub feed_state : {R S : Type 0} → (R → Option (List ℕ)) → (S → Option FileStamp) →
+    PlanFeed R S → FeedState
 feed_state left stamp_of f = record {
   left = left (feed_reader f);
   plan = feed_plan f;

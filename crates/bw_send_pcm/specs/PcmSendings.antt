@@ -78,8 +78,8 @@ pub record ReportsNoSamples (path : List ℕ) (fault : OpenFault) (did : Packing
 module _ {F : Type 0} (feed : FeedGhosts F FeedFault) where
   -- The file with these bytes and this stamp, if they are reported, is opened for its samples, and
   -- the feed looks at it again; or why it can't be.
-  abbrev pub OpensSamples : (Option FileStamp → F → Type 0) → Option (List ℕ) → Option FileStamp → Pcm →
-      Options → Result F OpenFault → Type 0
+  abbrev pub OpensSamples : (Option FileStamp → F → Type 0) → Option (List ℕ) → Option FileStamp →
+      Pcm → Options → Result F OpenFault → Type 0
   OpensSamples looks_at file stamp p o (Ok f) =
       Of file (λ b. IsStampOf stamp b → FeedsSamples b o p (feed.left f)) × looks_at stamp f
   OpensSamples looks_at file stamp p o (Err fault) =

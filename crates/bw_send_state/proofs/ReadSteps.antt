@@ -7,14 +7,15 @@ use Rattle.bw_send_state.specs.Asks.{GivesReply}
 use Rattle.bw_exchange.specs.WholeExchanges.{HasGiven}
 use Rattle.bw_stream.specs.Moves.{Reads}
 
-first_read : (buf xs : List ℕ) → 1 ≤ length buf → 1 ≤ length xs → take 1 buf ≡ take 1 xs → get_or buf 0 0 ∷ drop 1 xs ≡ xs
+first_read : (buf xs : List ℕ) → 1 ≤ length buf → 1 ≤ length xs → take 1 buf ≡ take 1 xs →
+    get_or buf 0 0 ∷ drop 1 xs ≡ xs
 first_read [] xs h k e = absurd (omega arith)
 first_read (b ∷ bs) [] h k e = absurd (omega arith)
 first_read (b ∷ bs) (x ∷ xs) h k e = let same : b ≡ x = cc in ap (λ (y : ℕ). y ∷ xs) same
 
 -- a byte that was read is the next one
-pub one_given : (left left' : Option (List ℕ)) (n most : ℕ) (buf : List ℕ) → n ≡ 1 → 1 ≤ length buf → Reads left most n buf left' →
-    HasGiven left (get_or buf 0 0 ∷ []) left'
+pub one_given : (left left' : Option (List ℕ)) (n most : ℕ) (buf : List ℕ) → n ≡ 1 → 1 ≤ length buf →
+    Reads left most n buf left' → HasGiven left (get_or buf 0 0 ∷ []) left'
 one_given left left' n most buf e long reads = λ xs is.
     let r = reads xs is in (
       drop 1 xs,

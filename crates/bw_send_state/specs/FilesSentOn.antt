@@ -43,7 +43,8 @@ pub record KnownFile : Type 0 where
   pub bytes : Option (List ℕ)
   pub stamp : Option FileStamp
 
-abbrev pub known_file_of : Job → (List ℕ → Option (List ℕ)) → (List ℕ → Option FileStamp) → KnownFile
+abbrev pub known_file_of : Job → (List ℕ → Option (List ℕ)) → (List ℕ → Option FileStamp) →
+    KnownFile
 known_file_of job file_at stamp_at =
     record { bytes = file_at job.file.path.now; stamp = stamp_at job.file.path.now }
 
@@ -53,12 +54,13 @@ pub record Outside : Type 0 where
   pub states : List ℕ → Option (List ℕ)
   pub states' : List ℕ → Option (List ℕ)
 
-abbrev pub outside_of : KnownFile → (List ℕ → Option (List ℕ)) → (List ℕ → Option (List ℕ)) → Outside
+abbrev pub outside_of : KnownFile → (List ℕ → Option (List ℕ)) →
+    (List ℕ → Option (List ℕ)) → Outside
 outside_of file states states' = record { file = file; states = states; states' = states' }
 
 -- .. as files and states say that give themselves so
-abbrev pub outside_by : {F H G M B L : Type 0} → FileGhosts F H G M → StateGhosts B L → Job → F → B → B →
-    Outside
+abbrev pub outside_by : {F H G M B L : Type 0} → FileGhosts F H G M → StateGhosts B L → Job → F →
+    B → B → Outside
 outside_by files states job f s s' =
     outside_of (known_file_of job (files.file_at f) (files.stamp_at f)) (states.state_at s)
     (states.state_at s')
@@ -181,7 +183,8 @@ module _ {P D R W : Type 0} (pause : PauseGhosts P) (dial : DialGhosts D R W) (r
     pub well : did.is_system_well ≡ true
     pub why : (AsksForNext (Err asks.Fruitless) old new
         × EndsWithLine fruitless_line exits.Device did.exit did.faults)
-        ⊎ (AsksForNext (Err asks.Memory) old new × EndsWithLine memory_line exits.Memory did.exit did.faults)
+        ⊎ (AsksForNext (Err asks.Memory) old new
+        × EndsWithLine memory_line exits.Memory did.exit did.faults)
 
   -- nothing is passed over
   pub record StartsAnew (found : Found) (count : ℕ) (old new : Ways P D) (print : Print) : Type 0 where
@@ -214,7 +217,8 @@ pub record SendingSide (F P D R W : Type 0) : Type 1 where
   pub replies : Reader R
   pub requests : Writer W
 
-abbrev pub sending_side : {F P D R W : Type 0} → FeedGhosts F FeedFault → (Option FileStamp → F → Type 0) →
+abbrev pub sending_side : {F P D R W : Type 0} → FeedGhosts F FeedFault →
+    (Option FileStamp → F → Type 0) →
     PauseGhosts P → DialGhosts D R W → Reader R → Writer W → SendingSide F P D R W
 sending_side feed looks_at pause dial replies requests = record {
   feed = feed;
@@ -322,7 +326,8 @@ module _ {F P D R W : Type 0} (side : SendingSide F P D R W) (job : Job) where
       RefusesAtOnce (map string_bytes job.file.settings.now) job.file.is_strict job.file.frames
 
   -- the command did this
-  abbrev pub IsFileSentOn : {L : Type 0} → LogGhosts L → Outside → Ways P D → Ways P D → Continuation → Type 0
+  abbrev pub IsFileSentOn : {L : Type 0} → LogGhosts L → Outside → Ways P D → Ways P D →
+      Continuation → Type 0
   IsFileSentOn logs outside old new did = (IsStateUntouched outside old new did × RefusesJob did.sent)
       ⊎ ((o : Options) × IsAskedFor job o
       × (StopsBeforeSending o outside old new did ⊎ SendsOn logs o outside old new did))

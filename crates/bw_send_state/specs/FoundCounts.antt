@@ -58,11 +58,6 @@ abbrev pub counts_begun : ℕ → List ℕ
 counts_begun zero = []
 counts_begun (suc n) = suc n ∷ []
 
--- a state is gone on with, or begun with this count
-abbrev pub IsLogBegun : Option (List ℕ) → List ℕ → ℕ → Option (List ℕ) → Type 0
-IsLogBegun file header count log = Keeps file log
-    ⊎ ((bytes : List ℕ) → log ≡ Some bytes → bytes ≡ state_bytes header (counts_begun count))
-
 -- whether a state is gone on with: it isn't, if nothing is passed over, or nothing can be written
 -- after it
 abbrev pub goes_on : Found → ℕ → Bool

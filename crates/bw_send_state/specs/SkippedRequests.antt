@@ -24,7 +24,8 @@ module _ {F X : Type 0} (feed : FeedGhosts F X) where
   -- the feed gave these requests, one after another
   abbrev pub GivesFirst : List Request → F → F → Type 0
   GivesFirst [] f g = g ≡ f
-  GivesFirst (r ∷ rs) f g = (next : F) × AsksFeed feed f (Ok (gives.Request r)) next × GivesFirst rs next g
+  GivesFirst (r ∷ rs) f g = (next : F) × AsksFeed feed f (Ok (gives.Request r)) next
+      × GivesFirst rs next g
 
   -- these were the first so many, and none of them is a CLOSE
   pub record PassesFirst (count : ℕ) (given : List Request) (f g : F) : Type 0 where

@@ -110,8 +110,8 @@ module _ {L : Type 0} (G : LinkGhosts L) where
 
   -- What may have bytes or room is reported so.
   pub hosts_woken : (reported : List Ready) (a b : EventLoop L) (over : List (Closed L)) (xs : List (Admission L)) →
-      begun_of b.connections ≡ begun_of a.connections → refused_of b.connections ≡ refused_of a.connections → WakesEach reported a b →
-      HostsAll G a.connections over xs → HostsAll G b.connections over xs
+      begun_of b.connections ≡ begun_of a.connections → refused_of b.connections ≡ refused_of a.connections →
+      WakesEach reported a b → HostsAll G a.connections over xs → HostsAll G b.connections over xs
   hosts_woken reported a b over xs begun refused wakes h = hosts_all a.connections b.connections over over xs begun refused still h
     where
       still : (k : ℕ) (y : Admission L) → IsHosted G a.connections over k y → IsHosted G b.connections over k y

@@ -107,8 +107,8 @@ module _ {L E : Type 0} (G : LinkGhosts L) (reported : Writer E) (log : Bool) wh
 
   -- one step after another
   pub reports_then : (a b c : EventLoop L) (xs ys : List Tagged) (us vs : List (Closed L)) (e f g : E) →
-      Adds G a.connections xs us b.connections → ReportsRound G reported log a xs us b e f → ReportsRound G reported log b ys vs c f g →
-      ReportsRound G reported log a (xs ++ ys) (us ++ vs) c e g
+      Adds G a.connections xs us b.connections → ReportsRound G reported log a xs us b e f →
+      ReportsRound G reported log b ys vs c f g → ReportsRound G reported log a (xs ++ ys) (us ++ vs) c e g
   reports_then a b c xs ys us vs e f g adds s t over trace k own =
       let first = s over trace k own in
       let next = t (over ++ us) (trace ++ xs) (adds over trace k) first.0 in
@@ -133,7 +133,8 @@ stands_or_not {L} m place = go (slice_get m.places.items place) refl
 
 -- the same of a slot that another connection had, under the same number
 pub peer_slot_as : {L : Type 0} (G : LinkGhosts L) (a b : EventLoop L) (trace : List Tagged) (i : ℕ) (c d : Connection L) →
-    b.peer_slots ≡ a.peer_slots → d.number ≡ c.number → KeepsPeer G c.link d.link → PeerSlotOf G a trace i c → PeerSlotOf G b trace i d
+    b.peer_slots ≡ a.peer_slots → d.number ≡ c.number → KeepsPeer G c.link d.link → PeerSlotOf G a trace i c →
+    PeerSlotOf G b trace i d
 peer_slot_as G a b trace i c d same number peer x = record {
   peer_slot = x.peer_slot;
   there = ap (λ s. slice_get s.items i) same ∙ x.there;

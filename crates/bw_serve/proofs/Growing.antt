@@ -132,7 +132,8 @@ stays_woken G place a b adds existed stays peer_slots ended = record {
   refused = stays.2;
 }
 
-pub stays_then : {L : Type 0} (G : LinkGhosts L) (a b c : EventLoop L) → KeepsEventLoop G a b → KeepsEventLoop G b c → KeepsEventLoop G a c
+pub stays_then : {L : Type 0} (G : LinkGhosts L) (a b c : EventLoop L) → KeepsEventLoop G a b → KeepsEventLoop G b c →
+    KeepsEventLoop G a c
 stays_then G a b c f g = record {
   grows = grows_then G a b c f.grows g.grows;
   begun = g.begun ∙ f.begun;

@@ -95,7 +95,8 @@ module _ {L S E : Type 0} (G : LinkGhosts L) (answers : S → Frame → List Rep
       let h = own_counted place d at in some_is h.peer_slot w.peer_slot (sym h.there ∙ w.was)
 
   -- has counted all its frames
-  its_own : (d : Connection L) → HoldsConnectionAt a.connections place d → w.peer_slot'.link_stats ≡ counted_of d.number (trace ++ more)
+  its_own : (d : Connection L) → HoldsConnectionAt a.connections place d →
+      w.peer_slot'.link_stats ≡ counted_of d.number (trace ++ more)
   its_own d at =
       w.counted
       ∙ (ap (λ (c : PeerSlot). fold counting_frame c.link_stats (answered_frames w.works.answered)) (sym (peer_slot_is d at))
@@ -183,8 +184,8 @@ module _ {L S E : Type 0} (G : LinkGhosts L) (answers : S → Frame → List Rep
 pub place_served : {L S O E : Type 0} (G : LinkGhosts L) (answers : S → Frame → List Reply → S → Type 0)
     (out : Writer O) (reported : Writer E) (log : Bool) (place now idle : ℕ) (a mid b : EventLoop L) (m : Connections L)
     (first : Option (Closed L)) (rest : List (Closed L)) (s t : S) (o p : O) (e f : E) →
-    (counted : WorksCounted G answers place now first a mid s t) → Adds G mid.connections [] rest m → StaysAt place mid.connections m →
-    ExistedAt place mid.connections m → b.connections ≡ m → b.peer_slots ≡ mid.peer_slots →
+    (counted : WorksCounted G answers place now first a mid s t) → Adds G mid.connections [] rest m →
+    StaysAt place mid.connections m → ExistedAt place mid.connections m → b.connections ≡ m → b.peer_slots ≡ mid.peer_slots →
     ((d : Connection L) → HoldsConnectionAt a.connections place d → AllByRecursion (λ x. x.end ≡ Idle →
     (counted.works.answered ≡ []) × (idle < now - d.since)) (those first ++ rest)) →
     ((d : Connection L) → HoldsConnectionAt m place d → expired_at now idle d ≡ None) →
@@ -219,7 +220,8 @@ place_served {L} G answers out reported log place now idle a mid b m first rest 
       whose = whose_are G reported log place a.connections mid.peer_slots.items (those first ++ rest) e f reports;
       peer_slots_are = ap (λ v. vec_len v) peer_slots ∙ counted.peer_slots_are;
       silent = silent;
-      in_time = subst (λ (x : Connections L). (d : Connection L) → HoldsConnectionAt x place d → expired_at now idle d ≡ None) (sym is)
+      in_time = subst (λ (x : Connections L). (d : Connection L) → HoldsConnectionAt x place d → expired_at now idle d ≡ None)
+          (sym is)
           in_time;
       prints = prints;
       reports = λ over trace k own. place_counts G answers reported log place now first a mid b s t counted stays' existed' peer_slots

@@ -109,7 +109,8 @@ welcomes_after reactor now later b x y a c at none w = record {
 }
 
 module _ {B L S O E : Type 0} (reactor : ReactorGhosts B L) (G : LinkGhosts L)
-    (answers : S → Frame → List Reply → S → Type 0) (commits : S → Result (Unit {0}) NotKept → S → Type 0) (out : Writer O) (reported : Writer E) (log : Bool) where
+    (answers : S → Frame → List Reply → S → Type 0) (commits : S → Result (Unit {0}) NotKept → S → Type 0) (out : Writer O)
+    (reported : Writer E) (log : Bool) where
   -- what a round adds
   pub round_advances : (idle exchanges : ℕ) (a b : EventLoop L) (s t : S) (x y : B) (o p : O) (e f : E)
       (r : ServesRound reactor G answers commits out reported log idle exchanges a b s t x y o p e f) →

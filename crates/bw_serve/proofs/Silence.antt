@@ -24,7 +24,8 @@ expired_is : {L : Type 0} (now idle place : ℕ) (m : Connections L) (d : Connec
 expired_is now idle place m d at = rw at refl
 
 -- one that is there after it isn't quiet for too long
-pub not_expired : {L : Type 0} (now idle place : ℕ) (m : Connections L) → end_of_connection {L = L} None ≡ expired_there now idle m place →
+pub not_expired : {L : Type 0} (now idle place : ℕ) (m : Connections L) →
+    end_of_connection {L = L} None ≡ expired_there now idle m place →
     (d : Connection L) → HoldsConnectionAt m place d → expired_at now idle d ≡ None
 not_expired now idle place m is d at = sym (is ∙ expired_is now idle place m d at)
 

@@ -56,7 +56,8 @@ works_by G outer answers place now closed m m' t t' s s' w by_server = record {
 module _ {T S : Type 0} (inner : T → S) (outer : T → Frame → List Reply → T → Type 0)
     (answers : S → Frame → List Reply → S → Type 0)
     (passes : (t : T) (frame : Frame) (replies : List Reply) (t' : T) → outer t frame replies t' →
-    answers (inner t) frame replies (inner t')) (ends : T → Result (Unit {0}) NotKept → T → Type 0) (commits : S → Result (Unit {0}) NotKept → S → Type 0)
+    answers (inner t) frame replies (inner t')) (ends : T → Result (Unit {0}) NotKept → T → Type 0)
+    (commits : S → Result (Unit {0}) NotKept → S → Type 0)
     (passes_commits : (t : T) (r : Result (Unit {0}) NotKept) (t' : T) → ends t r t' → commits (inner t) r (inner t')) where
   pub answers_inner : (t : T) (xs : List Answered) (t' : T) → AnswersAll outer t xs t' →
       AnswersAll answers (inner t) xs (inner t')

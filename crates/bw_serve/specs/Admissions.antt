@@ -17,7 +17,8 @@ use Rattle.bw_serve.specs.declared.event_loop.EventLoop.{EventLoop}
 -- which is counted
 pub record Admits {L : Type 0} (now place : ℕ) (link : L) (c c' : EventLoop L) : Type 0 where
   pub free : IsFree c.connections place
-  pub begins : BeginsAt place link now c.connections c'.connections ⊎ RefusesLink c.connections c'.connections
+  pub begins : BeginsAt place link now c.connections c'.connections
+      ⊎ RefusesLink c.connections c'.connections
   pub others : LeavesOthers place c.connections c'.connections
 
 -- so do these, one after another, each at the place for which it was given
@@ -45,7 +46,8 @@ module _ {L : Type 0} (G : LinkGhosts L) where
 
   -- Each of these links, in order, got the next number, and under it is at its place or over; or it
   -- was refused, which was counted. The counts of links begun and refused rise accordingly.
-  abbrev pub HostsLinks : Connections L → List (Closed L) → ℕ → ℕ → List (Admission L) → ℕ → ℕ → Type 0
+  abbrev pub HostsLinks : Connections L → List (Closed L) → ℕ → ℕ → List (Admission L) → ℕ →
+      ℕ → Type 0
   HostsLinks m over begun refused [] begun' refused' = (begun' ≡ begun) × (refused' ≡ refused)
   HostsLinks m over begun refused (x ∷ xs) begun' refused' =
       (IsHosted m over begun x × HostsLinks m over (suc begun) refused xs begun' refused')

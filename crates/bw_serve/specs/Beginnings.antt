@@ -26,7 +26,8 @@ counted_calls failures returns n result n' =
     returns n result n' × (failures n' ≡ failures_after result (failures n))
 
 -- a call gave this, and so it goes on from there
-pub record GoesOnWith {N T F : Type 0} (calls : Calls N T F) (Follows : T → N → Type 0) (n : N) : Type 0 where
+pub record GoesOnWith {N T F : Type 0} (calls : Calls N T F) (Follows : T → N → Type 0)
+    (n : N) : Type 0 where
   pub it : T
   pub between : N
   pub given : calls n (Ok it) between
@@ -41,8 +42,8 @@ pub record IsCallRefused {N T F O E : Type 0} (calls : Calls N T F) (says : F �
   pub reports : says error exit e e'
 
 -- one of both
-abbrev pub AsksOutside : {N T F O E : Type 0} → Calls N T F → (F → Exit → E → E → Type 0) → (T → N → Type 0) → Exit →
-    N → N → O → O → E → E → Type 0
+abbrev pub AsksOutside : {N T F O E : Type 0} → Calls N T F → (F → Exit → E → E → Type 0) →
+    (T → N → Type 0) → Exit → N → N → O → O → E → E → Type 0
 AsksOutside calls says Follows exit n n' o o' e e' =
     GoesOnWith calls Follows n ⊎ IsCallRefused calls says exit n n' o o' e e'
 
@@ -63,13 +64,15 @@ reactor_calls setup hosting = counted_calls setup.failures
     (λ n. setup.opens n hosting.address hosting.folder.now hosting.bounds.places)
 
 -- it is reported that this address can't be used
-abbrev pub ReportsUnbound : {E : Type 0} → Writer E → SocketAddr → IoError → Exit → E → E → Type 0
+abbrev pub ReportsUnbound : {E : Type 0} → Writer E → SocketAddr → IoError → Exit → E → E →
+    Type 0
 ReportsUnbound reported address error exit e e' =
     ReportsUnopened reported (socket_text address) (error_kind error) exit e e'
 
 -- the first lines aren't printed whole, and this is reported: they can't be written, or memory was
 -- refused before
-abbrev pub IsUnprinted : {O E : Type 0} → Writer O → Writer E → List ℕ → Exit → O → O → E → E → Type 0
+abbrev pub IsUnprinted : {O E : Type 0} → Writer O → Writer E → List ℕ → Exit → O → O → E →
+    E → Type 0
 IsUnprinted out reported lines exit o o' e e' =
     (HasStopped out lines o o' × GivesUp reported faults.Unwritable exit e e')
     ⊎ ((o' ≡ o) × GivesUp reported faults.Memory exit e e')

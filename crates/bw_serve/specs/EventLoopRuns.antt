@@ -34,8 +34,8 @@ LacksSync {S} commits s = (mid : S) × commits mid (Err kept.SyncFault) s
 
 -- why the run ends so: as many connections have ended as were asked for, and the reactor never
 -- failed; or it could continue no longer, or not after a sync that failed
-abbrev pub EndsAt : {B L S : Type 0} → ReactorGhosts B L → (S → Result (Unit {0}) NotKept → S → Type 0) →
-    Exit → ℕ → ℕ → S → B → B → Type 0
+abbrev pub EndsAt : {B L S : Type 0} → ReactorGhosts B L →
+    (S → Result (Unit {0}) NotKept → S → Type 0) → Exit → ℕ → ℕ → S → B → B → Type 0
 EndsAt reactor commits exits.Done exchanges ended s b b' =
     (exchanges ≤ ended) × (reactor.failures b' ≡ reactor.failures b)
 EndsAt reactor commits exits.Device exchanges ended s b b' =

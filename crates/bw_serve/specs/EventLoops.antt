@@ -73,8 +73,8 @@ pub record Grows {L : Type 0} (G : LinkGhosts L) (c c' : EventLoop L) : Type 0 w
   pub adds : Adds G c.connections [] [] c'.connections
   pub places_are : connection_count c'.connections ≡ connection_count c.connections
   pub peer_slots_are : vec_len c'.peer_slots ≡ vec_len c.peer_slots
-  pub counts : (over : List (Closed L)) (trace : List Tagged) → KeepsConnections G c.connections over trace →
-      CountsOwn G c trace → CountsOwn G c' trace
+  pub counts : (over : List (Closed L)) (trace : List Tagged) →
+      KeepsConnections G c.connections over trace → CountsOwn G c trace → CountsOwn G c' trace
   pub ended : c'.ended ≡ c.ended
 
 -- and no peer was accepted, or refused
@@ -101,19 +101,20 @@ abbrev pub LooksAfter : {L : Type 0} → ℕ → ℕ → ℕ → Option (Closed 
     List (Closed L) → Connections L → Type 0
 LooksAfter now idle place (Some x) m closed m' = (closed ≡ x ∷ []) × (m' ≡ m)
 LooksAfter {L} now idle place None m closed m' = (last : Option (Closed L)) × (closed ≡ those last)
-    × (end_of_connection last ≡ expired_there now idle m place) × StaysAt place m m' × ExistedAt place m m'
+    × (end_of_connection last ≡ expired_there now idle m place) × StaysAt place m m'
+    × ExistedAt place m m'
     × IfSome last (λ x. IsEmpty place m')
 
 -- the line of each connection that ended was printed, and each was counted
-abbrev pub CountsEnds : {L O : Type 0} → Writer O → EventLoop L → EventLoop L → List (Closed L) → O → O →
-    Type 0
+abbrev pub CountsEnds : {L O : Type 0} → Writer O → EventLoop L → EventLoop L → List (Closed L) →
+    O → O → Type 0
 CountsEnds out c c' closed o o' = (n : ℕ) → c.ended ≡ up_to_last n →
     ReportsEnds out n closed o o' × (c'.ended ≡ up_to_last (n + length closed))
 
 -- Frames more were answered, none of them over a connection that was over, and connections more are
 -- over: if the frames of each were counted they still are, and the ends are logged so.
-abbrev pub ReportsRound : {L E : Type 0} → LinkGhosts L → Writer E → Bool → EventLoop L → List Tagged →
-    List (Closed L) → EventLoop L → E → E → Type 0
+abbrev pub ReportsRound : {L E : Type 0} → LinkGhosts L → Writer E → Bool → EventLoop L →
+    List Tagged → List (Closed L) → EventLoop L → E → E → Type 0
 ReportsRound {L} G reported log c more closed c' e e' = (over : List (Closed L)) (trace : List Tagged) →
     KeepsConnections G c.connections over trace → CountsOwn G c trace →
     CountsOwn G c' (trace ++ more) × LogsEnds G reported log (trace ++ more) closed e e'
@@ -156,13 +157,14 @@ module _ {L S O E : Type 0} (G : LinkGhosts L) (answers : S → Frame → List R
     pub silent : (d : Connection L) → HoldsConnectionAt c.connections place d → AllByRecursion
         (λ x. x.end ≡ ends.Idle → (works.answered ≡ []) × (idle < now - d.since)) closed
     -- and continues only if it was neither quiet nor drained for too long
-    pub in_time : (d : Connection L) → HoldsConnectionAt c'.connections place d → expired_at now idle d ≡ None
+    pub in_time : (d : Connection L) → HoldsConnectionAt c'.connections place d →
+        expired_at now idle d ≡ None
     pub prints : CountsEnds out c c' closed o o'
     pub reports : ReportsRound G reported log c (tagged works.number works.answered) closed c' e e'
 
   -- the connections at the first places had a quantum each, one after another
-  abbrev pub InTurn : ℕ → ℕ → ℕ → EventLoop L → EventLoop L → S → S → O → O → E → E →
-      Type 0
+  abbrev pub InTurn : ℕ → ℕ → ℕ → EventLoop L → EventLoop L → S → S → O → O → E →
+      E → Type 0
   InTurn now idle zero c c' s s' o o' e e' = (c' ≡ c) × (s' ≡ s) × (o' ≡ o) × (e' ≡ e)
   InTurn now idle (suc place) c c' s s' o o' e e' = (d : EventLoop L) × (t : S) × (p : O) × (f : E)
       × InTurn now idle place c d s t o p e f
@@ -226,6 +228,7 @@ module _ {L O E : Type 0} (G : LinkGhosts L) (out : Writer O) (reported : Writer
     pub unchanged : count ≡ 0 → (c' ≡ c) × (o' ≡ o) × (e' ≡ e)
 
   -- after a commit that returned this, replies that a failed write didn't keep will not leave
-  abbrev pub WithholdsUnkept : Result (Unit {0}) NotKept → EventLoop L → EventLoop L → O → O → E → E → Type 0
+  abbrev pub WithholdsUnkept : Result (Unit {0}) NotKept → EventLoop L → EventLoop L → O → O → E →
+      E → Type 0
   WithholdsUnkept result c c' o o' e e' =
       Withholds (withheld_places result (connection_count c.connections)) c c' o o' e e'

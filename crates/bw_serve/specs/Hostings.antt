@@ -34,7 +34,8 @@ module _ {T R O E : Type 0} (way : WayToServe T R O E) (answers : T → Frame �
     (out : Writer O) (reported : Writer E) where
   -- After these lines the server ran until the run ended so, which is reported; it answered the
   -- frames of the run, one after another.
-  pub record HasServedTo (lines : List ℕ) (exit : Exit) (t : T) (r r' : R) (o o' : O) (e e' : E) : Type 0 where
+  pub record HasServedTo (lines : List ℕ) (exit : Exit) (t : T) (r r' : R) (o o' : O)
+      (e e' : E) : Type 0 where
     pub following : T
     pub between : O
     pub opens : HasPrinted out lines o between
@@ -63,8 +64,8 @@ module _ {T P R W O E : Type 0} (answers : T → Frame → List Reply → T → 
   }
 
   -- the peers are asked for, and served so by the server that was opened
-  abbrev pub ServesInTurn : {N X D A B : Type 0} → NetworkGhosts N X P D R W A B → Serving → OpenedServer T → Exit →
-      N → N → O → O → E → E → Type 0
+  abbrev pub ServesInTurn : {N X D A B : Type 0} → NetworkGhosts N X P D R W A B → Serving →
+      OpenedServer T → Exit → N → N → O → O → E → E → Type 0
   ServesInTurn network serving opened exit n n' o o' e e' =
       AsksOutside (peer_calls network serving) (ReportsUnbound reported serving.address)
       (λ p between. (n' ≡ between) × ServesInWay (in_turn serving) answers out reported
@@ -82,8 +83,8 @@ module _ {T B L O E : Type 0} (answers : T → Frame → List Reply → T → Ty
   }
 
   -- the reactor is asked for, and those who come are served so by the server that was opened
-  abbrev pub ServesAtOnce : {N : Type 0} → ListenerSetupGhosts N B L → Hosting → OpenedServer T → Exit →
-      N → N → O → O → E → E → Type 0
+  abbrev pub ServesAtOnce : {N : Type 0} → ListenerSetupGhosts N B L → Hosting → OpenedServer T →
+      Exit → N → N → O → O → E → E → Type 0
   ServesAtOnce setup hosting opened exit n n' o o' e e' =
       AsksOutside (reactor_calls setup hosting) (ReportsUnbound reported hosting.address)
       (λ b between. (n' ≡ between) × ServesInWay (at_once hosting) answers out reported

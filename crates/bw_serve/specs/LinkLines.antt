@@ -34,4 +34,5 @@ link_line peer end c = peer_line peer (name_of_end end) c
 -- this line is logged if a log is asked for, unless memory is refused for it
 abbrev pub Logs : {E : Type 0} → Writer E → Bool → List ℕ → E → E → Type 0
 Logs reported false line e e' = e' ≡ e
-Logs reported true line e e' = (e' ≡ e) ⊎ ((print : Print) × IsOf line print × IsPrint reported print e e')
+Logs reported true line e e' = (e' ≡ e)
+    ⊎ ((print : Print) × IsOf line print × IsPrint reported print e e')

@@ -65,7 +65,8 @@ module _ {X Y : Type 0} (S : StoreGhosts X) (J : JournalGhosts Y) where
         AnswersAll (ServerTurn S J) server answered following → LeavesRunsFrom server following answered
 
   -- A new server over the store that was given. Or the store is refused, or memory for the server.
-  abbrev pub OpensNew : {N : Type 0} → Calls N X StartRefusal → ℕ → Calls N (OpenedServer (Server X Y S J)) StartRefusal
+  abbrev pub OpensNew : {N : Type 0} → Calls N X StartRefusal → ℕ →
+      Calls N (OpenedServer (Server X Y S J)) StartRefusal
   OpensNew stores limit n (Ok opened) n' =
       (store : X) × stores n (Ok store) n' × IsNewServer limit store opened.server
       × (opened.takes ≡ None)

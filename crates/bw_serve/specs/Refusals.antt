@@ -26,7 +26,8 @@ pub record ReportsText {E : Type 0} (reported : Writer E) (text : List ℕ) (e e
   pub reports : IsPrint reported print e e'
 
 -- it is reported why no server was started over the folder, and the command ends so
-abbrev pub ReportsRefusal : {E : Type 0} → Writer E → List ℕ → StartRefusal → Exit → E → E → Type 0
+abbrev pub ReportsRefusal : {E : Type 0} → Writer E → List ℕ → StartRefusal → Exit → E → E →
+    Type 0
 ReportsRefusal reported folder (refusals.Unfit lines) exit e e' =
     (exit ≡ exits.Refused) × ReportsText reported lines.items e e'
 ReportsRefusal reported folder refusals.Running exit e e' =

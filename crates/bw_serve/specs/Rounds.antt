@@ -61,14 +61,16 @@ abbrev pub IsAll : {L : Type 0} → EventLoop L → List Ready → Type 0 → Ty
 IsAll c reported all_reported = all_reported ⊎ (length reported ≡ suc (connection_count c.connections))
 
 -- and with no fewer than that
-abbrev pub NoticesAll : {B K L : Type 0} → ReactorGhosts B K → B → B → EventLoop L → EventLoop L → Type 0
+abbrev pub NoticesAll : {B K L : Type 0} → ReactorGhosts B K → B → B → EventLoop L → EventLoop L →
+    Type 0
 NoticesAll reactor b b' c c' =
     (n : Notices reactor b b' c c') × IsAll c n.reported (reactor.all_reported b')
 
 -- as many were begun as may be, or no place is free, or nobody waits to be accepted, or it was
 -- asked as often as there are places
 abbrev pub AsksIn : {B K L : Type 0} → ReactorGhosts B K → ℕ → B → EventLoop L → Type 0
-AsksIn reactor exchanges b c = (exchanges ≤ begun_of c.connections) ⊎ (first_free_place c.connections ≡ None)
+AsksIn reactor exchanges b c = (exchanges ≤ begun_of c.connections)
+    ⊎ (first_free_place c.connections ≡ None)
     ⊎ reactor.nobody b ⊎ reactor.tried b (connection_count c.connections)
 
 -- these links, and no others, the reactor gave; and each of them was accepted, or refused
@@ -131,8 +133,8 @@ module _ {B L S O E : Type 0} (reactor : ReactorGhosts B L) (G : LinkGhosts L)
     pub withholds : WithholdsUnkept G out reported log outcome served c' printed o' logged e'
 
   -- whose commit returned this
-  abbrev pub ServesRoundTo : Result (Unit {0}) NotKept → ℕ → ℕ → EventLoop L → EventLoop L → S → S →
-      B → B → O → O → E → E → Type 0
+  abbrev pub ServesRoundTo : Result (Unit {0}) NotKept → ℕ → ℕ → EventLoop L → EventLoop L →
+      S → S → B → B → O → O → E → E → Type 0
   ServesRoundTo result idle exchanges c c' s s' b b' o o' e e' =
       (round : ServesRound idle exchanges c c' s s' b b' o o' e e') × (round.outcome ≡ result)
 

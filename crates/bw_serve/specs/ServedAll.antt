@@ -48,7 +48,8 @@ module _ {T R W O E : Type 0} (answers : T → Frame → List Reply → T → Ty
     (commits : T → Result (Unit {0}) NotKept → T → Type 0) (reader : Reader R) (writer : Writer W)
     (out : Writer O) (reported : Writer E) (log : Bool) where
   -- one exchange was served over a peer's link, and logged if that is asked for
-  pub record ServesPeer (index : ℕ) (end : ExchangeEnd) (exit : Exit) (peer : Peer R W) (t t' : T) (o o' : O)
+  pub record ServesPeer (index : ℕ) (end : ExchangeEnd) (exit : Exit) (peer : Peer R W) (t t' : T)
+      (o o' : O)
       (e e' : E) : Type 0 where
     pub r' : R
     pub w' : W
@@ -62,7 +63,8 @@ module _ {T P R W O E : Type 0} (answers : T → Frame → List Reply → T → 
     (peers : PeerGhosts P R W) (reader : Reader R) (writer : Writer W) (out : Writer O)
     (reported : Writer E) (log : Bool) where
   -- a peer was accepted, and its exchange served, with this number
-  pub record ServesLink (index : ℕ) (end : ExchangeEnd) (exit : Exit) (t t' : T) (p p' : P) (o o' : O) (e e' : E)
+  pub record ServesLink (index : ℕ) (end : ExchangeEnd) (exit : Exit) (t t' : T) (p p' : P) (o o' : O)
+      (e e' : E)
       : Type 0 where
     pub peer : Peer R W
     pub accepted : peers.accepts p (Ok peer) p'
@@ -85,7 +87,8 @@ module _ {T P R W O E : Type 0} (answers : T → Frame → List Reply → T → 
   ServesNext index Closed t t' p p' o o' e e' = ServesNone accepting.Closed t t' p p' o o' e e'
 
   -- one peer after another, the first with this number, and none but the last ends the run
-  abbrev pub ServesEach : ℕ → List ServedOutcome → T → T → P → P → O → O → E → E → Type 0
+  abbrev pub ServesEach : ℕ → List ServedOutcome → T → T → P → P → O → O → E → E →
+      Type 0
   ServesEach index [] t t' p p' o o' e e' = (t' ≡ t) × (p' ≡ p) × (o' ≡ o) × (e' ≡ e)
   ServesEach index (x ∷ xs) t t' p p' o o' e e' = (m : T) × (q : P) × (n : O) × (f : E)
       × ServesNext index x t m p q o n e f × (exit_now x ≡ None)

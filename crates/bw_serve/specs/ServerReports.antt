@@ -37,7 +37,8 @@ listening_line address = as_line (codes "listening " ++ socket_text address)
 
 -- what is reported where no more peers are accepted
 abbrev pub gone_line : List ℕ
-gone_line = as_line (codes "the server can't go on: a sync failed, its folder is gone, or nothing can be waited for")
+gone_line = as_line (codes
+    "the server can't go on: a sync failed, its folder is gone, or nothing can be waited for")
 
 -- it is reported that no more peers are accepted
 pub record ReportsGone {E : Type 0} (reported : Writer E) (exit : Exit) (e e' : E) : Type 0 where

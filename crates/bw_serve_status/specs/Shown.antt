@@ -54,11 +54,12 @@ module _ {T N B L O E P K : Type 0} (answers : T → Frame → List Reply → T 
   }
 
   -- the reactor is asked for, and a port for operators beside it, and then it is served so
-  abbrev pub ServesShown : ListenerSetupGhosts N B L → Showing → OpenedServer T → Exit → N → N → O → O → E → E →
-      Type 0
+  abbrev pub ServesShown : ListenerSetupGhosts N B L → Showing → OpenedServer T → Exit → N → N →
+      O → O → E → E → Type 0
   ServesShown setup showing opened exit n n' o o' e e' =
       AsksOutside (reactor_calls setup showing.hosting) (ReportsUnbound reported showing.hosting.address)
       (λ b between. AsksOutside (port_calls side.setup showing b) (ReportsUnbound reported showing.status)
-      (λ p after. (n' ≡ after) × ServesInWay (way_shown showing.hosting opened.takes p) answers out reported
+      (λ p after. (n' ≡ after) × ServesInWay (way_shown showing.hosting opened.takes p) answers out
+      reported
       (opening_lines opened.takes showing.hosting.address) exit opened.server b o o' e e')
       exit between n' o o' e e') exit n n' o o' e e'

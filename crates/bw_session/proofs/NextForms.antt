@@ -98,8 +98,8 @@ next_held first log p q finished later w g g' contents n name m h named fits nex
 pub next_prefix : (first : Option (List ℕ)) (log : Log) (s s' : Session) (contents : List ℕ → Option (List ℕ))
     (m : Message) (r : Request) (digest : List ℕ) → HoldsLog first log (part_of s) (contents s.progress.name) →
     KeepsProgress s.progress s'.progress → m.name ≡ s.progress.name → m.number ≡ length s.progress.ledger.outcomes →
-    at s.window 0 ≡ None → length s.window ≡ 16 → r ≡ m.request → is_request r ≡ true → digest ≡ sha256 (message_body m) →
-    HoldsPart first (with_message log m) s'.progress.state.parts s'.progress.ledger.outcomes
+    at s.window 0 ≡ None → length s.window ≡ 16 → r ≡ m.request → is_request r ≡ true →
+    digest ≡ sha256 (message_body m) → HoldsPart first (with_message log m) s'.progress.state.parts s'.progress.ledger.outcomes
     (slice_set s.window 0 (Some (message_body m))) s'.progress.growing (contents s'.progress.name)
     × (IsNext s'.progress.name (with_message log m) r digest
     × HoldsPrefix first (with_message log m) s'.progress.state.parts s'.progress.ledger.outcomes r s'.progress.growing

@@ -13,7 +13,8 @@ use Rattle.bw_session.specs.declared.session.Session.{Session}
 -- numbers that are done in a row after a change that keeps what is done
 pub run_since : {X Y : Type 0} (S : StoreGhosts X) (J : JournalGhosts Y) (most : ℕ) (stopped : Bool) (a : Part)
     (before mid after : Session) (old new : Stores X Y S J) → KeepsProgress before.progress mid.progress →
-    part_of mid ≡ a → RunsNumbers S J most stopped (part_of mid) mid old after new → RunsNumbers S J most stopped a before old after new
+    part_of mid ≡ a → RunsNumbers S J most stopped (part_of mid) mid old after new →
+    RunsNumbers S J most stopped a before old after new
 run_since S J most stopped a before mid after old new kept same run = record {
   both = subst (λ (n : List ℕ). KeepsBoth S J stopped n old.store new.store old.journal new.journal) kept.name run.both;
   calls = subst (λ (l : List (List ℕ × Verdict)). CallsFew (S.calls old.store) (S.calls new.store) (length l)

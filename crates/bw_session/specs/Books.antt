@@ -31,8 +31,8 @@ module _ {X Y : Type 0} (S : StoreGhosts X) (J : JournalGhosts Y) where
       HoldsIn s.limit (store_since S first s.stores.store) (session_in s.sessions) book
 
   -- an honest journal has of each name that isn't asleep what the book says
-  abbrev pub NotesAwake : (List ℕ → Bool) → (List ℕ → Option (List ℕ)) → Server X Y S J → Book →
-      Type 0
+  abbrev pub NotesAwake : (List ℕ → Bool) → (List ℕ → Option (List ℕ)) → Server X Y S J →
+      Book → Type 0
   NotesAwake asleep first s book =
       NotesNames asleep (J.header s.stores.journal) (J.notes s.stores.journal) first
       (session_in s.sessions) book

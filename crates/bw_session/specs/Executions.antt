@@ -34,8 +34,8 @@ pub record WaitsForNote {X : Type 0} (S : StoreGhosts X) (p : Parts) (g : Growin
 
 -- Where doing a number stopped: before anything was asked, as its journal couldn't be begun; in a
 -- call of the store, which another try asks again; or only at its note.
-abbrev pub StopsBeforeDone : {X : Type 0} → StoreGhosts X → Parts → Growing → Request → Parts → Growing →
-    X → X → Type 0
+abbrev pub StopsBeforeDone : {X : Type 0} → StoreGhosts X → Parts → Growing → Request → Parts →
+    Growing → X → X → Type 0
 StopsBeforeDone S p g r q k old new =
     ((new ≡ old) × (k ≡ g) × (q ≡ p))
     ⊎ (Counts (S.failures old) (S.failures new) true × (k.ahead ≡ false))

@@ -36,8 +36,8 @@ pub record IsNoted (h : Header) (name : List ℕ) (log : Log) (offset : ℕ)
 
 -- If a journal has of the name what one log says, with a header that says whether the name existed,
 -- it has what the other log says afterwards.
-abbrev pub NotesOn : {Y : Type 0} → JournalGhosts Y → List ℕ → Option (List ℕ) → Y → Log → ℕ →
-    Y → Log → ℕ → Type 0
+abbrev pub NotesOn : {Y : Type 0} → JournalGhosts Y → List ℕ → Option (List ℕ) → Y → Log →
+    ℕ → Y → Log → ℕ → Type 0
 NotesOn J name first old log noted new log' noted' =
     (J.header old name).existed ≡ is_some first →
     IsNoted (J.header old name) name log noted (J.notes old name) →

@@ -32,7 +32,8 @@ module _ {X Y : Type 0} (S : StoreGhosts X) (J : JournalGhosts Y) where
       KeepsBoth S J fails name old.store new.store old.journal new.journal
 
   -- Over an honest store this holds for each log that the part of the name holds.
-  abbrev pub ForLogs : List ℕ → Part → Stores X Y S J → (Option (List ℕ) → Log → Type 0) → Type 0
+  abbrev pub ForLogs : List ℕ → Part → Stores X Y S J → (Option (List ℕ) → Log → Type 0) →
+      Type 0
   ForLogs name p stores Says = IsTrue (S.honest stores.store) →
       (first : Option (List ℕ)) (log : Log) → HoldsLog first log p (S.contents stores.store name) →
       Says first log

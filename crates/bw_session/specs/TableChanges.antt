@@ -66,7 +66,8 @@ module _ {X Y : Type 0} (S : StoreGhosts X) (J : JournalGhosts Y) where
 
   -- A name is forgotten: its journal is whole, and its file is that of the done numbers. The server
   -- holds the book without it, over a store in which its file was there at the start.
-  pub record ForgetsBook (asleep : List ℕ → Bool) (first : List ℕ → Option (List ℕ)) (name : List ℕ)
+  pub record ForgetsBook (asleep : List ℕ → Bool) (first : List ℕ → Option (List ℕ))
+      (name : List ℕ)
       (old new : Server X Y S J) (book : Book) : Type 0 where
     pub quiet : count_waiting (log_of book name) ≡ 0
     pub some_done : 0 < (log_of book name).done
@@ -153,7 +154,8 @@ module _ {X Y : Type 0} (S : StoreGhosts X) (J : JournalGhosts Y) where
         ≡ is_some (S.contents s.stores.store name)
 
   -- the server holds, notes and orders the book over these contents at the start
-  pub record KeepsBook (asleep : List ℕ → Bool) (first : List ℕ → Option (List ℕ)) (s : Server X Y S J)
+  pub record KeepsBook (asleep : List ℕ → Bool) (first : List ℕ → Option (List ℕ))
+      (s : Server X Y S J)
       (book : Book) : Type 0 where
     pub held : HoldsBook S J first s book
     pub noted : NotesAwake S J asleep first s book

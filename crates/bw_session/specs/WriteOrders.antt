@@ -84,8 +84,8 @@ module _ {X Y : Type 0} (S : StoreGhosts X) (J : JournalGhosts Y) where
       (S.contents new.store before.name)
 
   -- From a part of a name that holds this log, with what the journal has of it, the order is kept.
-  abbrev pub OrdersFrom : Option (List ℕ) → Log → List ℕ → Part → ℕ → Stores X Y S J → Part → ℕ →
-      Stores X Y S J → Type 0
+  abbrev pub OrdersFrom : Option (List ℕ) → Log → List ℕ → Part → ℕ → Stores X Y S J →
+      Part → ℕ → Stores X Y S J → Type 0
   OrdersFrom first log name a noted old b noted' new =
       (J.header old.journal name).existed ≡ is_some first →
       IsNoted (J.header old.journal name) name log noted (J.notes old.journal name) →
@@ -95,7 +95,8 @@ module _ {X Y : Type 0} (S : StoreGhosts X) (J : JournalGhosts Y) where
       (J.notes new.journal name) (S.contents new.store name)
 
   -- from each log that the part holds over an honest store
-  abbrev pub OrdersPart : List ℕ → Part → ℕ → Stores X Y S J → Part → ℕ → Stores X Y S J → Type 0
+  abbrev pub OrdersPart : List ℕ → Part → ℕ → Stores X Y S J → Part → ℕ → Stores X Y S J →
+      Type 0
   OrdersPart name a noted old b noted' new = IsTrue (S.honest old.store) →
       IsTrue (J.honest old.journal) → (first : Option (List ℕ)) (log : Log) →
       HoldsLog first log a (S.contents old.store name) →

@@ -230,7 +230,8 @@ module _ (limit : ℕ) (w : World) (m : Machine) where
   started folder life name e f = record {
     steps = Starts ∷ Dies (Asks name 0) f.given f.later f.left ∷ Starts ∷ [];
     book = cut_book f.left;
-    played = subst (λ (b : Bool). (true ≡ true) × StartsIf b name (Starts ∷ Dies (Asks name 0) f.given f.later f.left ∷ Starts ∷ []))
+    played = subst (λ (b : Bool). (true ≡ true)
+        × StartsIf b name (Starts ∷ Dies (Asks name 0) f.given f.later f.left ∷ Starts ∷ []))
         (sym (ap runs e)) (refl, (f.given, (f.later, (f.left, refl))));
     went = (tt, (f.next, (tt, refl)));
     machine_is = f.machine_is;

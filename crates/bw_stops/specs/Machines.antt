@@ -68,7 +68,8 @@ written_to None = []
 written_to (Some r) = reply_of r ∷ []
 
 -- The server went on: this is a turn of the world, whose replies are written.
-pub record KeepsRunning (limit : ℕ) (w : World) (f : Frame) (replies : List Reply) (life : Life) : Type 0 where
+pub record KeepsRunning (limit : ℕ) (w : World) (f : Frame) (replies : List Reply)
+    (life : Life) : Type 0 where
   pub later : Book
   pub next : IsNextStep nothing_stands w (Answers f replies later)
   pub running : IsRunning limit later life
@@ -104,7 +105,8 @@ pub record StartsFound (limit : ℕ) (w : World) (name : List ℕ) (machine : Ma
   pub given : List Reply
   pub later : Book
   pub left : Book
-  pub next : IsNextStep nothing_stands (record w { book = cut_book w.book }) (Dies (Asks name 0) given later left)
+  pub next : IsNextStep nothing_stands (record w { book = cut_book w.book })
+      (Dies (Asks name 0) given later left)
   pub machine_is : IsMachine limit (if runs machine then cut_book left else left) machine
 
 -- A machine was looked at: how many numbers of the name are done, if its server runs; it may have

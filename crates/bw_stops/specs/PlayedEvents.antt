@@ -18,7 +18,8 @@ use Rattle.bw_stops.specs.declared.event.StopEvent.TheVariants as events
 -- a frame comes to a server that runs: it goes on after its turn, or it stopped in it
 abbrev pub AnswersOrDies : Frame → List WorldStep → Bool → Type 0
 AnswersOrDies f steps on =
-    ((on ≡ true) × ((replies : List Reply) × ((later : Book) × (steps ≡ Answers f replies later ∷ []))))
+    ((on ≡ true) × ((replies : List Reply)
+    × ((later : Book) × (steps ≡ Answers f replies later ∷ []))))
     ⊎ ((on ≡ false) × ((replies : List Reply) × ((later : Book) × ((left : Book)
     × (steps ≡ Dies f replies later left ∷ [])))))
 

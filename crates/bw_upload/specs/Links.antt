@@ -47,7 +47,8 @@ module _ {F P X : Type 0} (feed : FeedGhosts F X) (pause : PauseGhosts P) (most 
   abbrev pub EndsFilled : Outcome X → ℕ → ℕ → Filling F P → F → Type 0
   EndsFilled outcomes.Done n count x f = x.feed ≡ f
   EndsFilled (outcomes.Refused m v) n count x f =
-      (rest : List (ℕ × Verdict)) × (refused x.sender ≡ (m, verdict_meaning v) ∷ rest) × (x.feed ≡ f)
+      (rest : List (ℕ × Verdict)) × (refused x.sender ≡ (m, verdict_meaning v) ∷ rest)
+      × (x.feed ≡ f)
   EndsFilled (outcomes.Conflict m) n count x f = ⊥
   EndsFilled (outcomes.TooFar m) n count x f = ⊥
   EndsFilled (outcomes.NotOffered error) n count x f =
@@ -63,8 +64,8 @@ module _ {F P X : Type 0} (feed : FeedGhosts F X) (pause : PauseGhosts P) (most 
   SaysRightly outcome x = outcome ≢ outcomes.Memory →
       says_done outcome ≡ (is_done x.sender x.is_ended && (length (named_stop outcome) == 0))
 
-  abbrev pub PreparedBy : Result (Unit {0}) (Outcome X) → ℕ → ℕ → Filling F P → Supply → F → P →
-      Type 0
+  abbrev pub PreparedBy : Result (Unit {0}) (Outcome X) → ℕ → ℕ → Filling F P → Supply → F →
+      P → Type 0
   PreparedBy (Ok u) n count y supply f p =
       IsFilling y supply f p × (pending y.sender 0 ≢ None) × (length (refused y.sender) ≡ 0)
       × (is_spent most n ≡ false)

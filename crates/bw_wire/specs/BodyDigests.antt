@@ -20,7 +20,8 @@ span_at spans j = slice_index_or spans j (record { at = 0; len = 0 })
 
 -- each digest is that of the body in its lane
 abbrev pub AreDigestsIn : List ℕ → BodyDigests → Type 0
-AreDigestsIn block d = InEachLane (λ j. slice_index_or d.digests j [] ≡ sha256 (bytes_at block (span_at d.spans j)))
+AreDigestsIn block d = InEachLane
+    (λ j. slice_index_or d.digests j [] ≡ sha256 (bytes_at block (span_at d.spans j)))
 
 -- those that are known, if any are
 abbrev pub KeepsDigests : List ℕ → Option BodyDigests → Type 0

@@ -20,8 +20,8 @@ pub enum Notice {
     /// The server had no memory for it.
     NoRoom = 36,
     /// The store or the journal failed: the message is kept, and tried again when the next one of
-    /// its name comes. If takes can rest, with `next` 0 also: the name couldn't be woken, or had no
-    /// place, and nothing of it has changed.
+    /// its name comes. With `next` 0 also, if the table is a cache of a folder: the name couldn't be
+    /// recovered, or had no place, and nothing of it has changed but what a recovery mends.
     DelayedStore = 37,
     /// The answer to an ask.
     Next = 39,

@@ -31,7 +31,8 @@ returns-in-Bad-clause-used c = sym (ap (used (length c.args.bytes.now)) c.in-Bad
 pub returns-in-Bad-clause-shown : goal.returns-in-Bad-clause-shown
 returns-in-Bad-clause-shown c =
     c.without_numbers-in-Bad.ensures ∙ ap (without_numbers 4) c.code.ensures.value
-    ∙ sym (shown_bad c.without_numbers-in-Bad.result.heard (reason_meaning c.in-Bad.reason) c.in-Bad.ensures.1) ∙ sym (ap (shown c.without_numbers-in-Bad.result.heard) c.in-Bad.ensures.0)
+    ∙ sym (shown_bad c.without_numbers-in-Bad.result.heard (reason_meaning c.in-Bad.reason) c.in-Bad.ensures.1)
+    ∙ sym (ap (shown c.without_numbers-in-Bad.result.heard) c.in-Bad.ensures.0)
 
 pub returns-in-Bad-clause-heard : goal.returns-in-Bad-clause-heard
 returns-in-Bad-clause-heard c = λ s f.

@@ -20,7 +20,8 @@ returns c =
     c.files.result.now text.items
     (subst (λ (es : List ExchangeEnd). Replayed c.args.limit (map (λ x. x.items) c.args.inputs.now) (failures_under c.args.fuse calls)
     calls c.as_slice-replies.result.now es (content_under run.store.store.inner.files)) (sym c.as_slice-ends.ensures.value)
-    (subst (λ (rs : List (Vec ℕ Global)). Replayed c.args.limit (map (λ x. x.items) c.args.inputs.now) (failures_under c.args.fuse calls)
+    (subst (λ (rs : List (Vec ℕ Global)).
+    Replayed c.args.limit (map (λ x. x.items) c.args.inputs.now) (failures_under c.args.fuse calls)
     calls rs run.ends.items (content_under run.store.store.inner.files)) (sym c.as_slice-replies.ensures.value) ran))
     run.store.took c.files.ensures names is)
     c.text_of_run.ensures.text c.text_of_run.ensures.names

@@ -26,7 +26,8 @@ loop-place-preserved c =
           | inr here ↦
               let at : place ≡ j = omega arith in
               let others = c.hash_at_end-hash.ensures.others (λ e. ne (ap count (sym at) ∙ sym counted ∙ e)) in
-              rw (← at) (get_or-set_same hashes place hash [] (omega arith)) ∙ others ∙ ap (λ k. slice_index_or hashes k []) at ∙ c.loop-place.invariant.2 j ne
+              rw (← at) (get_or-set_same hashes place hash [] (omega arith)) ∙ others ∙ ap (λ k. slice_index_or hashes k []) at
+              ∙ c.loop-place.invariant.2 j ne
         ]
       ],
     )

@@ -47,7 +47,8 @@ pub returns-in_default-write_waiting-clause-stops : goal.returns-in_default-writ
 returns-in_default-write_waiting-clause-stops g c =
     stops_more g.T.Turns.answers most_in_batch c.args.server.now c.loop-exchange.server c.answer_batch.new.server
     _ _ _ c.args.exchange.now c.loop-exchange.exchange c.answer_batch.new.exchange
-    c.in_default-write_waiting.ensures.few c.loop-exchange.invariant.answers (c.loop-exchange-test.ensures.«open» refl) c.answer_batch.ensures.answers
+    c.in_default-write_waiting.ensures.few c.loop-exchange.invariant.answers (c.loop-exchange-test.ensures.«open» refl)
+    c.answer_batch.ensures.answers
     c.in_default-write_waiting.ensures.err
 
 pub returns-in-Err-clause-committed : goal.returns-in-Err-clause-committed

@@ -6,7 +6,8 @@ use Rattle.bw_send_state.proofs.ReadSteps.{if_some}
 use Rattle.bw_send_state.proofs.asking.ask_over.Goals as goal
 
 pub returns-clause-answer : goal.returns-clause-answer
-returns-clause-answer g c = if_some c.next_in.result _ _ c.next_in.ensures (λ n says. (reply_of c.in_ok-reply.reply, says, c.in_ok-reply.ensures))
+returns-clause-answer g c =
+    if_some c.next_in.result _ _ c.next_in.ensures (λ n says. (reply_of c.in_ok-reply.reply, says, c.in_ok-reply.ensures))
 
 pub returns-in-Err-clause-writes : goal.returns-in-Err-clause-writes
 returns-in-Err-clause-writes g c =

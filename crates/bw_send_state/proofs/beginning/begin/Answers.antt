@@ -62,7 +62,9 @@ returns-in_err-count-clause-err g c =
         found = c.in-Ok.found;
         knows = record {
           of_take = c.in_ok-header.ensures.ok;
-          says = subst (λ (h : List ℕ). IsStateFound (g.B.StateFiles.state_at c.args.states.now c.args.job.now.place.path.now) h c.in-Ok.found) c.as_slice.ensures.value c.in-Ok.ensures.found;
+          says = subst (λ (h : List ℕ).
+              IsStateFound (g.B.StateFiles.state_at c.args.states.now c.args.job.now.place.path.now) h c.in-Ok.found)
+              c.as_slice.ensures.value c.in-Ok.ensures.found;
         };
         why = inl (b.3, record { states = c.in-Ok.ensures.kept; began = refl });
       }),
@@ -84,7 +86,9 @@ returns-clause-err g c =
         found = c.in-Ok.found;
         knows = record {
           of_take = c.in_ok-header.ensures.ok;
-          says = subst (λ (h : List ℕ). IsStateFound (g.B.StateFiles.state_at c.args.states.now c.args.job.now.place.path.now) h c.in-Ok.found) c.as_slice.ensures.value c.in-Ok.ensures.found;
+          says = subst (λ (h : List ℕ).
+              IsStateFound (g.B.StateFiles.state_at c.args.states.now c.args.job.now.place.path.now) h c.in-Ok.found)
+              c.as_slice.ensures.value c.in-Ok.ensures.found;
         };
         why = inr (record {
           count = c.in_ok-count.count;

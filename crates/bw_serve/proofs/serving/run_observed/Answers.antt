@@ -47,7 +47,8 @@ loop-round-preserved g c =
         ok.round.0.outcome,
         subst (λ r. goes_on_after r ≡ true) (sym ok.round.1) (search rules),
         runs_more g.B.Reactor g.B.Link.Link g.T.Turns.answers g.T.Turns.commits g.O.Sink g.E.Sink c.args.log
-            g.V.RoundObserver.looks l.invariant.runs.0 l.invariant.runs.1 c.args.bounds.now.places c.args.bounds.now.idle c.args.bounds.now.exchanges l.event_loop r.new.event_loop
+            g.V.RoundObserver.looks l.invariant.runs.0 l.invariant.runs.1 c.args.bounds.now.places c.args.bounds.now.idle
+            c.args.bounds.now.exchanges l.event_loop r.new.event_loop
             c.args.server.now.server l.server.server r.new.server.server c.args.reactor.now l.reactor r.new.reactor
             c.args.out.now l.out r.new.out c.args.faults.now l.faults r.new.faults c.args.observer.now l.observer
             _ l.invariant.runs.2 (search rules) ok.round.0 (search rules),
@@ -109,7 +110,8 @@ returns-then-not-may_go_on-clause-observed g c =
     r.new.server.server c.args.reactor.now r.new.reactor c.args.out.now r.new.out c.args.faults.now r.new.faults
     c.args.observer.now c.show.new.observer
     (runs_more g.B.Reactor g.B.Link.Link g.T.Turns.answers g.T.Turns.commits g.O.Sink g.E.Sink c.args.log
-    g.V.RoundObserver.looks l.invariant.runs.0 l.invariant.runs.1 c.args.bounds.now.places c.args.bounds.now.idle c.args.bounds.now.exchanges l.event_loop r.new.event_loop
+    g.V.RoundObserver.looks l.invariant.runs.0 l.invariant.runs.1 c.args.bounds.now.places c.args.bounds.now.idle
+    c.args.bounds.now.exchanges l.event_loop r.new.event_loop
     c.args.server.now.server l.server.server r.new.server.server c.args.reactor.now l.reactor r.new.reactor
     c.args.out.now l.out r.new.out c.args.faults.now l.faults r.new.faults c.args.observer.now l.observer
     _ l.invariant.runs.2 (search rules) round.0 (search rules))

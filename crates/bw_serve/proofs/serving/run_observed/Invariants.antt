@@ -10,7 +10,8 @@ use Rattle.bw_serve.proofs.serving.run_observed.Given as goal
 
 abbrev pub invariant-loop-round : goal.invariant-loop-round
 invariant-loop-round g l = record {
-  runs : (last : Result (Unit {0}) NotKept) × (goes_on_after last ≡ true) × Runs g.B.Reactor g.B.Link.Link g.T.Turns.answers g.T.Turns.commits g.O.Sink g.E.Sink l.fn.log
+  runs : (last : Result (Unit {0}) NotKept) × (goes_on_after last ≡ true)
+      × Runs g.B.Reactor g.B.Link.Link g.T.Turns.answers g.T.Turns.commits g.O.Sink g.E.Sink l.fn.log
       g.V.RoundObserver.looks last l.fn.bounds.places l.fn.bounds.idle l.fn.bounds.exchanges l.event_loop l.fn.server.server
       l.server.server l.fn.reactor l.reactor l.fn.out l.out l.fn.faults l.faults l.fn.observer l.observer;
   begun : begun_of l.event_loop.connections ≤ l.fn.bounds.exchanges;

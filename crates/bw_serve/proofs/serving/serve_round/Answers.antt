@@ -97,7 +97,8 @@ returns-clause-round g c =
 pub returns-clause-begun : goal.returns-clause-begun
 returns-clause-begun g c =
     let e = c.serve_each in
-    subst (λ (n : ℕ). n ≤ c.args.bounds.now.exchanges) (sym (c.commit.ensures.withholds.begun ∙ turn_begun g.B.Link.Link g.T.Turns.answers g.O.Sink
+    subst (λ (n : ℕ). n ≤ c.args.bounds.now.exchanges)
+    (sym (c.commit.ensures.withholds.begun ∙ turn_begun g.B.Link.Link g.T.Turns.answers g.O.Sink
     g.E.Sink c.args.log c.now-now.result c.args.bounds.now.idle (connection_count c.welcome.new.self.connections) c.welcome.new.self
     e.new.self c.args.server.now.server e.new.server.server c.args.out.now e.new.out c.args.faults.now e.new.faults
     e.ensures.in_turn))

@@ -106,7 +106,8 @@ returns-in-Err-clause-asked g c =
     c.args.stores.now.store c.number_done.new.stores.store c.in-Some.body.now
     (meaning c.request-request.result) (sym c.in-Some.ensures.value)
     (c.request-request.ensures.value ∙ ap (λ m. m.request) c.message-message.ensures.value)
-    (c.in-Err.ensures.asked.0, c.in-Err.ensures.asked.1.begun) c.in-Err.ensures.left.stop (ap (λ l. l.outcomes) c.in-Err.ensures.left.ledger) refl
+    (c.in-Err.ensures.asked.0, c.in-Err.ensures.asked.1.begun) c.in-Err.ensures.left.stop
+    (ap (λ l. l.outcomes) c.in-Err.ensures.left.ledger) refl
 
 pub returns-in-Ok-clause-ordered : goal.returns-in-Ok-clause-ordered
 returns-in-Ok-clause-ordered g c = λ honest honest_notes first log h existed noted order.

@@ -7,9 +7,11 @@ pub returns-in_default : goal.returns-in_default
 returns-in_default g c =
     let w = c.in_default.ensures in
     let old = c.args.self.now in
-    withholds_at g.L.Link g.O.Sink g.E.Sink c.args.log c.args.place old (record { connections = c.withhold.new.self; peer_slots = old.peer_slots; ended = old.ended }) c.withhold.new.self [] c.args.out.now
+    withholds_at g.L.Link g.O.Sink g.E.Sink c.args.log c.args.place old
+    (record { connections = c.withhold.new.self; peer_slots = old.peer_slots; ended = old.ended }) c.withhold.new.self [] c.args.out.now
     c.args.out.now c.args.faults.now c.args.faults.now refl refl w.adds w.others w.stands w.withheld
-    (counts_none g.O.Sink old (record { connections = c.withhold.new.self; peer_slots = old.peer_slots; ended = old.ended }) c.args.out.now refl) refl
+    (counts_none g.O.Sink old (record { connections = c.withhold.new.self; peer_slots = old.peer_slots; ended = old.ended }) c.args.out.now
+    refl) refl
 
 pub returns : goal.returns
 returns g c =
@@ -20,5 +22,6 @@ returns g c =
     withholds_at g.L.Link g.O.Sink g.E.Sink c.args.log c.args.place old c.end.new.self c.withhold.new.self (y ∷ [])
     c.args.out.now c.end.new.out c.args.faults.now c.end.new.faults end.connections end.peer_slots w.adds w.others
     w.stands w.withheld
-    (counts_on g.O.Sink old (record { connections = c.withhold.new.self; peer_slots = old.peer_slots; ended = old.ended }) c.end.new.self (y ∷ []) c.args.out.now c.end.new.out refl end.counts)
+    (counts_on g.O.Sink old (record { connections = c.withhold.new.self; peer_slots = old.peer_slots; ended = old.ended }) c.end.new.self
+    (y ∷ []) c.args.out.now c.end.new.out refl end.counts)
     (w.its, w.was, end.logs)

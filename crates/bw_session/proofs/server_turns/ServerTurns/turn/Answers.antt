@@ -24,7 +24,12 @@ returns-clause-answered g c =
       failed = c.turn.ensures.both.0;
       counted = both.failures;
       delays = one_failed c.turn.ensures.both.0 c.turn.new.out.items c.turn.ensures.both.3;
-      asks = record { fits = (message_spelled c.args.message.now.body.now c.args.message.now.spells).fits; both = both; asked = c.turn.ensures.asked; few = c.turn.ensures.both.2 };
+      asks = record {
+        fits = (message_spelled c.args.message.now.body.now c.args.message.now.spells).fits;
+        both = both;
+        asked = c.turn.ensures.asked;
+        few = c.turn.ensures.both.2;
+      };
       ordered = c.turn.ensures.ordered;
       away = λ turned_away. let kept = c.turn.ensures.uncalled turned_away in (kept.0, kept.1);
       turned = λ honest first book h.
