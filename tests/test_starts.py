@@ -17,17 +17,16 @@ import sys
 
 sys.dont_write_bytecode = True  # nothing is left beside this script
 from kit.folders import ends_of, exchange, folder_in, has_next, HEADER_LEN, restored, says, small_take
-from kit.network import CANT_GO_ON, connect, finish, free_port, hear, hear_all, LOCAL, LONGEST_WAIT, PROGRAM, reason
-from kit.network import run, run_cases, Server, start, stopped, TALLY
+from kit.network import CANT_GO_ON, connect, free_port, hear, hear_all, LOCAL, LONGEST_WAIT, PROGRAM, reason
+from kit.network import run, run_cases, Server, stopped, TALLY
 from kit.refuser import Refused
 from kit.takes import ASK, BYE_FRAME, CONFLICT, DELAYED_STORE, message, NEXT, notice, STORED, verdict
-from kit.watcher import ClosingWatcher, Fault, Watcher
+from kit.watcher import Fault, Watcher
 
 LONGEST_RUN = 240  # seconds, for all of it
 LIMIT = 65_536  # bytes
 JOURNAL = ("--until-stopped", "--journal", "--limit", str(LIMIT))
 MANY = (*JOURNAL, "--recorders", "4")
-UNREADABLE = b"the server can't start: its folder can't be read or written\n"
 BROKEN = f"{reason(errno.EIO)}\n".encode()
 CHANCE = random.Random(1)
 
@@ -391,27 +390,25 @@ def case_refused_at_a_start(place):
         refuse_each(place / kind, kind)
 
 
-def fails(name, folder, fault, path, *options):
-    """A start in which this call fails reports it, names this path, and lets the lock go after it."""
-    watcher, failing = ClosingWatcher(fault), fault.line
-    words = ("serve", "--listen", f"{LOCAL}:{free_port()}", "--folder", str(folder), *JOURNAL, *options)
-    ended = finish(start(*words, observer=watcher, stdout=subprocess.PIPE, stderr=subprocess.PIPE))
-    TALLY.same(name, ended, (3, "", UNREADABLE.decode() + f"{path}: {reason(fault.number)}\n"))
-    kinds = ("lock ", "close .bwingest-lock")
-    order = [next(kind for kind in (*kinds, failing) if line.startswith(kind)) for line in watcher.lines
-             if line.startswith((*kinds, failing))]
-    TALLY.same(f"{name}: under the lock", (order[0], {*order[1:-1]}, order[-1]), (kinds[0], {failing}, kinds[1]))
-
-
-def case_unsynced_at_a_start(place):
-    """A start with syncs that can't sync what was left is reported, and changes nothing."""
-    _, folder, saved = torn(place)
-    restored(folder, saved)
+def case_unsynced_at_a_recovery(place):
+    """Where a closed take that was left can't be synced its verdict isn't given again, and the server ends."""
+    take, told = small_take(), "a sync of it or its journal failed; mount its file system anew, or restart the machine"
+    folder = left_by(place, take)
     before = state(folder)
-    paths = folder / "a1.wav", folder / "b2.journal", folder
-    for call, path in zip(("sync-data a1.wav", "sync-data b2.journal", f"sync {folder.name}"), paths):
-        fails(f"{call} at a start", folder, Fault(call), path, "--sync")
-        TALLY.same(f"{call} at a start: the folder", state(folder), before)
+    for call, path in (("sync-data a1.wav", "a1.wav"), ("sync-data a1.journal", "a1.journal"), (f"sync {folder.name}", "")):
+        fault = Fault(call)
+        server = journaled(folder, 1, *JOURNAL, "--sync", watch=lambda fault=fault: Watcher(fault))
+        TALLY.same(f"{call} at a start", server.observer.faults[0].left, 1)
+        with connect(server.port) as peer:
+            peer.sendall(take.messages()[-1])
+            TALLY.same(f"{call} at a recovery: the peer", hear_all(peer), b"")
+        why = f"the store fails: {folder / path}: {reason(errno.EIO)}\n{folder}/a1.wav: {told}\n"
+        ended = 3, ["exchange 0 NotKept"], why + CANT_GO_ON
+        TALLY.same(f"{call} at a recovery: the server", server.end(), ended)
+        TALLY.same(f"{call} at a recovery: the folder", state(folder), before)
+    server = journaled(folder, 1, *JOURNAL, "--sync")
+    says("the verdicts of a take that is synced", server, take, range(len(take.messages())))
+    server.stop(signal.SIGKILL)
 
 
 def case_full_at_a_recovery(place):

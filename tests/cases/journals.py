@@ -58,10 +58,9 @@ def begun(name):
     return [*read, f"seek {name}.journal 0", f"write {name}.journal {header(name).hex()}"]
 
 
-def synced_before(names):
-    """The calls that sync what an earlier server left of these names."""
-    files = [f"{name}.{ending}" for name in names for ending in ("wav", "journal")]
-    return [*LISTED, *(call for file in files for call in (opened(file), f"sync-data {file}")), *FOLDER_SYNCED]
+def left_synced(name):
+    """The calls that sync what an earlier server left of a name that has a file."""
+    return [opened(f"{name}.wav"), f"sync-data {name}.wav", f"sync-data {name}.journal", *FOLDER_SYNCED]
 
 
 class Journaled(Watched):
@@ -69,13 +68,12 @@ class Journaled(Watched):
 
     def __init__(self, folder, *options, faults=(), found=()):
         locked = ["open FOLDER/.bwingest-lock to-read-and-write create", "stat .bwingest-lock", "lock .bwingest-lock"]
-        synced = synced_before(found) if "--sync" in options else []
         super().__init__(
             folder,
             *("--exchanges", "1", *IN_TURN, "--journal", *options),
             faults=faults,
             opening=[f"resumed {len(found)} takes"],
-            starting=[*locked, *LISTED, *synced],
+            starting=[*locked, *LISTED],
         )
         self.is_synced = "--sync" in options
         self.noted = {}  # bytes in the journal of a name
@@ -234,6 +232,9 @@ def goes_on(folder, what, *options):
     it = Journaled(folder, *options, found=["a1"])
     it.numbers["a1"], it.noted["a1"] = 2, len(noted)
     it.made.add("a1")
+    if it.is_synced:
+        recovered += left_synced("a1")
+        it.listed["a1"] = True
     peer = it.comes(accepted_in_turn(7))
     it.asks(peer, "a1", CLOSE, before=recovered)
     it.goes(peer, 0)
@@ -245,7 +246,7 @@ def case_resumed(folder):
 
 
 def case_resumed_and_synced(folder):
-    """With syncs what was left is synced first, since its verdicts are given again without a note."""
+    """With syncs what was left of a name is synced before its first answer: verdicts are given again without a note."""
     goes_on(folder, "a resumed and synced take", "--sync")
 
 

@@ -2,7 +2,9 @@
 use Rattle.std.specs.Prelude.{◌≡◌, ℕ, Bool, List, Option, string_bytes}
 use Rattle.bw_disk.specs.declared.disk.Disk.{Ghosts}
 use Rattle.bw_journal.specs.JournalHeaders.{Header}
-use Rattle.bw_folder.specs.Journals.{notes_at, existences, header_at}
+use Rattle.bw_folder.specs.Folders.{take_path}
+use Rattle.bw_folder.specs.Journals.{journal_path, notes_at, existences, header_at}
+use Rattle.bw_folder.specs.SyncOrders.{IsSyncedAt}
 use Rattle.bw_folder.specs.declared.journal.FolderJournal.{FolderJournal}
 
 module _ {D F : Type 0} {G : Ghosts D F} where
@@ -48,3 +50,9 @@ module _ {D F : Type 0} {G : Ghosts D F} where
   abbrev pub header_in_folder : FolderJournal D F G → List ℕ → Header
   header_in_folder j name = header_at j.limit (existences j.journals.items) (G.contents j.disk)
       (string_bytes j.folder) name
+
+  -- what lies in the folder of a name is synced: its take's file and its journal
+  abbrev pub IsSyncedName : List ℕ → FolderJournal D F G → Type 0
+  IsSyncedName name j =
+      IsSyncedAt (G.contents j.disk) (G.synced j.disk) (take_path (string_bytes j.folder) name)
+      × IsSyncedAt (G.contents j.disk) (G.synced j.disk) (journal_path (string_bytes j.folder) name)

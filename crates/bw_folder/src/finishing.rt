@@ -45,6 +45,9 @@ impl<D: Disk> FolderStore<D> {
 
     /// Syncs the file of an open take, and keeps its name if that fails, unless there is one already.
     /// After a failed sync it fails at once, unless this store retries.
+    ///
+    /// # Errors
+    /// `StoreFault` if the sync failed, or one failed before; also if the take isn't open.
     #[tactic(auto, using(crate::proofs::TakePaths::take_path_injective))]
     pub(crate) fn sync_take(&mut self, name: &Name) -> Result<(), StoreFault>
         ensures call_counter { self.new.call_counter ≡ self.old.call_counter }

@@ -57,9 +57,8 @@ impl<F: Drop> OpenJournal<F> {
 /// its bytes, which the next note of the same bytes writes over.
 ///
 /// With `sync` a journal that begins is synced, and the folder, before any file of its take is made.
-/// A note is made in steps: the take's file is synced, then the folder if this is the first note since
-/// a journal was reopened or the first that finds the take's file, the bytes are appended, and
-/// the journal is synced. So no note of this journal survives a loss of power without its samples, and
+/// A note is made in steps: the take's file is synced, then the folder unless it was synced since the
+/// journal was opened and the take's file found, the bytes are appended, and the journal is synced. So no note of this journal survives a loss of power without its samples, and
 /// none that it reported is lost. After a sync that failed each `begin` and each `note` fails, of any
 /// name: another try could succeed although bytes are lost. Without `sync` only the note of a CLOSE is
 /// synced, and the folder with it.

@@ -1,9 +1,11 @@
 //! Opening the files of names again that an earlier server left, and closing them.
 ghost use Rattle.std.specs.Prelude.{◌≡◌, ◌↔◌, ℕ, List, IsTrue, IsSome, IsNone, IfOk, Ok, false};
+ghost use Rattle.std.specs.Prelude.{◌⊎◌, OnOk, Some};
 ghost use Rattle.bw_store.specs.Stores.{Counts};
 ghost use Rattle.bw_disk.specs.Disks.{AsksOnce};
 ghost use Rattle.bw_disk.specs.DiskSteps.{StaysWhole};
 ghost use Rattle.bw_disk.specs.ReadFaults.{is_disk_fault};
+ghost use Rattle.bw_disk.specs.Volumes.{KeepsEach};
 ghost use Rattle.bw_folder.specs.Folders.{found_by, names_but};
 ghost use Rattle.bw_folder.specs.Journals.{adopted_by, adopted_header, existence_of};
 
@@ -11,6 +13,7 @@ use crate::folder::{FolderStore, OpenTake};
 use crate::journal::{FolderJournal, OpenJournal};
 use crate::noting::find;
 use crate::paths::{journal_path, take_path};
+use crate::syncing::sync_both;
 use bw_disk::{Disk, ReadFault, Volume};
 use bw_request::Name;
 
@@ -75,7 +78,8 @@ impl<D: Volume> FolderStore<D> {
 }
 
 impl<D: Volume> FolderJournal<D> {
-    ghost use Rattle.bw_folder.specs.JournalFolders.{journals_disk, SameSettings};
+    ghost use Rattle.bw_folder.specs.JournalFolders.{journals_disk, journals_sync, SameSettings};
+    ghost use Rattle.bw_folder.specs.JournalFolders.{IsSyncedName};
     ghost use Rattle.bw_folder.specs.JournalFolders.{open_journals, journals_failures, failed_sync_in};
     ghost use Rattle.bw_folder.specs.JournalFolders.{noted_in_folder, header_in_folder};
 
@@ -122,5 +126,55 @@ impl<D: Volume> FolderJournal<D> {
         let journal = OpenJournal::new(name, existed, file);
         self.journals.push(journal).map_err(|_| ReadFault::Memory)?;
         Ok(true)
+    }
+
+    /// With `sync`, syncs what lies in the folder of a name whose journal is open: the take's file, if
+    /// there is one, the journal, and then the folder, unless that was synced since the journal was
+    /// opened. An earlier server may have run without `sync`, or was killed before a sync. Without
+    /// `sync`, and for another name, it does nothing. That is no call of the journal.
+    ///
+    /// # Errors
+    /// `Disk` if a call of the disk failed: if that was a sync, the name is kept, so that nothing is
+    /// noted any more. `Memory` if memory was refused before it.
+    ///
+    /// # Not specified
+    /// - When memory is refused.
+    /// - When the folder is synced.
+    pub fn sync_recovered(&mut self, name: &Name) -> Result<(), ReadFault>
+        ensures failures { journals_failures self.new ≡ journals_failures self.old }
+        ensures settings { SameSettings self.old self.new }
+        ensures known { open_journals self.new ≡ open_journals self.old }
+        ensures unmarked { OnOk result (failed_sync_in self.new ≡ failed_sync_in self.old) }
+        ensures marked { (failed_sync_in self.new ≡ failed_sync_in self.old)
+            ⊎ (failed_sync_in self.new ≡ Some name.now) }
+        ensures plain { journals_sync self.old ≡ false →
+            journals_disk self.new ≡ journals_disk self.old }
+        ensures honest { D.honest (journals_disk self.new) ≡ D.honest (journals_disk self.old) }
+        ensures contents { IsTrue (D.honest (journals_disk self.old)) → KeepsEach
+            (D.contents (journals_disk self.old)) (D.contents (journals_disk self.new)) }
+        // With `sync` the file of the take and an open journal are synced.
+        ensures synced { IsTrue (D.honest (journals_disk self.old)) → IsTrue (journals_sync self.old) →
+            IsSome (existence_of (open_journals self.old) name.now) →
+            OnOk result (IsSyncedName name.now self.new) }
+        ensures disk_failures { Counts (D.failures (journals_disk self.old))
+            (D.failures (journals_disk self.new)) (is_disk_fault result) }
+    {
+        if !self.sync {
+            return Ok(());
+        }
+        let Some(place) = find(&self.journals, name) else {
+            return Ok(());
+        };
+        let Ok(take) = take_path(self.alloc, &self.folder, name) else {
+            return Err(ReadFault::Memory);
+        };
+        let answer = sync_both(
+            &mut self.disk,
+            &mut self.journals[place],
+            &mut self.failed_sync,
+            take.as_str(),
+            &self.folder,
+        );
+        answer.map_err(|_| ReadFault::Disk)
     }
 }

@@ -1,6 +1,7 @@
 //! Notes that survive a loss of power: the samples are synced, then the note is written and synced.
 ghost use Rattle.std.specs.Prelude.{◌≡◌, ◌≢◌, ◌⊎◌, Some, IsTrue, OnOk, OnErr, true};
-ghost use Rattle.bw_store.specs.Stores.{Written, KeepsOthers};
+ghost use Rattle.std.specs.Prelude.{is_err};
+ghost use Rattle.bw_store.specs.Stores.{Counts, Written, KeepsOthers};
 ghost use Rattle.bw_disk.specs.Disks.{Syncs};
 ghost use Rattle.bw_disk.specs.DiskSteps.{StaysWhole};
 ghost use Rattle.bw_disk.specs.Volumes.{WrittenInPart, KeepsEach};
@@ -72,6 +73,9 @@ pub(crate) fn sync_begun<D: Volume>(
     ensures marked { OnErr result (failed_sync.new ≡ Some journal.old.name) }
     ensures unmarked { OnOk result (failed_sync.new ≡ failed_sync.old) }
     ensures listed { OnOk result (journal.new.listed ≡ true) }
+    ensures failures { Counts (D.failures disk.old) (D.failures disk.new) (is_err result) }
+    ensures others { IsTrue (D.honest disk.old) → KeepsOthers
+        (D.synced disk.old) (D.synced disk.new) (D.path_of journal.old.file) }
     ensures honest { D.honest disk.new ≡ D.honest disk.old }
     ensures contents { IsTrue (D.honest disk.old) → KeepsEach (D.contents disk.old) (D.contents disk.new) }
     ensures synced { IsTrue (D.honest disk.old) → OnOk result (IsSyncedAt (D.contents disk.new)
@@ -79,6 +83,36 @@ pub(crate) fn sync_begun<D: Volume>(
 {
     sync_file(disk, &journal.file, &journal.name, failed_sync)?;
     sync_names(disk, journal, failed_sync, folder)
+}
+
+/// Syncs what lies there of a name: the take's file, if there is one, the journal, and then the folder,
+/// unless it was synced since the journal was opened and the take's file found.
+///
+/// # Errors
+/// `StoreFault` if a call of the disk failed. If that was a sync the name is kept, so that nothing is
+/// noted any more.
+pub(crate) fn sync_both<D: Volume>(
+    disk: &mut D,
+    journal: &mut OpenJournal<D::File>,
+    failed_sync: &mut Option<Name>,
+    take: &str,
+    folder: &str,
+) -> Result<(), StoreFault>
+    ensures name { journal.new.name ≡ journal.old.name }
+    ensures existed { journal.new.existed ≡ journal.old.existed }
+    ensures file { journal.new.file ≡ journal.old.file }
+    ensures unmarked { OnOk result (failed_sync.new ≡ failed_sync.old) }
+    ensures marked { (failed_sync.new ≡ failed_sync.old) ⊎ (failed_sync.new ≡ Some journal.old.name) }
+    ensures failures { Counts (D.failures disk.old) (D.failures disk.new) (is_err result) }
+    ensures honest { D.honest disk.new ≡ D.honest disk.old }
+    ensures contents { IsTrue (D.honest disk.old) → KeepsEach (D.contents disk.old) (D.contents disk.new) }
+    ensures take { IsTrue (D.honest disk.old) → take.now ≢ D.path_of journal.old.file →
+        OnOk result (IsSyncedAt (D.contents disk.new) (D.synced disk.new) take.now) }
+    ensures synced { IsTrue (D.honest disk.old) → OnOk result (IsSyncedAt (D.contents disk.new)
+        (D.synced disk.new) (D.path_of journal.old.file)) }
+{
+    sync_take(disk, journal, failed_sync, take)?;
+    sync_begun(disk, journal, failed_sync, folder)
 }
 
 /// Syncs a take's file, if there is one.
@@ -96,6 +130,7 @@ fn sync_take<D: Volume>(
     ensures file { journal.new.file ≡ journal.old.file }
     ensures unmarked { OnOk result (failed_sync.new ≡ failed_sync.old) }
     ensures marked { (failed_sync.new ≡ failed_sync.old) ⊎ (failed_sync.new ≡ Some journal.old.name) }
+    ensures failures { Counts (D.failures disk.old) (D.failures disk.new) (is_err result) }
     ensures honest { D.honest disk.new ≡ D.honest disk.old }
     ensures contents { IsTrue (D.honest disk.old) → KeepsEach (D.contents disk.old) (D.contents disk.new) }
     ensures synced { IsTrue (D.honest disk.old) → OnOk result
@@ -123,6 +158,7 @@ fn sync_file<D: Volume>(
 ) -> Result<(), StoreFault>
     ensures marked { OnErr result (failed_sync.new ≡ Some name.now) }
     ensures unmarked { OnOk result (failed_sync.new ≡ failed_sync.old) }
+    ensures failures { Counts (D.failures disk.old) (D.failures disk.new) (is_err result) }
     ensures honest { D.honest disk.new ≡ D.honest disk.old }
     ensures contents { IsTrue (D.honest disk.old) → KeepsEach (D.contents disk.old) (D.contents disk.new) }
     ensures synced { IsTrue (D.honest disk.old) → Syncs result
@@ -152,6 +188,7 @@ fn sync_names<D: Volume>(
     ensures marked { OnErr result (failed_sync.new ≡ Some journal.old.name) }
     ensures listed { OnOk result (journal.new.listed ≡ true) }
     ensures unmarked { OnOk result (failed_sync.new ≡ failed_sync.old) }
+    ensures failures { Counts (D.failures disk.old) (D.failures disk.new) (is_err result) }
     ensures rest { StaysWhole D.Disk disk.old disk.new }
 {
     if journal.listed {

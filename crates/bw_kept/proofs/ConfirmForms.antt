@@ -10,11 +10,11 @@ use Rattle.bw_journal.specs.Replays.{Story}
 use Rattle.bw_folder.specs.Folders.{names_but}
 use Rattle.bw_folder.specs.Journals.{known_but}
 use Rattle.bw_folder.specs.TakeFolders.{takes_disk, takes_folder, open_takes, take_in_folder}
-use Rattle.bw_folder.specs.JournalFolders.{journals_disk, journals_limit, open_journals, noted_in_folder}
+use Rattle.bw_folder.specs.JournalFolders.{journals_disk, journals_limit, open_journals, noted_in_folder, IsSyncedName}
 use Rattle.bw_folder.specs.RecoveredNames.{AreOfOneFolder, CountsUnlessCrowded, ShowsAlike}
 use Rattle.bw_folder.specs.declared.folder.FolderStore.{FolderStore}
 use Rattle.bw_folder.specs.declared.journal.FolderJournal.{FolderJournal}
-use Rattle.bw_kept.specs.Recoveries.{IsKeptUnder, KeepsBothSettings, KeepsInFolder, Recovers, RecoversIn, OpensIn, opened_story}
+use Rattle.bw_kept.specs.Recoveries.{IfKept, IsKeptUnder, KeepsBothSettings, KeepsInFolder, Recovers, RecoversIn, OpensIn, opened_story}
 use Rattle.bw_kept.specs.Visits.{ClosesFiles, IfNew, IsDifference, IsReason, RecoversName}
 use Rattle.bw_kept.specs.declared.delay.Delay.{Delay}
 use Rattle.bw_kept.specs.declared.delay.Delay.TheVariants as delay
@@ -136,6 +136,7 @@ module _ {D E F H : Type 0} {G : Ghosts D F} {K : Ghosts E H} (name : List ℕ)
     closed = λ one. tt;
     alike = λ one. new_as r made (λ x. IfNew x (ShowsAlike name later later_journal)) (alike (one_then one));
     why = λ one. tt;
+    synced = λ one on. new_as r made (λ x. IfKept x (IsSyncedName name later_journal)) tt;
   }
   confirmed (Err d) made t n closed alike why = record {
     settings = settings_both;
@@ -148,4 +149,5 @@ module _ {D E F H : Type 0} {G : Ghosts D F} {K : Ghosts E H} (name : List ℕ)
     closed = λ one. closed_both one closed;
     alike = λ one. tt;
     why = λ one. reason_both one d (why (one_then one));
+    synced = λ one on. tt;
   }

@@ -27,3 +27,4 @@ pub mod FolderGhosts
 pub mod ClosedFiles
 pub mod RecoverHeads
 pub mod RecoverNames
+pub mod SyncedForms

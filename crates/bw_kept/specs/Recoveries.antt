@@ -105,6 +105,12 @@ IsKeptUnder name New = Unit {0}
 IsKeptUnder name (LeftOut cause) = Unit {0}
 IsKeptUnder name (Kept k) = k.name ≡ name
 
+-- this holds if numbers of a name are done
+abbrev pub IfKept : Recovered → Type 0 → Type 0
+IfKept New Holds = Unit {0}
+IfKept (LeftOut cause) Holds = Unit {0}
+IfKept (Kept k) Holds = Holds
+
 -- whether a recovery failed because a disk did
 abbrev pub is_failed_call : {T : Type 0} → Result T RecoverFault → Bool
 is_failed_call (Ok r) = false

@@ -1,18 +1,21 @@
 -- The steps of recovering a name from its folder.
 use Rattle.std.specs.Prelude.{◌≡◌, ◌≤◌, ◌+◌, ◌*◌, ℕ, Option, Some, None, IsSome, IsTrue, List, ◌++◌, length}
-use Rattle.std.specs.Prelude.{Result, IfOk}
+use Rattle.std.specs.Prelude.{Bool, Result, IfOk}
+use Rattle.bw_model.specs.Counts.{Counts}
 use Rattle.bw_model.specs.Wire.{Second, last_number}
 use Rattle.bw_journal.specs.Replays.{Story}
 use Rattle.bw_journal.specs.Stories.{story_of}
 use Rattle.bw_disk.specs.declared.reading.ReadFault.{ReadFault}
 use Rattle.bw_disk.specs.declared.reading.ReadFault.TheVariants.{Disk as DiskFailed, Memory as NoMemory}
 use Rattle.bw_disk.specs.DiskSteps.{StaysWhole}
+use Rattle.bw_disk.specs.Volumes.{KeepsEach}
 use Rattle.bw_disk.specs.declared.disk.Disk.{Ghosts}
 use Rattle.bw_recovery.specs.declared.finding.Finding.{Finding}
 use Rattle.bw_recovery.specs.declared.finding.Finding.TheVariants.{Refused, Unbegun, Begun}
 use Rattle.bw_folder.specs.Journals.{existence_of}
 use Rattle.bw_folder.specs.TakeFolders.{takes_disk, open_takes}
 use Rattle.bw_folder.specs.JournalFolders.{journals_disk, open_journals, noted_in_folder}
+use Rattle.bw_folder.specs.JournalFolders.{journals_failures, SameSettings}
 use Rattle.bw_folder.specs.RecoveredNames.{AreOfOneFolder, FindsIn, CountsUnlessCrowded}
 use Rattle.bw_folder.specs.declared.folder.FolderStore.{FolderStore}
 use Rattle.bw_folder.specs.declared.journal.FolderJournal.{FolderJournal}
@@ -56,6 +59,18 @@ IsFewDone (Some s) = length s.table ≤ 33 * (last_number Second + 1)
 abbrev pub HasFiles : Option Story → Option (List ℕ) → Option (List ℕ) → Type 0
 HasFiles None notes file = Unit {0}
 HasFiles (Some s) notes file = IsSome notes × (IsTrue (is_written_on s.parts) → IsSome file)
+
+-- A journal was synced: its settings, what is open, and what its disk holds stay, and a call of the disk
+-- is counted as failed if this happened.
+pub record SyncsJournal {E H : Type 0} (K : Ghosts E H) (happens : Bool)
+    (journal later_journal : FolderJournal E H K) : Type 0 where
+  pub settings : SameSettings journal later_journal
+  pub failures : journals_failures later_journal ≡ journals_failures journal
+  pub journals : open_journals later_journal ≡ open_journals journal
+  pub honest : K.honest (journals_disk later_journal) ≡ K.honest (journals_disk journal)
+  pub contents : IsTrue (K.honest (journals_disk journal)) →
+      KeepsEach (K.contents (journals_disk journal)) (K.contents (journals_disk later_journal))
+  pub counts : Counts (K.failures (journals_disk journal)) (K.failures (journals_disk later_journal)) happens
 
 module _ {D E F H : Type 0} {G : Ghosts D F} {K : Ghosts E H} where
   -- This was found of a name in the folder, and both disks are honest.

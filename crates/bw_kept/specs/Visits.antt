@@ -1,16 +1,18 @@
 -- What is done with a store and a journal of a folder that a server lends.
-use Rattle.std.specs.Prelude.{◌≡◌, ◌⊎◌, ℕ, true, Result, IfOk, IfErr, OnErr, List}
+use Rattle.std.specs.Prelude.{◌≡◌, ◌⊎◌, ℕ, true, Result, IfOk, IfErr, IsTrue, OnErr, List}
 use Rattle.bw_model.specs.Counts.{Counts}
 use Rattle.bw_disk.specs.declared.disk.Disk.{Ghosts}
 use Rattle.bw_recovery.specs.Changes.{IsCrowded}
 use Rattle.bw_folder.specs.Folders.{names_but}
 use Rattle.bw_folder.specs.Journals.{known_but}
 use Rattle.bw_folder.specs.TakeFolders.{takes_disk, takes_folder, open_takes}
-use Rattle.bw_folder.specs.JournalFolders.{journals_disk, journals_limit, open_journals}
+use Rattle.bw_folder.specs.JournalFolders.{journals_disk, journals_limit, journals_sync, open_journals}
+use Rattle.bw_folder.specs.JournalFolders.{IsSyncedName}
 use Rattle.bw_folder.specs.RecoveredNames.{AreOfOneFolder, ShowsAlike}
 use Rattle.bw_folder.specs.declared.folder.FolderStore.{FolderStore}
 use Rattle.bw_folder.specs.declared.journal.FolderJournal.{FolderJournal}
-use Rattle.bw_kept.specs.Recoveries.{IsKeptUnder, KeepsBothSettings, KeepsInFolder, RecoversIn, OpensIn, HasTooManyIn}
+use Rattle.bw_kept.specs.Recoveries.{IfKept, IsKeptUnder, KeepsBothSettings, KeepsInFolder, RecoversIn}
+use Rattle.bw_kept.specs.Recoveries.{OpensIn, HasTooManyIn}
 use Rattle.bw_kept.specs.declared.delay.Delay.{Delay}
 use Rattle.bw_kept.specs.declared.delay.Delay.TheVariants.{CallFailed, NoMemory, LeftOut as IsLeftOut}
 use Rattle.bw_kept.specs.declared.delay.Delay.TheVariants.{TooManyNumbers, TwoFolders, NoPlace}
@@ -76,6 +78,7 @@ module _ {D E F H : Type 0} {G : Ghosts D F} {K : Ghosts E H} where
 
   -- A name was recovered by its journal and its file, and both disks show alike whether a new one has a
   -- file; or it wasn't, for a reason, and nothing of it is open. Either way what was left of it stays so.
+  -- If notes are synced, so are journal and file of a name of which numbers are done.
   pub record RecoversName (name : List ℕ) (store : FolderStore D F G) (journal : FolderJournal E H K)
       (later_store : FolderStore D F G) (later_journal : FolderJournal E H K)
       (result : Result Recovered Delay) : Type 0 where
@@ -95,3 +98,5 @@ module _ {D E F H : Type 0} {G : Ghosts D F} {K : Ghosts E H} where
         IfOk result (λ r. IfNew r (ShowsAlike name later_store later_journal))
     pub why : AreOfOneFolder store journal →
         IfErr result (IsReason name store journal later_store later_journal)
+    pub synced : AreOfOneFolder store journal → IsTrue (journals_sync journal) →
+        IfOk result (λ r. IfKept r (IsSyncedName name later_journal))

@@ -11,15 +11,16 @@ ghost use Rattle.bw_folder.specs.TakeFolders.{takes_disk, takes_folder, takes_ca
 ghost use Rattle.bw_folder.specs.TakeFolders.{take_in_folder, open_takes};
 ghost use Rattle.bw_folder.specs.JournalFolders.{journals_disk, journals_failures, open_journals};
 ghost use Rattle.bw_folder.specs.JournalFolders.{noted_in_folder, SameSettings};
+ghost use Rattle.bw_folder.specs.JournalFolders.{journals_sync, IsSyncedName};
 ghost use Rattle.bw_folder.specs.RecoveredNames.{AreOfOneFolder};
 ghost use Rattle.bw_folder.specs.RecoveredNames.{CountsIn, CountsUnlessCrowded};
 ghost use Rattle.bw_kept.specs.Recoveries.{makes_file, is_written_on, MadeOfStory, IfUntouched};
 ghost use Rattle.bw_kept.specs.Recoveries.{is_failed_call, KeepsBothSettings, KeepsOthersOpen};
-ghost use Rattle.bw_kept.specs.Recoveries.{OpensStory, RecoversIn, OpensIn, take_opened};
+ghost use Rattle.bw_kept.specs.Recoveries.{IfKept, OpensStory, RecoversIn, OpensIn, take_opened};
 ghost use Rattle.bw_kept.specs.Recoveries.{IsKeptUnder, KeepsInFolder, IfNumbers, HasTooManyIn};
 ghost use Rattle.bw_kept.specs.RecoverySteps.{fault_of_read, MadeOfFinding, story_found, HasFiles};
 ghost use Rattle.bw_kept.specs.RecoverySteps.{OpensMore, IsManyDone, IsFewDone, IsFoundThere};
-ghost use Rattle.bw_kept.specs.RecoverySteps.{RecoversAlone, RecoversFrom};
+ghost use Rattle.bw_kept.specs.RecoverySteps.{RecoversAlone, RecoversFrom, SyncsJournal};
 
 use bw_disk::{ReadFault, Volume};
 use bw_folder::{FolderJournal, FolderStore, look_at_name, restore_in_folder};
@@ -108,10 +109,13 @@ pub fn recover<D: Volume, E: Volume>(
     // `Disk` is a call that failed, unless each path for a file that is set aside is taken.
     ensures failures { AreOfOneFolder store.old journal.old → CountsUnlessCrowded name.now
         store.old journal.old store.new journal.new (is_failed_call result) }
+    // If notes are synced, so are journal and file of a name of which numbers are done.
+    ensures synced { AreOfOneFolder store.old journal.old → IsTrue (journals_sync journal.old) →
+        IfOk result (λ r. IfKept r (IsSyncedName name.now journal.new)) }
 {
     store.release(name);
     journal.release(name);
-    match recover_closed(alloc, store, journal, limit, name) {
+    match recover_synced(alloc, store, journal, limit, name) {
         Ok(recovered) => Ok(recovered),
         Err(fault) => {
             store.release(name);
@@ -122,6 +126,48 @@ pub fn recover<D: Volume, E: Volume>(
 }
 
 /// The same of a name of which nothing is open; after an error something of it may be.
+fn recover_synced<D: Volume, E: Volume>(
+    alloc: Global,
+    store: &mut FolderStore<D>,
+    journal: &mut FolderJournal<E>,
+    limit: Limit,
+    name: &Name,
+) -> Result<Recovered, RecoverFault>
+    ensures alone { RecoversAlone name.now result store.old journal.old store.new journal.new }
+    ensures recovered { AreOfOneFolder store.old journal.old →
+        RecoversFrom limit name.now result store.old journal.old store.new journal.new }
+    ensures synced { AreOfOneFolder store.old journal.old → IsTrue (journals_sync journal.old) →
+        IfOk result (λ r. IfKept r (IsSyncedName name.now journal.new)) }
+{
+    match recover_closed(alloc, store, journal, limit, name) {
+        Ok(Recovered::New) => Ok(Recovered::New),
+        Ok(Recovered::LeftOut(fault)) => Ok(Recovered::LeftOut(fault)),
+        Ok(Recovered::Kept(take)) => sync_kept(journal, name, take),
+        Err(fault) => Err(fault),
+    }
+}
+
+/// Syncs what lies there of a name of which this is kept, if notes are synced: its verdicts are given
+/// again without a note.
+fn sync_kept<E: Volume>(
+    journal: &mut FolderJournal<E>,
+    name: &Name,
+    take: KeptTake,
+) -> Result<Recovered, RecoverFault>
+    ensures made { IfOk result (λ r. r ≡ Recovered.Kept take) }
+    ensures most { IfNumbers result ⊥ }
+    ensures kept { SyncsJournal E.Disk (is_failed_call result) journal.old journal.new }
+    ensures synced { IsTrue (E.honest (journals_disk journal.old)) → IsTrue (journals_sync journal.old) →
+        IsSome (existence_of (open_journals journal.old) name.now) →
+        OnOk result (IsSyncedName name.now journal.new) }
+{
+    match journal.sync_recovered(name) {
+        Ok(()) => Ok(Recovered::Kept(take)),
+        Err(fault) => Err(RecoverFault::of_read(fault)),
+    }
+}
+
+/// The same, but nothing is synced.
 fn recover_closed<D: Volume, E: Volume>(
     alloc: Global,
     store: &mut FolderStore<D>,

@@ -1,2 +1,1 @@
 mod OpenedServers
-mod SyncedDisks

@@ -1,15 +1,13 @@
 -- What is known of a server that was just made over a folder.
-use Rattle.std.proofs.Common.{◌≡◌, ◌∙◌, ◌≤◌, ℕ, Bool, List, [], Option, ap, subst, sym, arith}
-use Rattle.std.specs.Prelude.{Result, Ok, Err, IfOk, IsTrue}
+use Rattle.std.proofs.Common.{◌≡◌, ◌∙◌, ◌≤◌, ℕ, List, [], ap, subst, sym, arith}
+use Rattle.std.specs.Prelude.{Result, Ok, Err, IfOk}
+use Rattle.bw_disk.specs.DiskSteps.{StaysWhole}
 use Rattle.bw_disk.specs.declared.disk.Disk.{Ghosts as DiskGhosts}
-use Rattle.bw_folder.specs.TakeFolders.{takes_disk}
-use Rattle.bw_folder.specs.JournalFolders.{journals_disk}
 use Rattle.bw_folder.specs.declared.folder.FolderStore.{FolderStore}
 use Rattle.bw_folder.specs.declared.journal.FolderJournal.{FolderJournal}
 use Rattle.bw_journal.specs.declared.journal.Journal.{Ghosts as JournalGhosts}
 use Rattle.bw_kept.specs.LeftFolders.{KnowsNone}
 use Rattle.bw_machine.specs.KeptOpenings.{BeginsOver, HasDisks}
-use Rattle.bw_machine.specs.SyncedFolders.{KeepsContents, SyncsLeft}
 use Rattle.bw_session.specs.Books.{HoldsBook}
 use Rattle.bw_session.specs.declared.server.Server.{Server}
 use Rattle.bw_session.specs.SeenServers.{server_store, server_journal, server_limit}
@@ -37,18 +35,10 @@ module _ {X Y : Type 0} (S : StoreGhosts X) (J : JournalGhosts Y) where
 module _ {D E F H : Type 0} {G : DiskGhosts D F} {K : DiskGhosts E H}
     {S : StoreGhosts (FolderStore D F G)} {J : JournalGhosts (FolderJournal E H K)} where
   -- so it begins over disks that have what these had
-  pub begins_over : (folder : List ℕ) (sync : Bool) (takes takes' : D) (notes notes' : E)
-      (s : Server (FolderStore D F G) (FolderJournal E H K) S J) → KnowsNone S J s →
-      HasDisks takes' notes' s → KeepsContents G takes takes' → KeepsContents K notes notes' →
-      (IsTrue sync → IsTrue (G.honest takes) → IsTrue (K.honest notes) →
-      SyncsLeft folder (G.contents takes) (G.synced takes') (K.contents notes) (K.synced notes')) →
-      BeginsOver folder sync takes notes s
-  begins_over folder sync takes takes' notes notes' s none disks kept_takes kept_notes synced = record {
+  pub begins_over : (takes : D) (notes notes' : E) (s : Server (FolderStore D F G) (FolderJournal E H K) S J) →
+      KnowsNone S J s → HasDisks takes notes' s → StaysWhole K notes notes' → BeginsOver takes notes s
+  begins_over takes notes notes' s none disks kept = record {
     none = none;
-    takes_kept = subst (KeepsContents G takes) (sym disks.takes_are) kept_takes;
-    notes_kept = subst (KeepsContents K notes) (sym disks.notes_are) kept_notes;
-    synced = λ asked ht hn. subst (λ t. SyncsLeft folder (G.contents takes) (G.synced t) (K.contents notes)
-        (K.synced (journals_disk (server_journal s)))) (sym disks.takes_are)
-        (subst (λ n. SyncsLeft folder (G.contents takes) (G.synced takes') (K.contents notes) (K.synced n))
-        (sym disks.notes_are) (synced asked ht hn));
+    takes_same = disks.takes_are;
+    notes_kept = subst (StaysWhole K notes) (sym disks.notes_are) kept;
   }

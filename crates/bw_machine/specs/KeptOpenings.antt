@@ -1,5 +1,6 @@
 -- What the opening of a kept server over a folder results in, where its folder is locked first.
-use Rattle.std.specs.Prelude.{◌≡◌, ◌⊎◌, ℕ, Bool, false, List, length, Option, None, Some, IsTrue, Result, Ok, Err}
+use Rattle.std.specs.Prelude.{◌≡◌, ◌⊎◌, ℕ, Bool, false, List, length, None, IsTrue, Result, Ok, Err}
+use Rattle.bw_disk.specs.DiskSteps.{StaysWhole}
 use Rattle.bw_disk.specs.Volumes.{AreDistinct}
 use Rattle.bw_disk.specs.declared.disk.Disk.{Ghosts as DiskGhosts}
 use Rattle.bw_disk.specs.declared.reading.ReadFault.{ReadFault}
@@ -13,7 +14,6 @@ use Rattle.bw_kept.specs.KeptCommits.{failed_sync_of}
 use Rattle.bw_kept.specs.LeftFolders.{KnowsNone}
 use Rattle.bw_lock.specs.declared.folder_locks.LockRefusal.{LockRefusal}
 use Rattle.bw_lock.specs.declared.folder_locks.LockRefusal.TheVariants as locks
-use Rattle.bw_machine.specs.SyncedFolders.{KeepsContents, SyncsLeft}
 use Rattle.bw_ports.specs.declared.starts.StartRefusal.{StartRefusal}
 use Rattle.bw_ports.specs.declared.starts.StartRefusal.TheVariants as refusals
 use Rattle.bw_recovery.specs.FoundNames.{ListsJournals}
@@ -62,13 +62,9 @@ module _ {D E F H : Type 0} {G : DiskGhosts D F} {K : DiskGhosts E H}
     pub takes_are : takes_disk (server_store s) ≡ takes
     pub notes_are : journals_disk (server_journal s) ≡ notes
 
-  -- The server knows no name yet, and its disks have what these had. With syncs each name's journal and
-  -- its take's file are synced.
-  pub record BeginsOver (folder : List ℕ) (sync : Bool) (takes : D) (notes : E)
+  -- The server knows no name yet, its disk of takes got no call, and that of journals has what it had.
+  pub record BeginsOver (takes : D) (notes : E)
       (s : Server (FolderStore D F G) (FolderJournal E H K) S J) : Type 0 where
     pub none : KnowsNone S J s
-    pub takes_kept : KeepsContents G takes (takes_disk (server_store s))
-    pub notes_kept : KeepsContents K notes (journals_disk (server_journal s))
-    pub synced : IsTrue sync → IsTrue (G.honest takes) → IsTrue (K.honest notes) →
-        SyncsLeft folder (G.contents takes) (G.synced (takes_disk (server_store s))) (K.contents notes)
-        (K.synced (journals_disk (server_journal s)))
+    pub takes_same : takes_disk (server_store s) ≡ takes
+    pub notes_kept : StaysWhole K notes (journals_disk (server_journal s))

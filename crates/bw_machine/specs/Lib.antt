@@ -2,4 +2,3 @@ pub mod KeptOpenings
 pub mod OpensHere
 pub mod PutOffs
 pub mod SeenMachine
-pub mod SyncedFolders

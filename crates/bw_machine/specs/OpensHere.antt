@@ -1,5 +1,5 @@
 -- What the opening of a kept server over a folder of this machine results in.
-use Rattle.std.specs.Prelude.{◌≡◌, ℕ, Bool, List, Option, Some, Result, Ok, Err, MatchResult}
+use Rattle.std.specs.Prelude.{◌≡◌, ℕ, Bool, List, Some, Result, Ok, Err, MatchResult}
 use Rattle.bw_disk.specs.declared.disk.Disk.{Ghosts as DiskGhosts}
 use Rattle.bw_folder.specs.declared.folder.FolderStore.{FolderStore}
 use Rattle.bw_folder.specs.declared.journal.FolderJournal.{FolderJournal}
@@ -46,7 +46,7 @@ module _ {D E F H : Type 0} {G : DiskGhosts D F} {K : DiskGhosts E H}
   pub record OpensOver (limit : ℕ) (folder : List ℕ) (sync : Bool) (takes : D) (notes : E)
       (opened : OpenedServer (KeptServer (FolderStore D F G) (FolderJournal E H K) S J)) : Type 0 where
     pub over : IsServerOver limit folder sync (table_server opened.server)
-    pub begins : BeginsOver folder sync takes notes (table_server opened.server)
+    pub begins : BeginsOver takes notes (table_server opened.server)
     pub count : ℕ
     pub takes_are : opened.takes ≡ Some count
     pub counted : CountsJournals K folder notes count

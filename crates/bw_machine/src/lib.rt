@@ -9,7 +9,6 @@ mod network;
 mod reporting;
 mod starting;
 mod status;
-mod syncing;
 mod take_events;
 mod terminal;
 

@@ -1,14 +1,13 @@
 //! The opening of a kept server over a folder, under the folder's lock.
-ghost use Rattle.std.specs.Prelude.{◌≡◌, Ok, IfOk, IfErr, OnOk, IsTrue, MatchResult, Result};
+ghost use Rattle.std.specs.Prelude.{◌≡◌, Ok, IfOk, IfErr, MatchResult, Result};
+ghost use Rattle.bw_disk.specs.DiskSteps.{StaysWhole};
 ghost use Rattle.bw_kept.specs.KeptServers.{table_server};
 ghost use Rattle.bw_kept.specs.LeftFolders.{KnowsNone};
 ghost use Rattle.bw_lock.specs.declared.folder_locks.LockRefusal.{LockRefusal as Refusal};
 ghost use Rattle.bw_machine.specs.KeptOpenings.{CountsJournals, HasDisks, IsServerOver};
 ghost use Rattle.bw_machine.specs.KeptOpenings.{IsRefusedUnder, refusal_by, refusal_by_fault};
 ghost use Rattle.bw_machine.specs.OpensHere.{OpensOver};
-ghost use Rattle.bw_machine.specs.SyncedFolders.{KeepsContents, SyncsLeft};
 
-use crate::syncing::sync_if;
 use bw_disk::{ReadFault, Volume};
 use bw_folder::{FolderJournal, FolderStore};
 use bw_journal::Journal;
@@ -32,8 +31,8 @@ pub(crate) struct Locked<S, K> {
     pub(crate) lock: K,
 }
 
-/// Opens a kept server over a folder, once the folder is locked; with syncs, what an earlier server
-/// left there is synced before. No journal is read, and no file is changed.
+/// Opens a kept server over a folder, once the folder is locked. No journal is read, and no file is
+/// changed.
 ///
 /// # Errors
 /// The refusal, with both disks: the lock's, `Device` if a call of a disk failed, `Memory` if memory was
@@ -54,8 +53,7 @@ pub(crate) fn open_locked<L: FolderLocks, D: Volume, E: Volume>(
     ensures { (answer : Result L.Lock Refusal) × L.locks locks.old folder.now answer locks.new
         × MatchResult result
         (λ it. (answer ≡ Ok it.lock) × OpensOver limit folder.now sync takes notes it.opened)
-        (λ e. IsRefusedUnder answer e.0 × KeepsContents D.Disk takes e.1
-        × KeepsContents E.Disk notes e.2) }
+        (λ e. IsRefusedUnder answer e.0 × (e.1 ≡ takes) × StaysWhole E.Disk notes e.2) }
 {
     let lock = match locks.lock(folder) {
         Ok(lock) => lock,
@@ -67,7 +65,7 @@ pub(crate) fn open_locked<L: FolderLocks, D: Volume, E: Volume>(
     }
 }
 
-/// Opens a kept server over a folder; with syncs, what an earlier server left there is synced before.
+/// Opens a kept server over a folder.
 ///
 /// # Errors
 /// The fault, with both disks: `Disk` if a call of a disk failed, `Memory` if memory was refused.
@@ -80,10 +78,10 @@ fn open_over<D: Volume, E: Volume>(
     sync: bool,
 ) -> Result<OpenedServer<KeptOver<D, E>>, (ReadFault, D, E)>
     ensures opened { IfOk result (OpensOver limit folder.now sync takes notes) }
-    ensures back { IfErr result (λ e. KeepsContents D.Disk takes e.1 × KeepsContents E.Disk notes e.2) }
+    ensures back { IfErr result (λ e. (e.1 ≡ takes) × StaysWhole E.Disk notes e.2) }
 {
-    let (mut takes, mut notes) = (takes, notes);
-    let count = match prepare(alloc, &mut takes, &mut notes, folder, sync) {
+    let mut notes = notes;
+    let count = match count_names(alloc, &mut notes, folder) {
         Ok(count) => count,
         Err(fault) => return Err((fault, takes, notes)),
     };
@@ -96,26 +94,15 @@ fn open_over<D: Volume, E: Volume>(
     }
 }
 
-/// Counts the names of a folder that have a journal; with `sync`, what an earlier server left is synced.
+/// Counts the names of a folder that have a journal.
 ///
 /// # Errors
-/// `Disk` if a call of a disk failed, `Memory` if memory was refused.
-fn prepare<D: Volume, E: Volume>(
-    alloc: Global,
-    takes: &mut D,
-    notes: &mut E,
-    folder: &str,
-    sync: bool,
-) -> Result<u64, ReadFault>
-    ensures takes { KeepsContents D.Disk takes.old takes.new }
-    ensures notes { KeepsContents E.Disk notes.old notes.new }
+/// `Disk` if a call of the disk failed, `Memory` if memory was refused.
+fn count_names<E: Volume>(alloc: Global, notes: &mut E, folder: &str) -> Result<u64, ReadFault>
+    ensures notes { StaysWhole E.Disk notes.old notes.new }
     ensures counted { IfOk result (CountsJournals E.Disk folder.now notes.old) }
-    ensures synced { IsTrue sync → IsTrue (D.honest takes.old) → IsTrue (E.honest notes.old) →
-        OnOk result (SyncsLeft folder.now (D.contents takes.old) (D.synced takes.new)
-        (E.contents notes.old) (E.synced notes.new)) }
 {
     let names = list_names(alloc, notes, folder)?;
-    sync_if(alloc, takes, notes, folder, sync)?;
     Ok(names.len() as u64)
 }
 

@@ -38,7 +38,7 @@ pub(crate) fn with_header(alloc: Global, notes: &[&[u8]]) -> Result<Vec<u8>, Fai
 }
 
 /// A disk in memory with a file of `b2` and the journal of `a1`, in which these bytes are noted.
-fn disk_with(alloc: Global, noted: &[u8]) -> Result<MemoryDisk, Fail> {
+pub(crate) fn disk_with(alloc: Global, noted: &[u8]) -> Result<MemoryDisk, Fail> {
     let mut disk = MemoryDisk::new(alloc);
     let _ = disk.create_new("takes/b2.wav")?;
     let mut file = disk.create_new(PATH)?.ok_or("a new file")?;

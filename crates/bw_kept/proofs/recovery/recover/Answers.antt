@@ -16,8 +16,8 @@ returns-in-Ok-clause-recovered g c = λ one.
     let journal = c.args.journal.now in
     let shut = c.release.new.self in
     let shut_journal = c.release-2.new.self in
-    let ended = c.recover_closed.new.store in
-    let ended_journal = c.recover_closed.new.journal in
+    let ended = c.recover_synced.new.store in
+    let ended_journal = c.recover_synced.new.journal in
     let limit = c.args.limit in
     let name = c.args.name.now in
     let seen = same_disks store journal shut shut_journal c.release.ensures.disk c.release.ensures.folder
@@ -32,8 +32,8 @@ returns-in-Ok-clause-opened g c = λ one.
     let journal = c.args.journal.now in
     let shut = c.release.new.self in
     let shut_journal = c.release-2.new.self in
-    let ended = c.recover_closed.new.store in
-    let ended_journal = c.recover_closed.new.journal in
+    let ended = c.recover_synced.new.store in
+    let ended_journal = c.recover_synced.new.journal in
     let limit = c.args.limit in
     let name = c.args.name.now in
     let seen = same_disks store journal shut shut_journal c.release.ensures.disk c.release.ensures.folder
@@ -46,8 +46,8 @@ returns-in-Ok-clause-opened g c = λ one.
 
 pub returns-in-Ok-clause-unchanged : goal.returns-in-Ok-clause-unchanged
 returns-in-Ok-clause-unchanged g c =
-    untouched_beside g.D.Disk g.E.Disk _ _ _ (takes_disk c.recover_closed.new.store) _ _ _
-    (journals_disk c.recover_closed.new.journal) (Ok c.in-Ok.recovered) c.release.ensures.disk refl
+    untouched_beside g.D.Disk g.E.Disk _ _ _ (takes_disk c.recover_synced.new.store) _ _ _
+    (journals_disk c.recover_synced.new.journal) (Ok c.in-Ok.recovered) c.release.ensures.disk refl
     c.release-2.ensures.disk refl c.in-Ok.ensures.alone.unchanged
 
 pub returns-in-Ok-clause-failures : goal.returns-in-Ok-clause-failures
@@ -56,8 +56,8 @@ returns-in-Ok-clause-failures g c = λ one.
     let journal = c.args.journal.now in
     let shut = c.release.new.self in
     let shut_journal = c.release-2.new.self in
-    let ended = c.recover_closed.new.store in
-    let ended_journal = c.recover_closed.new.journal in
+    let ended = c.recover_synced.new.store in
+    let ended_journal = c.recover_synced.new.journal in
     let name = c.args.name.now in
     let seen = same_disks store journal shut shut_journal c.release.ensures.disk c.release.ensures.folder
     c.release-2.ensures.disk c.release-2.ensures.settings.2 in
@@ -73,13 +73,13 @@ returns-in-Err-clause-closed g c =
     let journal = c.args.journal.now in
     let shut = c.release.new.self in
     let shut_journal = c.release-2.new.self in
-    let ended = c.recover_closed.new.store in
-    let ended_journal = c.recover_closed.new.journal in
+    let ended = c.recover_synced.new.store in
+    let ended_journal = c.recover_synced.new.journal in
     let name = c.args.name.now in
     let last = c.release-in-Err.new.self in
     let last_journal = c.release-in-Err-2.new.self in
     closed_again name store journal shut shut_journal ended ended_journal last last_journal c.release.ensures.opened
-    c.release-2.ensures.known c.recover_closed.ensures.alone.apart c.release-in-Err.ensures.opened
+    c.release-2.ensures.known c.recover_synced.ensures.alone.apart c.release-in-Err.ensures.opened
     c.release-in-Err-2.ensures.known
 
 pub returns-in-Err-clause-failures : goal.returns-in-Err-clause-failures
@@ -88,8 +88,8 @@ returns-in-Err-clause-failures g c = λ one.
     let journal = c.args.journal.now in
     let shut = c.release.new.self in
     let shut_journal = c.release-2.new.self in
-    let ended = c.recover_closed.new.store in
-    let ended_journal = c.recover_closed.new.journal in
+    let ended = c.recover_synced.new.store in
+    let ended_journal = c.recover_synced.new.journal in
     let name = c.args.name.now in
     let last = c.release-in-Err.new.self in
     let last_journal = c.release-in-Err-2.new.self in
@@ -130,15 +130,15 @@ returns-in-Ok-clause-kept g c = λ one.
     let journal = c.args.journal.now in
     let shut = c.release.new.self in
     let shut_journal = c.release-2.new.self in
-    let ended = c.recover_closed.new.store in
-    let ended_journal = c.recover_closed.new.journal in
+    let ended = c.recover_synced.new.store in
+    let ended_journal = c.recover_synced.new.journal in
     let limit = c.args.limit in
     let name = c.args.name.now in
     let seen = same_disks store journal shut shut_journal c.release.ensures.disk c.release.ensures.folder
     c.release-2.ensures.disk c.release-2.ensures.settings.2 in
     let one' = same_folder store journal shut shut_journal seen one in
     kept_here store journal shut shut_journal seen ended ended_journal limit name
-    (c.recover_closed.ensures.recovered one').kept
+    (c.recover_synced.ensures.recovered one').kept
 
 pub returns-in-Err-clause-kept : goal.returns-in-Err-clause-kept
 returns-in-Err-clause-kept g c = λ one.
@@ -146,8 +146,8 @@ returns-in-Err-clause-kept g c = λ one.
     let journal = c.args.journal.now in
     let shut = c.release.new.self in
     let shut_journal = c.release-2.new.self in
-    let ended = c.recover_closed.new.store in
-    let ended_journal = c.recover_closed.new.journal in
+    let ended = c.recover_synced.new.store in
+    let ended_journal = c.recover_synced.new.journal in
     let limit = c.args.limit in
     let name = c.args.name.now in
     let last = c.release-in-Err.new.self in
@@ -159,4 +159,4 @@ returns-in-Err-clause-kept g c = λ one.
     c.release-in-Err.ensures.folder c.release-in-Err-2.ensures.disk c.release-in-Err-2.ensures.settings.2 in
     kept_there ended ended_journal last last_journal later store journal limit name
     (kept_here store journal shut shut_journal seen ended ended_journal limit name
-    (c.recover_closed.ensures.recovered one').kept)
+    (c.recover_synced.ensures.recovered one').kept)

@@ -9,9 +9,8 @@ returns-in-Ok-server_over-clause-opened g c =
     let ready = c.in-Ok.ensures in
     record {
       over = made.over;
-      begins = begins_over c.args.folder.now c.args.sync c.args.takes c.prepare.new.takes c.args.notes
-          c.prepare.new.notes (table_server c.in-Ok-server_over.server) made.none made.disks ready.takes ready.notes
-          ready.synced;
+      begins = begins_over c.args.takes c.args.notes c.count_names.new.notes
+          (table_server c.in-Ok-server_over.server) made.none made.disks ready.notes;
       count = c.in-Ok.count;
       takes_are = refl;
       counted = ready.counted;
