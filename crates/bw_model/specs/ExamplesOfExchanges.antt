@@ -6,7 +6,8 @@ use Rattle.bw_model.specs.Wire.{Cut}
 use Rattle.bw_model.specs.Stream.{End, EndOfInput, SaidBye, BadFrame}
 use Rattle.bw_model.specs.Exchange.{Exchange, exchanges, nothing_stands, replies_bytes}
 use Rattle.bw_model.specs.ExampleWords.{hex, plain_header, mono_fmt, two_frames, empty_file, small_file}
-use Rattle.bw_model.specs.ExampleWords.{odd_file, cue_file, open_0, block_1, other_1, close_2, judged_example}
+use Rattle.bw_model.specs.ExampleWords.{odd_file, cue_file, open_0, block_1, other_1, close_2}
+use Rattle.bw_model.specs.ExampleWords.{judged_example}
 use Rattle.bw_model.specs.ExampleWords.{noticed, AnswersWith, file_in, outcome}
 
 -- In order.
@@ -64,7 +65,8 @@ AnyOrderExample = AnswersWith
 abbrev pub RepeatedExample : Type 0
 RepeatedExample = AnswersWith
     (open_0 ++ block_1 ++ block_1 ++ block_1 ++ close_2)
-    (judged_example 0 0 ++ judged_example 1 0 ++ judged_example 1 0 ++ judged_example 1 0 ++ judged_example 2 0)
+    (judged_example 0 0 ++ judged_example 1 0 ++ judged_example 1 0 ++ judged_example 1 0
+    ++ judged_example 2 0)
     EndOfInput (Some small_file)
 
 -- other bytes under a done number are a conflict
@@ -150,7 +152,8 @@ abbrev pub WrongTotalExample : Type 0
 WrongTotalExample = AnswersWith
     (open_0 ++ block_1 ++ wrong_close_2 ++ hex "1000000005026131030000000200000000000000"
     ++ hex "0a00000002026131040000000100")
-    (judged_example 0 0 ++ judged_example 1 0 ++ judged_example 2 0xb ++ judged_example 3 0 ++ judged_example 4 4)
+    (judged_example 0 0 ++ judged_example 1 0 ++ judged_example 2 0xb ++ judged_example 3 0
+    ++ judged_example 4 4)
     EndOfInput (Some small_file)
 
 -- Cue points and fields.
@@ -162,8 +165,8 @@ CueExample = AnswersWith
     ++ hex "1000000003026131030000000700000001000000"
     ++ hex "1000000003026131040000000800000003000000"
     ++ hex "1000000005026131050000000200000000000000")
-    (judged_example 0 0 ++ judged_example 1 0 ++ judged_example 2 0 ++ judged_example 3 8 ++ judged_example 4 7 ++
-    judged_example 5 0)
+    (judged_example 0 0 ++ judged_example 1 0 ++ judged_example 2 0 ++ judged_example 3 8
+    ++ judged_example 4 7 ++ judged_example 5 0)
     EndOfInput (Some cue_file)
 
 -- a Description is at its place, and a date of another form is refused
@@ -188,7 +191,8 @@ abbrev pub NoLoudnessExample : Type 0
 NoLoudnessExample = AnswersWith
     (open_0 ++ hex "0b00000004026131010000000804f7" ++ hex "09000000040261310200000008"
     ++ hex "0900000004026131030000000d" ++ hex "0a00000004026131040000000c01")
-    (judged_example 0 0 ++ judged_example 1 0 ++ judged_example 2 0 ++ judged_example 3 0xa ++ judged_example 4 0xa)
+    (judged_example 0 0 ++ judged_example 1 0 ++ judged_example 2 0 ++ judged_example 3 0xa
+    ++ judged_example 4 0xa)
     EndOfInput (Some empty_file)
 
 -- Asks.

@@ -61,7 +61,10 @@ comes b o r h = go (read b) refl h
 
     go : (x : Result (Form × List Entry) reading.Fault) → read b ≡ x →
         ◌≡◌ {A = Result Recording FaultAt} (elim x [
-          | Err fault ↦ Err (record { kind = Rattle.bw_plan.specs.Recordings.kind_unread fault.kind (other_format_of b); offset = fault.offset })
+          | Err fault ↦ Err (record {
+            kind = Rattle.bw_plan.specs.Recordings.kind_unread fault.kind (other_format_of b);
+            offset = fault.offset;
+          })
           | Ok z ↦ recorded b o z.0 z.1
         ]) (Ok r) → Comes b o r
     go (Err fault) q h = absurd (not_ok h)

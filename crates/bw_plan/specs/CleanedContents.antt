@@ -1,5 +1,6 @@
 -- What a message carries of a file's `bext` and `cue ` chunks, and what is made of the rest.
-use Rattle.std.specs.Prelude.{ℕ, suc, is_none, Bool, true, false, not, ◌&&◌, List, [], ◌∷◌, ◌++◌, length, map}
+use Rattle.std.specs.Prelude.{ℕ, suc, is_none, Bool, true, false, not, ◌&&◌, List, [], ◌∷◌, ◌++◌, length}
+use Rattle.std.specs.Prelude.{map}
 use Rattle.std.specs.Prelude.{take, take_while, fold, codes, nat_lt, nat_le, ◌==◌, if◌then◌else◌}
 use Rattle.std.specs.List.{list_all, list_any}
 use Rattle.std.specs.Char.{is_ascii_digit}
@@ -81,7 +82,8 @@ are_texts_kept tag (bytes ∷ fields) =
 -- .. and so may the coding history
 abbrev pub is_history_kept : List ℕ → Bool
 is_history_kept bytes =
-    nat_le (length (text_cleaned_of bytes)) longest_history && list_all is_history_byte (text_cleaned_of bytes)
+    nat_le (length (text_cleaned_of bytes)) longest_history
+    && list_all is_history_byte (text_cleaned_of bytes)
 
 -- the cue point has a frame of the take, an identifier that none of these has, and a place
 abbrev pub is_marker_kept : ℕ → List (ℕ × ℕ) → RawCue → Bool

@@ -12,7 +12,6 @@ mod peers;
 mod reactor;
 mod recording_files;
 mod starts;
-mod starts_resting;
 mod system;
 mod watch;
 
@@ -25,7 +24,6 @@ pub use pause::Pause;
 pub use peers::{AcceptFault, Peer, Peers};
 pub use reactor::{Accepted, Reactor, Ready, TryAcceptFault, WaitFault};
 pub use recording_files::{FileStamp, RecordingFiles, Stamped};
-pub use starts::{StartRefusal, Starts};
-pub use starts_resting::StartsResting;
+pub use starts::StartRefusal;
 pub use system::System;
 pub use watch::{ProgressReport, Watch};

@@ -1,9 +1,4 @@
-//! Why no server is started, and what one with a journal asks of the system: its start.
-ghost use Rattle.std.specs.Prelude.{◌≡◌, ℕ, Bool, List, Result};
-ghost use Rattle.bw_stream.specs.Moves.{failures_after};
-ghost use Rattle.bw_ports.specs.declared.starts.StartRefusal.{StartRefusal};
-
-use bw_layout::Limit;
+//! Why no server is started.
 use std::io;
 use thiserror::Error;
 
@@ -28,27 +23,4 @@ pub enum StartRefusal {
     /// Memory was refused.
     #[error("out of memory")]
     Memory,
-}
-
-/// Starts servers over what earlier ones left in a folder, and counts failures.
-pub trait Starts<T> {
-    /// How many calls failed; the count stays at 2^64 - 1.
-    ghost failures: { Self → ℕ };
-
-    /// What a call of `start` for this folder, limit and choice of syncs may return, and the state
-    /// after it.
-    ghost starts: { Self → List ℕ → ℕ → Bool → Result T StartRefusal → Self → Type 0 };
-
-    /// A server with this limit over what is in the folder, and its journals; with `sync` each
-    /// verdict is on the disk before it is answered. No other server starts over the folder while
-    /// `self` lives.
-    ///
-    /// # Errors
-    /// Why none is started.
-    ///
-    /// # Not specified
-    /// Anything beyond what each implementation says of itself.
-    fn start(&mut self, folder: &str, limit: Limit, sync: bool) -> Result<T, StartRefusal>
-        ensures received { starts self.old folder.now limit sync result self.new }
-        ensures count { failures self.new ≡ failures_after result (failures self.old) };
 }

@@ -115,8 +115,8 @@ pub record ServerSide (X Z P R W L K N SP SK : Type 0) : Type 1 where
   pub rules : RuleGhosts N
 
 abbrev pub server_side : {X Z P R W L K N SP SK : Type 0} → StoreGhosts X → JournalGhosts Z →
-    PeerGhosts P R W → Reader R → Writer W → ReactorGhosts L K → LinkGhosts K → RuleGhosts N → StatusSide N L SP SK →
-    ServerSide X Z P R W L K N SP SK
+    PeerGhosts P R W → Reader R → Writer W → ReactorGhosts L K → LinkGhosts K → RuleGhosts N →
+    StatusSide N L SP SK → ServerSide X Z P R W L K N SP SK
 server_side store none peers reader writer reactor link rules status = record {
   store = store;
   none = none;

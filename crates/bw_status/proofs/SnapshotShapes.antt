@@ -96,6 +96,6 @@ snapshot-depth s =
     let ls : items_depth (items_of (map left_out_data s.left_out.items)) ≤ 1 =
     left_outs_depth s.left_out.items in
     below _ (max-le (lit≤ tt) (max-le (lit≤ tt) (max-le (lit≤ tt) (max-le (lit≤ tt)
-    (max-le (omega (arith, ls)) (max-le (lit≤ tt) (max-le (flat 3 _ (number_depth s.memory)) (max-le (omega (arith, ms)) (max-le (omega (arith, ns))
-    (max-le (lit≤ tt) (max-le (lit≤ tt) (max-le (lit≤ tt) (max-le (omega (arith, ts)) (max-le (lit≤ tt)
+    (max-le (omega (arith, ls)) (max-le (lit≤ tt) (max-le (flat 3 _ (number_depth s.memory)) (max-le (omega (arith, ms))
+    (max-le (omega (arith, ns)) (max-le (lit≤ tt) (max-le (lit≤ tt) (max-le (lit≤ tt) (max-le (omega (arith, ts)) (max-le (lit≤ tt)
     (max-le (omega (arith, vs)) (lit≤ tt))))))))))))))))

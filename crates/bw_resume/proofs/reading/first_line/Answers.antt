@@ -6,4 +6,5 @@ pub returns-then-len-bytes-clause-line : goal.returns-then-len-bytes-clause-line
 returns-then-len-bytes-clause-line c = unended [] c.args.bytes.now (omega (arith, c.line_len-len.ensures.value))
 
 pub returns-clause-line : goal.returns-clause-line
-returns-clause-line c = ended_slice c.args.bytes.now c.line_len-len.result c.line_len-len.ensures.value (omega (arith, c.line_len-len.ensures.within))
+returns-clause-line c = ended_slice c.args.bytes.now c.line_len-len.result c.line_len-len.ensures.value
+    (omega (arith, c.line_len-len.ensures.within))

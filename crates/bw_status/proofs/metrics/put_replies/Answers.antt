@@ -4,4 +4,5 @@ use Rattle.bw_status.proofs.metrics.put_replies.Goals as goal
 
 pub returns : goal.returns
 returns c = on_ok_weaker c.put_notices.result
-    (λ is. four _ _ _ _ _ _ _ _ _ c.in_ok-put_metric.ensures c.in_ok-put_messages.ensures c.in_ok-put_verdicts.ensures is) c.put_notices.ensures
+    (λ is. four _ _ _ _ _ _ _ _ _ c.in_ok-put_metric.ensures c.in_ok-put_messages.ensures
+    c.in_ok-put_verdicts.ensures is) c.put_notices.ensures
