@@ -1,3 +1,4 @@
 pub mod SampleLemmas
 pub mod BodyLemmas
 pub mod GiveUpLemmas
+pub mod DigestLemmas

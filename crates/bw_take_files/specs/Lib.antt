@@ -1,3 +1,4 @@
 pub mod TakeSamples
+pub mod SampleDigests
 pub mod BlockDigests
 pub mod GivenUp

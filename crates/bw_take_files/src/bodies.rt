@@ -125,7 +125,7 @@ pub(crate) fn read_from<D: Volume>(
     offset: u64,
     room: &mut [u8],
 ) -> Result<usize, ReadFault>
-    requires offset { offset < 2 ^ 62 }
+    requires offset { offset < 2 ^ 63 }
     ensures disk { StaysWhole D.Disk disk.old disk.new }
     ensures path { D.path_of file.new ≡ D.path_of file.old }
     ensures room { length room.new ≡ length room.old }

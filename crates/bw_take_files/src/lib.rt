@@ -1,13 +1,15 @@
-//! What can be done with the files of a take: their samples are compared with its journal, or they
-//! are put aside.
+//! What can be done with the files of a take: their samples are compared with its journal or hashed,
+//! or they are put aside.
 //! Not stated: that other samples of the same length don't have the same digest (a premise).
 #![tactic(auto)]
 
 mod block_digests;
 mod bodies;
 mod giving_up;
+mod sample_digest;
 mod samples;
 mod stored_block;
 
 pub use giving_up::{GiveUpFault, give_up_take};
+pub use sample_digest::digest_samples;
 pub use samples::find_changed;
