@@ -7,8 +7,7 @@ use Rattle.std.proofs.lemmas.List.{map-append}
 use Rattle.std.proofs.lemmas.List.Sums.{fold-append}
 use Rattle.bw_disk.specs.DiskSteps.{StaysWhole}
 use Rattle.bw_disk.specs.declared.disk.Disk.{Ghosts}
-use Rattle.bw_takes.specs.declared.listing.LineStyle.{LineStyle}
-use Rattle.bw_takes.specs.declared.comparing.Depth.{Depth}
+use Rattle.bw_takes.specs.declared.listing.ReportForm.{ReportForm}
 use Rattle.bw_takes.specs.declared.unread.TakeEntry.{TakeEntry}
 use Rattle.bw_takes.specs.TakeReports.{Told, TellsTake, told_after, nothing_told}
 
@@ -21,25 +20,25 @@ abbrev pub names_of : List (List ℕ × Option TakeEntry) → List (List ℕ)
 names_of takes = map (λ take. take.0) takes
 
 -- what is told of these takes
-pub record TellsOf (style : LineStyle) (depth : Depth) (folder : List ℕ) (contents : List ℕ → Option (List ℕ))
+pub record TellsOf (form : ReportForm) (folder : List ℕ) (contents : List ℕ → Option (List ℕ))
     (names : List (List ℕ)) (told : Told) : Type 0 where
   pub takes : List (List ℕ × Option TakeEntry)
   pub named : names_of takes ≡ names
-  pub tells : told ≡ fold (told_after style depth folder contents) nothing_told takes
+  pub tells : told ≡ fold (told_after form folder contents) nothing_told takes
 
 -- nothing of none
-pub tells_none : (style : LineStyle) (depth : Depth) (folder : List ℕ) (contents : List ℕ → Option (List ℕ)) →
-    TellsOf style depth folder contents [] nothing_told
-tells_none style depth folder contents = record { takes = []; named = refl; tells = refl }
+pub tells_none : (form : ReportForm) (folder : List ℕ) (contents : List ℕ → Option (List ℕ)) →
+    TellsOf form folder contents [] nothing_told
+tells_none form folder contents = record { takes = []; named = refl; tells = refl }
 
 -- and one more
-tells_more : (style : LineStyle) (depth : Depth) (folder : List ℕ) (contents : List ℕ → Option (List ℕ))
+tells_more : (form : ReportForm) (folder : List ℕ) (contents : List ℕ → Option (List ℕ))
     (ys : List (Bor (List ℕ))) (y : Bor (List ℕ)) (before after : Told) →
-    TellsOf style depth folder contents (lent ys) before → TellsTake style depth folder contents y.now before after →
-    TellsOf style depth folder contents (lent (ys ++ y ∷ [])) after
-tells_more style depth folder contents ys y before after so next =
+    TellsOf form folder contents (lent ys) before → TellsTake form folder contents y.now before after →
+    TellsOf form folder contents (lent (ys ++ y ∷ [])) after
+tells_more form folder contents ys y before after so next =
     let take : List ℕ × Option TakeEntry = (y.now, next.0) in
-    let f = told_after style depth folder contents in
+    let f = told_after form folder contents in
     record {
       takes = so.takes ++ take ∷ [];
       named = map-append (λ (t : List ℕ × Option TakeEntry). t.0) so.takes (take ∷ [])
@@ -49,14 +48,14 @@ tells_more style depth folder contents ys y before after so next =
     }
 
 -- on a disk that is as it was
-pub tells_next : {D F : Type 0} (G : Ghosts D F) (style : LineStyle) (depth : Depth) (folder : List ℕ) (d e : D) →
+pub tells_next : {D F : Type 0} (G : Ghosts D F) (form : ReportForm) (folder : List ℕ) (d e : D) →
     StaysWhole G d e → IsTrue (G.honest d) → (ys : List (Bor (List ℕ))) (y : Bor (List ℕ)) (before after : Told) →
-    TellsOf style depth folder (G.contents d) (lent ys) before →
-    (IsTrue (G.honest e) → TellsTake style depth folder (G.contents e) y.now before after) →
-    TellsOf style depth folder (G.contents d) (lent (ys ++ y ∷ [])) after
-tells_next G style depth folder d e same honest ys y before after so next =
-    tells_more style depth folder (G.contents d) ys y before after so
-    (subst (λ (c : List ℕ → Option (List ℕ)). TellsTake style depth folder c y.now before after)
+    TellsOf form folder (G.contents d) (lent ys) before →
+    (IsTrue (G.honest e) → TellsTake form folder (G.contents e) y.now before after) →
+    TellsOf form folder (G.contents d) (lent (ys ++ y ∷ [])) after
+tells_next G form folder d e same honest ys y before after so next =
+    tells_more form folder (G.contents d) ys y before after so
+    (subst (λ (c : List ℕ → Option (List ℕ)). TellsTake form folder c y.now before after)
     (fun_ext (same.contents honest)) (next (subst IsTrue (sym same.honest) honest)))
 
 pub told_same : (l m u v : List ℕ) (s t : Bool) → l ≡ m → u ≡ v → s ≡ t →

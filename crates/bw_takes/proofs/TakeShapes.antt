@@ -3,8 +3,11 @@ use Rattle.std.proofs.Common.{◌≡◌, ℕ, ◌*◌, ◌≤◌, Bool, true, fa
 use Rattle.std.specs.Prelude.{◌/◌, ◌^◌}
 use Rattle.serde_json.specs.Data.{depth, null}
 use Rattle.serde_json.specs.Written.{has_float}
-use Rattle.bw_takes.specs.TakeObjects.{duration_data, take_number, summary_data}
+use Rattle.bw_model.proofs.Computing.{computing}
+use Rattle.bw_takes.specs.TakeObjects.{duration_data, take_data, take_number}
 use Rattle.bw_takes.specs.TakeSummaries.{TakeSummary, Stands, Unopened, Opened, Faulty, Changed}
+use Rattle.bw_takes.specs.declared.hashing.SampleDigest.{SampleDigest}
+use Rattle.bw_takes.specs.declared.hashing.SampleDigest.TheVariants.{Unasked, Missing, Known}
 
 duration : (count rate : ℕ) → has_float (duration_data count rate) ≡ false
 duration count rate = go (nat_lt (count * 1000 / rate) (2 ^ 64))
@@ -13,12 +16,24 @@ duration count rate = go (nat_lt (count * 1000 / rate) (2 ^ 64))
     go true = refl
     go false = refl
 
-pub summary-has_float : (name : List ℕ) (summary : TakeSummary) → has_float (summary_data name summary) ≡ false
-summary-has_float name (Stands next) = refl
-summary-has_float name (Unopened next) = refl
-summary-has_float name (Opened closed count rate next) = simp duration
-summary-has_float name (Faulty cause) = refl
-summary-has_float name (Changed number) = refl
+pub take-has_float : (name : List ℕ) (summary : TakeSummary) (digest : SampleDigest) →
+    has_float (take_data name summary digest) ≡ false
+unfolding computing
+take-has_float name (Stands next) Unasked = refl
+take-has_float name (Stands next) Missing = refl
+take-has_float name (Stands next) (Known d) = refl
+take-has_float name (Unopened next) Unasked = refl
+take-has_float name (Unopened next) Missing = refl
+take-has_float name (Unopened next) (Known d) = refl
+take-has_float name (Opened closed count rate next) Unasked = simp duration
+take-has_float name (Opened closed count rate next) Missing = simp duration
+take-has_float name (Opened closed count rate next) (Known d) = simp duration
+take-has_float name (Faulty cause) Unasked = refl
+take-has_float name (Faulty cause) Missing = refl
+take-has_float name (Faulty cause) (Known d) = refl
+take-has_float name (Changed number) Unasked = refl
+take-has_float name (Changed number) Missing = refl
+take-has_float name (Changed number) (Known d) = refl
 
 duration_depth : (count rate : ℕ) → depth (duration_data count rate) ≡ 0
 duration_depth count rate = go (nat_lt (count * 1000 / rate) (2 ^ 64))
@@ -27,9 +42,21 @@ duration_depth count rate = go (nat_lt (count * 1000 / rate) (2 ^ 64))
     go true = refl
     go false = refl
 
-pub summary-depth : (name : List ℕ) (summary : TakeSummary) → depth (summary_data name summary) ≤ 127
-summary-depth name (Stands next) = lit≤ tt
-summary-depth name (Unopened next) = lit≤ tt
-summary-depth name (Opened closed count rate next) = simp duration_depth (lit≤ tt)
-summary-depth name (Faulty cause) = lit≤ tt
-summary-depth name (Changed number) = lit≤ tt
+pub take-depth : (name : List ℕ) (summary : TakeSummary) (digest : SampleDigest) →
+    depth (take_data name summary digest) ≤ 127
+unfolding computing
+take-depth name (Stands next) Unasked = lit≤ tt
+take-depth name (Stands next) Missing = lit≤ tt
+take-depth name (Stands next) (Known d) = lit≤ tt
+take-depth name (Unopened next) Unasked = lit≤ tt
+take-depth name (Unopened next) Missing = lit≤ tt
+take-depth name (Unopened next) (Known d) = lit≤ tt
+take-depth name (Opened closed count rate next) Unasked = simp duration_depth (lit≤ tt)
+take-depth name (Opened closed count rate next) Missing = simp duration_depth (lit≤ tt)
+take-depth name (Opened closed count rate next) (Known d) = simp duration_depth (lit≤ tt)
+take-depth name (Faulty cause) Unasked = lit≤ tt
+take-depth name (Faulty cause) Missing = lit≤ tt
+take-depth name (Faulty cause) (Known d) = lit≤ tt
+take-depth name (Changed number) Unasked = lit≤ tt
+take-depth name (Changed number) Missing = lit≤ tt
+take-depth name (Changed number) (Known d) = lit≤ tt

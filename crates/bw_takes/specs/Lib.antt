@@ -2,6 +2,7 @@ pub mod TakeNames
 pub mod TakeFindings
 pub mod TakeLines
 pub mod TakeSummaries
+pub mod TakeDigests
 pub mod TakeObjects
 pub mod UnreadEntries
 pub mod TakeReports

@@ -8,10 +8,9 @@ use Rattle.bw_stream.specs.declared.sink.Sink.{Ghosts as Writer}
 use Rattle.bw_console.specs.declared.exit.Exit.{Exit}
 use Rattle.bw_console.specs.declared.exit.Exit.TheVariants as exits
 use Rattle.bw_console.specs.declared.fault.Fault.TheVariants as faults
-use Rattle.bw_takes.specs.declared.listing.LineStyle.{LineStyle}
+use Rattle.bw_takes.specs.declared.listing.ReportForm.{ReportForm}
 use Rattle.bw_takes.specs.TakeReports.{ReportsTakes, Told}
 use Rattle.bw_takes.specs.UnreadEntries.{unread_text}
-use Rattle.bw_takes.specs.declared.comparing.Depth.{Depth}
 
 -- how the command ends that has printed its lines
 abbrev pub exit_for : Bool → Exit
@@ -49,10 +48,10 @@ ReportsUnread reported told exit e e' =
     × ((print : Print) × IsOf told.unread print × IsPrint reported print e e'))
 
 -- the takes of a folder are reported
-pub record ShowsReport (style : LineStyle) (depth : Depth) (honest : Bool) (folder : List ℕ)
+pub record ShowsReport (form : ReportForm) (honest : Bool) (folder : List ℕ)
     (contents : List ℕ → Option (List ℕ)) (did : Outcome) : Type 0 where
   pub told : Told
-  pub is : IsTrue honest → ReportsTakes style depth folder contents told
+  pub is : IsTrue honest → ReportsTakes form folder contents told
   pub printed : PrintsTold told did
   pub reads : did.reads_all ≡ true
 
@@ -64,8 +63,7 @@ pub record IsFolderUnread (folder : List ℕ) (did : Outcome) : Type 0 where
   pub reads : did.reads_all ≡ true
 
 -- what the command did over a folder, where the disk is as honest as this, and has these contents
-abbrev pub IsShowing : LineStyle → Depth → Bool → List ℕ → (List ℕ → Option (List ℕ)) →
-    Outcome → Type 0
-IsShowing style depth honest folder contents did =
-    ShowsReport style depth honest folder contents did ⊎ IsFolderUnread folder did
+abbrev pub IsShowing : ReportForm → Bool → List ℕ → (List ℕ → Option (List ℕ)) → Outcome → Type 0
+IsShowing form honest folder contents did =
+    ShowsReport form honest folder contents did ⊎ IsFolderUnread folder did
     ⊎ IsOutOfMemory did

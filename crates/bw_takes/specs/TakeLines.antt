@@ -2,7 +2,7 @@
 use Rattle.std.specs.Prelude.{◌/◌, ◌%◌, ◌*◌, ◌==◌, ◌&&◌, ℕ, Bool, Result, Ok, Err}
 use Rattle.std.specs.Prelude.{List, [], ◌∷◌, ◌++◌, codes, decimal, length, take, drop}
 use Rattle.std.specs.Prelude.{min, nat_le, if◌then◌else◌}
-use Rattle.hex.specs.Hex.{decode_sized}
+use Rattle.hex.specs.Hex.{decode_sized, encode_lower}
 use Rattle.hex.specs.declared.error.FromHexError.{FromHexError}
 use Rattle.bw_model.specs.Bytes.{u32_at}
 use Rattle.bw_journal.specs.Lines.{before_zero}
@@ -12,6 +12,8 @@ use Rattle.bw_journal.specs.declared.fault.ReplayFault.{ReplayFault}
 use Rattle.bw_journal.specs.declared.fault.ReplayFault.TheVariants as faults
 use Rattle.bw_recovery.specs.Causes.{file_cause_text, journal_text}
 use Rattle.bw_recovery.specs.Names.{NameFault, OfJournal, OfFile}
+use Rattle.bw_takes.specs.declared.hashing.SampleDigest.{SampleDigest}
+use Rattle.bw_takes.specs.declared.hashing.SampleDigest.TheVariants.{Unasked, Missing, Known}
 
 -- the largest limit
 abbrev pub largest_limit : ℕ
@@ -64,15 +66,23 @@ unfoldable pub timed_start : List ℕ → List ℕ → ℕ → ℕ → List ℕ
 timed_start name word count seconds = name ++ codes " " ++ word ++ codes " frames "
     ++ decimal count ++ codes " seconds " ++ decimal seconds ++ codes "."
 
--- and how it ends: three digits of the thousandths, and the next number
-unfoldable pub timed_end : ℕ → ℕ → List ℕ
-timed_end part next = decimal (part / 100) ++ decimal (part / 10 % 10) ++ decimal (part % 10)
-    ++ codes " next " ++ decimal next ++ codes "\n"
+-- and how it goes on: three digits of the thousandths
+unfoldable pub timed_part : ℕ → List ℕ
+timed_part part = decimal (part / 100) ++ decimal (part / 10 % 10) ++ decimal (part % 10)
+    ++ codes " next "
 
--- the line of a take with so many frames at a rate: its state, frames, seconds and the next number
-abbrev pub opened_line : List ℕ → List ℕ → ℕ → ℕ → ℕ → List ℕ
-opened_line name word count rate next =
-    timed_start name word count (count / rate) ++ timed_end (thousandths count rate) next
+-- and how it ends: the next number, and the SHA-256 of the samples in hex, if it is known
+unfoldable pub next_end : ℕ → SampleDigest → List ℕ
+next_end next Unasked = decimal next ++ codes "\n"
+next_end next Missing = decimal next ++ codes "\n"
+next_end next (Known digest) =
+    decimal next ++ codes " sha256=" ++ encode_lower digest ++ codes "\n"
+
+-- the line of a take with so many frames at a rate: its state, frames, seconds, the next number and the
+-- digest of its samples
+abbrev pub opened_line : List ℕ → List ℕ → ℕ → ℕ → ℕ → SampleDigest → List ℕ
+opened_line name word count rate next digest = timed_start name word count (count / rate)
+    ++ timed_part (thousandths count rate) ++ next_end next digest
 
 -- the line of a take with which this is wrong at a number
 unfoldable pub numbered_line : List ℕ → List ℕ → ℕ → List ℕ

@@ -1,9 +1,13 @@
 -- A take as JSON. The members of an object are in the order of their keys, as they are printed.
 use Rattle.std.specs.Prelude.{ℕ, ◌*◌, ◌/◌, ◌^◌, nat_lt, true, false, if◌then◌else◌}
 use Rattle.std.specs.Prelude.{List, Option, Some, None, codes}
-use Rattle.serde_json.specs.Data.{Data, null, boolean, number, string, unsigned, object, member, no_members}
+use Rattle.hex.specs.Hex.{encode_lower}
+use Rattle.serde_json.specs.Data.{Data, Members, null, boolean, number, string, unsigned}
+use Rattle.serde_json.specs.Data.{object, member, no_members, put}
 use Rattle.bw_takes.specs.TakeLines.{state_word}
 use Rattle.bw_takes.specs.TakeSummaries.{TakeSummary, Stands, Unopened, Opened, Faulty, Changed}
+use Rattle.bw_takes.specs.declared.hashing.SampleDigest.{SampleDigest}
+use Rattle.bw_takes.specs.declared.hashing.SampleDigest.TheVariants.{Unasked, Missing, Known}
 
 -- a number
 abbrev pub take_number : ℕ → Data
@@ -67,3 +71,18 @@ summary_data name (Opened closed count rate next) =
     opened_object name (state_word closed) count rate next
 summary_data name (Faulty cause) = faulty_object name cause None
 summary_data name (Changed block) = faulty_object name (codes "ChangedBlock") (Some block)
+
+-- members with the SHA-256 of the samples in hex, where it is asked for: null where there is none
+abbrev pub with_digest : SampleDigest → Members → Members
+with_digest Unasked members = members
+with_digest Missing members = put (codes "sha256") null members
+with_digest (Known digest) members = put (codes "sha256") (string (encode_lower digest)) members
+
+-- an object with it
+abbrev pub digest_added : SampleDigest → Data → Data
+digest_added digest (object members) = object (with_digest digest members)
+digest_added digest other = other
+
+-- a take of which this is reported, and the digest of its samples
+abbrev pub take_data : List ℕ → TakeSummary → SampleDigest → Data
+take_data name summary digest = digest_added digest (summary_data name summary)

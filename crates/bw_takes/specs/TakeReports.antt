@@ -4,7 +4,9 @@ use Rattle.std.specs.Prelude.{codes}
 use Rattle.serde_json.specs.Written.{compact_text}
 use Rattle.bw_console.specs.Text.{as_line}
 use Rattle.bw_journal.specs.Rows.{row_count}
+use Rattle.bw_model.specs.Take.{Parts}
 use Rattle.bw_takes.specs.declared.listing.LineStyle.{LineStyle}
+use Rattle.bw_takes.specs.declared.listing.ReportForm.{ReportForm}
 use Rattle.bw_takes.specs.declared.listing.TakesReport.{TakesReport}
 use Rattle.bw_takes.specs.declared.listing.LineStyle.TheVariants.{Words, Json}
 use Rattle.bw_recovery.specs.Causes.{journal_text, file_cause_text}
@@ -13,7 +15,8 @@ use Rattle.bw_recovery.specs.declared.finding.NameFault.{NameFault as Fault}
 use Rattle.bw_recovery.specs.declared.finding.NameFault.TheVariants.{Journal, OtherLimit, File}
 use Rattle.bw_takes.specs.TakeLines.{next_line, numbered_line, opened_line, state_word, word_line}
 use Rattle.bw_takes.specs.TakeNames.{ListsTakes, AreNamesInOrder}
-use Rattle.bw_takes.specs.TakeObjects.{summary_data}
+use Rattle.bw_takes.specs.TakeObjects.{take_data}
+use Rattle.bw_takes.specs.TakeDigests.{closed_take, digest_said}
 use Rattle.bw_takes.specs.TakeSummaries.{TakeSummary, Stands, Unopened, Opened, Faulty, Changed}
 use Rattle.bw_takes.specs.TakeSummaries.{is_sound_summary, story_summary, take_summary}
 use Rattle.bw_takes.specs.declared.comparing.Depth.{Depth}
@@ -22,6 +25,7 @@ use Rattle.bw_takes.specs.UnreadEntries.{entry_path, unread_text}
 use Rattle.bw_takes.specs.declared.finding.TakeFinding.{TakeFinding}
 use Rattle.bw_takes.specs.declared.finding.TakeFinding.TheVariants.{Stood, Unbegun, Refused, Begun}
 use Rattle.bw_takes.specs.declared.finding.TakeFinding.TheVariants.{Changed as HasChanged}
+use Rattle.bw_takes.specs.declared.hashing.SampleDigest.{SampleDigest}
 use Rattle.bw_takes.specs.declared.unread.TakeEntry.{TakeEntry}
 
 -- a cause in one word
@@ -38,19 +42,19 @@ finding_summary (Refused cause) = Faulty (cause_word cause)
 finding_summary (Begun r) = story_summary r.state.parts (row_count r.table.items)
 finding_summary (HasChanged number) = Changed number
 
--- its line of words
-abbrev pub summary_line : List ℕ → TakeSummary → List ℕ
-summary_line name (Stands next) = next_line name (codes "stood") next
-summary_line name (Unopened next) = next_line name (codes "unopened") next
-summary_line name (Opened closed count rate next) =
-    opened_line name (state_word closed) count rate next
-summary_line name (Faulty cause) = word_line name cause
-summary_line name (Changed number) = numbered_line name (codes "ChangedBlock") number
+-- its line of words, with what is said of its samples' digest
+abbrev pub summary_line : List ℕ → TakeSummary → SampleDigest → List ℕ
+summary_line name (Stands next) digest = next_line name (codes "stood") next
+summary_line name (Unopened next) digest = next_line name (codes "unopened") next
+summary_line name (Opened closed count rate next) digest =
+    opened_line name (state_word closed) count rate next digest
+summary_line name (Faulty cause) digest = word_line name cause
+summary_line name (Changed number) digest = numbered_line name (codes "ChangedBlock") number
 
 -- its line in this style
-abbrev pub styled_line : LineStyle → List ℕ → TakeSummary → List ℕ
-styled_line Words name summary = summary_line name summary
-styled_line Json name summary = as_line (compact_text (summary_data name summary))
+abbrev pub styled_line : LineStyle → List ℕ → TakeSummary → SampleDigest → List ℕ
+styled_line Words name summary digest = summary_line name summary digest
+styled_line Json name summary digest = as_line (compact_text (take_data name summary digest))
 
 -- whether samples are compared
 abbrev pub is_deep : Depth → Bool
@@ -62,11 +66,20 @@ abbrev pub summary_in : Depth → List ℕ → (List ℕ → Option (List ℕ)) 
 summary_in depth folder contents name = take_summary (is_deep depth) name
     (contents (notes_path folder name)) (contents (wave_path folder name))
 
+-- the take, if it is closed and nothing is wrong with it
+abbrev pub closed_in : Depth → List ℕ → (List ℕ → Option (List ℕ)) → List ℕ → Option Parts
+closed_in depth folder contents name = closed_take (is_deep depth) name
+    (contents (notes_path folder name)) (contents (wave_path folder name))
+
+-- what is said of the digest of its samples
+abbrev pub digest_in : ReportForm → List ℕ → (List ℕ → Option (List ℕ)) → List ℕ → SampleDigest
+digest_in form folder contents name = digest_said form.digest
+    (closed_in form.depth folder contents name) (contents (wave_path folder name))
+
 -- its line
-abbrev pub line_in : LineStyle → Depth → List ℕ → (List ℕ → Option (List ℕ)) → List ℕ →
-    List ℕ
-line_in style depth folder contents name =
-    styled_line style name (summary_in depth folder contents name)
+abbrev pub line_in : ReportForm → List ℕ → (List ℕ → Option (List ℕ)) → List ℕ → List ℕ
+line_in form folder contents name = styled_line form.style name
+    (summary_in form.depth folder contents name) (digest_in form folder contents name)
 
 -- nothing is wrong with it
 abbrev pub is_sound_in : Depth → List ℕ → (List ℕ → Option (List ℕ)) → List ℕ → Bool
@@ -88,24 +101,24 @@ abbrev pub nothing_told : Told
 nothing_told = record { lines = []; unread = []; sound = true }
 
 -- what is reported after one more take, of which a file may be one that can't be read
-abbrev pub told_after : LineStyle → Depth → List ℕ → (List ℕ → Option (List ℕ)) → Told →
+abbrev pub told_after : ReportForm → List ℕ → (List ℕ → Option (List ℕ)) → Told →
     List ℕ × Option TakeEntry → Told
-told_after style depth folder contents told (name, None) = record {
-  lines = told.lines ++ line_in style depth folder contents name;
+told_after form folder contents told (name, None) = record {
+  lines = told.lines ++ line_in form folder contents name;
   unread = told.unread;
-  sound = told.sound && is_sound_in depth folder contents name;
+  sound = told.sound && is_sound_in form.depth folder contents name;
 }
-told_after style depth folder contents told (name, Some entry) = record {
+told_after form folder contents told (name, Some entry) = record {
   lines = told.lines;
   unread = told.unread ++ unread_text (entry_path entry folder name);
   sound = told.sound;
 }
 
 -- one more take is reported
-abbrev pub TellsTake : LineStyle → Depth → List ℕ → (List ℕ → Option (List ℕ)) → List ℕ →
-    Told → Told → Type 0
-TellsTake style depth folder contents name before after = (unread : Option TakeEntry)
-    × (after ≡ told_after style depth folder contents before (name, unread))
+abbrev pub TellsTake : ReportForm → List ℕ → (List ℕ → Option (List ℕ)) → List ℕ → Told → Told →
+    Type 0
+TellsTake form folder contents name before after = (unread : Option TakeEntry)
+    × (after ≡ told_after form folder contents before (name, unread))
 
 -- the line on a file of a take is added
 abbrev pub TellsUnreadEntry : List ℕ → List ℕ → List ℕ → List ℕ → Type 0
@@ -113,9 +126,9 @@ TellsUnreadEntry folder name before after =
     (entry : TakeEntry) × (after ≡ before ++ unread_text (entry_path entry folder name))
 
 -- This is reported of the takes of a folder, in the order of their names' bytes.
-pub record ReportsTakes (style : LineStyle) (depth : Depth) (folder : List ℕ)
+pub record ReportsTakes (form : ReportForm) (folder : List ℕ)
     (contents : List ℕ → Option (List ℕ)) (told : Told) : Type 0 where
   pub takes : List (List ℕ × Option TakeEntry)
   pub ordered : AreNamesInOrder (map (λ take. take.0) takes)
   pub lists : ListsTakes folder contents (map (λ take. take.0) takes)
-  pub tells : told ≡ fold (told_after style depth folder contents) nothing_told takes
+  pub tells : told ≡ fold (told_after form folder contents) nothing_told takes

@@ -4,7 +4,8 @@ ghost use Rattle.bw_disk.specs.DiskSteps.{StaysWhole};
 ghost use Rattle.bw_journal.specs.Rows.{row_count};
 ghost use Rattle.bw_recovery.specs.Paths.{wave_path, notes_path};
 ghost use Rattle.bw_takes.specs.TakeFindings.{IsTakeFound};
-ghost use Rattle.bw_takes.specs.TakeReports.{finding_summary, summary_in};
+ghost use Rattle.bw_takes.specs.TakeDigests.{closed_unless, found_closed};
+ghost use Rattle.bw_takes.specs.TakeReports.{closed_in, finding_summary, summary_in};
 ghost use Rattle.bw_takes.specs.TakeSummaries.{changed_beside, checked_summary, story_summary};
 
 use crate::finding::{TakeFinding, look_at_take};
@@ -49,6 +50,9 @@ pub fn examine_take<D: Volume>(
     // The fault of a start, or what the journal says; then the first number that isn't there.
     ensures found { IsTrue (D.honest disk.old) → IfOk result (λ found. finding_summary found
         ≡ summary_in depth folder.now (D.contents disk.old) name.now) }
+    // The take, if it is closed and nothing is wrong with it.
+    ensures closed { IsTrue (D.honest disk.old) → IfOk result (λ found. found_closed found
+        ≡ closed_in depth folder.now (D.contents disk.old) name.now) }
 {
     let found = look_at_take(alloc, disk, folder, name)?;
     match depth {
@@ -70,6 +74,10 @@ fn compare<D: Volume>(
         IsTakeFound name.now (D.contents disk.old (notes_path folder.now name.now))
         (D.contents disk.old (wave_path folder.now name.now)) found →
         finding_summary after ≡ summary_in Depth.Samples folder.now (D.contents disk.old) name.now) }
+    ensures closed { IsTrue (D.honest disk.old) → IfOk result (λ after.
+        IsTakeFound name.now (D.contents disk.old (notes_path folder.now name.now))
+        (D.contents disk.old (wave_path folder.now name.now)) found →
+        found_closed after ≡ closed_in Depth.Samples folder.now (D.contents disk.old) name.now) }
 {
     match found {
         TakeFinding::Begun(replayed) => compare_begun(alloc, disk, folder, name, replayed),
@@ -94,6 +102,10 @@ fn compare_begun<D: Volume>(
         (D.contents disk.old (notes_path folder.now name.now))
         (D.contents disk.old (wave_path folder.now name.now)))
         (story_summary replayed.state.parts (row_count replayed.table.items))) }
+    ensures closed { IsTrue (D.honest disk.old) → IfOk result (λ after. found_closed after
+        ≡ closed_unless (changed_beside name.now replayed.state.parts
+        (D.contents disk.old (notes_path folder.now name.now))
+        (D.contents disk.old (wave_path folder.now name.now))) replayed.state.parts) }
 {
     match look_at_samples(alloc, disk, folder, name, &replayed.state)? {
         Some(number) => Ok(TakeFinding::Changed(number)),

@@ -1,49 +1,107 @@
 //! A take as JSON (RFC 8259).
-ghost use Rattle.std.specs.Prelude.{◌≡◌, ◌≤◌, IfOk, Some, string_bytes};
+ghost use Rattle.std.specs.Prelude.{◌≡◌, ◌≤◌, IfOk, OnOk, Some, string_bytes};
 ghost use Rattle.serde_json.specs.Read.{read};
-ghost use Rattle.serde_json.specs.View.{view};
+ghost use Rattle.serde_json.specs.View.{members_view, view};
 ghost use Rattle.serde_json.specs.Written.{compact_text};
 ghost use Rattle.bw_journal.specs.Rows.{row_count};
 ghost use Rattle.bw_takes.specs.TakeObjects.{duration_data, faulty_object, take_number_or_null, opened_object};
-ghost use Rattle.bw_takes.specs.TakeObjects.{still_object, summary_data};
+ghost use Rattle.bw_takes.specs.TakeObjects.{digest_added, still_object, summary_data, take_data};
+ghost use Rattle.bw_takes.specs.TakeObjects.{with_digest as members_with};
 ghost use Rattle.bw_takes.specs.TakeReports.{finding_summary};
 ghost use Rattle.bw_takes.specs.TakeSummaries.{story_summary};
 
 use crate::finding::TakeFinding;
+use crate::hashing::SampleDigest;
 use crate::line::{cause_word, state_word};
 use bw_journal::Replayed;
 use bw_request::Name;
-use serde_json::{Value, json};
+use serde_json::{Map, Value, json, put};
 use std::alloc::{AllocError, Global};
 
-/// The object of a take of which this is found, as text without a line's end.
+/// The object of a take of which this is found, with the digest of its samples as far as it is asked
+/// for, as text without a line's end.
 ///
 /// # Errors
 /// `AllocError` if memory was refused.
 ///
 /// # Not specified
 /// When memory is refused.
-pub fn take_json(alloc: Global, name: &Name, finding: &TakeFinding) -> Result<String, AllocError>
+pub fn take_json(
+    alloc: Global,
+    name: &Name,
+    finding: &TakeFinding,
+    digest: SampleDigest,
+) -> Result<String, AllocError>
     ensures text { IfOk result (λ t. string_bytes t
-        ≡ compact_text (summary_data name.now (finding_summary finding.now))) }
+        ≡ compact_text (take_data name.now (finding_summary finding.now) digest)) }
     // It is read back as the same object.
     ensures reads_back { IfOk result (λ t. read (string_bytes t)
-        ≡ Some (summary_data name.now (finding_summary finding.now))) }
+        ≡ Some (take_data name.now (finding_summary finding.now) digest)) }
 {
     let Ok(name) = std::str::from_utf8(name.as_bytes()) else {
         return Err(AllocError);
     };
-    named_json(alloc, name, finding)
+    named_json(alloc, name, finding, digest)
 }
 
-fn named_json(alloc: Global, name: &str, finding: &TakeFinding) -> Result<String, AllocError>
+fn named_json(
+    alloc: Global,
+    name: &str,
+    finding: &TakeFinding,
+    digest: SampleDigest,
+) -> Result<String, AllocError>
     ensures text { IfOk result (λ t. string_bytes t
-        ≡ compact_text (summary_data name.now (finding_summary finding.now))) }
+        ≡ compact_text (take_data name.now (finding_summary finding.now) digest)) }
     ensures reads_back { IfOk result (λ t. read (string_bytes t)
-        ≡ Some (summary_data name.now (finding_summary finding.now))) }
+        ≡ Some (take_data name.now (finding_summary finding.now) digest)) }
+{
+    let value = take_value(alloc, name, finding, digest)?;
+    value.to_string(alloc)
+}
+
+fn take_value(
+    alloc: Global,
+    name: &str,
+    finding: &TakeFinding,
+    digest: SampleDigest,
+) -> Result<Value, AllocError>
+    ensures { IfOk result (λ v. view v
+        ≡ take_data name.now (finding_summary finding.now) digest) }
 {
     let value = finding_value(alloc, name, finding)?;
-    value.to_string(alloc)
+    with_digest(alloc, value, digest)
+}
+
+/// An object with the digest of a take's samples, as far as it is asked for.
+fn with_digest(alloc: Global, value: Value, digest: SampleDigest) -> Result<Value, AllocError>
+    ensures { IfOk result (λ v. view v ≡ digest_added digest (view value)) }
+{
+    match value {
+        Value::Object(mut members) => {
+            put_digest(alloc, &mut members, digest)?;
+            Ok(Value::Object(members))
+        }
+        other => Ok(other),
+    }
+}
+
+/// Puts the digest of a take's samples into an object, as far as it is asked for.
+fn put_digest(
+    alloc: Global,
+    members: &mut Map<String, Value>,
+    digest: SampleDigest,
+) -> Result<(), AllocError>
+    ensures { OnOk result (members_view members.new.entries
+        ≡ members_with digest (members_view members.old.entries)) }
+{
+    match digest {
+        SampleDigest::Unasked => Ok(()),
+        SampleDigest::Missing => put(members, alloc, "sha256", Value::Null),
+        SampleDigest::Known(digest) => {
+            let digits = hex::encode(alloc, digest)?;
+            put(members, alloc, "sha256", Value::String(digits))
+        }
+    }
 }
 
 fn finding_value(alloc: Global, name: &str, finding: &TakeFinding) -> Result<Value, AllocError>

@@ -6,6 +6,7 @@
 mod beginning;
 mod comparing;
 mod finding;
+mod hashing;
 mod json;
 mod line;
 mod listing;
@@ -20,8 +21,9 @@ mod watching;
 
 pub use comparing::{Depth, examine_take};
 pub use finding::TakeFinding;
+pub use hashing::SampleDigest;
 pub use json::take_json;
-pub use listing::{LineStyle, TakesReport, report_takes};
+pub use listing::{LineStyle, ReportForm, TakesReport, report_takes};
 pub use locked::give_up_locked;
 pub use naming::{take_of, takes_in};
 pub use printing::show_takes;

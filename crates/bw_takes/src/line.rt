@@ -2,11 +2,12 @@
 ghost use Rattle.std.specs.Prelude.{◌≡◌, ◌++◌, ◌≤◌, OnOk};
 ghost use Rattle.bw_journal.specs.Rows.{row_count};
 ghost use Rattle.bw_takes.specs.TakeLines.{next_line, numbered_line, opened_line, word_line};
-ghost use Rattle.bw_takes.specs.TakeLines.{timed_end, timed_start, state_word as word_of};
+ghost use Rattle.bw_takes.specs.TakeLines.{next_end, timed_part, timed_start, state_word as word_of};
 ghost use Rattle.bw_takes.specs.TakeReports.{cause_word as word_of_cause, finding_summary, summary_line};
 ghost use Rattle.bw_takes.specs.TakeSummaries.{story_summary};
 
 use crate::finding::TakeFinding;
+use crate::hashing::SampleDigest;
 use bw_journal::Replayed;
 use bw_recovery::{NameFault, file_cause, journal_cause};
 use bw_request::Name;
@@ -15,9 +16,9 @@ use std::alloc::{AllocError, Global};
 impl TakeFinding {
     /// Appends the line of the take of this name of which this was found, ended by a line feed: its
     /// name; whether it is open, closed or not opened, or existed before the server's; of one with
-    /// samples of the server's its frames and seconds; and its next number. Of one with which
-    /// something is wrong it is the name and the cause, and of one with other samples than its
-    /// journal has the digests of, the first such number.
+    /// samples of the server's its frames and seconds; its next number; and their digest, if it is
+    /// known. Of one with which something is wrong it is the name and the cause, and of one with
+    /// other samples than its journal has the digests of, the first such number.
     ///
     /// # Errors
     /// `AllocError` if memory was refused.
@@ -25,10 +26,11 @@ impl TakeFinding {
         &self,
         alloc: Global,
         name: &Name,
+        digest: SampleDigest,
         lines: &mut Vec<u8>,
     ) -> Result<(), AllocError>
         ensures { OnOk result (lines.new.items
-            ≡ lines.old.items ++ summary_line name.now (finding_summary self.now)) }
+            ≡ lines.old.items ++ summary_line name.now (finding_summary self.now) digest) }
     {
         let Ok(name) = std::str::from_utf8(name.as_bytes()) else {
             return Err(AllocError);
@@ -38,7 +40,7 @@ impl TakeFinding {
             TakeFinding::Stood => named.put_next("stood", 0, lines),
             TakeFinding::Unbegun => named.put_next("unopened", 0, lines),
             TakeFinding::Refused(fault) => named.put_word(cause_word(fault), lines),
-            TakeFinding::Begun(replayed) => named.put_begun(replayed, lines),
+            TakeFinding::Begun(replayed) => named.put_begun(replayed, digest, lines),
             TakeFinding::Changed(number) => {
                 named.put_numbered("ChangedBlock", u64::from(*number), lines)
             }
@@ -55,9 +57,14 @@ struct Named<'a> {
 
 impl Named<'_> {
     /// Appends the line of a take whose journal is begun.
-    fn put_begun(&self, replayed: &Replayed, lines: &mut Vec<u8>) -> Result<(), AllocError>
+    fn put_begun(
+        &self,
+        replayed: &Replayed,
+        digest: SampleDigest,
+        lines: &mut Vec<u8>,
+    ) -> Result<(), AllocError>
         ensures { OnOk result (lines.new.items ≡ lines.old.items ++ summary_line self.now.name.now
-            (story_summary replayed.now.state.parts (row_count replayed.now.table.items))) }
+            (story_summary replayed.now.state.parts (row_count replayed.now.table.items)) digest) }
     {
         let state = &replayed.state;
         let next = replayed.table.len() / 33;
@@ -66,7 +73,10 @@ impl Named<'_> {
         }
         let word = state_word(state.is_closed());
         match state.format() {
-            Some(format) => self.put_opened(word, state.frames(), format.rate(), next, lines),
+            Some(format) => {
+                let frames = state.frames();
+                self.put_opened(word, frames, format.rate(), next, digest, lines)
+            }
             None => self.put_next("unopened", next, lines),
         }
     }
@@ -112,15 +122,17 @@ impl Named<'_> {
         frames: u64,
         rate: u32,
         next: usize,
+        digest: SampleDigest,
         lines: &mut Vec<u8>,
     ) -> Result<(), AllocError>
         requires { 1 ≤ rate }
-        ensures { OnOk result (lines.new.items
-            ≡ lines.old.items ++ opened_line self.now.name.now word.now frames rate next) }
+        ensures { OnOk result (lines.new.items ≡ lines.old.items
+            ++ opened_line self.now.name.now word.now frames rate next digest) }
     {
         let rate = u64::from(rate);
         self.put_start(word, frames, frames / rate, lines)?;
-        put_end(self.alloc, frames % rate * 1000 / rate, next, lines)
+        put_part(self.alloc, frames % rate * 1000 / rate, lines)?;
+        put_next_end(self.alloc, next, digest, lines)
     }
 
     /// Appends a line's frames and whole seconds.
@@ -141,13 +153,34 @@ impl Named<'_> {
     }
 }
 
-/// Appends a line's thousandths of a second and its next number.
-#[tactic(auto, unfolding(crate::specs::TakeLines::timed_end))]
-fn put_end(alloc: Global, part: u64, next: usize, lines: &mut Vec<u8>) -> Result<(), AllocError>
-    ensures { OnOk result (lines.new.items ≡ lines.old.items ++ timed_end part next) }
+/// Appends a line's thousandths of a second.
+#[tactic(auto, unfolding(crate::specs::TakeLines::timed_part))]
+fn put_part(alloc: Global, part: u64, lines: &mut Vec<u8>) -> Result<(), AllocError>
+    ensures { OnOk result (lines.new.items ≡ lines.old.items ++ timed_part part) }
 {
     let (tenths, hundredths, thousandths) = (part / 100, part / 10 % 10, part % 10);
-    let line = format!(in alloc; "{tenths}{hundredths}{thousandths} next {next}\n")?;
+    let line = format!(in alloc; "{tenths}{hundredths}{thousandths} next ")?;
+    lines.extend_from_slice(line.as_bytes())
+}
+
+/// Appends a line's next number, and the digest of the samples if it is known.
+#[tactic(auto, unfolding(crate::specs::TakeLines::next_end))]
+fn put_next_end(
+    alloc: Global,
+    next: usize,
+    digest: SampleDigest,
+    lines: &mut Vec<u8>,
+) -> Result<(), AllocError>
+    ensures { OnOk result (lines.new.items ≡ lines.old.items ++ next_end next digest) }
+{
+    let line = match digest {
+        SampleDigest::Unasked => format!(in alloc; "{next}\n")?,
+        SampleDigest::Missing => format!(in alloc; "{next}\n")?,
+        SampleDigest::Known(digest) => {
+            let digits = hex::encode(alloc, digest)?;
+            format!(in alloc; "{next} sha256={digits}\n")?
+        }
+    };
     lines.extend_from_slice(line.as_bytes())
 }
 

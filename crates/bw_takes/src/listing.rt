@@ -6,8 +6,9 @@ ghost use Rattle.bw_takes.specs.TakeReports.{ReportsTakes, TellsTake, finding_su
 ghost use Rattle.bw_takes.specs.TakeReports.{TellsUnreadEntry, told_by};
 ghost use Rattle.bw_takes.specs.TakeSummaries.{is_sound_summary};
 
-use crate::comparing::{Depth, examine_take};
+use crate::comparing::Depth;
 use crate::finding::TakeFinding;
+use crate::hashing::{Examined, examine_in_form};
 use crate::json::take_json;
 use crate::naming::takes_in;
 use crate::printing::unread_line;
@@ -24,6 +25,17 @@ pub enum LineStyle {
     Words,
     /// By a line of JSON.
     Json,
+}
+
+/// How the takes of a folder are reported.
+#[derive(Clone, Copy, Debug, PartialEq, Eq)]
+pub struct ReportForm {
+    /// By which lines.
+    pub style: LineStyle,
+    /// How far they are looked at.
+    pub depth: Depth,
+    /// Whether the SHA-256 of each closed take's samples is added.
+    pub digest: bool,
 }
 
 /// What is reported of a folder's takes.
@@ -49,13 +61,12 @@ pub fn report_takes<D: Volume>(
     alloc: Global,
     disk: &mut D,
     folder: &str,
-    style: LineStyle,
-    depth: Depth,
+    form: ReportForm,
 ) -> Result<TakesReport, ReadFault>
     ensures disk { StaysWhole D.Disk disk.old disk.new }
     // A line follows from the journal's bytes and the file's alone.
     ensures report { IsTrue (D.honest disk.old) → IfOk result (λ report.
-        ReportsTakes style depth folder.now (D.contents disk.old) (told_by report)) }
+        ReportsTakes form folder.now (D.contents disk.old) (told_by report)) }
 {
     let names = takes_in(alloc, disk, folder)?;
     let mut report = TakesReport {
@@ -64,7 +75,7 @@ pub fn report_takes<D: Volume>(
         sound: true,
     };
     for name in &names {
-        put_take(alloc, disk, folder, name, style, depth, &mut report)?;
+        put_take(alloc, disk, folder, name, form, &mut report)?;
     }
     Ok(report)
 }
@@ -75,16 +86,15 @@ fn put_take<D: Volume>(
     disk: &mut D,
     folder: &str,
     name: &Name,
-    style: LineStyle,
-    depth: Depth,
+    form: ReportForm,
     report: &mut TakesReport,
 ) -> Result<(), ReadFault>
     ensures disk { StaysWhole D.Disk disk.old disk.new }
-    ensures told { IsTrue (D.honest disk.old) → OnOk result (TellsTake style depth folder.now
+    ensures told { IsTrue (D.honest disk.old) → OnOk result (TellsTake form folder.now
         (D.contents disk.old) name.now (told_by report.old) (told_by report.new)) }
 {
-    match examine_take(alloc, disk, folder, name, depth) {
-        Ok(finding) => put_found(alloc, style, name, &finding, report),
+    match examine_in_form(alloc, disk, folder, name, form) {
+        Ok(take) => put_found(alloc, form.style, name, &take, report),
         Err(ReadFault::Disk) => put_unread(alloc, disk, folder, name, report),
         Err(ReadFault::Memory) => Err(ReadFault::Memory),
     }
@@ -95,17 +105,17 @@ fn put_found(
     alloc: Global,
     style: LineStyle,
     name: &Name,
-    finding: &TakeFinding,
+    take: &Examined,
     report: &mut TakesReport,
 ) -> Result<(), ReadFault>
-    ensures line { OnOk result (report.new.lines.items
-        ≡ report.old.lines.items ++ styled_line style name.now (finding_summary finding.now)) }
+    ensures line { OnOk result (report.new.lines.items ≡ report.old.lines.items
+        ++ styled_line style name.now (finding_summary take.now.finding) take.now.digest) }
     ensures unread { report.new.unread ≡ report.old.unread }
     ensures sound { report.new.sound
-        ≡ (report.old.sound && is_sound_summary (finding_summary finding.now)) }
+        ≡ (report.old.sound && is_sound_summary (finding_summary take.now.finding)) }
 {
-    report.sound = report.sound && is_sound(finding);
-    match put_entry(alloc, style, name, finding, report) {
+    report.sound = report.sound && is_sound(&take.finding);
+    match put_entry(alloc, style, name, take, report) {
         Ok(()) => Ok(()),
         Err(_) => Err(ReadFault::Memory),
     }
@@ -141,17 +151,23 @@ fn put_entry(
     alloc: Global,
     style: LineStyle,
     name: &Name,
-    finding: &TakeFinding,
+    take: &Examined,
     report: &mut TakesReport,
 ) -> Result<(), AllocError>
-    ensures line { OnOk result (report.new.lines.items
-        ≡ report.old.lines.items ++ styled_line style name.now (finding_summary finding.now)) }
+    ensures line { OnOk result (report.new.lines.items ≡ report.old.lines.items
+        ++ styled_line style name.now (finding_summary take.now.finding) take.now.digest) }
     ensures unread { report.new.unread ≡ report.old.unread }
     ensures sound { report.new.sound ≡ report.old.sound }
 {
     match style {
-        LineStyle::Words => finding.put_take_line(alloc, name, &mut report.lines),
-        LineStyle::Json => put_line(&take_json(alloc, name, finding)?, &mut report.lines),
+        LineStyle::Words => {
+            let finding = &take.finding;
+            finding.put_take_line(alloc, name, take.digest, &mut report.lines)
+        }
+        LineStyle::Json => {
+            let text = take_json(alloc, name, &take.finding, take.digest)?;
+            put_line(&text, &mut report.lines)
+        }
     }
 }
 

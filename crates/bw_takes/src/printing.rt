@@ -8,8 +8,7 @@ ghost use Rattle.bw_takes.specs.Showings.{exit_for as exit_when};
 ghost use Rattle.bw_takes.specs.TakeReports.{told_by};
 ghost use Rattle.bw_takes.specs.UnreadEntries.{unread_text};
 
-use crate::comparing::Depth;
-use crate::listing::{LineStyle, TakesReport, report_takes};
+use crate::listing::{ReportForm, TakesReport, report_takes};
 use bw_console::print::{give_up, print, print_diagnostic};
 use bw_console::{Exit, Fault};
 use bw_disk::{ReadFault, Volume};
@@ -31,17 +30,16 @@ pub fn show_takes<D: Volume, W: Sink, E: Sink>(
     alloc: Global,
     disk: &mut D,
     folder: &str,
-    style: LineStyle,
-    depth: Depth,
+    form: ReportForm,
     out: &mut W,
     faults: &mut E,
 ) -> Exit
     ensures { (did : Outcome) × (did.exit ≡ result)
-        × IsShowing style depth (D.honest disk.old) folder.now (D.contents disk.old) did
+        × IsShowing form (D.honest disk.old) folder.now (D.contents disk.old) did
         × StaysWhole D.Disk disk.old disk.new
         × HasWritten W.Sink E.Sink did out.old out.new faults.old faults.new }
 {
-    match report_takes(alloc, disk, folder, style, depth) {
+    match report_takes(alloc, disk, folder, form) {
         Ok(report) => print_report(&report, out, faults),
         Err(ReadFault::Disk) => report_unread(alloc, folder, faults),
         Err(ReadFault::Memory) => give_up(faults, &Fault::Memory),

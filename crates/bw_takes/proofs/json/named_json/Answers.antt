@@ -2,17 +2,17 @@ use Rattle.std.proofs.Common.{◌∙◌, ap, Some}
 use Rattle.std.proofs.lemmas.Result.{IfOk-weaker}
 use Rattle.serde_json.specs.Written.{compact_text}
 use Rattle.bw_takes.specs.TakeReports.{finding_summary}
-use Rattle.bw_takes.proofs.TakeShapes.{summary-depth, summary-has_float}
+use Rattle.bw_takes.proofs.TakeShapes.{take-depth, take-has_float}
 use Rattle.bw_takes.proofs.json.named_json.Goals as goal
 
 pub returns-clause-text : goal.returns-clause-text
 returns-clause-text c =
-    let none = summary-has_float c.args.name.now (finding_summary c.args.finding.now) in
+    let none = take-has_float c.args.name.now (finding_summary c.args.finding.now) c.args.digest in
     IfOk-weaker c.to_string.result _ _
     (λ t is. is (rw c.in_ok-value.ensures none) ∙ ap compact_text c.in_ok-value.ensures) c.to_string.ensures.text
 
 pub returns-clause-reads_back : goal.returns-clause-reads_back
 returns-clause-reads_back c =
-    let few = summary-depth c.args.name.now (finding_summary c.args.finding.now) in
+    let few = take-depth c.args.name.now (finding_summary c.args.finding.now) c.args.digest in
     IfOk-weaker c.to_string.result _ _
     (λ t is. is (rw c.in_ok-value.ensures few) ∙ ap Some c.in_ok-value.ensures) c.to_string.ensures.reads_back

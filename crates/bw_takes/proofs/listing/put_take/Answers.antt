@@ -1,19 +1,27 @@
 use Rattle.std.proofs.Common.{◌≡◌, ◌∙◌, ◌++◌, ◌&&◌, Some, None, ap}
-use Rattle.bw_takes.specs.TakeReports.{styled_line}
+use Rattle.bw_takes.specs.TakeReports.{digest_in, styled_line, summary_in}
 use Rattle.bw_takes.specs.TakeSummaries.{TakeSummary, is_sound_summary}
+use Rattle.bw_takes.specs.declared.hashing.SampleDigest.{SampleDigest}
 use Rattle.bw_takes.proofs.ListingLemmas.{on_ok, told_same}
 use Rattle.bw_takes.proofs.listing.put_take.Goals as goal
 
 pub returns-in-Ok-clause-told : goal.returns-in-Ok-clause-told
 returns-in-Ok-clause-told g c honest =
     let f = c.put_found.ensures in
+    let a = c.args in
     let found = c.in-Ok.ensures.found honest in
-    let before = c.args.report.now in
-    let line : TakeSummary → _ = λ s. before.lines.items ++ styled_line c.args.style c.args.name.now s in
+    let digest : SampleDigest = c.in-Ok.take.digest in
+    let before = a.report.now in
+    let summary : TakeSummary = summary_in a.form.depth a.folder.now (g.D.Disk.contents a.disk.now) a.name.now in
+    let line : TakeSummary → SampleDigest → _ =
+    λ s d. before.lines.items ++ styled_line a.form.style a.name.now s d in
     on_ok c.put_found.result
     (λ is. (
       None,
-      told_same _ _ _ _ _ _ (is ∙ ap line found) (ap (λ v. v.items) f.unread)
+      told_same _ _ _ _ _ _
+          (is ∙ ap (λ (s : TakeSummary). line s digest) found
+          ∙ ap (λ (d : SampleDigest). line summary d) (c.in-Ok.ensures.digest honest))
+          (ap (λ v. v.items) f.unread)
           (f.sound ∙ ap (λ (s : TakeSummary). before.sound && is_sound_summary s) found),
     ))
     f.line

@@ -14,9 +14,9 @@ loop-name-init g c =
     record {
       disk = search rules;
       tells = λ honest.
-          subst (TellsOf a.style a.depth a.folder.now contents [])
+          subst (TellsOf a.form a.folder.now contents [])
           (sym (told_same c.new.result.items [] c.new-2.result.items [] true true lines unread refl))
-          (tells_none a.style a.depth a.folder.now contents);
+          (tells_none a.form a.folder.now contents);
     }
 
 pub loop-name-preserved : goal.loop-name-preserved
@@ -26,7 +26,7 @@ loop-name-preserved g c =
     let a = c.args in
     record {
       disk = stays_twice g.D.Disk _ _ _ i.disk r.disk;
-      tells = λ honest. tells_next g.D.Disk a.style a.depth a.folder.now a.disk.now c.loop-name.disk i.disk honest
+      tells = λ honest. tells_next g.D.Disk a.form a.folder.now a.disk.now c.loop-name.disk i.disk honest
           c.loop-name.yielded c.in-Some.name _ _ (i.tells honest) r.told;
     }
 

@@ -9,5 +9,5 @@ abbrev pub invariant-loop-name : goal.invariant-loop-name
 invariant-loop-name g l = record {
   disk : StaysWhole g.D.Disk l.fn.disk l.disk;
   tells : IsTrue (g.D.Disk.honest l.fn.disk) →
-      TellsOf l.fn.style l.fn.depth l.fn.folder (g.D.Disk.contents l.fn.disk) (lent l.yielded) (told_by l.report);
+      TellsOf l.fn.form l.fn.folder (g.D.Disk.contents l.fn.disk) (lent l.yielded) (told_by l.report);
 }
