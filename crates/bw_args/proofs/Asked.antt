@@ -141,10 +141,10 @@ pub is_not : ¬ (true ≡ false)
 is_not bad = cc
 
 -- what is done goes with a watch
-watch_good : (watch check json : Bool) (name : Option Text) (work : FolderWork) → IsWork watch check json name work
-    → is_watch_mixed watch check json name ≡ false
-watch_good true check json name work is = is.0
-watch_good false check json name work is = refl
+watch_good : (watch check json digest : Bool) (name : Option Text) (work : FolderWork)
+    → IsWork watch check json digest name work → is_watch_mixed watch check json digest name ≡ false
+watch_good true check json digest name work is = is.0
+watch_good false check json digest name work is = refl
 
 -- what is asked for has good values alone
 pub wished_good : (name : Text) (options : List Row) (wish : Wish) → IsWishOf (Some (name, options)) wish
@@ -159,7 +159,7 @@ wished_good name options wish asked = go wish asked
     go (Replaying limit fuse) a = at (codes "replay") a.0 ((limit, a.1), ((fuse, a.2), tt))
     go (Rehearsing take_name limit) a = at (codes "rehearse") a.0 ((take_name, a.1), ((limit, a.2), tt))
     go (Listing folder work) a =
-        at (codes "takes") a.0 ((folder, a.1), (watch_good _ _ _ _ work a.2, ((work, a.2), tt)))
+        at (codes "takes") a.0 ((folder, a.1), (watch_good _ _ _ _ _ work a.2, ((work, a.2), tt)))
     go (Serving server) a = at (codes "serve") a.0 (
         (server.listen, a.1.listens) also (server.folder, a.1.keeps) also (a.1.ends.0, a.1.ends.1)
         also (server.limit, a.1.limited) also (a.1.serves.timeout, a.1.serves.waits)
@@ -631,41 +631,47 @@ no_place network (Some text) true some none None given = given
 no_place network (Some text) false some none status given = given
 
 -- the same work of the same options
-works_at : (w c j : Bool) (n : Option Text) (w' c' j' : Bool) (n' : Option Text) (work : FolderWork)
-    → w ≡ w' → c ≡ c' → j ≡ j' → n ≡ n' → IsWork w c j n work → IsWork w' c' j' n' work
-works_at w c j n w' c' j' n' work ew ec ej en is =
-    subst (λ x. IsWork x c' j' n' work) ew (subst (λ x. IsWork w x j' n' work) ec
-    (subst (λ x. IsWork w c x n' work) ej (subst (λ x. IsWork w c j x work) en is)))
+works_at : (w c j d : Bool) (n : Option Text) (w' c' j' d' : Bool) (n' : Option Text) (work : FolderWork)
+    → w ≡ w' → c ≡ c' → j ≡ j' → d ≡ d' → n ≡ n' → IsWork w c j d n work → IsWork w' c' j' d' n' work
+works_at w c j d n w' c' j' d' n' work ew ec ej ed en is =
+    subst (λ x. IsWork x c' j' d' n' work) ew (subst (λ x. IsWork w x j' d' n' work) ec
+    (subst (λ x. IsWork w c x d' n' work) ej (subst (λ x. IsWork w c j x n' work) ed
+    (subst (λ x. IsWork w c j d x work) en is))))
 
 -- what is done in a folder, where its options were read before
-pub a_work : (found : Found) (watch check json : Bool) (name : Option Text) (work : FolderWork)
+pub a_work : (found : Found) (watch check json digest : Bool) (name : Option Text) (work : FolderWork)
     → watch ≡ is_set (first_value found (codes "watch")) → check ≡ is_set (first_value found (codes "check"))
-    → json ≡ is_set (first_value found (codes "json")) → name ≡ first_value found (codes "give-up")
-    → IsWork watch check json name work → GivesWork (first_value found) work
-a_work found watch check json name work watches checks prints names is =
-    works_at watch check json name _ _ _ _ work watches checks prints names is
+    → json ≡ is_set (first_value found (codes "json")) → digest ≡ is_set (first_value found (codes "digest"))
+    → name ≡ first_value found (codes "give-up")
+    → IsWork watch check json digest name work → GivesWork (first_value found) work
+a_work found watch check json digest name work watches checks prints hashes names is =
+    works_at watch check json digest name _ _ _ _ _ work watches checks prints hashes names is
 
-pub no_work : (found : Found) (watch check json : Bool) (name : Option Text)
+pub no_work : (found : Found) (watch check json digest : Bool) (name : Option Text)
     → watch ≡ is_set (first_value found (codes "watch")) → check ≡ is_set (first_value found (codes "check"))
-    → json ≡ is_set (first_value found (codes "json")) → name ≡ first_value found (codes "give-up")
-    → IsWorkGiven watch check json name None → ¬ IsGood GiveUp (first_value found)
-no_work found watch check json name watches checks prints names none good =
-    none good.0 (works_at _ _ _ _ watch check json name good.0 (sym watches) (sym checks) (sym prints) (sym names) good.1)
+    → json ≡ is_set (first_value found (codes "json")) → digest ≡ is_set (first_value found (codes "digest"))
+    → name ≡ first_value found (codes "give-up")
+    → IsWorkGiven watch check json digest name None → ¬ IsGood GiveUp (first_value found)
+no_work found watch check json digest name watches checks prints hashes names none good =
+    none good.0 (works_at _ _ _ _ _ watch check json digest name good.0 (sym watches) (sym checks) (sym prints)
+    (sym hashes) (sym names) good.1)
 
 -- whether something is asked for beside the watch, where the options were read before
-pub watch_mixed : (found : Found) (watch check json : Bool) (name : Option Text) (mixed : Bool)
+pub watch_mixed : (found : Found) (watch check json digest : Bool) (name : Option Text) (mixed : Bool)
     → watch ≡ is_set (first_value found (codes "watch")) → check ≡ is_set (first_value found (codes "check"))
-    → json ≡ is_set (first_value found (codes "json")) → name ≡ first_value found (codes "give-up")
-    → mixed ≡ is_watch_mixed watch check json name
+    → json ≡ is_set (first_value found (codes "json")) → digest ≡ is_set (first_value found (codes "digest"))
+    → name ≡ first_value found (codes "give-up") → mixed ≡ is_watch_mixed watch check json digest name
     → mixed ≡ is_watch_mixed (is_set (first_value found (codes "watch"))) (is_set (first_value found (codes "check")))
-    (is_set (first_value found (codes "json"))) (first_value found (codes "give-up"))
-watch_mixed found watch check json name mixed watches checks prints names is = is
-    ∙ ap (λ w. is_watch_mixed w check json name) watches
-    ∙ ap (λ c. is_watch_mixed (is_set (first_value found (codes "watch"))) c json name) checks
-    ∙ ap (λ j. is_watch_mixed (is_set (first_value found (codes "watch"))) (is_set (first_value found (codes "check"))) j name)
-    prints
-    ∙ ap (is_watch_mixed (is_set (first_value found (codes "watch"))) (is_set (first_value found (codes "check")))
-    (is_set (first_value found (codes "json")))) names
+    (is_set (first_value found (codes "json"))) (is_set (first_value found (codes "digest"))) (first_value found (codes "give-up"))
+watch_mixed found watch check json digest name mixed watches checks prints hashes names is =
+    let w = is_set (first_value found (codes "watch")) in
+    let c = is_set (first_value found (codes "check")) in
+    let j = is_set (first_value found (codes "json")) in
+    let d = is_set (first_value found (codes "digest")) in
+    is
+    ∙ ap (λ x. is_watch_mixed x check json digest name) watches ∙ ap (λ x. is_watch_mixed w x json digest name) checks
+    ∙ ap (λ x. is_watch_mixed w c x digest name) prints ∙ ap (λ x. is_watch_mixed w c j x name) hashes
+    ∙ ap (is_watch_mixed w c j d) names
 
 -- the ways that were looked at are the only ones
 pub no_way : (found : Found) (timeout most idle : Option ℕ)

@@ -15,21 +15,27 @@ use Rattle.bw_args.proofs.ValueLemmas.{IsBadAt, reported}
 
 joined_lists : (program folder : Text) → folder ≢ []
     → AsksFor (as_read (program ∷ codes "takes" ∷ (codes "--folder=" ++ folder) ∷ []))
-    (Listing folder (Report false false))
+    (Listing folder (Report false false false))
 unfolding clap_on_literals
 joined_lists program folder full = asks refl (refl, (full, refl), refl)
 
 apart_lists : (program folder : Text) → folder ≢ []
     → AsksFor (as_read (program ∷ codes "takes" ∷ codes "--folder" ∷ folder ∷ []))
-    (Listing folder (Report false false))
+    (Listing folder (Report false false false))
 unfolding clap_on_literals
 apart_lists program folder full = asks refl (refl, (full, refl), refl)
 
 checked_lists : (program folder : Text) → folder ≢ []
     → AsksFor (as_read (program ∷ codes "takes" ∷ codes "--folder" ∷ folder ∷ codes "--check" ∷ codes "--json" ∷ []))
-    (Listing folder (Report true true))
+    (Listing folder (Report true true false))
 unfolding clap_on_literals
 checked_lists program folder full = asks refl (refl, (full, refl), refl)
+
+hashed_lists : (program folder : Text) → folder ≢ []
+    → AsksFor (as_read (program ∷ codes "takes" ∷ codes "--folder" ∷ folder ∷ codes "--digest" ∷ []))
+    (Listing folder (Report false false true))
+unfolding clap_on_literals
+hashed_lists program folder full = asks refl (refl, (full, refl), refl)
 
 watches : (program folder : Text) → folder ≢ []
     → AsksFor (as_read (program ∷ codes "takes" ∷ codes "--folder" ∷ folder ∷ codes "--watch" ∷ []))
@@ -42,6 +48,12 @@ bad_both : (program folder : Text) → folder ≢ []
     BadWatch
 unfolding clap_on_literals
 bad_both program folder full = (refl, (folder, (full, refl)) and_then bad (λ good. is_not good))
+
+bad_hashed_watch : (program folder : Text) → folder ≢ []
+    → IsBadAt (as_read (program ∷ codes "takes" ∷ codes "--folder" ∷ folder ∷ codes "--digest" ∷ codes "--watch" ∷ []))
+    BadWatch
+unfolding clap_on_literals
+bad_hashed_watch program folder full = (refl, (folder, (full, refl)) and_then bad (λ good. is_not good))
 
 bad_beside : (program folder text : Text) → folder ≢ []
     → IsBadAt (as_read (program ∷ codes "takes" ∷ codes "--folder" ∷ folder ∷ codes "--watch"
@@ -67,6 +79,13 @@ bad_mix : (program folder text : Text) → folder ≢ []
 unfolding clap_on_literals
 bad_mix program folder text full = (refl, (folder, (full, refl)) and_then refl and_then bad (λ good. good.1))
 
+bad_hashed_name : (program folder text : Text) → folder ≢ []
+    → IsBadAt (as_read (program ∷ codes "takes" ∷ codes "--folder" ∷ folder ∷ codes "--digest"
+    ∷ (codes "--give-up=" ++ text) ∷ [])) BadGiveUp
+unfolding clap_on_literals
+bad_hashed_name program folder text full =
+    (refl, (folder, (full, refl)) and_then refl and_then bad (λ good. good.1))
+
 bad_folder : (program : Text) → IsBadAt (as_read (program ∷ codes "takes" ∷ codes "--folder=" ∷ [])) Folder
 unfolding clap_on_literals
 bad_folder program = (refl, bad (λ good. good.1.0 refl))
@@ -77,12 +96,15 @@ runs_takes words line is = record {
   joined = λ p f full e. asked_runs words _ line _ is e (joined_lists p f full);
   apart = λ p f full e. asked_runs words _ line _ is e (apart_lists p f full);
   checked = λ p f full e. asked_runs words _ line _ is e (checked_lists p f full);
+  hashed = λ p f full e. asked_runs words _ line _ is e (hashed_lists p f full);
   watched = λ p f full e. asked_runs words _ line _ is e (watches p f full);
   both = λ p f full e. reported words _ line BadWatch is e (bad_both p f full);
+  hashed_watch = λ p f full e. reported words _ line BadWatch is e (bad_hashed_watch p f full);
   beside = λ p f t full e. reported words _ line BadWatch is e (bad_beside p f t full);
   given_up = λ p f n full named e. asked_runs words _ line _ is e (gives_up p f n full named);
   unnamed = λ p f t full none e. reported words _ line BadGiveUp is e (bad_name p f t full none);
   mixed = λ p f t full e. reported words _ line BadGiveUp is e (bad_mix p f t full);
+  hashed_name = λ p f t full e. reported words _ line BadGiveUp is e (bad_hashed_name p f t full);
   empty = λ p e. reported words _ line Folder is e (bad_folder p);
   none = λ p e. asked_reports MissingRequiredArgument words _ line is e refl;
 }

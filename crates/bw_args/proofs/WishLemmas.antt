@@ -49,13 +49,14 @@ one_folder None a b x y = absurd x
 one_folder (Some text) a b x y = x.1 ∙ sym y.1
 
 -- one thing is done with the takes of a folder
-one_work : (watch check json : Bool) (text : Option Text) (a b : FolderWork) → IsWork watch check json text a
-    → IsWork watch check json text b → a ≡ b
-one_work true check json text a b x y = x.1 ∙ sym y.1
-one_work false check json None a b x y = x ∙ sym y
-one_work false false false (Some text) a b x y = x.1 ∙ sym y.1
-one_work false false true (Some text) a b x y = absurd x
-one_work false true json (Some text) a b x y = absurd x
+one_work : (watch check json digest : Bool) (text : Option Text) (a b : FolderWork)
+    → IsWork watch check json digest text a → IsWork watch check json digest text b → a ≡ b
+one_work true check json digest text a b x y = x.1 ∙ sym y.1
+one_work false check json digest None a b x y = x ∙ sym y
+one_work false false false false (Some text) a b x y = x.1 ∙ sym y.1
+one_work false false false true (Some text) a b x y = absurd x
+one_work false false true digest (Some text) a b x y = absurd x
+one_work false true json digest (Some text) a b x y = absurd x
 
 pub one_count : (most : ℕ) (text : Option Text) (a b : Option ℕ) → GivesCount most text a → GivesCount most text b
     → a ≡ b
@@ -310,5 +311,5 @@ one_wish (Some command) (Sending a) (Uploading b) x y = absurd (no_lines command
 one_wish (Some command) (Uploading a) (Sending b) x y = absurd (no_lines command.1 b a y.1 x.1)
 one_wish (Some command) (Listing a v) (Listing b w) x y =
     let folders : a ≡ b = one_folder _ a b x.1 y.1 in
-    let works : v ≡ w = one_work _ _ _ _ v w x.2 y.2 in cc
+    let works : v ≡ w = one_work _ _ _ _ _ v w x.2 y.2 in cc
 one_wish (Some command) a b x y = other_name x.0 y.0 refl

@@ -38,9 +38,9 @@ fault_said Sync = codes "'--sync' is for '--journal'"
 fault_said Rest = codes "'--rest' is for '--journal'"
 fault_said Status = codes "'--status <ADDR>' is for '--recorders <N>', and takes " ++ address_wanted
 fault_said Watch =
-    codes "'--watch' can't be given beside '--check', '--json' and '--give-up <NAME>'"
+    codes "'--watch' can't be given beside '--check', '--json', '--digest' and '--give-up <NAME>'"
 fault_said GiveUp = codes "'--give-up <NAME>' takes 1 to 32 bytes of a-z, 0-9, '-' and '_', "
-    ++ codes "without '--check' and '--json'"
+    ++ codes "without '--check', '--json' and '--digest'"
 fault_said Connect = codes "'--connect <ADDR>' takes " ++ address_wanted
 fault_said Rounds = codes "'--rounds <N>' takes a number from 1 to 1000, in at most ten digits"
 fault_said Fruitless =

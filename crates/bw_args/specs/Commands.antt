@@ -284,9 +284,9 @@ watch_flag = flag (codes "watch")
 
 -- .. and how they are reported
 abbrev pub takes_how : App
-takes_how = with_rule (with_rule takes_where json_flag) watch_flag
+takes_how = with_rule (with_rule (with_rule takes_where json_flag) digest_flag) watch_flag
 
--- `takes`, with its five options
+-- `takes`, with its six options
 abbrev pub takes_command : App
 takes_command = with_rule takes_how give_up_option
 

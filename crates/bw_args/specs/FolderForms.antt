@@ -16,16 +16,20 @@ pub record RunsTakes (words : List Text) (line : CommandLine) : Type 0 where
   -- `takes --folder=DIR`
   pub joined : (program folder : Text) → folder ≢ []
       → words ≡ program ∷ codes "takes" ∷ (codes "--folder=" ++ folder) ∷ []
-      → RunsFor (Listing folder (Report false false)) line
+      → RunsFor (Listing folder (Report false false false)) line
   -- `takes --folder DIR`
   pub apart : (program folder : Text) → folder ≢ []
       → words ≡ program ∷ codes "takes" ∷ codes "--folder" ∷ folder ∷ []
-      → RunsFor (Listing folder (Report false false)) line
+      → RunsFor (Listing folder (Report false false false)) line
   -- `takes --folder DIR --check --json`
   pub checked : (program folder : Text) → folder ≢ []
       → words ≡ program ∷ codes "takes" ∷ codes "--folder" ∷ folder ∷ codes "--check"
       ∷ codes "--json" ∷ []
-      → RunsFor (Listing folder (Report true true)) line
+      → RunsFor (Listing folder (Report true true false)) line
+  -- `takes --folder DIR --digest`
+  pub hashed : (program folder : Text) → folder ≢ []
+      → words ≡ program ∷ codes "takes" ∷ codes "--folder" ∷ folder ∷ codes "--digest" ∷ []
+      → RunsFor (Listing folder (Report false false true)) line
   -- `takes --folder DIR --watch`
   pub watched : (program folder : Text) → folder ≢ []
       → words ≡ program ∷ codes "takes" ∷ codes "--folder" ∷ folder ∷ codes "--watch" ∷ []
@@ -33,6 +37,11 @@ pub record RunsTakes (words : List Text) (line : CommandLine) : Type 0 where
   -- `takes --folder DIR --check --watch`
   pub both : (program folder : Text) → folder ≢ []
       → words ≡ program ∷ codes "takes" ∷ codes "--folder" ∷ folder ∷ codes "--check" ∷ codes
+      "--watch" ∷ []
+      → line ≡ Bad BadWatch
+  -- `takes --folder DIR --digest --watch`
+  pub hashed_watch : (program folder : Text) → folder ≢ []
+      → words ≡ program ∷ codes "takes" ∷ codes "--folder" ∷ folder ∷ codes "--digest" ∷ codes
       "--watch" ∷ []
       → line ≡ Bad BadWatch
   -- `takes --folder DIR --watch --give-up=NAME`
@@ -53,6 +62,11 @@ pub record RunsTakes (words : List Text) (line : CommandLine) : Type 0 where
   -- `takes --folder DIR --json --give-up=NAME`
   pub mixed : (program folder name : Text) → folder ≢ []
       → words ≡ program ∷ codes "takes" ∷ codes "--folder" ∷ folder ∷ codes "--json"
+      ∷ (codes "--give-up=" ++ name) ∷ []
+      → line ≡ Bad BadGiveUp
+  -- `takes --folder DIR --digest --give-up=NAME`
+  pub hashed_name : (program folder name : Text) → folder ≢ []
+      → words ≡ program ∷ codes "takes" ∷ codes "--folder" ∷ folder ∷ codes "--digest"
       ∷ (codes "--give-up=" ++ name) ∷ []
       → line ≡ Bad BadGiveUp
   -- `takes --folder=`

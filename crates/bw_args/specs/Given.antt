@@ -185,24 +185,29 @@ abbrev pub GivesRounds : Option Text → ℕ → Type 0
 GivesRounds = GivesCountOr default_rounds most_rounds
 
 -- takes are watched, and something else is asked for beside it
-abbrev pub is_watch_mixed : Bool → Bool → Bool → Option Text → Bool
-is_watch_mixed watch check json name = watch && (check || (json || is_some name))
+abbrev pub is_watch_mixed : Bool → Bool → Bool → Bool → Option Text → Bool
+is_watch_mixed watch check json digest name =
+    watch && (check || (json || (digest || is_some name)))
 
 -- what is done with the takes of a folder: they are watched; they are reported, with their samples or
--- not and in JSON or not; or one is given up. The first and the last go with nothing else
-abbrev pub IsWork : Bool → Bool → Bool → Option Text → FolderWork → Type 0
-IsWork true check json name work = (is_watch_mixed true check json name ≡ false) × (work ≡ Watch)
-IsWork false check json None work = work ≡ Report check json
-IsWork false false false (Some text) work = IsName text × (work ≡ GiveUp text)
-IsWork false false true (Some text) work = ⊥
-IsWork false true json (Some text) work = ⊥
+-- not, in JSON or not, with digests or not; or one is given up. The first and the last go with nothing
+-- else
+abbrev pub IsWork : Bool → Bool → Bool → Bool → Option Text → FolderWork → Type 0
+IsWork true check json digest name work =
+    (is_watch_mixed true check json digest name ≡ false) × (work ≡ Watch)
+IsWork false check json digest None work = work ≡ Report check json digest
+IsWork false false false false (Some text) work = IsName text × (work ≡ GiveUp text)
+IsWork false false false true (Some text) work = ⊥
+IsWork false false true digest (Some text) work = ⊥
+IsWork false true json digest (Some text) work = ⊥
 
 -- exactly that
-abbrev pub IsWorkGiven : Bool → Bool → Bool → Option Text → Option FolderWork → Type 0
-IsWorkGiven watch check json text (Some work) = IsWork watch check json text work
-IsWorkGiven watch check json text None = (work : FolderWork) → ¬ IsWork watch check json text work
+abbrev pub IsWorkGiven : Bool → Bool → Bool → Bool → Option Text → Option FolderWork → Type 0
+IsWorkGiven watch check json digest text (Some work) = IsWork watch check json digest text work
+IsWorkGiven watch check json digest text None =
+    (work : FolderWork) → ¬ IsWork watch check json digest text work
 
--- by the four options that say it
+-- by the five options that say it
 abbrev pub GivesWork : (Text → Option Text) → FolderWork → Type 0
 GivesWork given work = IsWork (is_set (given (codes "watch"))) (is_set (given (codes "check")))
-    (is_set (given (codes "json"))) (given (codes "give-up")) work
+    (is_set (given (codes "json"))) (is_set (given (codes "digest"))) (given (codes "give-up")) work

@@ -301,7 +301,8 @@ IsGood Rest given = (rest : Bool)
 IsGood Status given = (status : Option SocketAddr) × GivesStatus (is_set (given (codes "network")))
     (given (codes "status")) (is_some (given (codes "recorders"))) status
 IsGood Watch given = is_watch_mixed (is_set (given (codes "watch")))
-    (is_set (given (codes "check"))) (is_set (given (codes "json"))) (given (codes "give-up")) ≡ false
+    (is_set (given (codes "check"))) (is_set (given (codes "json")))
+    (is_set (given (codes "digest"))) (given (codes "give-up")) ≡ false
 IsGood GiveUp given = (work : FolderWork) × GivesWork given work
 IsGood Connect given = (address : SocketAddr)
     × GivesAddress (is_set (given (codes "network"))) (given (codes "connect")) address

@@ -160,12 +160,12 @@ const BAD_STATUS: &str = report!(
 );
 
 const BAD_WATCH: &str = report!(
-    "'--watch' can't be given beside '--check', '--json' and '--give-up <NAME>'"
+    "'--watch' can't be given beside '--check', '--json', '--digest' and '--give-up <NAME>'"
 );
 
 const BAD_GIVE_UP: &str = report!(
-    "'--give-up <NAME>' takes 1 to 32 bytes of a-z, 0-9, '-' and '_', without '--check' and ",
-    "'--json'"
+    "'--give-up <NAME>' takes 1 to 32 bytes of a-z, 0-9, '-' and '_', without '--check', ",
+    "'--json' and '--digest'"
 );
 
 const BAD_CONNECT: &str = report!(

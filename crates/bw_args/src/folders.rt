@@ -13,9 +13,14 @@ pub struct TakesFolder {
 /// What is done in a folder of takes.
 #[derive(Debug, PartialEq, Eq, Drop)]
 pub enum FolderWork {
-    /// The takes are reported: with `check` their samples are compared with their journals, and with
-    /// `json` each is a line of JSON.
-    Report { check: bool, json: bool },
+    /// The takes are reported: with `check` their samples are compared with their journals, with
+    /// `json` each is a line of JSON, and with `digest` the SHA-256 of each closed take's samples is
+    /// added.
+    Report {
+        check: bool,
+        json: bool,
+        digest: bool,
+    },
     /// The takes are reported again and again, until the program is stopped.
     Watch,
     /// The take of this name is given up.

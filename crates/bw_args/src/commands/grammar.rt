@@ -19,8 +19,8 @@ use super::options::{
     give_up_option, human_flag, idle_option, journal_flag, json_flag, limit_option, link_log_flag,
     listen_option, log_flag, name_option, network_flag, one_name_flag, patience_option, pcm_option,
     rate_option, recorders_option, rest_flag, rounds_option, set_option, skip_option, spool_option,
-    state_option, status_option, strict_flag, sync_flag, take_json_flag, timeout_option,
-    until_option, until_stopped_flag, watch_flag, write_flag,
+    state_option, status_option, strict_flag, sync_flag, take_digest_flag, take_json_flag,
+    timeout_option, until_option, until_stopped_flag, watch_flag, write_flag,
 };
 use clap::{Arg, Command};
 use std::alloc::{AllocError, Global};
@@ -197,6 +197,7 @@ fn takes_how<'a>(alloc: Global) -> Result<Command<'a>, AllocError>
     ensures { IfOk result (IsCommand takes_how) }
 {
     let command = with_option(takes_where(alloc), take_json_flag(alloc));
+    let command = with_option(command, take_digest_flag(alloc));
     with_option(command, watch_flag(alloc))
 }
 

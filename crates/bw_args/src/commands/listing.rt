@@ -23,11 +23,12 @@ pub(crate) fn takes_line(alloc: Global, options: &ArgMatches<'_>) -> Result<Comm
     let watch = flag_given(options, "watch");
     let check = flag_given(options, "check");
     let json = flag_given(options, "json");
+    let digest = flag_given(options, "digest");
     let name = options.get_str("give-up");
-    if is_watch_mixed(watch, check, json, name) {
+    if is_watch_mixed(watch, check, json, digest, name) {
         return Ok(CommandLine::BadValue(BadValue::Watch));
     }
-    let Some(work) = work_of(watch, check, json, name) else {
+    let Some(work) = work_of(watch, check, json, digest, name) else {
         return Ok(CommandLine::BadValue(BadValue::GiveUp));
     };
     let folder = String::from_str(alloc, path)?;
@@ -35,34 +36,50 @@ pub(crate) fn takes_line(alloc: Global, options: &ArgMatches<'_>) -> Result<Comm
 }
 
 /// Whether takes are to be watched, and something else is asked for beside it.
-fn is_watch_mixed(watch: bool, check: bool, json: bool, name: Option<&str>) -> bool
-    ensures { result ≡ is_watch_mixed watch check json (option_map (λ text. text.now) name.entry) }
+fn is_watch_mixed(watch: bool, check: bool, json: bool, digest: bool, name: Option<&str>) -> bool
+    ensures { result
+        ≡ is_watch_mixed watch check json digest (option_map (λ text. text.now) name.entry) }
 {
-    watch && (check || json || name.is_some())
+    watch && (check || json || digest || name.is_some())
 }
 
 /// What is done in a folder; none if a name is malformed, or options are given that don't go
 /// together.
-fn work_of(watch: bool, check: bool, json: bool, name: Option<&str>) -> Option<FolderWork>
-    ensures { IsWorkGiven watch check json (option_map (λ text. text.now) name.entry) result }
+fn work_of(
+    watch: bool,
+    check: bool,
+    json: bool,
+    digest: bool,
+    name: Option<&str>,
+) -> Option<FolderWork>
+    ensures { IsWorkGiven watch check json digest (option_map (λ text. text.now) name.entry) result }
 {
-    if is_watch_mixed(watch, check, json, name) {
+    if is_watch_mixed(watch, check, json, digest, name) {
         return None;
     }
     if watch {
         return Some(FolderWork::Watch);
     }
-    report_or_give_up(check, json, name)
+    report_or_give_up(check, json, digest, name)
 }
 
 /// The same where takes aren't watched.
-fn report_or_give_up(check: bool, json: bool, name: Option<&str>) -> Option<FolderWork>
-    ensures { IsWorkGiven false check json (option_map (λ text. text.now) name.entry) result }
+fn report_or_give_up(
+    check: bool,
+    json: bool,
+    digest: bool,
+    name: Option<&str>,
+) -> Option<FolderWork>
+    ensures { IsWorkGiven false check json digest (option_map (λ text. text.now) name.entry) result }
 {
     let Some(text) = name else {
-        return Some(FolderWork::Report { check, json });
+        return Some(FolderWork::Report {
+            check,
+            json,
+            digest,
+        });
     };
-    if check || json {
+    if check || json || digest {
         return None;
     }
     match Name::new(text.as_bytes()) {

@@ -118,6 +118,14 @@ pub(crate) fn take_json_flag<'a>(alloc: Global) -> Arg<'a>
     flag_option(alloc, "json", help)
 }
 
+/// `--digest` for the takes of a folder.
+pub(crate) fn take_digest_flag<'a>(alloc: Global) -> Arg<'a>
+    ensures { IsOption digest_flag result }
+{
+    let help = "Adds the SHA-256 of each closed take's samples";
+    flag_option(alloc, "digest", help)
+}
+
 pub(crate) fn check_flag<'a>(alloc: Global) -> Arg<'a>
     ensures { IsOption check_flag result }
 {
