@@ -14,6 +14,9 @@ use std::net::SocketAddr;
 ///
 /// # Errors
 /// `AllocError` if memory was refused.
+///
+/// # Not specified
+/// When memory is refused.
 pub fn started_line(alloc: Global, address: SocketAddr, folder: &str) -> Result<Vec<u8>, AllocError>
     ensures { IfOk result (λ line. line.items ≡ started_line address folder.now) }
 {
@@ -31,6 +34,9 @@ pub fn started_line(alloc: Global, address: SocketAddr, folder: &str) -> Result<
 ///
 /// # Errors
 /// `AllocError` if memory was refused.
+///
+/// # Not specified
+/// When memory is refused.
 pub fn begun_line(alloc: Global, peer: SocketAddr) -> Result<Vec<u8>, AllocError>
     ensures { IfOk result (λ line. line.items ≡ begun_line peer) }
 {
@@ -46,6 +52,9 @@ pub fn begun_line(alloc: Global, peer: SocketAddr) -> Result<Vec<u8>, AllocError
 ///
 /// # Errors
 /// `AllocError` if memory was refused.
+///
+/// # Not specified
+/// When memory is refused.
 pub fn take_opened_line(alloc: Global, name: &Name, frames: u64) -> Result<Vec<u8>, AllocError>
     ensures { IfOk result (λ line. line.items ≡ take_opened_line name.now frames) }
 {
@@ -61,6 +70,9 @@ pub fn take_opened_line(alloc: Global, name: &Name, frames: u64) -> Result<Vec<u
 ///
 /// # Errors
 /// `AllocError` if memory was refused.
+///
+/// # Not specified
+/// When memory is refused.
 pub fn take_closed_line(
     alloc: Global,
     name: &Name,
@@ -87,6 +99,9 @@ pub fn take_closed_line(
 ///
 /// # Errors
 /// `AllocError` if memory was refused.
+///
+/// # Not specified
+/// When memory is refused.
 pub fn take_refused_line(
     alloc: Global,
     name: &Name,

@@ -29,4 +29,5 @@ returns c = (
   time_is 30 1 28 59 _ _ (omega arith) (omega arith) (omega arith) refl refl refl,
   time_is 56 11 30 364 _ _ (omega arith) (omega arith) (omega arith) refl refl refl,
   time_is 56 10 28 332 _ _ (omega arith) (omega arith) (omega arith) refl refl refl,
+  time_is 130 2 0 59 _ _ (omega arith) (omega arith) (omega arith) refl refl refl,
 )
