@@ -41,7 +41,9 @@ fault_said Watch =
     codes "'--watch' can't be given beside '--check', '--json', '--digest' and '--give-up <NAME>'"
 fault_said GiveUp = codes "'--give-up <NAME>' takes 1 to 32 bytes of a-z, 0-9, '-' and '_', "
     ++ codes "without '--check', '--json' and '--digest'"
-fault_said Connect = codes "'--connect <ADDR>' takes " ++ address_wanted
+fault_said Connect =
+    codes "'--connect <ADDR>' takes 127.0.0.1:PORT, or any IP:PORT or HOST:PORT with '--network'; "
+    ++ codes "PORT is 1 to 65535"
 fault_said Rounds = codes "'--rounds <N>' takes a number from 1 to 1000, in at most ten digits"
 fault_said Fruitless =
     codes "'--fruitless <N>' takes a number from 1 to 1000000, in at most ten digits"

@@ -169,8 +169,8 @@ const BAD_GIVE_UP: &str = report!(
 );
 
 const BAD_CONNECT: &str = report!(
-    "'--connect <ADDR>' takes 127.0.0.1:PORT, or any IP:PORT with '--network'; PORT is 1 to ",
-    "65535"
+    "'--connect <ADDR>' takes 127.0.0.1:PORT, or any IP:PORT or HOST:PORT with '--network'; ",
+    "PORT is 1 to 65535"
 );
 
 const BAD_ROUNDS: &str = report!(

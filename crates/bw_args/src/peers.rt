@@ -46,7 +46,8 @@ pub struct Serve {
     pub limit: u64,
     /// How recorders are served.
     pub recorders: Recorders,
-    /// Whether each connection is reported in a line on standard error.
+    /// Whether connections, takes and refused messages are reported in lines on standard error, each
+    /// with its time in UTC.
     pub log: bool,
     /// Whether it keeps journals.
     pub journal: Journaling,

@@ -269,7 +269,7 @@ pub(crate) fn status_option<'a>(alloc: Global) -> Arg<'a>
 pub(crate) fn connect_option<'a>(alloc: Global) -> Arg<'a>
     ensures { IsOption connect_option result }
 {
-    let help = "Where the server listens: 127.0.0.1:PORT, or any address with --network";
+    let help = "Where the server listens: 127.0.0.1:PORT, or any address or host with --network";
     required_option(alloc, "connect", "ADDR", help)
 }
 
