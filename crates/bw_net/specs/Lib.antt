@@ -1,4 +1,5 @@
 pub mod Faults
+pub mod Hosts
 pub mod Meanings
 pub mod SeenFiles
 pub mod SeenLinks

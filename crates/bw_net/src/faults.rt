@@ -100,7 +100,11 @@ fn fault_line_with(alloc: Global, path: &str, reason: &str) -> Result<String, Al
 }
 
 /// The line of a call that failed at a start.
-fn start_fault_line(alloc: Global, path: &str, error: &io::Error) -> Result<String, AllocError>
+pub(crate) fn start_fault_line(
+    alloc: Global,
+    path: &str,
+    error: &io::Error,
+) -> Result<String, AllocError>
     ensures { IfOk result (λ line. (reason : List ℕ) ×
         (string_bytes line ≡ start_fault_text path.now reason)) }
 {

@@ -3,13 +3,15 @@ ghost use Rattle.std.specs.Prelude.{◌≡◌, Some, None};
 ghost use Rattle.std.specs.Fs.{IsFile, file_type, metadata_len};
 
 use crate::counting::counted;
+use crate::hosts::with_address;
 use bw_ports::System;
 use bw_stream::SeekSource;
 use std::fs::{File, Metadata};
 use std::{env, io};
 
 /// The system that the process runs on, by the calls of std. It reports neither words nor files,
-/// since no clause of std says what they are.
+/// since no clause of std says what they are. A host that `send --network` is to connect to is its
+/// address in the words.
 #[derive(Drop)]
 pub struct Host<'a> {
     rt: &'a HostRuntime,
@@ -55,7 +57,7 @@ fn words(rt: &HostRuntime) -> io::Result<Vec<String>> {
     for word in env::args(rt)? {
         words.push(word)?;
     }
-    Ok(words)
+    with_address(rt, words)
 }
 
 /// The file at a path, read forward, or by seeks where its length is known.

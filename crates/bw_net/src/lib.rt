@@ -9,6 +9,7 @@ mod faults;
 mod folder;
 mod followed;
 mod host;
+mod hosts;
 mod input;
 mod kinds;
 mod left_out;

@@ -3,7 +3,7 @@ ghost use Rattle.std.specs.Prelude.{◌≡◌, ◌<◌, ◌≤◌, length, None,
 
 use crate::counting::counted;
 use crate::lines::LineCell;
-use crate::stamping::{STAMP, write_stamp};
+use crate::stamping::{STAMP, write_stamped};
 use bw_stream::{IoFailed, Sink, StdIo};
 use std::io::Write;
 use std::os::fd::{AsRawFd, RawFd};
@@ -75,10 +75,13 @@ impl<'a, W: Write + AsRawFd + Drop> LineSink<'a, W> {
         if !self.lines.is_stamped(self.fd) {
             return self.inner.write(bytes);
         }
-        if self.is_fresh {
-            write_stamp(&self.rt, &mut self.inner)?;
-        }
-        let count = self.inner.write(&bytes[..line_end(bytes)])?;
+        let part = &bytes[..line_end(bytes)];
+        let count = if self.is_fresh {
+            write_stamped(&self.rt, &mut self.inner, part)?;
+            part.len()
+        } else {
+            self.inner.write(part)?
+        };
         self.is_fresh = bytes[..count].ends_with(b"\n");
         Ok(count)
     }

@@ -36,14 +36,6 @@ impl<'a> NotedFiles<'a> {
         self.lines.note_fault_of_name(self.rt, folder, name, cause);
     }
 
-    /// Chooses whether what happens from now on is said on standard error, each line with its time.
-    ///
-    /// # Not specified
-    /// Anything: it has no contract.
-    pub fn log_events(&self, log: bool) {
-        self.lines.log_events(log);
-    }
-
     /// Whether what happens is said.
     ///
     /// # Not specified
