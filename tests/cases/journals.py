@@ -6,14 +6,14 @@ import errno
 import hashlib
 
 from kit.network import CANT_GO_ON, hear_all, TALLY
-from kit.takes import BLOCK as BLOCK_KIND, CLOSE as CLOSE_KIND, DELAYED_STORE, LARGEST_LIMIT, little, message, notice
-from kit.takes import STORED, verdict
+from kit.takes import BLOCK as BLOCK_KIND, CLOSE as CLOSE_KIND, DELAYED_STORE, LARGEST_LIMIT, little
+from kit.takes import MARK as MARK_KIND, message, notice, STORED, verdict
 from kit.watched import accepted_in_turn, BLOCK, CLOSE, CLOSE_EMPTY, CLOSE_MARKED, IN_TURN, LISTED, MARK, OPEN
 from kit.watched import said_to_a_file, store_fails, Watched, written
 from kit.watcher import Fault
 from kit.worked import EMPTY, SMALL
 
-NOT_OPEN = 3
+ALREADY_OPEN, NOT_OPEN = 2, 3
 MISSING = f"fails {errno.ENOENT}"
 FOLDER_SYNCED = ["open FOLDER to-read", "sync takes"]
 
@@ -80,12 +80,16 @@ class Journaled(Watched):
         self.made = set()  # names whose files are made
         self.listed = {}  # names with a synced entry in the folder, and whether their files have one too
 
-    def note_calls(self, name, content, closes=False):
-        """The calls that note this. The note of a stored CLOSE is synced without `--sync` too."""
+    def note_calls(self, name, content, closes=False, writes=True):
+        """The calls that note this. The note of a stored CLOSE is synced without `--sync` too; a number that wrote nothing
+        to the take's file needs no sync of it.
+        """
         place = self.noted.setdefault(name, len(header(name)))
         calls = [f"seek {name}.journal {place}", f"write {name}.journal {content.hex()}"]
         if not self.is_synced:
             return [*calls, f"sync-data {name}.journal", *self.folder_calls(name)] if closes else calls
+        if not writes:
+            return [*calls, f"sync-data {name}.journal"]
         take = opened(f"{name}.wav", *[MISSING] * (name not in self.made))
         samples = [f"sync-data {name}.wav"] * (name in self.made)
         return [take, *samples, *self.folder_calls(name), *calls, f"sync-data {name}.journal"]
@@ -115,7 +119,8 @@ class Journaled(Watched):
         self.made |= {name} if request is OPEN and code == STORED else set()
         noted = entry(name, number, content, code)
         closes = content[0] == CLOSE_KIND and code == STORED
-        calls = [*before, *file_calls, *self.note_calls(name, noted, closes)]
+        writes = content[0] != MARK_KIND and code == STORED
+        calls = [*before, *file_calls, *self.note_calls(name, noted, closes, writes)]
         self.noted[name] += len(noted)
         self.says(peer, message(name, number, content), calls, verdict(name, number, code))
 
@@ -127,10 +132,11 @@ class Journaled(Watched):
 
 
 def takes_of_two(it):
-    """Two takes at once, of which one is refused before its OPEN."""
+    """Two takes at once; a MARK is refused before the OPEN of one, and a second OPEN of the other."""
     peer = it.comes(accepted_in_turn(7))
     it.asks(peer, "a1", OPEN)
     it.asks(peer, "b2", MARK, NOT_OPEN)
+    it.asks(peer, "a1", OPEN, ALREADY_OPEN)
     for name, request in (("a1", BLOCK), ("b2", OPEN), ("a1", MARK), ("b2", CLOSE_EMPTY), ("a1", CLOSE_MARKED)):
         it.asks(peer, name, request)
     it.goes(peer, 0)
@@ -146,7 +152,9 @@ def case_noted(folder):
 
 
 def case_noted_and_synced(folder):
-    """The take's file is synced, the number noted, and the journal synced, and the folder where a file is new in it."""
+    """The take's file is synced, if the number wrote to it, the number noted, and the journal synced, and the folder where
+    a file is new in it.
+    """
     it = Journaled(folder, "--sync")
     takes_of_two(it)
     it.ends("notes and syncs", [0])

@@ -35,22 +35,24 @@ pub record NotesPlainly {D F T E : Type 0} (G : Ghosts D F) (answer : Result T E
   pub asks : AsksOnce G.calls G.failures old new answer
   pub synced : IsTrue (G.honest old) → KeepsEach (G.synced old) (G.synced new)
 
--- A note with syncs: nothing is written unless the take's file is synced first, and if it succeeds
--- both files are synced.
-pub record SyncsInOrder {D F T E : Type 0} (G : Ghosts D F) (answer : Result T E)
+-- A note with syncs: if its number wrote to the take's file, nothing is noted unless that file is synced
+-- first, and it is synced if the note succeeds; the journal is, whatever the number did.
+pub record SyncsInOrder {D F T E : Type 0} (G : Ghosts D F) (writes : Bool) (answer : Result T E)
     (take_path journal_path : List ℕ) (old new : D) : Type 0 where
-  pub first : KeepsEach (G.contents old) (G.contents new)
+  pub first : IsTrue writes → KeepsEach (G.contents old) (G.contents new)
       ⊎ IsSyncedAt (G.contents new) (G.synced new) take_path
-  pub take : OnOk answer (IsSyncedAt (G.contents new) (G.synced new) take_path)
+  pub take : IsTrue writes → OnOk answer (IsSyncedAt (G.contents new) (G.synced new) take_path)
   pub journal : OnOk answer (IsSyncedAt (G.contents new) (G.synced new) journal_path)
 
--- How a note under a name is synced, by whether each is, and whether it notes a close: that is always
--- synced. If that sync fails, the name is kept (`after`): any other failure is that of a plain note.
-pub record SyncsNote {D F T E : Type 0} (G : Ghosts D F) (sync closes : Bool) (name : List ℕ)
+-- How a note under a name is synced, by whether each is, whether it notes a close, which is always
+-- synced, and whether its number wrote to the take's file. If the sync of a close fails without `sync`,
+-- the name is kept (`after`): any other failure is that of a plain note.
+pub record SyncsNote {D F T E : Type 0} (G : Ghosts D F) (sync closes writes : Bool) (name : List ℕ)
     (answer : Result T E) (after : Option (List ℕ)) (take_path journal_path : List ℕ) (old new : D) :
     Type 0 where
   pub plain : sync ≡ false → closes ≡ false → NotesPlainly G answer old new
   pub closed : IsTrue closes → IsTrue (G.honest old) →
       OnOk answer (IsSyncedAt (G.contents new) (G.synced new) journal_path)
   pub failed : sync ≡ false → IsErr answer → (after ≡ Some name) ⊎ NotesPlainly G answer old new
-  pub order : IsTrue sync → IsTrue (G.honest old) → SyncsInOrder G answer take_path journal_path old new
+  pub order : IsTrue sync → IsTrue (G.honest old) →
+      SyncsInOrder G writes answer take_path journal_path old new

@@ -9,6 +9,7 @@ ghost use Rattle.bw_journal.specs.Notes.{KeepsHeaders};
 ghost use Rattle.bw_folder.specs.Folders.{take_path as path_of_take};
 ghost use Rattle.bw_folder.specs.Journals.{journal_path as path_of_journal};
 ghost use Rattle.bw_journal.specs.Closings.{notes_close};
+ghost use Rattle.bw_folder.specs.FileNotes.{writes_file};
 ghost use Rattle.bw_folder.specs.SyncOrders.{BeginsJournal, StopsAtSync, SyncsNote};
 
 use bw_disk::{SystemDisk, Volume};
@@ -58,7 +59,9 @@ impl<F: Drop> OpenJournal<F> {
 ///
 /// With `sync` a journal that begins is synced, and the folder, before any file of its take is made.
 /// A note is made in steps: the take's file is synced, then the folder unless it was synced since the
-/// journal was opened and the take's file found, the bytes are appended, and the journal is synced. So no note of this journal survives a loss of power without its samples, and
+/// journal was opened and the take's file found, the bytes are appended, and the journal is synced. For
+/// a number that wrote nothing to the file the first two are left out, if the folder was synced since
+/// the journal was opened. So no note of this journal survives a loss of power without its samples, and
 /// none that it reported is lost. After a sync that failed each `begin` and each `note` fails, of any
 /// name: another try could succeed although bytes are lost. Without `sync` only the note of a CLOSE is
 /// synced, and the folder with it.
@@ -293,9 +296,10 @@ impl<D: Volume> Journal for FolderJournal<D> {
     }
 
     /// Writes the bytes into the file of a journal that was begun or reopened. Without `sync` that
-    /// is one call of the disk; with it the take's file is synced before anything is written, and
-    /// the journal afterwards. If the bytes note that the take is closed, journal and folder are
-    /// synced also without `sync`: whoever has that verdict may delete the recording.
+    /// is one call of the disk; with it the take's file is synced before anything is written, unless
+    /// they note a MARK or a request that was refused, and the journal afterwards. If the bytes note
+    /// that the take is closed, journal and folder are synced also without `sync`: whoever has that
+    /// verdict may delete the recording.
     ///
     /// # Errors
     /// `StoreFault` if a call of the disk failed, memory was refused before any change, the name's
@@ -326,9 +330,10 @@ impl<D: Volume> Journal for FolderJournal<D> {
         // After a failed sync each call fails, and the disk isn't called.
         ensures failed_sync { StopsAtSync name.now result (failed_sync_in self.old) (failed_sync_in self.new)
             (journals_disk self.old) (journals_disk self.new) }
-        // Without `sync` nothing is synced but the note of a close; with it the take's file comes first.
-        ensures syncs { SyncsNote D.Disk (journals_sync self.old) (notes_close bytes.now) name.now
-            result (failed_sync_in self.new) (path_of_take (journals_folder self.old) name.now)
+        // Without `sync` nothing is synced but the note of a close; with it the take's file comes first,
+        // unless the number wrote nothing to it.
+        ensures syncs { SyncsNote D.Disk (journals_sync self.old) (notes_close bytes.now)
+            (writes_file bytes.now) name.now result (failed_sync_in self.new) (path_of_take (journals_folder self.old) name.now)
             (path_of_journal (journals_folder self.old) name.now)
             (journals_disk self.old) (journals_disk self.new) }
     {

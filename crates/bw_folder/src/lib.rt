@@ -4,6 +4,7 @@
 
 mod closing;
 mod comparing;
+mod file_notes;
 mod finishing;
 mod folder;
 mod heading;

@@ -14,7 +14,9 @@ ghost use Rattle.bw_folder.specs.SyncOrders.{BeginsJournal, IsSyncedAt, NotesPla
 ghost use Rattle.bw_folder.specs.SyncOrders.{SyncsInOrder, SyncsNote};
 ghost use Rattle.bw_disk.specs.Volumes.{KeepsEach};
 ghost use Rattle.bw_journal.specs.Closings.{notes_close};
+ghost use Rattle.bw_folder.specs.FileNotes.{writes_file};
 
+use crate::file_notes::{Note, writes_file};
 use crate::heading::{append, exists, open_or_make, put_header};
 use crate::journal::{FolderJournal, OpenJournal};
 use crate::paths::{journal_path, take_path};
@@ -191,8 +193,8 @@ impl<D: Volume> FolderJournal<D> {
             (D.contents self.new.disk) (path_of_journal (string_bytes self.old.folder) name.now) }
         ensures failed_sync { StopsAtSync name.now result self.old.failed_sync self.new.failed_sync
             self.old.disk self.new.disk }
-        ensures syncs { SyncsNote D.Disk self.old.sync (notes_close bytes.now) name.now result
-            self.new.failed_sync (path_of_take (string_bytes self.old.folder) name.now)
+        ensures syncs { SyncsNote D.Disk self.old.sync (notes_close bytes.now) (writes_file bytes.now)
+            name.now result self.new.failed_sync (path_of_take (string_bytes self.old.folder) name.now)
             (path_of_journal (string_bytes self.old.folder) name.now) self.old.disk self.new.disk }
     {
         let closes = notes_close(bytes, &mut self.content).map_err(|_| StoreFault)?;
@@ -204,7 +206,7 @@ impl<D: Volume> FolderJournal<D> {
     }
 
     /// Writes bytes into the file of a name's journal; with `sync` the take's file is synced before
-    /// that, and the journal after it.
+    /// that, if their number wrote to it, and the journal after it.
     pub(crate) fn note_in_file(
         &mut self,
         name: &Name,
@@ -230,7 +232,7 @@ impl<D: Volume> FolderJournal<D> {
             self.old.disk self.new.disk }
         ensures plain { self.old.sync ≡ false → NotesPlainly D.Disk result self.old.disk self.new.disk }
         ensures order { IsTrue (D.honest self.old.disk) → IsTrue self.old.sync → SyncsInOrder D.Disk
-            result (path_of_take (string_bytes self.old.folder) name.now)
+            (writes_file bytes.now) result (path_of_take (string_bytes self.old.folder) name.now)
             (path_of_journal (string_bytes self.old.folder) name.now) self.old.disk self.new.disk }
     {
         if self.failed_sync.is_some() {
@@ -243,6 +245,7 @@ impl<D: Volume> FolderJournal<D> {
             let journal = &mut self.journals[place];
             return append(&mut self.disk, &mut journal.file, offset, bytes);
         }
+        let writes = writes_file(bytes, &mut self.content).map_err(|_| StoreFault)?;
         let take = take_path(self.alloc, &self.folder, name)?;
         append_synced(
             &mut self.disk,
@@ -250,8 +253,11 @@ impl<D: Volume> FolderJournal<D> {
             &mut self.failed_sync,
             &take,
             &self.folder,
-            offset,
-            bytes,
+            &Note {
+                offset,
+                bytes,
+                writes,
+            },
         )
     }
 }

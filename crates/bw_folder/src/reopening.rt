@@ -1,5 +1,5 @@
 //! Opening the files of names again that an earlier server left, and closing them.
-ghost use Rattle.std.specs.Prelude.{◌≡◌, ◌↔◌, ℕ, List, IsTrue, IsSome, IsNone, IfOk, Ok, false};
+ghost use Rattle.std.specs.Prelude.{◌≡◌, ◌↔◌, ℕ, List, IsTrue, IsSome, IsNone, IfOk, IsOk, Ok, false};
 ghost use Rattle.std.specs.Prelude.{◌⊎◌, OnOk, Some};
 ghost use Rattle.bw_store.specs.Stores.{Counts};
 ghost use Rattle.bw_disk.specs.Disks.{AsksOnce};
@@ -148,7 +148,9 @@ impl<D: Volume> FolderJournal<D> {
         ensures marked { (failed_sync_in self.new ≡ failed_sync_in self.old)
             ⊎ (failed_sync_in self.new ≡ Some name.now) }
         ensures plain { journals_sync self.old ≡ false →
-            journals_disk self.new ≡ journals_disk self.old }
+            IsOk result × (journals_disk self.new ≡ journals_disk self.old) }
+        ensures closed { IsNone (existence_of (open_journals self.old) name.now) →
+            IsOk result × (journals_disk self.new ≡ journals_disk self.old) }
         ensures honest { D.honest (journals_disk self.new) ≡ D.honest (journals_disk self.old) }
         ensures contents { IsTrue (D.honest (journals_disk self.old)) → KeepsEach
             (D.contents (journals_disk self.old)) (D.contents (journals_disk self.new)) }

@@ -7,13 +7,13 @@ ghost use Rattle.bw_disk.specs.DiskSteps.{StaysWhole};
 ghost use Rattle.bw_disk.specs.Volumes.{WrittenInPart, KeepsEach};
 ghost use Rattle.bw_folder.specs.SyncOrders.{IsSyncedAt};
 
+use crate::file_notes::Note;
 use crate::journal::OpenJournal;
 use bw_disk::Volume;
 use bw_request::Name;
 use bw_store::StoreFault;
 
-/// Syncs a take's file, if there is one, and the folder, unless it was synced since the journal was
-/// opened and the take's file found; then appends to its name's journal, and syncs that.
+/// Syncs what a note speaks of, then appends the note to its name's journal, and syncs that.
 ///
 /// # Errors
 /// `StoreFault` if a call of the disk failed. If that was a sync the name is kept, so that nothing is
@@ -24,8 +24,7 @@ pub(crate) fn append_synced<D: Volume>(
     failed_sync: &mut Option<Name>,
     take: &str,
     folder: &str,
-    offset: u64,
-    bytes: &[u8],
+    note: &Note<'_>,
 ) -> Result<(), StoreFault>
     ensures name { journal.new.name ≡ journal.old.name }
     ensures existed { journal.new.existed ≡ journal.old.existed }
@@ -34,26 +33,58 @@ pub(crate) fn append_synced<D: Volume>(
     ensures marked { (failed_sync.new ≡ failed_sync.old) ⊎ (failed_sync.new ≡ Some journal.old.name) }
     ensures honest { D.honest disk.new ≡ D.honest disk.old }
     ensures written { IsTrue (D.honest disk.old) → OnOk result (Written
-        (D.contents disk.old (D.path_of journal.old.file)) offset bytes.now
+        (D.contents disk.old (D.path_of journal.old.file)) note.now.offset note.now.bytes.now
         (D.contents disk.new (D.path_of journal.old.file))) }
     ensures failed { IsTrue (D.honest disk.old) → OnErr result (WrittenInPart
-        (D.contents disk.old (D.path_of journal.old.file)) offset bytes.now
+        (D.contents disk.old (D.path_of journal.old.file)) note.now.offset note.now.bytes.now
         (D.contents disk.new (D.path_of journal.old.file))) }
     ensures others { IsTrue (D.honest disk.old) → KeepsOthers
         (D.contents disk.old) (D.contents disk.new) (D.path_of journal.old.file) }
     ensures first { IsTrue (D.honest disk.old) → take.now ≢ D.path_of journal.old.file →
-        KeepsEach (D.contents disk.old) (D.contents disk.new)
+        IsTrue note.now.writes → KeepsEach (D.contents disk.old) (D.contents disk.new)
         ⊎ IsSyncedAt (D.contents disk.new) (D.synced disk.new) take.now }
     ensures take { IsTrue (D.honest disk.old) → take.now ≢ D.path_of journal.old.file →
+        IsTrue note.now.writes →
         OnOk result (IsSyncedAt (D.contents disk.new) (D.synced disk.new) take.now) }
     ensures synced { IsTrue (D.honest disk.old) → OnOk result (IsSyncedAt (D.contents disk.new)
         (D.synced disk.new) (D.path_of journal.old.file)) }
 {
-    sync_take(disk, journal, failed_sync, take)?;
-    sync_names(disk, journal, failed_sync, folder)?;
-    disk.append(&mut journal.file, offset, bytes)
+    sync_noted(disk, journal, failed_sync, take, folder, note.writes)?;
+    disk.append(&mut journal.file, note.offset, note.bytes)
         .map_err(|_| StoreFault)?;
     sync_file(disk, &journal.file, &journal.name, failed_sync)
+}
+
+/// Syncs a take's file, if there is one, and the folder, unless it was synced since the journal was
+/// opened and the take's file found. If a number that wrote nothing is to be noted, and the folder was
+/// synced since the journal was opened, nothing is left to sync: numbers are done in order, so what an
+/// earlier number wrote was synced before its note.
+///
+/// # Errors
+/// `StoreFault` if a call of the disk failed. If that was a sync the name is kept.
+fn sync_noted<D: Volume>(
+    disk: &mut D,
+    journal: &mut OpenJournal<D::File>,
+    failed_sync: &mut Option<Name>,
+    take: &str,
+    folder: &str,
+    writes: bool,
+) -> Result<(), StoreFault>
+    ensures name { journal.new.name ≡ journal.old.name }
+    ensures existed { journal.new.existed ≡ journal.old.existed }
+    ensures file { journal.new.file ≡ journal.old.file }
+    ensures unmarked { OnOk result (failed_sync.new ≡ failed_sync.old) }
+    ensures marked { (failed_sync.new ≡ failed_sync.old) ⊎ (failed_sync.new ≡ Some journal.old.name) }
+    ensures honest { D.honest disk.new ≡ D.honest disk.old }
+    ensures contents { IsTrue (D.honest disk.old) → KeepsEach (D.contents disk.old) (D.contents disk.new) }
+    ensures synced { IsTrue (D.honest disk.old) → IsTrue writes → OnOk result
+        (IsSyncedAt (D.contents disk.old) (D.synced disk.new) take.now) }
+{
+    if !writes && journal.listed {
+        return Ok(());
+    }
+    sync_take(disk, journal, failed_sync, take)?;
+    sync_names(disk, journal, failed_sync, folder)
 }
 
 /// Syncs a journal that has its header, and the folder, unless it was synced since the journal was

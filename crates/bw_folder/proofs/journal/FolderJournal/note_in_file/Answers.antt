@@ -90,14 +90,14 @@ returns-clause-order g c = λ honest syncs.
     let apart : c.deref-3.result.now ≢ g.D.Disk.path_of c.index_mut.result.now.file =
     λ same. paths_apart folder c.args.name.now c.args.name.now (sym take ∙ same ∙ path g c honest) in
     record {
-      first = subst
+      first = λ writes. subst
           (λ (p : List ℕ). KeepsEach (g.D.Disk.contents c.args.self.now.disk) (g.D.Disk.contents c.append_synced.new.disk)
           ⊎ IsSyncedAt (g.D.Disk.contents c.append_synced.new.disk) (g.D.Disk.synced c.append_synced.new.disk) p) take
-          (c.append_synced.ensures.first honest apart);
-      take = subst
+          (c.append_synced.ensures.first honest apart (search rules));
+      take = λ writes. subst
           (λ (p : List ℕ). OnOk c.append_synced.result
           (IsSyncedAt (g.D.Disk.contents c.append_synced.new.disk) (g.D.Disk.synced c.append_synced.new.disk) p)) take
-          (c.append_synced.ensures.take honest apart);
+          (c.append_synced.ensures.take honest apart (search rules));
       journal = subst
           (λ (p : List ℕ). OnOk c.append_synced.result
           (IsSyncedAt (g.D.Disk.contents c.append_synced.new.disk) (g.D.Disk.synced c.append_synced.new.disk) p))
