@@ -8,3 +8,4 @@ pub mod HeaderKeeping
 pub mod ClosedTakes
 pub mod ClosedNames
 pub mod RecoveredForms
+pub mod FileNoteLaws

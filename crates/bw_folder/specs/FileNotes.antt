@@ -1,10 +1,11 @@
 -- Which bytes note a number that wrote to the file of its take.
-use Rattle.std.specs.Prelude.{◌==◌, ◌&&◌, ◌||◌, ℕ, Bool, true, not, Option, Some, None, List, length, nat_lt}
-use Rattle.std.specs.Prelude.{slice_index}
-use Rattle.bw_model.specs.Take.{Mark, Stored}
+use Rattle.std.specs.Prelude.{◌≡◌, ◌==◌, ◌&&◌, ◌||◌, ℕ, Bool, true, false, not, Option, Some}
+use Rattle.std.specs.Prelude.{None, List, length, nat_lt, slice_index}
+use Rattle.bw_model.specs.Take.{Request, Open, Block, Mark, SetField, Close, Stored, is_stored}
 use Rattle.bw_model.specs.Wire.{kind}
 use Rattle.bw_model.specs.Replies.{verdict_code}
-use Rattle.bw_journal.specs.Entries.{first_content}
+use Rattle.bw_journal.specs.Entries.{JournalEntry, sealed_entry, first_content}
+use Rattle.bw_journal.specs.NotedJournals.{IsNotable}
 
 -- The content of a number that wrote nothing to its file: its verdict is no Stored, or after a digest
 -- comes the kind of a MARK, which waits in memory for the CLOSE.
@@ -20,3 +21,16 @@ writes_by len (Some found) = not (found.1 == len) || not (is_unwritten found.0)
 -- These bytes note a number that wrote to its file: all do but the one whole line of another number.
 abbrev pub writes_file : List ℕ → Bool
 writes_file bytes = writes_by (length bytes) (first_content bytes)
+
+-- a MARK
+abbrev pub is_mark : Request → Bool
+is_mark (Open f history) = false
+is_mark (Block bytes) = false
+is_mark (Mark id frame) = true
+is_mark (SetField tag value) = false
+is_mark (Close total) = false
+
+-- Of an entry that is whether its request was stored, and is no MARK.
+abbrev pub WritesAreNoted : Type 0
+WritesAreNoted = (e : JournalEntry) → IsNotable e →
+    writes_file (sealed_entry e) ≡ (is_stored e.verdict && not (is_mark e.request))

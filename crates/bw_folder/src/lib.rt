@@ -9,6 +9,7 @@ mod finishing;
 mod folder;
 mod heading;
 mod journal;
+pub mod laws;
 mod noting;
 mod paths;
 mod recovering;
