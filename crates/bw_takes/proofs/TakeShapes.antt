@@ -4,7 +4,7 @@ use Rattle.std.specs.Prelude.{◌/◌, ◌^◌}
 use Rattle.serde_json.specs.Data.{depth, null}
 use Rattle.serde_json.specs.Written.{has_float}
 use Rattle.bw_model.proofs.Computing.{computing}
-use Rattle.bw_takes.specs.TakeObjects.{duration_data, take_data, take_number}
+use Rattle.bw_takes.specs.TakeObjects.{duration_data, summary_with_digest, take_number}
 use Rattle.bw_takes.specs.TakeSummaries.{TakeSummary, Stands, Unopened, Opened, Faulty, Changed}
 use Rattle.bw_takes.specs.declared.hashing.SampleDigest.{SampleDigest}
 use Rattle.bw_takes.specs.declared.hashing.SampleDigest.TheVariants.{Unasked, Missing, Known}
@@ -17,7 +17,7 @@ duration count rate = go (nat_lt (count * 1000 / rate) (2 ^ 64))
     go false = refl
 
 pub take-has_float : (name : List ℕ) (summary : TakeSummary) (digest : SampleDigest) →
-    has_float (take_data name summary digest) ≡ false
+    has_float (summary_with_digest name summary digest) ≡ false
 unfolding computing
 take-has_float name (Stands next) Unasked = refl
 take-has_float name (Stands next) Missing = refl
@@ -43,7 +43,7 @@ duration_depth count rate = go (nat_lt (count * 1000 / rate) (2 ^ 64))
     go false = refl
 
 pub take-depth : (name : List ℕ) (summary : TakeSummary) (digest : SampleDigest) →
-    depth (take_data name summary digest) ≤ 127
+    depth (summary_with_digest name summary digest) ≤ 127
 unfolding computing
 take-depth name (Stands next) Unasked = lit≤ tt
 take-depth name (Stands next) Missing = lit≤ tt

@@ -84,5 +84,5 @@ digest_added digest (object members) = object (with_digest digest members)
 digest_added digest other = other
 
 -- a take of which this is reported, and the digest of its samples
-abbrev pub take_data : List ℕ → TakeSummary → SampleDigest → Data
-take_data name summary digest = digest_added digest (summary_data name summary)
+abbrev pub summary_with_digest : List ℕ → TakeSummary → SampleDigest → Data
+summary_with_digest name summary digest = digest_added digest (summary_data name summary)

@@ -15,7 +15,7 @@ use Rattle.bw_recovery.specs.declared.finding.NameFault.{NameFault as Fault}
 use Rattle.bw_recovery.specs.declared.finding.NameFault.TheVariants.{Journal, OtherLimit, File}
 use Rattle.bw_takes.specs.TakeLines.{next_line, numbered_line, opened_line, state_word, word_line}
 use Rattle.bw_takes.specs.TakeNames.{ListsTakes, AreNamesInOrder}
-use Rattle.bw_takes.specs.TakeObjects.{take_data}
+use Rattle.bw_takes.specs.TakeObjects.{summary_with_digest}
 use Rattle.bw_takes.specs.TakeDigests.{closed_take, digest_said}
 use Rattle.bw_takes.specs.TakeSummaries.{TakeSummary, Stands, Unopened, Opened, Faulty, Changed}
 use Rattle.bw_takes.specs.TakeSummaries.{is_sound_summary, story_summary, take_summary}
@@ -54,7 +54,7 @@ summary_line name (Changed number) digest = numbered_line name (codes "ChangedBl
 -- its line in this style
 abbrev pub styled_line : LineStyle → List ℕ → TakeSummary → SampleDigest → List ℕ
 styled_line Words name summary digest = summary_line name summary digest
-styled_line Json name summary digest = as_line (compact_text (take_data name summary digest))
+styled_line Json name summary digest = as_line (compact_text (summary_with_digest name summary digest))
 
 -- whether samples are compared
 abbrev pub is_deep : Depth → Bool

@@ -5,7 +5,7 @@ ghost use Rattle.serde_json.specs.View.{members_view, view};
 ghost use Rattle.serde_json.specs.Written.{compact_text};
 ghost use Rattle.bw_journal.specs.Rows.{row_count};
 ghost use Rattle.bw_takes.specs.TakeObjects.{duration_data, faulty_object, take_number_or_null, opened_object};
-ghost use Rattle.bw_takes.specs.TakeObjects.{digest_added, still_object, summary_data, take_data};
+ghost use Rattle.bw_takes.specs.TakeObjects.{digest_added, still_object, summary_data, summary_with_digest};
 ghost use Rattle.bw_takes.specs.TakeObjects.{with_digest as members_with};
 ghost use Rattle.bw_takes.specs.TakeReports.{finding_summary};
 ghost use Rattle.bw_takes.specs.TakeSummaries.{story_summary};
@@ -33,10 +33,10 @@ pub fn take_json(
     digest: SampleDigest,
 ) -> Result<String, AllocError>
     ensures text { IfOk result (λ t. string_bytes t
-        ≡ compact_text (take_data name.now (finding_summary finding.now) digest)) }
+        ≡ compact_text (summary_with_digest name.now (finding_summary finding.now) digest)) }
     // It is read back as the same object.
     ensures reads_back { IfOk result (λ t. read (string_bytes t)
-        ≡ Some (take_data name.now (finding_summary finding.now) digest)) }
+        ≡ Some (summary_with_digest name.now (finding_summary finding.now) digest)) }
 {
     let Ok(name) = std::str::from_utf8(name.as_bytes()) else {
         return Err(AllocError);
@@ -51,9 +51,9 @@ fn named_json(
     digest: SampleDigest,
 ) -> Result<String, AllocError>
     ensures text { IfOk result (λ t. string_bytes t
-        ≡ compact_text (take_data name.now (finding_summary finding.now) digest)) }
+        ≡ compact_text (summary_with_digest name.now (finding_summary finding.now) digest)) }
     ensures reads_back { IfOk result (λ t. read (string_bytes t)
-        ≡ Some (take_data name.now (finding_summary finding.now) digest)) }
+        ≡ Some (summary_with_digest name.now (finding_summary finding.now) digest)) }
 {
     let value = take_value(alloc, name, finding, digest)?;
     value.to_string(alloc)
@@ -66,7 +66,7 @@ fn take_value(
     digest: SampleDigest,
 ) -> Result<Value, AllocError>
     ensures { IfOk result (λ v. view v
-        ≡ take_data name.now (finding_summary finding.now) digest) }
+        ≡ summary_with_digest name.now (finding_summary finding.now) digest) }
 {
     let value = finding_value(alloc, name, finding)?;
     with_digest(alloc, value, digest)
