@@ -170,6 +170,22 @@ def case_nobody_listens(folder):
     same_settled("nobody listens", send(free_port(), take), 0, 0, 3)
 
 
+def case_host(folder):
+    """A host's name is looked up with `--network`, in each form of the option; a take may be called `--connect`."""
+    take = Take("--connect", 3_000, 24)
+    count = len(take.requests())
+    server = Server(folder, "--until-stopped")
+    host = f"localhost:{server.port}"
+    for server_words in (("--connect", host), (f"--connect={host}",)):
+        words = ("send", "--network", "--name", take.name, *server_words)
+        same_settled(f"a host, {server_words}", run(*words, given=take.lines()), count, count, 0)
+    output = run("send", "--connect", host, "--name", take.name, given=take.lines())
+    TALLY.same("a host without --network", output[:2], (2, ""))
+    TALLY.holds("a host without --network", output[2].startswith("error: '--connect <ADDR>' takes"), output[2])
+    same_file("a host", folder, take)
+    ends_by_signal("a host", server)
+
+
 def case_no_answer(folder):
     """If connections to a port are no longer accepted, each round ends when its time is over."""
     with socket.socket() as listener, contextlib.ExitStack() as waiting:
@@ -340,6 +356,7 @@ CASES = [
     case_two_senders,
     case_port_in_use,
     case_nobody_listens,
+    case_host,
     case_no_answer,
     case_bad_line,
     case_bad_folder,

@@ -297,7 +297,7 @@ Sends a recording, or the requests on standard input, until each has its verdict
 Usage: bwingest send [OPTIONS] --connect <ADDR> --name <NAME>
 
 Options:
-      --connect <ADDR>            Where the server listens: 127.0.0.1:PORT, or any address with --network
+      --connect <ADDR>            Where the server listens: 127.0.0.1:PORT, or any address or host with --network
       --name <NAME>               The take's name
       --rounds <N>                How many exchanges of at most 16 requests are made, 1 to 1000 [default: 16]
       --timeout <SECONDS>         How long a silent server is waited for, 1 to 86400 [default: for good; with --file or --spool 30]
@@ -339,14 +339,39 @@ for name in '' A a.1 "$(block 17 | cut -c 1-33)"; do
 done
 run rehearse
 has_line 'no name' 2 faults 'Usage: bwingest rehearse --name <NAME>'
+bad_server="error: '--connect <ADDR>' takes 127.0.0.1:PORT, or any IP:PORT or HOST:PORT with '--network'; \
+PORT is 1 to 65535"
 for address in '' localhost:4100 127.0.0.1 127.0.0.1:0 127.0.0.1:65536 127.0.0.1:04100 127.0.0.2:4100 0.0.0.0:4100 \
     '[::1]:4100'; do
     run serve --listen "$address" --folder .
     has_line "listening at '$address'" 2 faults \
         "error: '--listen <ADDR>' takes 127.0.0.1:PORT, or any IP:PORT with '--network'; PORT is 1 to 65535"
     run send --connect "$address" --name a1
-    has_line "sending to '$address'" 2 faults \
-        "error: '--connect <ADDR>' takes 127.0.0.1:PORT, or any IP:PORT with '--network'; PORT is 1 to 65535"
+    has_line "sending to '$address'" 2 faults "$bad_server"
+done
+# A host that isn't found: a line says why before the usual ones. Others than HOST:PORT aren't looked up.
+for host in nowhere.invalid "$(block 150)"; do
+    for words in "--connect $host:4100" "--connect=$host:4100"; do
+        run send $words --name a1 --network
+        has_line "the server '$words'" 2 faults "$bad_server"
+        if head -n 1 faults | grep -q "^$host:4100: failed to lookup address information"; then
+            passed=$((passed + 1))
+        else
+            failed=$((failed + 1))
+            echo "the server '$words': no line that says why it isn't found, but '$(head -n 1 faults | cut -c 1-200)'"
+        fi
+    done
+done
+for address in nowhere.invalid :4100 nowhere.invalid:x nowhere.invalid:65536 ::1:4100 1.2.3.4:+80; do
+    run send --connect "$address" --name a1 --network
+    has_line "sending to '$address' over a network" 2 faults "$bad_server"
+    head -n 1 faults >first
+    if grep -qxF -e "$bad_server" first; then
+        passed=$((passed + 1))
+    else
+        failed=$((failed + 1))
+        echo "sending to '$address' over a network: a line before the usual ones: '$(cat first)'"
+    fi
 done
 run serve --listen 127.0.0.1:4100
 has_line 'no folder' 2 faults 'Usage: bwingest serve --listen <ADDR> --folder <DIR>'
