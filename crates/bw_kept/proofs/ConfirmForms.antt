@@ -14,8 +14,9 @@ use Rattle.bw_folder.specs.JournalFolders.{journals_disk, journals_limit, open_j
 use Rattle.bw_folder.specs.RecoveredNames.{AreOfOneFolder, CountsUnlessCrowded, ShowsAlike}
 use Rattle.bw_folder.specs.declared.folder.FolderStore.{FolderStore}
 use Rattle.bw_folder.specs.declared.journal.FolderJournal.{FolderJournal}
-use Rattle.bw_kept.specs.Recoveries.{IfKept, IsKeptUnder, KeepsBothSettings, KeepsInFolder, Recovers, RecoversIn, OpensIn, opened_story}
-use Rattle.bw_kept.specs.Visits.{ClosesFiles, IfNew, IsDifference, IsReason, RecoversName}
+use Rattle.bw_kept.specs.Recoveries.{IfKept, IfNew, IsKeptUnder, KeepsBothSettings, KeepsInFolder, Recovers, RecoversIn}
+use Rattle.bw_kept.specs.Recoveries.{OpensIn, opened_story}
+use Rattle.bw_kept.specs.Visits.{ClosesFiles, IsDifference, IsReason, RecoversName}
 use Rattle.bw_kept.specs.declared.delay.Delay.{Delay}
 use Rattle.bw_kept.specs.declared.delay.Delay.TheVariants as delay
 use Rattle.bw_kept.specs.declared.recovery.Recovered.{Recovered}

@@ -138,6 +138,25 @@ module _ {D E F H : Type 0} {G : Ghosts D F} {K : Ghosts E H} where
     journals = b.journals ∙ a.journals;
   }
 
+  -- this name was closed
+  pub closed_open : (name : List ℕ) (store : FolderStore D F G) (journal : FolderJournal E H K)
+      (store' : FolderStore D F G) (journal' : FolderJournal E H K) →
+      open_takes store' ≡ names_but name (open_takes store) →
+      open_journals journal' ≡ known_but name (open_journals journal) → KeepsOthersOpen name store journal store' journal'
+  closed_open name store journal store' journal' t n = record {
+    takes = ap (names_but name) t ∙ names_twice name (open_takes store);
+    journals = ap (known_but name) n ∙ known_twice name (open_journals journal);
+  }
+
+  -- it was closed before another step
+  pub closed_first : (name : List ℕ) (store : FolderStore D F G) (journal : FolderJournal E H K)
+      (store' : FolderStore D F G) (journal' : FolderJournal E H K) (store'' : FolderStore D F G)
+      (journal'' : FolderJournal E H K) → open_takes store' ≡ names_but name (open_takes store) →
+      open_journals journal' ≡ known_but name (open_journals journal) →
+      KeepsOthersOpen name store' journal' store'' journal'' → KeepsOthersOpen name store journal store'' journal''
+  closed_first name store journal store' journal' store'' journal'' t n kept =
+      open_then name store journal store' journal' store'' journal'' (closed_open name store journal store' journal' t n) kept
+
   -- once more was opened, after what was the same
   pub opens_after : (name : List ℕ) (s s' : Option Story) (store : FolderStore D F G) (journal : FolderJournal E H K)
       (store' : FolderStore D F G) (journal' : FolderJournal E H K) (store'' : FolderStore D F G)

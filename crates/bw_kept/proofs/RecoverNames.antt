@@ -23,8 +23,8 @@ use Rattle.bw_session.specs.declared.server.Server.{Server}
 use Rattle.bw_kept.specs.FoundNames.{KeepsSessions, WasRecovered}
 use Rattle.bw_kept.specs.KeptFolders.{HasNameFault, HasTooMany, HoldsKept, IsOutOfTable, LiesInFolder}
 use Rattle.bw_kept.specs.KeptTurns.{DiskFails, DisksDiffer}
-use Rattle.bw_kept.specs.Recoveries.{KeepsInFolder, RecoversIn, OpensIn, opened_story, journal_opened}
-use Rattle.bw_kept.specs.Visits.{ClosesFiles, IfNew, IsReason, RecoversName}
+use Rattle.bw_kept.specs.Recoveries.{IfNew, KeepsInFolder, RecoversIn, OpensIn, opened_story, journal_opened}
+use Rattle.bw_kept.specs.Visits.{ClosesFiles, IsReason, RecoversName}
 use Rattle.bw_kept.specs.declared.delay.Delay.{Delay}
 use Rattle.bw_kept.specs.declared.delay.Delay.TheVariants as delay
 use Rattle.bw_kept.specs.declared.recovery.Recovered.{Recovered}

@@ -105,6 +105,12 @@ IsKeptUnder name New = Unit {0}
 IsKeptUnder name (LeftOut cause) = Unit {0}
 IsKeptUnder name (Kept k) = k.name ≡ name
 
+-- this holds if a name is new
+abbrev pub IfNew : Recovered → Type 0 → Type 0
+IfNew New Holds = Holds
+IfNew (LeftOut cause) Holds = Unit {0}
+IfNew (Kept k) Holds = Unit {0}
+
 -- this holds if numbers of a name are done
 abbrev pub IfKept : Recovered → Type 0 → Type 0
 IfKept New Holds = Unit {0}

@@ -11,27 +11,20 @@ use Rattle.bw_folder.specs.JournalFolders.{IsSyncedName}
 use Rattle.bw_folder.specs.RecoveredNames.{AreOfOneFolder, ShowsAlike}
 use Rattle.bw_folder.specs.declared.folder.FolderStore.{FolderStore}
 use Rattle.bw_folder.specs.declared.journal.FolderJournal.{FolderJournal}
-use Rattle.bw_kept.specs.Recoveries.{IfKept, IsKeptUnder, KeepsBothSettings, KeepsInFolder, RecoversIn}
-use Rattle.bw_kept.specs.Recoveries.{OpensIn, HasTooManyIn}
+use Rattle.bw_kept.specs.Recoveries.{IfKept, IfNew, IsKeptUnder, KeepsBothSettings, KeepsInFolder}
+use Rattle.bw_kept.specs.Recoveries.{RecoversIn, OpensIn, HasTooManyIn}
 use Rattle.bw_kept.specs.declared.delay.Delay.{Delay}
 use Rattle.bw_kept.specs.declared.delay.Delay.TheVariants.{CallFailed, NoMemory, LeftOut as IsLeftOut}
 use Rattle.bw_kept.specs.declared.delay.Delay.TheVariants.{TooManyNumbers, TwoFolders, NoPlace}
 use Rattle.bw_kept.specs.declared.recovery.RecoverFault.{RecoverFault}
 use Rattle.bw_kept.specs.declared.recovery.RecoverFault.TheVariants.{Disk, Memory, Numbers}
 use Rattle.bw_kept.specs.declared.recovery.Recovered.{Recovered}
-use Rattle.bw_kept.specs.declared.recovery.Recovered.TheVariants.{New, LeftOut, Kept}
 
 -- why a name is put off that isn't recovered
 abbrev pub delay_by : RecoverFault → Delay
 delay_by Disk = CallFailed
 delay_by Memory = NoMemory
 delay_by Numbers = TooManyNumbers
-
--- this holds if a name is new
-abbrev pub IfNew : Recovered → Type 0 → Type 0
-IfNew New Holds = Holds
-IfNew (LeftOut cause) Holds = Unit {0}
-IfNew (Kept k) Holds = Unit {0}
 
 module _ {D E F H : Type 0} {G : Ghosts D F} {K : Ghosts E H} where
   -- Whatever was open of a name is closed; of the others what was open is.

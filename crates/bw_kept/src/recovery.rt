@@ -86,10 +86,9 @@ pub fn recover<D: Volume, E: Volume>(
     limit: Limit,
     name: &Name,
 ) -> Result<Recovered, RecoverFault>
-    ensures settings { KeepsBothSettings store.old journal.old store.new journal.new }
-    ensures takes { D.honest (takes_disk store.new) ≡ D.honest (takes_disk store.old) }
-    ensures notes { E.honest (journals_disk journal.new) ≡ E.honest (journals_disk journal.old) }
-    ensures named { IfOk result (IsKeptUnder name.now) }
+    // Settings stay and what is open of other names, and of a name that is left out, or after `Numbers`,
+    // both disks, whatever disks they are.
+    ensures alone { RecoversAlone name.now result store.old journal.old store.new journal.new }
     // New, left out or kept, by journal and file, which are afterwards what the done numbers make.
     ensures recovered { AreOfOneFolder store.old journal.old → IfOk result
         (RecoversIn limit name.now store.old journal.old store.new journal.new) }
@@ -97,9 +96,6 @@ pub fn recover<D: Volume, E: Volume>(
     ensures opened { AreOfOneFolder store.old journal.old → IfOk result
         (OpensIn limit name.now store.old journal.old store.new journal.new) }
     ensures closed { OnErr result (OpensStory name.now None store.old journal.old store.new journal.new) }
-    // Nothing changes of a name that is left out, or after `Numbers`, on any disks.
-    ensures unchanged { IfUntouched result (StaysWhole D.Disk (takes_disk store.old) (takes_disk store.new)
-        × StaysWhole E.Disk (journals_disk journal.old) (journals_disk journal.new)) }
     // What was left of the name is left still, after a failed call too; a fault keeps all of it.
     ensures kept { AreOfOneFolder store.old journal.old →
         KeepsInFolder limit name.now store.old journal.old store.new journal.new }

@@ -1,4 +1,4 @@
-use Rattle.std.proofs.Common.{Ok, Err, Bool, ◌∙◌, List, ℕ, refl, ap}
+use Rattle.std.proofs.Common.{rules, Ok, Err, Bool, ◌∙◌, List, ℕ, refl, ap}
 use Rattle.bw_folder.specs.TakeFolders.{takes_disk}
 use Rattle.bw_folder.specs.JournalFolders.{journals_disk, noted_in_folder}
 use Rattle.bw_folder.specs.Journals.{existence_of}
@@ -7,7 +7,7 @@ use Rattle.bw_kept.proofs.SeenAlike.{same_disks, same_folder, story_here, recove
 use Rattle.bw_kept.proofs.RecoveryForms.{numbers_then}
 use Rattle.bw_kept.proofs.SeenRecoveries.{untouched_beside}
 use Rattle.bw_kept.proofs.SeenAlike.{counts_there, kept_here, kept_there, many_here}
-use Rattle.bw_kept.proofs.OpenLists.{opens_closed, closed_again, none_known}
+use Rattle.bw_kept.proofs.OpenLists.{opens_closed, closed_again, closed_first, closed_open, none_known, open_then}
 use Rattle.bw_kept.proofs.recovery.recover.Goals as goal
 
 pub returns-in-Ok-clause-recovered : goal.returns-in-Ok-clause-recovered
@@ -43,12 +43,6 @@ returns-in-Ok-clause-opened g c = λ one.
     (opened_story limit name (noted_in_folder shut_journal name) c.in-Ok.recovered) store journal shut shut_journal
     ended ended_journal (story_here store journal shut shut_journal seen limit name c.in-Ok.recovered)
     c.release.ensures.opened c.release-2.ensures.known (c.in-Ok.ensures.recovered one').opened
-
-pub returns-in-Ok-clause-unchanged : goal.returns-in-Ok-clause-unchanged
-returns-in-Ok-clause-unchanged g c =
-    untouched_beside g.D.Disk g.E.Disk _ _ _ (takes_disk c.recover_synced.new.store) _ _ _
-    (journals_disk c.recover_synced.new.journal) (Ok c.in-Ok.recovered) c.release.ensures.disk refl
-    c.release-2.ensures.disk refl c.in-Ok.ensures.alone.unchanged
 
 pub returns-in-Ok-clause-failures : goal.returns-in-Ok-clause-failures
 returns-in-Ok-clause-failures g c = λ one.
@@ -118,12 +112,6 @@ returns-in-Err-clause-many g c = λ one.
     (Err c.in-Err.fault) (many_here store journal shut shut_journal seen limit name)
     (c.in-Err.ensures.recovered one').many
 
-pub returns-in-Err-clause-unchanged : goal.returns-in-Err-clause-unchanged
-returns-in-Err-clause-unchanged g c =
-    untouched_beside g.D.Disk g.E.Disk _ _ _ _ _ _ _ _ (Err c.in-Err.fault) c.release.ensures.disk
-    c.release-in-Err.ensures.disk c.release-2.ensures.disk c.release-in-Err-2.ensures.disk
-    c.in-Err.ensures.alone.unchanged
-
 pub returns-in-Ok-clause-kept : goal.returns-in-Ok-clause-kept
 returns-in-Ok-clause-kept g c = λ one.
     let store = c.args.store.now in
@@ -160,3 +148,41 @@ returns-in-Err-clause-kept g c = λ one.
     kept_there ended ended_journal last last_journal later store journal limit name
     (kept_here store journal shut shut_journal seen ended ended_journal limit name
     (c.recover_synced.ensures.recovered one').kept)
+
+pub returns-in-Ok-clause-alone : goal.returns-in-Ok-clause-alone
+returns-in-Ok-clause-alone g c =
+    let one = c.release.ensures in
+    let two = c.release-2.ensures in
+    let mid = c.in-Ok.ensures.alone in
+    record {
+      settings = search rules;
+      takes = search rules;
+      notes = search rules;
+      named = mid.named;
+      apart = closed_first c.args.name.now c.args.store.now c.args.journal.now c.release.new.self c.release-2.new.self
+          c.recover_synced.new.store c.recover_synced.new.journal one.opened two.known mid.apart;
+      unchanged = untouched_beside g.D.Disk g.E.Disk _ _ _ (takes_disk c.recover_synced.new.store) _ _ _
+          (journals_disk c.recover_synced.new.journal) (Ok c.in-Ok.recovered) one.disk refl two.disk refl mid.unchanged;
+    }
+
+pub returns-in-Err-clause-alone : goal.returns-in-Err-clause-alone
+returns-in-Err-clause-alone g c =
+    let one = c.release.ensures in
+    let two = c.release-2.ensures in
+    let mid = c.in-Err.ensures.alone in
+    let last = c.release-in-Err.ensures in
+    let last_notes = c.release-in-Err-2.ensures in
+    record {
+      settings = search rules;
+      takes = search rules;
+      notes = search rules;
+      named = mid.named;
+      apart = open_then c.args.name.now c.args.store.now c.args.journal.now c.recover_synced.new.store
+          c.recover_synced.new.journal c.release-in-Err.new.self c.release-in-Err-2.new.self
+          (closed_first c.args.name.now c.args.store.now c.args.journal.now c.release.new.self c.release-2.new.self
+          c.recover_synced.new.store c.recover_synced.new.journal one.opened two.known mid.apart)
+          (closed_open c.args.name.now c.recover_synced.new.store c.recover_synced.new.journal c.release-in-Err.new.self
+          c.release-in-Err-2.new.self last.opened last_notes.known);
+      unchanged = untouched_beside g.D.Disk g.E.Disk _ _ _ _ _ _ _ _ (Err c.in-Err.fault) one.disk last.disk two.disk
+          last_notes.disk mid.unchanged;
+    }

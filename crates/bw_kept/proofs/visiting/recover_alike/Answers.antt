@@ -14,7 +14,8 @@ returns-in-Ok-New g c =
     let name = c.args.name.now in
     let r = c.in-Ok-New.ensures in
     let v = c.confirm_new.ensures in
-    confirmed name store journal mid mid_journal c.confirm_new.new.store c.confirm_new.new.journal r.settings r.takes r.notes
+    confirmed name store journal mid mid_journal c.confirm_new.new.store c.confirm_new.new.journal r.alone.settings r.alone.takes
+    r.alone.notes
     (λ one. subst (λ (l : ℕ). KeepsInFolder l name store journal mid mid_journal) c.limit-limit.ensures (r.kept one))
     (λ one. subst (λ (l : ℕ). RecoversIn l name store journal mid mid_journal New) c.limit-limit.ensures
     (subst (λ (x : Recovered). RecoversIn c.limit-limit.result name store journal mid mid_journal x) c.in-Ok-New.field-0-is
