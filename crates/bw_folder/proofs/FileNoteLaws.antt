@@ -4,7 +4,7 @@ use Rattle.std.proofs.Common.{refl, sym, ap, append_assoc, arith}
 use Rattle.std.specs.Prelude.{◌==◌, nat_lt, slice_index, option_map}
 use Rattle.std.proofs.lemmas.Bool.{lt-ltb, eq-eqb}
 use Rattle.std.proofs.lemmas.List.{append-nil, length-append, get_or-append-add}
-use Rattle.bw_model.specs.Take.{Request, Open, Block, Mark, SetField, Close, Verdict, is_stored}
+use Rattle.bw_model.specs.Take.{Verdict, is_stored}
 use Rattle.bw_model.specs.Take.{Stored, NameTaken, AlreadyOpen, NotOpen, Closed, BadFormat, BadBlock, BadMarker}
 use Rattle.bw_model.specs.Take.{DuplicateMarker, TooManyMarkers, BadField, WrongTotal}
 use Rattle.bw_model.specs.Wire.{kind}
@@ -15,7 +15,7 @@ use Rattle.bw_journal.specs.Entries.{JournalEntry, noted, content, sealed_entry,
 use Rattle.bw_journal.specs.NotedJournals.{IsNotable}
 use Rattle.bw_journal.proofs.EntryLaws.{content-length}
 use Rattle.bw_journal.proofs.SealLaws.{sealed_first, opened-line}
-use Rattle.bw_folder.specs.FileNotes.{is_mark, is_unwritten, writes_by, WritesAreNoted}
+use Rattle.bw_folder.specs.FileNotes.{is_unwritten, writes_by, WritesAreNoted}
 
 stored_code : (v : Verdict) → (verdict_code v == 0) ≡ is_stored v
 stored_code Stored = refl
@@ -31,13 +31,6 @@ stored_code TooManyMarkers = refl
 stored_code BadField = refl
 stored_code WrongTotal = refl
 
-mark_kind : (r : Request) → (kind r == 3) ≡ is_mark r
-mark_kind (Open f history) = refl
-mark_kind (Block bytes) = refl
-mark_kind (Mark id frame) = refl
-mark_kind (SetField tag value) = refl
-mark_kind (Close total) = refl
-
 -- after the digest comes the kind
 kind_there : (e : JournalEntry) → length e.digest ≡ 32 → slice_index (content e) 33 ≡ kind e.request
 unfolding content
@@ -49,7 +42,7 @@ unfolding content
 verdict_there e = refl
 
 unwritten_content : (e : JournalEntry) → IsNotable e →
-    is_unwritten (content e) ≡ (not (is_stored e.verdict) || is_mark e.request)
+    is_unwritten (content e) ≡ (not (is_stored e.verdict) || (kind e.request == 3))
 unwritten_content e h =
     let long = (content-length e h).0 in
     let test : nat_lt 33 (length (content e)) ≡ true = lt-ltb 33 (length (content e)) (omega (arith, long)) in
@@ -57,7 +50,6 @@ unwritten_content e h =
     ∙ ap (λ (n : ℕ). not (n == 0) || (slice_index (content e) 33 == 3)) (verdict_there e)
     ∙ ap (λ (n : ℕ). not (verdict_code e.verdict == 0) || (n == 3)) (kind_there e h.1)
     ∙ ap (λ (b : Bool). not b || (kind e.request == 3)) (stored_code e.verdict)
-    ∙ ap (λ (b : Bool). not (is_stored e.verdict) || b) (mark_kind e.request)
 
 first_again : (e : JournalEntry) → first_content (sealed_entry e) ≡ Some (content e, length (sealed_entry e))
 unfolding first_content
@@ -78,4 +70,4 @@ writes_are_noted e h =
     let n = length (sealed_entry e) in
     ap (writes_by n) (first_again e)
     ∙ ap (λ (b : Bool). not b || not (is_unwritten (content e))) (eq-eqb n n refl)
-    ∙ ap not (unwritten_content e h) ∙ both (is_stored e.verdict) (is_mark e.request)
+    ∙ ap not (unwritten_content e h) ∙ both (is_stored e.verdict) (kind e.request == 3)

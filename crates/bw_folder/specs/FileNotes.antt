@@ -1,7 +1,7 @@
 -- Which bytes note a number that wrote to the file of its take.
-use Rattle.std.specs.Prelude.{◌≡◌, ◌==◌, ◌&&◌, ◌||◌, ℕ, Bool, true, false, not, Option, Some}
+use Rattle.std.specs.Prelude.{◌≡◌, ◌==◌, ◌&&◌, ◌||◌, ℕ, Bool, true, not, Option, Some}
 use Rattle.std.specs.Prelude.{None, List, length, nat_lt, slice_index}
-use Rattle.bw_model.specs.Take.{Request, Open, Block, Mark, SetField, Close, Stored, is_stored}
+use Rattle.bw_model.specs.Take.{Mark, Stored, is_stored}
 use Rattle.bw_model.specs.Wire.{kind}
 use Rattle.bw_model.specs.Replies.{verdict_code}
 use Rattle.bw_journal.specs.Entries.{JournalEntry, sealed_entry, first_content}
@@ -22,15 +22,7 @@ writes_by len (Some found) = not (found.1 == len) || not (is_unwritten found.0)
 abbrev pub writes_file : List ℕ → Bool
 writes_file bytes = writes_by (length bytes) (first_content bytes)
 
--- a MARK
-abbrev pub is_mark : Request → Bool
-is_mark (Open f history) = false
-is_mark (Block bytes) = false
-is_mark (Mark id frame) = true
-is_mark (SetField tag value) = false
-is_mark (Close total) = false
-
 -- Of an entry that is whether its request was stored, and is no MARK.
 abbrev pub WritesAreNoted : Type 0
 WritesAreNoted = (e : JournalEntry) → IsNotable e →
-    writes_file (sealed_entry e) ≡ (is_stored e.verdict && not (is_mark e.request))
+    writes_file (sealed_entry e) ≡ (is_stored e.verdict && not (kind e.request == kind (Mark 0 0)))
