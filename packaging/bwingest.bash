@@ -16,7 +16,7 @@ _bwingest() {
     pack) options='--set --strict --help' ;;
     picture) options='--help' ;;
     repair) options='--write --help' ;;
-    takes) options='--folder --check --json --watch --give-up --help' ;;
+    takes) options='--folder --check --json --digest --watch --give-up --help' ;;
     replay) options='--limit --fuse --help' ;;
     rehearse) options='--name --limit --help' ;;
     esac

@@ -1,10 +1,11 @@
 #!/usr/bin/env python3
-"""Runs `takes --check` and `takes --json` over folders that servers left, and that something else has changed.
+"""Runs `takes` with `--check`, `--digest` and `--json` over folders that servers left, and that something else has changed.
 
 A file that isn't that of its journal is made by turning bits, cutting, lengthening and exchanging blocks; which number is
-the first whose samples are others follows from the requests alone. Nothing of a folder changes. The program is the first
-argument, or the one of this repository. Prints what differs, and last 'N passed, M failed'.
+the first whose samples are others, and which digest they have, follows from the requests alone. Nothing of a folder
+changes. The program is the first argument, or the one of this repository. Prints what differs, and last 'N passed, M failed'.
 """
+import hashlib
 import json
 import random
 import signal
@@ -212,6 +213,66 @@ def case_many_numbers(place):
         peer.sendall(message("many", 0, opening) + BYE_FRAME)
         TALLY.same("many numbers recovered", hear_all(peer), verdict("many", 0, STORED))
     server.stop(signal.SIGKILL)
+
+
+# Digests
+
+
+def hashed(folder, *options):
+    return run("takes", "--folder", str(folder), "--digest", *options)
+
+
+def digest_of(take):
+    return hashlib.sha256(take.samples).hexdigest()
+
+
+def hashed_line(take):
+    """The line of a closed take with the digest of the samples that were sent."""
+    return f"{line_of(take, len(take.messages()))} sha256={digest_of(take)}"
+
+
+def with_digest(line, digest):
+    """The object of a line of words that has this digest, or none."""
+    found = object_of(line.removesuffix(f" sha256={digest}")) | {"sha256": digest}
+    return json.dumps(dict(sorted(found.items())), separators=(",", ":"))
+
+
+def case_digests(place):
+    """A closed take's line has the digest of the samples that were sent, RIFF or BW64, of any length; no other line has one."""
+    sizes = (0, 1, 3 * 10_922, 32_768, 32_770, 3 * 33_333)
+    for at, options in enumerate(((), ("--limit", "8192"))):
+        folder = folder_in(place, f"takes{at}")
+        (folder / "z1.wav").write_bytes(b"something else")
+        whole = [Take(f"a{number}", size, number, block=3_000) for number, size in enumerate(sizes)]
+        others = [(small_take("part"), 5), (small_take("opened"), 1)]
+        left_by(folder, [*((take, len(take.messages())) for take in whole), *others], *options)
+        (folder / "x1.journal").write_bytes(b"no journal at all")
+        without = [*(line_of(take, count) for take, count in reversed(others)), "x1 NotAJournal", "z1 stood next 0"]
+        lines = [*map(hashed_line, whole), *without]
+        before = state(folder)
+        TALLY.same("its lines", hashed(folder), (1, "".join(line + "\n" for line in lines), ""))
+        TALLY.same("compared too", hashed(folder, "--check"), (1, "".join(line + "\n" for line in lines), ""))
+        digests = [*map(digest_of, whole), *(None for _ in without)]
+        objects = "".join(with_digest(*pair) + "\n" for pair in zip(lines, digests))
+        TALLY.same("its objects", hashed(folder, "--json"), (1, objects, ""))
+        TALLY.same("the folder", state(folder), before)
+
+
+def case_other_samples(place):
+    """The digest is that of the samples in the file; with `--check` none is printed of samples that are others."""
+    take = Take("a1", 30_000, 5, block=3_000)
+    count = len(take.messages())
+    folder = left_by(folder_in(place), [(take, count)])
+    content = turned((folder / "a1.wav").read_bytes(), 8 * (DATA_PLACE + 3_000))
+    (folder / "a1.wav").write_bytes(content)
+    found = hashlib.sha256(content[DATA_PLACE : DATA_PLACE + len(take.samples)]).hexdigest()
+    TALLY.same("other samples", hashed(folder), (0, f"{line_of(take, count)} sha256={found}\n", ""))
+    wanted = f"a1 ChangedBlock number {take.FIRST_BLOCK + 1}\n"
+    TALLY.same("other samples, compared", hashed(folder, "--check"), (1, wanted, ""))
+    (folder / "a1.wav").write_bytes(content[:-1])
+    TALLY.same("a shorter file", hashed(folder)[:2], (1, "a1 LostFile\n"))
+    (folder / "a1.wav").unlink()
+    TALLY.same("no file", hashed(folder)[:2], (1, "a1 LostFile\n"))
 
 
 # JSON

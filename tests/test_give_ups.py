@@ -16,7 +16,8 @@ from kit.watcher import ClosingWatcher
 
 LONGEST_RUN = 120  # seconds, for all of it
 BAD_NAME = (
-    "error: '--give-up <NAME>' takes 1 to 32 bytes of a-z, 0-9, '-' and '_', without '--check' and '--json'\n" + USAGE
+    "error: '--give-up <NAME>' takes 1 to 32 bytes of a-z, 0-9, '-' and '_', "
+    "without '--check', '--json' and '--digest'\n" + USAGE
 )
 RUNNING = "another server runs here\n"
 
@@ -145,7 +146,7 @@ def case_names(place):
     TALLY.same("a word of its own", run("takes", "--folder", str(folder), "--give-up", "none"), unknown("none"))
     for name in ("", "A1", "a.1", "../a1", "a/b", "z" * 33, "ä"):
         TALLY.same(f"{name!r}", gives_up(folder, name), (2, "", BAD_NAME))
-    for options in (("--check",), ("--json",), ("--check", "--json")):
+    for options in (("--check",), ("--json",), ("--digest",), ("--check", "--json")):
         TALLY.same(" ".join(options), gives_up(folder, "_", *options), (2, "", BAD_NAME))
 
 

@@ -219,8 +219,8 @@ def case_folder_goes(place):
 def case_words(place):
     """It goes with no option but the folder."""
     folder = folder_in(place)
-    wanted = "error: '--watch' can't be given beside '--check', '--json' and '--give-up <NAME>'\n" + USAGE
-    for option in ("--check", "--json", "--give-up=a1"):
+    wanted = "error: '--watch' can't be given beside '--check', '--json', '--digest' and '--give-up <NAME>'\n" + USAGE
+    for option in ("--check", "--json", "--digest", "--give-up=a1"):
         TALLY.same(option, run("takes", "--folder", str(folder), "--watch", option), (2, "", wanted))
 
 

@@ -51,7 +51,8 @@ def try_repairs(runs, program):
 
 def try_takes(runs, program):
     """What can't be read of a take is named, and the others are listed; a list that breaks off isn't taken for whole."""
-    folder = left_by(folder_in(runs.work, "listed"), [(small_take(name), 5) for name in ("a1", "b2")])
+    takes = [small_take(name) for name in ("a1", "b2")]
+    folder = left_by(folder_in(runs.work, "listed"), [(take, len(take.messages())) for take in takes])
     files = [f"{folder}/{name}.{end} can't be read" for name in ("a1", "b2") for end in ("wav", "journal", "closed")]
 
     def wrong(kind, found, wanted):
@@ -65,7 +66,7 @@ def try_takes(runs, program):
         lines = out.splitlines()
         return None if len(lines) == 1 and lines[0] in wanted[1].splitlines() else "the other take isn't listed"
 
-    for depth, kinds in (((), (*KINDS, "list")), (("--check",), ("read", "open"))):
+    for depth, kinds in (((), (*KINDS, "list")), (("--check",), ("read", "open")), (("--digest",), ("read", "open"))):
         for kind in kinds:
             run = lambda kind, number: runs.one([program, "takes", "--folder", folder, *depth], b"", kind, number)
             runs.each(" ".join(["takes", *depth]), kind, run, wrong)

@@ -13,6 +13,7 @@ use Rattle.bw_lock.specs.declared.folder_locks.LockRefusal.{LockRefusal}
 use Rattle.bw_ports.specs.declared.pause.Pause.{Ghosts as PauseGhosts}
 use Rattle.bw_takes.specs.declared.listing.LineStyle.{LineStyle}
 use Rattle.bw_takes.specs.declared.listing.LineStyle.TheVariants.{Words, Json}
+use Rattle.bw_takes.specs.declared.listing.ReportForm.{ReportForm}
 use Rattle.bw_takes.specs.FolderProgress.{fails_folder, reads_folder}
 use Rattle.bw_takes.specs.GiveUpShowings.{IsGivingUp}
 use Rattle.bw_takes.specs.Showings.{IsShowing}
@@ -54,12 +55,17 @@ style_if json = if json then Json else Words
 abbrev pub depth_if : Bool → Depth
 depth_if check = if check then Samples else Journals
 
+-- how takes are reported, by the options
+abbrev pub form_for : Bool → Bool → Bool → ReportForm
+form_for check json digest =
+    record { style = style_if json; depth = depth_if check; digest = digest }
+
 -- this is done once in a folder: its takes are reported, and nothing has changed; or one is given up,
 -- if the folder's lock is taken
 abbrev pub IsWorkDone : {D DF F L P O E : Type 0} → FolderSide D DF F L P O E → FolderWork →
     List ℕ → D → D → F → F → Outcome → Type 0
-IsWorkDone side (Report check json) folder d d' f f' did =
-    IsShowing (style_if json) (depth_if check) (side.disk.honest d) folder (side.disk.contents d) did
+IsWorkDone side (Report check json digest) folder d d' f f' did =
+    IsShowing (form_for check json digest) (side.disk.honest d) folder (side.disk.contents d) did
     × StaysWhole side.disk d d' × (f' ≡ f)
 IsWorkDone side Watch folder d d' f f' did = ⊥
 IsWorkDone side (GiveUp name) folder d d' f f' did = (answer : Result _ LockRefusal)

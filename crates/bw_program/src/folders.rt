@@ -1,7 +1,6 @@
 //! The commands on a folder of takes, as a command line asks for them.
 ghost use Rattle.std.specs.Prelude.{◌≡◌};
-ghost use Rattle.bw_program.specs.TakesCommands.{WorksOnTakes, depth_if, folder_side, folder_world};
-ghost use Rattle.bw_program.specs.TakesCommands.{style_if};
+ghost use Rattle.bw_program.specs.TakesCommands.{WorksOnTakes, folder_side, folder_world, form_for};
 
 use bw_args::{FolderWork, TakesFolder};
 use bw_console::Exit;
@@ -9,7 +8,8 @@ use bw_disk::Volume;
 use bw_lock::FolderLocks;
 use bw_ports::Pause;
 use bw_stream::Sink;
-use bw_takes::{Depth, LineStyle, ScreenStyle, give_up_locked, show_takes, watch_takes};
+use bw_takes::{Depth, LineStyle, ReportForm, ScreenStyle};
+use bw_takes::{give_up_locked, show_takes, watch_takes};
 use std::alloc::Global;
 
 /// Reports the takes of the folder that the command line names, once or until the program is stopped,
@@ -30,19 +30,18 @@ pub(crate) fn work_on_takes<D: Volume, L: FolderLocks, P: Pause, W: Sink, E: Sin
 {
     let folder = listing.folder.as_str();
     match &listing.work {
-        FolderWork::Report { check, json } => {
-            let (style, depth) = report_form(*json, *check);
-            show_takes(alloc, disk, folder, style, depth, out, faults)
+        FolderWork::Report { check, json, digest } => {
+            let form = report_form(*check, *json, *digest);
+            show_takes(alloc, disk, folder, form, out, faults)
         }
         FolderWork::Watch => watch_takes(alloc, disk, folder, screens, pause, out, faults),
         FolderWork::GiveUp(name) => give_up_locked(alloc, disk, locks, folder, name, out, faults),
     }
 }
 
-/// How takes are reported, and how far they are looked at.
-fn report_form(json: bool, check: bool) -> (LineStyle, Depth)
-    ensures style { result.0 ≡ style_if json }
-    ensures depth { result.1 ≡ depth_if check }
+/// How takes are reported, where these options are given or not.
+fn report_form(check: bool, json: bool, digest: bool) -> ReportForm
+    ensures { result ≡ form_for check json digest }
 {
     let style = if json {
         LineStyle::Json
@@ -54,5 +53,9 @@ fn report_form(json: bool, check: bool) -> (LineStyle, Depth)
     } else {
         Depth::Journals
     };
-    (style, depth)
+    ReportForm {
+        style,
+        depth,
+        digest,
+    }
 }

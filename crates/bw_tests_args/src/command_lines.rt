@@ -159,14 +159,18 @@ fn each_line_runs_or_reports(rt: HostRuntime) -> Result<(), AllocError> {
     lines_come_to(&rt, rt.alloc(), &[], &LINES)
 }
 
-static TAKES: [Line; 20] = [
-    (&["--folder", "-d"], Outcome::Lists([false, false])),
-    (&["--folder=-d"], Outcome::Lists([false, false])),
-    (&["--check", "--folder=-d"], Outcome::Lists([true, false])),
-    (&["--folder", "-d", "--json"], Outcome::Lists([false, true])),
+static TAKES: [Line; 23] = [
+    (&["--folder", "-d"], Outcome::Lists([false, false, false])),
+    (&["--folder=-d"], Outcome::Lists([false, false, false])),
+    (&["--check", "--folder=-d"], Outcome::Lists([true, false, false])),
+    (&["--folder", "-d", "--json"], Outcome::Lists([false, true, false])),
     (
         &["--json", "--folder", "-d", "--check"],
-        Outcome::Lists([true, true]),
+        Outcome::Lists([true, true, false]),
+    ),
+    (
+        &["--folder", "-d", "--digest"],
+        Outcome::Lists([false, false, true]),
     ),
     (&["--watch", "--folder", "-d"], Outcome::Watches),
     (&["--folder", "-d", "--give-up=-a"], Outcome::GivesUp),
@@ -180,6 +184,11 @@ static TAKES: [Line; 20] = [
     (&["--folder=-d", "--watch", "--json"], Outcome::Refuses),
     (
         &["--folder=-d", "--watch", "--give-up=-a"],
+        Outcome::Refuses,
+    ),
+    (&["--folder=-d", "--watch", "--digest"], Outcome::Refuses),
+    (
+        &["--folder=-d", "--digest", "--give-up=-a"],
         Outcome::Refuses,
     ),
     (&["--folder=-d", "--give-up=A"], Outcome::Refuses),

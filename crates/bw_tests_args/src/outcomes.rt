@@ -60,8 +60,9 @@ pub(crate) enum Outcome {
     Draws,
     /// Repairs the file `-f`, and writes it or doesn't.
     Repairs { is_written: bool },
-    /// Reports the takes of the folder `-d`: whether their samples are compared, and in JSON.
-    Lists([bool; 2]),
+    /// Reports the takes of the folder `-d`: whether their samples are compared, in JSON,
+    /// and with their digests.
+    Lists([bool; 3]),
     /// Shows the takes of the folder `-d` again and again.
     Watches,
     /// Gives up the take `-a` of the folder `-d`.
@@ -137,7 +138,7 @@ fn run_outcome(task: &Task, words: &[&str]) -> Outcome {
 
 fn work_outcome(work: &FolderWork) -> Outcome {
     match work {
-        FolderWork::Report { check, json } => Outcome::Lists([*check, *json]),
+        FolderWork::Report { check, json, digest } => Outcome::Lists([*check, *json, *digest]),
         FolderWork::Watch => Outcome::Watches,
         FolderWork::GiveUp(name) if name.as_bytes() == b"-a".as_slice() => Outcome::GivesUp,
         FolderWork::GiveUp(_) => Outcome::Confuses,
