@@ -3,9 +3,9 @@ ghost use Rattle.std.specs.Prelude.{◌≡◌, ℕ, ◌+◌, ◌*◌, ◌/◌, �
 ghost use Rattle.std.specs.Prelude.{bit_xor, slice_index, slice_index_or, slice_set, []};
 ghost use Rattle.std.specs.Int.{w32, rotate_right, bit_not};
 ghost use Rattle.sha2.specs.Sha256.{add32, big_sigma0, big_sigma1, ch, compress, maj, round};
-ghost use Rattle.sha2.specs.Sha256.{rounds, schedule, small_sigma0, small_sigma1, word_at};
+ghost use Rattle.sha2.specs.Sha256.{rounds, schedule, small_sigma0, small_sigma1, word_at, first_words};
 ghost use Rattle.sha2.specs.Sha256.{add_state, window_word, IsWindow};
-ghost use Rattle.bw_digest.specs.Lanes.{lane, InEachLane, AreRoundsIn};
+ghost use Rattle.bw_digest.specs.Lanes.{lane, words_from, InEachLane, AreRoundsIn};
 
 use crate::constants::ROUND;
 use std::simd::u32x8;
@@ -16,6 +16,20 @@ pub const LANES: usize = 8;
 /// How many bytes a block has.
 pub(crate) const BLOCK: usize = 64;
 
+// Which lanes of two vectors a step of the transposition takes; those of the second count from 8.
+// It stays within halves of four lanes until the last step, as a processor's steps do.
+const LOW_WORDS: [usize; LANES] = [0, 8, 1, 9, 4, 12, 5, 13];
+
+const HIGH_WORDS: [usize; LANES] = [2, 10, 3, 11, 6, 14, 7, 15];
+
+const LOW_PAIRS: [usize; LANES] = [0, 1, 8, 9, 4, 5, 12, 13];
+
+const HIGH_PAIRS: [usize; LANES] = [2, 3, 10, 11, 6, 7, 14, 15];
+
+const LOW_HALF: [usize; LANES] = [0, 1, 2, 3, 8, 9, 10, 11];
+
+const HIGH_HALF: [usize; LANES] = [4, 5, 6, 7, 12, 13, 14, 15];
+
 /// A block of each message.
 pub(crate) type Blocks = [[u8; BLOCK]; LANES];
 
@@ -24,12 +38,7 @@ pub(crate) fn compress(state: &mut [u32x8; 8], blocks: &Blocks)
     ensures { InEachLane (λ j. lane j state.new
         ≡ compress (lane j state.old) (slice_index_or blocks.now j [])) }
 {
-    let zero = u32x8::splat(0);
-    let mut window = [zero; 16];
-    'load: for place in 0..16 {
-        let word = words_at(blocks, place);
-        window[place] = word;
-    }
+    let mut window = first_window(blocks);
     let v = first_rounds(&window, *state);
     let v = sixteen_rounds(&mut window, v, 1);
     let v = sixteen_rounds(&mut window, v, 2);
@@ -54,22 +63,76 @@ fn added(h: [u32x8; 8], v: [u32x8; 8]) -> [u32x8; 8]
     ]
 }
 
-/// A word of each message's block.
+/// The sixteen words of each message's block.
 #[inline(always)]
-fn words_at(blocks: &Blocks, place: usize) -> u32x8
-    requires { place < 16 }
-    ensures { InEachLane (λ j. slice_index result j
-        ≡ word_at (slice_index_or blocks.now j []) (4 * place)) }
+fn first_window(blocks: &Blocks) -> [u32x8; 16]
+    ensures { InEachLane (λ j. lane j result ≡ first_words (slice_index_or blocks.now j []) 16) }
+{
+    let x = eight_words(blocks, 0);
+    let y = eight_words(blocks, 8);
+    [
+        x[0], x[1], x[2], x[3], x[4], x[5], x[6], x[7], y[0], y[1], y[2], y[3], y[4], y[5], y[6],
+        y[7],
+    ]
+}
+
+/// Eight words of each message's block, from a place on. A vector is read from each block, and
+/// these rows are transposed, which takes fewer steps than a read of each word into its lane.
+#[inline(always)]
+fn eight_words(blocks: &Blocks, place: usize) -> [u32x8; 8]
+    requires { place + 8 ≤ 16 }
+    ensures { InEachLane (λ j. lane j result
+        ≡ words_from (slice_index_or blocks.now j []) place) }
+{
+    let a = row(&blocks[0], place);
+    let b = row(&blocks[1], place);
+    let c = row(&blocks[2], place);
+    let d = row(&blocks[3], place);
+    let e = row(&blocks[4], place);
+    let f = row(&blocks[5], place);
+    let g = row(&blocks[6], place);
+    let h = row(&blocks[7], place);
+    let (ab, ab_high) = (a.shuffle(b, LOW_WORDS), a.shuffle(b, HIGH_WORDS));
+    let (cd, cd_high) = (c.shuffle(d, LOW_WORDS), c.shuffle(d, HIGH_WORDS));
+    let (ef, ef_high) = (e.shuffle(f, LOW_WORDS), e.shuffle(f, HIGH_WORDS));
+    let (gh, gh_high) = (g.shuffle(h, LOW_WORDS), g.shuffle(h, HIGH_WORDS));
+    let (x0, x1) = (ab.shuffle(cd, LOW_PAIRS), ab.shuffle(cd, HIGH_PAIRS));
+    let (x2, x3) = (
+        ab_high.shuffle(cd_high, LOW_PAIRS),
+        ab_high.shuffle(cd_high, HIGH_PAIRS),
+    );
+    let (y0, y1) = (ef.shuffle(gh, LOW_PAIRS), ef.shuffle(gh, HIGH_PAIRS));
+    let (y2, y3) = (
+        ef_high.shuffle(gh_high, LOW_PAIRS),
+        ef_high.shuffle(gh_high, HIGH_PAIRS),
+    );
+    [
+        x0.shuffle(y0, LOW_HALF),
+        x1.shuffle(y1, LOW_HALF),
+        x2.shuffle(y2, LOW_HALF),
+        x3.shuffle(y3, LOW_HALF),
+        x0.shuffle(y0, HIGH_HALF),
+        x1.shuffle(y1, HIGH_HALF),
+        x2.shuffle(y2, HIGH_HALF),
+        x3.shuffle(y3, HIGH_HALF),
+    ]
+}
+
+/// Eight words of a block, from a place on.
+#[inline(always)]
+fn row(block: &[u8; BLOCK], place: usize) -> u32x8
+    requires { place + 8 ≤ 16 }
+    ensures { result ≡ words_from block.now place }
 {
     u32x8::from_array([
-        word(&blocks[0], place),
-        word(&blocks[1], place),
-        word(&blocks[2], place),
-        word(&blocks[3], place),
-        word(&blocks[4], place),
-        word(&blocks[5], place),
-        word(&blocks[6], place),
-        word(&blocks[7], place),
+        word(block, place),
+        word(block, place + 1),
+        word(block, place + 2),
+        word(block, place + 3),
+        word(block, place + 4),
+        word(block, place + 5),
+        word(block, place + 6),
+        word(block, place + 7),
     ])
 }
 
