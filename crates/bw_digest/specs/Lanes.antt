@@ -19,6 +19,7 @@ AreRoundsIn j b h w v t = IsRoundsAt b h (lane j w) (lane j v) t
 -- eight words of a block, from the word at a place on
 abbrev pub words_from : List ℕ → ℕ → List ℕ
 words_from block place =
-    word_at block (4 * place) ∷ word_at block (4 * (place + 1)) ∷ word_at block (4 * (place + 2))
-    ∷ word_at block (4 * (place + 3)) ∷ word_at block (4 * (place + 4)) ∷ word_at block (4 * (place + 5))
+    word_at block (4 * place) ∷ word_at block (4 * (place + 1))
+    ∷ word_at block (4 * (place + 2)) ∷ word_at block (4 * (place + 3))
+    ∷ word_at block (4 * (place + 4)) ∷ word_at block (4 * (place + 5))
     ∷ word_at block (4 * (place + 6)) ∷ word_at block (4 * (place + 7)) ∷ []
