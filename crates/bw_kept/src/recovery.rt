@@ -1,5 +1,5 @@
 //! Recovering one name from its folder: what a start makes of each name, made of one that isn't open.
-ghost use Rattle.std.specs.Prelude.{◌≡◌, ℕ, None, Ok, Some, IsTrue, IsSome, IfOk, IfErr, OnOk, OnErr};
+ghost use Rattle.std.specs.Prelude.{◌≡◌, ℕ, None, Ok, Some, IsTrue, IsSome, IfOk, OnOk, OnErr};
 ghost use Rattle.std.specs.Prelude.{◌++◌, ◌∷◌, [], ◌≤◌, ◌+◌, ◌*◌, length, false};
 ghost use Rattle.bw_model.specs.Wire.{Second, last_number};
 ghost use Rattle.bw_disk.specs.DiskSteps.{StaysWhole};
@@ -14,10 +14,10 @@ ghost use Rattle.bw_folder.specs.JournalFolders.{noted_in_folder, SameSettings};
 ghost use Rattle.bw_folder.specs.JournalFolders.{journals_sync, IsSyncedName};
 ghost use Rattle.bw_folder.specs.RecoveredNames.{AreOfOneFolder};
 ghost use Rattle.bw_folder.specs.RecoveredNames.{CountsIn, CountsUnlessCrowded};
-ghost use Rattle.bw_kept.specs.Recoveries.{makes_file, is_written_on, MadeOfStory, IfUntouched};
+ghost use Rattle.bw_kept.specs.Recoveries.{makes_file, is_written_on, MadeOfStory};
 ghost use Rattle.bw_kept.specs.Recoveries.{is_failed_call, KeepsBothSettings, KeepsOthersOpen};
 ghost use Rattle.bw_kept.specs.Recoveries.{IfKept, OpensStory, RecoversIn, OpensIn, take_opened};
-ghost use Rattle.bw_kept.specs.Recoveries.{IsKeptUnder, KeepsInFolder, IfNumbers, HasTooManyIn};
+ghost use Rattle.bw_kept.specs.Recoveries.{KeepsInFolder, IfNumbers, HasTooManyIn};
 ghost use Rattle.bw_kept.specs.RecoverySteps.{fault_of_read, MadeOfFinding, story_found, HasFiles};
 ghost use Rattle.bw_kept.specs.RecoverySteps.{OpensMore, IsManyDone, IsFewDone, IsFoundThere};
 ghost use Rattle.bw_kept.specs.RecoverySteps.{RecoversAlone, RecoversFrom, SyncsJournal};
