@@ -8,8 +8,9 @@ use bw_disk::Volume;
 use bw_lock::FolderLocks;
 use bw_ports::Pause;
 use bw_stream::Sink;
-use bw_takes::{Depth, LineStyle, ReportForm, ScreenStyle};
-use bw_takes::{give_up_locked, show_takes, watch_takes};
+use bw_takes::{
+    Depth, LineStyle, ReportForm, ScreenStyle, give_up_locked, show_takes, watch_takes,
+};
 use std::alloc::Global;
 
 /// Reports the takes of the folder that the command line names, once or until the program is stopped,
@@ -30,7 +31,11 @@ pub(crate) fn work_on_takes<D: Volume, L: FolderLocks, P: Pause, W: Sink, E: Sin
 {
     let folder = listing.folder.as_str();
     match &listing.work {
-        FolderWork::Report { check, json, digest } => {
+        FolderWork::Report {
+            check,
+            json,
+            digest,
+        } => {
             let form = report_form(*check, *json, *digest);
             show_takes(alloc, disk, folder, form, out, faults)
         }

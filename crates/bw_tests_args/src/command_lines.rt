@@ -162,8 +162,14 @@ fn each_line_runs_or_reports(rt: HostRuntime) -> Result<(), AllocError> {
 static TAKES: [Line; 23] = [
     (&["--folder", "-d"], Outcome::Lists([false, false, false])),
     (&["--folder=-d"], Outcome::Lists([false, false, false])),
-    (&["--check", "--folder=-d"], Outcome::Lists([true, false, false])),
-    (&["--folder", "-d", "--json"], Outcome::Lists([false, true, false])),
+    (
+        &["--check", "--folder=-d"],
+        Outcome::Lists([true, false, false]),
+    ),
+    (
+        &["--folder", "-d", "--json"],
+        Outcome::Lists([false, true, false]),
+    ),
     (
         &["--json", "--folder", "-d", "--check"],
         Outcome::Lists([true, true, false]),

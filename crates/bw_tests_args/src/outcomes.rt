@@ -138,7 +138,11 @@ fn run_outcome(task: &Task, words: &[&str]) -> Outcome {
 
 fn work_outcome(work: &FolderWork) -> Outcome {
     match work {
-        FolderWork::Report { check, json, digest } => Outcome::Lists([*check, *json, *digest]),
+        FolderWork::Report {
+            check,
+            json,
+            digest,
+        } => Outcome::Lists([*check, *json, *digest]),
         FolderWork::Watch => Outcome::Watches,
         FolderWork::GiveUp(name) if name.as_bytes() == b"-a".as_slice() => Outcome::GivesUp,
         FolderWork::GiveUp(_) => Outcome::Confuses,
