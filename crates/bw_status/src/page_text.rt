@@ -3,7 +3,7 @@
 /// What the page may load and run: its own style and script, named by their SHA-256 digests, and
 /// requests to the server that it came from.
 pub(crate) const PAGE_POLICY: &str =
-    "default-src 'none'; style-src 'sha256-DmMnigVsw+QmGzN0LQBWyoUBj/5OkThue1Cd7rlLnvw='; script-src 'sha256-G6pnN0R76MMIK8M5ir2TuTsempxetSORZVwqocnCxC0='; connect-src 'self'; base-uri 'none'; form-action 'none'; frame-ancestors 'none'";
+    "default-src 'none'; style-src 'sha256-9YCPIxecZqba8sI97pze5fL8tjDw0hg0eVZjnVSRvwM='; script-src 'sha256-G6pnN0R76MMIK8M5ir2TuTsempxetSORZVwqocnCxC0='; connect-src 'self'; base-uri 'none'; form-action 'none'; frame-ancestors 'none'";
 
 /// The page up to the names that are left out.
 pub(crate) const PAGE_START: &str = "<!DOCTYPE html>
@@ -27,12 +27,15 @@ dd { font-size: 1.15rem; margin: 0; overflow-wrap: anywhere; }
 dd, td { font-variant-numeric: tabular-nums; }
 #counts dd { font-size: 1rem; }
 .none { opacity: .65; }
+.none::before, .bad::before { opacity: 1; }
 .good { color: var(--good); }
 .bad { color: var(--bad); }
 .busy { color: var(--busy); }
-#tools { display: flex; gap: 1rem; margin: 0 0 .5rem; }
+#tools { align-items: baseline; display: flex; gap: 1rem; margin: 0 0 .5rem; }
 #tools[hidden] { display: none; }
 input, th button { background: none; border: 1px solid var(--line); border-radius: .4rem; color: inherit; font: inherit; padding: .2rem .5rem; }
+input { border-color: #808080; }
+input::placeholder { color: inherit; opacity: .7; }
 th button { border: 0; cursor: pointer; padding: 0; }
 th button::after { content: \"\\00a0\\00a0\"; }
 th[aria-sort=ascending] button::after { content: \"\\00a0\\2191\"; }
