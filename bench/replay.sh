@@ -10,10 +10,10 @@ trap 'exit 1' HUP INT TERM
 
 crate=$folder/crates/bench_replay
 mkdir -p "$crate/src" "$crate/specs" "$crate/proofs" || exit
-for name in bw_model bw_bytes bw_digest bw_request bw_wire bw_layout bw_take bw_store bw_journal; do
+for name in bw_model bw_model bw_digest bw_model bw_wire bw_layout bw_take bw_store bw_journal; do
     cp -r "$here/../crates/$name" "$folder/crates" && grep "^$name:" "$here/../crates.txt" || exit
 done >"$folder/crates.txt"
-echo 'bench_replay: bw_request bw_layout bw_journal anyhow' >>"$folder/crates.txt"
+echo 'bench_replay: bw_model bw_layout bw_journal anyhow' >>"$folder/crates.txt"
 cp "$here/../HANDLES" "$folder" || exit
 : >"$crate/specs/Lib.antt"
 : >"$crate/proofs/Lib.antt"
@@ -25,7 +25,7 @@ cat >"$crate/src/main.rt" <<'END'
 use anyhow::Result;
 use bw_journal::{JournalHeader, put_entry, replay};
 use bw_layout::Limit;
-use bw_request::{Name, RequestRef, Verdict};
+use bw_model::{Name, RequestRef, Verdict};
 use std::time::Instant;
 
 fn main(rt: HostRuntime) -> Result<()> {

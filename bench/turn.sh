@@ -10,11 +10,11 @@ trap 'exit 1' HUP INT TERM
 
 crate=$folder/crates/bench_turn
 mkdir -p "$crate/src" "$crate/specs" "$crate/proofs" || exit
-for name in bw_model bw_bytes bw_digest bw_stream bw_request bw_wire bw_layout bw_take bw_store bw_file bw_journal \
+for name in bw_model bw_model bw_digest bw_stream bw_model bw_wire bw_layout bw_take bw_store bw_file bw_journal \
     bw_exchange bw_session; do
     cp -r "$here/../crates/$name" "$folder/crates" && grep "^$name:" "$here/../crates.txt" || exit
 done >"$folder/crates.txt"
-echo 'bench_turn: bw_request bw_wire bw_layout bw_store bw_session arrayvec sha2 anyhow' >>"$folder/crates.txt"
+echo 'bench_turn: bw_model bw_wire bw_layout bw_store bw_session arrayvec sha2 anyhow' >>"$folder/crates.txt"
 cp "$here/../HANDLES" "$folder" || exit
 : >"$crate/specs/Lib.antt"
 : >"$crate/proofs/Lib.antt"
@@ -26,7 +26,7 @@ cat >"$crate/src/main.rt" <<'END'
 use anyhow::Result;
 use arrayvec::ArrayVec;
 use bw_layout::Limit;
-use bw_request::{Name, RequestRef};
+use bw_model::{Name, RequestRef};
 use bw_session::Server;
 use bw_store::MemoryStore;
 use bw_wire::{Frame, Reply, decode, encode};

@@ -9,7 +9,8 @@ use Rattle.std.specs.declared.net.socket_addr.SocketAddr.{SocketAddr}
 use Rattle.std.proofs.NetLemmas.Theorems.{IsSocketText_unique}
 use Rattle.clap.specs.Words.{Row, Text, first_of}
 use Rattle.bw_args.specs.Given.{GivesAddress, GivesCount, GivesCountOr, GivesEnd, GivesFolder, GivesFuse, GivesLimit}
-use Rattle.bw_args.specs.Given.{GivesName, GivesRecorders, GivesRest, GivesStatus, IsEnd, IsJournaling, IsRecorders, IsWork, given_on_line}
+use Rattle.bw_args.specs.Given.{GivesName, GivesRecorders, GivesRest, GivesStatus, IsEnd, IsJournaling}
+use Rattle.bw_args.specs.Given.{IsRecorders, IsWork, given_on_line}
 use Rattle.bw_args.specs.Sources.{GivesSource, PlainSource}
 use Rattle.bw_args.specs.PcmSources.{GivesFormat, GivesNumber, GivesSamples, IsFormatText, PlainPcm, at_comma}
 use Rattle.bw_args.specs.PcmSources.{fruitless_of, is_live, samples_with}

@@ -7,7 +7,8 @@ use Rattle.bw_args.specs.declared.bad_value.BadValue.TheVariants.{Folder, Exchan
 use Rattle.bw_args.specs.declared.bad_value.BadValue.TheVariants.{Recorders, Idle, Wait}
 use Rattle.bw_args.specs.declared.bad_value.BadValue.TheVariants.{UntilStopped, Sync, Rest, GiveUp, Connect}
 use Rattle.bw_args.specs.declared.bad_value.BadValue.TheVariants.{Watch, Status}
-use Rattle.bw_args.specs.declared.bad_value.BadValue.TheVariants.{Rounds, Fruitless, Mixed, Pcm, Skip, Block}
+use Rattle.bw_args.specs.declared.bad_value.BadValue.TheVariants.{Rounds, Fruitless, Mixed, Pcm, Skip}
+use Rattle.bw_args.specs.declared.bad_value.BadValue.TheVariants.{Block}
 use Rattle.bw_args.specs.declared.bad_value.BadValue.TheVariants.{Rate, MixedSamples, Inspection}
 
 -- what an address is

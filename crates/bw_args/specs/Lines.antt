@@ -50,7 +50,8 @@ use Rattle.bw_args.specs.declared.peers.Send.{Send as Sender}
 use Rattle.bw_args.specs.declared.Task.{Task}
 use Rattle.bw_args.specs.declared.commands.samples.WrittenFormat.{WrittenFormat}
 use Rattle.bw_args.specs.declared.commands.sending.Tries.{Tries}
-use Rattle.bw_args.specs.declared.Task.TheVariants.{Replay, Rehearse, Inspect, Serve, Send, SendFile, SendPcm}
+use Rattle.bw_args.specs.declared.Task.TheVariants.{Replay, Rehearse, Inspect, Serve, Send, SendFile}
+use Rattle.bw_args.specs.declared.Task.TheVariants.{SendPcm}
 use Rattle.bw_args.specs.declared.Task.TheVariants.{Pack, InspectFiles, Picture, Repair, Takes}
 
 -- the server that a command line asks for

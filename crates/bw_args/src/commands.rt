@@ -16,7 +16,7 @@ mod serving;
 mod sources;
 
 use crate::{BadValue, CommandLine, Task, numbers};
-use bw_request::Name;
+use bw_model::Name;
 use clap::ArgMatches;
 pub use grammar::bwingest;
 use std::alloc::{AllocError, Global};

@@ -1,5 +1,5 @@
 //! Folders of takes as a command line asks for them.
-use bw_request::Name;
+use bw_model::Name;
 
 /// The folder whose takes are reported or watched, or of which one is given up.
 #[derive(Debug, PartialEq, Eq, Drop)]

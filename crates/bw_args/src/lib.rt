@@ -19,7 +19,7 @@ mod read_words;
 mod recordings;
 
 pub use bad_value::BadValue;
-use bw_request::Name;
+use bw_model::Name;
 use clap::Error;
 use clap::error::ErrorKind;
 pub use folders::{FolderWork, TakesFolder};

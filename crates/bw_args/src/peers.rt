@@ -1,5 +1,5 @@
 //! Servers and senders as a command line asks for them.
-use bw_request::Name;
+use bw_model::Name;
 use std::net::SocketAddr;
 
 /// When a server ends.

@@ -1,5 +1,5 @@
 //! Recordings as a command line asks for them.
-use bw_request::Name;
+use bw_model::Name;
 use std::net::SocketAddr;
 
 /// The file of a recording, and what a command line says about it.

@@ -8,7 +8,7 @@ use Rattle.std.proofs.lemmas.List.{length-append}
 use Rattle.bw_model.specs.Take.{Request}
 use Rattle.bw_model.specs.Wire.{Second, last_number, Frame, Asks, Bye, is_name, is_request, is_frame, body, framed}
 use Rattle.bw_model.specs.World.{Sender as Defined, settled}
-use Rattle.bw_request.specs.Requests.{carried_bytes}
+use Rattle.bw_model.specs.Requests.{carried_bytes}
 use Rattle.bw_wire.specs.EncodedFrames.{IsFrameOf, said}
 use Rattle.bw_c.specs.Heads.{has_place, CanWrite, WroteHead, CanSpell, WroteFrame}
 use Rattle.bw_c.specs.PlainSenders.{sender_name, IsPlainSender, with_offer}

@@ -6,7 +6,9 @@ use Rattle.std.proofs.lemmas.List.{get_or-drop, length-take}
 use Rattle.std.proofs.lemmas.Bool.{cases_lt}
 use Rattle.std.proofs.lemmas.List.Sums.{count_by-le-length}
 use Rattle.bw_model.specs.Bytes.{at, put, first_free}
-use Rattle.bw_model.specs.Take.{Verdict, is_stored, Stored, NameTaken, AlreadyOpen, NotOpen, Closed, BadFormat, BadBlock, BadMarker, DuplicateMarker, TooManyMarkers, BadField, WrongTotal}
+use Rattle.bw_model.specs.Take.{Verdict, is_stored, Stored, NameTaken, AlreadyOpen, NotOpen, Closed}
+use Rattle.bw_model.specs.Take.{BadFormat, BadBlock, BadMarker, DuplicateMarker, TooManyMarkers, BadField}
+use Rattle.bw_model.specs.Take.{WrongTotal}
 use Rattle.bw_model.specs.World.{Sender as Defined, settled, is_some_stored}
 use Rattle.bw_sender.proofs.EntryLaws.{one_more_free, stored_more, first_free_len, put_within}
 use Rattle.std.proofs.lemmas.List.{get_or-set_same, get_or-set_other}

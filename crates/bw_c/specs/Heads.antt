@@ -4,7 +4,7 @@ use Rattle.std.specs.Prelude.{nat_le, nat_lt, IsTrue}
 use Rattle.bw_model.specs.Take.{Request}
 use Rattle.bw_model.specs.Wire.{Second, last_number, Frame, is_frame, body, framed}
 use Rattle.bw_model.specs.World.{Sender as Defined}
-use Rattle.bw_request.specs.Requests.{carried_bytes}
+use Rattle.bw_model.specs.Requests.{carried_bytes}
 use Rattle.bw_wire.specs.EncodedFrames.{IsFrameOf, said}
 use Rattle.bw_c.specs.PlainSenders.{IsPlainSender, sender_name, with_offer}
 use Rattle.bw_c.specs.declared.sender.BwiSender.{BwiSender}

@@ -1,5 +1,6 @@
 -- What a sender in plain memory keeps of all that was offered and heard.
-use Rattle.std.specs.Prelude.{◌≡◌, ◌<◌, ◌≤◌, ◌+◌, ◌&&◌, ℕ, suc, Bool, Option, Some, None, is_none, List, [], ◌∷◌}
+use Rattle.std.specs.Prelude.{◌≡◌, ◌<◌, ◌≤◌, ◌+◌, ◌&&◌, ℕ, suc, Bool, Option, Some, None, is_none, List, []}
+use Rattle.std.specs.Prelude.{◌∷◌}
 use Rattle.std.specs.Prelude.{◌++◌, length, take, count_by, get_or, nat_lt}
 use Rattle.bw_model.specs.Bytes.{at, first_free}
 use Rattle.bw_model.specs.Take.{Request, Verdict}

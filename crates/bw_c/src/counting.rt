@@ -4,7 +4,7 @@ ghost use Rattle.std.specs.Prelude.{get_or, nat_lt, if◌then◌else◌};
 ghost use Rattle.std.specs.Str.{bytes_eq};
 ghost use Rattle.bw_model.specs.Replies.{Judged, Noticed};
 ghost use Rattle.bw_model.specs.World.{Sender as Defined, settled as settled_of, hear, heard};
-ghost use Rattle.bw_request.specs.Verdicts.{verdict_meaning};
+ghost use Rattle.bw_model.specs.VerdictMeanings.{verdict_meaning};
 ghost use Rattle.bw_wire.specs.Notices.{notice_meaning};
 ghost use Rattle.bw_wire.specs.Replies.{reply_of};
 ghost use Rattle.bw_sender.specs.HeardReplies.{heard_of};
@@ -12,7 +12,7 @@ ghost use Rattle.bw_sender.specs.declared.heard.Heard.TheVariants.{Counted};
 ghost use Rattle.bw_c.specs.PlainSenders.{PlainFrom, IsPlainSender, sender_name};
 
 use crate::sender::{BwiSender, SLOTS, name_bytes, verdict_at};
-use bw_request::{Name, Verdict};
+use bw_model::{Name, Verdict};
 use bw_sender::Heard;
 use bw_wire::{Notice, Reply};
 

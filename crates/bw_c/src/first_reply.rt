@@ -1,7 +1,7 @@
 //! The reply at the start of bytes.
 ghost use Rattle.bw_c.specs.FirstReplies.{IsReplyAt, IsBodyAt};
 
-use bw_bytes::read_u32;
+use bw_model::read_u32;
 use bw_wire::{Reason, Reply, decode_reply};
 
 /// The longest body of a reply: a notice under a name of 32 bytes.

@@ -4,11 +4,11 @@ ghost use Rattle.bw_model.specs.Limits.{longest_block};
 ghost use Rattle.bw_model.specs.Wire.{Second, last_number, Asks, Bye, payload, is_request, is_name};
 ghost use Rattle.bw_model.specs.Wire.{addressed};
 ghost use Rattle.bw_model.specs.Bytes.{le32};
-ghost use Rattle.bw_request.specs.Requests.{meaning, carried_bytes};
+ghost use Rattle.bw_model.specs.Requests.{meaning, carried_bytes};
 ghost use Rattle.bw_wire.specs.EncodedFrames.{IsFrameOf, said};
 
 use arrayvec::ArrayVec;
-use bw_request::{Name, RequestRef};
+use bw_model::{Name, RequestRef};
 use bw_wire::kind;
 
 /// The byte of an ask.

@@ -5,14 +5,14 @@
 ghost use Rattle.std.specs.Prelude.{◌≡◌, ◌≤◌, ◌<◌, ◌↔◌, length, take, drop, IsTrue};
 ghost use Rattle.bw_model.specs.Take.{Open, Block, Mark, SetField, Close};
 ghost use Rattle.bw_model.specs.Wire.{Second, last_number, Asks, Bye, is_request};
-ghost use Rattle.bw_request.specs.Requests.{meaning};
+ghost use Rattle.bw_model.specs.Requests.{meaning};
 ghost use Rattle.bw_c.specs.Heads.{has_place, CanWrite, WroteHead, CanSpell, WroteFrame};
 ghost use Rattle.bw_c.specs.PlainSenders.{sender_name};
 
 use crate::head::{ask_of, bye_of, head_of};
 use crate::sender::{BwiSender, NUMBERS, SLOTS, name_bytes};
 use arrayvec::ArrayVec;
-use bw_request::{Name, RequestRef};
+use bw_model::{Name, RequestRef};
 
 /// Offers an OPEN (Hz, samples per frame, bits per sample, and a coding history of at most 4,096 bytes), and puts its
 /// head, of at most 52 bytes, into `out`.

@@ -5,7 +5,7 @@ ghost use Rattle.bw_model.specs.World.{Sender as Defined};
 ghost use Rattle.bw_sender.specs.Senders.{HasStored};
 ghost use Rattle.bw_c.specs.PlainSenders.{IsPlainSender, sender_name, lacks_verdict};
 
-use bw_request::Name;
+use bw_model::Name;
 
 /// How many numbers a take has.
 pub(crate) const NUMBERS: u32 = 16_777_216;

@@ -5,3 +5,8 @@ pub mod ReplayLemmas
 pub mod TextLemmas
 pub mod EventLemmas
 pub mod WorldLemmas
+pub mod Staging
+mod Playing
+mod Schedules
+pub mod FaultLaws
+pub mod EventWords

@@ -13,9 +13,9 @@ use Rattle.bw_model.specs.Exchange.{nothing_stands}
 use Rattle.bw_model.specs.World.{World, Event, Offer, Send, Deliver, Bring, Ask, Foreign, deliver}
 use Rattle.bw_model.specs.World.{pending, happens, world_after}
 use Rattle.bw_model.proofs.BookLemmas.{same_name, log-with_log_same, log-with_log_other}
-use Rattle.bw_rehearsal.specs.FaultRuns.{AreFaultsOf, AreFaultsOfDelivery, AreFaultsOfRuns}
-use Rattle.bw_rehearsal.proofs.FaultLaws.{counted_up, event_up, schedule_up}
-use Rattle.bw_rehearsal.proofs.Staging.{sent_book, brought_book}
+use Rattle.bw_commands.specs.FaultRuns.{AreFaultsOf, AreFaultsOfDelivery, AreFaultsOfRuns}
+use Rattle.bw_commands.proofs.FaultLaws.{counted_up, event_up, schedule_up}
+use Rattle.bw_commands.proofs.Staging.{sent_book, brought_book}
 use Rattle.bw_exchange.specs.AnsweredFrames.{Answered}
 use Rattle.bw_exchange.specs.TurnRuns.{IsRun}
 

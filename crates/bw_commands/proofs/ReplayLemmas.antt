@@ -28,7 +28,8 @@ use Rattle.bw_store.specs.declared.memory.MemoryStore.{MemoryStore}
 use Rattle.bw_store.specs.declared.store.TakeStore.{Ghosts as StoreGhosts}
 use Rattle.bw_session.specs.NextNumbers.{failed_calls}
 use Rattle.bw_console.specs.Input.{longest_input}
-use Rattle.bw_commands.specs.Runs.{ReportedExchange, reported_of, replies_reported, ReportsInput, ReportInputs, ReportsExchange, AllReport}
+use Rattle.bw_commands.specs.Runs.{ReportedExchange, reported_of, replies_reported, ReportsInput}
+use Rattle.bw_commands.specs.Runs.{ReportInputs, ReportsExchange, AllReport}
 use Rattle.bw_commands.specs.OneFuse.{failures_under, SufficeForAll}
 use Rattle.bw_commands.specs.Replays.{IsRunText}
 use Rattle.bw_commands.specs.Runs.{IsReplayRun, AreExchangesOf, empty_contents}
@@ -40,7 +41,7 @@ use Rattle.bw_engine.specs.IngestRuns.{AreServed, input_bytes}
 use Rattle.bw_engine.specs.ServerRuns.{all_done}
 use Rattle.bw_engine.specs.declared.ingest.Run.{Run}
 use Rattle.bw_exchange.specs.declared.serving.ExchangeEnd.{ExchangeEnd}
-use Rattle.bw_rehearsal.proofs.FaultLaws.{counted_up}
+use Rattle.bw_commands.proofs.FaultLaws.{counted_up}
 use Rattle.bw_commands.proofs.QuietLemmas.{run_rises, quiet_run}
 use Rattle.bw_exchange.proofs.GoodRuns.{GoesWell, good_run, in_order_well, turns_are_runs}
 use Rattle.bw_engine.proofs.GoodExchanges.{following, well_parts, replies_well}

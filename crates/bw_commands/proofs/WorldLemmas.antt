@@ -19,11 +19,11 @@ use Rattle.bw_session.specs.Servers.{kept_in}
 use Rattle.bw_store.specs.Memory.{content_under}
 use Rattle.bw_store.specs.MemoryNames.{names_of, AreNames}
 use Rattle.bw_store.specs.declared.memory.MemoryStore.{MemoryStore}
-use Rattle.bw_rehearsal.specs.FaultRuns.{AreFaultsOfRuns}
-use Rattle.bw_rehearsal.specs.RehearsedWorlds.{event_meaning, no_contents}
-use Rattle.bw_rehearsal.specs.Worlds.{WasRehearsed}
-use Rattle.bw_rehearsal.specs.declared.event.Event.{Event as Read}
-use Rattle.bw_rehearsal.specs.declared.rehearsal.World.{World}
+use Rattle.bw_commands.specs.FaultRuns.{AreFaultsOfRuns}
+use Rattle.bw_commands.specs.RehearsedWorlds.{event_meaning, no_contents}
+use Rattle.bw_commands.specs.Worlds.{WasRehearsed}
+use Rattle.bw_commands.specs.declared.event.Event.{Event as Read}
+use Rattle.bw_commands.specs.declared.rehearsing.World.{World}
 use Rattle.bw_commands.proofs.QuietLemmas.{NonePends, quiet_world}
 use Rattle.bw_commands.specs.Text.{files_text}
 use Rattle.bw_commands.specs.Rehearsals.{world_counts_line, world_progress_line, world_lines, HasWorld, IsWorldText}

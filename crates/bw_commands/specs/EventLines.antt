@@ -1,7 +1,7 @@
 -- The events that an input's lines encode.
 use Rattle.std.specs.Prelude.{ℕ, List}
 use Rattle.bw_model.specs.World.{Event}
-use Rattle.bw_rehearsal.specs.EventLines.{SaysEvent}
+use Rattle.bw_commands.specs.SaidEvents.{SaysEvent}
 use Rattle.bw_console.specs.Lines.{SayEach, FirstWithout}
 use Rattle.bw_console.specs.declared.fault.Fault.{Fault}
 use Rattle.bw_console.specs.declared.fault.Fault.TheVariants.{NotEvent, Memory}

@@ -3,7 +3,7 @@ use Rattle.std.specs.Prelude.{◌≡◌, ◌⊎◌, ℕ, List, ◌∷◌, ◌++�
 use Rattle.std.specs.Prelude.{true, false, codes}
 use Rattle.bw_model.specs.Reading.{Fault, IsFault}
 use Rattle.bw_model.specs.Report.{report_of, report_text}
-use Rattle.bw_hints.specs.Hints.{start_hint}
+use Rattle.bw_inspect.specs.Hints.{start_hint}
 use Rattle.bw_inspect.specs.Faults.{bytes_fault, inspect_fault_text, is_failed_read}
 use Rattle.bw_inspect.specs.OtherFormats.{other_format_of}
 use Rattle.bw_inspect.specs.declared.other.OtherFormat.{OtherFormat}

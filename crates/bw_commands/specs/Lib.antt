@@ -6,3 +6,8 @@ pub mod Replays
 pub mod Rehearsals
 pub mod Inspections
 pub mod Looks
+pub mod RehearsedWorlds
+pub mod SaidEvents
+pub mod FaultRuns
+pub mod Simulations
+pub mod Worlds

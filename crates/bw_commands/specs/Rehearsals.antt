@@ -10,9 +10,9 @@ use Rattle.bw_model.specs.World as model
 use Rattle.bw_store.specs.MemoryNames.{AreNames}
 use Rattle.bw_session.specs.Books.{HoldsBook}
 use Rattle.bw_sender.specs.Senders.{IsSender}
-use Rattle.bw_rehearsal.specs.FaultRuns.{AreFaultsOfRuns}
-use Rattle.bw_rehearsal.specs.RehearsedWorlds.{no_contents}
-use Rattle.bw_rehearsal.specs.declared.rehearsal.World.{World}
+use Rattle.bw_commands.specs.FaultRuns.{AreFaultsOfRuns}
+use Rattle.bw_commands.specs.RehearsedWorlds.{no_contents}
+use Rattle.bw_commands.specs.declared.rehearsing.World.{World}
 use Rattle.bw_commands.specs.EventLines.{SayEvents, FirstOther}
 use Rattle.bw_console.specs.Input.{longest_input}
 use Rattle.bw_console.specs.Lines.{lines_of}

@@ -1,12 +1,12 @@
 //! The lines of an input as the events of a rehearsal.
 ghost use Rattle.std.specs.Prelude.{◌≤◌, length, map, IfOk, IfErr};
-ghost use Rattle.bw_rehearsal.specs.RehearsedWorlds.{event_meaning};
+ghost use Rattle.bw_commands.specs.RehearsedWorlds.{event_meaning};
 ghost use Rattle.bw_console.specs.Lines.{lines_of};
 ghost use Rattle.bw_console.specs.Input.{longest_input};
 ghost use Rattle.bw_commands.specs.EventLines.{SayEvents, IsEventFault};
 
+use crate::{Event, event_in};
 use bw_console::{Fault, first_line};
-use bw_rehearsal::{Event, event_in};
 use std::alloc::Global;
 
 /// The events that the lines of an input encode.

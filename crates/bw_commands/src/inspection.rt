@@ -10,9 +10,9 @@ ghost use Rattle.bw_console.specs.Prints.{IsPrint, Print, failures_if};
 use arrayvec::ArrayString;
 use bw_console::print::{give_up, print, print_diagnostic};
 use bw_console::{Exit, Fault, report_unopened};
-use bw_hints::hint_of_start;
 use bw_inspect::{
-    InspectFault, InspectKind, OtherFormat, Report, inspect_recognizing, write_report,
+    InspectFault, InspectKind, OtherFormat, Report, hint_of_start, inspect_recognizing,
+    write_report,
 };
 use bw_ports::System;
 use bw_stream::{MemorySink, Sink, Source};

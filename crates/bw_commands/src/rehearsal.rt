@@ -1,6 +1,6 @@
 //! The text of a rehearsal: a sender and a server, played by the lines of an input.
 ghost use Rattle.std.specs.Prelude.{◌≤◌, length, map, IfOk, IfErr};
-ghost use Rattle.bw_rehearsal.specs.RehearsedWorlds.{event_meaning};
+ghost use Rattle.bw_commands.specs.RehearsedWorlds.{event_meaning};
 ghost use Rattle.bw_console.specs.Input.{longest_input};
 ghost use Rattle.bw_console.specs.Lines.{lines_of};
 ghost use Rattle.bw_commands.specs.EventLines.{IsEventFault};
@@ -8,10 +8,10 @@ ghost use Rattle.bw_commands.specs.Rehearsals.{IsTextOfLines, IsWorldText};
 
 use crate::events::events;
 use crate::world_text::text_of_world;
+use crate::{Event, rehearse};
 use bw_console::Fault;
 use bw_layout::Limit;
-use bw_rehearsal::{Event, rehearse};
-use bw_request::Name;
+use bw_model::Name;
 use std::alloc::{AllocError, Global};
 
 /// Plays the events that the lines of the input encode, with a sender of this name and a server

@@ -3,7 +3,7 @@ ghost use Rattle.std.specs.Prelude.{◌≡◌, ℕ, List, None, IsTrue, IfOk, tr
 ghost use Rattle.bw_commands.specs.OneFuse.{failures_under, is_at, KeepsFuse, SufficeForAll};
 ghost use Rattle.bw_store.specs.MemoryNames.{memory_content};
 
-use bw_request::Name;
+use bw_model::Name;
 use bw_store::{Created, FuseStore, MemoryStore, StoreFault, TakeStore};
 use std::alloc::{AllocError, Global};
 

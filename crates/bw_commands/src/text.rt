@@ -14,7 +14,7 @@ ghost use Rattle.bw_store.specs.MemoryNames.{names_of, AreNames, memory_content}
 ghost use Rattle.hex.specs.Hex.{encode_lower};
 
 use bw_exchange::{ExchangeEnd, end_name};
-use bw_request::Name;
+use bw_model::Name;
 use bw_store::MemoryStore;
 use std::alloc::{AllocError, Global};
 

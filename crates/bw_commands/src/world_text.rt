@@ -8,9 +8,9 @@ ghost use Rattle.bw_model.specs.World.{World as ReportedWorld, settled, stored};
 ghost use Rattle.bw_session.specs.SeenServers.{server_store};
 ghost use Rattle.bw_store.specs.MemoryNames.{names_of, AreNames, memory_content};
 
+use crate::World;
 use crate::text::put_files;
-use bw_rehearsal::World;
-use bw_request::Name;
+use bw_model::Name;
 use std::alloc::{AllocError, Global};
 
 /// The outcome in two lines, and then the store's files in the order of their names.

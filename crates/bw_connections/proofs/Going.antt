@@ -34,7 +34,8 @@ use Rattle.bw_connections.specs.Lives.{EndsDrained, EndsServed, IsNoSilence, IsU
 use Rattle.bw_connections.specs.Lives.{Moved, ReadsLink, SendsWaiting, EndsWithFault, Works}
 use Rattle.bw_connections.specs.Lives.{EndsAs, Proceeds, IsInPhase, IsOpen, IsConnectionOver, KeepsPeer, Lives, Settles, Steps}
 use Rattle.bw_connections.specs.Lives.{AnswersHeld, BeginsConnection, expired_at, expired_by, longest_drain, quantum, quiet_since}
-use Rattle.bw_connections.specs.Lives.{HoldsReplies, LeavesNone, LeavesOf, IsDry, IsFinished, IsFull, Learns, StillReported, ReportsFinish, WhereDrained}
+use Rattle.bw_connections.specs.Lives.{HoldsReplies, LeavesNone, LeavesOf, IsDry, IsFinished, IsFull}
+use Rattle.bw_connections.specs.Lives.{Learns, StillReported, ReportsFinish, WhereDrained}
 
 -- what a link did: it gave these bytes more, took these more, and stayed at its end, and finished
 pub record Moves {L : Type 0} (G : LinkGhosts L) (in_bytes out_bytes : List ℕ) (l l' : L) : Type 0 where

@@ -24,7 +24,9 @@ use Rattle.bw_connections.specs.declared.connections.Closed.{Closed}
 use Rattle.bw_connections.specs.declared.connections.Connections.{Connections}
 use Rattle.bw_connections.specs.ConnectionTables.{HasLeft, KeepsConnections, HoldsConnectionAt, Tagged, own}
 use Rattle.bw_connections.specs.Lives.{HasEnded, IsInPhase, IsConnectionOver, Lives}
-use Rattle.bw_connections.specs.ConnectionBytes.{QuantaLeaveCommitted, EndsLink, ConnectionReachesEnd, ServesEachConnection, ServesConnection, ConnectionReportsEnd}
+use Rattle.bw_connections.specs.ConnectionBytes.{QuantaLeaveCommitted, EndsLink, ConnectionReachesEnd}
+use Rattle.bw_connections.specs.ConnectionBytes.{ServesEachConnection, ServesConnection}
+use Rattle.bw_connections.specs.ConnectionBytes.{ConnectionReportsEnd}
 use Rattle.bw_connections.proofs.Standing.{all_left}
 
 -- What bytes that weren't fed leave of what is known: nothing was, or none could change it.

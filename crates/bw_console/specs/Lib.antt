@@ -7,3 +7,4 @@ pub mod Faults
 pub mod Outcomes
 pub mod BadArgv
 pub mod FailedOpenings
+pub mod Causes

@@ -1,5 +1,8 @@
-//! What senders and a server achieve together: laws of the definitions. No function runs.
+//! What senders and servers achieve together: laws of the definitions, over one server, and over
+//! servers that follow one another. No function runs.
 #![tactic(auto)]
+
+mod server_lives;
 
 ghost use Rattle.bw_delivery.specs.Reruns.{EachRunIsFaithful, RunsHearOneVerdict, SettledRunsAreWhole};
 ghost use Rattle.bw_delivery.specs.Deliveries.{ClosedDeliveriesStay, DeliveriesAreTrue};
@@ -11,6 +14,10 @@ ghost use Rattle.bw_delivery.specs.ExamplesOfReruns.{KilledRunExample, SecondRun
 
 use bw_journal::Journal;
 use bw_store::TakeStore;
+pub use server_lives::{
+    examples_of_lives, examples_of_stops, law_folder, law_lives, law_promise_kept,
+    law_served_worlds, law_stopped_worlds,
+};
 
 /// A sender may be started again, from number 0 or from where it was, any number of times, with the
 /// same requests: each run counts only what the server's take has, no two runs have different

@@ -1,6 +1,7 @@
 -- The names in a folder of a disk in memory, as they are gathered file by file.
 use Rattle.std.proofs.Common.{◌≡◌, ◌≢◌, ◌∙◌, ◌⊎◌, inl, inr, ℕ, zero, suc, ◌<◌, List, [], ◌∷◌, ◌++◌, Bool, true, false, cond, ◌||◌}
-use Rattle.std.proofs.Common.{Option, Some, None, is_some, length, take, drop, refl, sym, ap, subst, arith, string_bytes, codes, IsTrue, IsSome, Bor, nat_eq, ◌+◌}
+use Rattle.std.proofs.Common.{Option, Some, None, is_some, length, take, drop, refl, sym, ap, subst, arith}
+use Rattle.std.proofs.Common.{string_bytes, codes, IsTrue, IsSome, Bor, nat_eq, ◌+◌}
 use Rattle.std.specs.Prelude.{IsUtf8, not, ◌==◌, ◌&&◌}
 use Rattle.std.specs.List.{All, Contains, find, list_all, list_any}
 use Rattle.std.specs.Option.{option_or, MatchOption}

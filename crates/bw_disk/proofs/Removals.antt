@@ -1,5 +1,6 @@
 -- What a disk in memory has after files were removed.
-use Rattle.std.proofs.Common.{◌≡◌, ◌≢◌, ◌∙◌, List, [], ◌∷◌, ℕ, Bool, true, false, cond, not, Option, Some, None, refl, sym, ap, string_bytes}
+use Rattle.std.proofs.Common.{◌≡◌, ◌≢◌, ◌∙◌, List, [], ◌∷◌, ℕ, Bool, true, false, cond, not, Option, Some}
+use Rattle.std.proofs.Common.{None, refl, sym, ap, string_bytes}
 use Rattle.std.specs.List.{find, filter}
 use Rattle.std.proofs.lemmas.Slice.Eq.{bytes_eq-Decides}
 use Rattle.std.proofs.Common.{arith, length, take, ◌+◌, ◌++◌, ◌≤◌}

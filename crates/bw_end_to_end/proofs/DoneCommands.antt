@@ -11,11 +11,11 @@ use Rattle.bw_console.specs.declared.fault.Fault.{Fault}
 use Rattle.bw_console.specs.declared.fault.Fault.TheVariants as faults
 use Rattle.bw_ports.specs.declared.dial.Dial.{Ghosts as DialGhosts}
 use Rattle.bw_ports.specs.declared.pause.Pause.{Ghosts as PauseGhosts}
-use Rattle.bw_send.specs.Sends.{IsPrintOfSend, PrintsSender, exit_of_send}
+use Rattle.bw_upload.specs.Sends.{IsPrintOfSend, PrintsSender, exit_of_send}
 use Rattle.bw_model.specs.Replies.{Reply}
-use Rattle.bw_send.specs.RoundsMade.{AreRounds, MakesRounds}
-use Rattle.bw_send.specs.SendState.{Sending, IsSettled, hear_in, new_sending, offer_more}
-use Rattle.bw_send.proofs.OfferSteps.{more_keeps}
+use Rattle.bw_upload.specs.RoundsMade.{AreRounds, MakesRounds}
+use Rattle.bw_upload.specs.SendState.{Sending, IsSettled, hear_in, new_sending, offer_more}
+use Rattle.bw_upload.proofs.OfferSteps.{more_keeps}
 use Rattle.bw_upload.specs.declared.feed.Feed.{Ghosts as FeedGhosts}
 use Rattle.bw_send_file.specs.declared.fault.FeedFault.{FeedFault}
 use Rattle.bw_end_to_end.specs.SentFiles.{DoneFeedsAreStored}

@@ -1,7 +1,8 @@
 -- What rounds of `send` write and hear.
 use mathlib.Core.Logic.{inl, inr}
 use Rattle.std.proofs.Common.{◌≡◌, ◌≢◌, ℕ, suc, zero, ◌<◌, ◌≤◌, ◌⊎◌, Bool, true, false, cond, ◌&&◌, List, [], ◌∷◌, ◌++◌}
-use Rattle.std.proofs.Common.{length, append-nil, drop, Option, Some, None, Result, refl, sym, ◌∙◌, ap, subst, arith, append_assoc, length-append}
+use Rattle.std.proofs.Common.{length, append-nil, drop, Option, Some, None, Result, refl, sym, ◌∙◌, ap}
+use Rattle.std.proofs.Common.{subst, arith, append_assoc, length-append}
 use Rattle.std.specs.Prelude.{nat_lt, is_none}
 use Rattle.std.specs.List.{Contains}
 use Rattle.std.specs.Str.{bytes_eq}
@@ -25,11 +26,11 @@ use Rattle.bw_engine.specs.Sent.{Exchanges}
 use Rattle.bw_engine.specs.declared.send_fault.SendFault.{SendFault}
 use Rattle.bw_ports.specs.declared.dial.Dial.{Ghosts as DialGhosts}
 use Rattle.bw_ports.specs.declared.dial.Duplex.{Duplex}
-use Rattle.bw_send.specs.RoundsMade.{IsExchange, IsRound, AreRounds, heard_over}
-use Rattle.bw_send.specs.SendState.{Sending, IsSettled, hear_in, new_sending, offer_all, offer_more, offer_next, unoffered}
+use Rattle.bw_upload.specs.RoundsMade.{IsExchange, IsRound, AreRounds, heard_over}
+use Rattle.bw_upload.specs.SendState.{Sending, IsSettled, hear_in, new_sending, offer_all, offer_more, offer_next, unoffered}
 use Rattle.bw_engine.proofs.HeardSenders.{all_heard}
 use Rattle.std.proofs.Math.Seq.{drop-append_seam}
-use Rattle.bw_send.proofs.OfferSteps.{taken, refused, all_taken, all_refused}
+use Rattle.bw_upload.proofs.OfferSteps.{taken, refused, all_taken, all_refused}
 use Rattle.bw_delivery.specs.Deliveries.{HeardOverLinks}
 use Rattle.bw_delivery.specs.Statement.{LinkBytes, IsPartOf, WroteRequests, WasTold}
 use Rattle.bw_end_to_end.specs.UsedLinks.{UsedLink, AreSenderEnds, PendingHaveNumbers}

@@ -9,7 +9,8 @@ use Rattle.bw_model.specs.ExampleWords.{example_limit, small_file}
 use Rattle.bw_model.specs.ExamplesOfWorlds.{small_take}
 use Rattle.bw_exchange.specs.TurnRuns.{IsRunOf}
 use Rattle.bw_delivery.specs.ExamplesOfDeliveries.{stores}
-use Rattle.bw_delivery.specs.Statement.{LinkBytes, SenderPart, DidSend, ServerKind, ServerPart, DidServe, Premises}
+use Rattle.bw_delivery.specs.Statement.{LinkBytes, SenderPart, DidSend, ServerKind, ServerPart, DidServe}
+use Rattle.bw_delivery.specs.Statement.{Premises}
 use Rattle.bw_end_to_end.specs.UsedLinks.{HasAllStored}
 
 -- each end of its link gets all that the other end wrote: not OPEN, but what follows it

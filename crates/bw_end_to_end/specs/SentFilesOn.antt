@@ -15,8 +15,8 @@ use Rattle.bw_upload.specs.Courses.{starts}
 use Rattle.bw_upload.specs.declared.feed.Feed.{Ghosts as FeedGhosts}
 use Rattle.bw_send_file.specs.Sendings.{Ways}
 use Rattle.bw_send_file.specs.declared.fault.FeedFault.{FeedFault}
-use Rattle.bw_send_state.specs.SentOn.{StoresRecording, UploadsAll, WasStoredBefore}
-use Rattle.bw_send_state.specs.declared.job.Job.{Job}
+use Rattle.bw_send_file.specs.SentOn.{StoresRecording, UploadsAll, WasStoredBefore}
+use Rattle.bw_send_file.specs.declared.resumed_job.Job.{Job}
 use Rattle.bw_delivery.specs.Statement.{LinkBytes}
 use Rattle.bw_end_to_end.specs.UploadedLinks.{links_in_course}
 use Rattle.bw_end_to_end.specs.UsedLinks.{UsedLink, AreSenderEnds, SendsOnOver}

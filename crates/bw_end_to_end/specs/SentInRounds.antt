@@ -12,9 +12,9 @@ use Rattle.bw_ports.specs.declared.dial.Dial.{Ghosts as DialGhosts}
 use Rattle.bw_console.specs.Outcomes.{Outcome}
 use Rattle.bw_console.specs.Prints.{Whole}
 use Rattle.bw_console.specs.declared.exit.Exit.TheVariants.{Done}
-use Rattle.bw_send.specs.RoundsMade.{IsRound, AreRounds, MakesRounds}
-use Rattle.bw_send.specs.SendState.{Sending, hear_in, new_sending, offer_more}
-use Rattle.bw_send.specs.Sends.{IsSendRun, PrintsSender}
+use Rattle.bw_upload.specs.RoundsMade.{IsRound, AreRounds, MakesRounds}
+use Rattle.bw_upload.specs.SendState.{Sending, hear_in, new_sending, offer_more}
+use Rattle.bw_upload.specs.Sends.{IsSendRun, PrintsSender}
 use Rattle.bw_delivery.specs.Statement.{LinkBytes}
 use Rattle.bw_end_to_end.specs.UsedLinks.{UsedLink, AreSenderEnds, HasAllStored, SendsOver}
 

@@ -13,7 +13,7 @@ ghost use Rattle.bw_engine.specs.Sent.{Exchanges, after_write};
 
 use crate::hearing::hear_replies;
 use crate::send_fault::SendFault;
-use bw_request::{Name, Request};
+use bw_model::{Name, Request};
 use bw_sender::Sender;
 use bw_stream::{Sink, Source, write_all};
 use bw_wire::encode;

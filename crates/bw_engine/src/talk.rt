@@ -21,7 +21,7 @@ use crate::send_fault::SendFault;
 use crate::sending::{BYE, MOST_PENDING, send_message, write_frame};
 use crate::stop::{Stop, stop_by};
 use bw_exchange::MOST_READS;
-use bw_request::{Name, Request};
+use bw_model::{Name, Request};
 use bw_sender::Sender;
 use bw_stream::{Sink, Source};
 use bw_wire::ReplyFramer;

@@ -8,7 +8,7 @@ ghost use Rattle.bw_exchange.specs.LinkCounts.{none_counted, counting_frame};
 
 use crate::turns::{NotKept, Turns};
 use arrayvec::ArrayVec;
-use bw_request::Name;
+use bw_model::Name;
 use bw_wire::{Ask, Message, Reply};
 use std::marker::Model;
 use std::mem;

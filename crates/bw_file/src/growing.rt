@@ -16,7 +16,7 @@ use crate::writes::{
     put_closed_header, put_cues, put_grown_header, put_header, put_retouched_header, put_samples,
 };
 use bw_layout::{Bext, Fmt, Heading, Limit};
-use bw_request::Name;
+use bw_model::Name;
 use bw_store::{Created, StoreFault, TakeStore};
 use bw_take::TakeState;
 use std::alloc::{AllocError, Global};

@@ -18,7 +18,7 @@ use crate::buffer::Buffer;
 use crate::change::changed_range;
 use crate::condition::Condition;
 use bw_layout::{CuePoint, Heading, patch_sizes};
-use bw_request::Name;
+use bw_model::Name;
 use bw_store::{StoreFault, TakeStore};
 
 /// Writes samples where the data end, and a pad byte if the file's length would be odd.

@@ -1,5 +1,6 @@
 -- In which order a note and what it speaks of are synced.
-use Rattle.std.specs.Prelude.{◌≡◌, ◌⊎◌, ℕ, Bool, false, List, Some, IsSome, IsTrue, IsErr, OnOk, Result, Option}
+use Rattle.std.specs.Prelude.{◌≡◌, ◌⊎◌, ℕ, Bool, false, List, Some, IsSome, IsTrue, IsErr, OnOk, Result}
+use Rattle.std.specs.Prelude.{Option}
 use Rattle.bw_store.specs.Stores.{KeepsOthers}
 use Rattle.bw_disk.specs.Disks.{AsksOnce}
 use Rattle.bw_disk.specs.Volumes.{KeepsEach}

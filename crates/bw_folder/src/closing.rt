@@ -5,7 +5,7 @@ ghost use Rattle.bw_store.specs.Stores.{Counts};
 
 use crate::journal::FolderJournal;
 use bw_disk::Volume;
-use bw_request::Name;
+use bw_model::Name;
 
 impl<D: Volume> FolderJournal<D> {
     /// Closes the journal of a name, if it is open. The disk isn't called.

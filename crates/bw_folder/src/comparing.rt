@@ -11,7 +11,7 @@ use crate::folder::FolderStore;
 use crate::journal::FolderJournal;
 use crate::paths::take_path;
 use bw_disk::{ReadFault, Volume};
-use bw_request::Name;
+use bw_model::Name;
 use std::alloc::Global;
 
 /// Whether the disks of store and journal show alike whether a name has a file in the store's folder.

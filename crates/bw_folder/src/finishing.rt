@@ -9,7 +9,7 @@ ghost use Rattle.bw_folder.specs.TakeFolders.{marked_if};
 
 use crate::folder::{FolderStore, find};
 use bw_disk::Disk;
-use bw_request::Name;
+use bw_model::Name;
 use bw_store::StoreFault;
 
 impl<D: Disk> FolderStore<D> {

@@ -9,7 +9,7 @@ ghost use Rattle.bw_folder.specs.Folders.{opened_by, closed_by};
 
 use crate::paths::take_path;
 use bw_disk::{Disk, SystemDisk};
-use bw_request::Name;
+use bw_model::Name;
 use bw_store::{CallCounter, Created, StoreFault, TakeStore};
 use std::alloc::{AllocError, Global};
 use std::fs::Files;

@@ -15,7 +15,7 @@ ghost use Rattle.bw_folder.specs.SyncOrders.{BeginsJournal, StopsAtSync, SyncsNo
 use bw_disk::{SystemDisk, Volume};
 use bw_journal::Journal;
 use bw_layout::Limit;
-use bw_request::Name;
+use bw_model::Name;
 use bw_store::StoreFault;
 use std::alloc::{AllocError, Global};
 use std::fs::Files;

@@ -23,7 +23,7 @@ use crate::paths::{journal_path, take_path};
 use crate::syncing::{append_synced, sync_begun};
 use bw_disk::Volume;
 use bw_journal::{JournalHeader, notes_close};
-use bw_request::Name;
+use bw_model::Name;
 use bw_store::StoreFault;
 
 impl<D: Volume> FolderJournal<D> {

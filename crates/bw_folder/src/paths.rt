@@ -3,7 +3,7 @@ ghost use Rattle.std.specs.Prelude.{◌≡◌, IfOk, string_bytes};
 ghost use Rattle.bw_folder.specs.Folders.{take_path as path_of_take};
 ghost use Rattle.bw_folder.specs.Journals.{journal_path as path_of_journal};
 
-use bw_request::Name;
+use bw_model::Name;
 use bw_store::StoreFault;
 use std::alloc::Global;
 

@@ -13,8 +13,8 @@ use crate::folder::FolderStore;
 use crate::journal::FolderJournal;
 use bw_disk::{ReadFault, Volume};
 use bw_layout::Limit;
+use bw_model::Name;
 use bw_recovery::{Finding, look, restore_name};
-use bw_request::Name;
 use std::alloc::Global;
 
 /// What is found of a name of which nothing is open, by its journal and its file; None if it has no

@@ -15,7 +15,7 @@ use crate::noting::find;
 use crate::paths::{journal_path, take_path};
 use crate::syncing::sync_both;
 use bw_disk::{Disk, ReadFault, Volume};
-use bw_request::Name;
+use bw_model::Name;
 
 impl<D: Disk> FolderStore<D> {
     ghost use Rattle.bw_folder.specs.TakeFolders.{takes_disk, takes_folder, open_takes};

@@ -10,7 +10,7 @@ ghost use Rattle.bw_folder.specs.SyncOrders.{IsSyncedAt};
 use crate::file_notes::Note;
 use crate::journal::OpenJournal;
 use bw_disk::Volume;
-use bw_request::Name;
+use bw_model::Name;
 use bw_store::StoreFault;
 
 /// Syncs what a note speaks of, then appends the note to its name's journal, and syncs that.

@@ -14,3 +14,4 @@ pub mod Walks
 pub mod Outers
 pub mod Readings
 pub mod Laws
+pub mod Hints

@@ -10,7 +10,7 @@ use crate::content::{pass_rest, read_part};
 use crate::fault::{InspectFault, InspectKind, fault_at};
 use crate::report::{Cues, ListedChunk};
 use crate::row_list::read_rows;
-use bw_bytes::read_u32;
+use bw_model::read_u32;
 use bw_stream::Source;
 use std::alloc::Global;
 

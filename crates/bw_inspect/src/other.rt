@@ -3,8 +3,8 @@ ghost use Rattle.std.specs.Prelude.{◌≡◌};
 ghost use Rattle.bw_inspect.specs.OtherFormats.{format_named, is_aiff as names_aiff};
 
 use crate::chunk::is_named;
-use bw_bytes::read_id;
 use bw_layout::ChunkId;
+use bw_model::read_id;
 
 /// The first bytes of the GUID `riff`, as a file has it (Sony Wave64).
 const WAVE64_START: [u8; 12] = *b"riff\x2e\x91\xcf\x11\xa5\xd6\x28\xdb";

@@ -19,8 +19,8 @@ use crate::fault::{InspectFault, InspectKind, fault_at};
 use crate::other::{OtherFormat, other_format};
 use crate::places::read_at;
 use crate::walk::{Form, Walk, begin, list_chunk};
-use bw_bytes::{read_id, read_u32};
 use bw_layout::{ChunkHead, ChunkId};
+use bw_model::{read_id, read_u32};
 use bw_stream::Source;
 use std::alloc::Global;
 

@@ -1,5 +1,6 @@
 -- A take that is closed has a format, and a number below it is done.
-use Rattle.std.proofs.Common.{◌≡◌, ℕ, zero, suc, ◌≤◌, Bool, true, false, cond, List, [], ◌∷◌, take, Option, Some, None, is_some, refl, sym, ◌∙◌}
+use Rattle.std.proofs.Common.{◌≡◌, ℕ, zero, suc, ◌≤◌, Bool, true, false, cond, List, [], ◌∷◌, take, Option}
+use Rattle.std.proofs.Common.{Some, None, is_some, refl, sym, ◌∙◌}
 use Rattle.std.proofs.Common.{ap, arith}
 use Rattle.std.specs.Prelude.{fold}
 use Rattle.bw_model.specs.Take.{Take, Format, Parts, Request, Open, Block, Mark, SetField, Close, Closed}

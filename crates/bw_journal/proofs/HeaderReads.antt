@@ -1,6 +1,7 @@
 -- Headers are read back as they were written.
 use Rattle.std.proofs.Common.{◌≡◌, ◌⊎◌, inl, inr, ℕ, zero, suc, ◌/◌, ◌%◌, ◌<◌, ◌≤◌, ◌^◌, Bool, true, false, cond, ◌&&◌, ◌||◌}
-use Rattle.std.proofs.Common.{Option, Some, None, Ok, Err, Result, List, [], ◌∷◌, ◌++◌, length, take, drop, refl, sym, ap, ◌∙◌, append_assoc, arith}
+use Rattle.std.proofs.Common.{Option, Some, None, Ok, Err, Result, List, [], ◌∷◌, ◌++◌, length, take, drop}
+use Rattle.std.proofs.Common.{refl, sym, ap, ◌∙◌, append_assoc, arith}
 use Rattle.std.specs.Prelude.{nat_lt, nat_le, ◌==◌, slice_index}
 use Rattle.std.specs.Int.{w32, to_be_bytes}
 use Rattle.std.specs.List.{list_all}
@@ -16,7 +17,7 @@ use Rattle.bw_model.specs.Bytes.{le32, u32_at}
 use Rattle.bw_model.specs.Wire.{are_bytes, is_below}
 use Rattle.bw_model.proofs.ByteNumbers.{wide32, number_at-written, IsBytes-from_test, are_bytes-parts}
 use Rattle.bw_model.proofs.BookLemmas.{name_refl, same_name}
-use Rattle.bw_request.proofs.Ranges.{are_bytes_lem}
+use Rattle.bw_model.proofs.Ranges.{are_bytes_lem}
 use Rattle.bw_journal.specs.Lines.{AreLineBytes, IsTorn, before_zero}
 use Rattle.bw_journal.specs.Seals.{check}
 use Rattle.bw_journal.specs.JournalHeaders.{Header, existed_flag, flag_of, magic, header_content, header_line, header_bytes}

@@ -14,7 +14,7 @@ use Rattle.bw_model.specs.Wire.{are_bytes}
 use Rattle.bw_model.proofs.ByteNumbers.{wide32, written-number_at}
 use Rattle.bw_model.proofs.BookLemmas.{same_name}
 use Rattle.bw_model.proofs.Elements.{some_inj}
-use Rattle.bw_request.proofs.Ranges.{are_bytes_lem}
+use Rattle.bw_model.proofs.Ranges.{are_bytes_lem}
 use Rattle.bw_journal.specs.Seals.{check}
 use Rattle.bw_journal.specs.JournalHeaders.{Header, existed_flag, flag_of, header_content, header_line, header_bytes, header_len}
 use Rattle.bw_journal.specs.JournalHeaders.{header_with, header_in, header_spelled, first_header}

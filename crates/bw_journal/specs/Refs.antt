@@ -1,6 +1,6 @@
 -- Entries as the code has them.
-use Rattle.bw_request.specs.Requests.{meaning}
-use Rattle.bw_request.specs.Verdicts.{verdict_meaning}
+use Rattle.bw_model.specs.Requests.{meaning}
+use Rattle.bw_model.specs.VerdictMeanings.{verdict_meaning}
 use Rattle.bw_journal.specs.Entries.{JournalEntry}
 use Rattle.bw_journal.specs.declared.entry.EntryRef.{EntryRef}
 

@@ -3,12 +3,11 @@ ghost use Rattle.std.specs.Prelude.{◌≡◌, ◌+◌, ◌*◌, ◌≤◌, IsTr
 ghost use Rattle.bw_model.specs.Bytes.{zeros as zero_bytes};
 ghost use Rattle.bw_model.specs.Limits.{longest_block};
 ghost use Rattle.bw_model.specs.Wire.{is_request};
-ghost use Rattle.bw_request.specs.Requests.{meaning};
+ghost use Rattle.bw_model.specs.Requests.{meaning};
 ghost use Rattle.bw_journal.specs.Entries.{block_noted, request_in, entry_in, longest_entry};
 ghost use Rattle.bw_journal.specs.Refs.{entry_said};
 
-use bw_bytes::read_u32;
-use bw_request::{LONGEST_BLOCK, RequestRef, Verdict};
+use bw_model::{LONGEST_BLOCK, RequestRef, Verdict, read_u32};
 use bw_wire::decode_request;
 
 /// An entry has at most this many bytes.

@@ -12,7 +12,7 @@ ghost use Rattle.bw_journal.specs.MemoryJournals.{failures_in_memory};
 
 use crate::journal::Journal;
 use crate::memory::{MemoryJournal, count};
-use bw_request::Name;
+use bw_model::Name;
 use bw_store::{StoreFault, blow};
 
 /// A journal with fuses: the calls of chosen numbers, counted from 0, fail, each once.

@@ -11,9 +11,8 @@ ghost use Rattle.bw_journal.specs.Seals.{check as check_of};
 
 use crate::line::{END, before_zero};
 use crate::seal::{check, is_check};
-use bw_bytes::read_u32;
 use bw_layout::Limit;
-use bw_request::Name;
+use bw_model::{Name, read_u32};
 
 /// The first four bytes of a journal.
 const MAGIC: [u8; 4] = *b"BWJ2";

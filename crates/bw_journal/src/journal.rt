@@ -7,7 +7,7 @@ ghost use Rattle.bw_journal.specs.JournalHeaders.{Header};
 ghost use Rattle.bw_journal.specs.Notes.{BeginsNotes, BeginsInPart, Notes, NotesInPart};
 ghost use Rattle.bw_journal.specs.Notes.{KeepsHeaders};
 
-use bw_request::Name;
+use bw_model::Name;
 use bw_store::StoreFault;
 
 /// Bytes by name that begin with a header and grow at their end.

@@ -16,7 +16,7 @@ ghost use Rattle.bw_journal.specs.MemoryHeaders.{header_for};
 use crate::header::{JournalHeader, is_torn};
 use crate::journal::Journal;
 use bw_layout::Limit;
-use bw_request::Name;
+use bw_model::Name;
 use bw_store::StoreFault;
 use std::alloc::{AllocError, Global};
 use std::collections::BTreeMap;

@@ -3,14 +3,14 @@ ghost use Rattle.std.specs.Prelude.{◌≡◌, ◌+◌, ◌≤◌, ◌++◌, IsT
 ghost use Rattle.bw_model.specs.Limits.{longest_history};
 ghost use Rattle.bw_model.specs.Wire.{is_request};
 ghost use Rattle.bw_layout.specs.AppendedBytes.{Appends, Gains};
-ghost use Rattle.bw_request.specs.Requests.{meaning};
-ghost use Rattle.bw_request.specs.Verdicts.{verdict_meaning};
+ghost use Rattle.bw_model.specs.Requests.{meaning};
+ghost use Rattle.bw_model.specs.VerdictMeanings.{verdict_meaning};
 ghost use Rattle.bw_journal.specs.Entries.{JournalEntry, noted as noted_of, noted_payload};
 ghost use Rattle.bw_journal.specs.Entries.{content as content_of, sealed_entry, longest_entry};
 ghost use Rattle.bw_journal.specs.Seals.{check as check_of};
 
 use crate::seal::{check, push, stuff_from};
-use bw_request::{RequestRef, Verdict};
+use bw_model::{RequestRef, Verdict};
 use bw_wire::{kind, put_payload};
 use std::alloc::{AllocError, Global};
 

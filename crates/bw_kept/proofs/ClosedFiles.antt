@@ -10,7 +10,8 @@ use Rattle.bw_disk.specs.declared.disk.Disk.{Ghosts}
 use Rattle.bw_folder.specs.Folders.{take_path}
 use Rattle.bw_folder.specs.Journals.{existence_of, known_but}
 use Rattle.bw_folder.specs.TakeFolders.{takes_disk, take_in_folder}
-use Rattle.bw_folder.specs.JournalFolders.{journals_disk, journals_folder, journals_limit, noted_in_folder, header_in_folder, open_journals}
+use Rattle.bw_folder.specs.JournalFolders.{journals_disk, journals_folder, journals_limit, noted_in_folder}
+use Rattle.bw_folder.specs.JournalFolders.{header_in_folder, open_journals}
 use Rattle.bw_folder.specs.declared.folder.FolderStore.{FolderStore}
 use Rattle.bw_folder.specs.declared.journal.FolderJournal.{FolderJournal}
 use Rattle.bw_session.specs.SeenServers.{session_kept}

@@ -1,5 +1,6 @@
 -- What comes of making room in a table, of recovering a name, and of finding one.
-use Rattle.std.specs.Prelude.{◌≡◌, ℕ, Bool, true, false, Option, None, Result, Ok, Err, IsTrue, IsSome, List}
+use Rattle.std.specs.Prelude.{◌≡◌, ℕ, Bool, true, false, Option, None, Result, Ok, Err, IsTrue, IsSome}
+use Rattle.std.specs.Prelude.{List}
 use Rattle.bw_model.specs.Book.{Book, log_of}
 use Rattle.bw_store.specs.declared.store.TakeStore.{Ghosts as StoreGhosts}
 use Rattle.bw_disk.specs.declared.disk.Disk.{Ghosts as DiskGhosts}

@@ -1,5 +1,6 @@
 -- The book of a folder of whose names only some are in a server's table.
-use Rattle.std.specs.Prelude.{◌≡◌, ◌⊎◌, ◌<◌, ◌^◌, ◌||◌, ◌+◌, ◌*◌, ℕ, Bool, true, false, not, Option, Some, None}
+use Rattle.std.specs.Prelude.{◌≡◌, ◌⊎◌, ◌<◌, ◌^◌, ◌||◌, ◌+◌, ◌*◌, ℕ, Bool, true, false, not, Option, Some}
+use Rattle.std.specs.Prelude.{None}
 use Rattle.std.specs.Prelude.{IsTrue, IsSome, List, length, Ok}
 use Rattle.std.specs.Str.{bytes_eq}
 use Rattle.bw_model.specs.Wire.{is_name, Second, last_number}

@@ -1,5 +1,6 @@
 -- A server's turns over a folder of whose names only some are in its table.
-use Rattle.std.specs.Prelude.{◌≡◌, ◌≢◌, ◌⊎◌, ℕ, Bool, true, false, not, Option, None, is_some, IsTrue, IsSome, List}
+use Rattle.std.specs.Prelude.{◌≡◌, ◌≢◌, ◌⊎◌, ℕ, Bool, true, false, not, Option, None, is_some, IsTrue}
+use Rattle.std.specs.Prelude.{IsSome, List}
 use Rattle.bw_model.specs.Counts.{Counts}
 use Rattle.bw_model.specs.Wire.{Frame, is_name}
 use Rattle.bw_model.specs.Replies.{Reply}

@@ -9,7 +9,8 @@ use Rattle.bw_recovery.specs.Names.{name_fault}
 use Rattle.bw_recovery.specs.Findings.{RefusesName, IsRestored}
 use Rattle.bw_folder.specs.Folders.{names_but}
 use Rattle.bw_folder.specs.Journals.{known_but}
-use Rattle.bw_folder.specs.TakeFolders.{takes_folder, takes_calls, takes_failures, open_takes, take_in_folder}
+use Rattle.bw_folder.specs.TakeFolders.{takes_folder, takes_calls, takes_failures, open_takes}
+use Rattle.bw_folder.specs.TakeFolders.{take_in_folder}
 use Rattle.bw_folder.specs.JournalFolders.{journals_failures, open_journals, noted_in_folder, SameSettings}
 use Rattle.bw_folder.specs.RecoveredNames.{ChangesName, StaysLeftIn}
 use Rattle.bw_folder.specs.declared.folder.FolderStore.{FolderStore}

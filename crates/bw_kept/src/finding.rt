@@ -13,7 +13,7 @@ use crate::room::{Leaving, Room, drop_any, drop_oldest, room_after};
 use bw_disk::Volume;
 use bw_folder::{FolderJournal, FolderStore};
 use bw_journal::Journal;
-use bw_request::Name;
+use bw_model::Name;
 use bw_session::{KeptTake, Server};
 use bw_store::TakeStore;
 use std::alloc::Global;

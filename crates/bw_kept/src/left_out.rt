@@ -3,8 +3,8 @@ ghost use Rattle.std.specs.Prelude.{◌≡◌, ◌≤◌, [], ◌∷◌, IfOk, M
 ghost use Rattle.bw_kept.specs.LeftOutNames.{is_waiting, with_left_out};
 
 use crate::uses::Uses;
+use bw_model::Name;
 use bw_recovery::NameFault;
-use bw_request::Name;
 use std::alloc::{AllocError, Global};
 
 /// How many may wait for their report.

@@ -13,7 +13,7 @@ use crate::visiting::{Closing, Recovering};
 use bw_disk::Volume;
 use bw_folder::{FolderJournal, FolderStore};
 use bw_journal::Journal;
-use bw_request::Name;
+use bw_model::Name;
 use bw_session::Server;
 use bw_session::laws::law_outside;
 use bw_store::TakeStore;

@@ -12,7 +12,7 @@ use crate::recovering::close_files;
 use bw_disk::Volume;
 use bw_folder::{FolderJournal, FolderStore};
 use bw_journal::Journal;
-use bw_request::Name;
+use bw_model::Name;
 use bw_session::Server;
 use bw_store::TakeStore;
 use std::alloc::Global;

@@ -5,7 +5,7 @@ ghost use Rattle.std.specs.Str.{bytes_eq};
 ghost use Rattle.bw_kept.specs.LeftOutNames.{is_among};
 ghost use Rattle.bw_kept.specs.UseOrder.{with_place, with_use, is_last};
 
-use bw_request::Name;
+use bw_model::Name;
 use std::alloc::AllocError;
 
 /// How many names are kept: twice as many as a server takes, since some of them may have left its

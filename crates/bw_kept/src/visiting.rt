@@ -11,7 +11,7 @@ use crate::delay::Delay;
 use crate::recovery::{RecoverFault, Recovered, recover};
 use bw_disk::{ReadFault, Volume};
 use bw_folder::{FolderJournal, FolderStore, shows_alike};
-use bw_request::Name;
+use bw_model::Name;
 use bw_session::StoresVisitor;
 use std::alloc::Global;
 

@@ -6,7 +6,7 @@ ghost use Rattle.bw_layout.specs.AppendedBytes.{Gains, Appends};
 ghost use Rattle.bw_layout.specs.Heads.{chunk_head};
 
 use crate::push::{push_bytes, push_u32};
-use bw_bytes::{read_id, read_u32};
+use bw_model::{read_id, read_u32};
 use std::alloc::{AllocError, Global};
 use std::error::Error;
 use std::fmt;

@@ -16,7 +16,7 @@ mod raw;
 mod sizes;
 
 pub use broadcast::{Bext, put_bext};
-pub use bw_bytes::{read_id, read_u16, read_u32, read_u64};
+pub use bw_model::{read_id, read_u16, read_u32, read_u64};
 pub use chunk::{ChunkHead, ChunkId, Short, put_head, read_head};
 pub use cues::{CuePoint, put_cue_chunk, put_cues};
 pub use field::FieldError;

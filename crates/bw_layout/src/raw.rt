@@ -5,7 +5,7 @@ ghost use Rattle.bw_model.specs.Report.{raw_fmt};
 ghost use Rattle.bw_layout.specs.Raw.{raw_cue, bext_at, levels_at};
 
 use crate::chunk::Short;
-use bw_bytes::{read_u16, read_u32, read_u64};
+use bw_model::{read_u16, read_u32, read_u64};
 use std::marker::Model;
 
 /// A `fmt ` chunk for PCM (RIFF, chapter 3, "WAVE").

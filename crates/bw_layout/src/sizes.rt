@@ -9,7 +9,7 @@ ghost use Rattle.bw_layout.specs.Tables.{entry_bytes, ds64_with_table, entry_at,
 
 use crate::chunk::{ChunkId, Short};
 use crate::push::{push_bytes, push_u32, push_u64};
-use bw_bytes::{read_id, read_u32, read_u64};
+use bw_model::{read_id, read_u32, read_u64};
 use std::alloc::{AllocError, Global};
 use std::marker::Model;
 

@@ -12,8 +12,8 @@ use Rattle.bw_folder.specs.declared.journal.FolderJournal.{FolderJournal}
 use Rattle.bw_journal.specs.declared.journal.Journal.{Ghosts as JournalGhosts}
 use Rattle.bw_kept.specs.KeptCommits.{failed_sync_of}
 use Rattle.bw_kept.specs.LeftFolders.{KnowsNone}
-use Rattle.bw_lock.specs.declared.folder_locks.LockRefusal.{LockRefusal}
-use Rattle.bw_lock.specs.declared.folder_locks.LockRefusal.TheVariants as locks
+use Rattle.bw_ports.specs.declared.folder_locks.LockRefusal.{LockRefusal}
+use Rattle.bw_ports.specs.declared.folder_locks.LockRefusal.TheVariants as locks
 use Rattle.bw_ports.specs.declared.starts.StartRefusal.{StartRefusal}
 use Rattle.bw_ports.specs.declared.starts.StartRefusal.TheVariants as refusals
 use Rattle.bw_recovery.specs.FoundNames.{ListsJournals}

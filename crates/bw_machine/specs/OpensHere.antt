@@ -6,7 +6,7 @@ use Rattle.bw_folder.specs.declared.journal.FolderJournal.{FolderJournal}
 use Rattle.bw_journal.specs.declared.journal.Journal.{Ghosts as JournalGhosts}
 use Rattle.bw_kept.specs.KeptServers.{table_server}
 use Rattle.bw_kept.specs.declared.keeping.KeptServer.{KeptServer}
-use Rattle.bw_lock.specs.declared.folder_locks.LockRefusal.{LockRefusal}
+use Rattle.bw_ports.specs.declared.folder_locks.LockRefusal.{LockRefusal}
 use Rattle.bw_machine.specs.KeptOpenings.{BeginsOver, CountsJournals, IsServerOver, IsRefusedUnder}
 use Rattle.bw_machine.specs.SeenMachine.{lock_kept}
 use Rattle.bw_machine.specs.declared.network.TcpNetwork.{TcpNetwork}

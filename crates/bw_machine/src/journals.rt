@@ -1,9 +1,9 @@
 //! Whether an earlier server kept journals in a folder.
 use bw_disk::{ReadFault, SystemDisk, Volume};
+use bw_model::Name;
 use bw_net::NotedFiles;
 use bw_ports::StartRefusal;
 use bw_recovery::list_names;
-use bw_request::Name;
 use std::alloc::{AllocError, Global};
 use std::fs;
 use std::io::ErrorKind;

@@ -3,7 +3,7 @@ ghost use Rattle.std.specs.Prelude.{◌≡◌, Ok, IfOk, IfErr, MatchResult, Res
 ghost use Rattle.bw_disk.specs.DiskSteps.{StaysWhole};
 ghost use Rattle.bw_kept.specs.KeptServers.{table_server};
 ghost use Rattle.bw_kept.specs.LeftFolders.{KnowsNone};
-ghost use Rattle.bw_lock.specs.declared.folder_locks.LockRefusal.{LockRefusal as Refusal};
+ghost use Rattle.bw_ports.specs.declared.folder_locks.LockRefusal.{LockRefusal as Refusal};
 ghost use Rattle.bw_machine.specs.KeptOpenings.{CountsJournals, HasDisks, IsServerOver};
 ghost use Rattle.bw_machine.specs.KeptOpenings.{IsRefusedUnder, refusal_by, refusal_by_fault};
 ghost use Rattle.bw_machine.specs.OpensHere.{OpensOver};
@@ -13,8 +13,7 @@ use bw_folder::{FolderJournal, FolderStore};
 use bw_journal::Journal;
 use bw_kept::KeptServer;
 use bw_layout::Limit;
-use bw_lock::{FolderLocks, LockRefusal};
-use bw_ports::StartRefusal;
+use bw_ports::{FolderLocks, LockRefusal, StartRefusal};
 use bw_recovery::list_names;
 use bw_serve::OpenedServer;
 use bw_session::Server;

@@ -4,15 +4,14 @@ ghost use Rattle.std.specs.Duration.{as_nanos};
 ghost use Rattle.bw_folder.specs.TakeFolders.{takes_folder, takes_retry};
 
 use crate::journals::refuse_journals;
-use bw_causes::CauseCell;
+use bw_console::CauseCell;
 use bw_disk::SystemDisk;
 use bw_folder::FolderStore;
-use bw_log::{EventLog, started_line};
 use bw_net::{
     FolderLock, LineCell, NotedFiles, SpoolCell, TcpDial, TcpPeers, TcpReactor, check_folder,
 };
-use bw_pace::PacedNetwork;
-use bw_ports::{ListenerSetup, Network, StartRefusal};
+use bw_operators::{EventLog, started_line};
+use bw_ports::{ListenerSetup, Network, PacedNetwork, StartRefusal};
 use std::alloc::Global;
 use std::io;
 use std::net::{SocketAddr, TcpListener};

@@ -2,9 +2,9 @@
 //! Not stated: that a line is said for each.
 use bw_journal::Journal;
 use bw_layout::Fmt;
-use bw_log::{comes_about, take_closed_line, take_opened_line, take_refused_line};
+use bw_model::{Name, RequestRef, Verdict};
 use bw_net::NotedFiles;
-use bw_request::{Name, RequestRef, Verdict};
+use bw_operators::{comes_about, take_closed_line, take_opened_line, take_refused_line};
 use bw_session::{HasTable, Server};
 use bw_store::TakeStore;
 use bw_wire::{Message, Reply};

@@ -5,7 +5,8 @@ use Rattle.bw_model.specs.Wire.{Frame, Says, Second, decoded, decoded_request, f
 use Rattle.bw_model.specs.Wire.{Kind, Name, Number, Payload, Cut}
 use Rattle.bw_model.specs.Replies.{Judged, Noticed, Refused, Held, Next, decoded_reply}
 use Rattle.bw_model.specs.Stream.{EndOfInput, BadFrame}
-use Rattle.bw_model.specs.ExampleWords.{hex, empty_file, a1, open_0, judged_example, says, AnswersWith, outcome}
+use Rattle.bw_model.specs.ExampleWords.{hex, empty_file, a1, open_0, judged_example, says, AnswersWith}
+use Rattle.bw_model.specs.ExampleWords.{outcome}
 
 -- a length of 0 is a bad frame, at the place of its first length byte
 abbrev pub ZeroLengthExample : Type 0

@@ -1,5 +1,6 @@
 -- Which failed calls of a server's store are reported, and how.
-use Rattle.std.specs.Prelude.{◌++◌, ◌/◌, [], ◌∷◌, ℕ, nat_le, Bool, true, false, List, Option, Some, None, codes}
+use Rattle.std.specs.Prelude.{◌++◌, ◌/◌, [], ◌∷◌, ℕ, nat_le, Bool, true, false, List, Option, Some, None}
+use Rattle.std.specs.Prelude.{codes}
 use Rattle.std.specs.Duration.{as_nanos}
 use Rattle.std.specs.declared.io.ErrorKind.{ErrorKind}
 use Rattle.std.specs.declared.io.ErrorKind.TheVariants as kinds

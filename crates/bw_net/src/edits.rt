@@ -4,7 +4,7 @@ ghost use Rattle.std.specs.Prelude.{◌≡◌, None};
 use crate::counting::counted;
 use crate::host::open_source;
 use crate::recordings::HostRecordings;
-use bw_edit::EditedFiles;
+use bw_ports::EditedFiles;
 use bw_stream::SeekSource;
 use std::fs::{File, OpenFile, OpenOptions};
 use std::io::{self, Seek, SeekFrom, Write};

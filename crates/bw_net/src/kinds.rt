@@ -1,9 +1,9 @@
 //! What is at a path, by what std reports of it.
 ghost use Rattle.std.specs.Prelude.{◌≡◌, ◌≢◌};
 ghost use Rattle.std.specs.Fs.{IsDir, IsFile, file_type};
-ghost use Rattle.bw_kind.specs.declared.kind.FileKind.TheVariants as kinds;
+ghost use Rattle.bw_ports.specs.declared.file_kind.FileKind.TheVariants as kinds;
 
-use bw_kind::FileKind;
+use bw_ports::FileKind;
 use std::fs::{File, FileType, Metadata};
 use std::io::{self, ErrorKind};
 use std::os::unix::fs::FileTypeExt;

@@ -1,6 +1,6 @@
 //! The lock of a server's folder.
 use crate::kinds::without_pipes;
-use bw_lock::LockRefusal;
+use bw_ports::LockRefusal;
 use std::alloc::Global;
 use std::fs::{File, OpenOptions, TryLockError};
 use std::io;

@@ -2,7 +2,7 @@
 use crate::counting::counted;
 use crate::lock::FolderLock;
 use crate::recordings::HostRecordings;
-use bw_lock::{FolderLocks, LockRefusal};
+use bw_ports::{FolderLocks, LockRefusal};
 
 /// The lock that a server with journals takes.
 ///

@@ -1,7 +1,7 @@
 //! A stream whose failed calls are noted.
 ghost use Rattle.std.specs.Prelude.{◌≡◌};
 
-use bw_causes::{CauseCell, cause_of};
+use bw_console::{CauseCell, cause_of};
 use std::io::{self, Read, Write};
 
 /// A stream to a server that notes why a call of it failed. No clause says which bytes it gives and

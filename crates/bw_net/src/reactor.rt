@@ -6,7 +6,7 @@ ghost use Rattle.mio.specs.Event.{is_writable, is_write_closed};
 use crate::folder::has_folder;
 use crate::lines::LineCell;
 use crate::socket::Socket;
-use bw_log::begun_line;
+use bw_operators::begun_line;
 use bw_ports::{Accepted, Reactor, Ready, TryAcceptFault, WaitFault};
 use mio::event::Event;
 use mio::net::{TcpListener, TcpStream};

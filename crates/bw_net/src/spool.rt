@@ -1,7 +1,7 @@
 //! The spool of standard input, and waits during which it is filled.
 use crate::input::{INPUT_TOKEN, InputLink, watch_again, watch_input};
 use crate::spool_file::SpoolFile;
-use bw_spool::{Drawn, Spool, SpoolState};
+use bw_ports::{Drawn, Spool, SpoolState};
 use mio::net::TcpStream;
 use mio::{Events, Interest, Poll, Token};
 use std::cell::RefCell;
@@ -23,7 +23,7 @@ const BETWEEN_LOOKS: u64 = 100;
 /// The spool of the process, if it has one. All parts of a sender that wait share it, and fill it
 /// while they do: so no writer into standard input waits for the link.
 ///
-/// No clause says what it holds. That its file has what came, in order, is proved of `bw_spool::Spool`
+/// No clause says what it holds. That its file has what came, in order, is proved of `bw_ports::Spool`
 /// over every link and every file.
 #[derive(Drop)]
 pub struct SpoolCell {

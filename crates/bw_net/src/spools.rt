@@ -4,7 +4,7 @@ ghost use Rattle.std.specs.Prelude.{⊤};
 use crate::recordings::HostRecordings;
 use crate::spool::SpoolCell;
 use crate::states::{begin_file, first_bytes};
-use bw_spool::{Hold, SpoolKeeper, SpoolKeeping, hold_for};
+use bw_ports::{Hold, SpoolKeeper, SpoolKeeping, hold_for};
 use std::fs::{self, File, OpenOptions, TryLockError};
 use std::io::{self, Error, ErrorKind};
 

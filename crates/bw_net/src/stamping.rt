@@ -1,7 +1,7 @@
 //! Lines that begin with their time.
 ghost use Rattle.std.specs.Prelude.{◌≡◌, ◌++◌, IfOk};
 
-use bw_log::time_text;
+use bw_operators::time_text;
 use bw_stream::{IoFailed, Sink, write_all};
 use std::alloc::{AllocError, Global};
 use std::time::{SystemTime, UNIX_EPOCH};

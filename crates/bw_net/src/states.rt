@@ -4,7 +4,7 @@ ghost use Rattle.std.specs.Fs.{new_options, with_append, with_create, with_read,
 
 use crate::counting::counted;
 use crate::kinds::without_pipes;
-use bw_resume::{StateFiles, StateLog};
+use bw_ports::{StateFiles, StateLog};
 use std::fs::{File, OpenOptions};
 use std::io::{self, ErrorKind, Read, Write};
 use std::path::Path;

@@ -1,7 +1,7 @@
 //! How much time has passed, by the clock of the system.
 ghost use Rattle.std.specs.Prelude.{◌≡◌};
 
-use bw_resume::Stopwatch;
+use bw_ports::Stopwatch;
 use std::time::{Clock, Instant};
 
 /// Measures time by the clock of a runtime.

@@ -1,3 +1,4 @@
 pub mod ConnectedLemmas
 pub mod PlacedLemmas
 pub mod SilentLemmas
+pub mod Calendar

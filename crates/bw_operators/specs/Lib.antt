@@ -2,3 +2,8 @@ pub mod Places
 pub mod OperatorConnections
 pub mod Steps
 pub mod OperatorPlaces
+pub mod Dates
+pub mod Times
+pub mod Events
+pub mod EventLines
+pub mod ExampleTimes

@@ -1,11 +1,24 @@
-//! Connections of operators, who ask what a server is doing: each gives a request, takes the response
-//! and is closed. No sockets, and no server.
-//! Not stated: links whose bytes aren't known, such as sockets; that the peer learns of the end.
+//! What operators see of a server: its log, whose lines begin with the time, and connections that ask
+//! what it is doing, each of which gives a request, takes the response and is closed. No sockets, and
+//! no server.
+//! Not stated: what time it is; links whose bytes aren't known, such as sockets; that the peer learns
+//! of the end.
 #![tactic(auto)]
 
 mod connection;
+mod log_choice;
+mod log_events;
+pub mod log_laws;
+mod log_lines;
+mod log_stamp;
 mod operators;
 mod port;
 
+pub use log_choice::EventLog;
+pub use log_events::comes_about;
+pub use log_lines::{
+    begun_line, started_line, take_closed_line, take_opened_line, take_refused_line,
+};
+pub use log_stamp::time_text;
 pub use operators::{OPERATORS, Operators};
 pub use port::{StatusPort, StatusSetup};

@@ -6,3 +6,4 @@ pub mod Drawings
 pub mod Fits
 pub mod TimeTexts
 pub mod Pages
+pub mod Pictures

@@ -1,8 +1,11 @@
 -- The worked rows compute.
 use Rattle.std.proofs.Common.{refl}
 use Rattle.bw_plan.proofs.Computing.{computing}
-use Rattle.bw_plan.specs.ExamplesOfPlans.{SmallPlanExample, LargeBlockPlanExample, CuePlanExample, ExtensiblePlanExample, TextPlanExample, DatePlanExample, TimePlanExample}
-use Rattle.bw_plan.specs.ExamplesOfPlans.{SettingsPlanExample, RefusedPlanExample, SettingTextPlanExample, BadSettingPlanExample, PcmPlanExample, RefusedPcmExample}
+use Rattle.bw_plan.specs.ExamplesOfPlans.{SmallPlanExample, LargeBlockPlanExample, CuePlanExample}
+use Rattle.bw_plan.specs.ExamplesOfPlans.{ExtensiblePlanExample, TextPlanExample, DatePlanExample}
+use Rattle.bw_plan.specs.ExamplesOfPlans.{TimePlanExample}
+use Rattle.bw_plan.specs.ExamplesOfPlans.{SettingsPlanExample, RefusedPlanExample, SettingTextPlanExample}
+use Rattle.bw_plan.specs.ExamplesOfPlans.{BadSettingPlanExample, PcmPlanExample, RefusedPcmExample}
 
 pub small : SmallPlanExample
 unfolding computing

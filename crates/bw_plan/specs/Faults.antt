@@ -5,7 +5,8 @@ use Rattle.bw_plan.specs.Recordings as recording
 use Rattle.bw_plan.specs.declared.fault.RecordingKind.{RecordingKind}
 use Rattle.bw_plan.specs.declared.fault.RecordingKind.TheVariants.{Unread, Foreign, Float, NotPcm, Bits}
 use Rattle.bw_plan.specs.declared.fault.RecordingKind.TheVariants.{ValidBits, Align, Rate, Channels}
-use Rattle.bw_plan.specs.declared.fault.RecordingKind.TheVariants.{PartFrame, Empty, Short, Unclean, TooLong}
+use Rattle.bw_plan.specs.declared.fault.RecordingKind.TheVariants.{PartFrame, Empty, Short, Unclean}
+use Rattle.bw_plan.specs.declared.fault.RecordingKind.TheVariants.{TooLong}
 use Rattle.bw_plan.specs.declared.fault.RecordingFault.{RecordingFault}
 
 -- the name of a kind, as it is printed

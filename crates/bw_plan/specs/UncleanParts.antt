@@ -1,5 +1,6 @@
 -- What of a file would be cleaned first, where nothing may be.
-use Rattle.std.specs.Prelude.{ℕ, suc, is_none, List, [], ◌∷◌, length, nat_le, nat_lt, slice_index_or, if◌then◌else◌}
+use Rattle.std.specs.Prelude.{ℕ, suc, is_none, List, [], ◌∷◌, length, nat_le, nat_lt, slice_index_or}
+use Rattle.std.specs.Prelude.{if◌then◌else◌}
 use Rattle.std.specs.List.{prefix_len}
 use Rattle.bw_model.specs.Limits.{longest_history}
 use Rattle.bw_model.specs.Take.{is_printable, is_history_byte, field_fault}

@@ -8,7 +8,7 @@ ghost use Rattle.bw_plan.specs.CleanedContents.{printable_byte as printable_byte
 ghost use Rattle.bw_plan.specs.CleanedContents.{is_like as is_text_like, with_separators as separated};
 ghost use Rattle.bw_plan.specs.CleanedContents.{is_separator as is_separator_byte, is_like_at, placed};
 
-use bw_request::LONGEST_HISTORY;
+use bw_model::LONGEST_HISTORY;
 use std::alloc::{AllocError, Global};
 
 /// The bytes before the first zero byte.

@@ -9,7 +9,7 @@ ghost use Rattle.bw_plan.specs.Recordings.{bext_texts};
 use crate::cleaning::text_before_zero;
 use bw_inspect::BextChunk;
 use bw_layout::{Bext, RawBext};
-use bw_request::LONGEST_HISTORY;
+use bw_model::LONGEST_HISTORY;
 
 /// Whether nothing of a `bext` chunk and its coding history has to be cleaned.
 pub(crate) fn is_bext_kept(bext: &Option<BextChunk>, history: &[u8]) -> bool

@@ -12,7 +12,7 @@ use crate::block_reader::zeros;
 use crate::recording::find_chunk;
 use bw_inspect::{InspectFault, InspectKind, ListedChunk, Report, read_at, skip_at};
 use bw_layout::ChunkId;
-use bw_request::LONGEST_HISTORY;
+use bw_model::LONGEST_HISTORY;
 use bw_stream::Source;
 use std::alloc::Global;
 

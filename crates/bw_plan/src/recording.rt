@@ -21,7 +21,7 @@ use crate::outline::Outline;
 use crate::unclean::{UncleanPart, unclean_bext};
 use bw_inspect::{InspectKind, ListedChunk, Report};
 use bw_layout::{ChunkId, Fmt, RawFmt};
-use bw_request::LONGEST_BLOCK;
+use bw_model::LONGEST_BLOCK;
 use std::alloc::{AllocError, Global};
 
 /// A sender has the numbers 0 to 16,777,215.

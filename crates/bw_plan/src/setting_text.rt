@@ -13,7 +13,7 @@ ghost use Rattle.bw_plan.specs.SettingTexts.{level_of, decoded_value, allowed};
 use crate::cleaning::to_vec;
 use crate::kept::{can_set, has_history_bytes};
 use crate::setting::Setting;
-use bw_request::LONGEST_HISTORY;
+use bw_model::LONGEST_HISTORY;
 use hex::FromHexError;
 use std::alloc::{AllocError, Global};
 

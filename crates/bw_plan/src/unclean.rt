@@ -11,7 +11,7 @@ use crate::cleaning::text_before_zero;
 use crate::kept::{can_set, is_history_byte};
 use bw_inspect::BextChunk;
 use bw_layout::RawBext;
-use bw_request::LONGEST_HISTORY;
+use bw_model::LONGEST_HISTORY;
 
 /// What would be cleaned first.
 #[derive(Clone, Copy, Debug, PartialEq, Eq, Hash)]

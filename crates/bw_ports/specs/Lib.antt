@@ -1,3 +1,14 @@
 pub mod NextLinks
 pub mod Links
 pub mod Reactors
+pub mod Rewrites
+pub mod PacedSinks
+pub mod Counts
+pub mod Headers
+pub mod States
+pub mod StateReadings
+pub mod Laws
+pub mod Spools
+pub mod Purposes
+pub mod Kinds
+pub mod Keeping

@@ -1,15 +1,16 @@
 //! The process: what the program does, joined to the system that it runs on.
 #![tactic(auto)]
 
-use bw_causes::CauseCell;
+use bw_console::CauseCell;
 use bw_disk::SystemDisk;
 use bw_machine::{TcpNetwork, Terminal};
 use bw_net::{ClockStopwatch, Host, HostRecordings, LineCell, LineSink, SpoolCell, SpoolPause};
-use bw_one_name::FilteredNetwork;
-use bw_outages::{LastOutage, OutageReports};
 use bw_program::{Outside, start};
-use bw_progress::{ClearingSink, LineHandle, RenewingPause, SendWatch, SharedProgress};
+use bw_progress::{
+    ClearingSink, LastOutage, LineHandle, OutageReports, RenewingPause, SendWatch, SharedProgress,
+};
 use bw_send_file::LinkLog;
+use bw_serve::FilteredNetwork;
 use bw_stream::StdIo;
 use bw_takes::ScreenStyle;
 use std::io::IsTerminal;

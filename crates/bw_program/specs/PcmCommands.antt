@@ -5,10 +5,10 @@ use Rattle.bw_args.specs.declared.recordings.PcmSender.{PcmSender}
 use Rattle.bw_console.specs.declared.exit.Exit.{Exit}
 use Rattle.bw_ports.specs.declared.network.Network.{Ghosts as NetworkGhosts}
 use Rattle.bw_ports.specs.declared.recording_files.RecordingFiles.{Ghosts as FileGhosts}
-use Rattle.bw_keep.specs.Keeping.{HoldsSpool, KeepsUnlessDone}
+use Rattle.bw_ports.specs.Keeping.{HoldsSpool, KeepsUnlessDone}
 use Rattle.bw_program.specs.PcmUploads.{SendsPcm}
 use Rattle.bw_program.specs.Sides.{SenderSide, SpoolSide, UploadSide}
-use Rattle.bw_spool.specs.Purposes.{purpose_text}
+use Rattle.bw_ports.specs.Purposes.{purpose_text}
 
 -- the path of a sender's spool, and the line that it is held for
 abbrev pub spool_path : PcmSender → List ℕ

@@ -10,8 +10,8 @@ use Rattle.bw_ports.specs.declared.recording_files.RecordingFiles.{Ghosts as Fil
 use Rattle.bw_recorder.specs.Packs.{HasPacked, Packing}
 use Rattle.bw_send_file.specs.Sendings.{Ways}
 use Rattle.bw_send_file.specs.declared.job.Recorder.{Recorder}
-use Rattle.bw_send_pcm.specs.PcmSendings.{FollowsFile, IsPcmSent, OpensSamples}
-use Rattle.bw_send_pcm.specs.declared.job.PcmFile.{PcmFile}
+use Rattle.bw_send_file.specs.PcmSendings.{FollowsFile, IsPcmSent, OpensSamples}
+use Rattle.bw_send_file.specs.declared.pcm_job.PcmFile.{PcmFile}
 use Rattle.bw_program.specs.declared.samples.Ending.{Ending}
 use Rattle.bw_program.specs.declared.samples.Ending.TheVariants as endings
 use Rattle.bw_program.specs.Sides.{SenderSide, UploadSide}

@@ -4,7 +4,7 @@ use Rattle.bw_stream.specs.declared.sink.Sink.{Ghosts as Writer}
 use Rattle.bw_console.specs.Outcomes.{Outcome, HasWritten}
 use Rattle.bw_console.specs.Prints.{failures_if}
 use Rattle.bw_console.specs.declared.exit.Exit.{Exit}
-use Rattle.bw_draw.specs.Pictures.{IsDrawing}
+use Rattle.bw_picture.specs.Pictures.{IsDrawing}
 use Rattle.bw_ports.specs.declared.recording_files.RecordingFiles.{Ghosts as FileGhosts}
 
 -- the picture of the recording in the file at this path was printed, as far as it is one

@@ -11,7 +11,8 @@ use Rattle.bw_args.specs.BadValues.{text_of}
 use Rattle.bw_args.specs.declared.CommandLine.{CommandLine}
 use Rattle.bw_args.specs.declared.CommandLine.TheVariants.{Run, BadValue as Bad, Report}
 use Rattle.bw_args.specs.declared.Task.{Task}
-use Rattle.bw_args.specs.declared.Task.TheVariants.{Replay, Inspect, Rehearse, Serve, Send, SendFile, SendPcm}
+use Rattle.bw_args.specs.declared.Task.TheVariants.{Replay, Inspect, Rehearse, Serve, Send, SendFile}
+use Rattle.bw_args.specs.declared.Task.TheVariants.{SendPcm}
 use Rattle.bw_args.specs.declared.Task.TheVariants.{Pack, Picture, InspectFiles, Repair, Takes}
 use Rattle.bw_console.specs.Outcomes.{Outcome, Does, IsOutOfMemory}
 use Rattle.bw_commands.specs.Replays.{IsReplay}

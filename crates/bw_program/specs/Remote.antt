@@ -15,7 +15,7 @@ use Rattle.bw_args.specs.declared.peers.Serve.{Serve}
 use Rattle.bw_console.specs.Outcomes.{Outcome, HasWritten}
 use Rattle.bw_console.specs.Prints.{failures_if}
 use Rattle.bw_console.specs.declared.exit.Exit.{Exit}
-use Rattle.bw_send.specs.Sends.{IsSendRun}
+use Rattle.bw_upload.specs.Sends.{IsSendRun}
 use Rattle.bw_ports.specs.declared.listener_setup.ListenerSetup.{Ghosts as ListenerSetupGhosts}
 use Rattle.bw_ports.specs.declared.network.Network.{Ghosts as NetworkGhosts}
 use Rattle.bw_ports.specs.declared.starts.StartRefusal.{StartRefusal}

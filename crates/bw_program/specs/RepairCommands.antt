@@ -4,8 +4,8 @@ use Rattle.bw_stream.specs.declared.sink.Sink.{Ghosts as Writer}
 use Rattle.bw_console.specs.Outcomes.{Outcome, HasWritten}
 use Rattle.bw_console.specs.Prints.{failures_if}
 use Rattle.bw_console.specs.declared.exit.Exit.{Exit}
-use Rattle.bw_edit.specs.declared.edited_files.EditedFiles.{Ghosts as EditGhosts}
-use Rattle.bw_repair_file.specs.Repairs.{IsRepair}
+use Rattle.bw_ports.specs.declared.edited_files.EditedFiles.{Ghosts as EditGhosts}
+use Rattle.bw_repair.specs.Repairs.{IsRepair}
 
 -- the file at this path was repaired, or its repair was printed, as far as it lacks sizes
 abbrev pub RepairsFile : {F J O E : Type 0} → EditGhosts F J → Writer O → Writer E → List ℕ →

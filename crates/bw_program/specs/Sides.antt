@@ -4,16 +4,16 @@ use Rattle.bw_stream.specs.declared.sink.Sink.{Ghosts as Writer}
 use Rattle.bw_stream.specs.declared.source.Source.{Ghosts as Reader}
 use Rattle.bw_store.specs.declared.store.TakeStore.{Ghosts as StoreGhosts}
 use Rattle.bw_journal.specs.declared.journal.Journal.{Ghosts as JournalGhosts}
-use Rattle.bw_one_name.specs.declared.network.ServeRules.{Ghosts as RuleGhosts}
+use Rattle.bw_serve.specs.declared.filtered_network.ServeRules.{Ghosts as RuleGhosts}
 use Rattle.bw_disk.specs.declared.disk.Disk.{Ghosts as DiskGhosts}
 use Rattle.bw_ports.specs.declared.dial.Dial.{Ghosts as DialGhosts}
 use Rattle.bw_ports.specs.declared.link.Link.{Ghosts as LinkGhosts}
 use Rattle.bw_ports.specs.declared.peers.Peers.{Ghosts as PeerGhosts}
 use Rattle.bw_ports.specs.declared.reactor.Reactor.{Ghosts as ReactorGhosts}
 use Rattle.bw_ports.specs.declared.recording_files.RecordingFiles.{Ghosts as FileGhosts}
-use Rattle.bw_edit.specs.declared.edited_files.EditedFiles.{Ghosts as EditGhosts}
-use Rattle.bw_lock.specs.declared.folder_locks.FolderLocks.{Ghosts as LockGhosts}
-use Rattle.bw_kind.specs.declared.kind.FileKinds.{Ghosts as KindGhosts}
+use Rattle.bw_ports.specs.declared.edited_files.EditedFiles.{Ghosts as EditGhosts}
+use Rattle.bw_ports.specs.declared.folder_locks.FolderLocks.{Ghosts as LockGhosts}
+use Rattle.bw_ports.specs.declared.file_kind.FileKinds.{Ghosts as KindGhosts}
 use Rattle.bw_ports.specs.declared.starts.StartRefusal.{StartRefusal}
 use Rattle.bw_model.specs.Book.{Book}
 use Rattle.bw_model.specs.Wire.{Frame}
@@ -26,12 +26,12 @@ use Rattle.bw_session.specs.declared.server.Server.{Server}
 use Rattle.bw_ports.specs.declared.system.System.{Ghosts as SystemGhosts}
 use Rattle.bw_ports.specs.declared.pause.Pause.{Ghosts as PauseGhosts}
 use Rattle.bw_ports.specs.declared.recording_files.FileStamp.{FileStamp}
-use Rattle.bw_resume.specs.declared.state_files.StateFiles.{Ghosts as StateGhosts}
-use Rattle.bw_resume.specs.declared.state_files.StateLog.{Ghosts as LogGhosts}
+use Rattle.bw_ports.specs.declared.state_files.StateFiles.{Ghosts as StateGhosts}
+use Rattle.bw_ports.specs.declared.state_files.StateLog.{Ghosts as LogGhosts}
 use Rattle.bw_send_file.specs.declared.fault.FeedFault.{FeedFault}
 use Rattle.bw_serve.specs.declared.opening.OpenedServer.{OpenedServer}
 use Rattle.bw_serve_status.specs.Shown.{StatusSide}
-use Rattle.bw_spool.specs.declared.keeper.SpoolKeeper.{Ghosts as KeeperGhosts}
+use Rattle.bw_ports.specs.declared.spool_keeper.SpoolKeeper.{Ghosts as KeeperGhosts}
 use Rattle.bw_upload.specs.declared.feed.Feed.{Ghosts as FeedGhosts}
 
 -- what the states of senders have, and the files that they are kept in

@@ -4,9 +4,9 @@ use Rattle.std.specs.Prelude.{◌≡◌, ◌⊎◌, ℕ, [], ◌∷◌, ◌++◌
 use Rattle.bw_stream.specs.declared.sink.Sink.{Ghosts as Writer}
 use Rattle.bw_console.specs.Prints.{Print, IsOf, IsPrint}
 use Rattle.bw_console.specs.declared.exit.Exit.{Exit}
-use Rattle.bw_kind.specs.Kinds.{IsKindReport, is_odd_kind}
-use Rattle.bw_kind.specs.declared.kind.FileKind.{FileKind}
-use Rattle.bw_kind.specs.declared.kind.FileKinds.{Ghosts as KindGhosts}
+use Rattle.bw_ports.specs.Kinds.{IsKindReport, is_odd_kind}
+use Rattle.bw_ports.specs.declared.file_kind.FileKind.{FileKind}
+use Rattle.bw_ports.specs.declared.file_kind.FileKinds.{Ghosts as KindGhosts}
 
 -- what is reported to a user who types what is sent
 abbrev pub typed_note : List ℕ

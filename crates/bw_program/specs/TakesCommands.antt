@@ -8,8 +8,8 @@ use Rattle.bw_console.specs.Outcomes.{Outcome, HasWritten}
 use Rattle.bw_console.specs.declared.exit.Exit.{Exit}
 use Rattle.bw_disk.specs.DiskSteps.{StaysWhole}
 use Rattle.bw_disk.specs.declared.disk.Disk.{Ghosts as DiskGhosts}
-use Rattle.bw_lock.specs.declared.folder_locks.FolderLocks.{Ghosts as LockGhosts}
-use Rattle.bw_lock.specs.declared.folder_locks.LockRefusal.{LockRefusal}
+use Rattle.bw_ports.specs.declared.folder_locks.FolderLocks.{Ghosts as LockGhosts}
+use Rattle.bw_ports.specs.declared.folder_locks.LockRefusal.{LockRefusal}
 use Rattle.bw_ports.specs.declared.pause.Pause.{Ghosts as PauseGhosts}
 use Rattle.bw_takes.specs.declared.listing.LineStyle.{LineStyle}
 use Rattle.bw_takes.specs.declared.listing.LineStyle.TheVariants.{Words, Json}

@@ -11,9 +11,9 @@ use Rattle.bw_recorder.specs.Packs.{HasPacked, Packing, RunsOutOfMemory}
 use Rattle.bw_recorder.specs.declared.job.RecordingFile.{RecordingFile}
 use Rattle.bw_send_file.specs.FileSendings.{IsFileSent}
 use Rattle.bw_send_file.specs.declared.job.Recorder.{Recorder}
-use Rattle.bw_send_state.specs.FilesSentOn.{Continuation, HasContinued, IsFileSentOn}
-use Rattle.bw_send_state.specs.FilesSentOn.{known_file_of, outside_of, sending_side}
-use Rattle.bw_send_state.specs.declared.job.Job.{Job}
+use Rattle.bw_send_file.specs.FilesSentOn.{Continuation, HasContinued, IsFileSentOn}
+use Rattle.bw_send_file.specs.FilesSentOn.{known_file_of, outside_of, sending_side}
+use Rattle.bw_send_file.specs.declared.resumed_job.Job.{Job}
 use Rattle.bw_program.specs.RecordingCommands.{IsRecordingFile}
 use Rattle.bw_program.specs.Sides.{SenderSide, StateSide, UploadSide}
 

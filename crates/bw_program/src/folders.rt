@@ -5,8 +5,7 @@ ghost use Rattle.bw_program.specs.TakesCommands.{WorksOnTakes, folder_side, fold
 use bw_args::{FolderWork, TakesFolder};
 use bw_console::Exit;
 use bw_disk::Volume;
-use bw_lock::FolderLocks;
-use bw_ports::Pause;
+use bw_ports::{FolderLocks, Pause};
 use bw_stream::Sink;
 use bw_takes::{
     Depth, LineStyle, ReportForm, ScreenStyle, give_up_locked, show_takes, watch_takes,

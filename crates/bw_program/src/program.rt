@@ -22,24 +22,19 @@ use bw_commands::replay::replay;
 use bw_console::print::{give_up, print, print_diagnostic};
 use bw_console::{Exit, Fault, report_bad_argv};
 use bw_disk::Volume;
-use bw_draw::draw_file;
-use bw_edit::EditedFiles;
 use bw_journal::{Journal, NoJournal};
-use bw_kind::FileKinds;
 use bw_layout::Limit;
-use bw_lock::FolderLocks;
-use bw_one_name::ServeRules;
 use bw_operators::StatusSetup;
-use bw_pace::PacedNetwork;
-use bw_ports::{ListenerSetup, Network, Pause, RecordingFiles, System, Watch};
+use bw_picture::draw_file;
+use bw_ports::{
+    EditedFiles, FileKinds, FolderLocks, ListenerSetup, Network, PacedNetwork, Pause,
+    RecordingFiles, SpoolKeeping, StateKeeping, System, Watch,
+};
 use bw_progress::UploadWatch;
 use bw_rehearse::rehearse_with_stops_run;
-use bw_repair_file::repair_file;
-use bw_resume::StateKeeping;
-use bw_send_file::PlanFeed;
-use bw_send_pcm::PcmFeed;
-use bw_serve::Opens;
-use bw_spool::SpoolKeeping;
+use bw_repair::repair_file;
+use bw_send_file::{PcmFeed, PlanFeed};
+use bw_serve::{Opens, ServeRules};
 use bw_stream::{Sink, Source};
 use bw_upload::{Feed, Observer};
 use clap::Error;

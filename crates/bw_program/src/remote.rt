@@ -13,17 +13,16 @@ use bw_console::print::print_diagnostic;
 use bw_exchange::Turns;
 use bw_journal::{Journal, NoJournal};
 use bw_layout::Limit;
-use bw_one_name::ServeRules;
 use bw_operators::StatusSetup;
 use bw_ports::{ListenerSetup, Network, StartRefusal, Watch};
-use bw_send::send_run;
 use bw_serve::{
-    Bounds, Hosting, OpenedServer, Opens, Serving, open_new, report_refusal, serve_at_once,
-    serve_in_turn,
+    Bounds, Hosting, OpenedServer, Opens, ServeRules, Serving, open_new, report_refusal,
+    serve_at_once, serve_in_turn,
 };
 use bw_serve_status::{Showing, serve_shown};
 use bw_session::HasTable;
 use bw_stream::{Sink, Source};
+use bw_upload::send_run;
 use std::alloc::Global;
 
 /// Serves as the command line asks for.

@@ -4,19 +4,18 @@ ghost use Rattle.bw_send_file.specs.FileLooks.{LooksAt};
 ghost use Rattle.bw_program.specs.PcmUploads.{IsPcmFileOf, IsPcmRecorderOf, SendsPcm, awaited_end, file_awaited, most_in_field};
 ghost use Rattle.bw_program.specs.PcmCommands.{SendsBySpool, SendsPcmCommand, spool_line};
 ghost use Rattle.bw_program.specs.Sides.{sender_side, spool_side, upload_side};
-ghost use Rattle.bw_spool.specs.Purposes.{line_of};
+ghost use Rattle.bw_ports.specs.Purposes.{line_of};
 
 use bw_args::PcmSender;
 use bw_console::Exit;
-use bw_keep::{hold_spool, keep_unless_done};
-use bw_pace::PacedNetwork;
 use bw_plan::Pcm;
-use bw_ports::{Network, Pause, RecordingFiles};
+use bw_ports::{
+    Network, PacedNetwork, Pause, Purpose, RecordingFiles, SpoolKeeper, SpoolKeeping, hold_spool,
+    keep_unless_done,
+};
 use bw_progress::{Extent, SamplesSent, UploadWatch};
 use bw_recorder::RecordingFile;
-use bw_send_file::{PlanFeed, Recorder};
-use bw_send_pcm::{PcmFeed, PcmFile, follow_samples, send_samples};
-use bw_spool::{Purpose, SpoolKeeper, SpoolKeeping};
+use bw_send_file::{PcmFeed, PcmFile, PlanFeed, Recorder, follow_samples, send_samples};
 use bw_stream::Sink;
 use bw_upload::{Feed, Observer};
 use std::alloc::Global;

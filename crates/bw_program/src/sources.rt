@@ -10,14 +10,12 @@ use crate::samples::{send_pcm_as, send_pcm_watched};
 use crate::uploads::{send_file_as, send_file_watched};
 use bw_args::{FileSender, PcmSender};
 use bw_console::Exit;
-use bw_kind::{FileKinds, refuse_kind};
-use bw_pace::PacedNetwork;
-use bw_ports::{Network, Pause, RecordingFiles};
+use bw_ports::{
+    FileKinds, Network, PacedNetwork, Pause, RecordingFiles, SpoolKeeping, StateKeeping,
+    refuse_kind,
+};
 use bw_progress::UploadWatch;
-use bw_resume::StateKeeping;
-use bw_send_file::PlanFeed;
-use bw_send_pcm::PcmFeed;
-use bw_spool::SpoolKeeping;
+use bw_send_file::{PcmFeed, PlanFeed};
 use bw_stream::Sink;
 use bw_upload::{Feed, Observer};
 use std::alloc::Global;

@@ -6,3 +6,5 @@ pub mod Displays
 pub mod Pauses
 pub mod Files
 pub mod CountedFrames
+pub mod Outages
+pub mod Repeats

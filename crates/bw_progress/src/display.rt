@@ -9,8 +9,8 @@ ghost use Rattle.bw_progress.specs.Progresses.{begun_progress, counted_at, follo
 use crate::measure::TakeMeasure;
 use crate::progress::UploadProgress;
 use crate::screen::Screen;
-use bw_request::Name;
-use bw_resume::Stopwatch;
+use bw_model::Name;
+use bw_ports::Stopwatch;
 use bw_sender::Sender;
 use bw_upload::LinkEvent;
 use std::alloc::Global;

@@ -1,5 +1,6 @@
 //! The progress of an upload, as one line: what it says, when it is shown again, and who asks for
-//! that. Screens, clocks and files are those of whoever uses it.
+//! that; and why it makes none, as a line on standard error, once for each change. Screens, clocks and
+//! files are those of whoever uses it.
 //! Not stated: what a clock says and a screen shows, and that those who share the line ask for it.
 #![tactic(auto)]
 
@@ -8,8 +9,11 @@ mod laws;
 mod line;
 mod measure;
 mod measuring;
+mod outage;
 mod pause;
 mod progress;
+mod repeats;
+mod reports;
 mod screen;
 mod shared;
 mod sink;
@@ -19,8 +23,11 @@ mod watch;
 pub use laws::law_counted_frames;
 pub use measure::{Extent, TakeMeasure};
 pub use measuring::{measure_file, measure_samples};
+pub use outage::{Outage, outage_after};
 pub use pause::RenewingPause;
 pub use progress::{LinkState, UploadProgress};
+pub use repeats::LastOutage;
+pub use reports::OutageReports;
 pub use screen::{ProgressLine, Screen};
 pub use shared::{LineHandle, SharedProgress};
 pub use sink::ClearingSink;

@@ -10,7 +10,7 @@ ghost use Rattle.bw_progress.specs.Progresses.{speed_after};
 use crate::line::line_of;
 use crate::measure::TakeMeasure;
 use crate::speed::{Mark, Speed};
-use bw_request::Name;
+use bw_model::Name;
 use bw_sender::Sender;
 use bw_upload::{LinkEnd, LinkEvent};
 use std::alloc::{AllocError, Global};

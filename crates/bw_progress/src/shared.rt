@@ -2,8 +2,8 @@
 use crate::display::ProgressDisplay;
 use crate::measure::TakeMeasure;
 use crate::screen::{ProgressLine, Screen};
-use bw_request::Name;
-use bw_resume::Stopwatch;
+use bw_model::Name;
+use bw_ports::Stopwatch;
 use bw_sender::Sender;
 use bw_upload::LinkEvent;
 use std::alloc::Global;

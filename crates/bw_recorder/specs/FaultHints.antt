@@ -1,6 +1,6 @@
 -- What to do about the fault of a recording, as a line below that of the fault.
 use Rattle.std.specs.Prelude.{ℕ, List, [], ◌++◌, Option, Some, None, codes, decimal}
-use Rattle.bw_hints.specs.Hints.{file_hint, format_line}
+use Rattle.bw_inspect.specs.Hints.{file_hint, format_line}
 use Rattle.bw_inspect.specs.declared.fault.InspectKind.{InspectKind}
 use Rattle.bw_inspect.specs.declared.fault.InspectKind.TheVariants.{NotWave}
 use Rattle.bw_inspect.specs.declared.other.OtherFormat.{OtherFormat}

@@ -1,5 +1,6 @@
 -- What is set, from the texts of a command line.
-use Rattle.std.specs.Prelude.{◌≡◌, ◌==◌, ℕ, Bool, not, Option, Some, None, List, [], ◌∷◌, ◌++◌, map, take, codes}
+use Rattle.std.specs.Prelude.{◌≡◌, ◌==◌, ℕ, Bool, not, Option, Some, None, List, [], ◌∷◌, ◌++◌, map, take}
+use Rattle.std.specs.Prelude.{codes}
 use Rattle.std.specs.List.{prefix_len}
 use Rattle.bw_plan.specs.CleanedContents.{printable_byte}
 use Rattle.bw_plan.specs.Recordings.{Setting, Options}

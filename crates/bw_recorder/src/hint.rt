@@ -4,7 +4,7 @@ ghost use Rattle.bw_recorder.specs.FaultHints.{byte_line, float_line, other_form
 
 use crate::warning_text::key;
 use arrayvec::ArrayString;
-use bw_hints::{hint_of, hint_of_format};
+use bw_inspect::{hint_of, hint_of_format};
 use bw_plan::{RecordingFault, RecordingKind, UncleanPart};
 use itoa::Buffer;
 

@@ -9,7 +9,7 @@ ghost use Rattle.bw_recorder.specs.Packs.{IsOptionsReport, ReportsPack, exit_of_
 ghost use Rattle.bw_recorder.specs.Puts.{fault_going_on, GivesNextOf, GivesRequests, HasPut, HasText};
 ghost use Rattle.bw_recorder.specs.Puts.{PutsNoLine, Stands, count_given};
 ghost use Rattle.bw_recorder.specs.RequestLines.{request_hex};
-ghost use Rattle.bw_request.specs.Requests.{meaning};
+ghost use Rattle.bw_model.specs.Requests.{meaning};
 ghost use Rattle.bw_model.specs.Take.{Request};
 ghost use Rattle.bw_console.specs.Text.{as_line};
 ghost use Rattle.bw_recorder.specs.declared.packing.PackFault.{PackFault};
@@ -22,8 +22,8 @@ use crate::settings::read_options;
 use bw_console::print::{give_up, print_diagnostic};
 use bw_console::{Exit, Fault, report_unopened};
 use bw_inspect::{InspectFault, InspectKind};
+use bw_model::RequestRef;
 use bw_ports::RecordingFiles;
-use bw_request::RequestRef;
 use bw_stream::{Sink, Source, write_all};
 use std::alloc::Global;
 

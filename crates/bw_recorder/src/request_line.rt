@@ -2,10 +2,10 @@
 ghost use Rattle.std.specs.Prelude.{◌≡◌, ◌∷◌, ◌++◌, [], length, IfOk, OnOk, IsTrue};
 ghost use Rattle.bw_console.specs.Text.{as_line};
 ghost use Rattle.bw_model.specs.Wire.{is_request, kind as kind_of_request, payload};
-ghost use Rattle.bw_request.specs.Requests.{meaning};
+ghost use Rattle.bw_model.specs.Requests.{meaning};
 ghost use Rattle.bw_recorder.specs.RequestLines.{LinesAreRead, request_hex};
 
-use bw_request::RequestRef;
+use bw_model::RequestRef;
 use bw_wire::{kind, put_payload};
 use std::alloc::{AllocError, Global};
 

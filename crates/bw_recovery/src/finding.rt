@@ -24,7 +24,7 @@ use crate::reading::{FileRead, read_start, read_take};
 use bw_disk::{ReadFault, Volume, read_file};
 use bw_journal::{JOURNAL_MAX, ReplayFault, Replayed, header_limit, replay};
 use bw_layout::Limit;
-use bw_request::Name;
+use bw_model::Name;
 use bw_take::TakeState;
 use std::alloc::Global;
 

@@ -6,7 +6,7 @@ ghost use Rattle.bw_disk.specs.Volumes.{AreDistinct};
 ghost use Rattle.bw_recovery.specs.FoundNames.{ListsJournals, AddsName};
 
 use bw_disk::{ReadFault, Volume};
-use bw_request::Name;
+use bw_model::Name;
 use std::alloc::{AllocError, Global};
 use std::collections::BTreeSet;
 

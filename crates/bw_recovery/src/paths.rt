@@ -3,7 +3,7 @@ ghost use Rattle.std.specs.Prelude.{◌≡◌, IfOk, IfErr, string_bytes};
 ghost use Rattle.bw_recovery.specs.Paths.{path_with};
 
 use bw_disk::ReadFault;
-use bw_request::Name;
+use bw_model::Name;
 use std::alloc::Global;
 
 /// The path of a name's file with this ending in a folder.

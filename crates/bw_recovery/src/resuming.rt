@@ -21,7 +21,7 @@ use crate::mending::mend;
 use crate::paths::path_in;
 use bw_disk::{ReadFault, Volume};
 use bw_journal::Replayed;
-use bw_request::Name;
+use bw_model::Name;
 use std::alloc::Global;
 
 /// Makes journal and file of a name what they are to be, by what was found of it: a torn entry is

@@ -3,11 +3,11 @@ use Rattle.std.proofs.Common.{◌≡◌, ◌≢◌, ℕ, List, ◌++◌, Option,
 use Rattle.std.specs.Prelude.{codes, MatchOption, SomeIff}
 use Rattle.std.proofs.lemmas.List.{append_cancel_left}
 use Rattle.bw_model.specs.World.{Event}
-use Rattle.bw_rehearsal.specs.EventLines.{IsIndexText, SaysEvent, index_written}
-use Rattle.bw_rehearsal.specs.RehearsedWorlds.{event_meaning}
-use Rattle.bw_stops.specs.declared.event.Lives.{Lives}
-use Rattle.bw_stops.specs.declared.event.StopEvent.{StopEvent}
-use Rattle.bw_stops.specs.declared.event.StopEvent.TheVariants as events
+use Rattle.bw_commands.specs.SaidEvents.{IsIndexText, SaysEvent, index_written}
+use Rattle.bw_commands.specs.RehearsedWorlds.{event_meaning}
+use Rattle.bw_rehearse.specs.declared.event.Lives.{Lives}
+use Rattle.bw_rehearse.specs.declared.event.StopEvent.{StopEvent}
+use Rattle.bw_rehearse.specs.declared.event.StopEvent.TheVariants as events
 use Rattle.bw_rehearse.specs.ServerLines.{IsIndexAfter, SaysStart, SaysStartCounting, SaysServerEvent, SaysStopEvent}
 
 -- an index after a word

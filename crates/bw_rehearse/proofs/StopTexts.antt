@@ -5,11 +5,11 @@ use Rattle.bw_model.specs.World.{World}
 use Rattle.bw_console.specs.Input.{longest_input}
 use Rattle.bw_console.specs.Lines.{lines_of}
 use Rattle.bw_commands.specs.Rehearsals.{world_counts_line}
-use Rattle.bw_stops.specs.Machines.{ShowsNext}
-use Rattle.bw_stops.specs.declared.event.StopEvent.{StopEvent}
-use Rattle.bw_stops.specs.declared.machine.Life.{Life}
-use Rattle.bw_stops.specs.declared.machine.Machine.{Machine}
-use Rattle.bw_stops.specs.declared.machine.Machine.TheVariants as machines
+use Rattle.bw_rehearse.specs.Machines.{ShowsNext}
+use Rattle.bw_rehearse.specs.declared.event.StopEvent.{StopEvent}
+use Rattle.bw_rehearse.specs.declared.machine.Life.{Life}
+use Rattle.bw_rehearse.specs.declared.machine.Machine.{Machine}
+use Rattle.bw_rehearse.specs.declared.machine.Machine.TheVariants as machines
 use Rattle.bw_rehearse.specs.ServerLines.{SayStopEvents}
 use Rattle.bw_rehearse.specs.StopTexts.{IsStopsText, IsStopsTextOfLines, progress_text}
 

@@ -1,14 +1,14 @@
 -- Lines as the events of a rehearsal in which servers stop and start.
 use Rattle.std.specs.Prelude.{◌≡◌, ◌⊎◌, ◌==◌, ◌||◌, ℕ, ◌^◌, ◌-◌, Bool, List, ◌++◌, codes}
 use Rattle.std.specs.List.{list_any, starts_with}
-use Rattle.bw_rehearsal.specs.EventLines.{SaysEvent, IsIndex}
-use Rattle.bw_rehearsal.specs.RehearsedWorlds.{event_meaning}
+use Rattle.bw_commands.specs.SaidEvents.{SaysEvent, IsIndex}
+use Rattle.bw_commands.specs.RehearsedWorlds.{event_meaning}
 use Rattle.bw_console.specs.Lines.{SayEach, FirstWithout, lines_of}
 use Rattle.bw_console.specs.declared.fault.Fault.{Fault}
 use Rattle.bw_console.specs.declared.fault.Fault.TheVariants.{NotEvent, Memory}
-use Rattle.bw_stops.specs.declared.event.Lives.{Lives}
-use Rattle.bw_stops.specs.declared.event.StopEvent.{StopEvent}
-use Rattle.bw_stops.specs.declared.event.StopEvent.TheVariants as events
+use Rattle.bw_rehearse.specs.declared.event.Lives.{Lives}
+use Rattle.bw_rehearse.specs.declared.event.StopEvent.{StopEvent}
+use Rattle.bw_rehearse.specs.declared.event.StopEvent.TheVariants as events
 
 -- the line has this word, and an index after it
 abbrev pub IsIndexAfter : List ℕ → List ℕ → ℕ → Type 0

@@ -8,12 +8,12 @@ use Rattle.bw_console.specs.Lines.{lines_of}
 use Rattle.bw_console.specs.Text.{as_line}
 use Rattle.bw_commands.specs.Rehearsals.{world_counts_line, world_progress_line}
 use Rattle.bw_commands.specs.Text.{file_text_if}
-use Rattle.bw_stops.specs.Machines.{takes_at, the_folder}
-use Rattle.bw_stops.specs.Rehearsals.{WasRehearsedWithStops}
-use Rattle.bw_stops.specs.declared.event.StopEvent.{StopEvent}
-use Rattle.bw_stops.specs.declared.machine.Machine.{Machine}
-use Rattle.bw_stops.specs.declared.machine.Machine.TheVariants as machines
-use Rattle.bw_stops.specs.declared.rehearsal.Rehearsed.{Rehearsed}
+use Rattle.bw_rehearse.specs.Machines.{takes_at, the_folder}
+use Rattle.bw_rehearse.specs.Rehearsals.{WasRehearsedWithStops}
+use Rattle.bw_rehearse.specs.declared.event.StopEvent.{StopEvent}
+use Rattle.bw_rehearse.specs.declared.machine.Machine.{Machine}
+use Rattle.bw_rehearse.specs.declared.machine.Machine.TheVariants as machines
+use Rattle.bw_rehearse.specs.declared.rehearsal.Rehearsed.{Rehearsed}
 use Rattle.bw_rehearse.specs.ServerLines.{SayStopEvents}
 
 -- how far the sender got, where no server runs

@@ -11,12 +11,12 @@ ghost use Rattle.bw_rehearse.specs.StopTexts.{IsStopsText, IsStopsTextOfLines};
 
 use crate::events::{has_server_line, stop_events};
 use crate::text::text_of_stops;
+use crate::{StopEvent, rehearse_stops};
 use bw_commands::text_of_rehearsal;
 use bw_console::print::{give_up, print_text};
 use bw_console::{Exit, Fault, all_bytes};
 use bw_layout::Limit;
-use bw_request::Name;
-use bw_stops::{StopEvent, rehearse_stops};
+use bw_model::Name;
 use bw_stream::{Sink, Source};
 use std::alloc::Global;
 

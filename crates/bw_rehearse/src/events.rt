@@ -4,9 +4,9 @@ ghost use Rattle.bw_console.specs.Lines.{lines_of};
 ghost use Rattle.bw_console.specs.Input.{longest_input};
 ghost use Rattle.bw_rehearse.specs.ServerLines.{SayStopEvents, IsStopEventFault, has_servers};
 
+use crate::StopEvent;
 use crate::lines::{is_of_server, stop_event_in};
 use bw_console::{Fault, first_line};
-use bw_stops::StopEvent;
 use std::alloc::Global;
 
 /// The events that the lines of an input say.

@@ -1,12 +1,12 @@
 //! Lines as the events of servers that stop and start.
 ghost use Rattle.std.specs.Prelude.{◌≡◌, ◌==◌, ℕ, IfOk, MatchOption};
 ghost use Rattle.std.specs.List.{starts_with};
-ghost use Rattle.bw_stops.specs.declared.event.StopEvent.{StopEvent as SaidEvent};
+ghost use Rattle.bw_rehearse.specs.declared.event.StopEvent.{StopEvent as SaidEvent};
 ghost use Rattle.bw_rehearse.specs.ServerLines.{IsIndexAfter, SaysServerEvent, SaysStopEvent};
 ghost use Rattle.bw_rehearse.specs.ServerLines.{is_of_server as is_server_line};
 
-use bw_rehearsal::{event_in, following, index};
-use bw_stops::{Lives, StopEvent};
+use crate::{Lives, StopEvent};
+use bw_commands::{event_in, following, index};
 use std::alloc::{AllocError, Global};
 
 /// The event that a line says, if it says one: those of a rehearsal, and `stop`, `start`,

@@ -4,14 +4,14 @@ ghost use Rattle.bw_model.specs.World.{World};
 ghost use Rattle.bw_sender.specs.Senders.{IsSender};
 ghost use Rattle.bw_commands.specs.Text.{file_text_if};
 ghost use Rattle.bw_folder.specs.Folders.{take_content};
-ghost use Rattle.bw_stops.specs.Machines.{ShowsNext, takes_at, the_folder};
-ghost use Rattle.bw_stops.specs.Rehearsals.{WasRehearsedWithStops};
-ghost use Rattle.bw_stops.specs.declared.event.StopEvent.{StopEvent as SaidEvent};
+ghost use Rattle.bw_rehearse.specs.Machines.{ShowsNext, takes_at, the_folder};
+ghost use Rattle.bw_rehearse.specs.Rehearsals.{WasRehearsedWithStops};
+ghost use Rattle.bw_rehearse.specs.declared.event.StopEvent.{StopEvent as SaidEvent};
 ghost use Rattle.bw_rehearse.specs.StopTexts.{IsStopsText, progress_text, stopped_line};
 
+use crate::{Machine, Rehearsed};
 use bw_commands::{put_counts, put_file, put_progress_of};
-use bw_request::Name;
-use bw_stops::{Machine, Rehearsed};
+use bw_model::Name;
 use std::alloc::{AllocError, Global};
 
 /// The outcome in two lines, and then the take's file.

@@ -3,3 +3,5 @@ pub mod Steps
 pub mod Heads
 pub mod SizeLaws
 pub mod Settled
+pub mod Reports
+pub mod Written

@@ -6,3 +6,7 @@ pub mod Steps
 pub mod Near
 pub mod Decisions
 pub mod RepairedFiles
+pub mod Soundnesses
+pub mod Writes
+pub mod Texts
+pub mod Repairs

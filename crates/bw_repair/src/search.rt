@@ -11,8 +11,8 @@ ghost use Rattle.bw_repair.specs.DataHeads.{FindsData, LacksData, entry_of_head,
 ghost use Rattle.bw_repair.specs.Near.{AreNear};
 ghost use Rattle.bw_repair.specs.Steps.{IsOneChunkOn, HaltsAt, PassesAt, RefusesChunk, StepsTo, StopsAt, WalksTo};
 
-use bw_bytes::{read_id, read_u16, read_u32};
 use bw_inspect::{InspectFault, InspectKind, read_at, skip_at};
+use bw_model::{read_id, read_u16, read_u32};
 use bw_stream::{IoFailed, Source};
 
 /// The most chunks that are read before the samples.

@@ -12,7 +12,7 @@ use Rattle.bw_inspect.specs.Faults.{inspect_fault_text}
 use Rattle.bw_inspect.specs.declared.fault.InspectFault.{InspectFault}
 use Rattle.bw_recorder.specs.Packs.{IsOpenReport}
 use Rattle.bw_recorder.specs.declared.fault.OpenFault.TheVariants as opens
-use Rattle.bw_send.specs.SenderText.{sender_text}
+use Rattle.bw_upload.specs.SenderText.{sender_text}
 use Rattle.bw_upload.specs.declared.outcome.Outcome.{Outcome}
 use Rattle.bw_upload.specs.declared.outcome.Outcome.TheVariants as outcomes
 use Rattle.bw_send_file.specs.declared.fault.FeedFault.{FeedFault}

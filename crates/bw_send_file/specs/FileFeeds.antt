@@ -1,5 +1,6 @@
 -- What the feed of a recording's file gives.
-use Rattle.std.specs.Prelude.{◌≡◌, ◌≢◌, true, false, List, [], ◌∷◌, ℕ, Option, Some, Result, Ok, Err, IsTrue}
+use Rattle.std.specs.Prelude.{◌≡◌, ◌≢◌, true, false, List, [], ◌∷◌, ℕ, Option, Some, Result, Ok, Err}
+use Rattle.std.specs.Prelude.{IsTrue}
 use Rattle.bw_model.specs.Take.{Request}
 use Rattle.bw_model.specs.Wire.{is_request}
 use Rattle.bw_model.specs.World.{is_close}

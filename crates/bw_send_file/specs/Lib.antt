@@ -4,3 +4,17 @@ pub mod Sendings
 pub mod FileSendings
 pub mod FileLooks
 pub mod PlanFeeds
+pub mod FollowedReads
+pub mod Samples
+pub mod ComingRequests
+pub mod PcmFeeds
+pub mod PcmSendings
+pub mod SampleFeeds
+pub mod SkippedRequests
+pub mod TakeOpenings
+pub mod Asks
+pub mod NotedCounts
+pub mod FoundCounts
+pub mod StateReports
+pub mod SentOn
+pub mod FilesSentOn

@@ -14,9 +14,8 @@ use bw_console::print::{give_up, print, print_diagnostic};
 use bw_console::{Exit, Fault, report_unopened};
 use bw_inspect::InspectFault;
 use bw_recorder::{OpenFault, report_open_fault};
-use bw_send::text_of_sender;
 use bw_stream::Sink;
-use bw_upload::{Outcome, Uploaded};
+use bw_upload::{Outcome, Uploaded, text_of_sender};
 use itoa::Buffer;
 use std::alloc::Global;
 

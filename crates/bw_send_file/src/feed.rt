@@ -2,16 +2,16 @@
 ghost use Rattle.std.specs.Prelude.{◌≡◌, List, Option, Some, IfOk, IfErr, OnOk};
 ghost use Rattle.bw_model.specs.Take.{Request as Message};
 ghost use Rattle.bw_model.specs.World.{is_close as is_closing};
-ghost use Rattle.bw_request.specs.Requests.{meaning};
+ghost use Rattle.bw_model.specs.Requests.{meaning};
 ghost use Rattle.bw_ports.specs.declared.recording_files.FileStamp.{FileStamp as StampValue};
 ghost use Rattle.bw_send_file.specs.FileFeeds.{AreToCome, FeedState, GivesOfFile, IsLookFault};
 ghost use Rattle.bw_send_file.specs.FileFeeds.{RefusesCopy, fault_reading_on};
 
 use crate::fault::FeedFault;
 use bw_inspect::{InspectFault, InspectKind};
+use bw_model::{Request, RequestRef};
 use bw_plan::Plan;
 use bw_ports::{FileStamp, Stamped};
-use bw_request::{Request, RequestRef};
 use bw_stream::Source;
 use bw_upload::{Feed, Given};
 use std::alloc::Global;

@@ -1,5 +1,5 @@
 //! Who sends.
-use bw_request::Name;
+use bw_model::Name;
 
 /// As which recorder a take is sent.
 #[derive(Clone, Copy)]

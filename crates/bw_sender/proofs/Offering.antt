@@ -2,8 +2,8 @@
 use Rattle.std.proofs.Common.{◌≡◌, ℕ, suc, zero, List, [], ◌∷◌, map, Some, None, sym, ap}
 use Rattle.std.specs.Prelude.{slice_get, slice_set}
 use Rattle.bw_model.proofs.Elements.{some_inj}
-use Rattle.bw_request.specs.Verdicts.{verdict_meaning}
-use Rattle.bw_request.specs.declared.verdict.Verdict.{Verdict}
+use Rattle.bw_model.specs.VerdictMeanings.{verdict_meaning}
+use Rattle.bw_model.specs.declared.verdict.Verdict.{Verdict}
 use Rattle.bw_sender.specs.declared.window.Offered.{Offered}
 use Rattle.bw_sender.specs.Entries.{SenderEntry, judged}
 use Rattle.bw_sender.specs.Offers.{sender_entry}

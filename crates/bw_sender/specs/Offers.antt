@@ -3,7 +3,7 @@ use Rattle.std.specs.Prelude.{ℕ, Option, Some, None, Result, Ok, Err, option_m
 use Rattle.std.specs.Borrow.{Bor}
 use Rattle.bw_model.specs.Take.{Request}
 use Rattle.bw_model.specs.World as model
-use Rattle.bw_request.specs.Verdicts.{verdict_meaning}
+use Rattle.bw_model.specs.VerdictMeanings.{verdict_meaning}
 use Rattle.bw_sender.specs.declared.offer.OfferError.{OfferError}
 use Rattle.bw_sender.specs.declared.offer.OfferError.TheVariants as errors
 use Rattle.bw_sender.specs.declared.window.Offered.{Offered}

@@ -1,8 +1,8 @@
 -- What a sender keeps of the settled requests that aren't stored.
 use Rattle.std.specs.Prelude.{ℕ, List, length, max}
 use Rattle.bw_model.specs.Take as model
-use Rattle.bw_request.specs.Verdicts.{verdict_meaning}
-use Rattle.bw_request.specs.declared.verdict.Verdict.{Verdict}
+use Rattle.bw_model.specs.VerdictMeanings.{verdict_meaning}
+use Rattle.bw_model.specs.declared.verdict.Verdict.{Verdict}
 
 -- a number with its verdict, in the definitions' words
 abbrev pub refusal_of : ℕ × Verdict → ℕ × model.Verdict

@@ -6,7 +6,7 @@ ghost use Rattle.bw_model.specs.Wire.{last_number, Second};
 ghost use Rattle.bw_model.specs.Replies.{Judged, Noticed};
 ghost use Rattle.bw_model.specs.World.{Sender as Defined, settled as settled_of, hear, heard};
 ghost use Rattle.bw_model.specs.World.{offer_fault, has_closed_from, is_open as is_opening_request};
-ghost use Rattle.bw_request.specs.Verdicts.{verdict_meaning};
+ghost use Rattle.bw_model.specs.VerdictMeanings.{verdict_meaning};
 ghost use Rattle.bw_wire.specs.Notices.{notice_meaning};
 ghost use Rattle.bw_sender.specs.Offers.{checked_fault, fault_of};
 ghost use Rattle.bw_sender.specs.HeardReplies.{heard_of};
@@ -16,7 +16,7 @@ use crate::heard::Heard;
 use crate::offer::OfferError;
 use crate::sender::Sender;
 use crate::window::{SLOTS, is_close, is_open};
-use bw_request::{Name, Request, Verdict};
+use bw_model::{Name, Request, Verdict};
 use bw_wire::Notice;
 
 /// How many numbers a take has.

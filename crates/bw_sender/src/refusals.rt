@@ -1,11 +1,11 @@
 //! The settled requests that aren't stored.
 ghost use Rattle.std.specs.Prelude.{◌≡◌, ◌≤◌, ◌<◌, ◌+◌, ◌++◌, ◌∷◌, [], length, map, OnOk, OnErr};
 ghost use Rattle.std.specs.Prelude.{◌⊎◌, IsOk};
-ghost use Rattle.bw_request.specs.Verdicts.{verdict_meaning};
+ghost use Rattle.bw_model.specs.VerdictMeanings.{verdict_meaning};
 ghost use Rattle.bw_sender.specs.RefusedNumbers.{refusal_of, most_room};
 
 use crate::window::SLOTS;
-use bw_request::Verdict;
+use bw_model::Verdict;
 use std::alloc::{AllocError, Global};
 use std::marker::Model;
 

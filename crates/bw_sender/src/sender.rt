@@ -16,7 +16,7 @@ use crate::heard::Heard;
 use crate::offer::OfferError;
 use crate::refusals::Refusals;
 use crate::window::{SLOTS, Window};
-use bw_request::{Name, Request, Verdict};
+use bw_model::{Name, Request, Verdict};
 use bw_wire::Reply;
 use std::alloc::{AllocError, Global};
 

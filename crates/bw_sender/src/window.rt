@@ -5,12 +5,12 @@ ghost use Rattle.std.specs.List.{list_any};
 ghost use Rattle.bw_model.specs.Wire.{Second, last_number};
 ghost use Rattle.bw_model.specs.World.{is_open as is_opening_request};
 ghost use Rattle.bw_model.specs.World.{is_close as is_closing_request};
-ghost use Rattle.bw_request.specs.Verdicts.{verdict_meaning};
+ghost use Rattle.bw_model.specs.VerdictMeanings.{verdict_meaning};
 ghost use Rattle.bw_sender.specs.Entries.{unjudged, judged, is_judged_at, closes};
 ghost use Rattle.bw_sender.specs.Entries.{pending_entries, pending_at};
 ghost use Rattle.bw_sender.specs.Offers.{sender_entry, lent_pending};
 
-use bw_request::{Request, RequestRef, Verdict};
+use bw_model::{Request, RequestRef, Verdict};
 use circular_buffer::HeapCircularBuffer;
 use std::alloc::{AllocError, Global};
 use std::marker::Model;

@@ -13,3 +13,11 @@ pub mod RunSteps
 pub mod AnsweredRuns
 pub mod WrappedRuns
 pub mod WrappedLooks
+pub mod Passing
+pub mod Runs
+pub mod Giving
+pub mod Heads
+pub mod FirstFrames
+pub mod Ends
+pub mod Leaving
+pub mod Connecting

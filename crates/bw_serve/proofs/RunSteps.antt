@@ -9,7 +9,8 @@ use Rattle.bw_stream.specs.declared.sink.Sink.{Ghosts as Writer}
 use Rattle.bw_stream.specs.declared.source.Source.{Ghosts as Reader}
 use Rattle.bw_console.specs.declared.exit.Exit.{Exit}
 use Rattle.bw_console.specs.declared.exit.Exit.TheVariants.{Done, Refused, Usage, Device, Memory}
-use Rattle.bw_serve.specs.ServedAll.{ServedOutcome, Served, Gone, Closed, exit_after_call, exit_now, lacks_sync, ServesNext, ServesEach, ServesAll}
+use Rattle.bw_serve.specs.ServedAll.{ServedOutcome, Served, Gone, Closed, exit_after_call, exit_now}
+use Rattle.bw_serve.specs.ServedAll.{lacks_sync, ServesNext, ServesEach, ServesAll}
 use Rattle.bw_serve.specs.ServedAll.{EndsEarly, ServesRun}
 use Rattle.bw_exchange.specs.declared.turns.NotKept.{NotKept}
 use Rattle.bw_ports.specs.declared.peers.Peers.{Ghosts as PeerGhosts}

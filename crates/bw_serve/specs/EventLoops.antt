@@ -12,7 +12,8 @@ use Rattle.bw_connections.specs.declared.connection.ConnectionEnd.TheVariants as
 use Rattle.bw_ports.specs.declared.link.Link.{Ghosts as LinkGhosts}
 use Rattle.bw_connections.specs.declared.connections.Closed.{Closed}
 use Rattle.bw_connections.specs.declared.connections.Connections.{Connections}
-use Rattle.bw_connections.specs.ConnectionTables.{Adds, KeepsConnections, SetsPlace, HoldsConnectionAt, Tagged}
+use Rattle.bw_connections.specs.ConnectionTables.{Adds, KeepsConnections, SetsPlace, HoldsConnectionAt}
+use Rattle.bw_connections.specs.ConnectionTables.{Tagged}
 use Rattle.bw_connections.specs.ConnectionTables.{all_answered, own, tagged, those}
 use Rattle.bw_connections.specs.Lives.{BeginsConnection, expired_at}
 use Rattle.bw_connections.specs.Places.{begun_of, can_go_on_at, connection_count, end_of_connection}

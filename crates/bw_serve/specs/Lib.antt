@@ -14,3 +14,9 @@ pub mod ServedOne
 pub mod ServedAll
 pub mod Openings
 pub mod Hostings
+pub mod Filters
+pub mod OneName
+pub mod FilteredBytes
+pub mod FilteredNetworks
+pub mod FilteredParts
+pub mod OneNameAnswers

@@ -1,5 +1,6 @@
 -- Rounds of an event loop, one after another.
-use Rattle.std.specs.Prelude.{Result, Ok, Err, ◌≡◌, ◌⊎◌, ℕ, zero, suc, ◌<◌, ◌==◌, Bool, true, false, ◌&&◌, List}
+use Rattle.std.specs.Prelude.{Result, Ok, Err, ◌≡◌, ◌⊎◌, ℕ, zero, suc, ◌<◌, ◌==◌, Bool, true, false, ◌&&◌}
+use Rattle.std.specs.Prelude.{List}
 use Rattle.std.specs.Prelude.{◌≤◌, [], ◌++◌, None, length}
 use Rattle.std.specs.List.{list_any}
 use Rattle.bw_model.specs.Wire.{Frame}
@@ -17,7 +18,8 @@ use Rattle.bw_connections.specs.Places.{begun_of, connection_count, first_free_p
 use Rattle.bw_connections.specs.Quanta.{Wakes}
 use Rattle.bw_serve.specs.Admissions.{AdmitsEach}
 use Rattle.bw_ports.specs.Reactors.{Admission}
-use Rattle.bw_serve.specs.EventLoops.{Grows, WithholdsUnkept, InTurn, IsNew, LetsIn, KeepsEventLoop, can_go_on_in}
+use Rattle.bw_serve.specs.EventLoops.{Grows, WithholdsUnkept, InTurn, IsNew, LetsIn, KeepsEventLoop}
+use Rattle.bw_serve.specs.EventLoops.{can_go_on_in}
 use Rattle.bw_serve.specs.EventLoops.{ended_in_turn, frames_in_turn}
 use Rattle.bw_serve.specs.declared.event_loop.EventLoop.{EventLoop}
 use Rattle.bw_ports.specs.declared.reactor.Reactor.{Ghosts as ReactorGhosts}

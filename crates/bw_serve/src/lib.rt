@@ -1,16 +1,24 @@
 //! Servers of recorders, one after another or many at once: peers are accepted, each connection
-//! gets a quantum a round, and each that ends is printed as a line. Sockets are in a crate above,
-//! which implements `Peers` and `Reactor`.
+//! gets a quantum a round, and each that ends is printed as a line. A connection may be limited to one
+//! name, by a filter of what comes over it. Sockets are in a crate above, which implements `Peers` and
+//! `Reactor`.
 //! Not stated: who comes; whether links report the truth; how many were refused; that what a link
 //! took arrives.
 #![tactic(auto)]
 
 mod event_loop;
+mod filtered_link;
+mod filtered_network;
+mod filtered_peers;
+mod filtered_reactor;
+mod filtered_reader;
 mod hosting;
 mod hosting_in_turn;
 pub mod laws;
 mod line;
+mod name_filter;
 mod observing;
+pub mod one_name_laws;
 mod opening;
 mod peer_slot;
 mod refusing;
@@ -19,8 +27,14 @@ mod serving;
 mod serving_in_turn;
 mod serving_one;
 
+pub use filtered_link::FilteredLink;
+pub use filtered_network::{FilteredNetwork, ServeRules};
+pub use filtered_peers::FilteredPeers;
+pub use filtered_reactor::FilteredReactor;
+pub use filtered_reader::FilteredReader;
 pub use hosting::{Hosting, serve_at_once};
 pub use hosting_in_turn::{Serving, serve_in_turn};
+pub use name_filter::NameFilter;
 pub use observing::{NoRoundObserver, RoundObserver, RoundReport};
 pub use opening::{OpenedServer, Opens, open_new, print_opening};
 pub use peer_slot::PeerSlot;

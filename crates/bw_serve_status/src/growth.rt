@@ -3,7 +3,7 @@ ghost use Rattle.std.specs.Prelude.{◌≡◌, length};
 ghost use Rattle.bw_serve_status.specs.Growths.{NotesGrowth, grown_at, grown_by, growth_noted};
 
 use crate::name_tally::{NameTally, is_of};
-use bw_request::Name;
+use bw_model::Name;
 
 /// When a name grew last.
 #[derive(Clone, Copy, Drop)]

@@ -6,7 +6,7 @@ ghost use Rattle.bw_serve_status.specs.Names.{change_of, is_other, most_name_tal
 ghost use Rattle.bw_serve_status.specs.Names.{on_first, with_new};
 ghost use Rattle.bw_serve_status.specs.Names.{least_last, oldest_place, uncounted};
 
-use bw_request::Name;
+use bw_model::Name;
 
 /// Of how many names counts are kept: as many as a server has in its table.
 pub(crate) const NAMES: usize = 256;

@@ -18,7 +18,7 @@ use crate::growth::grown_at;
 use crate::name_tally::{NameTally, is_of};
 use crate::snapshots::Surroundings;
 use bw_journal::Journal;
-use bw_request::Name;
+use bw_model::Name;
 use bw_serve::PeerSlot;
 use bw_session::Server;
 use bw_status::{ShownState, SoundFormat, TakeStatus};

@@ -4,8 +4,8 @@ ghost use Rattle.bw_model.specs.CountedTurn.{is_delay};
 ghost use Rattle.bw_model.specs.Replies.{notice_code, verdict_code};
 ghost use Rattle.bw_model.specs.Take.{is_stored};
 ghost use Rattle.bw_model.specs.Wire.{Says};
-ghost use Rattle.bw_request.specs.Requests.{meaning};
-ghost use Rattle.bw_request.specs.Verdicts.{verdict_meaning};
+ghost use Rattle.bw_model.specs.Requests.{meaning};
+ghost use Rattle.bw_model.specs.VerdictMeanings.{verdict_meaning};
 ghost use Rattle.bw_wire.specs.Frames.{message_of};
 ghost use Rattle.bw_wire.specs.Notices.{notice_meaning};
 ghost use Rattle.bw_wire.specs.Replies.{reply_of};
@@ -14,7 +14,7 @@ ghost use Rattle.bw_serve_status.specs.Tallies.{tallied_change, tallied_notice, 
 ghost use Rattle.bw_serve_status.specs.Tallies.{tallied_frame, tallied_reply};
 
 use crate::name_tally::{Change, NAMES, NameTally, count_name};
-use bw_request::{Name, RequestRef, Verdict};
+use bw_model::{Name, RequestRef, Verdict};
 use bw_wire::{Message, Notice, Reply};
 use std::alloc::{AllocError, Global};
 use std::marker::Model;

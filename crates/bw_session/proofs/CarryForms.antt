@@ -9,8 +9,8 @@ use Rattle.bw_model.specs.Take.{BadFormat, NameTaken, parts, judge, judge_open, 
 use Rattle.bw_model.specs.Take.{is_stored, with_request, after}
 use Rattle.bw_model.specs.File.{file_of}
 use Rattle.bw_model.specs.Holds.{IsInTheMiddle}
-use Rattle.bw_request.specs.Verdicts.{verdict_meaning}
-use Rattle.bw_request.specs.declared.verdict.Verdict.{Verdict}
+use Rattle.bw_model.specs.VerdictMeanings.{verdict_meaning}
+use Rattle.bw_model.specs.declared.verdict.Verdict.{Verdict}
 use Rattle.bw_file.specs.GrowingFiles.{Growing}
 use Rattle.bw_store.specs.declared.store.Created.TheVariants.{New, Exists}
 use Rattle.bw_store.specs.declared.store.StoreFault.{StoreFault}

@@ -7,8 +7,8 @@ use Rattle.bw_model.specs.Take.{Take, Parts, Request, Open, Block, Mark, SetFiel
 use Rattle.bw_model.specs.Take.{NameTaken, new_take, parts, judge, is_format, is_history_byte, is_stored, verdict}
 use Rattle.bw_model.specs.Take.{with_request, after}
 use Rattle.bw_model.specs.Book.{Log, made, step}
-use Rattle.bw_request.specs.Verdicts.{verdict_meaning}
-use Rattle.bw_request.specs.declared.verdict.Verdict.{Verdict as Judgement}
+use Rattle.bw_model.specs.VerdictMeanings.{verdict_meaning}
+use Rattle.bw_model.specs.declared.verdict.Verdict.{Verdict as Judgement}
 use Rattle.bw_file.specs.GrowingFiles.{Growing}
 use Rattle.bw_store.specs.declared.store.StoreFault.{StoreFault}
 use Rattle.bw_session.specs.Executions.{Carries}

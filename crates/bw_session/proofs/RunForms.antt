@@ -9,8 +9,8 @@ use Rattle.bw_model.specs.Take.{Request}
 use Rattle.bw_model.specs.Replies.{Reply as ModelReply, Judged}
 use Rattle.bw_model.specs.Book.{Log, verdict_at}
 use Rattle.bw_model.specs.Turn.{verdicts_from, window}
-use Rattle.bw_request.specs.Verdicts.{verdict_meaning}
-use Rattle.bw_request.specs.declared.verdict.Verdict.{Verdict as Judgement}
+use Rattle.bw_model.specs.VerdictMeanings.{verdict_meaning}
+use Rattle.bw_model.specs.declared.verdict.Verdict.{Verdict as Judgement}
 use Rattle.bw_wire.specs.declared.reply.Reply.{Reply}
 use Rattle.bw_wire.specs.declared.reply.Reply.TheVariants.{Verdict}
 use Rattle.bw_wire.specs.Replies.{reply_of}

@@ -13,7 +13,7 @@ use Rattle.bw_model.specs.Book.{Log, verdict_at, run_end}
 use Rattle.bw_model.specs.Turn.{is_admissible, admitted_after, drained_to, verdicts_from, own_reply, served, window}
 use Rattle.bw_model.specs.Holds.{body_of}
 use Rattle.bw_model.proofs.MapLemmas.{at-put_other}
-use Rattle.bw_request.specs.declared.verdict.Verdict.{Verdict as Judgement}
+use Rattle.bw_model.specs.declared.verdict.Verdict.{Verdict as Judgement}
 use Rattle.bw_wire.specs.declared.reply.Reply.{Reply}
 use Rattle.bw_wire.specs.declared.reply.Reply.TheVariants.{Verdict}
 use Rattle.bw_wire.specs.Replies.{reply_of}

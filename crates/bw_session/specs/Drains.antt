@@ -8,7 +8,7 @@ use Rattle.bw_model.specs.Wire.{Second, last_number}
 use Rattle.bw_model.specs.ReadBack.{is_admitted}
 use Rattle.bw_model.specs.Book.{Log, made, verdict_at}
 use Rattle.bw_model.specs.Holds.{Kept, HoldsName, HasFile}
-use Rattle.bw_request.specs.Verdicts.{verdict_meaning}
+use Rattle.bw_model.specs.VerdictMeanings.{verdict_meaning}
 use Rattle.bw_file.specs.GrowingFiles.{Growing}
 use Rattle.bw_wire.specs.Bodies.{message_in}
 use Rattle.bw_session.specs.Windows.{count_held}

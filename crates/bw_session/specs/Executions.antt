@@ -2,8 +2,8 @@
 use Rattle.std.specs.Prelude.{◌≡◌, ◌⊎◌, Bool, true, false, Option, None, IsSome, List, [], ℕ, Result}
 use Rattle.std.specs.Prelude.{MatchResult, IsTrue, IfOk, OnOk, OnErr, if◌then◌else◌}
 use Rattle.bw_model.specs.Take.{Take, Parts, Request, Stored, is_stored, judge, parts, after}
-use Rattle.bw_request.specs.Verdicts.{verdict_meaning}
-use Rattle.bw_request.specs.declared.verdict.Verdict.{Verdict}
+use Rattle.bw_model.specs.VerdictMeanings.{verdict_meaning}
+use Rattle.bw_model.specs.declared.verdict.Verdict.{Verdict}
 use Rattle.bw_store.specs.Calls.{StoreCall}
 use Rattle.bw_model.specs.Counts.{Counts}
 use Rattle.bw_file.specs.GrowingFiles.{Growing}

@@ -5,7 +5,7 @@ use Rattle.bw_model.specs.Bytes.{at}
 use Rattle.bw_model.specs.Take.{Request}
 use Rattle.bw_model.specs.Book.{Log}
 use Rattle.bw_store.specs.declared.store.StoreFault.{StoreFault}
-use Rattle.bw_request.specs.declared.verdict.Verdict.{Verdict}
+use Rattle.bw_model.specs.declared.verdict.Verdict.{Verdict}
 use Rattle.bw_journal.specs.JournalHeaders.{Header, header_bytes}
 use Rattle.bw_journal.specs.Entries.{sealed_entry}
 use Rattle.bw_journal.specs.Notes.{IsPrefixOf, BeginsNotes}

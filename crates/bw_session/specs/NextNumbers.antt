@@ -9,8 +9,8 @@ use Rattle.bw_model.specs.Take.{Parts, Request, Verdict, is_stored}
 use Rattle.bw_model.specs.Wire.{Second, last_number}
 use Rattle.bw_model.specs.Book.{Log, verdict_at}
 use Rattle.bw_model.specs.Holds.{body_of}
-use Rattle.bw_request.specs.Verdicts.{verdict_meaning}
-use Rattle.bw_request.specs.declared.verdict.Verdict.{Verdict as Judgement}
+use Rattle.bw_model.specs.VerdictMeanings.{verdict_meaning}
+use Rattle.bw_model.specs.declared.verdict.Verdict.{Verdict as Judgement}
 use Rattle.bw_file.specs.GrowingFiles.{Growing}
 use Rattle.bw_store.specs.Stores.{KeepsOthers}
 use Rattle.bw_store.specs.declared.store.StoreFault.{StoreFault}

@@ -5,8 +5,8 @@ use Rattle.bw_model.specs.Bytes.{at}
 use Rattle.bw_model.specs.Take.{Take, Parts, Request, Verdict, verdict, after}
 use Rattle.bw_model.specs.File.{file_of}
 use Rattle.bw_model.specs.Book.{Log, made}
-use Rattle.bw_request.specs.Verdicts.{verdict_meaning}
-use Rattle.bw_request.specs.declared.verdict.Verdict.{Verdict as Judgement}
+use Rattle.bw_model.specs.VerdictMeanings.{verdict_meaning}
+use Rattle.bw_model.specs.declared.verdict.Verdict.{Verdict as Judgement}
 use Rattle.bw_file.specs.GrowingFiles.{Growing}
 use Rattle.bw_store.specs.declared.store.StoreFault.{StoreFault}
 use Rattle.bw_session.specs.RequestWrites.{HasOwnFile, HasWholeFile}

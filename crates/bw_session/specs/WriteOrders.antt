@@ -5,7 +5,7 @@ use Rattle.bw_model.specs.Bytes.{at}
 use Rattle.bw_model.specs.File.{file_of}
 use Rattle.bw_model.specs.Take.{Parts, Request, judge}
 use Rattle.bw_model.specs.Book.{Log}
-use Rattle.bw_request.specs.declared.verdict.Verdict.{Verdict as Judgement}
+use Rattle.bw_model.specs.declared.verdict.Verdict.{Verdict as Judgement}
 use Rattle.bw_store.specs.declared.store.StoreFault.{StoreFault}
 use Rattle.bw_store.specs.declared.store.TakeStore.{Ghosts as StoreGhosts}
 use Rattle.bw_file.specs.GrowingFiles.{Growing}

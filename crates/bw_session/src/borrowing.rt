@@ -12,7 +12,7 @@ use crate::body::HeldBody;
 use crate::numbering::Stores;
 use crate::session::Session;
 use bw_journal::Journal;
-use bw_request::Verdict;
+use bw_model::Verdict;
 use bw_store::TakeStore;
 use bw_wire::Message;
 use std::alloc::AllocError;

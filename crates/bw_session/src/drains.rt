@@ -16,7 +16,7 @@ use crate::session::Session;
 use crate::window::{SLOTS, Window};
 use arrayvec::ArrayVec;
 use bw_journal::Journal;
-use bw_request::Verdict;
+use bw_model::Verdict;
 use bw_store::TakeStore;
 use bw_wire::Reply;
 

@@ -4,8 +4,8 @@ ghost use Rattle.std.specs.Prelude.{is_err, false, true};
 ghost use Rattle.bw_model.specs.Take.{judge as verdict_on};
 ghost use Rattle.bw_model.specs.Limits.{largest};
 ghost use Rattle.bw_model.specs.Wire.{is_request};
-ghost use Rattle.bw_request.specs.Requests.{meaning, samples_in};
-ghost use Rattle.bw_request.specs.Verdicts.{verdict_meaning};
+ghost use Rattle.bw_model.specs.Requests.{meaning, samples_in};
+ghost use Rattle.bw_model.specs.VerdictMeanings.{verdict_meaning};
 ghost use Rattle.bw_store.specs.Stores.{Counts, KeepsOthers};
 ghost use Rattle.bw_store.specs.StoreSteps.{WasAsked, WasAskedFirst};
 ghost use Rattle.bw_session.specs.Executions.{Touches, KeepsParts, Carries, AsksJudged};
@@ -15,7 +15,7 @@ ghost use Rattle.bw_session.specs.Prefixes.{CarriesNext};
 
 use crate::writing::write_request;
 use bw_file::GrowingFile;
-use bw_request::{RequestRef, Verdict};
+use bw_model::{RequestRef, Verdict};
 use bw_store::{Created, StoreFault, TakeStore};
 use bw_take::{TakeState, judge};
 

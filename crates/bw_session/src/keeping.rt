@@ -12,7 +12,7 @@ use crate::resuming::session_of;
 use crate::server::{NAMES, Server};
 use crate::session::Session;
 use bw_journal::Journal;
-use bw_request::Name;
+use bw_model::Name;
 use bw_store::TakeStore;
 use std::alloc::AllocError;
 

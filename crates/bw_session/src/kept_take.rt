@@ -3,7 +3,7 @@ ghost use Rattle.std.specs.Prelude.{◌≡◌, ◌≤◌, ◌+◌, ◌*◌, IfSo
 ghost use Rattle.bw_model.specs.Wire.{Second, last_number};
 
 use bw_journal::Replayed;
-use bw_request::Name;
+use bw_model::Name;
 
 /// What a server that resumes is given of a name of which a number is done.
 #[derive(Drop)]

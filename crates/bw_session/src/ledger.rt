@@ -5,11 +5,11 @@ ghost use Rattle.std.specs.Prelude.{max, ◌⊎◌, IsSome, IsOk, OnErr};
 ghost use Rattle.std.specs.Str.{bytes_eq};
 ghost use Rattle.bw_model.specs.Take.{Verdict as Judgement};
 ghost use Rattle.bw_model.specs.Replies.{verdict_code, verdict_of as verdict_with_code};
-ghost use Rattle.bw_request.specs.Verdicts.{verdict_meaning};
+ghost use Rattle.bw_model.specs.VerdictMeanings.{verdict_meaning};
 ghost use Rattle.bw_journal.specs.Rows.{have_codes, row_count};
 ghost use Rattle.bw_session.specs.Ledgers.{entries_in};
 
-use bw_request::Verdict;
+use bw_model::Verdict;
 use std::alloc::{AllocError, Global};
 use std::marker::Model;
 

@@ -8,7 +8,7 @@ ghost use Rattle.bw_session.specs.KnownNames.{KnowsTaken, ListsNames};
 use crate::server::Server;
 use bw_journal::Journal;
 use bw_layout::Fmt;
-use bw_request::Name;
+use bw_model::Name;
 use bw_store::TakeStore;
 use std::alloc::{AllocError, Global};
 

@@ -10,7 +10,7 @@ use crate::session::Session;
 use bw_file::GrowingFile;
 use bw_journal::Replayed;
 use bw_layout::Limit;
-use bw_request::Name;
+use bw_model::Name;
 use std::alloc::{AllocError, Global};
 
 /// The session of a name of which nothing waits.

@@ -28,7 +28,7 @@ use crate::window::SLOTS;
 use arrayvec::ArrayVec;
 use bw_journal::{ENTRY_MAX, Journal, NoJournal};
 use bw_layout::Limit;
-use bw_request::Name;
+use bw_model::Name;
 use bw_store::TakeStore;
 use bw_wire::{Message, Notice, Reply};
 use std::alloc::{AllocError, Global};

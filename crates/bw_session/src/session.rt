@@ -15,7 +15,7 @@ use crate::window::Window;
 use bw_file::GrowingFile;
 use bw_journal::JournalHeader;
 use bw_layout::Limit;
-use bw_request::Name;
+use bw_model::Name;
 use bw_take::TakeState;
 use std::alloc::{AllocError, Global};
 

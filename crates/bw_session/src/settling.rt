@@ -8,14 +8,14 @@ ghost use Rattle.bw_model.specs.Limits.{largest};
 ghost use Rattle.bw_model.specs.Wire.{is_request};
 ghost use Rattle.bw_model.specs.Book.{Log, made};
 ghost use Rattle.bw_model.specs.Holds.{body_of};
-ghost use Rattle.bw_request.specs.Requests.{meaning};
-ghost use Rattle.bw_request.specs.Requests.{samples_in};
-ghost use Rattle.bw_request.specs.Verdicts.{verdict_meaning};
+ghost use Rattle.bw_model.specs.Requests.{meaning};
+ghost use Rattle.bw_model.specs.Requests.{samples_in};
+ghost use Rattle.bw_model.specs.VerdictMeanings.{verdict_meaning};
 ghost use Rattle.bw_session.specs.DoneNumbers.{KeepsDone};
 ghost use Rattle.bw_session.specs.JudgedParts.{parts_under};
 
 use crate::ledger::Ledger;
-use bw_request::{RequestRef, Verdict};
+use bw_model::{RequestRef, Verdict};
 use bw_take::TakeState;
 
 /// Keeps a number as done: its request in the state, its body's digest and its verdict

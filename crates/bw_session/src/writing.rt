@@ -3,15 +3,15 @@ ghost use Rattle.std.specs.Prelude.{◌≡◌, ◌+◌, ◌≤◌, IsTrue, true,
 ghost use Rattle.bw_model.specs.Take.{Stored, judge};
 ghost use Rattle.bw_model.specs.Limits.{largest};
 ghost use Rattle.bw_model.specs.Wire.{is_request};
-ghost use Rattle.bw_request.specs.Requests.{meaning};
-ghost use Rattle.bw_request.specs.Requests.{samples_in};
+ghost use Rattle.bw_model.specs.Requests.{meaning};
+ghost use Rattle.bw_model.specs.Requests.{samples_in};
 ghost use Rattle.bw_store.specs.Stores.{Counts, KeepsOthers};
 ghost use Rattle.bw_store.specs.StoreSteps.{WasAsked, WasAskedFirst};
 ghost use Rattle.bw_session.specs.RequestWrites.{is_mark, request_plan, Knows, WritesRequest};
 
 use bw_file::GrowingFile;
 use bw_layout::Fmt;
-use bw_request::RequestRef;
+use bw_model::RequestRef;
 use bw_store::{Created, StoreFault, TakeStore};
 use bw_take::TakeState;
 

@@ -10,7 +10,7 @@ ghost use Rattle.bw_store.specs.Fuses.{AsksPassed, WritesHalf};
 
 use crate::call_counter::CallCounter;
 use crate::store::{Created, StoreFault, TakeStore};
-use bw_request::Name;
+use bw_model::Name;
 use std::marker::Model;
 
 /// A store with fuses: the calls of chosen numbers, counted from 0, fail, each once.

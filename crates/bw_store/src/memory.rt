@@ -8,7 +8,7 @@ ghost use Rattle.bw_store.specs.Memory.{content_under};
 
 use crate::call_counter::CallCounter;
 use crate::store::{Created, StoreFault, TakeStore};
-use bw_request::Name;
+use bw_model::Name;
 use std::alloc::{AllocError, Global};
 use std::collections::BTreeMap;
 

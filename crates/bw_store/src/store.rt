@@ -4,7 +4,7 @@ ghost use Rattle.std.specs.Prelude.{OnOk, OnErr, is_err, [], ◌∷◌};
 ghost use Rattle.bw_store.specs.Stores.{Counts, Creates, Written, MayTear, KeepsOthers};
 ghost use Rattle.bw_store.specs.Calls.{StoreCall, Create, WriteAt, Finish, Asks};
 
-use bw_request::Name;
+use bw_model::Name;
 use thiserror::Error;
 
 /// What `create` found.

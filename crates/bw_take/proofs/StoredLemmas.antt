@@ -8,7 +8,7 @@ use Rattle.bw_model.specs.Take.{Parts, Format, Request, Open, Block, Mark, SetFi
 use Rattle.bw_model.specs.Take.{BadFormat, BadField, BadMarker, DuplicateMarker, TooManyMarkers, judge, judge_open}
 use Rattle.bw_model.specs.Take.{is_format, field_fault, is_stored, parts, Take, with_request, AreFields, FieldFault}
 use Rattle.bw_model.specs.Wire.{is_request}
-use Rattle.bw_request.specs.Requests.{samples_in}
+use Rattle.bw_model.specs.Requests.{samples_in}
 use Rattle.bw_take.specs.States.{IsSound, parts_with, FollowsTakes}
 
 -- a request is stored only if the take isn't closed

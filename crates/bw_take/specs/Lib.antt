@@ -1,4 +1,4 @@
-pub use Rattle.bw_request.specs.Requests
-pub use Rattle.bw_request.specs.Verdicts
+pub use Rattle.bw_model.specs.Requests
+pub use Rattle.bw_model.specs.VerdictMeanings
 pub mod Kept
 pub mod States

@@ -4,12 +4,12 @@ ghost use Rattle.std.specs.List.{list_all, list_any};
 ghost use Rattle.bw_model.specs.Take.{judge as verdict_on, judge_open as judged};
 ghost use Rattle.bw_model.specs.Take.{is_history_byte as is_byte_of_history};
 ghost use Rattle.bw_model.specs.Take.{block_align as block_align_of, field_fault, Format, Mark};
-ghost use Rattle.bw_request.specs.Requests.{meaning};
-ghost use Rattle.bw_request.specs.Verdicts.{verdict_meaning};
+ghost use Rattle.bw_model.specs.Requests.{meaning};
+ghost use Rattle.bw_model.specs.VerdictMeanings.{verdict_meaning};
 
 use crate::state::TakeState;
 use bw_layout::{CuePoint, Fmt};
-use bw_request::{RequestRef, Verdict};
+use bw_model::{RequestRef, Verdict};
 
 /// A take has at most this many markers.
 const MARKERS_MAX: usize = 1024;

@@ -4,7 +4,7 @@
 mod judgement;
 mod state;
 
-pub use bw_request::{
+pub use bw_model::{
     LONGEST_BLOCK, LONGEST_HISTORY, LONGEST_VALUE, Name, Request, RequestRef, UnknownVerdict,
     Verdict,
 };

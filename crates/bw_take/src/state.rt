@@ -5,12 +5,12 @@ ghost use Rattle.bw_model.specs.Limits.{window, longest_history, most_markers, l
 ghost use Rattle.bw_model.specs.Take.{Stored, is_format, judge as verdict_on, frames as frames_of};
 ghost use Rattle.bw_model.specs.Take.{new_take, parts as parts_of_take, AreFields};
 ghost use Rattle.bw_model.specs.Wire.{is_request};
-ghost use Rattle.bw_request.specs.Requests.{meaning};
-ghost use Rattle.bw_request.specs.Requests.{samples_in};
+ghost use Rattle.bw_model.specs.Requests.{meaning};
+ghost use Rattle.bw_model.specs.Requests.{samples_in};
 ghost use Rattle.bw_take.specs.States.{FollowsTakes, parts_with};
 
 use bw_layout::{Bext, CuePoint, Fmt};
-use bw_request::{LONGEST_HISTORY, RequestRef};
+use bw_model::{LONGEST_HISTORY, RequestRef};
 use std::alloc::{AllocError, Global};
 use std::marker::Model;
 

@@ -6,7 +6,7 @@ use Rattle.sha2.specs.Sha256.{sha256}
 use Rattle.bw_model.specs.File.{data_place}
 use Rattle.bw_model.specs.Holds.{body_of}
 use Rattle.bw_model.specs.Take.{Parts, Block, is_stored}
-use Rattle.bw_request.specs.Requests.{samples_in}
+use Rattle.bw_model.specs.Requests.{samples_in}
 use Rattle.bw_journal.specs.Entries.{JournalEntry, first_entry}
 use Rattle.bw_journal.specs.JournalHeaders.{header_len}
 

@@ -12,7 +12,7 @@ ghost use Rattle.bw_take_files.specs.BlockDigests.{block_at, body_at, body_in, I
 use crate::stored_block::StoredBlock;
 use bw_digest::LANES;
 use bw_disk::{ReadFault, Volume};
-use bw_request::Name;
+use bw_model::Name;
 
 /// The body of a message with a block has at most this many bytes.
 pub(crate) const LONGEST_BODY: usize = 32_806;

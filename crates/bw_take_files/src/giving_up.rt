@@ -9,8 +9,8 @@ ghost use Rattle.bw_take_files.specs.GivenUp.{AreTakePathsApart, AreWaysClear, F
 ghost use Rattle.bw_take_files.specs.GivenUp.{is_disk_failure, paths_in, paths_of};
 
 use bw_disk::{ReadFault, Volume};
+use bw_model::Name;
 use bw_recovery::path_in;
-use bw_request::Name;
 use std::alloc::Global;
 use thiserror::Error;
 

@@ -3,7 +3,7 @@ ghost use Rattle.std.specs.Prelude.{◌≡◌, ◌≤◌, ◌+◌, ◌*◌, IsTr
 ghost use Rattle.bw_model.specs.Bytes.{zeros as zero_bytes};
 ghost use Rattle.bw_model.specs.Limits.{longest_block};
 ghost use Rattle.bw_model.specs.Wire.{is_request};
-ghost use Rattle.bw_request.specs.Requests.{meaning};
+ghost use Rattle.bw_model.specs.Requests.{meaning};
 ghost use Rattle.bw_journal.specs.Refs.{entry_said};
 ghost use Rattle.bw_digest.specs.Lanes.{InEachLane};
 ghost use Rattle.bw_take_files.specs.TakeSamples.{brought as brought_by};
@@ -11,7 +11,7 @@ ghost use Rattle.bw_take_files.specs.BlockDigests.{block_at, IsBlockNear};
 
 use bw_digest::LANES;
 use bw_journal::{EntryRef, entry_of, first_content};
-use bw_request::{Name, RequestRef};
+use bw_model::{Name, RequestRef};
 use std::alloc::Global;
 
 /// Hashing in lanes takes as long as hashing this many blocks of the longest one's length one after

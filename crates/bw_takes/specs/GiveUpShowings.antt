@@ -8,8 +8,8 @@ use Rattle.bw_console.specs.Prints.{Nothing, IsOf}
 use Rattle.bw_console.specs.declared.exit.Exit.{Exit}
 use Rattle.bw_console.specs.declared.exit.Exit.TheVariants as exits
 use Rattle.bw_disk.specs.declared.disk.Disk.{Ghosts}
-use Rattle.bw_lock.specs.declared.folder_locks.LockRefusal.{LockRefusal}
-use Rattle.bw_lock.specs.declared.folder_locks.LockRefusal.TheVariants as refusals
+use Rattle.bw_ports.specs.declared.folder_locks.LockRefusal.{LockRefusal}
+use Rattle.bw_ports.specs.declared.folder_locks.LockRefusal.TheVariants as refusals
 use Rattle.bw_store.specs.Stores.{Counts}
 use Rattle.bw_take_files.specs.GivenUp.{PutsTakeAside, StaysUnlessFailed, is_disk_failure}
 use Rattle.bw_take_files.specs.declared.giving_up.GiveUpFault.{GiveUpFault}

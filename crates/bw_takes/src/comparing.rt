@@ -11,8 +11,8 @@ ghost use Rattle.bw_takes.specs.TakeSummaries.{changed_beside, checked_summary, 
 use crate::finding::{TakeFinding, look_at_take};
 use bw_disk::{ReadFault, Volume, read_file};
 use bw_journal::Replayed;
+use bw_model::Name;
 use bw_recovery::path_in;
-use bw_request::Name;
 use bw_take::TakeState;
 use bw_take_files::find_changed;
 use std::alloc::Global;

@@ -12,12 +12,11 @@ ghost use Rattle.bw_takes.specs.TakeLines.{own_limit as limit_in, limit_spelled 
 ghost use Rattle.bw_takes.specs.TakeLines.{limit_or_largest as limit_or_largest_of, journal_front};
 
 use crate::beginning::is_take_at;
-use bw_bytes::read_u32;
 use bw_disk::{ReadFault, Volume, read_file};
 use bw_journal::{JOURNAL_MAX, ReplayFault, Replayed, before_zero, replay};
 use bw_layout::Limit;
+use bw_model::{Name, read_u32};
 use bw_recovery::{FileRead, NameFault, data_end, header_if, judge_file, path_in, read_take};
-use bw_request::Name;
 use bw_take::TakeState;
 use std::alloc::Global;
 

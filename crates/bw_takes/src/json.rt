@@ -14,7 +14,7 @@ use crate::finding::TakeFinding;
 use crate::hashing::SampleDigest;
 use crate::line::{cause_word, state_word};
 use bw_journal::Replayed;
-use bw_request::Name;
+use bw_model::Name;
 use serde_json::{Map, Value, json, put};
 use std::alloc::{AllocError, Global};
 

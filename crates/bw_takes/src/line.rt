@@ -9,8 +9,8 @@ ghost use Rattle.bw_takes.specs.TakeSummaries.{story_summary};
 use crate::finding::TakeFinding;
 use crate::hashing::SampleDigest;
 use bw_journal::Replayed;
+use bw_model::Name;
 use bw_recovery::{NameFault, file_cause, journal_cause};
-use bw_request::Name;
 use std::alloc::{AllocError, Global};
 
 impl TakeFinding {

@@ -14,8 +14,8 @@ use crate::naming::takes_in;
 use crate::printing::unread_line;
 use crate::unread::{ending, find_unread};
 use bw_disk::{ReadFault, Volume};
+use bw_model::Name;
 use bw_recovery::path_in;
-use bw_request::Name;
 use std::alloc::{AllocError, Global};
 
 /// How a take is reported.

@@ -2,7 +2,7 @@
 ghost use Rattle.std.specs.Prelude.{◌≡◌, ◌≤◌, ◌++◌, length, Result};
 ghost use Rattle.bw_console.specs.Outcomes.{Outcome, HasWritten};
 ghost use Rattle.bw_console.specs.Prints.{IsPrint};
-ghost use Rattle.bw_lock.specs.declared.folder_locks.LockRefusal.{LockRefusal as Refusal};
+ghost use Rattle.bw_ports.specs.declared.folder_locks.LockRefusal.{LockRefusal as Refusal};
 ghost use Rattle.bw_takes.specs.GiveUpShowings.{IsGivenPrint, IsGivingUp, IsLockedOut};
 ghost use Rattle.bw_takes.specs.GiveUpShowings.{IsLineReported, TriesToGiveUp};
 
@@ -11,8 +11,8 @@ use arrayvec::ArrayVec;
 use bw_console::print::{give_up, print, print_diagnostic};
 use bw_console::{Exit, Fault, report_unopened};
 use bw_disk::Volume;
-use bw_lock::{FolderLocks, LockRefusal};
-use bw_request::Name;
+use bw_model::Name;
+use bw_ports::{FolderLocks, LockRefusal};
 use bw_stream::Sink;
 use bw_take_files::{GiveUpFault, give_up_take};
 use std::alloc::Global;

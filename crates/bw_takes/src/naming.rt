@@ -5,8 +5,8 @@ ghost use Rattle.bw_disk.specs.DiskSteps.{StaysWhole};
 ghost use Rattle.bw_takes.specs.TakeNames.{IsFileOf, ListsTakes, AreNamesInOrder, AddsTake};
 
 use bw_disk::{ReadFault, Volume};
+use bw_model::Name;
 use bw_recovery::journal_name;
-use bw_request::Name;
 use std::alloc::Global;
 use std::collections::BTreeSet;
 

@@ -13,8 +13,8 @@ use crate::finding::TakeFinding;
 use crate::naming::takes_in;
 use bw_disk::{ReadFault, Volume};
 use bw_journal::Replayed;
+use bw_model::Name;
 use bw_recovery::NameFault;
-use bw_request::Name;
 use std::alloc::Global;
 
 /// In which state a take is.

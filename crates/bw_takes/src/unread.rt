@@ -4,8 +4,8 @@ ghost use Rattle.bw_disk.specs.DiskSteps.{StaysWhole};
 ghost use Rattle.bw_takes.specs.UnreadEntries.{entry_ending};
 
 use bw_disk::{ReadFault, Volume, read_file};
+use bw_model::Name;
 use bw_recovery::path_in;
-use bw_request::Name;
 use std::alloc::Global;
 
 /// A file of a take in a folder.

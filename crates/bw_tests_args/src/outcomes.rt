@@ -3,7 +3,7 @@ use bw_args::{
     CommandLine, End, FileSender, FolderWork, Journaling, PcmSender, Recorders, Send, Serve,
     SourceFile, Task, parse,
 };
-use bw_request::Name;
+use bw_model::Name;
 use clap::Error;
 use std::alloc::{AllocError, Global};
 use std::process::Abort;

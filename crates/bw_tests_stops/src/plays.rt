@@ -1,8 +1,8 @@
 //! A take of three messages, and how it is rehearsed with servers that stop.
+use bw_commands::event_in;
 use bw_layout::Limit;
-use bw_rehearsal::event_in;
-use bw_request::Name;
-use bw_stops::{Lives, Machine, Rehearsed, StopEvent, StopsFault, rehearse_stops};
+use bw_model::Name;
+use bw_rehearse::{Lives, Machine, Rehearsed, StopEvent, StopsFault, rehearse_stops};
 use std::alloc::Global;
 use std::test::Fail;
 

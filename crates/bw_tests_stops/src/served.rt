@@ -2,7 +2,7 @@
 //! by a server with a journal.
 use crate::promised::{serve_delivery, serve_delivery_in_folder};
 use bw_layout::Limit;
-use bw_request::Name;
+use bw_model::Name;
 use std::process::Abort;
 use std::test::Fail;
 

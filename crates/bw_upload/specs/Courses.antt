@@ -9,7 +9,8 @@ use Rattle.bw_ports.specs.declared.dial.DialFault.{DialFault}
 use Rattle.bw_ports.specs.declared.dial.Duplex.{Duplex}
 use Rattle.bw_ports.specs.declared.pause.Pause.{Ghosts as PauseGhosts}
 use Rattle.bw_upload.specs.Backoff.{backoff, is_spent}
-use Rattle.bw_upload.specs.Conversations.{Conversing, Line, TalkEvent, TalkStep, LeavesBy, HeedsStop, new_line}
+use Rattle.bw_upload.specs.Conversations.{Conversing, Line, TalkEvent, TalkStep, LeavesBy, HeedsStop}
+use Rattle.bw_upload.specs.Conversations.{new_line}
 use Rattle.bw_upload.specs.WindowFills.{Filling, FillEvent, FillStep, is_done}
 use Rattle.bw_upload.specs.declared.feed.Feed.{Ghosts as FeedGhosts}
 use Rattle.bw_upload.specs.declared.observer.LinkEnd.{LinkEnd}

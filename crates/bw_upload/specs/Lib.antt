@@ -12,3 +12,10 @@ pub mod Visits
 pub mod Links
 pub mod OfferedFeeds
 pub mod WholeUploads
+pub mod RequestLines
+pub mod SendState
+pub mod RoundsMade
+pub mod SenderText
+pub mod Sends
+pub mod RoundCounts
+pub mod WatchedSenders

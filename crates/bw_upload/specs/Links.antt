@@ -1,9 +1,10 @@
 -- Links are made, one after another.
-use Rattle.std.specs.Prelude.{◌≡◌, ◌≢◌, ◌⊎◌, ℕ, suc, ◌-◌, ◌^◌, ◌≤◌, Bool, true, false, Option, None, Result, Ok}
+use Rattle.std.specs.Prelude.{◌≡◌, ◌≢◌, ◌⊎◌, ℕ, suc, ◌-◌, ◌^◌, ◌≤◌, Bool, true, false, Option, None, Result}
+use Rattle.std.specs.Prelude.{Ok}
 use Rattle.std.specs.Prelude.{Err, List, [], ◌∷◌, ◌++◌, length, ◌&&◌, ◌==◌}
 use Rattle.bw_model.specs.Take.{Verdict}
 use Rattle.bw_model.specs.World.{settled, pending, refused}
-use Rattle.bw_request.specs.Verdicts.{verdict_meaning}
+use Rattle.bw_model.specs.VerdictMeanings.{verdict_meaning}
 use Rattle.bw_stream.specs.declared.sink.Sink.{Ghosts as Writer}
 use Rattle.bw_stream.specs.declared.source.Source.{Ghosts as Reader}
 use Rattle.bw_sender.specs.Senders.{IsSender}
@@ -13,7 +14,8 @@ use Rattle.bw_ports.specs.declared.dial.Dial.{Ghosts as DialGhosts}
 use Rattle.bw_ports.specs.declared.pause.Pause.{Ghosts as PauseGhosts}
 use Rattle.bw_upload.specs.Backoff.{backoff, is_spent}
 use Rattle.bw_upload.specs.Chains.{Chain}
-use Rattle.bw_upload.specs.Courses.{Course, UploadEvent, Leaves, CourseStep, BacksOff, MayDial, fruitless_after}
+use Rattle.bw_upload.specs.Courses.{Course, UploadEvent, Leaves, CourseStep, BacksOff, MayDial}
+use Rattle.bw_upload.specs.Courses.{fruitless_after}
 use Rattle.bw_upload.specs.WindowFills.{Filling, FillEvent, FillStep, is_done}
 use Rattle.bw_upload.specs.FinalStops.{final_stops, named_stop}
 use Rattle.bw_upload.specs.FeedStops.{StopsFeed}

@@ -3,7 +3,7 @@ use Rattle.std.specs.Prelude.{◌≡◌, ◌≢◌, ◌⊎◌, ℕ, ◌-◌, ◌
 use Rattle.std.specs.Prelude.{Result, Ok, Err, List, ◌∷◌, length}
 use Rattle.bw_model.specs.Take.{Request, Verdict}
 use Rattle.bw_model.specs.World.{Sender as Defined, offer, offer_fault, pending, refused}
-use Rattle.bw_request.specs.Verdicts.{verdict_meaning}
+use Rattle.bw_model.specs.VerdictMeanings.{verdict_meaning}
 use Rattle.bw_sender.specs.declared.offer.OfferError.{OfferError}
 use Rattle.bw_sender.specs.declared.offer.OfferError.TheVariants as errors
 use Rattle.bw_sender.specs.Offers.{fault_of}

@@ -4,7 +4,7 @@ ghost use Rattle.bw_model.specs.Take.{Request as Message};
 ghost use Rattle.bw_upload.specs.Feeds.{GivesRequest};
 ghost use Rattle.bw_upload.specs.declared.feed.Given.{Given};
 
-use bw_request::Request;
+use bw_model::Request;
 
 /// What a feed gave.
 #[derive(Drop)]

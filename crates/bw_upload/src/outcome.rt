@@ -1,5 +1,5 @@
 //! How an upload ends.
-use bw_request::Verdict;
+use bw_model::Verdict;
 use bw_sender::{OfferError, Sender};
 
 /// How an upload ended.

@@ -8,8 +8,8 @@ ghost use Rattle.bw_upload.specs.Supplies.{outcome_of_offer, RefusedBy};
 
 use crate::feed::{Feed, Given};
 use crate::outcome::Outcome;
+use bw_model::Request;
 use bw_ports::Pause;
-use bw_request::Request;
 use bw_sender::{OfferError, Sender};
 
 /// The milliseconds before a feed that has nothing yet is asked again.

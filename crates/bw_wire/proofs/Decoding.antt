@@ -6,7 +6,7 @@ use Rattle.std.proofs.lemmas.Bool.{and_from, ne_eqb, eq-eqb}
 use Rattle.std.proofs.lemmas.List.{take_rest, nil_from_length}
 use Rattle.bw_model.specs.Bytes.{first_that_holds, unless}
 use Rattle.bw_model.specs.Wire.{Second, Bye, Reason, Kind, Payload, are_bytes, body_faults, frame_in, decoded}
-use Rattle.bw_request.proofs.Ranges.{are_bytes_lem}
+use Rattle.bw_model.proofs.Ranges.{are_bytes_lem}
 use Rattle.bw_wire.specs.Bodies.{is_message_read, is_ask_read, is_message_body, is_ask_body}
 
 -- what follows the first byte, as a pattern has it

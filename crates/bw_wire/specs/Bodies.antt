@@ -1,5 +1,6 @@
 -- What is in the body of a frame.
-use Rattle.std.specs.Prelude.{◌≡◌, ◌≤◌, ℕ, Bool, true, false, ◌&&◌, Result, Ok, Err, List, length, drop, slice_index}
+use Rattle.std.specs.Prelude.{◌≡◌, ◌≤◌, ℕ, Bool, true, false, ◌&&◌, Result, Ok, Err, List, length, drop}
+use Rattle.std.specs.Prelude.{slice_index}
 use Rattle.bw_model.specs.Take.{Request}
 use Rattle.bw_model.specs.Wire.{Second, Message, Frame, Says, Asks, Bye, Reason, name_in, number_in}
 use Rattle.bw_model.specs.Wire.{payload_in, request_of, are_bytes, decoded, is_name_bad, last_number}

@@ -2,8 +2,8 @@
 use Rattle.std.specs.Prelude.{◌≡◌, ℕ, Result, Ok, Err, List}
 use Rattle.bw_model.specs.Take as take
 use Rattle.bw_model.specs.Wire as model
-use Rattle.bw_request.specs.declared.request.RequestRef.{RequestRef}
-use Rattle.bw_request.specs.Requests.{meaning}
+use Rattle.bw_model.specs.declared.request.RequestRef.{RequestRef}
+use Rattle.bw_model.specs.Requests.{meaning}
 use Rattle.bw_wire.specs.declared.message.Message.{Message}
 use Rattle.bw_wire.specs.declared.message.Ask.{Ask}
 use Rattle.bw_wire.specs.declared.message.Frame.{Frame}

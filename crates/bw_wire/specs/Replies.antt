@@ -2,7 +2,7 @@
 use Rattle.std.specs.Prelude.{◌+◌, ◌≤◌, Result, Ok, Err}
 use Rattle.bw_model.specs.Wire.{Second, last_number, Reason as ModelReason}
 use Rattle.bw_model.specs.Replies as model
-use Rattle.bw_request.specs.Verdicts.{verdict_meaning}
+use Rattle.bw_model.specs.VerdictMeanings.{verdict_meaning}
 use Rattle.bw_wire.specs.declared.reason.Reason.{Reason}
 use Rattle.bw_wire.specs.declared.reply.Reply.{Reply}
 use Rattle.bw_wire.specs.declared.reply.Reply.TheVariants.{Verdict, Notice, BadFrame}

@@ -4,8 +4,7 @@ ghost use Rattle.bw_model.specs.Wire.{Second, last_number, name_in, after_name a
 ghost use Rattle.bw_model.specs.Wire.{number_in, payload_in, is_name_bad, is_number_bad};
 ghost use Rattle.bw_wire.specs.Addresses.{HasName, HasAddress};
 
-use bw_bytes::read_u32;
-use bw_request::Name;
+use bw_model::{Name, read_u32};
 
 /// The last number that a message may have.
 pub(crate) const LAST_NUMBER: u32 = 16_777_215;

@@ -10,7 +10,7 @@ use crate::address::{has_name, has_number, payload};
 use crate::message::{Ask, Frame, Message};
 use crate::payload::{ASK, BYE, OPEN, is_payload, request_of};
 use crate::reason::Reason;
-use bw_request::RequestRef;
+use bw_model::RequestRef;
 
 /// The frame that a body spells. It borrows its bytes from the body.
 ///

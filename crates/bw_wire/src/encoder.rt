@@ -5,11 +5,11 @@ ghost use Rattle.bw_model.specs.Bytes.{le32};
 ghost use Rattle.bw_model.specs.Limits.{longest_block};
 ghost use Rattle.bw_model.specs.Wire.{Second, last_number, Asks, kind as kind_in};
 ghost use Rattle.bw_model.specs.Wire.{payload as payload_in, addressed, is_name, is_request};
-ghost use Rattle.bw_request.specs.Requests.{meaning};
+ghost use Rattle.bw_model.specs.Requests.{meaning};
 ghost use Rattle.bw_wire.specs.EncodedFrames.{IsFrameOf, said};
 
 use crate::payload::{ASK, BLOCK, CLOSE, MARK, OPEN, SET_FIELD};
-use bw_request::{Name, RequestRef};
+use bw_model::{Name, RequestRef};
 use std::alloc::{AllocError, Global};
 
 /// The frame of a message, with a number of at most 16,777,215 and a request that fits.

@@ -2,7 +2,7 @@
 ghost use Rattle.std.specs.Prelude.{◌<◌, ◌^◌};
 ghost use Rattle.bw_wire.specs.Framings.{IsFraming};
 
-use bw_bytes::read_u32;
+use bw_model::read_u32;
 
 /// A body after its length: not whole yet, of a length that no body has, or of this length.
 #[derive(Clone, Copy)]

@@ -7,7 +7,7 @@ ghost use Rattle.bw_wire.specs.Bodies.{is_message_body, is_ask_body, IsAddressed
 
 use crate::address::{after_kind, name, number, payload};
 use crate::payload::request_of;
-use bw_request::{Name, RequestRef};
+use bw_model::{Name, RequestRef};
 use sha2::{Digest, Sha256};
 
 /// A message: a name, a number, and a request on the take of that name. It borrows its body.
@@ -24,7 +24,7 @@ impl<'a> Message<'a> {
     ghost use Rattle.bw_model.specs.Wire.{Says, Spells, is_request};
     ghost use Rattle.bw_model.specs.Stream.{longest_body};
     ghost use Rattle.bw_model.specs.Wire.{message_body};
-    ghost use Rattle.bw_request.specs.Requests.{meaning};
+    ghost use Rattle.bw_model.specs.Requests.{meaning};
     ghost use Rattle.bw_wire.specs.Frames.{message_of};
 
     /// The name of the take.

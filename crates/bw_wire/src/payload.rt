@@ -1,10 +1,11 @@
 //! Payloads: what follows the number of a message.
 ghost use Rattle.std.specs.Prelude.{◌≡◌, ◌≤◌, IsTrue};
 ghost use Rattle.bw_model.specs.Wire.{is_payload as is_payload_of, request_of as request_in};
-ghost use Rattle.bw_request.specs.Requests.{meaning};
+ghost use Rattle.bw_model.specs.Requests.{meaning};
 
-use bw_bytes::{read_u16, read_u32, read_u64};
-use bw_request::{LONGEST_BLOCK, LONGEST_HISTORY, LONGEST_VALUE, RequestRef};
+use bw_model::{
+    LONGEST_BLOCK, LONGEST_HISTORY, LONGEST_VALUE, RequestRef, read_u16, read_u32, read_u64,
+};
 
 pub(crate) const OPEN: u8 = 1;
 

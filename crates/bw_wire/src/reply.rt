@@ -4,7 +4,7 @@ ghost use Rattle.bw_model.specs.Replies.{notice_code};
 ghost use Rattle.bw_wire.specs.Notices.{notice_meaning, DecodesNotice};
 
 use crate::reason::{Reason, UnknownCode};
-use bw_request::{Name, Verdict};
+use bw_model::{Name, Verdict};
 
 /// Why a message has no verdict, or the answer to an ask.
 #[derive(Clone, Copy, Debug, PartialEq, Eq, Hash)]

@@ -9,8 +9,7 @@ ghost use Rattle.bw_wire.specs.Replies.{reply_read};
 use crate::address::{LAST_NUMBER, has_name, has_number, name, number, payload};
 use crate::reason::Reason;
 use crate::reply::{Notice, Reply};
-use bw_bytes::{read_u32, read_u64};
-use bw_request::Verdict;
+use bw_model::{Verdict, read_u32, read_u64};
 
 pub(crate) const VERDICT: u8 = 0x81;
 

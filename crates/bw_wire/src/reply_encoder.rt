@@ -10,7 +10,7 @@ ghost use Rattle.bw_wire.specs.Replies.{reply_of, HasWireNumbers};
 use crate::reply::Reply;
 use crate::reply_decoder::{BAD_FRAME, NOTICE, VERDICT};
 use arrayvec::ArrayVec;
-use bw_request::Name;
+use bw_model::Name;
 
 /// Replaces the contents by a reply's whole frame. Its number is at most 16,777,215, and the next
 /// one that it gives at most 16,777,216.

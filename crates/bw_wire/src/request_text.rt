@@ -5,7 +5,7 @@ ghost use Rattle.bw_model.specs.Wire.{decoded_request};
 ghost use Rattle.bw_wire.specs.RequestTexts.{IsRequestText, IsEven};
 
 use crate::decoder::decode_request;
-use bw_request::Request;
+use bw_model::Request;
 use hex::FromHexError;
 use std::alloc::{AllocError, Global};
 

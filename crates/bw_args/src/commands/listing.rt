@@ -7,7 +7,7 @@ ghost use Rattle.bw_args.specs.Lines.{is_watch_mixed};
 use super::network::flag_given;
 use super::serving::folder_given;
 use crate::{BadValue, CommandLine, FolderWork, TakesFolder, Task};
-use bw_request::Name;
+use bw_model::Name;
 use clap::ArgMatches;
 use std::alloc::{AllocError, Global};
 

@@ -15,7 +15,7 @@ use super::network::{count_given, flag_given};
 use super::sending::Tries;
 use super::sources::{path_given, source_given};
 use crate::{BadValue, CommandLine, PcmSender, PcmSource, Task, numbers};
-use bw_request::Name;
+use bw_model::Name;
 use clap::ArgMatches;
 use std::alloc::{AllocError, Global};
 use std::net::SocketAddr;

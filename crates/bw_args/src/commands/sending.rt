@@ -12,7 +12,7 @@ use super::network::{address_given, count_given, flag_given};
 use super::samples::{samples_given, samples_line};
 use super::sources::{is_mixed, path_given, source_given, state_given};
 use crate::{BadValue, CommandLine, FileSender, Send, Task, numbers};
-use bw_request::Name;
+use bw_model::Name;
 use clap::ArgMatches;
 use std::alloc::{AllocError, Global};
 use std::net::SocketAddr;

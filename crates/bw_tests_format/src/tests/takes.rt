@@ -1,7 +1,7 @@
 //! What no clause says: values from the rules themselves, and calls that succeed.
 ghost use Rattle.std.specs.Prelude.{◌≤◌, IsTrue};
 ghost use Rattle.bw_model.specs.Wire.{is_request};
-ghost use Rattle.bw_request.specs.Requests.{meaning};
+ghost use Rattle.bw_model.specs.Requests.{meaning};
 
 use crate::tests::compare::same;
 use bw_take::{Name, Request, RequestRef, TakeState, UnknownVerdict, Verdict, judge};

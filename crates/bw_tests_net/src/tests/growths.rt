@@ -1,7 +1,7 @@
 //! Memory that is refused to an event loop.
 use crate::tests::play::{OTHERS, QUICK, QUICK_OTHER, Received, VERDICTS, bounds, try_serve};
 use crate::tests::scripted_reactor::{Plan, Visit};
-use bw_request::Name;
+use bw_model::Name;
 use bw_tests_kit::two_frames;
 use std::alloc::Global;
 use std::process::Abort;

@@ -5,7 +5,7 @@ use crate::tests::scripted_reactor::{Comes, Plan, ScriptedReactor, Visit};
 use bw_console::Exit;
 use bw_exchange::Metered;
 use bw_layout::Limit;
-use bw_request::Name;
+use bw_model::Name;
 use bw_serve::{Bounds, run_event_loop};
 use bw_session::Server;
 use bw_store::MemoryStore;

@@ -5,7 +5,7 @@ ghost use Rattle.bw_tests_net.specs.declared.tests.recorder.Call.TheVariants.{Cr
 ghost use Rattle.bw_tests_net.specs.declared.tests.recorder.Call.TheVariants.{Write as write};
 ghost use Rattle.bw_tests_net.specs.declared.tests.recorder.Call.TheVariants.{Finish as finish};
 
-use bw_request::Name;
+use bw_model::Name;
 use bw_store::{Created, StoreFault, TakeStore};
 use std::alloc::Global;
 

@@ -3,7 +3,7 @@
 use crate::tests::recorder::{Call, Recorder};
 use bw_disk::MemoryDisk;
 use bw_folder::FolderStore;
-use bw_request::Name;
+use bw_model::Name;
 use bw_store::{MemoryStore, TakeStore};
 use std::test::Fail;
 

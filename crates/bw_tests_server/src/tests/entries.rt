@@ -1,7 +1,7 @@
 //! Worked journals, byte by byte; that their calls succeed; what a damaged journal yields.
 ghost use Rattle.std.specs.Prelude.{IsTrue};
 ghost use Rattle.bw_model.specs.Wire.{is_request};
-ghost use Rattle.bw_request.specs.Requests.{meaning};
+ghost use Rattle.bw_model.specs.Requests.{meaning};
 
 use crate::tests::play::a1;
 use bw_journal::{
@@ -9,7 +9,7 @@ use bw_journal::{
     put_entry, replay,
 };
 use bw_layout::Limit;
-use bw_request::{Name, RequestRef, Verdict};
+use bw_model::{Name, RequestRef, Verdict};
 use sha2::{Digest, Sha256};
 use std::alloc::{AllocError, Global};
 use std::process::Abort;

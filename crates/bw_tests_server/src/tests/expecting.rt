@@ -3,7 +3,7 @@ ghost use Rattle.std.specs.Prelude.{None, false};
 
 use crate::tests::entries::JOURNAL;
 use bw_journal::Journal;
-use bw_request::Name;
+use bw_model::Name;
 use bw_store::{CallCounter, StoreFault};
 
 /// A journal of one name. It takes the bytes of `JOURNAL` after its header, each once and in their

@@ -5,8 +5,8 @@ use crate::tests::play::Reported::{Judged, Noticed};
 use crate::tests::play::{Reported, Turn, a1, has_file, noting_server, send};
 use bw_journal::{FuseJournal, MemoryJournal};
 use bw_layout::Limit;
-use bw_request::Name;
-use bw_request::Verdict::{BadBlock, Stored};
+use bw_model::Name;
+use bw_model::Verdict::{BadBlock, Stored};
 use bw_wire::Notice::{Conflict, DelayedStore, Held};
 use std::test::Fail;
 

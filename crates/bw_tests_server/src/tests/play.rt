@@ -3,7 +3,7 @@ use crate::tests::compare::same;
 use arrayvec::ArrayVec;
 use bw_journal::Journal;
 use bw_layout::Limit;
-use bw_request::{Name, Verdict};
+use bw_model::{Name, Verdict};
 use bw_session::Server;
 use bw_store::MemoryStore;
 use bw_tests_kit::two_frames;

@@ -1,7 +1,7 @@
 use Rattle.std.proofs.Common.{◌≡◌, ◌+◌, ◌-◌, ◌<◌, ℕ, set, sym, ◌∙◌, ap, subst, arith, refl}
 use Rattle.bw_model.specs.Bytes.{put}
 use Rattle.bw_model.specs.World.{Sender as Defined, settled}
-use Rattle.bw_request.specs.Verdicts.{verdict_meaning}
+use Rattle.bw_model.specs.VerdictMeanings.{verdict_meaning}
 use Rattle.bw_sender.proofs.SenderLaws.{known_heard, counted_heard, settled_some}
 use Rattle.bw_c.specs.PlainSenders.{IsPlainSender}
 use Rattle.bw_c.proofs.SlotLaws.{own_number, slot_some, slot_none, judges}

@@ -1,7 +1,7 @@
 use Rattle.std.proofs.Common.{◌+◌, ◌++◌, length, List, ℕ, sym, ap, subst, ◌∙◌}
 use Rattle.bw_model.specs.Bytes.{le32}
 use Rattle.bw_model.specs.Wire.{payload, addressed}
-use Rattle.bw_request.specs.Requests.{meaning}
+use Rattle.bw_model.specs.Requests.{meaning}
 use Rattle.bw_wire.specs.EncodedFrames.{IsFrameOf, said}
 use Rattle.bw_wire.proofs.Encoding.{message_frame}
 use Rattle.bw_c.proofs.head.head_of.Goals as goal

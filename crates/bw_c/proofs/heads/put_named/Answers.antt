@@ -1,5 +1,5 @@
 use Rattle.std.proofs.Common.{◌≡◌, ◌<◌, ◌≤◌, ◌++◌, length, List, ℕ, sym, ◌∙◌, subst, arith, refl}
-use Rattle.bw_request.specs.Requests.{meaning, carried_bytes}
+use Rattle.bw_model.specs.Requests.{meaning, carried_bytes}
 use Rattle.bw_wire.specs.EncodedFrames.{IsFrameOf, said}
 use Rattle.bw_c.proofs.HeadLaws.{refuses_room, can_write, wrote_head, put_room, put_full}
 use Rattle.bw_c.proofs.heads.put_named.Goals as goal

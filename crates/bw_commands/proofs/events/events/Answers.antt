@@ -2,9 +2,9 @@ use Rattle.std.proofs.Common.{◌≡◌, ◌+◌, ◌∷◌, ◌++◌, [], List,
 use Rattle.std.proofs.lemmas.Grind.{common_steps}
 use Rattle.std.proofs.lemmas.List.{map_push}
 use Rattle.bw_model.specs.World.{Event}
-use Rattle.bw_rehearsal.specs.RehearsedWorlds.{event_meaning}
+use Rattle.bw_commands.specs.RehearsedWorlds.{event_meaning}
 use Rattle.bw_console.specs.Lines.{lines_of}
-use Rattle.bw_rehearsal.specs.EventLines.{SaysEvent}
+use Rattle.bw_commands.specs.SaidEvents.{SaysEvent}
 use Rattle.bw_console.proofs.LineLemmas.{no_lines}
 use Rattle.bw_console.proofs.SaidLines.{SaidSoFar, one_said, all_said, stops_at, read_some, read_none}
 use Rattle.bw_commands.proofs.events.events.Goals as goal

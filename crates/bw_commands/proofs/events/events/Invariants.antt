@@ -1,7 +1,7 @@
 use Rattle.std.proofs.Common.{◌+◌, ◌≤◌, length, map}
-use Rattle.bw_rehearsal.specs.RehearsedWorlds.{event_meaning}
+use Rattle.bw_commands.specs.RehearsedWorlds.{event_meaning}
 use Rattle.bw_console.specs.Lines.{lines_of}
-use Rattle.bw_rehearsal.specs.EventLines.{SaysEvent}
+use Rattle.bw_commands.specs.SaidEvents.{SaysEvent}
 use Rattle.bw_console.proofs.SaidLines.{SaidSoFar}
 use Rattle.bw_commands.proofs.events.events.Given as goal
 

@@ -1,7 +1,7 @@
 use Rattle.std.proofs.Common.{sym, ◌∙◌, ap}
 use Rattle.std.specs.Prelude.{List, ℕ, unwrap_or}
 use Rattle.bw_model.specs.Book.{log_of}
-use Rattle.bw_rehearsal.specs.RehearsedWorlds.{no_contents}
+use Rattle.bw_commands.specs.RehearsedWorlds.{no_contents}
 use Rattle.bw_commands.proofs.WorldLemmas.{on_ok, done_reported, same_progress}
 use Rattle.bw_commands.proofs.world_text.put_progress.Goals as goal
 

@@ -1,5 +1,5 @@
 use Rattle.std.proofs.Common.{rules, arith, inl, inr, refl}
-use Rattle.bw_request.proofs.Ranges.{are_bytes_lem}
+use Rattle.bw_model.proofs.Ranges.{are_bytes_lem}
 use Rattle.bw_connections.proofs.connection.feed_piece.Goals as goal
 
 pub returns-in-Err-Memory-clause-feeds : goal.returns-in-Err-Memory-clause-feeds

@@ -1,5 +1,5 @@
 use Rattle.std.proofs.Common.{rules, arith, sym, ap, Some}
-use Rattle.bw_request.proofs.Ranges.{are_bytes_lem}
+use Rattle.bw_model.proofs.Ranges.{are_bytes_lem}
 use Rattle.bw_engine.proofs.ServedInputs.{serves_input, serves_first}
 use Rattle.bw_engine.proofs.ingest.serve_input.Goals as goal
 

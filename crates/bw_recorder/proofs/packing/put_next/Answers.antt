@@ -1,7 +1,7 @@
 use Rattle.std.proofs.Common.{◌∷◌, [], sym, refl}
 use Rattle.std.proofs.lemmas.Result.{err_from_is_err_and}
 use Rattle.bw_model.specs.Take.{Request}
-use Rattle.bw_request.specs.Requests.{meaning}
+use Rattle.bw_model.specs.Requests.{meaning}
 use Rattle.bw_plan.specs.Progress.{after_next, remaining}
 use Rattle.bw_recorder.proofs.PutSteps.{goes_on, going_on_gives, going_on_put, next_first, no_line, one_text}
 use Rattle.bw_recorder.proofs.packing.put_next.Goals as goal

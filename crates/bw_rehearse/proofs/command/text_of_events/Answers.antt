@@ -1,5 +1,5 @@
 use Rattle.std.proofs.Common.{List, ℕ, subst}
-use Rattle.bw_stops.specs.Rehearsals.{WasRehearsedWithStops}
+use Rattle.bw_rehearse.specs.Rehearsals.{WasRehearsedWithStops}
 use Rattle.bw_rehearse.proofs.command.text_of_events.Goals as goal
 
 pub returns-in_ok-text_of_stops-in-Ok-clause-ok : goal.returns-in_ok-text_of_stops-in-Ok-clause-ok

@@ -3,7 +3,7 @@ use Rattle.std.proofs.lemmas.Grind.{common_steps}
 use Rattle.bw_console.specs.Lines.{lines_of}
 use Rattle.bw_console.proofs.LineLemmas.{no_lines}
 use Rattle.bw_console.proofs.SaidLines.{SaidSoFar, one_said, all_said, stops_at, read_some, read_none}
-use Rattle.bw_stops.specs.declared.event.StopEvent.{StopEvent}
+use Rattle.bw_rehearse.specs.declared.event.StopEvent.{StopEvent}
 use Rattle.bw_rehearse.specs.ServerLines.{SaysStopEvent}
 use Rattle.bw_rehearse.proofs.events.stop_events.Goals as goal
 

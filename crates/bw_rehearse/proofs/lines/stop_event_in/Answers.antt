@@ -1,6 +1,6 @@
 use Rattle.bw_console.proofs.SaidLines.{read_none}
-use Rattle.bw_rehearsal.specs.EventLines.{SaysEvent}
-use Rattle.bw_rehearsal.specs.RehearsedWorlds.{event_meaning}
+use Rattle.bw_commands.specs.SaidEvents.{SaysEvent}
+use Rattle.bw_commands.specs.RehearsedWorlds.{event_meaning}
 use Rattle.bw_rehearse.specs.ServerLines.{SaysServerEvent}
 use Rattle.bw_rehearse.proofs.LineWords.{none_at_all}
 use Rattle.bw_rehearse.proofs.lines.stop_event_in.Goals as goal

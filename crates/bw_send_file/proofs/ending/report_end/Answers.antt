@@ -1,7 +1,7 @@
 use Rattle.std.proofs.Common.{◌≡◌, ◌∙◌, ℕ, List, true, refl, sym, subst, inl, inr}
 use Rattle.bw_console.specs.Prints.{HasPrinted, HasStopped, Nothing, Whole, Part}
 use Rattle.bw_console.specs.declared.exit.Exit.TheVariants as exits
-use Rattle.bw_send.specs.SenderText.{sender_text}
+use Rattle.bw_upload.specs.SenderText.{sender_text}
 use Rattle.bw_send_file.proofs.ending.report_end.Goals as goal
 
 pub returns-in_default : goal.returns-in_default

@@ -1,12 +1,12 @@
 use Rattle.std.proofs.Common.{◌≡◌, Bool, true, false, Ok, Err, refl, sym, ◌∙◌, ap}
 use Rattle.std.proofs.lemmas.Result.{err_from_is_err_and}
 use Rattle.bw_model.specs.Take.{Parts, Request, is_stored}
-use Rattle.bw_request.specs.Requests.{meaning}
+use Rattle.bw_model.specs.Requests.{meaning}
 use Rattle.bw_file.specs.GrowingFiles.{Growing}
 use Rattle.bw_session.proofs.CarryForms.{carries_refused, carries_ahead, carries_new, carries_exists, carries_err}
 use Rattle.bw_session.proofs.PrefixForms.{carries_prefix}
 use Rattle.bw_session.proofs.PlanForms.{asks_ahead, asks_refused, asks_written, asks_first}
-use Rattle.bw_request.specs.declared.verdict.Verdict.TheVariants.{Stored}
+use Rattle.bw_model.specs.declared.verdict.Verdict.TheVariants.{Stored}
 use Rattle.bw_session.proofs.execution.carry_out.Goals as goal
 
 -- a write leaves a file that isn't ahead so

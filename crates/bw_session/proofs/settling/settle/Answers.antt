@@ -1,8 +1,8 @@
 use Rattle.std.proofs.Common.{◌≡◌, suc, true, false, sym, ◌∙◌, subst}
 use Rattle.bw_model.specs.Take.{Parts, Request, Verdict, is_stored}
-use Rattle.bw_request.specs.Requests.{meaning}
+use Rattle.bw_model.specs.Requests.{meaning}
 use Rattle.bw_take.specs.States.{State, FollowsTakes}
-use Rattle.bw_request.specs.Verdicts.{verdict_meaning}
+use Rattle.bw_model.specs.VerdictMeanings.{verdict_meaning}
 use Rattle.bw_session.specs.DoneNumbers.{KeepsDone}
 use Rattle.bw_session.proofs.LogSteps.{keeps_stored, keeps_refused}
 use Rattle.bw_session.proofs.settling.settle.Goals as goal

@@ -1,4 +1,5 @@
-use Rattle.std.proofs.Common.{rules, arith, ◌≡◌, ◌≤◌, ◌+◌, ◌-◌, ℕ, true, false, List, Some, None, IsTrue, length, drop, refl, sym, ap, ◌∙◌, subst}
+use Rattle.std.proofs.Common.{rules, arith, ◌≡◌, ◌≤◌, ◌+◌, ◌-◌, ℕ, true, false, List, Some, None, IsTrue}
+use Rattle.std.proofs.Common.{length, drop, refl, sym, ap, ◌∙◌, subst}
 use Rattle.std.specs.Prelude.{option_map}
 use Rattle.std.proofs.lemmas.List.{drop_min, drop-drop, length-drop, take_rest}
 use Rattle.bw_disk.proofs.DiskChains.{stays_twice}
@@ -6,7 +7,8 @@ use Rattle.bw_journal.specs.Entries.{entry_in, first_content}
 use Rattle.bw_journal.specs.Refs.{entry_said}
 use Rattle.bw_recovery.proofs.ListForms.{of_some}
 use Rattle.bw_take_files.specs.TakeSamples.{is_kept}
-use Rattle.bw_take_files.proofs.SampleLemmas.{begins_all, first_read, first_none, first_other, goes_on, kept_by, kept_stops, kept_ends, kept_all, still_found}
+use Rattle.bw_take_files.proofs.SampleLemmas.{begins_all, first_read, first_none, first_other, goes_on}
+use Rattle.bw_take_files.proofs.SampleLemmas.{kept_by, kept_stops, kept_ends, kept_all, still_found}
 use Rattle.bw_take_files.proofs.samples.first_changed.Goals as goal
 
 pub loop-step-init : goal.loop-step-init

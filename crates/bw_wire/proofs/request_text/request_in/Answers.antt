@@ -1,6 +1,6 @@
 use Rattle.std.proofs.Common.{arith, sym, ◌∙◌, ap}
-use Rattle.bw_request.proofs.Ranges.{are_bytes_lem}
-use Rattle.bw_request.specs.Requests.{meaning}
+use Rattle.bw_model.proofs.Ranges.{are_bytes_lem}
+use Rattle.bw_model.specs.Requests.{meaning}
 use Rattle.bw_wire.specs.Frames.{request_read}
 use Rattle.bw_wire.proofs.RequestTexts.{decoded_fits}
 use Rattle.bw_wire.proofs.request_text.request_in.Goals as goal

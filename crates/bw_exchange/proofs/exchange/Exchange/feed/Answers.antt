@@ -1,6 +1,6 @@
 use Rattle.std.proofs.Common.{[], ◌++◌, Option, sym, subst, arith}
 use Rattle.bw_model.specs.Stream.{End}
-use Rattle.bw_request.proofs.Ranges.{are_bytes_lem}
+use Rattle.bw_model.proofs.Ranges.{are_bytes_lem}
 use Rattle.bw_exchange.specs.Done.{Done}
 use Rattle.bw_exchange.proofs.Doing.{done_fed}
 use Rattle.bw_exchange.proofs.Going.{none_so_far}

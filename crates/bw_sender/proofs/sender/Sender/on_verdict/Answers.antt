@@ -1,6 +1,6 @@
 use Rattle.std.proofs.Common.{◌≡◌, ◌+◌, ◌-◌, ◌<◌, sym, ◌∙◌, subst, arith, refl}
 use Rattle.bw_model.specs.World.{Sender as Defined, settled}
-use Rattle.bw_request.specs.Verdicts.{verdict_meaning}
+use Rattle.bw_model.specs.VerdictMeanings.{verdict_meaning}
 use Rattle.bw_sender.specs.Senders.{IsSender}
 use Rattle.bw_sender.proofs.SenderLaws.{known_heard, counted_heard, judges_one, slot_judged, own_offered, settled_some}
 use Rattle.bw_sender.proofs.SenderLaws.{none_there}

@@ -1,8 +1,8 @@
 use Rattle.std.proofs.Common.{◌++◌, ◌∷◌, Bool, ℕ, [], Option, Some, ap, sym, ◌∙◌, refl}
 use Rattle.std.proofs.Common.{Bor}
 use Rattle.std.specs.Prelude.{is_some, option_map, option_copied, option_and_then}
-use Rattle.bw_request.specs.Verdicts.{verdict_meaning}
-use Rattle.bw_request.specs.declared.verdict.Verdict.{Verdict}
+use Rattle.bw_model.specs.VerdictMeanings.{verdict_meaning}
+use Rattle.bw_model.specs.declared.verdict.Verdict.{Verdict}
 use Rattle.bw_sender.specs.declared.window.Offered.{Offered}
 use Rattle.bw_sender.specs.Entries.{SenderEntry}
 use Rattle.bw_sender.specs.Offers.{sender_entry}

@@ -1,6 +1,6 @@
 use Rattle.std.proofs.Common.{◌≡◌, ℕ, suc, ◌+◌, ◌*◌, ◌/◌, List, length, rules, arith}
 use Rattle.std.proofs.lemmas.Grind.{common_steps}
-use Rattle.bw_request.specs.Verdicts.{verdict_meaning}
+use Rattle.bw_model.specs.VerdictMeanings.{verdict_meaning}
 use Rattle.bw_session.proofs.Packing.{entries_push, codes_push}
 use Rattle.bw_session.proofs.ledger.Ledger.push.Goals as goal
 

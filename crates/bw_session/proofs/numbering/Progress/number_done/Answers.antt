@@ -2,8 +2,8 @@ use Rattle.std.proofs.lemmas.Result.{err_from_is_err_and}
 use Rattle.bw_session.proofs.NoteForms.{begun_in_part, begun_notes, carried_noted, carried_in_part}
 use Rattle.std.proofs.Common.{ap, ◌∙◌, ◌≤◌, inl, inr, rules, ◌≡◌, ℕ, List, Ok, refl, true, false, sym, subst}
 use Rattle.bw_model.specs.Take.{Parts, Request, Verdict, AreFields}
-use Rattle.bw_request.specs.Requests.{meaning}
-use Rattle.bw_request.specs.Verdicts.{verdict_meaning}
+use Rattle.bw_model.specs.Requests.{meaning}
+use Rattle.bw_model.specs.VerdictMeanings.{verdict_meaning}
 use Rattle.bw_session.specs.Prefixes.{HoldsPrefix}
 use Rattle.bw_session.specs.NextNumbers.{IsNext, IsDone, noted_of}
 use Rattle.bw_journal.specs.Notes.{NotesInPart}

@@ -5,8 +5,8 @@ use Rattle.std.specs.Prelude.{is_some, slice_set}
 use Rattle.std.proofs.lemmas.List.{length_push}
 use Rattle.bw_model.specs.Take.{Verdict}
 use Rattle.bw_model.specs.Wire.{Message, message_body}
-use Rattle.bw_request.specs.Requests.{meaning}
-use Rattle.bw_request.specs.Verdicts.{verdict_meaning}
+use Rattle.bw_model.specs.Requests.{meaning}
+use Rattle.bw_model.specs.VerdictMeanings.{verdict_meaning}
 use Rattle.bw_file.specs.GrowingFiles.{Growing}
 use Rattle.bw_wire.specs.Bodies.{message_in}
 use Rattle.bw_wire.specs.Frames.{message_of}

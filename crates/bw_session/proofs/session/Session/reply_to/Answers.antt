@@ -4,7 +4,7 @@ use Rattle.std.specs.Prelude.{is_some}
 use Rattle.bw_model.specs.Wire.{Message}
 use Rattle.bw_model.specs.Replies as model
 use Rattle.bw_model.specs.Book.{run_end, verdict_at}
-use Rattle.bw_request.specs.Verdicts.{verdict_meaning}
+use Rattle.bw_model.specs.VerdictMeanings.{verdict_meaning}
 use Rattle.bw_wire.specs.Frames.{message_of}
 use Rattle.bw_session.specs.Runs.{with_more_done}
 use Rattle.bw_session.specs.Sessions.{part_of}

@@ -1,7 +1,7 @@
 use Rattle.std.proofs.Common.{◌≡◌, sym, ◌∙◌, ap, subst, arith}
 use Rattle.std.specs.Prelude.{slice_index}
 use Rattle.bw_model.specs.Wire.{is_request, payload_in, request_of}
-use Rattle.bw_request.specs.Requests.{meaning}
+use Rattle.bw_model.specs.Requests.{meaning}
 use Rattle.bw_wire.specs.Addresses.{HasAddress}
 use Rattle.bw_wire.specs.Bodies.{body_request}
 use Rattle.bw_wire.proofs.BodyLaws.{message_body, message_request}

@@ -1,5 +1,0 @@
-use Rattle.std.proofs.Common.{rules}
-use Rattle.bw_bytes.proofs.number.read_u16.Goals as goal
-
-pub returns : goal.returns
-returns c = search rules

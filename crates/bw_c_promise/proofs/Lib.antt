@@ -1,2 +1,0 @@
-pub mod RecorderLaws
-pub mod RecordedFileLaws

@@ -1,3 +1,0 @@
-pub mod Recorders
-pub mod RecordersSend
-pub mod RecordedFiles

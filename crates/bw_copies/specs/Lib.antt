@@ -1,4 +1,0 @@
-pub mod Copies
-pub mod ExamplesOfCopies
-pub mod SentCopies
-pub mod SentSamples

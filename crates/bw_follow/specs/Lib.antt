@@ -1,3 +1,0 @@
-pub mod FollowedReads
-pub mod Samples
-pub mod ComingRequests

@@ -1,5 +1,0 @@
-use Rattle.bw_lives.proofs.Lives.{verdicts_outlive_servers}
-use Rattle.bw_lives.proofs.law_lives.Goals as goal
-
-pub returns : goal.returns
-returns g c = verdicts_outlive_servers _ _ _ _ c.law_stops.ensures c.law_begins.ensures.held

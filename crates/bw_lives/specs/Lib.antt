@@ -1,6 +1,0 @@
-pub mod Lives
-pub mod Senders
-pub mod StoppedWorlds
-pub mod ServedWorlds
-pub mod ExamplesOfLives
-pub mod ExamplesOfStops

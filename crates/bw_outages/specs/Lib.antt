@@ -1,2 +1,0 @@
-pub mod Outages
-pub mod Repeats

@@ -1,5 +1,0 @@
-pub mod Staging
-mod Playing
-mod Schedules
-pub mod FaultLaws
-pub mod EventWords

@@ -1,5 +1,0 @@
-pub mod RehearsedWorlds
-pub mod EventLines
-pub mod FaultRuns
-pub mod Simulations
-pub mod Worlds

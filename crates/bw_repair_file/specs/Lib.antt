@@ -1,4 +1,0 @@
-pub mod Soundnesses
-pub mod Writes
-pub mod Texts
-pub mod Repairs

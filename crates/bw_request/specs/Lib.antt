@@ -1,3 +1,0 @@
-pub mod OwnedRequests
-pub mod Requests
-pub mod Verdicts

@@ -1,5 +1,0 @@
-pub mod LineCuts
-pub mod TextLines
-pub mod CountLines
-pub mod CutStates
-pub mod HeaderWords

@@ -1,7 +1,0 @@
-pub mod OfferSteps
-pub mod RefusedLines
-pub mod RequestLemmas
-pub mod RoundSteps
-pub mod ReportedLinks
-pub mod InOrder
-pub mod Printed

@@ -1,3 +1,0 @@
-pub mod PcmFeedSteps
-pub mod OpenedSamples
-mod KnownLengths

@@ -1,3 +1,0 @@
-pub mod PcmFeeds
-pub mod PcmSendings
-pub mod SampleFeeds

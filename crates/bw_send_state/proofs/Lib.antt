@@ -1,9 +1,0 @@
-mod ReadSteps
-mod FeedSteps
-mod RestSteps
-mod AskSteps
-mod SkipSteps
-mod StateSteps
-mod ReportSteps
-mod BeginSteps
-mod KeeperSteps

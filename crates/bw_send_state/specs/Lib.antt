@@ -1,8 +1,0 @@
-pub mod SkippedRequests
-pub mod TakeOpenings
-pub mod Asks
-pub mod NotedCounts
-pub mod FoundCounts
-pub mod StateReports
-pub mod SentOn
-pub mod FilesSentOn

@@ -1,2 +1,0 @@
-pub mod Spools
-pub mod Purposes

@@ -1,6 +1,0 @@
-mod AskForms
-pub mod Endings
-mod MachineForms
-mod NetworkForms
-mod PlayForms
-mod Schedules

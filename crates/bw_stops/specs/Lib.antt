@@ -1,5 +1,0 @@
-pub mod Asks
-pub mod Machines
-pub mod Networks
-pub mod PlayedEvents
-pub mod Rehearsals
