@@ -14,16 +14,32 @@ struct event { /* as the kernel lays it out on every processor but x86-64 */
     unsigned long data;
 };
 
+struct address { /* a sockaddr_in or a sockaddr_in6, in the first len bytes */
+    unsigned char bytes[128];
+    unsigned len;
+};
+
+struct info {
+    int flags, family, kind, protocol;
+    unsigned len;
+    const unsigned char *bytes;
+    char *name;
+    struct info *next;
+};
+
 int *__errno_location(void);
 int epoll_ctl(int epfd, int op, int fd, struct event *event);
 int epoll_wait(int epfd, struct event *events, int most, int timeout);
 void free(void *p);
+void freeaddrinfo(struct info *all);
+int getaddrinfo(const char *host, const char *service, const struct info *wanted, struct info **all);
 int ioctl(int fd, unsigned long request, ...);
 void *malloc(size n);
 int openat(int dir, const char *name, int flags, ...);
 void *realloc(void *p, size n);
 
 enum { MOST_EVENTS = 1 << 24, SETS_NONBLOCKING = 0x5421, OPENS_DIR = 0x80000 | 0x4000 | 0x8000 };
+enum { IPV4 = 2, IPV6 = 10, STREAM = 1 };
 
 static size count;
 static char **words;
@@ -90,6 +106,24 @@ int rattle_epoll_ctl(int epfd, int op, int fd, unsigned events, unsigned long da
 
 offset rattle_epoll_wait(int epfd, struct event *events, size room, int timeout) {
     return epoll_wait(epfd, events, room < MOST_EVENTS ? (int)room : MOST_EVENTS, timeout);
+}
+
+offset rattle_lookup_host(const char *name, struct address *found, size room) {
+    struct info wanted = {.kind = STREAM}, *all, *one;
+    size n = 0;
+    unsigned i;
+    int error = getaddrinfo(name, 0, &wanted, &all);
+    if (error)
+        return error;
+    for (one = all; one && n < room; one = one->next) {
+        if ((one->family != IPV4 && one->family != IPV6) || one->len > sizeof found[n].bytes)
+            continue;
+        for (i = 0; i < one->len; i++)
+            found[n].bytes[i] = one->bytes[i];
+        found[n++].len = one->len;
+    }
+    freeaddrinfo(all);
+    return (offset)n;
 }
 
 /* Division of 128 bits, which the compiler calls, bit by bit. */
