@@ -490,7 +490,8 @@ def places(lines, start):
 
 
 def has_order(name, lines, samples, synced):
-    """The take's file is written and then synced, then the journal is, and then the reply is sent.
+    """The take's file is written and then synced, then the journal is, and then the reply is sent; a file that isn't
+    written isn't synced.
 
     For an OPEN the journal's header is written first, and it and the folder are synced before anything is written to
     the take's file; the folder is synced once more before the note. Without syncs a CLOSE still has its file synced
@@ -505,7 +506,7 @@ def has_order(name, lines, samples, synced):
     found = (finished, wave_synced, notes, notes_synced, folder_synced, reply)
     counts = (bool(wave), *map(len, found))
     syncs = synced * (1 + is_open) + alone, 2 * (synced and is_open) + alone
-    wanted = (samples, is_close, synced, 1 + is_open, *syncs, 1)
+    wanted = (samples, is_close, synced and samples, 1 + is_open, *syncs, 1)
     TALLY.same(f"{name}: how often", counts, wanted)
     begun = [*notes[:-1], *notes_synced[:-1], *folder_synced[:-1], *wave[:1]]
     noted = [*notes[-1:], *notes_synced[-1:]]
