@@ -40,7 +40,8 @@ pub record StateSide (F B L : Type 0) : Type 1 where
   pub files : StateGhosts B L
   pub log : LogGhosts L
 
-abbrev pub state_side : {F B L : Type 0} → (F → List ℕ → Option (List ℕ)) → StateGhosts B L → LogGhosts L →
+abbrev pub state_side : {F B L : Type 0} → (F → List ℕ → Option (List ℕ)) →
+    StateGhosts B L → LogGhosts L →
     StateSide F B L
 state_side kept_at files log = record { kept_at = kept_at; files = files; log = log }
 
@@ -146,7 +147,8 @@ pub record KeptSide (N T : Type 0) : Type 1 where
   pub server : TurnsSide T
 
 abbrev pub kept_side : {N T : Type 0} →
-    (N → List ℕ → ℕ → Bool → Result (OpenedServer T) StartRefusal → N → Type 0) → (N → ℕ) → TurnsSide T →
+    (N → List ℕ → ℕ → Bool → Result (OpenedServer T) StartRefusal → N → Type 0) →
+        (N → ℕ) → TurnsSide T →
     KeptSide N T
 kept_side opens failures server = record { opens = opens; failures = failures; server = server }
 
@@ -167,7 +169,8 @@ pub record UploadSide (U J Q : Type 0) : Type 1 where
   pub follow : FeedGhosts J FeedFault
   pub pause : PauseGhosts Q
 
-abbrev pub upload_side : {U J Q : Type 0} → FeedGhosts U FeedFault → (Option FileStamp → U → Type 0) →
+abbrev pub upload_side : {U J Q : Type 0} → FeedGhosts U FeedFault →
+    (Option FileStamp → U → Type 0) →
     FeedGhosts J FeedFault → PauseGhosts Q → UploadSide U J Q
 upload_side feed looks_at follow pause =
     record { feed = feed; looks_at = looks_at; follow = follow; pause = pause }

@@ -73,7 +73,8 @@ closed_in depth folder contents name = closed_take (is_deep depth) name
     (contents (notes_path folder name)) (contents (wave_path folder name))
 
 -- what is said of the digest of its samples
-abbrev pub digest_in : ReportForm → List ℕ → (List ℕ → Option (List ℕ)) → List ℕ → SampleDigest
+abbrev pub digest_in : ReportForm → List ℕ → (List ℕ → Option (List ℕ)) → List ℕ →
+    SampleDigest
 digest_in form folder contents name = digest_said form.digest
     (closed_in form.depth folder contents name) (contents (wave_path folder name))
 
@@ -116,7 +117,8 @@ told_after form folder contents told (name, Some entry) = record {
 }
 
 -- one more take is reported
-abbrev pub TellsTake : ReportForm → List ℕ → (List ℕ → Option (List ℕ)) → List ℕ → Told → Told →
+abbrev pub TellsTake : ReportForm → List ℕ → (List ℕ → Option (List ℕ)) → List ℕ →
+    Told → Told →
     Type 0
 TellsTake form folder contents name before after = (unread : Option TakeEntry)
     × (after ≡ told_after form folder contents before (name, unread))
