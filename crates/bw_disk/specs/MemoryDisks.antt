@@ -44,7 +44,7 @@ abbrev pub added_at : List ℕ → (List ℕ → Option (List ℕ)) → List ℕ
     List ℕ → Option (List ℕ)
 added_at ending before from content path =
     option_or (before path)
-      (if bytes_eq from path && ends_with ◌==◌ path ending then Some content else None)
+    (if bytes_eq from path && ends_with ◌==◌ path ending then Some content else None)
 
 -- what a path has after the files of another disk whose paths have this ending were copied to where
 -- nothing was

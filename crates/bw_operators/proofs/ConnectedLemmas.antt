@@ -94,7 +94,7 @@ read_on G c c' e r is = go r.phase
     part : r.piece ≡ [] → IsRequestPart c'.held.items
     part none =
         let same : c'.held.items ≡ c.held.items = r.held ∙ (ap (λ (xs : List ℕ). c.held.items
-            ++ xs) none ∙ append-nil c.held.items) in
+        ++ xs) none ∙ append-nil c.held.items) in
         subst IsRequestPart (sym same) was.2
 
     go : ((r.piece ≡ []) × (c'.phase ≡ Reading)) ⊎ HasHeld c'.held.items c'.phase → IsConnection G c'

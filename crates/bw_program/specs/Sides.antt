@@ -148,7 +148,7 @@ pub record KeptSide (N T : Type 0) : Type 1 where
 
 abbrev pub kept_side : {N T : Type 0} →
     (N → List ℕ → ℕ → Bool → Result (OpenedServer T) StartRefusal → N → Type 0) →
-        (N → ℕ) → TurnsSide T →
+    (N → ℕ) → TurnsSide T →
     KeptSide N T
 kept_side opens failures server = record { opens = opens; failures = failures; server = server }
 
