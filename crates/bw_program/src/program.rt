@@ -21,6 +21,7 @@ use bw_args::{CommandLine, Task, parse};
 use bw_commands::replay::replay;
 use bw_console::print::{give_up, print, print_diagnostic};
 use bw_console::{Exit, Fault, report_bad_argv};
+use bw_delivery::rehearse_with_stops_run;
 use bw_disk::Volume;
 use bw_journal::{Journal, NoJournal};
 use bw_layout::Limit;
@@ -31,7 +32,6 @@ use bw_ports::{
     RecordingFiles, SpoolKeeping, StateKeeping, System, Watch,
 };
 use bw_progress::UploadWatch;
-use bw_rehearse::rehearse_with_stops_run;
 use bw_repair::repair_file;
 use bw_send_file::{PcmFeed, PlanFeed};
 use bw_serve::{Opens, ServeRules};

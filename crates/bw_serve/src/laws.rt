@@ -20,5 +20,5 @@ pub fn law_names<S: TakeStore>()
 pub fn law_held_runs<S: TakeStore, J: Journal>()
     ensures { HeldServersLeave S.TakeStore J.Journal }
 {
-    bw_engine::laws::law_server_runs::<S, J>();
+    bw_session::laws::law_server_runs::<S, J>();
 }
