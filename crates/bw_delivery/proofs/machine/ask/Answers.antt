@@ -3,7 +3,7 @@ use Rattle.bw_disk.specs.MemoryDisks.{content_at}
 use Rattle.bw_disk.specs.declared.memory_disk.MemoryDisk.{MemoryDisk}
 use Rattle.bw_journal.specs.Stops.{cut_book}
 use Rattle.bw_kept.proofs.LeftFolders.{kept_servers_leave_done}
-use Rattle.bw_delivery.proofs.Lives.{turn_stays}
+use Rattle.bw_delivery.proofs.LifeLemmas.{turn_stays}
 use Rattle.bw_delivery.proofs.ServedWorlds.{turns_of_worlds, deaths_are_steps}
 use Rattle.bw_commands.specs.RehearsedWorlds.{no_contents}
 use Rattle.bw_session.proofs.OrderLaws.{waiting_in_order}
