@@ -12,5 +12,5 @@ mod samples;
 mod sources;
 mod uploads;
 
-pub use outside::{Outside, OutsideOf, Sides};
+pub use outside::Outside;
 pub use program::start;

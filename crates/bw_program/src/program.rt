@@ -13,7 +13,7 @@ ghost use Rattle.bw_serve_status.specs.Shown.{status_side};
 
 use crate::folders::work_on_takes;
 use crate::inspections::{inspect_as, inspect_one};
-use crate::outside::{FileOf, GrowingOf, Outside, OutsideOf, Sides, StampedOf};
+use crate::outside::Outside;
 use crate::recordings::pack_as;
 use crate::remote::{send_typed, serve_as};
 use crate::sources::{send_file_there, send_pcm_there};
@@ -21,15 +21,22 @@ use bw_args::{CommandLine, Task, parse};
 use bw_commands::replay::replay;
 use bw_console::print::{give_up, print, print_diagnostic};
 use bw_console::{Exit, Fault, report_bad_argv};
-use bw_delivery::rehearse_with_stops_run;
+use bw_disk::Volume;
 use bw_journal::{Journal, NoJournal};
 use bw_layout::Limit;
+use bw_operators::StatusSetup;
 use bw_picture::draw_file;
-use bw_ports::System;
+use bw_ports::{
+    EditedFiles, FileKinds, FolderLocks, ListenerSetup, Network, PacedNetwork, Pause,
+    RecordingFiles, SpoolKeeping, StateKeeping, System, Watch,
+};
+use bw_progress::UploadWatch;
+use bw_rehearse::rehearse_with_stops_run;
 use bw_repair::repair_file;
 use bw_send_file::{PcmFeed, PlanFeed};
-use bw_stream::Sink;
-use bw_upload::Feed;
+use bw_serve::{Opens, ServeRules};
+use bw_stream::{Sink, Source};
+use bw_upload::{Feed, Observer};
 use clap::Error;
 use std::alloc::Global;
 use std::process::ExitCode;
@@ -41,98 +48,126 @@ use std::process::ExitCode;
 /// - When the status 4 is returned.
 /// - Which command line is obeyed if the system reports no words, as `Host` doesn't.
 /// - The texts of help, version and usage errors.
-pub fn start<X: Sides>(alloc: Global, outside: &mut OutsideOf<X>) -> ExitCode
+pub fn start<
+    S: System,
+    F: RecordingFiles + StateKeeping + SpoolKeeping + EditedFiles + FolderLocks + FileKinds,
+    D: Volume,
+    N: PacedNetwork + ListenerSetup + Opens + ServeRules + StatusSetup<N::Reactor>,
+    P: Pause,
+    R: Source,
+    W: Sink,
+    E: Sink,
+    V: Watch + UploadWatch,
+    G: Observer,
+>(alloc: Global, outside: &mut Outside<S, F, D, N, P, R, W, E, V, G>) -> ExitCode
     // Commands without the network leave it alone, and each text goes to its stream.
     ensures { (exit : Exit) × (exit_status result ≡ status_of exit) × IsProgram
-        (host_side X.System.System X.Files.RecordingFiles (state_side X.Files.kept_at
-        X.Files.States.StateFiles X.Files.States.Log.StateLog)
-        (spool_side X.Files.lends X.Files.Keeper.SpoolKeeper) X.Files.EditedFiles X.Files.FolderLocks
-        X.Files.FileKinds X.Disk.Disk X.Input.Source X.Out.Sink X.Faults.Sink)
-        (server_side X.Network.Store.TakeStore ⟦<NoJournal as Journal>⟧ X.Network.Peers.Peers
-        X.Network.Peers.Reader.Source X.Network.Peers.Writer.Sink X.Reactor.Reactor
-        X.Reactor.Link.Link X.Network.ServeRules
-        (status_side X.Network.StatusSetup X.Network.Port.StatusPort X.Network.Port.Link.Link))
-        (sender_side X.Network.Dial.Dial X.Network.Dial.Reader.Source X.Network.Dial.Writer.Sink)
-        (upload_side ⟦<PlanFeed<FileOf<X>, StampedOf<X>> as Feed>⟧ (LooksAt X.Files.Stamped.Stamped)
-        ⟦<PcmFeed<GrowingOf<X>> as Feed>⟧ X.Pause.Pause)
-        X.Network.Network X.Network.ListenerSetup (kept_side X.Network.Opens.opens X.Network.Opens.failures
-        (turns_side X.Network.Server.Turns.answers X.Network.Server.Turns.committed
-        X.Network.Server.Turns.commits X.Network.Server.HasTable.holds))
-        (X.System.words outside.old.system) exit outside.old outside.new }
+        (host_side S.System F.RecordingFiles (state_side F.kept_at F.States.StateFiles F.States.Log.StateLog)
+        (spool_side F.lends F.Keeper.SpoolKeeper) F.EditedFiles F.FolderLocks F.FileKinds D.Disk R.Source W.Sink E.Sink)
+        (server_side N.Store.TakeStore ⟦<NoJournal as Journal>⟧ N.Peers.Peers
+        N.Peers.Reader.Source N.Peers.Writer.Sink N.Reactor.Reactor N.Reactor.Link.Link N.ServeRules
+        (status_side N.StatusSetup N.Port.StatusPort N.Port.Link.Link))
+        (sender_side N.Dial.Dial N.Dial.Reader.Source N.Dial.Writer.Sink)
+        (upload_side ⟦<PlanFeed<F::File, F::Stamped> as Feed>⟧ (LooksAt F.Stamped.Stamped)
+        ⟦<PcmFeed<F::Growing> as Feed>⟧ P.Pause)
+        N.Network N.ListenerSetup (kept_side N.Opens.opens N.Opens.failures
+        (turns_side N.Server.Turns.answers N.Server.Turns.commits N.Server.HasTable.holds))
+        (S.words outside.old.system) exit outside.old outside.new }
 {
-    ExitCode::from(obey::<X>(alloc, outside).status())
+    ExitCode::from(obey(alloc, outside).status())
 }
 
 /// Reads the command line, and does what it asks for.
-fn obey<X: Sides>(alloc: Global, outside: &mut OutsideOf<X>) -> Exit
-    ensures { IsProgram (host_side X.System.System X.Files.RecordingFiles (state_side X.Files.kept_at
-        X.Files.States.StateFiles X.Files.States.Log.StateLog)
-        (spool_side X.Files.lends X.Files.Keeper.SpoolKeeper) X.Files.EditedFiles X.Files.FolderLocks
-        X.Files.FileKinds X.Disk.Disk X.Input.Source X.Out.Sink X.Faults.Sink)
-        (server_side X.Network.Store.TakeStore ⟦<NoJournal as Journal>⟧ X.Network.Peers.Peers
-        X.Network.Peers.Reader.Source X.Network.Peers.Writer.Sink X.Reactor.Reactor
-        X.Reactor.Link.Link X.Network.ServeRules
-        (status_side X.Network.StatusSetup X.Network.Port.StatusPort X.Network.Port.Link.Link))
-        (sender_side X.Network.Dial.Dial X.Network.Dial.Reader.Source X.Network.Dial.Writer.Sink)
-        (upload_side ⟦<PlanFeed<FileOf<X>, StampedOf<X>> as Feed>⟧ (LooksAt X.Files.Stamped.Stamped)
-        ⟦<PcmFeed<GrowingOf<X>> as Feed>⟧ X.Pause.Pause)
-        X.Network.Network X.Network.ListenerSetup (kept_side X.Network.Opens.opens X.Network.Opens.failures
-        (turns_side X.Network.Server.Turns.answers X.Network.Server.Turns.committed
-        X.Network.Server.Turns.commits X.Network.Server.HasTable.holds))
-        (X.System.words outside.old.system) result outside.old outside.new }
+fn obey<
+    S: System,
+    F: RecordingFiles + StateKeeping + SpoolKeeping + EditedFiles + FolderLocks + FileKinds,
+    D: Volume,
+    N: PacedNetwork + ListenerSetup + Opens + ServeRules + StatusSetup<N::Reactor>,
+    P: Pause,
+    R: Source,
+    W: Sink,
+    E: Sink,
+    V: Watch + UploadWatch,
+    G: Observer,
+>(alloc: Global, outside: &mut Outside<S, F, D, N, P, R, W, E, V, G>) -> Exit
+    ensures { IsProgram (host_side S.System F.RecordingFiles (state_side F.kept_at F.States.StateFiles F.States.Log.StateLog)
+        (spool_side F.lends F.Keeper.SpoolKeeper) F.EditedFiles F.FolderLocks F.FileKinds D.Disk R.Source W.Sink E.Sink)
+        (server_side N.Store.TakeStore ⟦<NoJournal as Journal>⟧ N.Peers.Peers
+        N.Peers.Reader.Source N.Peers.Writer.Sink N.Reactor.Reactor N.Reactor.Link.Link N.ServeRules
+        (status_side N.StatusSetup N.Port.StatusPort N.Port.Link.Link))
+        (sender_side N.Dial.Dial N.Dial.Reader.Source N.Dial.Writer.Sink)
+        (upload_side ⟦<PlanFeed<F::File, F::Stamped> as Feed>⟧ (LooksAt F.Stamped.Stamped)
+        ⟦<PcmFeed<F::Growing> as Feed>⟧ P.Pause)
+        N.Network N.ListenerSetup (kept_side N.Opens.opens N.Opens.failures
+        (turns_side N.Server.Turns.answers N.Server.Turns.commits N.Server.HasTable.holds))
+        (S.words outside.old.system) result outside.old outside.new }
 {
     match outside.system.words() {
-        Ok(words) => answer::<X>(alloc, words.as_slice(), outside),
+        Ok(words) => answer(alloc, words.as_slice(), outside),
         Err(error) => report_bad_argv(&error, &mut outside.faults),
     }
 }
 
 /// Does what these words ask for.
-fn answer<X: Sides>(alloc: Global, words: &[String], outside: &mut OutsideOf<X>) -> Exit
-    ensures { IsProgram (host_side X.System.System X.Files.RecordingFiles (state_side X.Files.kept_at
-        X.Files.States.StateFiles X.Files.States.Log.StateLog)
-        (spool_side X.Files.lends X.Files.Keeper.SpoolKeeper) X.Files.EditedFiles X.Files.FolderLocks
-        X.Files.FileKinds X.Disk.Disk X.Input.Source X.Out.Sink X.Faults.Sink)
-        (server_side X.Network.Store.TakeStore ⟦<NoJournal as Journal>⟧ X.Network.Peers.Peers
-        X.Network.Peers.Reader.Source X.Network.Peers.Writer.Sink X.Reactor.Reactor
-        X.Reactor.Link.Link X.Network.ServeRules
-        (status_side X.Network.StatusSetup X.Network.Port.StatusPort X.Network.Port.Link.Link))
-        (sender_side X.Network.Dial.Dial X.Network.Dial.Reader.Source X.Network.Dial.Writer.Sink)
-        (upload_side ⟦<PlanFeed<FileOf<X>, StampedOf<X>> as Feed>⟧ (LooksAt X.Files.Stamped.Stamped)
-        ⟦<PcmFeed<GrowingOf<X>> as Feed>⟧ X.Pause.Pause)
-        X.Network.Network X.Network.ListenerSetup (kept_side X.Network.Opens.opens X.Network.Opens.failures
-        (turns_side X.Network.Server.Turns.answers X.Network.Server.Turns.committed
-        X.Network.Server.Turns.commits X.Network.Server.HasTable.holds))
+fn answer<
+    S: System,
+    F: RecordingFiles + StateKeeping + SpoolKeeping + EditedFiles + FolderLocks + FileKinds,
+    D: Volume,
+    N: PacedNetwork + ListenerSetup + Opens + ServeRules + StatusSetup<N::Reactor>,
+    P: Pause,
+    R: Source,
+    W: Sink,
+    E: Sink,
+    V: Watch + UploadWatch,
+    G: Observer,
+>(alloc: Global, words: &[String], outside: &mut Outside<S, F, D, N, P, R, W, E, V, G>) -> Exit
+    ensures { IsProgram (host_side S.System F.RecordingFiles (state_side F.kept_at F.States.StateFiles F.States.Log.StateLog)
+        (spool_side F.lends F.Keeper.SpoolKeeper) F.EditedFiles F.FolderLocks F.FileKinds D.Disk R.Source W.Sink E.Sink)
+        (server_side N.Store.TakeStore ⟦<NoJournal as Journal>⟧ N.Peers.Peers
+        N.Peers.Reader.Source N.Peers.Writer.Sink N.Reactor.Reactor N.Reactor.Link.Link N.ServeRules
+        (status_side N.StatusSetup N.Port.StatusPort N.Port.Link.Link))
+        (sender_side N.Dial.Dial N.Dial.Reader.Source N.Dial.Writer.Sink)
+        (upload_side ⟦<PlanFeed<F::File, F::Stamped> as Feed>⟧ (LooksAt F.Stamped.Stamped)
+        ⟦<PcmFeed<F::Growing> as Feed>⟧ P.Pause)
+        N.Network N.ListenerSetup (kept_side N.Opens.opens N.Opens.failures
+        (turns_side N.Server.Turns.answers N.Server.Turns.commits N.Server.HasTable.holds))
         (Some (map string_bytes words.now)) result outside.old outside.new }
 {
     match parse(alloc, words) {
-        Ok(line) => perform::<X>(alloc, &line, outside),
+        Ok(line) => perform(alloc, &line, outside),
         Err(_) => give_up(&mut outside.faults, &Fault::Memory),
     }
 }
 
 /// Does what a command line asks for.
-fn perform<X: Sides>(alloc: Global, line: &CommandLine, outside: &mut OutsideOf<X>) -> Exit
+fn perform<
+    S: System,
+    F: RecordingFiles + StateKeeping + SpoolKeeping + EditedFiles + FolderLocks + FileKinds,
+    D: Volume,
+    N: PacedNetwork + ListenerSetup + Opens + ServeRules + StatusSetup<N::Reactor>,
+    P: Pause,
+    R: Source,
+    W: Sink,
+    E: Sink,
+    V: Watch + UploadWatch,
+    G: Observer,
+>(alloc: Global, line: &CommandLine, outside: &mut Outside<S, F, D, N, P, R, W, E, V, G>) -> Exit
     requires { HasNumbersInRange line.now }
-    ensures { IsDoneFor (host_side X.System.System X.Files.RecordingFiles (state_side X.Files.kept_at
-        X.Files.States.StateFiles X.Files.States.Log.StateLog)
-        (spool_side X.Files.lends X.Files.Keeper.SpoolKeeper) X.Files.EditedFiles X.Files.FolderLocks
-        X.Files.FileKinds X.Disk.Disk X.Input.Source X.Out.Sink X.Faults.Sink)
-        (server_side X.Network.Store.TakeStore ⟦<NoJournal as Journal>⟧ X.Network.Peers.Peers
-        X.Network.Peers.Reader.Source X.Network.Peers.Writer.Sink X.Reactor.Reactor
-        X.Reactor.Link.Link X.Network.ServeRules
-        (status_side X.Network.StatusSetup X.Network.Port.StatusPort X.Network.Port.Link.Link))
-        (sender_side X.Network.Dial.Dial X.Network.Dial.Reader.Source X.Network.Dial.Writer.Sink)
-        (upload_side ⟦<PlanFeed<FileOf<X>, StampedOf<X>> as Feed>⟧ (LooksAt X.Files.Stamped.Stamped)
-        ⟦<PcmFeed<GrowingOf<X>> as Feed>⟧ X.Pause.Pause)
-        X.Network.Network X.Network.ListenerSetup (kept_side X.Network.Opens.opens X.Network.Opens.failures
-        (turns_side X.Network.Server.Turns.answers X.Network.Server.Turns.committed
-        X.Network.Server.Turns.commits X.Network.Server.HasTable.holds))
-        (X.System.file_at outside.old.system) (X.System.failures outside.old.system)
-        line.now result outside.old outside.new }
+    ensures { IsDoneFor (host_side S.System F.RecordingFiles (state_side F.kept_at F.States.StateFiles F.States.Log.StateLog)
+        (spool_side F.lends F.Keeper.SpoolKeeper) F.EditedFiles F.FolderLocks F.FileKinds D.Disk R.Source W.Sink E.Sink)
+        (server_side N.Store.TakeStore ⟦<NoJournal as Journal>⟧ N.Peers.Peers
+        N.Peers.Reader.Source N.Peers.Writer.Sink N.Reactor.Reactor N.Reactor.Link.Link N.ServeRules
+        (status_side N.StatusSetup N.Port.StatusPort N.Port.Link.Link))
+        (sender_side N.Dial.Dial N.Dial.Reader.Source N.Dial.Writer.Sink)
+        (upload_side ⟦<PlanFeed<F::File, F::Stamped> as Feed>⟧ (LooksAt F.Stamped.Stamped)
+        ⟦<PcmFeed<F::Growing> as Feed>⟧ P.Pause)
+        N.Network N.ListenerSetup (kept_side N.Opens.opens N.Opens.failures
+        (turns_side N.Server.Turns.answers N.Server.Turns.commits N.Server.HasTable.holds))
+        (S.file_at outside.old.system) (S.failures outside.old.system) line.now result
+        outside.old outside.new }
 {
     match line {
-        CommandLine::Run(task) => run::<X>(alloc, task, outside),
+        CommandLine::Run(task) => run(alloc, task, outside),
         CommandLine::BadValue(value) => {
             print_diagnostic(&mut outside.faults, value.text().as_bytes());
             Exit::Usage
@@ -142,23 +177,30 @@ fn perform<X: Sides>(alloc: Global, line: &CommandLine, outside: &mut OutsideOf<
 }
 
 /// Runs a task.
-fn run<X: Sides>(alloc: Global, task: &Task, outside: &mut OutsideOf<X>) -> Exit
+fn run<
+    S: System,
+    F: RecordingFiles + StateKeeping + SpoolKeeping + EditedFiles + FolderLocks + FileKinds,
+    D: Volume,
+    N: PacedNetwork + ListenerSetup + Opens + ServeRules + StatusSetup<N::Reactor>,
+    P: Pause,
+    R: Source,
+    W: Sink,
+    E: Sink,
+    V: Watch + UploadWatch,
+    G: Observer,
+>(alloc: Global, task: &Task, outside: &mut Outside<S, F, D, N, P, R, W, E, V, G>) -> Exit
     requires { HasNumbersInRange (CommandLine.Run task.now) }
-    ensures { IsDoneFor (host_side X.System.System X.Files.RecordingFiles (state_side X.Files.kept_at
-        X.Files.States.StateFiles X.Files.States.Log.StateLog)
-        (spool_side X.Files.lends X.Files.Keeper.SpoolKeeper) X.Files.EditedFiles X.Files.FolderLocks
-        X.Files.FileKinds X.Disk.Disk X.Input.Source X.Out.Sink X.Faults.Sink)
-        (server_side X.Network.Store.TakeStore ⟦<NoJournal as Journal>⟧ X.Network.Peers.Peers
-        X.Network.Peers.Reader.Source X.Network.Peers.Writer.Sink X.Reactor.Reactor
-        X.Reactor.Link.Link X.Network.ServeRules
-        (status_side X.Network.StatusSetup X.Network.Port.StatusPort X.Network.Port.Link.Link))
-        (sender_side X.Network.Dial.Dial X.Network.Dial.Reader.Source X.Network.Dial.Writer.Sink)
-        (upload_side ⟦<PlanFeed<FileOf<X>, StampedOf<X>> as Feed>⟧ (LooksAt X.Files.Stamped.Stamped)
-        ⟦<PcmFeed<GrowingOf<X>> as Feed>⟧ X.Pause.Pause)
-        X.Network.Network X.Network.ListenerSetup (kept_side X.Network.Opens.opens X.Network.Opens.failures
-        (turns_side X.Network.Server.Turns.answers X.Network.Server.Turns.committed
-        X.Network.Server.Turns.commits X.Network.Server.HasTable.holds))
-        (X.System.file_at outside.old.system) (X.System.failures outside.old.system)
+    ensures { IsDoneFor (host_side S.System F.RecordingFiles (state_side F.kept_at F.States.StateFiles F.States.Log.StateLog)
+        (spool_side F.lends F.Keeper.SpoolKeeper) F.EditedFiles F.FolderLocks F.FileKinds D.Disk R.Source W.Sink E.Sink)
+        (server_side N.Store.TakeStore ⟦<NoJournal as Journal>⟧ N.Peers.Peers
+        N.Peers.Reader.Source N.Peers.Writer.Sink N.Reactor.Reactor N.Reactor.Link.Link N.ServeRules
+        (status_side N.StatusSetup N.Port.StatusPort N.Port.Link.Link))
+        (sender_side N.Dial.Dial N.Dial.Reader.Source N.Dial.Writer.Sink)
+        (upload_side ⟦<PlanFeed<F::File, F::Stamped> as Feed>⟧ (LooksAt F.Stamped.Stamped)
+        ⟦<PcmFeed<F::Growing> as Feed>⟧ P.Pause)
+        N.Network N.ListenerSetup (kept_side N.Opens.opens N.Opens.failures
+        (turns_side N.Server.Turns.answers N.Server.Turns.commits N.Server.HasTable.holds))
+        (S.file_at outside.old.system) (S.failures outside.old.system)
         (CommandLine.Run task.now) result outside.old outside.new }
 {
     let Outside {

@@ -1,9 +1,5 @@
 pub mod Admissions
 pub mod Lines
-pub mod Filters
-pub mod OneName
-pub mod Guards
-pub mod GuardedServers
 pub mod PeerSlots
 pub mod EventLoops
 pub mod Rounds
@@ -18,7 +14,8 @@ pub mod ServedOne
 pub mod ServedAll
 pub mod Openings
 pub mod Hostings
-pub mod RuleRefusals
+pub mod Filters
+pub mod OneName
 pub mod FilteredBytes
 pub mod FilteredNetworks
 pub mod FilteredParts

@@ -1,4 +1,4 @@
-//! Sessions: what a server keeps of each name; and a server's whole run over memory.
+//! Sessions: what a server keeps of each name.
 //! Not stated: contents over a store that isn't honest.
 #![tactic(auto)]
 
@@ -8,7 +8,6 @@ mod borrowing;
 mod counting;
 mod drains;
 mod execution;
-mod ingest;
 mod keeping;
 mod kept_take;
 pub mod laws;
@@ -28,7 +27,6 @@ mod table;
 mod window;
 mod writing;
 
-pub use ingest::{Run, RunFault, ingest_run};
 pub use kept_take::KeptTake;
 pub use lending::StoresVisitor;
 pub use server::Server;

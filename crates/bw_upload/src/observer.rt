@@ -1,5 +1,6 @@
 //! Observers of an upload.
-use bw_sender::{SendFault, Sender, Stop};
+use bw_engine::{SendFault, Stop};
+use bw_sender::Sender;
 
 /// Why a link isn't used any more.
 #[derive(Clone, Copy, Debug, PartialEq, Eq)]

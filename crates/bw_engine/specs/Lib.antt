@@ -1,0 +1,10 @@
+pub mod ServerRuns
+pub mod IngestRuns
+pub mod Batches
+pub mod Hears
+pub mod Sent
+pub mod SendFaults
+pub mod Stops
+pub mod SaidMessages
+pub mod LinkReplies
+pub mod Talks
