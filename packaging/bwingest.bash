@@ -10,7 +10,7 @@ _bwingest() {
     --folder) COMPREPLY=($(compgen -d -- "$word")) && return ;;
     esac
     case ${COMP_WORDS[1]} in
-    serve) options='--listen --folder --exchanges --limit --timeout --network --recorders --idle --until-stopped --log --journal --sync --rest --one-name --status --help' ;;
+    serve) options='--listen --folder --exchanges --limit --timeout --network --recorders --idle --until-stopped --log --journal --sync --rest --one-name --allow --status --help' ;;
     send) options='--connect --name --rounds --timeout --network --file --set --strict --fruitless --log --state --rate --pcm --skip --block --follow --until --spool --help' ;;
     inspect) options='--json --human --digest --help' ;;
     pack) options='--set --strict --help' ;;

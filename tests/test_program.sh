@@ -284,6 +284,7 @@ Options:
       --sync               With --journal: syncs file and journal before each reply
       --rest               With --journal: still read; changes nothing
       --one-name           Ends a connection at a message under another name than its first
+      --allow <FILE>       Takes only the names, and from the addresses, that FILE lists
       --status <ADDR>      With --recorders: shows its status over HTTP at 127.0.0.1:PORT, or any address with --network
   -h, --help               Print help
 

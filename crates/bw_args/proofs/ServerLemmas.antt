@@ -52,10 +52,11 @@ server_by : {given : Text → Option Text} {server : Service} → GivesEnd (give
     → IsJournaling (is_set (given (codes "journal"))) (is_set (given (codes "sync"))) server.journal
     → GivesRest (is_set (given (codes "journal"))) (is_set (given (codes "rest"))) server.rest
     → server.one_name ≡ is_set (given (codes "one-name"))
+    → server.allow ≡ given (codes "allow")
     → GivesStatus (is_set (given (codes "network"))) (given (codes "status")) (is_some (given (codes "recorders")))
     server.status
     → GivesServer given server
-server_by ends limited serves listens keeps reports journals rests names shows = record {
+server_by ends limited serves listens keeps reports journals rests names allows shows = record {
   listens = listens;
   keeps = keeps;
   ends = ends;
@@ -65,6 +66,7 @@ server_by ends limited serves listens keeps reports journals rests names shows =
   journals = journals;
   rests = rests;
   names = names;
+  allows = allows;
   shows = shows;
 }
 
@@ -80,7 +82,7 @@ alone program listen folder address at full =
     asks refl (
       refl,
       server_by (None, refl, refl) refl (serves_by None None None _ refl refl refl refl) at
-          (full, refl) refl refl refl refl refl,
+          (full, refl) refl refl refl refl refl refl,
     )
 
 network : AsksServer true (codes "--network" ∷ []) plain_server
@@ -89,7 +91,7 @@ network program listen folder address at full =
     asks refl (
       refl,
       server_by (None, refl, refl) refl (serves_by None None None _ refl refl refl refl) at
-          (full, refl) refl refl refl refl refl,
+          (full, refl) refl refl refl refl refl refl,
     )
 
 exchanges : (count : Text) → IsCountText most_exchanges count
@@ -100,7 +102,7 @@ exchanges count is program listen folder address at full =
     asks refl (
       refl,
       server_by (Some (number_written count), (is, refl), refl) refl
-          (serves_by None None None _ refl refl refl refl) at (full, refl) refl refl refl refl refl,
+          (serves_by None None None _ refl refl refl refl) at (full, refl) refl refl refl refl refl refl,
     )
 
 limit : (text : Text) → IsLimitText text
@@ -111,7 +113,7 @@ limit text is program listen folder address at full =
     asks refl (
       refl,
       server_by (None, refl, refl) (is, refl) (serves_by None None None _ refl refl refl refl) at
-          (full, refl) refl refl refl refl refl,
+          (full, refl) refl refl refl refl refl refl,
     )
 
 timeout : (seconds : Text) → IsCountText most_seconds seconds
@@ -122,7 +124,7 @@ timeout seconds is program listen folder address at full =
     asks refl (
       refl,
       server_by (None, refl, refl) refl
-          (serves_by (Some (number_written seconds)) None None _ (is, refl) refl refl refl) at (full, refl) refl refl refl refl refl,
+          (serves_by (Some (number_written seconds)) None None _ (is, refl) refl refl refl) at (full, refl) refl refl refl refl refl refl,
     )
 
 recorders : (count : Text) → IsCountText most_recorders count
@@ -133,7 +135,7 @@ recorders count is program listen folder address at full =
     asks refl (
       refl,
       server_by (None, refl, refl) refl
-          (serves_by None (Some (number_written count)) None _ refl (is, refl) refl refl) at (full, refl) refl refl refl refl refl,
+          (serves_by None (Some (number_written count)) None _ refl (is, refl) refl refl) at (full, refl) refl refl refl refl refl refl,
     )
 
 idle : (count seconds : Text) → IsCountText most_recorders count → IsCountText most_seconds seconds
@@ -145,7 +147,7 @@ idle count seconds is idles program listen folder address at full =
       refl,
       server_by (None, refl, refl) refl
           (serves_by None (Some (number_written count)) (Some (number_written seconds)) _ refl (is, refl) (idles, refl)
-          refl) at (full, refl) refl refl refl refl refl,
+          refl) at (full, refl) refl refl refl refl refl refl,
     )
 
 until_stopped : AsksServer false (codes "--until-stopped" ∷ [])
@@ -155,7 +157,7 @@ until_stopped program listen folder address at full =
     asks refl (
       refl,
       server_by (None, refl, refl) refl (serves_by None None None _ refl refl refl refl) at
-          (full, refl) refl refl refl refl refl,
+          (full, refl) refl refl refl refl refl refl,
     )
 
 log : AsksServer false (codes "--log" ∷ []) (λ a f. record (plain_server a f) { log = true })
@@ -164,7 +166,7 @@ log program listen folder address at full =
     asks refl (
       refl,
       server_by (None, refl, refl) refl (serves_by None None None _ refl refl refl refl) at
-          (full, refl) refl refl refl refl refl,
+          (full, refl) refl refl refl refl refl refl,
     )
 
 one_name : AsksServer false (codes "--one-name" ∷ []) (λ a f. record (plain_server a f) { one_name = true })
@@ -173,7 +175,17 @@ one_name program listen folder address at full =
     asks refl (
       refl,
       server_by (None, refl, refl) refl (serves_by None None None _ refl refl refl refl) at
-          (full, refl) refl refl refl refl refl,
+          (full, refl) refl refl refl refl refl refl,
+    )
+
+allow : (path : Text) → AsksServer false ((codes "--allow=" ++ path) ∷ [])
+    (λ a f. record (plain_server a f) { allow = Some path })
+unfolding clap_on_literals
+allow path program listen folder address at full =
+    asks refl (
+      refl,
+      server_by (None, refl, refl) refl (serves_by None None None _ refl refl refl refl) at
+          (full, refl) refl refl refl refl refl refl,
     )
 
 journal : AsksServer false (codes "--journal" ∷ []) (λ a f. record (plain_server a f) { journal = Kept })
@@ -182,7 +194,7 @@ journal program listen folder address at full =
     asks refl (
       refl,
       server_by (None, refl, refl) refl (serves_by None None None _ refl refl refl refl) at
-          (full, refl) refl refl refl refl refl,
+          (full, refl) refl refl refl refl refl refl,
     )
 
 sync : AsksServer false (codes "--journal" ∷ codes "--sync" ∷ [])
@@ -192,7 +204,7 @@ sync program listen folder address at full =
     asks refl (
       refl,
       server_by (None, refl, refl) refl (serves_by None None None _ refl refl refl refl) at
-          (full, refl) refl refl refl refl refl,
+          (full, refl) refl refl refl refl refl refl,
     )
 
 rest : AsksServer false (codes "--journal" ∷ codes "--rest" ∷ [])
@@ -202,7 +214,7 @@ rest program listen folder address at full =
     asks refl (
       refl,
       server_by (None, refl, refl) refl (serves_by None None None _ refl refl refl refl) at
-          (full, refl) refl refl refl refl refl,
+          (full, refl) refl refl refl refl refl refl,
     )
 
 rest_synced : AsksServer false (codes "--journal" ∷ codes "--sync" ∷ codes "--rest" ∷ [])
@@ -212,7 +224,7 @@ rest_synced program listen folder address at full =
     asks refl (
       refl,
       server_by (None, refl, refl) refl (serves_by None None None _ refl refl refl refl) at
-          (full, refl) refl refl refl refl refl,
+          (full, refl) refl refl refl refl refl refl,
     )
 
 -- a local address is no option
@@ -226,7 +238,7 @@ apart_near program folder address at full =
     asks refl (
       refl,
       server_by (None, refl, refl) refl (serves_by None None None _ refl refl refl refl) at
-          (full, refl) refl refl refl refl refl,
+          (full, refl) refl refl refl refl refl refl,
     )
 
 apart_asks : (program listen folder : Text) (address : SocketAddr) → IsAddress false listen address → folder ≢ []
@@ -316,7 +328,7 @@ status count text at is shows program listen folder address there full =
       refl,
       server_by (None, refl, refl) refl
           (serves_by None (Some (number_written count)) None _ refl (is, refl) refl refl) there (full, refl) refl refl
-          refl refl shows,
+          refl refl refl shows,
     )
 
 rest_shown : (count text : Text) (at : SocketAddr) → IsCountText most_recorders count → IsAddress false text at
@@ -334,7 +346,7 @@ rest_shown count text at is shows program listen folder address there full =
       refl,
       server_by (None, refl, refl) refl
           (serves_by None (Some (number_written count)) None _ refl (is, refl) refl refl) there (full, refl) refl refl
-          refl refl shows,
+          refl refl refl shows,
     )
 
 pub runs_server : (words : List Text) (line : CommandLine) → IsLineOf words line → RunsServer words line
@@ -374,4 +386,5 @@ runs_server words line is = record {
   rest_shown = λ k t s given shows p l f a at full e.
       asked_runs words _ line _ is e (rest_shown k t s given shows p l f a at full);
   one_name = λ p l f a at full e. asked_runs words _ line _ is e (one_name p l f a at full);
+  allow = λ path p l f a at full e. asked_runs words _ line _ is e (allow path p l f a at full);
 }

@@ -141,6 +141,7 @@ one_server given a b x y = λ i. record {
   journal = one_journaling _ _ a.journal b.journal x.journals y.journals i;
   rest = one_rest _ _ a.rest b.rest x.rests y.rests i;
   one_name = (x.names ∙ sym y.names) i;
+  allow = (x.allows ∙ sym y.allows) i;
   status = one_status _ _ _ a.status b.status x.shows y.shows i;
 }
 

@@ -132,6 +132,10 @@ rest_flag = flag (codes "rest")
 abbrev pub one_name_flag : Rule
 one_name_flag = flag (codes "one-name")
 
+-- `--allow FILE`
+abbrev pub allow_option : Rule
+allow_option = option (codes "allow")
+
 -- `--status ADDR`
 abbrev pub status_option : Rule
 status_option = option (codes "status")
@@ -158,9 +162,9 @@ serve_ends = with_rule (with_rule serve_many until_stopped_flag) log_flag
 abbrev pub serve_keeps : App
 serve_keeps = with_rule (with_rule (with_rule serve_ends journal_flag) sync_flag) rest_flag
 
--- `serve`, with its fifteen options
+-- `serve`, with its options
 abbrev pub serve_command : App
-serve_command = with_rule (with_rule serve_keeps one_name_flag) status_option
+serve_command = with_rule (with_rule (with_rule serve_keeps one_name_flag) allow_option) status_option
 
 -- `--connect ADDR`
 abbrev pub connect_option : Rule

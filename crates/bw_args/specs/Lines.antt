@@ -65,6 +65,7 @@ pub record Service : Type 0 where
   pub journal : Journaling
   pub rest : Bool
   pub one_name : Bool
+  pub allow : Option Text
   pub status : Option SocketAddr
 
 -- how a sender tries, by the four options that say it
@@ -131,6 +132,7 @@ wish_of (Serve server) = Serving (record {
   journal = server.journal;
   rest = server.rest;
   one_name = server.one_name;
+  allow = option_map string_bytes server.allow;
   status = server.status;
 })
 wish_of (Send sender) = Sending sender
@@ -174,6 +176,7 @@ pub record GivesServer (given : Text → Option Text) (server : Service) : Type 
   pub rests :
       GivesRest (is_set (given (codes "journal"))) (is_set (given (codes "rest"))) server.rest
   pub names : server.one_name ≡ is_set (given (codes "one-name"))
+  pub allows : server.allow ≡ given (codes "allow")
   pub shows : GivesStatus (is_set (given (codes "network"))) (given (codes "status"))
       (is_some (given (codes "recorders"))) server.status
 

@@ -34,6 +34,7 @@ plain_server address folder = record {
   journal = Without;
   rest = false;
   one_name = false;
+  allow = None;
   status = None;
 }
 
@@ -141,6 +142,9 @@ pub record RunsServer (words : List Text) (line : CommandLine) : Type 0 where
   -- with `--one-name`
   pub one_name : ForServer false words (codes "--one-name" ∷ [])
       (AsksToServe line (λ s. record s { one_name = true }))
+  -- with `--allow=FILE`
+  pub allow : (path : Text) → ForServer false words ((codes "--allow=" ++ path) ∷ [])
+      (AsksToServe line (λ s. record s { allow = Some path }))
 
 -- the sender of which only address and name are said
 abbrev pub plain_sender : SocketAddr → Text → Sender

@@ -55,6 +55,8 @@ pub struct Serve {
     pub rest: bool,
     /// Whether a second name ends a connection.
     pub one_name: bool,
+    /// The path of the file that lists which names may come from which addresses, if there is one.
+    pub allow: Option<String>,
     /// Where it shows its status, if it does; only a server of many recorders does. Its port isn't 0.
     pub status: Option<SocketAddr>,
 }

@@ -36,15 +36,15 @@ use Rattle.bw_commands.specs.Runs.{IsReplayRun, AreExchangesOf, empty_contents}
 use Rattle.bw_commands.specs.Text.{exchanges_text, files_text}
 use Rattle.bw_exchange.specs.AnsweredFrames.{Answered, answered_frames, replies_of}
 use Rattle.bw_exchange.specs.TurnRuns.{IsRun as IsRun', run_without_faults}
-use Rattle.bw_engine.specs.IngestRuns.{ServedInput, WasServed, IsServedTo, LeavesRun, answered_in, ingested_end, input_frames}
-use Rattle.bw_engine.specs.IngestRuns.{AreServed, input_bytes}
-use Rattle.bw_engine.specs.ServerRuns.{all_done}
-use Rattle.bw_engine.specs.declared.ingest.Run.{Run}
+use Rattle.bw_session.specs.IngestRuns.{ServedInput, WasServed, IsServedTo, LeavesRun, answered_in, ingested_end, input_frames}
+use Rattle.bw_session.specs.IngestRuns.{AreServed, input_bytes}
+use Rattle.bw_session.specs.ServerRuns.{all_done}
+use Rattle.bw_session.specs.declared.ingest.Run.{Run}
 use Rattle.bw_exchange.specs.declared.serving.ExchangeEnd.{ExchangeEnd}
 use Rattle.bw_commands.proofs.FaultLaws.{counted_up}
 use Rattle.bw_commands.proofs.QuietLemmas.{run_rises, quiet_run}
 use Rattle.bw_exchange.proofs.GoodRuns.{GoesWell, good_run, in_order_well, turns_are_runs}
-use Rattle.bw_engine.proofs.GoodExchanges.{following, well_parts, replies_well}
+use Rattle.bw_session.proofs.GoodExchanges.{following, well_parts, replies_well}
 
 same_head : {X : Type 0} {x y : X} {xs ys : List X} → x ∷ xs ≡ y ∷ ys → x ≡ y
 same_head e = cc

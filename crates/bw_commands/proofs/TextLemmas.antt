@@ -6,7 +6,7 @@ use Rattle.std.specs.declared.alloc.Global.{Global}
 use Rattle.std.proofs.Common.{◌⊎◌, inl, inr}
 use Rattle.bw_model.proofs.Elements.{some_inj}
 use Rattle.bw_model.specs.Stream.{End}
-use Rattle.bw_engine.specs.IngestRuns.{ingested_end}
+use Rattle.bw_session.specs.IngestRuns.{ingested_end}
 use Rattle.std.specs.List.{list_all}
 use Rattle.std.proofs.lemmas.Bool.{leb-true}
 use Rattle.hex.specs.Hex.{encode_lower}

@@ -5,7 +5,7 @@ use Rattle.bw_stream.specs.Readers.{Of}
 use Rattle.bw_console.specs.Outcomes.{Outcome, ResultsIn}
 use Rattle.bw_console.specs.Faults.{RefusesInput}
 use Rattle.bw_console.specs.Input.{Asked, asked_by, TooLong, NotHex, Exchanges}
-use Rattle.bw_engine.specs.ServerRuns.{all_done}
+use Rattle.bw_session.specs.ServerRuns.{all_done}
 use Rattle.bw_commands.specs.OneFuse.{failures_under, SufficeFor}
 use Rattle.bw_console.specs.Prints.{Print, Nothing, Whole, Part}
 use Rattle.bw_commands.specs.Runs.{ReportedExchange, IsReplayRun}

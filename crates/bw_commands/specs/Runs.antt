@@ -14,7 +14,7 @@ use Rattle.bw_model.specs.Exchange.{Exchange, exchanges, nothing_stands, replies
 use Rattle.bw_model.specs.Exchange.{take_in, content_in}
 use Rattle.bw_model.specs.Holds.{Kept, Holds}
 use Rattle.bw_exchange.specs.AnsweredFrames.{Answered, answered_frames, replies_of}
-use Rattle.bw_engine.specs.IngestRuns.{ingested_end, input_frames}
+use Rattle.bw_session.specs.IngestRuns.{ingested_end, input_frames}
 use Rattle.bw_exchange.specs.TurnRuns.{IsRun as IsCountedRun, IsRunOf, run_without_faults}
 use Rattle.bw_exchange.specs.declared.serving.ExchangeEnd.{ExchangeEnd}
 

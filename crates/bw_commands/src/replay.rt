@@ -11,8 +11,8 @@ use crate::replay_store::ReplayStore;
 use crate::text::text_of_run;
 use bw_console::print::{give_up, print};
 use bw_console::{Exit, Fault, exchanges};
-use bw_engine::ingest_run;
 use bw_layout::Limit;
+use bw_session::ingest_run;
 use bw_stream::{Sink, Source};
 use std::alloc::{AllocError, Global};
 

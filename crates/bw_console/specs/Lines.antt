@@ -40,7 +40,8 @@ SayEach Says [] (x ∷ xs) = ⊥
 SayEach Says (line ∷ lines) [] = ⊥
 
 -- the line with this number, counted from n on, is the first that says no value
-abbrev pub FirstWithout : {X : Type 0} → (List ℕ → X → Type 0) → ℕ → List (List ℕ) → ℕ → Type 0
+abbrev pub FirstWithout : {X : Type 0} → (List ℕ → X → Type 0) → ℕ → List (List ℕ) →
+    ℕ → Type 0
 FirstWithout Says n [] number = ⊥
 FirstWithout {X = X} Says n (line ∷ lines) number =
     ((number ≡ n) × ((x : X) → ¬ Says line x))

@@ -34,7 +34,7 @@ use Rattle.bw_delivery.specs.Senders.{SendersCountDone}
 use Rattle.bw_delivery.proofs.ClosedFiles.{closed_lies}
 use Rattle.bw_delivery.proofs.DoneNumbers.{keeps_itself, keeps_on, done_stays}
 use Rattle.bw_delivery.proofs.FrameSteps.{HasLogs}
-use Rattle.bw_delivery.proofs.Lives.{LifeLeft, life_left, stop_keeps}
+use Rattle.bw_delivery.proofs.LifeLemmas.{LifeLeft, life_left, stop_keeps}
 
 -- a log of which only these requests are is sound for them
 only_sound : (requests : List Request) (book : Book) (name : List ℕ) → HasLogs book →

@@ -12,7 +12,7 @@ use Rattle.bw_kept.specs.LeftFolders.{KeptServersLeaveDone, EmptyServersHold}
 use Rattle.bw_delivery.specs.StoppedWorlds.{TurnsInFolder}
 use Rattle.bw_delivery.specs.ServedWorlds.{existed_in, ServesBook, StopsAreSteps, StartsAreSteps, TurnsAreOfWorlds}
 use Rattle.bw_delivery.specs.ServedWorlds.{DeathsAreSteps}
-use Rattle.bw_delivery.proofs.Lives.{turn_stays}
+use Rattle.bw_delivery.proofs.LifeLemmas.{turn_stays}
 
 module _ {X Y : Type 0} (S : StoreGhosts X) (J : JournalGhosts Y) where
   pub stops_are_steps : KeptServersLeaveDone S J → StopsAreSteps S J

@@ -1,8 +1,23 @@
 //! What senders and servers achieve together: laws of the definitions, over one server, and over
-//! servers that follow one another. No function runs.
+//! servers that follow one another; and the command `rehearse`, which runs, event by event, a sender
+//! and a server, or servers that stop, between turns or in a chosen call of a disk, and start over what
+//! they left.
+//! Not stated: whether a server stops in a turn or a start, and in which call of it, since no clause
+//! counts the calls of a turn.
 #![tactic(auto)]
 
+mod asks;
+mod command;
+mod event;
+mod events;
+mod lines;
+mod machine;
+mod network;
+mod rehearsal;
 mod server_lives;
+mod shown;
+mod takes;
+mod text;
 
 ghost use Rattle.bw_delivery.specs.Reruns.{EachRunIsFaithful, RunsHearOneVerdict, SettledRunsAreWhole};
 ghost use Rattle.bw_delivery.specs.Deliveries.{ClosedDeliveriesStay, DeliveriesAreTrue};
@@ -14,6 +29,10 @@ ghost use Rattle.bw_delivery.specs.ExamplesOfReruns.{KilledRunExample, SecondRun
 
 use bw_journal::Journal;
 use bw_store::TakeStore;
+pub use command::rehearse_with_stops_run;
+pub use event::{Lives, StopEvent};
+pub use machine::{Folder, Life, Machine};
+pub use rehearsal::{Rehearsed, StopsFault, rehearse_stops};
 pub use server_lives::{
     examples_of_lives, examples_of_stops, law_folder, law_lives, law_promise_kept,
     law_served_worlds, law_stopped_worlds,

@@ -187,7 +187,8 @@ none_then folder path f p rest ef ep is none name e =
     (ap (λ (x : List ℕ). x ++ rest) (sym ef) ∙ sym is ∙ ep ∙ e ∙ in_folder_is folder name))
 
 -- where it is
-pub named_by : (folder path f p rest bytes : List ℕ) → f ≡ folder → p ≡ path → p ≡ f ++ rest → rest ≡ codes "/" ++ bytes →
+pub named_by : (folder path f p rest bytes : List ℕ) → f ≡ folder → p ≡ path → p ≡ f ++ rest → rest ≡ codes "/"
+    ++ bytes →
     path ≡ in_folder folder bytes
 named_by folder path f p rest bytes ef ep is next =
     sym ep
@@ -213,7 +214,8 @@ module _ {S : Type 0} (text : S → List ℕ) (name : List ℕ) where
   any_among (x ∷ xs) (zero, small, is) = or_left _ _ ((bytes_eq-Decides x name).1 is)
   any_among (x ∷ xs) (suc k, small, is) = or_right _ _ (any_among xs (k, omega (arith, small), is))
 
-  pub none_any : (names : List S) → list_any (λ (k : S). bytes_eq (text k) name) names ≡ false → Contains (map text names) name → ⊥
+  pub none_any : (names : List S) → list_any (λ (k : S). bytes_eq (text k) name) names ≡ false →
+      Contains (map text names) name → ⊥
   none_any names e among = let yes : true ≡ false = sym (any_among (map text names) among) ∙ any_mapped names ∙ e in cc
 
   pub pushed_text : (names : List S) (s : S) → text s ≡ name → map text (names ++ s ∷ []) ≡ map text names ++ name ∷ []

@@ -41,7 +41,8 @@ refuted : (b : Bool) → (b ≡ true → ⊥) → b ≡ false
 refuted true never = absurd (never refl)
 refuted false never = refl
 
-apart : (from other : List ℕ) → other ≢ from → (file : StoredFile) → stands_at other file ≡ true → stands_at from file ≡ false
+apart : (from other : List ℕ) → other ≢ from → (file : StoredFile) →
+    stands_at other file ≡ true → stands_at from file ≡ false
 apart from other ne file e =
     let at : string_bytes file.path ≡ other = (bytes_eq-Decides (string_bytes file.path) other).0 e in
     refuted (stands_at from file) (λ f. ne (sym at ∙ (bytes_eq-Decides (string_bytes file.path) from).0 f))

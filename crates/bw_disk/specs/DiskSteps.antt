@@ -35,7 +35,8 @@ pub record LivesUntil {D F : Type 0} (G : Ghosts D F) (life calls : ℕ) (fails 
   pub dead : life < calls → new ≡ old
 
 -- The call in which it dies writes this many of the bytes, or all, if the inner disk doesn't fail.
-abbrev pub WritesItsShare : {D F : Type 0} → Ghosts D F → List ℕ → ℕ → List ℕ → ℕ → D → D → Type 0
+abbrev pub WritesItsShare : {D F : Type 0} → Ghosts D F → List ℕ → ℕ → List ℕ → ℕ →
+    D → D → Type 0
 WritesItsShare G path offset bytes reached old new =
     IsTrue (G.honest old) → G.failures old < last_count → G.failures new ≡ G.failures old →
     Written (G.contents old path) offset (take reached bytes) (G.contents new path)

@@ -40,13 +40,15 @@ AddsListed folder path before after =
 
 -- what a path has after a copy of a file was added to others, if its path has this ending and
 -- nothing was there
-abbrev pub added_at : List ℕ → (List ℕ → Option (List ℕ)) → List ℕ → List ℕ → List ℕ → Option (List ℕ)
+abbrev pub added_at : List ℕ → (List ℕ → Option (List ℕ)) → List ℕ → List ℕ →
+    List ℕ → Option (List ℕ)
 added_at ending before from content path =
-    option_or (before path) (if bytes_eq from path && ends_with ◌==◌ path ending then Some content else None)
+    option_or (before path)
+    (if bytes_eq from path && ends_with ◌==◌ path ending then Some content else None)
 
 -- what a path has after the files of another disk whose paths have this ending were copied to where
 -- nothing was
-abbrev pub copied_at : List ℕ → (List ℕ → Option (List ℕ)) → (List ℕ → Option (List ℕ)) → List ℕ →
-    Option (List ℕ)
+abbrev pub copied_at : List ℕ → (List ℕ → Option (List ℕ)) →
+    (List ℕ → Option (List ℕ)) → List ℕ → Option (List ℕ)
 copied_at ending before other path =
     option_or (before path) (if ends_with ◌==◌ path ending then other path else None)

@@ -11,13 +11,15 @@ abbrev pub KeepsEach : (List ℕ → Option (List ℕ)) → (List ℕ → Option
 KeepsEach before after = (path : List ℕ) → after path ≡ before path
 
 -- each path but two has what it had
-abbrev pub KeepsAllBut : List ℕ → List ℕ → (List ℕ → Option (List ℕ)) → (List ℕ → Option (List ℕ)) →
+abbrev pub KeepsAllBut : List ℕ → List ℕ → (List ℕ → Option (List ℕ)) →
+    (List ℕ → Option (List ℕ)) →
     Type 0
 KeepsAllBut one two before after =
     (path : List ℕ) → path ≢ one → path ≢ two → after path ≡ before path
 
 -- A file is found exactly where something exists, and it is the file at this path.
-abbrev pub Finds : {F : Type 0} → (F → List ℕ) → List ℕ → Option F → Option (List ℕ) → Type 0
+abbrev pub Finds : {F : Type 0} → (F → List ℕ) → List ℕ → Option F → Option (List ℕ) →
+    Type 0
 Finds path_of path found content =
     MatchOption found (content ≡ None) (λ file. IsSome content × (path_of file ≡ path))
 

@@ -5,11 +5,11 @@ use Rattle.bw_model.specs.Replies.{Reply}
 use Rattle.bw_model.specs.World.{Sender, offer, offer_fault}
 use Rattle.bw_stream.specs.declared.sink.Sink.{Ghosts as Writer}
 use Rattle.bw_stream.specs.declared.source.Source.{Ghosts as Reader}
-use Rattle.bw_engine.specs.Hears.{hear_all}
+use Rattle.bw_sender.specs.Hears.{hear_all}
 use Rattle.bw_ports.specs.declared.dial.Dial.{Ghosts as DialGhosts}
 use Rattle.bw_ports.specs.declared.pause.Pause.{Ghosts as PauseGhosts}
 use Rattle.bw_upload.proofs.OfferSteps.{taken}
-use Rattle.bw_engine.proofs.HeardSenders.{all_heard}
+use Rattle.bw_sender.proofs.HeardSenders.{all_heard}
 use Rattle.bw_upload.specs.Chains.{Chain}
 use Rattle.bw_upload.specs.Conversations.{Conversing, TalkEvent, TalkStep, Says, Breaks, Hears}
 use Rattle.bw_upload.specs.Courses.{Course, CourseStep, UploadEvent, Fills, Misses, Makes, Talks, Leaves}

@@ -20,15 +20,15 @@ use Rattle.bw_model.proofs.BookLemmas.{same_name}
 use Rattle.bw_model.proofs.MapLemmas.{at-put_same, at-put_other}
 use Rattle.bw_stream.specs.declared.sink.Sink.{Ghosts as Writer}
 use Rattle.bw_stream.specs.declared.source.Source.{Ghosts as Reader}
-use Rattle.bw_engine.specs.Batches.{batch_bytes}
-use Rattle.bw_engine.specs.Hears.{Hears, hear_all}
-use Rattle.bw_engine.specs.Sent.{Exchanges}
-use Rattle.bw_engine.specs.declared.send_fault.SendFault.{SendFault}
+use Rattle.bw_sender.specs.Batches.{batch_bytes}
+use Rattle.bw_sender.specs.Hears.{Hears, hear_all}
+use Rattle.bw_sender.specs.Sent.{Exchanges}
+use Rattle.bw_sender.specs.declared.send_fault.SendFault.{SendFault}
 use Rattle.bw_ports.specs.declared.dial.Dial.{Ghosts as DialGhosts}
 use Rattle.bw_ports.specs.declared.dial.Duplex.{Duplex}
 use Rattle.bw_upload.specs.RoundsMade.{IsExchange, IsRound, AreRounds, heard_over}
 use Rattle.bw_upload.specs.SendState.{Sending, IsSettled, hear_in, new_sending, offer_all, offer_more, offer_next, unoffered}
-use Rattle.bw_engine.proofs.HeardSenders.{all_heard}
+use Rattle.bw_sender.proofs.HeardSenders.{all_heard}
 use Rattle.std.proofs.Math.Seq.{drop-append_seam}
 use Rattle.bw_upload.proofs.OfferSteps.{taken, refused, all_taken, all_refused}
 use Rattle.bw_delivery.specs.Deliveries.{HeardOverLinks}

@@ -12,7 +12,7 @@ use Rattle.bw_model.specs.World.{Sender, pending_from}
 use Rattle.bw_model.specs.Stream.{frames_bytes}
 use Rattle.bw_model.proofs.Elements.{get-below}
 use Rattle.bw_wire.specs.EncodedFrames.{said}
-use Rattle.bw_engine.specs.Batches.{messages, pending_messages, batch}
+use Rattle.bw_sender.specs.Batches.{messages, pending_messages, batch}
 use Rattle.bw_delivery.specs.Statement.{IsPartOf, WroteRequests}
 use Rattle.bw_delivery.proofs.OwnFrames.{each_request}
 use Rattle.bw_delivery.proofs.SoundTurns.{IsOneOf}

@@ -3,6 +3,7 @@ use Rattle.std.proofs.Common.{◌≡◌, ℕ, suc, ◌+◌, Bool, List, [], ◌�
 use Rattle.std.proofs.Common.{refl, sym, ◌∙◌, ap, subst, arith, append-nil, append_assoc}
 use Rattle.std.specs.Prelude.{Result}
 use Rattle.std.specs.List.{AllByRecursion}
+use Rattle.std.specs.declared.net.socket_addr.SocketAddr.{SocketAddr}
 use Rattle.bw_model.specs.Wire.{Frame}
 use Rattle.bw_model.specs.Replies.{Reply}
 use Rattle.bw_model.specs.Stream.{End, EndOfInput, SaidBye, BadFrame}
@@ -20,11 +21,13 @@ use Rattle.bw_connections.specs.ConnectionTables.{Tagged, tagged, all_answered}
 use Rattle.bw_console.specs.declared.exit.Exit.{Exit}
 use Rattle.bw_console.specs.declared.exit.Exit.TheVariants.{Done, Refused, Usage, Device, Memory}
 use Rattle.bw_ports.specs.declared.peers.Peers.{Ghosts as PeerGhosts}
+use Rattle.bw_serve.specs.Guards.{FromPeer}
 use Rattle.bw_serve.specs.ServedAll.{ServedOutcome, Served, Gone, Closed, ServesNext, ServesEach, EndsEarly}
 use Rattle.bw_delivery.specs.Statement.{LinkBytes, IsPartOf}
 use Rattle.bw_end_to_end.specs.ServedLinks.{AnswersOver}
 use Rattle.bw_end_to_end.specs.ServedInTurn.{ServedExchange, trace_of, IsPeerEnd, exchange_next, exchanges_each}
 use Rattle.bw_end_to_end.specs.ServedInTurn.{exchanges_early, AnswersInTurn, RunsAnswerInTurn}
+use Rattle.bw_serve.proofs.Guarding.{from_peer}
 use Rattle.bw_end_to_end.proofs.ConnectionLinks.{all_contain}
 use Rattle.bw_end_to_end.proofs.RisingNumbers.{AreRising, rising-append, own_exchange}
 
@@ -90,14 +93,14 @@ all_answered-tagged : (n : ℕ) (xs : List Answered) → all_answered (tagged n 
 all_answered-tagged n [] = refl
 all_answered-tagged n (x ∷ xs) = ap (λ (zs : List Answered). x ∷ zs) (all_answered-tagged n xs)
 
-module _ {T P R W O E : Type 0} (answers : T → Frame → List Reply → T → Type 0)
+module _ {T P R W O E : Type 0} (answers : SocketAddr → T → Frame → List Reply → T → Type 0)
     (commits : T → Result (Unit {0}) NotKept → T → Type 0) (peers : PeerGhosts P R W) (reader : Reader R) (writer : Writer W)
     (out : Writer O)
     (reported : Writer E) (log : Bool) where
   -- what exchanges in a row are
   record InTurn (i k : ℕ) (xs : List (ServedExchange R W)) (t t' : T) : Type 0 where
     rising : AreRising i k xs
-    by_server : AnswersAll answers t (all_answered (trace_of xs)) t'
+    by_server : AnswersAll (FromPeer answers) t (all_answered (trace_of xs)) t'
     each : AllByRecursion (λ x. (l : LinkBytes) → IsPeerEnd reader writer x.link l →
         AnswersOver x.answered l.received l.answered) xs
 
@@ -120,8 +123,8 @@ module _ {T P R W O E : Type 0} (answers : T → Frame → List Reply → T → 
       InTurn i k (xs ++ ys) t t'
   joined i j k xs ys t m t' a b = record {
     rising = rising-append i j k xs ys a.rising b.rising;
-    by_server = subst (λ (zs : List Answered). AnswersAll answers t zs t') (sym (trace_of-append xs ys))
-        (answers-append answers t m t' (all_answered (trace_of xs)) (all_answered (trace_of ys)) a.by_server b.by_server);
+    by_server = subst (λ (zs : List Answered). AnswersAll (FromPeer answers) t zs t') (sym (trace_of-append xs ys))
+        (answers-append (FromPeer answers) t m t' (all_answered (trace_of xs)) (all_answered (trace_of ys)) a.by_server b.by_server);
     each = all-append _ xs ys a.each b.each;
   }
 
@@ -136,10 +139,11 @@ module _ {T P R W O E : Type 0} (answers : T → Frame → List Reply → T → 
       let s = next.served.served.serves in
       record {
         rising = (omega arith, omega arith);
-        by_server = subst (λ (zs : List Answered). AnswersAll answers t zs t')
-            (sym (ap all_answered (append-nil (tagged index s.answered)) ∙ all_answered-tagged index s.answered)) s.by_server;
+        by_server = subst (λ (zs : List Answered). AnswersAll (FromPeer answers) t zs t')
+            (sym (ap all_answered (append-nil (tagged index s.answered)) ∙ all_answered-tagged index s.answered))
+            (from_peer answers next.peer.address t s.answered t' s.by_server);
         each = (
-          λ l over. exchange_answers answers end t t' _ _ _ _ l.received l.answered s over.received over.unused
+          λ l over. exchange_answers (answers next.peer.address) end t t' _ _ _ _ l.received l.answered s over.received over.unused
               over.answered,
           tt,
         );

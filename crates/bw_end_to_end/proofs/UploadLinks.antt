@@ -10,7 +10,7 @@ use Rattle.bw_model.specs.Replies.{Reply, Judged}
 use Rattle.bw_model.specs.World.{Sender}
 use Rattle.bw_stream.specs.declared.sink.Sink.{Ghosts as Writer}
 use Rattle.bw_stream.specs.declared.source.Source.{Ghosts as Reader}
-use Rattle.bw_engine.specs.Hears.{hear_all}
+use Rattle.bw_sender.specs.Hears.{hear_all}
 use Rattle.bw_ports.specs.declared.dial.Dial.{Ghosts as DialGhosts}
 use Rattle.bw_ports.specs.declared.dial.Duplex.{Duplex}
 use Rattle.bw_ports.specs.declared.pause.Pause.{Ghosts as PauseGhosts}

@@ -15,8 +15,8 @@ use Rattle.bw_stream.specs.Moves.{Writes, Begins}
 use Rattle.bw_stream.specs.declared.sink.Sink.{Ghosts as Writer}
 use Rattle.bw_stream.specs.declared.source.Source.{Ghosts as Reader}
 use Rattle.bw_wire.specs.Codecs.{reply_codec, Spelled}
-use Rattle.bw_engine.specs.LinkReplies.{PartsWith}
-use Rattle.bw_engine.specs.SaidMessages.{numbered_from, unsaid_messages}
+use Rattle.bw_sender.specs.LinkReplies.{PartsWith}
+use Rattle.bw_sender.specs.SaidMessages.{numbered_from, unsaid_messages}
 use Rattle.bw_ports.specs.declared.dial.Duplex.{Duplex}
 use Rattle.bw_upload.specs.Conversations.{Conversing, Line, SaysPending, BreaksSaying, HearsReplies, new_line}
 use Rattle.bw_delivery.specs.Statement.{LinkBytes, IsPartOf, WroteRequests, WasTold}

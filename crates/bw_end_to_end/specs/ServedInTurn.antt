@@ -1,6 +1,7 @@
 -- The server's ends of its links, while it serves one after another.
 use Rattle.std.specs.Prelude.{◌≡◌, Result, ℕ, Bool, suc, Some, List, [], ◌∷◌, ◌++◌, flat_map, length}
 use Rattle.std.specs.List.{Contains}
+use Rattle.std.specs.declared.net.socket_addr.SocketAddr.{SocketAddr}
 use Rattle.bw_model.specs.Wire.{Frame}
 use Rattle.bw_model.specs.Replies.{Reply}
 use Rattle.bw_stream.specs.declared.sink.Sink.{Ghosts as Writer}
@@ -11,6 +12,7 @@ use Rattle.bw_connections.specs.ConnectionTables.{Tagged, tagged, all_answered, 
 use Rattle.bw_console.specs.declared.exit.Exit.{Exit}
 use Rattle.bw_console.specs.declared.exit.Exit.TheVariants.{Done}
 use Rattle.bw_ports.specs.declared.peers.Peers.{Ghosts as PeerGhosts}
+use Rattle.bw_serve.specs.Guards.{FromPeer}
 use Rattle.bw_serve.specs.ServedAll.{ServedOutcome, Served, Gone, Closed, ServesNext, ServesEach}
 use Rattle.bw_serve.specs.ServedAll.{EndsEarly, ServesRun}
 use Rattle.bw_delivery.specs.Statement.{LinkBytes}
@@ -35,7 +37,7 @@ pub record IsPeerEnd {R W : Type 0} (reader : Reader R) (writer : Writer W) (u :
   pub received : reader.left u.reader ≡ Some l.received
   pub answered : writer.written u.writer_after ≡ Some l.answered
 
-module _ {T P R W O E : Type 0} (answers : T → Frame → List Reply → T → Type 0)
+module _ {T P R W O E : Type 0} (answers : SocketAddr → T → Frame → List Reply → T → Type 0)
     (commits : T → Result (Unit {0}) NotKept → T → Type 0) (peers : PeerGhosts P R W)
     (reader : Reader R) (writer : Writer W) (out : Writer O) (reported : Writer E) (log : Bool) where
   -- the exchange of the next peer, if one came
@@ -84,9 +86,9 @@ module _ {T P R W O E : Type 0} (answers : T → Frame → List Reply → T → 
   exchanges_in_run exchanges exit t t' p p' o o' e e' run =
       exchanges_early exchanges exit t t' p p' o o' e e' run
 
-  -- The server answered the frames of these exchanges, and each over its own link.
+  -- The server answered the frames of these exchanges, each as its peer's, and over its own link.
   pub record AnswersInTurn (exchanges : List (ServedExchange R W)) (t t' : T) : Type 0 where
-    pub by_server : AnswersAll answers t (all_answered (trace_of exchanges)) t'
+    pub by_server : AnswersAll (FromPeer answers) t (all_answered (trace_of exchanges)) t'
     pub each : (x : ServedExchange R W) (l : LinkBytes) → Contains exchanges x →
         IsPeerEnd reader writer x.link l →
         AnswersOver (own x.number (trace_of exchanges)) l.received l.answered

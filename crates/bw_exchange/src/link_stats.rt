@@ -12,6 +12,7 @@ use bw_model::Name;
 use bw_wire::{Ask, Message, Reply};
 use std::marker::Model;
 use std::mem;
+use std::net::SocketAddr;
 
 /// How many names a tally keeps.
 const NAMES: usize = 8;
@@ -179,6 +180,14 @@ impl<T> Metered<T> {
         mem::swap(&mut self.link_stats, link_stats);
     }
 
+    /// Counts a message that the server isn't given.
+    pub fn count(&mut self, message: &Message<'_>)
+        ensures server { metered_server self.new ≡ metered_server self.old }
+        ensures link_stats { metered_counts self.new ≡ counting_frame (metered_counts self.old) (Says (message_of message.now)) }
+    {
+        self.link_stats.count(message);
+    }
+
     /// Starts counting for another link.
     pub fn start(&mut self)
         ensures server { metered_server self.new ≡ metered_server self.old }
@@ -232,5 +241,9 @@ impl<T: Turns> Turns for Metered<T> {
 
     fn commit(&mut self) -> Result<(), NotKept> {
         self.commit_server()
+    }
+
+    fn note_refused(&mut self, peer: SocketAddr, name: &Name) {
+        self.server.note_refused(peer, name);
     }
 }

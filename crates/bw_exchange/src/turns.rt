@@ -7,7 +7,9 @@ ghost use Rattle.bw_wire.specs.Frames.{message_of, asked_name, asked_number};
 ghost use Rattle.bw_wire.specs.Replies.{reply_of, HasWireNumbers};
 
 use arrayvec::ArrayVec;
+use bw_model::Name;
 use bw_wire::{Ask, Message, Reply};
+use std::net::SocketAddr;
 
 /// Why some of what was answered since the last commit isn't kept: its replies may not leave.
 #[derive(Clone, Copy, Debug, PartialEq, Eq)]
@@ -68,4 +70,13 @@ pub trait Turns {
         // What it does is part of the turn before it.
         ensures answered { (first : Self) (frame : Frame) (replies : List ModelReply) →
             answers first frame replies self.old → answers first frame replies self.new };
+
+    /// Notes that a peer's message under this name was turned away before it came to the server, since
+    /// it may not come from there. Nothing of the server changes.
+    ///
+    /// # Not specified
+    /// What is said of it: here nothing.
+    fn note_refused(&mut self, _peer: SocketAddr, _name: &Name)
+        ensures { self.new ≡ self.old }
+    {}
 }

@@ -33,5 +33,6 @@ abbrev pub other_format_of : List ℕ → Option OtherFormat
 other_format_of b = if nat_lt (length b) 12 then None else format_named (slice_range b 0 12)
 
 -- after a call with this result this is the format that the bytes name, unless the reader failed
-abbrev pub NamesFormat : {X : Type 0} → Result X InspectFault → Option (List ℕ) → Option OtherFormat → Type 0
+abbrev pub NamesFormat : {X : Type 0} → Result X InspectFault → Option (List ℕ) →
+    Option OtherFormat → Type 0
 NamesFormat result left other = stopped result ≡ false → Of left (λ b. other ≡ other_format_of b)

@@ -107,7 +107,8 @@ same_five : (g g' h h' i i' j j' k k' : ℕ) → g ≡ g' → h ≡ h' → i ≡
     g ∷ h ∷ i ∷ j ∷ k ∷ [] ≡ g' ∷ h' ∷ i' ∷ j' ∷ k' ∷ []
 same_five g g' h h' i i' j j' k k' ge he ie je ke = cc
 
-same_reported : (a a' b b' c c' d d' e e' u u' l l' z z' : List ℕ) (t t' v v' : ℕ) → a ≡ a' → b ≡ b' → c ≡ c' → d ≡ d' →
+same_reported : (a a' b b' c c' d d' e e' u u' l l' z z' : List ℕ) (t t' v v' : ℕ) → a ≡ a' → b ≡ b' → c ≡ c' → d
+    ≡ d' →
     e ≡ e' → t ≡ t' → v ≡ v' → u ≡ u' → l ≡ l' → z ≡ z' →
     (let left : RawBext × List ℕ =
     (record { texts = a ∷ b ∷ c ∷ d ∷ e ∷ []; time = t; version = v; umid = u; loudness = l }, z) in left)

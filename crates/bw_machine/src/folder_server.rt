@@ -12,9 +12,11 @@ use arrayvec::ArrayVec;
 use bw_disk::{SystemDisk, Volume};
 use bw_exchange::{NotKept, Turns};
 use bw_folder::{FolderJournal, FolderStore};
+use bw_model::Name;
 use bw_net::NotedFiles;
 use bw_session::{HasTable, Server};
 use bw_wire::{Ask, Message, Reply};
+use std::net::SocketAddr;
 
 /// The disk of this machine.
 type HostDisk<'a> = SystemDisk<NotedFiles<'a>>;
@@ -60,6 +62,10 @@ impl<'a> Turns for FolderServer<'a> {
     fn commit(&mut self) -> Result<(), NotKept> {
         commit_over(&mut self.server)
     }
+
+    fn note_refused(&mut self, peer: SocketAddr, name: &Name) {
+        note_refused_over(&mut self.server, peer, name);
+    }
 }
 
 /// Has a server over any disks answer a message.
@@ -102,4 +108,15 @@ fn commit_over<'a, D: Volume, E: Volume>(
         server.old server.new }
 {
     server.commit()
+}
+
+/// Has a server over any disks note that a peer's message was turned away.
+fn note_refused_over<'a, D: Volume, E: Volume>(
+    server: &mut ReportingServer<'a, KeptOver<D, E>>,
+    peer: SocketAddr,
+    name: &Name,
+)
+    ensures { server.new ≡ server.old }
+{
+    server.note_refused(peer, name);
 }

@@ -10,12 +10,16 @@ use bw_folder::FolderStore;
 use bw_net::{
     FolderLock, LineCell, NotedFiles, SpoolCell, TcpDial, TcpPeers, TcpReactor, check_folder,
 };
-use bw_operators::{EventLog, started_line};
+use bw_operators::{EventLog, RuleFiles, started_line};
 use bw_ports::{ListenerSetup, Network, PacedNetwork, StartRefusal};
 use std::alloc::Global;
-use std::io;
+use std::fs::File;
+use std::io::{self, ErrorKind, Read};
 use std::net::{SocketAddr, TcpListener};
 use std::time::Duration;
+
+/// The most bytes of a file of rules.
+const MOST_RULES: u64 = 1_048_576;
 
 /// The network and the folders of the machine that the process runs on, by the calls of std. No
 /// clause of std says what is in a folder or what comes over a socket.
@@ -119,6 +123,21 @@ impl EventLog for TcpNetwork<'_> {
 
     fn log_events(&mut self, log: bool) {
         self.lines.log_events(log);
+    }
+}
+
+impl RuleFiles for TcpNetwork<'_> {
+    // No clause of std says what a read of a file gives.
+    ghost reads = { λ n path result. Unit {0} };
+
+    fn read_rules(&self, path: &str) -> io::Result<Vec<u8>> {
+        let file = File::open(self.rt, path)?;
+        let mut text = Vec::new(self.rt.alloc());
+        file.take(MOST_RULES + 1).read_to_end(&mut text)?;
+        if text.len() as u64 > MOST_RULES {
+            return Err(io::Error::from(ErrorKind::FileTooLarge));
+        }
+        Ok(text)
     }
 }
 

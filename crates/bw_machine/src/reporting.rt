@@ -16,10 +16,12 @@ use bw_folder::{FolderJournal, FolderStore};
 use bw_kept::KeptServer;
 use bw_model::Name;
 use bw_net::NotedFiles;
+use bw_operators::peer_refused_line;
 use bw_recovery::{NameFault, cause_of};
 use bw_session::{HasTable, Server};
 use bw_wire::{Ask, Message, Notice, Reply};
 use std::alloc::AllocError;
+use std::net::SocketAddr;
 
 /// After how many names that were left out the rest waits for the next frame.
 const NAMES_A_FRAME: usize = 8;
@@ -67,7 +69,7 @@ impl<D: Volume, E: Volume> LeavesOut for KeptServer<FolderStore<D>, FolderJourna
 /// A server that answers as the one in it. When something is found to be wrong with a name, that is a
 /// line on standard error, `DIR/NAME.journal: CAUSE, left out`, and operators see it until a frame of the
 /// name isn't put off. Another line names the take of which a sync failed. With a log each take that is
-/// opened or closed is a line, and each message that is refused.
+/// opened or closed is a line, and each message that is refused, or turned away before it came here.
 ///
 /// # Not specified
 /// What is said, and when.
@@ -115,6 +117,18 @@ impl<T: LeavesOut> ReportingServer<'_, T> {
 fn note_served(files: NotedFiles<'_>, name: &Name) {
     if let Ok(name) = std::str::from_utf8(name.as_bytes()) {
         files.note_served(name);
+    }
+}
+
+/// Says that a peer's message of a name was turned away, once for many in a row.
+fn note_turned_away(files: NotedFiles<'_>, peer: SocketAddr, name: &Name) {
+    if !files.logs() {
+        return;
+    }
+    if let Ok(text) = std::str::from_utf8(name.as_bytes()) {
+        if files.note_refused(peer, text) {
+            files.note_event(peer_refused_line(files.alloc(), peer, text));
+        }
     }
 }
 
@@ -222,5 +236,9 @@ impl<T: LeavesOut + HasTable> Turns for ReportingServer<'_, T> {
             self.report_sync();
         }
         kept
+    }
+
+    fn note_refused(&mut self, peer: SocketAddr, name: &Name) {
+        note_turned_away(self.files, peer, name);
     }
 }

@@ -14,7 +14,8 @@ ReadsAs b form entries = read b ≡ Ok (form, entries)
 
 -- the faults of these bytes
 abbrev pub FaultsOfExample : List (List ℕ) → List (FaultKind × ℕ) → Type 0
-FaultsOfExample inputs faults = map read inputs ≡ map (λ f. Err (record { kind = f.0; offset = f.1 })) faults
+FaultsOfExample inputs faults = map read inputs
+    ≡ map (λ f. Err (record { kind = f.0; offset = f.1 })) faults
 
 -- Forms that are read.
 

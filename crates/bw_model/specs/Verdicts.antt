@@ -27,7 +27,8 @@ VerdictsStay = (existed : List ℕ → Bool) (book : Book) (ts : List (Frame × 
 
 -- Each verdict that a turn gives is that of a number that is done after it.
 abbrev pub VerdictsAreTrue : Type 0
-VerdictsAreTrue = (existed : List ℕ → Bool) (book : Book) (f : Frame) (faults : Faults) → IsBook book →
+VerdictsAreTrue = (existed : List ℕ → Bool) (book : Book) (f : Frame) (faults : Faults) →
+    IsBook book →
     (name : List ℕ) (n : ℕ) (v : Verdict) →
     Contains (turn existed book f faults).0 (Judged name n v) →
     let later = log_of (turn existed book f faults).1 name in

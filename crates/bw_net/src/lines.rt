@@ -11,6 +11,7 @@ use bw_stream::{StdIo, write_all};
 use std::alloc::{AllocError, Global};
 use std::cell::{Cell, RefCell};
 use std::io::{self, ErrorKind, Write};
+use std::net::SocketAddr;
 use std::os::fd::RawFd;
 
 /// The descriptor of standard error.
@@ -64,6 +65,8 @@ pub struct LineCell {
     fails_to_begin: Cell<bool>,
     /// Whether what happens is said, and each line on standard error begins with its time.
     logs: Cell<bool>,
+    /// The peer whose message was turned away last, and its name.
+    refused: RefCell<Option<(SocketAddr, String)>>,
 }
 
 impl LineCell {
@@ -80,6 +83,7 @@ impl LineCell {
             names: LeftOutNotes::new(),
             fails_to_begin: Cell::new(false),
             logs: Cell::new(false),
+            refused: RefCell::new(None),
         }
     }
 
@@ -115,6 +119,24 @@ impl LineCell {
     /// Whether it is.
     pub(crate) fn logs(&self) -> bool {
         self.logs.get()
+    }
+
+    /// Notes that a peer's message under this name was turned away. Returns whether the last one that was
+    /// came from elsewhere, or under another name; so many in a row are said once.
+    ///
+    /// # Not specified
+    /// Anything: it has no contract.
+    pub(crate) fn note_refused(&self, alloc: Global, peer: SocketAddr, name: &str) -> bool {
+        let is_same = match self.refused.try_borrow() {
+            Ok(last) => is_refused_there(&last, peer, name),
+            Err(_) => false,
+        };
+        if is_same {
+            return false;
+        }
+        let copy = String::from_str(alloc, name).ok();
+        let _ = self.refused.try_replace(copy.map(|name| (peer, name)));
+        true
     }
 
     /// Says what happens in a line on standard error, if that is asked for. If memory was refused for the
@@ -365,4 +387,12 @@ fn left_out_line(alloc: Global, count: u64) -> Result<String, AllocError>
     ensures { IfOk result (λ line. string_bytes line ≡ left_out_text count) }
 {
     format!(in alloc; "left out {count} lines\n")
+}
+
+/// Whether this peer's message under this name was the last that was turned away.
+fn is_refused_there(last: &Option<(SocketAddr, String)>, peer: SocketAddr, name: &str) -> bool {
+    match last {
+        Some((address, refused)) => *address == peer && refused.as_str() == name,
+        None => false,
+    }
 }

@@ -6,6 +6,7 @@ use std::alloc::{AllocError, Allocator, Global};
 use std::cell::Cell;
 use std::fs::{Files, Metadata, OpenFile, OpenOptions};
 use std::io::{self, ErrorKind, Read, Seek, SeekFrom, Write};
+use std::net::SocketAddr;
 
 /// What a file is called whose path there was no memory for.
 const SOME_FILE: &str = "a file";
@@ -58,6 +59,15 @@ impl<'a> NotedFiles<'a> {
     /// Anything: it has no contract.
     pub fn note_served(&self, name: &str) {
         self.lines.note_served(name);
+    }
+
+    /// Notes that a peer's message under this name was turned away. Returns whether the last one that was
+    /// came from elsewhere, or under another name.
+    ///
+    /// # Not specified
+    /// Anything: it has no contract.
+    pub fn note_refused(&self, peer: SocketAddr, name: &str) -> bool {
+        self.lines.note_refused(self.rt.alloc(), peer, name)
     }
 
     /// Says on standard error that a sync failed of the take's file at a path, or of its journal.

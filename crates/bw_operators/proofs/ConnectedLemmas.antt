@@ -93,7 +93,8 @@ read_on G c c' e r is = go r.phase
 
     part : r.piece ≡ [] → IsRequestPart c'.held.items
     part none =
-        let same : c'.held.items ≡ c.held.items = r.held ∙ (ap (λ (xs : List ℕ). c.held.items ++ xs) none ∙ append-nil c.held.items) in
+        let same : c'.held.items ≡ c.held.items = r.held ∙ (ap (λ (xs : List ℕ). c.held.items
+        ++ xs) none ∙ append-nil c.held.items) in
         subst IsRequestPart (sym same) was.2
 
     go : ((r.piece ≡ []) × (c'.phase ≡ Reading)) ⊎ HasHeld c'.held.items c'.phase → IsConnection G c'
@@ -150,7 +151,8 @@ sends G c between c' waiting count f phase same sent response held left some few
   count = count;
   link = record {
     given = λ xs is. f.given xs (given xs is);
-    taken = λ ys is. subst (λ (zs : List ℕ). G.taken c'.link (ys ++ take count zs)) left (f.taken (ys ++ take count waiting) (taken ys is));
+    taken = λ ys is. subst (λ (zs : List ℕ). G.taken c'.link (ys ++ take count zs)) left (f.taken (ys
+        ++ take count waiting) (taken ys is));
     moved = inl (
         let long : length (take count (drop c.sent c.response.items)) ≡ count =
         ap (λ (zs : List ℕ). length (take count zs)) (sym left) ∙ length-take-le count waiting few in

@@ -2,3 +2,5 @@ pub mod ConnectedLemmas
 pub mod PlacedLemmas
 pub mod SilentLemmas
 pub mod Calendar
+mod NetworkLemmas
+mod AllowFileLemmas

@@ -16,6 +16,10 @@ started_line address folder = codes "started " ++ socket_text address ++ codes "
 abbrev pub begun_line : SocketAddr → List ℕ
 begun_line peer = codes "peer " ++ socket_text peer ++ codes " begun\n"
 
+-- a peer's message under this name isn't taken, since the list doesn't allow it
+abbrev pub peer_refused_line : SocketAddr → List ℕ → List ℕ
+peer_refused_line peer name = codes "peer " ++ socket_text peer ++ codes " refused " ++ name ++ codes "\n"
+
 -- a take is opened, or goes on with so many frames
 abbrev pub take_opened_line : List ℕ → ℕ → List ℕ
 take_opened_line name frames = codes "take " ++ name ++ codes " opened frames " ++ decimal frames

@@ -7,3 +7,7 @@ pub mod Times
 pub mod Events
 pub mod EventLines
 pub mod ExampleTimes
+pub mod AllowLists
+pub mod AllowFiles
+pub mod AllowWords
+pub mod ExampleAllowLists

@@ -61,7 +61,8 @@ longer_of o place None (Some a) = Some (place, a)
 longer_of o place (Some b) (Some a) =
     if nat_lt (since_at o place) (since_at o b.0) then Some (place, a) else Some b
 
-abbrev pub oldest_of : {L : Type 0} → Operators L → Option (ℕ × Answer) → ℕ → Option (ℕ × Answer)
+abbrev pub oldest_of : {L : Type 0} → Operators L → Option (ℕ × Answer) → ℕ →
+    Option (ℕ × Answer)
 oldest_of o best place = longer_of o place best (asked_at o place)
 
 -- the connection at a place was let in before this time, and nothing is to be answered or sent there

@@ -1,7 +1,7 @@
 //! The lines of what happens at a server.
 ghost use Rattle.std.specs.Prelude.{◌≡◌, ◌++◌, ◌<◌, ◌≤◌, ◌+◌, ◌%◌, IfOk, OnOk, codes, decimal};
 ghost use Rattle.bw_operators.specs.EventLines.{begun_line, take_closed_line, in_thousandths, take_opened_line};
-ghost use Rattle.bw_operators.specs.EventLines.{take_refused_line, started_line, verdict_text};
+ghost use Rattle.bw_operators.specs.EventLines.{peer_refused_line, take_refused_line, started_line, verdict_text};
 ghost use Rattle.bw_operators.specs.Times.{last_three};
 ghost use Rattle.bw_model.specs.VerdictMeanings.{verdict_meaning};
 
@@ -45,6 +45,26 @@ pub fn begun_line(alloc: Global, peer: SocketAddr) -> Result<Vec<u8>, AllocError
     line.extend_from_slice(b"peer ")?;
     line.extend_from_slice(peer.as_bytes())?;
     line.extend_from_slice(b" begun\n")?;
+    Ok(line)
+}
+
+/// The line of a peer from which messages under a name aren't taken.
+///
+/// # Errors
+/// `AllocError` if memory was refused.
+///
+/// # Not specified
+/// When memory is refused.
+pub fn peer_refused_line(alloc: Global, peer: SocketAddr, name: &str) -> Result<Vec<u8>, AllocError>
+    ensures { IfOk result (λ line. line.items ≡ peer_refused_line peer name.now) }
+{
+    let peer = format!(in alloc; "{peer}")?;
+    let mut line = Vec::new(alloc);
+    line.extend_from_slice(b"peer ")?;
+    line.extend_from_slice(peer.as_bytes())?;
+    line.extend_from_slice(b" refused ")?;
+    line.extend_from_slice(name.as_bytes())?;
+    line.extend_from_slice(b"\n")?;
     Ok(line)
 }
 

@@ -29,7 +29,8 @@ least-same f g low (suc n) e =
     ap (λ (k : ℕ). min k (f n)) (least-same f g low n (λ k h. e k (omega arith)))
     ∙ ap (min (least_of g low n)) (e n (omega arith))
 
-greatest-same : (f g : ℕ → ℕ) (high n : ℕ) → ((k : ℕ) → k < n → f k ≡ g k) → greatest_of f high n ≡ greatest_of g high n
+greatest-same : (f g : ℕ → ℕ) (high n : ℕ) → ((k : ℕ) → k < n → f k ≡ g k) → greatest_of f high n
+    ≡ greatest_of g high n
 greatest-same f g high zero e = refl
 greatest-same f g high (suc n) e =
     ap (λ (k : ℕ). max k (f n)) (greatest-same f g high n (λ k h. e k (omega arith)))

@@ -47,7 +47,8 @@ digit_at : (f c : ℕ) → is_like_at f c ≡ true →
     cond (f == 100) (is_ascii_digit (placed f c)) (f == placed f c) ≡ true
 digit_at f c h = go (f == 100) refl h
   where
-    go : (v : Bool) → (f == 100) ≡ v → cond v (is_ascii_digit c) (list_any (λ s. s == c) (45 ∷ 95 ∷ 58 ∷ 32 ∷ 46 ∷ [])) ≡ true →
+    go : (v : Bool) → (f == 100) ≡ v → cond v (is_ascii_digit c) (list_any (λ s. s == c) (45 ∷ 95 ∷ 58 ∷ 32 ∷ 46 ∷ []))
+        ≡ true →
         cond v (is_ascii_digit (cond v c f)) (f == cond v c f) ≡ true
     go true e h = h
     go false e h = eq-eqb f f refl

@@ -92,7 +92,8 @@ no_fault : (x : Option FieldFault) → is_none x ≡ true → is_some x ≡ fals
 no_fault None e = refl
 no_fault (Some x) e = absurd (false≢true e)
 
-allowed : (s : Shape) (c : ℕ) (cs : List ℕ) → ((length (c ∷ cs) == 0) ≡ true) ⊎ (is_none (shape_fault (Some s) (c ∷ cs)) ≡ true) →
+allowed : (s : Shape) (c : ℕ) (cs : List ℕ) →
+    ((length (c ∷ cs) == 0) ≡ true) ⊎ (is_none (shape_fault (Some s) (c ∷ cs)) ≡ true) →
     is_some (shape_fault (Some s) (c ∷ cs)) ≡ false
 allowed s c cs (inl e) = let none : length (c ∷ cs) ≡ 0 = eqb-true (length (c ∷ cs)) 0 e in absurd (omega (arith, none))
 allowed s c cs (inr e) = no_fault (shape_fault (Some s) (c ∷ cs)) e

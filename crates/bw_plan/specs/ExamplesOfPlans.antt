@@ -147,8 +147,8 @@ PcmPlanExample =
     planned 1 (pcm_recording_of (255 ∷ two_frames) (record no_options {
       settings = Field 1 (codes "Rain") ∷ [];
     }) (mono_after 1))
-    ≡ Ok (Open mono [] ∷ SetField 1 (codes "Rain") ∷ Block (hex "0100") ∷ Block (hex "0200") ∷ Close 2
-    ∷ [])
+    ≡ Ok (Open mono [] ∷ SetField 1 (codes "Rain") ∷ Block (hex "0100") ∷ Block (hex "0200")
+    ∷ Close 2 ∷ [])
 
 -- samples that end inside the third frame, a file of no sample, one that ends before the samples
 -- begin, and 20 bits
@@ -156,7 +156,8 @@ abbrev pub RefusedPcmExample : Type 0
 RefusedPcmExample =
     (pcm_recording_of (two_frames ++ 3 ∷ []) no_options (mono_after 0)
     ≡ Err (record { kind = PartFrame; offset = 4 }))
-    × (planned 1 (pcm_recording_of (1 ∷ []) no_options (mono_after 1)) ≡ Ok (Open mono [] ∷ Close 0 ∷ []))
+    × (planned 1 (pcm_recording_of (1 ∷ []) no_options (mono_after 1))
+    ≡ Ok (Open mono [] ∷ Close 0 ∷ []))
     × (pcm_recording_of (1 ∷ []) no_options (mono_after 2)
     ≡ Err (record { kind = Short; offset = 2 }))
     × (pcm_recording_of two_frames no_options (record (mono_after 0) { bits = 20 })

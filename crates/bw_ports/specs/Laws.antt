@@ -46,7 +46,8 @@ StatesAreRead = (header counts : List ℕ) → IsHeaderText header →
 
 -- the state of another header says nothing, wherever it is cut
 abbrev pub OtherStatesSayNothing : Type 0
-OtherStatesSayNothing = (header other counts : List ℕ) (k : ℕ) → IsHeaderText other → other ≢ header →
+OtherStatesSayNothing = (header other counts : List ℕ) (k : ℕ) → IsHeaderText other →
+    other ≢ header →
     settled_in header (take k (state_bytes other counts)) ≡ None
 
 -- the header of an origin is one line
@@ -55,4 +56,5 @@ HeadersAreLines = (o : Origin) → IsOrigin o → IsHeaderText (state_header o)
 
 -- no other origin has it
 abbrev pub HeadersAreApart : Type 0
-HeadersAreApart = (a b : Origin) → IsOrigin a → IsOrigin b → state_header a ≡ state_header b → a ≡ b
+HeadersAreApart = (a b : Origin) → IsOrigin a → IsOrigin b →
+    state_header a ≡ state_header b → a ≡ b

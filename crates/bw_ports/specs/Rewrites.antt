@@ -14,5 +14,6 @@ RewritesInPart before place bytes after =
     (count : ℕ) × (after ≡ Some (overwritten xs place (take count bytes)))
 
 -- each other path has what it had
-abbrev pub KeepsOtherPaths : List ℕ → (List ℕ → Option (List ℕ)) → (List ℕ → Option (List ℕ)) → Type 0
+abbrev pub KeepsOtherPaths : List ℕ → (List ℕ → Option (List ℕ)) →
+    (List ℕ → Option (List ℕ)) → Type 0
 KeepsOtherPaths path before after = (other : List ℕ) → other ≢ path → after other ≡ before other

@@ -7,7 +7,8 @@ use Rattle.bw_ports.specs.Counts.{count_in}
 -- the lines that are ended, without the byte that ends them; this was read of the first
 abbrev pub lines_after : List ℕ → List ℕ → List (List ℕ)
 lines_after line [] = []
-lines_after line (b ∷ bs) = if b == 10 then line ∷ lines_after [] bs else lines_after (line ++ b ∷ []) bs
+lines_after line (b ∷ bs) = if b == 10 then line ∷ lines_after [] bs
+    else lines_after (line ++ b ∷ []) bs
 
 -- the greatest count of these lines; 0 if none of them has one
 abbrev pub greatest_count : List (List ℕ) → ℕ

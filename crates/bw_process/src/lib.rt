@@ -5,12 +5,14 @@ use bw_console::CauseCell;
 use bw_disk::SystemDisk;
 use bw_machine::{TcpNetwork, Terminal};
 use bw_net::{ClockStopwatch, Host, HostRecordings, LineCell, LineSink, SpoolCell, SpoolPause};
+use bw_operators::StatusSetup;
+use bw_ports::{ListenerSetup, PacedNetwork};
 use bw_program::{Outside, start};
 use bw_progress::{
     ClearingSink, LastOutage, LineHandle, OutageReports, RenewingPause, SendWatch, SharedProgress,
 };
 use bw_send_file::LinkLog;
-use bw_serve::FilteredNetwork;
+use bw_serve::{FilteredNetwork, Opens, ServeRules};
 use bw_stream::StdIo;
 use bw_takes::ScreenStyle;
 use std::io::IsTerminal;
@@ -26,6 +28,21 @@ pub fn run(rt: HostRuntime) -> ExitCode {
     let spool = SpoolCell::new();
     let causes = CauseCell::new();
     let lines = LineCell::new();
+    let network = FilteredNetwork::new(TcpNetwork::new(&rt, &spool, &causes, &lines));
+    let exit = run_over(rt, &spool, &causes, &lines, network);
+    lines.report_start(&rt);
+    exit
+}
+
+/// Runs the command over a network. It is generic, since the proof of `run` doesn't fit the prover's
+/// steps if all parts of the outside meet in one function.
+fn run_over<N: PacedNetwork + ListenerSetup + Opens + ServeRules + StatusSetup<N::Reactor> + Drop>(
+    rt: HostRuntime,
+    spool: &SpoolCell,
+    causes: &CauseCell,
+    lines: &LineCell,
+    network: N,
+) -> ExitCode {
     let terminal = Terminal::new(&rt);
     let screen = terminal.again(&rt);
     // A copy of the runtime, since the prover refuses a reference here beside the sinks of lines.
@@ -33,29 +50,29 @@ pub fn run(rt: HostRuntime) -> ExitCode {
     let line = SharedProgress::new(rt.alloc(), screen, stopwatch);
     let mut outside = Outside {
         system: Host::new(&rt),
-        files: HostRecordings::new(&rt, &spool),
+        files: HostRecordings::new(&rt, spool),
         disk: SystemDisk::new(&rt),
-        network: FilteredNetwork::new(TcpNetwork::new(&rt, &spool, &causes, &lines)),
+        network,
         pause: RenewingPause {
-            inner: SpoolPause::new(&rt, &spool),
+            inner: SpoolPause::new(&rt, spool),
             line: LineHandle { shared: &line },
         },
         input: StdIo::new(rt.stdin()),
         out: ClearingSink {
-            inner: LineSink::new(rt, &lines, rt.stdout()),
+            inner: LineSink::new(rt, lines, rt.stdout()),
             line: LineHandle { shared: &line },
         },
         faults: ClearingSink {
-            inner: LineSink::new(rt, &lines, rt.stderr()),
+            inner: LineSink::new(rt, lines, rt.stderr()),
             line: LineHandle { shared: &line },
         },
         watch: OutageReports {
             watch: SendWatch {
                 rounds: terminal,
-                files: HostRecordings::new(&rt, &spool),
+                files: HostRecordings::new(&rt, spool),
                 line: &line,
             },
-            causes: &causes,
+            causes,
             faults: ClearingSink {
                 inner: StdIo::new(rt.stderr()),
                 line: LineHandle { shared: &line },
@@ -66,16 +83,14 @@ pub fn run(rt: HostRuntime) -> ExitCode {
             watch: LinkLog {
                 out: StdIo::new(rt.stderr()),
             },
-            causes: &causes,
+            causes,
             faults: StdIo::new(rt.stderr()),
             last: LastOutage::none(),
         },
         screens: screen_style(&rt),
         is_typed: rt.stdin().is_terminal(),
     };
-    let exit = start(rt.alloc(), &mut outside);
-    lines.report_start(&rt);
-    exit
+    start(rt.alloc(), &mut outside)
 }
 
 /// How screens are shown on standard output: on a terminal in place, else as lines.

@@ -23,7 +23,7 @@ use Rattle.bw_console.specs.BadArgv.{IsBadArgv}
 use Rattle.bw_console.specs.declared.exit.Exit.{Exit}
 use Rattle.bw_console.specs.declared.exit.Exit.TheVariants as exits
 use Rattle.bw_console.specs.declared.fault.Fault.{Fault}
-use Rattle.bw_rehearse.specs.Chosen.{IsChosenRehearsal}
+use Rattle.bw_delivery.specs.Chosen.{IsChosenRehearsal}
 use Rattle.bw_ports.specs.declared.network.Network.{Ghosts as NetworkGhosts}
 use Rattle.bw_ports.specs.declared.listener_setup.ListenerSetup.{Ghosts as ListenerSetupGhosts}
 use Rattle.bw_program.specs.FileCommands.{InspectsFiles, IsInspectedAt}

@@ -40,7 +40,8 @@ pub record StateSide (F B L : Type 0) : Type 1 where
   pub files : StateGhosts B L
   pub log : LogGhosts L
 
-abbrev pub state_side : {F B L : Type 0} → (F → List ℕ → Option (List ℕ)) → StateGhosts B L → LogGhosts L →
+abbrev pub state_side : {F B L : Type 0} → (F → List ℕ → Option (List ℕ)) →
+    StateGhosts B L → LogGhosts L →
     StateSide F B L
 state_side kept_at files log = record { kept_at = kept_at; files = files; log = log }
 
@@ -124,20 +125,23 @@ server_side store none peers reader writer reactor link rules status = record {
   rules = rules;
 }
 
--- what a server answers and commits, and which books its table holds
+-- what a server answers and commits, when all is committed, and which books its table holds
 pub record TurnsSide (T : Type 0) : Type 1 where
   pub answers : T → Frame → List Reply → T → Type 0
+  pub committed : T → Type 0
   pub commits : T → Result (Unit {0}) NotKept → T → Type 0
   pub holds : T → (List ℕ → Option (List ℕ)) → Book → Type 0
 
-abbrev pub turns_side : {T : Type 0} → (T → Frame → List Reply → T → Type 0) →
+abbrev pub turns_side : {T : Type 0} → (T → Frame → List Reply → T → Type 0) → (T → Type 0) →
     (T → Result (Unit {0}) NotKept → T → Type 0) →
     (T → (List ℕ → Option (List ℕ)) → Book → Type 0) → TurnsSide T
-turns_side answers commits holds = record { answers = answers; commits = commits; holds = holds }
+turns_side answers committed commits holds =
+    record { answers = answers; committed = committed; commits = commits; holds = holds }
 
 -- those of a new server
 abbrev pub new_turns : {X Y : Type 0} (S : StoreGhosts X) (J : JournalGhosts Y) → TurnsSide (Server X Y S J)
-new_turns S J = turns_side (ServerTurn S J) CommitsNothing (λ s first book. HoldsBook S J first s book)
+new_turns S J = turns_side (ServerTurn S J) (λ s. Unit {0}) CommitsNothing
+    (λ s first book. HoldsBook S J first s book)
 
 -- how servers with journals are opened, and what they are
 pub record KeptSide (N T : Type 0) : Type 1 where
@@ -146,7 +150,8 @@ pub record KeptSide (N T : Type 0) : Type 1 where
   pub server : TurnsSide T
 
 abbrev pub kept_side : {N T : Type 0} →
-    (N → List ℕ → ℕ → Bool → Result (OpenedServer T) StartRefusal → N → Type 0) → (N → ℕ) → TurnsSide T →
+    (N → List ℕ → ℕ → Bool → Result (OpenedServer T) StartRefusal → N → Type 0) →
+    (N → ℕ) → TurnsSide T →
     KeptSide N T
 kept_side opens failures server = record { opens = opens; failures = failures; server = server }
 
@@ -167,7 +172,8 @@ pub record UploadSide (U J Q : Type 0) : Type 1 where
   pub follow : FeedGhosts J FeedFault
   pub pause : PauseGhosts Q
 
-abbrev pub upload_side : {U J Q : Type 0} → FeedGhosts U FeedFault → (Option FileStamp → U → Type 0) →
+abbrev pub upload_side : {U J Q : Type 0} → FeedGhosts U FeedFault →
+    (Option FileStamp → U → Type 0) →
     FeedGhosts J FeedFault → PauseGhosts Q → UploadSide U J Q
 upload_side feed looks_at follow pause =
     record { feed = feed; looks_at = looks_at; follow = follow; pause = pause }

@@ -21,6 +21,7 @@ use bw_args::{CommandLine, Task, parse};
 use bw_commands::replay::replay;
 use bw_console::print::{give_up, print, print_diagnostic};
 use bw_console::{Exit, Fault, report_bad_argv};
+use bw_delivery::rehearse_with_stops_run;
 use bw_disk::Volume;
 use bw_journal::{Journal, NoJournal};
 use bw_layout::Limit;
@@ -31,7 +32,6 @@ use bw_ports::{
     RecordingFiles, SpoolKeeping, StateKeeping, System, Watch,
 };
 use bw_progress::UploadWatch;
-use bw_rehearse::rehearse_with_stops_run;
 use bw_repair::repair_file;
 use bw_send_file::{PcmFeed, PlanFeed};
 use bw_serve::{Opens, ServeRules};
@@ -71,7 +71,8 @@ pub fn start<
         (upload_side ⟦<PlanFeed<F::File, F::Stamped> as Feed>⟧ (LooksAt F.Stamped.Stamped)
         ⟦<PcmFeed<F::Growing> as Feed>⟧ P.Pause)
         N.Network N.ListenerSetup (kept_side N.Opens.opens N.Opens.failures
-        (turns_side N.Server.Turns.answers N.Server.Turns.commits N.Server.HasTable.holds))
+        (turns_side N.Server.Turns.answers N.Server.Turns.committed N.Server.Turns.commits
+        N.Server.HasTable.holds))
         (S.words outside.old.system) exit outside.old outside.new }
 {
     ExitCode::from(obey(alloc, outside).status())
@@ -99,7 +100,8 @@ fn obey<
         (upload_side ⟦<PlanFeed<F::File, F::Stamped> as Feed>⟧ (LooksAt F.Stamped.Stamped)
         ⟦<PcmFeed<F::Growing> as Feed>⟧ P.Pause)
         N.Network N.ListenerSetup (kept_side N.Opens.opens N.Opens.failures
-        (turns_side N.Server.Turns.answers N.Server.Turns.commits N.Server.HasTable.holds))
+        (turns_side N.Server.Turns.answers N.Server.Turns.committed N.Server.Turns.commits
+        N.Server.HasTable.holds))
         (S.words outside.old.system) result outside.old outside.new }
 {
     match outside.system.words() {
@@ -130,7 +132,8 @@ fn answer<
         (upload_side ⟦<PlanFeed<F::File, F::Stamped> as Feed>⟧ (LooksAt F.Stamped.Stamped)
         ⟦<PcmFeed<F::Growing> as Feed>⟧ P.Pause)
         N.Network N.ListenerSetup (kept_side N.Opens.opens N.Opens.failures
-        (turns_side N.Server.Turns.answers N.Server.Turns.commits N.Server.HasTable.holds))
+        (turns_side N.Server.Turns.answers N.Server.Turns.committed N.Server.Turns.commits
+        N.Server.HasTable.holds))
         (Some (map string_bytes words.now)) result outside.old outside.new }
 {
     match parse(alloc, words) {
@@ -162,7 +165,8 @@ fn perform<
         (upload_side ⟦<PlanFeed<F::File, F::Stamped> as Feed>⟧ (LooksAt F.Stamped.Stamped)
         ⟦<PcmFeed<F::Growing> as Feed>⟧ P.Pause)
         N.Network N.ListenerSetup (kept_side N.Opens.opens N.Opens.failures
-        (turns_side N.Server.Turns.answers N.Server.Turns.commits N.Server.HasTable.holds))
+        (turns_side N.Server.Turns.answers N.Server.Turns.committed N.Server.Turns.commits
+        N.Server.HasTable.holds))
         (S.file_at outside.old.system) (S.failures outside.old.system) line.now result
         outside.old outside.new }
 {
@@ -199,7 +203,8 @@ fn run<
         (upload_side ⟦<PlanFeed<F::File, F::Stamped> as Feed>⟧ (LooksAt F.Stamped.Stamped)
         ⟦<PcmFeed<F::Growing> as Feed>⟧ P.Pause)
         N.Network N.ListenerSetup (kept_side N.Opens.opens N.Opens.failures
-        (turns_side N.Server.Turns.answers N.Server.Turns.commits N.Server.HasTable.holds))
+        (turns_side N.Server.Turns.answers N.Server.Turns.committed N.Server.Turns.commits
+        N.Server.HasTable.holds))
         (S.file_at outside.old.system) (S.failures outside.old.system)
         (CommandLine.Run task.now) result outside.old outside.new }
 {

@@ -1,7 +1,7 @@
 //! The commands that use the network, as a command line asks for them.
 ghost use Rattle.std.specs.Prelude.{◌≡◌, IfOk};
 ghost use Rattle.bw_layout.specs.Limits.{IsLimit};
-ghost use Rattle.bw_program.specs.Remote.{IsHosting, IsServingAs, Sends, SendsTyped, ServesByRule};
+ghost use Rattle.bw_program.specs.Remote.{IsChoice, IsHosting, IsServingAs, Sends, SendsTyped, ServesByRule};
 ghost use Rattle.bw_program.specs.Remote.{ServesOpened, exchanges_of};
 ghost use Rattle.bw_program.specs.Sources.{NotesInput};
 ghost use Rattle.bw_program.specs.Sides.{kept_side, reach_side, sender_side, server_side, turns_side};
@@ -13,11 +13,11 @@ use bw_console::print::print_diagnostic;
 use bw_exchange::Turns;
 use bw_journal::{Journal, NoJournal};
 use bw_layout::Limit;
-use bw_operators::StatusSetup;
+use bw_operators::{AllowList, StatusSetup};
 use bw_ports::{ListenerSetup, Network, StartRefusal, Watch};
 use bw_serve::{
-    Bounds, Hosting, OpenedServer, Opens, ServeRules, Serving, open_new, report_refusal,
-    serve_at_once, serve_in_turn,
+    Bounds, Hosting, OpenedServer, Opens, ServeChoice, ServeRules, Serving, open_new,
+    report_refusal, serve_at_once, serve_in_turn,
 };
 use bw_serve_status::{Showing, serve_shown};
 use bw_session::HasTable;
@@ -37,27 +37,48 @@ pub(crate) fn serve_as<
         N.Reactor.Link.Link N.ServeRules (status_side N.StatusSetup N.Port.StatusPort N.Port.Link.Link))
         W.Sink E.Sink N.Network N.ListenerSetup
         (kept_side N.Opens.opens N.Opens.failures
-        (turns_side N.Server.Turns.answers N.Server.Turns.commits N.Server.HasTable.holds)) server.now result
+        (turns_side N.Server.Turns.answers N.Server.Turns.committed N.Server.Turns.commits N.Server.HasTable.holds)) server.now result
         network.old network.new out.old out.new faults.old faults.new }
 {
     let Some(limit) = Limit::new(server.limit) else {
         unreachable!();
     };
-    network.choose(server.one_name, server.log);
+    let rules = match &server.allow {
+        Some(path) => path.as_str(),
+        None => "",
+    };
+    let allow = match network.choose(alloc, choice_of(server)) {
+        Ok(allow) => allow,
+        Err(refusal) => return report_refusal(alloc, rules, &refusal, faults),
+    };
     let folder = server.folder.as_str();
     match server.journal {
         Journaling::Without => {
             let opened = open_new(alloc, network, folder, limit);
-            serve_opened(alloc, server, opened, network, out, faults)
+            serve_opened(alloc, server, &allow, opened, network, out, faults)
         }
         Journaling::Kept => {
             let opened = network.open(folder, limit, false);
-            serve_opened(alloc, server, opened, network, out, faults)
+            serve_opened(alloc, server, &allow, opened, network, out, faults)
         }
         Journaling::Synced => {
             let opened = network.open(folder, limit, true);
-            serve_opened(alloc, server, opened, network, out, faults)
+            serve_opened(alloc, server, &allow, opened, network, out, faults)
         }
+    }
+}
+
+/// What the command line chooses of the server's links.
+fn choice_of(server: &Serve) -> ServeChoice<'_>
+    ensures { IsChoice server.now result }
+{
+    ServeChoice {
+        one_name: server.one_name,
+        log: server.log,
+        allow: match &server.allow {
+            Some(path) => Some(path.as_str()),
+            None => None,
+        },
     }
 }
 
@@ -70,6 +91,7 @@ fn serve_opened<
 >(
     alloc: Global,
     server: &Serve,
+    allow: &AllowList,
     opened: Result<OpenedServer<T>, StartRefusal>,
     network: &mut N,
     out: &mut W,
@@ -79,7 +101,7 @@ fn serve_opened<
     ensures { ServesOpened N.Network N.ListenerSetup (reach_side N.Peers.Peers N.Peers.Reader.Source
         N.Peers.Writer.Sink N.Reactor.Reactor N.Reactor.Link.Link
         (status_side N.StatusSetup N.Port.StatusPort N.Port.Link.Link)) W.Sink E.Sink
-        (turns_side T.answers T.commits T.holds) server.now opened result
+        (turns_side T.answers T.committed T.commits T.holds) server.now allow.now opened result
         network.old network.new out.old out.new faults.old faults.new }
 {
     let opened = match opened {
@@ -88,11 +110,11 @@ fn serve_opened<
     };
     match server.recorders {
         Recorders::InTurn { timeout } => {
-            let serving = serving_of(server, timeout);
+            let serving = serving_of(server, allow, timeout);
             serve_in_turn(alloc, network, opened, &serving, out, faults)
         }
         Recorders::AtOnce { most, idle } => {
-            let hosting = hosting_of(server, most, idle);
+            let hosting = hosting_of(server, allow, most, idle);
             match server.status {
                 None => serve_at_once(alloc, network, opened, &hosting, out, faults),
                 Some(status) => {
@@ -105,8 +127,8 @@ fn serve_opened<
 }
 
 /// A server of one recorder after another.
-fn serving_of(server: &Serve, timeout: Option<u32>) -> Serving<'_>
-    ensures { IsServingAs server.now timeout result }
+fn serving_of<'a>(server: &'a Serve, allow: &'a AllowList, timeout: Option<u32>) -> Serving<'a>
+    ensures { IsServingAs server.now allow.now timeout result }
 {
     Serving {
         address: server.listen,
@@ -114,12 +136,13 @@ fn serving_of(server: &Serve, timeout: Option<u32>) -> Serving<'_>
         exchanges: exchanges(server.end),
         timeout,
         log: server.log,
+        allow,
     }
 }
 
 /// A server of at most `most` recorders at once.
-fn hosting_of(server: &Serve, most: u32, idle: u32) -> Hosting<'_>
-    ensures { IsHosting server.now most idle result }
+fn hosting_of<'a>(server: &'a Serve, allow: &'a AllowList, most: u32, idle: u32) -> Hosting<'a>
+    ensures { IsHosting server.now allow.now most idle result }
 {
     let bounds = Bounds {
         places: most as usize,
@@ -131,6 +154,7 @@ fn hosting_of(server: &Serve, most: u32, idle: u32) -> Hosting<'_>
         folder: server.folder.as_str(),
         bounds,
         log: server.log,
+        allow,
     }
 }
 

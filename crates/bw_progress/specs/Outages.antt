@@ -2,9 +2,9 @@
 use Rattle.std.specs.Prelude.{ℕ, List, Option, Some, None, codes}
 use Rattle.bw_console.specs.declared.cause.LinkCause.{LinkCause}
 use Rattle.bw_console.specs.declared.cause.LinkCause.TheVariants as causes
-use Rattle.bw_engine.specs.declared.send_fault.SendFault.TheVariants as faults
-use Rattle.bw_engine.specs.declared.stop.Stop.{Stop}
-use Rattle.bw_engine.specs.declared.stop.Stop.TheVariants as stops
+use Rattle.bw_sender.specs.declared.send_fault.SendFault.TheVariants as faults
+use Rattle.bw_sender.specs.declared.stop.Stop.{Stop}
+use Rattle.bw_sender.specs.declared.stop.Stop.TheVariants as stops
 use Rattle.bw_upload.specs.declared.observer.LinkEnd.{LinkEnd}
 use Rattle.bw_upload.specs.declared.observer.LinkEnd.TheVariants as ends
 use Rattle.bw_upload.specs.declared.observer.LinkEvent.{LinkEvent}

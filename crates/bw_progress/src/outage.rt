@@ -5,7 +5,7 @@ ghost use Rattle.bw_progress.specs.Outages.{outage_after as comes_after, outage_
 ghost use Rattle.bw_progress.specs.Outages.{outage_of_end as ends_by, outage_of_stop as stops_by};
 
 use bw_console::LinkCause;
-use bw_engine::{SendFault, Stop};
+use bw_sender::{SendFault, Stop};
 use bw_upload::{LinkEnd, LinkEvent};
 
 /// Why nothing of an upload goes.

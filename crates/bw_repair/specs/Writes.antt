@@ -7,7 +7,8 @@ use Rattle.bw_repair.specs.declared.plan.SizePlan.{SizePlan}
 
 -- the file has the new sizes, and nothing else is changed
 abbrev pub GivesSizes : SizePlan → Option (List ℕ) → Option (List ℕ) → Type 0
-GivesSizes p before after = (b : List ℕ) → before ≡ Some b → after ≡ Some (with_sizes b p.place p.new)
+GivesSizes p before after = (b : List ℕ) → before ≡ Some b → after
+    ≡ Some (with_sizes b p.place p.new)
 
 -- So many bytes of the samples' size are written, and so many of the form's: none of these before
 -- all of the others.

@@ -93,7 +93,8 @@ module _ {F : Type 0} (followed : FollowedGhosts F) where
       let taken = ok.1 in (
         sample_requests (record (progress_of x) { given = x.given + count / block_align x.outline.format })
             (drop count x.samples.held ++ rest),
-        has ∙ ap (λ (z : Request). z ∷ sample_requests (record (progress_of x) { given = x.given + count / block_align x.outline.format })
+        has ∙ ap (λ (z : Request). z
+            ∷ sample_requests (record (progress_of x) { given = x.given + count / block_align x.outline.format })
             (drop count x.samples.held ++ rest)) (sym ok.0),
         (
           rest,

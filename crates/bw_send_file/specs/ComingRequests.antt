@@ -94,7 +94,8 @@ module _ {F : Type 0} (followed : FollowedGhosts F) where
       × (requests ≡ requests_of_step (progress_of x) (x.samples.held ++ rest) x.step)
 
   -- what is given from a step on
-  abbrev pub GivesFrom : PcmStep → Result NextRequest PcmFault → PcmRequests F → PcmRequests F → Type 0
+  abbrev pub GivesFrom : PcmStep → Result NextRequest PcmFault → PcmRequests F → PcmRequests F →
+      Type 0
   GivesFrom step result x y =
       (rest : List ℕ) → followed.to_come x.file ≡ Some rest →
       GivesOf (requests_of_step (progress_of x) (x.samples.held ++ rest) step) result (RequestsLeft y)
@@ -122,7 +123,8 @@ module _ {F : Type 0} (followed : FollowedGhosts F) where
     pub at : place ≡ y.place
     pub none : length y.samples.held ≡ 0
     pub complete : followed.is_complete y.file ≡ true
-    pub no_more : (xs : List ℕ) → followed.to_come x.file ≡ Some xs → followed.to_come y.file ≡ Some []
+    pub no_more : (xs : List ℕ) → followed.to_come x.file ≡ Some xs → followed.to_come y.file
+        ≡ Some []
 
   -- whether a whole frame was read, and why there never will be one
   abbrev pub ReachesFrame : Result Bool PcmFault → PcmRequests F → PcmRequests F → Type 0

@@ -7,7 +7,8 @@ pub record HeldSamples : Type 0 where
   pub held : List ℕ
 
 -- some of these bytes are held after what was held, and the others are to come
-pub record HoldsMore (old : HeldSamples) (xs : List ℕ) (new : HeldSamples) (left : Option (List ℕ)) : Type 0
+pub record HoldsMore (old : HeldSamples) (xs : List ℕ) (new : HeldSamples)
+    (left : Option (List ℕ)) : Type 0
   where
     pub rest : List ℕ
     pub left_is : left ≡ Some rest

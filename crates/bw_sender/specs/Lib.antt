@@ -3,3 +3,11 @@ pub mod Offers
 pub mod RefusedNumbers
 pub mod Senders
 pub mod HeardReplies
+pub mod Batches
+pub mod Hears
+pub mod Sent
+pub mod SendFaults
+pub mod Stops
+pub mod SaidMessages
+pub mod LinkReplies
+pub mod Talks

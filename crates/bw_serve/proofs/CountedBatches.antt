@@ -1,50 +1,58 @@
 -- What a server that counts its frames has committed, the server in it has.
-use Rattle.std.proofs.Common.{◌≡◌, List, [], ◌∷◌, ap}
+use Rattle.std.proofs.Common.{ℕ, List}
 use Rattle.std.specs.Prelude.{Result}
 use Rattle.bw_model.specs.Wire.{Frame}
 use Rattle.bw_model.specs.Replies.{Reply}
-use Rattle.bw_exchange.specs.AnsweredFrames.{Answered}
-use Rattle.bw_exchange.specs.Commits.{CommitsBatches, CommitsUntil, HasBatches, LosesBatch}
+use Rattle.bw_stream.specs.declared.sink.Sink.{Ghosts as Writer}
+use Rattle.bw_stream.specs.declared.source.Source.{Ghosts as Reader}
+use Rattle.bw_console.specs.declared.exit.Exit.{Exit}
+use Rattle.bw_exchange.specs.AnsweredFrames.{AnswersAll}
+use Rattle.bw_exchange.specs.Commits.{CommitsUntil}
 use Rattle.bw_exchange.specs.MeteredServers.{AnswersCounted, metered_server}
 use Rattle.bw_exchange.specs.declared.link_stats.Metered.{Metered}
 use Rattle.bw_exchange.specs.declared.serving.ExchangeEnd.{ExchangeEnd}
-use Rattle.bw_exchange.specs.declared.serving.ExchangeEnd.TheVariants as ends
 use Rattle.bw_exchange.specs.declared.turns.NotKept.{NotKept}
-use Rattle.bw_exchange.proofs.LinkStatsLemmas.{all_by_server}
+use Rattle.bw_serve.specs.GuardedServers.{metered_commits}
+use Rattle.bw_serve.specs.ServedOne.{ServesTo}
+use Rattle.bw_serve.proofs.Through.{until_through}
 
-module _ {S : Type 0} (answers : S → Frame → List Reply → S → Type 0)
-    (commits : S → Result (Unit {0}) NotKept → S → Type 0) where
-  abbrev outer : Metered S → Result (Unit {0}) NotKept → Metered S → Type 0
-  outer t r t' = commits (metered_server t) r (metered_server t')
+-- the batches of an exchange are those of the server itself
+pub until_by_server : {S : Type 0} (answers : S → Frame → List Reply → S → Type 0)
+    (commits : S → Result (Unit {0}) NotKept → S → Type 0) (end : ExchangeEnd) (t t' : Metered S) →
+    CommitsUntil (AnswersCounted answers) (metered_commits commits) end t t' →
+    CommitsUntil answers commits end t.server t'.server
+until_by_server {S} answers commits end t t' h =
+    until_through metered_server (λ t. Unit {0}) (AnswersCounted answers) answers
+    (λ t frame replies t' keeps turn. (turn.by_server, tt)) (metered_commits commits) commits
+    (λ t r t' keeps closed. (closed, tt)) end t t' tt h
 
-  batches_by_server : (xs : List (List Answered)) (t t' : Metered S) →
-      CommitsBatches (AnswersCounted answers) outer t xs t' → CommitsBatches answers commits t.server xs t'.server
-  batches_by_server [] t t' h = ap (λ (x : Metered S). x.server) h
-  batches_by_server (x ∷ xs) t t' h = (
-    h.0.server,
-    h.1.server,
-    all_by_server answers t x h.0 h.2,
-    h.3,
-    batches_by_server xs h.1 t' h.4,
-  )
-
-  some_by_server : (t t' : Metered S) → HasBatches (AnswersCounted answers) outer t t' →
-      HasBatches answers commits t.server t'.server
-  some_by_server t t' h = (h.0, batches_by_server h.0 t t' h.1)
-
-  lost_by_server : (cause : NotKept) (t t' : Metered S) → LosesBatch (AnswersCounted answers) outer cause t t' →
-      LosesBatch answers commits cause t.server t'.server
-  lost_by_server cause t t' h = (h.0, h.1.server, all_by_server answers t h.0 h.1 h.2, h.3)
-
-  -- the batches of an exchange are those of the server itself
-  pub until_by_server : (end : ExchangeEnd) (t t' : Metered S) → CommitsUntil (AnswersCounted answers) outer end t t' →
-      CommitsUntil answers commits end t.server t'.server
-  until_by_server ends.Bye t t' h = some_by_server t t' h
-  until_by_server ends.EndOfInput t t' h = some_by_server t t' h
-  until_by_server (ends.BadFrame fault) t t' h = some_by_server t t' h
-  until_by_server ends.ReadFault t t' h = some_by_server t t' h
-  until_by_server ends.WriteFault t t' h = some_by_server t t' h
-  until_by_server (ends.NotKept cause) t t' h =
-      (h.0.server, some_by_server t h.0 h.1, lost_by_server cause h.0 t' h.2)
-  until_by_server ends.TurnLimit t t' h = some_by_server t t' h
-  until_by_server ends.Memory t t' h = some_by_server t t' h
+-- An exchange of one server is one of another that gave the same answers and committed them.
+abbrev pub serves_by : {T S R W O : Type 0} (outer : T → Frame → List Reply → T → Type 0)
+    (closes : T → Result (Unit {0}) NotKept → T → Type 0) (answers : S → Frame → List Reply → S → Type 0)
+    (commits : S → Result (Unit {0}) NotKept → S → Type 0) (reader : Reader R) (writer : Writer W) (out : Writer O)
+    (index : ℕ) (end : ExchangeEnd) (exit : Exit) (t t' : T) (s s' : S) (r r' : R) (w w' : W) (o o' : O)
+    (to : ServesTo outer closes reader writer out index end exit t t' r r' w w' o o') →
+    AnswersAll answers s to.serves.answered s' → CommitsUntil answers commits end s s' →
+    ServesTo answers commits reader writer out index end exit s s' r r' w w' o o'
+serves_by outer closes answers commits reader writer out index end exit t t' s s' r r' w w' o o' to by_server batches =
+    let serves = to.serves in
+    record {
+      serves = record {
+        answered = serves.answered;
+        by_server = by_server;
+        input = serves.input;
+        given = serves.given;
+        no_further = serves.no_further;
+        output = serves.output;
+        taken = serves.taken;
+        prefix = serves.prefix;
+        spelled = serves.spelled;
+        by_end = serves.by_end;
+      };
+      batches = batches;
+      reads = to.reads;
+      writes = to.writes;
+      calls = to.calls;
+      limit = to.limit;
+      ends = to.ends;
+    }

@@ -3,6 +3,7 @@ use Rattle.std.proofs.Common.{◌≡◌, ◌⊎◌, inl, inr, ℕ, zero, suc, �
 use Rattle.std.proofs.Common.{length, vec_len, refl, sym, ap, subst, ◌∙◌, arith, append_assoc}
 use Rattle.std.proofs.Math.Nat.{eq-or-lt_of_le}
 use Rattle.std.proofs.lemmas.List.{append-nil, length-append, map-append}
+use Rattle.std.specs.declared.net.socket_addr.SocketAddr.{SocketAddr}
 use Rattle.bw_model.specs.Wire.{Frame}
 use Rattle.bw_model.specs.Replies.{Reply}
 use Rattle.bw_stream.specs.declared.sink.Sink.{Ghosts as Writer}
@@ -19,9 +20,11 @@ use Rattle.bw_serve.specs.EventLoops.{Advances, CountsEnds, Grows, HasPeerSlots,
 use Rattle.bw_serve.specs.EventLoops.{ended_in_turn, frames_in_turn}
 use Rattle.bw_serve.specs.Admissions.{HostsAll, HostsMore}
 use Rattle.bw_ports.specs.Reactors.{Admission}
+use Rattle.bw_serve.specs.Guards.{FromPeer}
 use Rattle.bw_serve.specs.Lines.{ReportsEnds}
 use Rattle.bw_serve.specs.declared.event_loop.EventLoop.{EventLoop}
 use Rattle.bw_serve.proofs.Admitting.{hosts_more_still, hosts_more_then, hosts_served}
+use Rattle.bw_serve.proofs.Guarding.{from_peer}
 use Rattle.bw_serve.proofs.Counting.{counts_existed, reports_none, reports_then}
 
 -- one of the first can go on
@@ -140,7 +143,7 @@ stays_then G a b c f g = record {
   refused = g.refused ∙ f.refused;
 }
 
-module _ {L S O E : Type 0} (G : LinkGhosts L) (answers : S → Frame → List Reply → S → Type 0) (out : Writer O)
+module _ {L S O E : Type 0} (G : LinkGhosts L) (answers : SocketAddr → S → Frame → List Reply → S → Type 0) (out : Writer O)
     (reported : Writer E) (log : Bool) where
   -- nothing was answered, and no connection ended
   pub advances_grown : (links : List (Admission L)) (a b : EventLoop L) (s : S) (o : O) (e : E) → Grows G a b →
@@ -164,9 +167,9 @@ module _ {L S O E : Type 0} (G : LinkGhosts L) (answers : S → Frame → List R
       Advances G answers out reported log xs us ks a b s t o p e f → Advances G answers out reported log ys vs ls b c t u p q f g →
       Advances G answers out reported log (xs ++ ys) (us ++ vs) (ks ++ ls) a c s u o q e g
   advances_then a b c xs ys us vs ks ls s t u o p q e f g x y = record {
-    by_server = subst (λ (zs : List Answered). AnswersAll answers s zs u)
+    by_server = subst (λ (zs : List Answered). AnswersAll (FromPeer answers) s zs u)
         (sym (map-append (λ (x : Tagged). x.1) xs ys))
-        (answers_append answers (all_answered xs) (all_answered ys) s t u x.by_server y.by_server);
+        (answers_append (FromPeer answers) (all_answered xs) (all_answered ys) s t u x.by_server y.by_server);
     adds = adds_then G a.connections b.connections c.connections xs ys us vs x.adds y.adds;
     prints = counts_then out a b c us vs o p q x.prints y.prints;
     reports = reports_then G reported log a b c xs ys us vs e f g x.adds x.reports y.reports;
@@ -182,8 +185,9 @@ module _ {L S O E : Type 0} (G : LinkGhosts L) (answers : S → Frame → List R
       (x : ServesPlace G answers out reported log now idle place a b s t o p e f) →
       Advances G answers out reported log (tagged x.works.number x.works.answered) x.closed [] a b s t o p e f
   place_advances now idle place a b s t o p e f x = record {
-    by_server = subst (λ (xs : List Answered). AnswersAll answers s xs t)
-        (sym (answered_by x.works.number x.works.answered)) x.works.by_server;
+    by_server = subst (λ (xs : List Answered). AnswersAll (FromPeer answers) s xs t)
+        (sym (answered_by x.works.number x.works.answered))
+        (from_peer answers x.peer_slot.address s x.works.answered t x.works.by_server);
     adds = x.adds;
     prints = x.prints;
     reports = x.reports;

@@ -8,7 +8,7 @@ use Rattle.bw_session.specs.Servers.{kept_in, store_since}
 use Rattle.bw_session.specs.ServerTurns.{ServerTurn}
 use Rattle.bw_session.specs.declared.server.Server.{Server}
 use Rattle.bw_exchange.specs.AnsweredFrames.{Answered, AnswersAll}
-use Rattle.bw_engine.specs.ServerRuns.{ServersAnswerInRuns}
+use Rattle.bw_session.specs.ServerRuns.{ServersAnswerInRuns}
 use Rattle.bw_serve.specs.Openings.{LeavesRunsFrom}
 
 module _ {X Y : Type 0} (S : StoreGhosts X) (J : JournalGhosts Y) where

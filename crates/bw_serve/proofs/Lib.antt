@@ -5,7 +5,10 @@ mod Noticing
 mod Rounds
 mod Quanta
 pub mod Withholding
+mod Through
 mod CountedBatches
+pub mod Guarding
+mod GuardedCalls
 mod Running
 mod Silence
 pub mod HeldRuns

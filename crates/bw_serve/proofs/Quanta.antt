@@ -5,6 +5,7 @@ use Rattle.std.specs.Prelude.{slice_get}
 use Rattle.std.specs.List.{AllByRecursion}
 use Rattle.std.proofs.lemmas.Bool.Decides.{eqb_tells}
 use Rattle.std.proofs.lemmas.List.{append-nil}
+use Rattle.std.specs.declared.net.socket_addr.SocketAddr.{SocketAddr}
 use Rattle.bw_model.specs.Wire.{Frame}
 use Rattle.bw_model.specs.Replies.{Reply}
 use Rattle.bw_stream.specs.declared.sink.Sink.{Ghosts as Writer}
@@ -77,7 +78,7 @@ silence_ends {L} G now idle place a m y existed its is =
       λ empty. empty s.0 s.1,
     )
 
-module _ {L S E : Type 0} (G : LinkGhosts L) (answers : S → Frame → List Reply → S → Type 0) (reported : Writer E)
+module _ {L S E : Type 0} (G : LinkGhosts L) (answers : SocketAddr → S → Frame → List Reply → S → Type 0) (reported : Writer E)
     (log : Bool) (place now : ℕ) (first : Option (Closed L)) (a mid b : EventLoop L) (s t : S)
     (w : WorksCounted G answers place now first a mid s t) (stays : StaysAt place mid.connections b.connections)
     (existed : ExistedAt place mid.connections b.connections) (peer_slots : b.peer_slots ≡ mid.peer_slots) (over : List (Closed L))
@@ -181,7 +182,7 @@ module _ {L S E : Type 0} (G : LinkGhosts L) (answers : S → Frame → List Rep
   place_counts closed e f h = (counts_own, reported_so closed e f h, silent over k.left)
 
 -- The quantum at a place, and what became of its connection after it.
-pub place_served : {L S O E : Type 0} (G : LinkGhosts L) (answers : S → Frame → List Reply → S → Type 0)
+pub place_served : {L S O E : Type 0} (G : LinkGhosts L) (answers : SocketAddr → S → Frame → List Reply → S → Type 0)
     (out : Writer O) (reported : Writer E) (log : Bool) (place now idle : ℕ) (a mid b : EventLoop L) (m : Connections L)
     (first : Option (Closed L)) (rest : List (Closed L)) (s t : S) (o p : O) (e f : E) →
     (counted : WorksCounted G answers place now first a mid s t) → Adds G mid.connections [] rest m →
@@ -201,6 +202,8 @@ place_served {L} G answers out reported log place now idle a mid b m first rest 
     record {
       first = first;
       between = mid.connections;
+      peer_slot = counted.peer_slot;
+      was = counted.was;
       works = w;
       closed = those first ++ rest;
       following = subst (λ x. LooksAfter now idle place first mid.connections (those first ++ rest) x) (sym is) following;

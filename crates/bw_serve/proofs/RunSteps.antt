@@ -3,6 +3,7 @@ use Rattle.std.proofs.Common.{◌≡◌, ℕ, Bool, suc, ◌+◌, List, [], ◌�
 use Rattle.std.proofs.Common.{Some, None, true, false, if◌then◌else◌}
 use Rattle.std.specs.Prelude.{Result}
 use Rattle.std.proofs.lemmas.List.{length-append}
+use Rattle.std.specs.declared.net.socket_addr.SocketAddr.{SocketAddr}
 use Rattle.bw_model.specs.Wire.{Frame}
 use Rattle.bw_model.specs.Replies.{Reply}
 use Rattle.bw_stream.specs.declared.sink.Sink.{Ghosts as Writer}
@@ -28,7 +29,7 @@ not_done (Served end exit) e = not_after (lacks_sync end) exit e
 not_done Gone e = absurd (cc)
 not_done Closed e = absurd (cc)
 
-module _ {T P R W O E : Type 0} (answers : T → Frame → List Reply → T → Type 0)
+module _ {T P R W O E : Type 0} (answers : SocketAddr → T → Frame → List Reply → T → Type 0)
     (commits : T → Result (Unit {0}) NotKept → T → Type 0) (peers : PeerGhosts P R W)
     (reader : Reader R) (writer : Writer W) (out : Writer O) (reported : Writer E) (log : Bool) where
   -- one peer more

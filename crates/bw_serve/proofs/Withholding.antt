@@ -4,10 +4,7 @@ use Rattle.std.proofs.Common.{[], ◌∷◌, ◌++◌, vec_len, refl, sym, ap, s
 use Rattle.std.specs.Prelude.{Result, Ok, Err, OnErr}
 use Rattle.std.proofs.lemmas.Bool.Decides.{eqb_tells}
 use Rattle.std.proofs.lemmas.List.{append-nil}
-use Rattle.bw_model.specs.Wire.{Frame}
-use Rattle.bw_model.specs.Replies.{Reply}
 use Rattle.bw_stream.specs.declared.sink.Sink.{Ghosts as Writer}
-use Rattle.bw_exchange.specs.AnsweredFrames.{Answered, AnswersAll}
 use Rattle.bw_connections.specs.declared.connection.Connection.{Connection}
 use Rattle.bw_connections.specs.declared.connections.Closed.{Closed}
 use Rattle.bw_connections.specs.declared.connections.Connections.{Connections}
@@ -24,22 +21,6 @@ use Rattle.bw_serve.proofs.Admitting.{hosts_more_still, hosts_more_then, hosts_s
 use Rattle.bw_serve.proofs.Counting.{counts_existed, logs_own, reports_none, reports_then, silent_none, stands_or_not}
 use Rattle.bw_serve.proofs.Growing.{adds_still, adds_then, counts_none, counts_then, grows_still}
 use Rattle.bw_connections.proofs.Standing.{some_is}
-
--- a commit after turns of which there are some
-pub turns_kept : {S : Type 0} (answers : S → Frame → List Reply → S → Type 0) (a : Answered) (xs : List Answered) (s t t' : S) →
-    ((first : S) (frame : Frame) (replies : List Reply) → answers first frame replies t → answers first frame replies t') →
-    AnswersAll answers s (a ∷ xs) t → AnswersAll answers s (a ∷ xs) t'
-turns_kept answers a [] s t t' k (mid, one, is) =
-    (t', k s a.frame a.replies (subst (λ x. answers s a.frame a.replies x) (sym is) one), refl)
-turns_kept answers a (b ∷ xs) s t t' k (mid, one, more) = (mid, one, turns_kept answers b xs mid t t' k more)
-
--- or none
-pub turns_committed : {S : Type 0} (answers : S → Frame → List Reply → S → Type 0) (xs : List Answered) (s t t' : S) →
-    (t ≡ s → t' ≡ t) →
-    ((first : S) (frame : Frame) (replies : List Reply) → answers first frame replies t → answers first frame replies t') →
-    AnswersAll answers s xs t → AnswersAll answers s xs t'
-turns_committed answers [] s t t' idle k h = idle h ∙ h
-turns_committed answers (a ∷ xs) s t t' idle k h = turns_kept answers a xs s t t' k h
 
 pub on_err : {X Y : Type 0} (r : Result X Y) (P : Type 0) → P → OnErr r P
 on_err (Ok x) P p = tt

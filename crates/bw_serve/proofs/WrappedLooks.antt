@@ -1,8 +1,9 @@
 -- What an observer was shown of a run over a server that wraps another one: the rounds of the wrapped one.
-use Rattle.std.proofs.Common.{◌≡◌, ◌∙◌, ℕ, zero, suc, Bool, List, [], ◌∷◌, ◌++◌, map, refl, sym, ap, subst}
+use Rattle.std.proofs.Common.{◌≡◌, ◌∙◌, ℕ, zero, suc, Bool, List, [], ◌∷◌, ◌++◌, refl, sym, ap, subst}
 use Rattle.std.proofs.lemmas.List.{map-append}
 use Rattle.std.specs.List.{AllByRecursion}
 use Rattle.std.specs.Prelude.{Result}
+use Rattle.std.specs.declared.net.socket_addr.SocketAddr.{SocketAddr}
 use Rattle.bw_model.specs.Wire.{Frame}
 use Rattle.bw_model.specs.Replies.{Reply}
 use Rattle.bw_stream.specs.declared.sink.Sink.{Ghosts as Writer}
@@ -15,13 +16,15 @@ use Rattle.bw_ports.specs.declared.link.Link.{Ghosts as LinkGhosts}
 use Rattle.bw_ports.specs.declared.reactor.Reactor.{Ghosts as ReactorGhosts}
 use Rattle.bw_connections.specs.ConnectionTables.{Tagged, all_answered, tagged}
 use Rattle.bw_serve.specs.EventLoops.{InTurn, frames_in_turn}
-use Rattle.bw_serve.specs.Observations.{HasObserved, LooksAfterEach, LooksAtEach, ObservesRun, RoundLeft}
+use Rattle.bw_serve.specs.Guards.{FromPeer}
+use Rattle.bw_serve.specs.Observations.{LooksAfterEach, LooksAtEach, ObservesRun, RoundLeft}
 use Rattle.bw_serve.specs.Observations.{left_in_rounds, left_in_run, states_in_rounds}
 use Rattle.bw_serve.specs.Rounds.{ServesRounds, frames_in_round, frames_in_rounds}
 use Rattle.bw_serve.specs.EventLoopRuns.{RunsEventLoop}
 use Rattle.bw_serve.specs.declared.event_loop.EventLoop.{EventLoop}
 use Rattle.bw_serve.specs.declared.observing.RoundReport.{RoundReport}
 use Rattle.bw_serve.specs.declared.serving.Bounds.{Bounds}
+use Rattle.bw_serve.proofs.Guarding.{from_peer}
 use Rattle.bw_serve.proofs.WrappedRuns.{frames_rounds, rounds_inner, served_inner}
 
 -- the frames of a connection, without its number
@@ -38,28 +41,29 @@ all_then : {X : Type 0} (P : X → Type 0) (xs : List X) (x : X) → AllByRecurs
 all_then P [] x all last = (last, tt)
 all_then P (y ∷ ys) x all last = (all.0, all_then P ys x all.1 last)
 
-module _ {L S O E : Type 0} (G : LinkGhosts L) (answers : S → Frame → List Reply → S → Type 0) (out : Writer O)
+module _ {L S O E : Type 0} (G : LinkGhosts L) (answers : SocketAddr → S → Frame → List Reply → S → Type 0) (out : Writer O)
     (reported : Writer E) (log : Bool) where
   -- a server has answered the frames of these quanta, one after another
   turn_answers : (now idle n : ℕ) (c c' : EventLoop L) (s s' : S) (o o' : O) (e e' : E)
       (h : InTurn G answers out reported log now idle n c c' s s' o o' e e') →
-      AnswersAll answers s (all_answered (frames_in_turn G answers out reported log now idle n c c' s s' o o' e e' h))
+      AnswersAll (FromPeer answers) s (all_answered (frames_in_turn G answers out reported log now idle n c c' s s' o o' e e' h))
       s'
   turn_answers now idle zero c c' s s' o o' e e' h = h.1
   turn_answers now idle (suc n) c c' s s' o o' e e' h =
       let before = frames_in_turn G answers out reported log now idle n c h.0 s h.1 o h.2 e h.3 h.4 in
       let works = h.5.works in
-      subst (λ (xs : List Answered). AnswersAll answers s xs s')
+      subst (λ (xs : List Answered). AnswersAll (FromPeer answers) s xs s')
       (sym (all_more before (tagged works.number works.answered)
       ∙ ap (λ (xs : List Answered). all_answered before ++ xs) (all_tagged works.number works.answered)))
-      (answers_append answers (all_answered before) works.answered s h.1 s'
-      (turn_answers now idle n c h.0 s h.1 o h.2 e h.3 h.4) works.by_server)
+      (answers_append (FromPeer answers) (all_answered before) works.answered s h.1 s'
+      (turn_answers now idle n c h.0 s h.1 o h.2 e h.3 h.4)
+      (from_peer answers h.5.peer_slot.address h.1 works.answered s' works.by_server))
 
   module _ {B : Type 0} (reactor : ReactorGhosts B L) (commits : S → Result (Unit {0}) NotKept → S → Type 0) where
     -- and those of these rounds
     rounds_answer : (idle exchanges n : ℕ) (c c' : EventLoop L) (s s' : S) (b b' : B) (o o' : O) (e e' : E)
         (h : ServesRounds reactor G answers commits out reported log idle exchanges n c c' s s' b b' o o' e e') →
-        AnswersAll answers s
+        AnswersAll (FromPeer answers) s
         (all_answered (frames_in_rounds reactor G answers commits out reported log idle exchanges n c c' s s' b b' o
         o' e e' h)) s'
     rounds_answer idle exchanges zero c c' s s' b b' o o' e e' h = h.1
@@ -68,19 +72,19 @@ module _ {L S O E : Type 0} (G : LinkGhosts L) (answers : S → Frame → List R
         h.3 e h.4 h.5 in
         let more = frames_in_round reactor G answers commits out reported log idle exchanges h.0 c' h.1 s' h.2 b' h.3
         o' h.4 e' h.7 in
-        subst (λ (xs : List Answered). AnswersAll answers s xs s') (sym (all_more before more))
-        (answers_append answers (all_answered before) (all_answered more) s h.1 s'
+        subst (λ (xs : List Answered). AnswersAll (FromPeer answers) s xs s') (sym (all_more before more))
+        (answers_append (FromPeer answers) (all_answered before) (all_answered more) s h.1 s'
         (rounds_answer idle exchanges n c h.0 s h.1 b h.2 o h.3 e h.4 h.5)
         h.7.kept)
 
     -- what each of these rounds left was answered so
     left_answers : (idle exchanges n : ℕ) (c c' : EventLoop L) (s s' : S) (b b' : B) (o o' : O) (e e' : E)
         (h : ServesRounds reactor G answers commits out reported log idle exchanges n c c' s s' b b' o o' e e') →
-        AllByRecursion (λ (left : RoundLeft L S). AnswersAll answers s left.answered left.server)
+        AllByRecursion (λ (left : RoundLeft L S). AnswersAll (FromPeer answers) s left.answered left.server)
         (left_in_rounds reactor G answers commits out reported log idle exchanges n c c' s s' b b' o o' e e' h)
     left_answers idle exchanges zero c c' s s' b b' o o' e e' h = tt
     left_answers idle exchanges (suc n) c c' s s' b b' o o' e e' h =
-        all_then (λ (left : RoundLeft L S). AnswersAll answers s left.answered left.server)
+        all_then (λ (left : RoundLeft L S). AnswersAll (FromPeer answers) s left.answered left.server)
         (left_in_rounds reactor G answers commits out reported log idle exchanges n c h.0 s h.1 b h.2 o h.3 e h.4 h.5)
         (record {
           event_loop = c';
@@ -93,87 +97,89 @@ module _ {L S O E : Type 0} (G : LinkGhosts L) (answers : S → Frame → List R
     -- and so what each round of a run left
     pub run_answers : (bounds : Bounds) (exit : Exit) (s s' : S) (b b' : B) (o o' : O) (e e' : E)
         (run : RunsEventLoop reactor G answers commits out reported log bounds exit s s' b b' o o' e e') →
-        AllByRecursion (λ (left : RoundLeft L S). AnswersAll answers s left.answered left.server)
+        AllByRecursion (λ (left : RoundLeft L S). AnswersAll (FromPeer answers) s left.answered left.server)
         (left_in_run reactor G answers commits out reported log bounds exit s s' b b' o o' e e' run)
     run_answers bounds Memory s s' b b' o o' e e' run = tt
     run_answers bounds exit s s' b b' o o' e e' run =
         left_answers bounds.idle bounds.exchanges run.in_rounds.count run.in_rounds.empty run.following s s' b
         run.reactor_after o o' e e' run.in_rounds.each
 
--- a server that wraps another one is what this makes of the wrapped one and of all that it answered
-module _ {T S : Type 0} (inner : T → S) (outer : T → Frame → List Reply → T → Type 0)
-    (answers : S → Frame → List Reply → S → Type 0)
-    (passes : (t : T) (frame : Frame) (replies : List Reply) (t' : T) → outer t frame replies t' →
-    answers (inner t) frame replies (inner t')) (ends : T → Result (Unit {0}) NotKept → T → Type 0)
+-- looks at some, and then at others
+looks_split : {L S V : Type 0} (looks : V → S → RoundReport → V → Type 0) (xs ys : List (EventLoop L × S)) (v z : V) →
+    LooksAtEach looks (xs ++ ys) v z → (w : V) × LooksAtEach looks xs v w × LooksAtEach looks ys w z
+looks_split looks [] ys v z h = (v, refl, h)
+looks_split looks (x ∷ xs) ys v z h =
+    let more = looks_split looks xs ys h.0 z h.2 in (more.0, (h.0, h.1, more.1), more.2)
+
+after_then : {L S T V : Type 0} (looks : V → T → RoundReport → V → Type 0) (makes : S → List Answered → T → Type 0)
+    (xs ys : List (RoundLeft L S)) (v w z : V) → LooksAfterEach looks makes xs v w → LooksAfterEach looks makes ys w z →
+    LooksAfterEach looks makes (xs ++ ys) v z
+after_then looks makes [] ys v w z h k = subst (λ x. LooksAfterEach looks makes ys x z) h k
+after_then looks makes (x ∷ xs) ys v w z h k =
+    (h.0, h.1, h.2, h.3, after_then looks makes xs ys h.1 w z h.4 k)
+
+-- a server that wraps another one is made so of the wrapped one and of all that it answered
+module _ {T S : Type 0} (inner : T → S) (outer : SocketAddr → T → Frame → List Reply → T → Type 0)
+    (answers : SocketAddr → S → Frame → List Reply → S → Type 0)
+    (passes : (peer : SocketAddr) (t : T) (frame : Frame) (replies : List Reply) (t' : T) → outer peer t frame replies t' →
+    answers peer (inner t) frame replies (inner t')) (ends : T → Result (Unit {0}) NotKept → T → Type 0)
     (commits : S → Result (Unit {0}) NotKept → S → Type 0)
     (passes_commits : (t : T) (r : Result (Unit {0}) NotKept) (t' : T) → ends t r t' → commits (inner t) r (inner t'))
-    (makes : S → List Answered → T) where
-  module _ {B L O E : Type 0} (reactor : ReactorGhosts B L) (G : LinkGhosts L) (out : Writer O) (reported : Writer E)
-      (log : Bool) where
-    states_made : (idle exchanges n : ℕ) (c c' : EventLoop L) (t t' : T) (b b' : B) (o o' : O) (e e' : E)
+    (makes : S → List Answered → T → Type 0) where
+  module _ {B L O E V : Type 0} (reactor : ReactorGhosts B L) (G : LinkGhosts L) (out : Writer O) (reported : Writer E)
+      (log : Bool) (looks : V → T → RoundReport → V → Type 0) where
+    -- the rounds of the wrapped server
+    abbrev within : (idle exchanges n : ℕ) (c c' : EventLoop L) (t t' : T) (b b' : B) (o o' : O) (e e' : E) →
+        ServesRounds reactor G outer ends out reported log idle exchanges n c c' t t' b b' o o' e e' →
+        ServesRounds reactor G answers commits out reported log idle exchanges n c c' (inner t) (inner t') b b' o o' e e'
+    within = rounds_inner inner outer answers passes ends commits passes_commits G out reported log reactor
+
+    looks_within : (idle exchanges n : ℕ) (c c' : EventLoop L) (t t' : T) (b b' : B) (o o' : O) (e e' : E) (v v' : V)
         (h : ServesRounds reactor G outer ends out reported log idle exchanges n c c' t t' b b' o o' e e') →
-        ((xs : List Answered) (x : T) → AnswersAll outer t xs x → makes (inner x) xs ≡ x) →
-        map (λ (left : RoundLeft L S). (left.event_loop, makes left.server left.answered))
-        (left_in_rounds reactor G answers commits out reported log idle exchanges n c c' (inner t) (inner t') b b' o
-        o' e e' (rounds_inner inner outer answers passes ends commits passes_commits G out reported log reactor
-        idle exchanges n c c' t t' b b' o o' e e' h))
-        ≡ states_in_rounds reactor G outer ends out reported log idle exchanges n c c' t t' b b' o o' e e' h
-    states_made idle exchanges zero c c' t t' b b' o o' e e' h made = refl
-    states_made idle exchanges (suc n) c c' t t' b b' o o' e e' h made =
-        let before = left_in_rounds reactor G answers commits out reported log idle exchanges n c h.0 (inner t)
-        (inner h.1) b h.2 o h.3 e h.4 (rounds_inner inner outer answers passes ends commits passes_commits G out
-        reported log reactor idle exchanges n c h.0 t h.1 b h.2 o h.3 e h.4 h.5) in
-        let within = frames_in_rounds reactor G answers commits out reported log idle exchanges (suc n) c c' (inner t)
-        (inner t') b b' o o' e e' (rounds_inner inner outer answers passes ends commits passes_commits G out
-        reported log reactor idle exchanges (suc n) c c' t t' b b' o o' e e' h) in
+        ((xs : List Answered) (x : T) → AnswersAll (FromPeer outer) t xs x → makes (inner x) xs x) →
+        LooksAtEach looks (states_in_rounds reactor G outer ends out reported log idle exchanges n c c' t t' b b' o o' e
+        e' h) v v' →
+        LooksAfterEach looks makes (left_in_rounds reactor G answers commits out reported log idle exchanges n c c'
+        (inner t) (inner t') b b' o o' e e' (within idle exchanges n c c' t t' b b' o o' e e' h)) v v'
+    looks_within idle exchanges zero c c' t t' b b' o o' e e' v v' h made looked = looked
+    looks_within idle exchanges (suc n) c c' t t' b b' o o' e e' v v' h made looked =
+        let before = within idle exchanges n c h.0 t h.1 b h.2 o h.3 e h.4 h.5 in
         let frames = frames_in_rounds reactor G outer ends out reported log idle exchanges (suc n) c c' t t' b b' o o'
         e e' h in
-        let states = states_in_rounds reactor G outer ends out reported log idle exchanges n c h.0 t h.1 b h.2 o h.3 e
-        h.4 h.5 in
-        let last : T → List (EventLoop L × T) = λ x. (c', x) ∷ [] in
-        map-append (λ (left : RoundLeft L S). (left.event_loop, makes left.server left.answered)) before
-        (record { event_loop = c'; server = inner t'; answered = all_answered within } ∷ [])
-        ∙ ap (λ (xs : List (EventLoop L × T)). xs ++ last (makes (inner t') (all_answered within)))
-        (states_made idle exchanges n c h.0 t h.1 b h.2 o h.3 e h.4 h.5 made)
-        ∙ ap (λ (x : T). states ++ last x)
-        (ap (λ (xs : List Tagged). makes (inner t') (all_answered xs))
-        (frames_rounds inner outer answers passes ends commits passes_commits G out reported log reactor idle
-        exchanges (suc n) c c' t t' b b' o o' e e' h)
-        ∙ made (all_answered frames) t' (rounds_answer G outer out reported log reactor ends idle exchanges (suc n) c
-        c' t t' b b' o o' e e' h))
+        let split = looks_split looks (states_in_rounds reactor G outer ends out reported log idle exchanges n c h.0 t
+        h.1 b h.2 o h.3 e h.4 h.5) ((c', t') ∷ []) v v' looked in
+        after_then looks makes (left_in_rounds reactor G answers commits out reported log idle exchanges n c h.0
+        (inner t) (inner h.1) b h.2 o h.3 e h.4 before) _ v split.0 v'
+        (looks_within idle exchanges n c h.0 t h.1 b h.2 o h.3 e h.4 v split.0 h.5 made split.1) (
+          t',
+          split.2.0,
+          subst (λ (xs : List Tagged). makes (inner t') (all_answered xs) t')
+              (sym (frames_rounds inner outer answers passes ends commits passes_commits G out reported log reactor idle
+              exchanges (suc n) c c' t t' b b' o o' e e' h))
+              (made (all_answered frames) t' (rounds_answer G outer out reported log reactor ends idle exchanges (suc n)
+              c c' t t' b b' o o' e e' h)),
+          split.2.1,
+          split.2.2,
+        )
 
-    module _ {V : Type 0} (looks : V → T → RoundReport → V → Type 0) where
-      -- a run of the wrapped server, and the looks after each of its rounds
-      abbrev pub RunsSeen : Bounds → Exit → S → S → B → B → O → O → E → E → V → V → Type 0
-      RunsSeen bounds exit s s' b b' o o' e e' v v' =
-          (run : RunsEventLoop reactor G answers commits out reported log bounds exit s s' b b' o o' e e')
-          × LooksAfterEach looks makes (left_in_run reactor G answers commits out reported log bounds exit s s' b b' o
-          o' e e' run) v v'
+    -- a run of the wrapped server, and the looks after each of its rounds
+    abbrev pub RunsSeen : Bounds → Exit → S → S → B → B → O → O → E → E → V → V → Type 0
+    RunsSeen bounds exit s s' b b' o o' e e' v v' =
+        (run : RunsEventLoop reactor G answers commits out reported log bounds exit s s' b b' o o' e e')
+        × LooksAfterEach looks makes (left_in_run reactor G answers commits out reported log bounds exit s s' b b' o o'
+        e e' run) v v'
 
-      looks_made : (bounds : Bounds) (exit : Exit) (t t' : T) (b b' : B) (o o' : O) (e e' : E) (v v' : V) →
-          ((xs : List Answered) (x : T) → AnswersAll outer t xs x → makes (inner x) xs ≡ x) →
-          (seen : HasObserved reactor G outer ends out reported log looks bounds exit t t' b b' o o' e e' v v') →
-          LooksAfterEach looks makes (left_in_rounds reactor G answers commits out reported log bounds.idle
-          bounds.exchanges seen.run.in_rounds.count seen.run.in_rounds.empty seen.run.following (inner t) (inner t') b
-          seen.run.reactor_after o o' e e' (rounds_inner inner outer answers passes ends commits passes_commits G out
-          reported log reactor bounds.idle
-          bounds.exchanges seen.run.in_rounds.count seen.run.in_rounds.empty seen.run.following t t' b
-          seen.run.reactor_after o o' e e' seen.run.in_rounds.each)) v v'
-      looks_made bounds exit t t' b b' o o' e e' v v' made seen =
-          let r = seen.run in
-          subst (λ (xs : List (EventLoop L × T)). LooksAtEach looks xs v v')
-          (sym (states_made bounds.idle bounds.exchanges r.in_rounds.count r.in_rounds.empty r.following t t' b
-          r.reactor_after o o' e e' r.in_rounds.each made)) seen.looked
-
-      pub run_seen : (bounds : Bounds) (exit : Exit) (t t' : T) (b b' : B) (o o' : O) (e e' : E) (v v' : V) →
-          ((xs : List Answered) (x : T) → AnswersAll outer t xs x → makes (inner x) xs ≡ x) →
-          RunsEventLoop reactor G outer ends out reported log bounds exit t t' b b' o o' e e' →
-          ObservesRun reactor G outer ends out reported log looks bounds exit t t' b b' o o' e e' v v' →
-          RunsSeen bounds exit (inner t) (inner t') b b' o o' e e' v v'
-      run_seen bounds Memory t t' b b' o o' e e' v v' made run same =
-          ((ap inner run.0, run.1, run.2, run.3), same)
-      run_seen bounds exit t t' b b' o o' e e' v v' made run seen = (
-        served_inner inner outer answers passes ends commits passes_commits G out reported log reactor bounds exit t
-            t' b b' o o' e e' seen.run,
-        looks_made bounds exit t t' b b' o o' e e' v v' made seen,
-      )
+    pub run_seen : (bounds : Bounds) (exit : Exit) (t t' : T) (b b' : B) (o o' : O) (e e' : E) (v v' : V) →
+        ((xs : List Answered) (x : T) → AnswersAll (FromPeer outer) t xs x → makes (inner x) xs x) →
+        RunsEventLoop reactor G outer ends out reported log bounds exit t t' b b' o o' e e' →
+        ObservesRun reactor G outer ends out reported log looks bounds exit t t' b b' o o' e e' v v' →
+        RunsSeen bounds exit (inner t) (inner t') b b' o o' e e' v v'
+    run_seen bounds Memory t t' b b' o o' e e' v v' made run same =
+        ((ap inner run.0, run.1, run.2, run.3), same)
+    run_seen bounds exit t t' b b' o o' e e' v v' made run seen =
+        let r = seen.run in (
+          served_inner inner outer answers passes ends commits passes_commits G out reported log reactor bounds exit t
+              t' b b' o o' e e' r,
+          looks_within bounds.idle bounds.exchanges r.in_rounds.count r.in_rounds.empty r.following t t' b
+              r.reactor_after o o' e e' v v' r.in_rounds.each made seen.looked,
+        )

@@ -1,7 +1,8 @@
 -- A run over a server that wraps another one is a run over the wrapped one, with the same frames and
 -- connections.
-use Rattle.std.proofs.Common.{◌≡◌, ◌⊎◌, inl, inr, ◌∙◌, ℕ, zero, suc, Bool, Option, List, [], ◌∷◌, ◌++◌, refl, ap, subst, sym}
+use Rattle.std.proofs.Common.{◌≡◌, inl, inr, ◌∙◌, ℕ, zero, suc, Bool, Option, List, [], ◌∷◌, ◌++◌, refl, ap, subst, sym}
 use Rattle.std.specs.Prelude.{Result, Err, length}
+use Rattle.std.specs.declared.net.socket_addr.SocketAddr.{SocketAddr}
 use Rattle.bw_model.specs.Wire.{Frame}
 use Rattle.bw_model.specs.Replies.{Reply}
 use Rattle.bw_stream.specs.declared.sink.Sink.{Ghosts as Writer}
@@ -22,6 +23,7 @@ use Rattle.bw_serve.specs.declared.serving.Bounds.{Bounds}
 use Rattle.bw_serve.specs.EventLoops.{InTurn, ServesPlace, ended_in_turn, frames_in_turn}
 use Rattle.bw_serve.specs.Rounds.{GoOnAfterEach, GoOnUntilLast, ServesInRounds, ServesRound, ServesRounds, ended_in_rounds}
 use Rattle.bw_serve.specs.Rounds.{frames_in_rounds}
+use Rattle.bw_serve.specs.Guards.{FromPeer}
 use Rattle.bw_serve.specs.EventLoopRuns.{EndsAt, HasServed}
 
 both : {X : Type 0} {xs xs' ys ys' : List X} → xs ≡ xs' → ys ≡ ys' → xs ++ ys ≡ xs' ++ ys'
@@ -53,17 +55,27 @@ works_by G outer answers place now closed m m' t t' s s' w by_server = record {
   closes = w.closes;
 }
 
-module _ {T S : Type 0} (inner : T → S) (outer : T → Frame → List Reply → T → Type 0)
-    (answers : S → Frame → List Reply → S → Type 0)
-    (passes : (t : T) (frame : Frame) (replies : List Reply) (t' : T) → outer t frame replies t' →
-    answers (inner t) frame replies (inner t')) (ends : T → Result (Unit {0}) NotKept → T → Type 0)
+pub all_inner : {T S : Type 0} (inner : T → S) (outer : T → Frame → List Reply → T → Type 0)
+    (answers : S → Frame → List Reply → S → Type 0) → ((t : T) (frame : Frame) (replies : List Reply) (t' : T) →
+    outer t frame replies t' → answers (inner t) frame replies (inner t')) → (t : T) (xs : List Answered) (t' : T) →
+    AnswersAll outer t xs t' → AnswersAll answers (inner t) xs (inner t')
+all_inner inner outer answers passes t [] t' h = ap inner h
+all_inner inner outer answers passes t (a ∷ rest) t' h = (
+  inner h.0,
+  passes t a.frame a.replies h.0 h.1,
+  all_inner inner outer answers passes h.0 rest t' h.2,
+)
+
+module _ {T S : Type 0} (inner : T → S) (outer : SocketAddr → T → Frame → List Reply → T → Type 0)
+    (answers : SocketAddr → S → Frame → List Reply → S → Type 0)
+    (passes : (peer : SocketAddr) (t : T) (frame : Frame) (replies : List Reply) (t' : T) → outer peer t frame replies t' →
+    answers peer (inner t) frame replies (inner t')) (ends : T → Result (Unit {0}) NotKept → T → Type 0)
     (commits : S → Result (Unit {0}) NotKept → S → Type 0)
     (passes_commits : (t : T) (r : Result (Unit {0}) NotKept) (t' : T) → ends t r t' → commits (inner t) r (inner t')) where
-  pub answers_inner : (t : T) (xs : List Answered) (t' : T) → AnswersAll outer t xs t' →
-      AnswersAll answers (inner t) xs (inner t')
-  answers_inner t [] t' h = ap inner h
-  answers_inner t (a ∷ rest) t' h =
-      (inner h.0, passes t a.frame a.replies h.0 h.1, answers_inner h.0 rest t' h.2)
+  pub answers_inner : (t : T) (xs : List Answered) (t' : T) → AnswersAll (FromPeer outer) t xs t' →
+      AnswersAll (FromPeer answers) (inner t) xs (inner t')
+  answers_inner = all_inner inner (FromPeer outer) (FromPeer answers)
+      (λ t frame replies t' h. record { peer = h.peer; answered = passes h.peer t frame replies t' h.answered })
 
   pub ends_inner : {B L : Type 0} (reactor : ReactorGhosts B L) (exit : Exit) (exchanges ended : ℕ) (t' : T) (b b' : B) →
       EndsAt reactor ends exit exchanges ended t' b b' → EndsAt reactor commits exit exchanges ended (inner t') b b'
@@ -75,12 +87,12 @@ module _ {T S : Type 0} (inner : T → S) (outer : T → Frame → List Reply �
   ends_inner reactor Memory exchanges ended t' b b' h = absurd h
 
   module _ {L : Type 0} (G : LinkGhosts L) where
-    abbrev works_inner : (place now : ℕ) (closed : Option (Closed L)) (m m' : Connections L) (t t' : T) →
-        WorksAt G outer place now closed m m' t t' →
-        WorksAt G answers place now closed m m' (inner t) (inner t')
-    works_inner place now closed m m' t t' w =
-        works_by G outer answers place now closed m m' t t' (inner t) (inner t') w
-        (answers_inner t w.answered t' w.by_server)
+    abbrev works_inner : (peer : SocketAddr) (place now : ℕ) (closed : Option (Closed L)) (m m' : Connections L) (t t' : T) →
+        WorksAt G (outer peer) place now closed m m' t t' →
+        WorksAt G (answers peer) place now closed m m' (inner t) (inner t')
+    works_inner peer place now closed m m' t t' w =
+        works_by G (outer peer) (answers peer) place now closed m m' t t' (inner t) (inner t') w
+        (all_inner inner (outer peer) (answers peer) (passes peer) t w.answered t' w.by_server)
 
     module _ {O E : Type 0} (out : Writer O) (reported : Writer E) (log : Bool) where
       abbrev place_inner : (now idle place : ℕ) (c c' : EventLoop L) (t t' : T) (o o' : O) (e e' : E) →
@@ -89,7 +101,9 @@ module _ {T S : Type 0} (inner : T → S) (outer : T → Frame → List Reply �
       place_inner now idle place c c' t t' o o' e e' p = record {
         first = p.first;
         between = p.between;
-        works = works_inner place now p.first c.connections p.between t t' p.works;
+        peer_slot = p.peer_slot;
+        was = p.was;
+        works = works_inner p.peer_slot.address place now p.first c.connections p.between t t' p.works;
         closed = p.closed;
         following = p.following;
         adds = p.adds;
@@ -159,7 +173,7 @@ module _ {T S : Type 0} (inner : T → S) (outer : T → Frame → List Reply �
           logged = r.logged;
           in_turn = turn_inner (reactor.time b') idle (connection_count r.between.connections) r.between r.served t r.mid
               o r.printed e r.logged r.in_turn;
-          kept = subst (λ (xs : List Tagged). AnswersAll answers (inner t) (all_answered xs) (inner t'))
+          kept = subst (λ (xs : List Tagged). AnswersAll (FromPeer answers) (inner t) (all_answered xs) (inner t'))
               (sym (frames_turn (reactor.time b') idle (connection_count r.between.connections) r.between r.served t r.mid
               o r.printed e r.logged r.in_turn)) (answers_inner t _ t' r.kept);
           outcome = r.outcome;

@@ -3,6 +3,7 @@ use Rattle.std.specs.Prelude.{◌≡◌, ◌⊎◌, ℕ, zero, suc, ◌+◌, ◌
 use Rattle.std.specs.Prelude.{Option, Some, None, List, [], ◌∷◌, ◌++◌, fold, length, slice_get}
 use Rattle.std.specs.Prelude.{vec_len, Result, Ok, Err}
 use Rattle.std.specs.List.{AllByRecursion}
+use Rattle.std.specs.declared.net.socket_addr.SocketAddr.{SocketAddr}
 use Rattle.bw_model.specs.Wire.{Frame}
 use Rattle.bw_model.specs.Replies.{Reply}
 use Rattle.bw_stream.specs.declared.sink.Sink.{Ghosts as Writer}
@@ -25,6 +26,7 @@ use Rattle.bw_exchange.specs.LinkCounts.{up_to_last, counting_frame}
 use Rattle.bw_connections.specs.Places.{refused_of}
 use Rattle.bw_serve.specs.Admissions.{AreOf, HostsMore}
 use Rattle.bw_ports.specs.Reactors.{Admission}
+use Rattle.bw_serve.specs.Guards.{FromPeer}
 use Rattle.bw_serve.specs.Lines.{LogsEnds, ReportsEnds, counted_of}
 use Rattle.bw_serve.specs.declared.event_loop.EventLoop.{EventLoop}
 use Rattle.bw_serve.specs.declared.peer_slot.PeerSlot.{PeerSlot}
@@ -121,13 +123,15 @@ ReportsRound {L} G reported log c more closed c' e e' = (over : List (Closed L))
     CountsOwn G c' (trace ++ more) × LogsEnds G reported log (trace ++ more) closed e e'
     × AreSilent over more
 
-module _ {L S : Type 0} (G : LinkGhosts L) (answers : S → Frame → List Reply → S → Type 0) where
-  -- a quantum of the connection at a place, whose frames are counted at its slot
+module _ {L S : Type 0} (G : LinkGhosts L)
+    (answers : SocketAddr → S → Frame → List Reply → S → Type 0) where
+  -- a quantum of the connection at a place, whose frames are answered as those of the peer at its
+  -- slot, and counted there
   pub record WorksCounted (place now : ℕ) (closed : Option (Closed L)) (c c' : EventLoop L) (s s' : S)
       : Type 0 where
-    pub works : WorksAt G answers place now closed c.connections c'.connections s s'
     pub peer_slot : PeerSlot
     pub was : slice_get c.peer_slots.items place ≡ Some peer_slot
+    pub works : WorksAt G (answers peer_slot.address) place now closed c.connections c'.connections s s'
     pub peer_slot' : PeerSlot
     pub sets : SetsPlace c.peer_slots.items place peer_slot' c'.peer_slots.items
     pub address : peer_slot'.address ≡ peer_slot.address
@@ -136,7 +140,7 @@ module _ {L S : Type 0} (G : LinkGhosts L) (answers : S → Frame → List Reply
     pub peer_slots_are : vec_len c'.peer_slots ≡ vec_len c.peer_slots
     pub ended : c'.ended ≡ c.ended
 
-module _ {L S O E : Type 0} (G : LinkGhosts L) (answers : S → Frame → List Reply → S → Type 0)
+module _ {L S O E : Type 0} (G : LinkGhosts L) (answers : SocketAddr → S → Frame → List Reply → S → Type 0)
     (out : Writer O) (reported : Writer E) (log : Bool) where
   -- At this time the connection at a place had its quantum, and only after that its silence was
   -- checked. The line of one that is over is printed, and it is logged.
@@ -144,7 +148,10 @@ module _ {L S O E : Type 0} (G : LinkGhosts L) (answers : S → Frame → List R
       : Type 0 where
     pub first : Option (Closed L)
     pub between : Connections L
-    pub works : WorksAt G answers place now first c.connections between s s'
+    -- its frames were answered as those of the peer at its slot
+    pub peer_slot : PeerSlot
+    pub was : slice_get c.peer_slots.items place ≡ Some peer_slot
+    pub works : WorksAt G (answers peer_slot.address) place now first c.connections between s s'
     pub closed : List (Closed L)
     pub following : LooksAfter now idle place first between closed c'.connections
     pub adds : Adds G c.connections (tagged works.number works.answered) closed c'.connections
@@ -190,7 +197,7 @@ module _ {L S O E : Type 0} (G : LinkGhosts L) (answers : S → Frame → List R
   -- and these links more were accepted, or refused
   pub record Advances (more : List Tagged) (closed : List (Closed L)) (links : List (Admission L))
       (c c' : EventLoop L) (s s' : S) (o o' : O) (e e' : E) : Type 0 where
-    pub by_server : AnswersAll answers s (all_answered more) s'
+    pub by_server : AnswersAll (FromPeer answers) s (all_answered more) s'
     pub adds : Adds G c.connections more closed c'.connections
     pub prints : CountsEnds out c c' closed o o'
     pub reports : ReportsRound G reported log c more closed c' e e'

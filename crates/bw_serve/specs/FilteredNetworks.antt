@@ -1,12 +1,18 @@
 -- Peers, reactors and networks with a filter at each link.
-use Rattle.std.specs.Prelude.{◌≡◌, Bool, List, Result, Ok, Err, map}
+use Rattle.std.specs.Prelude.{◌≡◌, Bool, List, ℕ, Result, Ok, Err, map, option_map, Vec}
+use Rattle.std.specs.declared.alloc.Global.{Global}
+use Rattle.std.specs.declared.io.Error.{Error as IoError}
+use Rattle.bw_operators.specs.AllowLists.{AllowRules}
+use Rattle.bw_ports.specs.declared.starts.StartRefusal.{StartRefusal}
 use Rattle.bw_ports.specs.Reactors.{Admission}
 use Rattle.bw_ports.specs.declared.peers.Peer.{Peer}
 use Rattle.bw_ports.specs.declared.peers.AcceptFault.{AcceptFault}
 use Rattle.bw_serve.specs.Filters.{starting}
+use Rattle.bw_serve.specs.RuleRefusals.{ListsAllowed}
 use Rattle.bw_serve.specs.declared.filtered_link.FilteredLink.{FilteredLink}
 use Rattle.bw_serve.specs.declared.filtered_reader.FilteredReader.{FilteredReader}
 use Rattle.bw_serve.specs.declared.filtered_network.FilteredNetwork.{FilteredNetwork}
+use Rattle.bw_serve.specs.declared.filtered_network.ServeChoice.{ServeChoice}
 use Rattle.bw_serve.specs.declared.filtered_peers.FilteredPeers.{FilteredPeers}
 use Rattle.bw_serve.specs.declared.filtered_reactor.FilteredReactor.{FilteredReactor}
 
@@ -67,3 +73,13 @@ pub record OpensFiltered {N T U E : Type 0} (filters : Bool → T → U) (opens 
 abbrev pub PassedOn : {N R : Type 0} → (R → N → Type 0) → FilteredNetwork N → R →
     FilteredNetwork N → Type 0
 PassedOn calls n result n' = calls result n'.network × (n'.one_name ≡ n.one_name)
+
+-- it was chosen whether what happens is said, and whether links may have one name alone; and the file
+-- that is named was read
+pub record ChoosesRules {N : Type 0} (logs : N → Bool → N → Type 0)
+    (reads : N → List ℕ → Result (Vec ℕ Global) IoError → Type 0) (n : FilteredNetwork N)
+    (choice : ServeChoice) (result : Result AllowRules StartRefusal) (n' : FilteredNetwork N)
+    : Type 0 where
+  pub log : logs n.network choice.log n'.network
+  pub names : n'.one_name ≡ choice.one_name
+  pub lists : ListsAllowed (reads n'.network) (option_map (λ path. path.now) choice.allow) result

@@ -1,5 +1,5 @@
 -- What a server does that was opened, by how it serves.
-use Rattle.std.specs.Prelude.{◌≡◌, ◌⊎◌, Result, ℕ, Bool, List}
+use Rattle.std.specs.Prelude.{◌≡◌, ◌⊎◌, Result, ℕ, List}
 use Rattle.bw_model.specs.Wire.{Frame}
 use Rattle.bw_model.specs.Replies.{Reply}
 use Rattle.bw_stream.specs.declared.sink.Sink.{Ghosts as Writer}
@@ -15,13 +15,13 @@ use Rattle.bw_ports.specs.declared.peers.Peers.{Ghosts as PeerGhosts}
 use Rattle.bw_ports.specs.declared.reactor.Reactor.{Ghosts as ReactorGhosts}
 use Rattle.bw_serve.specs.Beginnings.{AsksOutside, IsUnprinted, ReportsUnbound, peer_calls, reactor_calls}
 use Rattle.bw_serve.specs.EventLoopRuns.{RunsEventLoop, answered_in_loop}
+use Rattle.bw_serve.specs.Guards.{FromPeer, Guarded, GuardedOverCommits}
 use Rattle.bw_serve.specs.Openings.{opening_lines}
 use Rattle.bw_serve.specs.ServedAll.{ServesRun, answered_in_run}
 use Rattle.bw_serve.specs.ServerReports.{ReportsExit}
 use Rattle.bw_serve.specs.declared.hosting.Hosting.{Hosting}
 use Rattle.bw_serve.specs.declared.hosting_in_turn.Serving.{Serving}
 use Rattle.bw_serve.specs.declared.opening.OpenedServer.{OpenedServer}
-use Rattle.bw_serve.specs.declared.serving.Bounds.{Bounds}
 
 -- A way to serve: what a run is that ends so, of a server over what recorders come by, and what the
 -- server answered in it.
@@ -52,15 +52,16 @@ module _ {T R O E : Type 0} (way : WayToServe T R O E) (answers : T → Frame �
       ⊎ IsUnprinted out reported lines exit o o' e e'
 
 module _ {T P R W O E : Type 0} (answers : T → Frame → List Reply → T → Type 0)
-    (commits : T → Result (Unit {0}) NotKept → T → Type 0) (peers : PeerGhosts P R W)
-    (reader : Reader R) (writer : Writer W) (out : Writer O) (reported : Writer E) where
-  -- one recorder after another
+    (committed : T → Type 0) (commits : T → Result (Unit {0}) NotKept → T → Type 0)
+    (peers : PeerGhosts P R W) (reader : Reader R) (writer : Writer W) (out : Writer O) (reported : Writer E) where
+  -- one recorder after another, whose frames are guarded by the list
   abbrev pub in_turn : Serving → WayToServe T P O E
   in_turn serving = record {
-    runs = λ ended t t' p p' o o' e e'. ServesRun answers commits peers reader writer out reported
-        serving.log serving.exchanges ended t t' p p' o o' e e';
-    answered = answered_in_run answers commits peers reader writer out reported serving.log
-        serving.exchanges;
+    runs = λ ended t t' p p' o o' e e'. ServesRun
+        (GuardedOverCommits answers committed serving.allow.now) commits peers reader writer out
+        reported serving.log serving.exchanges ended t t' p p' o o' e e';
+    answered = answered_in_run (GuardedOverCommits answers committed serving.allow.now) commits peers
+        reader writer out reported serving.log serving.exchanges;
   }
 
   -- the peers are asked for, and served so by the server that was opened
@@ -68,18 +69,21 @@ module _ {T P R W O E : Type 0} (answers : T → Frame → List Reply → T → 
       OpenedServer T → Exit → N → N → O → O → E → E → Type 0
   ServesInTurn network serving opened exit n n' o o' e e' =
       AsksOutside (peer_calls network serving) (ReportsUnbound reported serving.address)
-      (λ p between. (n' ≡ between) × ServesInWay (in_turn serving) answers out reported
+      (λ p between. (n' ≡ between) × ServesInWay (in_turn serving)
+      (FromPeer (GuardedOverCommits answers committed serving.allow.now)) out reported
       (opening_lines opened.takes serving.address) exit opened.server p o o' e e') exit n n' o o' e e'
 
 module _ {T B L O E : Type 0} (answers : T → Frame → List Reply → T → Type 0)
     (commits : T → Result (Unit {0}) NotKept → T → Type 0)
     (reactor : ReactorGhosts B L) (link : LinkGhosts L) (out : Writer O) (reported : Writer E) where
-  -- many recorders at once
+  -- many recorders at once, whose frames are guarded by the list
   abbrev pub at_once : Hosting → WayToServe T B O E
   at_once hosting = record {
-    runs = λ ended t t' b b' o o' e e'. RunsEventLoop reactor link answers commits out reported
-        hosting.log hosting.bounds ended t t' b b' o o' e e';
-    answered = answered_in_loop reactor link answers commits out reported hosting.log hosting.bounds;
+    runs = λ ended t t' b b' o o' e e'. RunsEventLoop reactor link
+        (Guarded answers hosting.allow.now) commits out reported hosting.log hosting.bounds ended t t'
+        b b' o o' e e';
+    answered = answered_in_loop reactor link (Guarded answers hosting.allow.now) commits out reported
+        hosting.log hosting.bounds;
   }
 
   -- the reactor is asked for, and those who come are served so by the server that was opened
@@ -87,5 +91,6 @@ module _ {T B L O E : Type 0} (answers : T → Frame → List Reply → T → Ty
       Exit → N → N → O → O → E → E → Type 0
   ServesAtOnce setup hosting opened exit n n' o o' e e' =
       AsksOutside (reactor_calls setup hosting) (ReportsUnbound reported hosting.address)
-      (λ b between. (n' ≡ between) × ServesInWay (at_once hosting) answers out reported
+      (λ b between. (n' ≡ between) × ServesInWay (at_once hosting)
+      (FromPeer (Guarded answers hosting.allow.now)) out reported
       (opening_lines opened.takes hosting.address) exit opened.server b o o' e e') exit n n' o o' e e'

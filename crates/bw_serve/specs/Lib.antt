@@ -1,5 +1,9 @@
 pub mod Admissions
 pub mod Lines
+pub mod Filters
+pub mod OneName
+pub mod Guards
+pub mod GuardedServers
 pub mod PeerSlots
 pub mod EventLoops
 pub mod Rounds
@@ -14,8 +18,7 @@ pub mod ServedOne
 pub mod ServedAll
 pub mod Openings
 pub mod Hostings
-pub mod Filters
-pub mod OneName
+pub mod RuleRefusals
 pub mod FilteredBytes
 pub mod FilteredNetworks
 pub mod FilteredParts

@@ -7,7 +7,7 @@ use Rattle.bw_journal.specs.declared.journal.Journal.{Ghosts as JournalGhosts}
 use Rattle.bw_session.specs.Books.{HoldsBook}
 use Rattle.bw_session.specs.declared.server.Server.{Server}
 use Rattle.bw_exchange.specs.AnsweredFrames.{Answered, AnswersAll}
-use Rattle.bw_engine.specs.IngestRuns.{LeavesRun}
+use Rattle.bw_session.specs.IngestRuns.{LeavesRun}
 use Rattle.bw_exchange.specs.TurnRuns.{answers_in}
 use Rattle.bw_session.specs.ServerTurns.{ServerTurn}
 use Rattle.bw_session.specs.SeenServers.{server_store, server_limit}

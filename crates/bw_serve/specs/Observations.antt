@@ -1,5 +1,6 @@
 -- What an observer of an event loop is shown: the server, as each round left it.
-use Rattle.std.specs.Prelude.{Result, ◌≡◌, ℕ, zero, suc, ◌-◌, Bool, List, [], ◌∷◌, ◌++◌, map}
+use Rattle.std.specs.Prelude.{Result, ◌≡◌, ℕ, zero, suc, ◌-◌, Bool, List, [], ◌∷◌, ◌++◌}
+use Rattle.std.specs.declared.net.socket_addr.SocketAddr.{SocketAddr}
 use Rattle.bw_model.specs.Wire.{Frame}
 use Rattle.bw_model.specs.Replies.{Reply}
 use Rattle.bw_stream.specs.declared.sink.Sink.{Ghosts as Writer}
@@ -43,15 +44,17 @@ pub record RoundLeft (L S : Type 0) : Type 0 where
   pub server : S
   pub answered : List Answered
 
--- It looked once after each of these rounds, in their order, at what this makes of the server that
+-- It looked once after each of these rounds, in their order, at what was made so of the server that
 -- the round left and of what that had answered; and nothing else happened to it.
 abbrev pub LooksAfterEach : {L S T V : Type 0} → (V → T → RoundReport → V → Type 0) →
-    (S → List Answered → T) → List (RoundLeft L S) → V → V → Type 0
-LooksAfterEach looks makes rounds v v' =
-    LooksAtEach looks (map (λ left. (left.event_loop, makes left.server left.answered)) rounds) v v'
+    (S → List Answered → T → Type 0) → List (RoundLeft L S) → V → V → Type 0
+LooksAfterEach looks makes [] v v' = v' ≡ v
+LooksAfterEach {L} {S} {T} {V} looks makes (left ∷ rest) v v' = (t : T) × (w : V)
+    × makes left.server left.answered t × LooksAtRound looks left.event_loop t v w
+    × LooksAfterEach looks makes rest w v'
 
 module _ {B L S O E : Type 0} (reactor : ReactorGhosts B L) (G : LinkGhosts L)
-    (answers : S → Frame → List Reply → S → Type 0)
+    (answers : SocketAddr → S → Frame → List Reply → S → Type 0)
     (commits : S → Result (Unit {0}) NotKept → S → Type 0) (out : Writer O) (reported : Writer E)
     (log : Bool) where
   -- the event loop and the server, as each of these rounds left them

@@ -13,7 +13,7 @@ use Rattle.bw_session.specs.ServerTurns.{ServerTurn}
 use Rattle.bw_session.specs.declared.server.Server.{Server}
 use Rattle.bw_session.specs.SeenServers.{server_store, server_limit}
 use Rattle.bw_exchange.specs.AnsweredFrames.{Answered, AnswersAll}
-use Rattle.bw_engine.specs.ServerRuns.{RunsOn}
+use Rattle.bw_session.specs.ServerRuns.{RunsOn}
 use Rattle.bw_console.specs.Text.{as_line}
 use Rattle.bw_ports.specs.declared.starts.StartRefusal.{StartRefusal}
 use Rattle.bw_ports.specs.declared.starts.StartRefusal.TheVariants.{Memory}

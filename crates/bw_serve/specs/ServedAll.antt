@@ -1,6 +1,7 @@
 -- The result of serving exchanges one after another.
 use Rattle.std.specs.Prelude.{◌≡◌, ℕ, Bool, suc, Option, Some, None, Ok, Err, List, [], ◌∷◌, length}
 use Rattle.std.specs.Prelude.{◌≤◌, ◌++◌, Result, true, false, if◌then◌else◌}
+use Rattle.std.specs.declared.net.socket_addr.SocketAddr.{SocketAddr}
 use Rattle.bw_model.specs.Wire.{Frame}
 use Rattle.bw_model.specs.Replies.{Reply}
 use Rattle.bw_stream.specs.Moves.{one_more}
@@ -44,7 +45,7 @@ exit_now (Served end exit) = if lacks_sync end then Some Device else exit_after_
 exit_now Gone = None
 exit_now Closed = Some Device
 
-module _ {T R W O E : Type 0} (answers : T → Frame → List Reply → T → Type 0)
+module _ {T R W O E : Type 0} (answers : SocketAddr → T → Frame → List Reply → T → Type 0)
     (commits : T → Result (Unit {0}) NotKept → T → Type 0) (reader : Reader R) (writer : Writer W)
     (out : Writer O) (reported : Writer E) (log : Bool) where
   -- one exchange was served over a peer's link, and logged if that is asked for
@@ -53,12 +54,12 @@ module _ {T R W O E : Type 0} (answers : T → Frame → List Reply → T → Ty
       (e e' : E) : Type 0 where
     pub r' : R
     pub w' : W
-    pub served : ServesTo answers commits reader writer out index end exit t t' peer.link.reader r'
+    pub served : ServesTo (answers peer.address) commits reader writer out index end exit t t' peer.link.reader r'
         peer.link.writer w' o o'
     pub logs : Logs reported log
         (link_line peer.address end (message_count (answered_frames served.serves.answered))) e e'
 
-module _ {T P R W O E : Type 0} (answers : T → Frame → List Reply → T → Type 0)
+module _ {T P R W O E : Type 0} (answers : SocketAddr → T → Frame → List Reply → T → Type 0)
     (commits : T → Result (Unit {0}) NotKept → T → Type 0)
     (peers : PeerGhosts P R W) (reader : Reader R) (writer : Writer W) (out : Writer O)
     (reported : Writer E) (log : Bool) where

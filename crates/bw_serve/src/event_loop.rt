@@ -5,11 +5,13 @@ ghost use Rattle.bw_wire.specs.Held.{longest_message_piece};
 ghost use Rattle.bw_stream.specs.Moves.{failures_after};
 ghost use Rattle.bw_exchange.specs.MeteredServers.{metered_server};
 
+use crate::guarded::{Gate, work_guarded};
 use crate::line::print_end;
 use crate::observing::{RoundObserver, RoundReport};
-use crate::peer_slot::{PeerSlot, empty_peer_slots, put_at, report_at, swap_at};
+use crate::peer_slot::{PeerSlot, address_at, empty_peer_slots, put_at, report_at, swap_at};
 use bw_connections::{Closed, Connections};
 use bw_exchange::{Metered, NotKept, Turns};
+use bw_operators::AllowList;
 use bw_ports::{Accepted, Link, Reactor, TryAcceptFault};
 use bw_stream::Sink;
 use std::alloc::{AllocError, Global};
@@ -20,11 +22,13 @@ pub(crate) struct Shut;
 
 /// What each quantum of a round is given.
 #[derive(Clone, Copy)]
-pub(crate) struct Round {
+pub(crate) struct Round<'a> {
     /// The time, in milliseconds.
-    pub(crate) now: u64,
+    pub(crate) time: u64,
     /// After how many milliseconds without an answered frame a connection is ended.
     pub(crate) idle: u64,
+    /// Which names may come from which addresses.
+    pub(crate) allow: &'a AllowList,
     /// Whether each connection that is over is a line on `faults` too.
     pub(crate) log: bool,
 }
@@ -49,6 +53,7 @@ impl<L: Link + Drop> EventLoop<L> {
     ghost use Rattle.bw_model.specs.Replies.{Reply as ModelReply};
     ghost use Rattle.bw_serve.specs.EventLoops.{ServesPlace, KeepsEventLoop, WorksCounted};
     ghost use Rattle.bw_serve.specs.EventLoops.{can_go_on_in};
+    ghost use Rattle.bw_serve.specs.Guards.{Guarded};
     ghost use Rattle.bw_serve.specs.Observations.{LooksAtRound};
     ghost use Rattle.bw_serve.specs.Rounds.{AsksIn, NoticesAll, Welcomes};
     ghost use Rattle.bw_ports.specs.Reactors.{Admission};
@@ -190,15 +195,15 @@ impl<L: Link + Drop> EventLoop<L> {
         alloc: Global,
         server: &mut Metered<T>,
         buffer: &mut [u8],
-        round: Round,
+        round: &Round<'_>,
         out: &mut O,
         faults: &mut E,
     )
         requires buffer { length buffer.old ≤ longest_message_piece }
         requires peer_slots { HasPeerSlots self.old }
-        ensures in_turn { InTurn L.Link T.answers O.Sink E.Sink round.log round.now round.idle
-            (connection_count self.old.connections) self.old self.new (metered_server server.old)
-            (metered_server server.new) out.old out.new faults.old faults.new }
+        ensures in_turn { InTurn L.Link (Guarded T.answers round.now.allow.now) O.Sink E.Sink round.now.log
+            round.now.time round.now.idle (connection_count self.old.connections) self.old self.new
+            (metered_server server.old) (metered_server server.new) out.old out.new faults.old faults.new }
     {
         for place in 0..self.connections.places() {
             self.serve_place(alloc, place, server, buffer, round, out, faults);
@@ -213,22 +218,22 @@ impl<L: Link + Drop> EventLoop<L> {
         place: usize,
         server: &mut Metered<T>,
         buffer: &mut [u8],
-        round: Round,
+        round: &Round<'_>,
         out: &mut O,
         faults: &mut E,
     )
         requires place { place < connection_count self.old.connections }
         requires peer_slots { HasPeerSlots self.old }
         requires buffer { length buffer.old ≤ longest_message_piece }
-        ensures { ServesPlace L.Link T.answers O.Sink E.Sink round.log round.now round.idle place
-            self.old self.new (metered_server server.old) (metered_server server.new) out.old
-            out.new faults.old faults.new }
+        ensures { ServesPlace L.Link (Guarded T.answers round.now.allow.now) O.Sink E.Sink round.now.log
+            round.now.time round.now.idle place self.old self.new (metered_server server.old)
+            (metered_server server.new) out.old out.new faults.old faults.new }
     {
-        if let Some(closed) = self.work(place, server, buffer, round.now) {
+        if let Some(closed) = self.work(place, server, buffer, round) {
             self.end(alloc, place, closed, round.log, out, faults);
             return;
         }
-        let Some(closed) = self.connections.expire(place, round.now, round.idle) else {
+        let Some(closed) = self.connections.expire(place, round.time, round.idle) else {
             return;
         };
         self.end(alloc, place, closed, round.log, out, faults);
@@ -305,22 +310,34 @@ impl<L: Link + Drop> EventLoop<L> {
         self.end(alloc, place, closed, log, out, faults);
     }
 
-    /// One quantum of the connection at a place, whose messages are counted for it alone.
+    /// One quantum of the connection at a place, whose messages are guarded by the list as those of
+    /// its peer, and counted for it alone.
     fn work<T: Turns>(
         &mut self,
         place: usize,
         server: &mut Metered<T>,
         buffer: &mut [u8],
-        now: u64,
+        round: &Round<'_>,
     ) -> Option<Closed<L>>
         requires place { place < connection_count self.old.connections }
         requires peer_slots { HasPeerSlots self.old }
         requires buffer { length buffer.old ≤ longest_message_piece }
-        ensures { WorksCounted L.Link T.answers place now result self.old self.new
-            (metered_server server.old) (metered_server server.new) }
+        ensures { WorksCounted L.Link (Guarded T.answers round.now.allow.now) place round.now.time result
+            self.old self.new (metered_server server.old) (metered_server server.new) }
     {
+        let gate = Gate {
+            allow: round.allow,
+            peer: address_at(&self.peer_slots, place),
+        };
         swap_at(&mut self.peer_slots, place, server);
-        let closed = self.connections.work(place, server, buffer, now);
+        let closed = work_guarded(
+            &mut self.connections,
+            place,
+            &gate,
+            server,
+            buffer,
+            round.time,
+        );
         swap_at(&mut self.peer_slots, place, server);
         closed
     }

@@ -1,29 +1,55 @@
 //! A network whose links are filtered, if that is chosen.
-ghost use Rattle.std.specs.Prelude.{◌≡◌, Bool, false};
+ghost use Rattle.std.specs.Prelude.{◌≡◌, false, IfOk, Result};
+ghost use Rattle.bw_operators.specs.AllowLists.{AllowRules};
+ghost use Rattle.bw_ports.specs.declared.starts.StartRefusal.{StartRefusal};
 ghost use Rattle.bw_serve.specs.FilteredNetworks.{OpensFiltered, PassedOn, filtered_peers, filtered_reactor};
+ghost use Rattle.bw_serve.specs.RuleRefusals.{RefusesRule, bad_rule_line};
 ghost use Rattle.bw_serve.specs.FilteredParts.{inner_reactor, inner_network, network_has_one_name};
 
 use crate::filtered_peers::FilteredPeers;
 use crate::filtered_reactor::FilteredReactor;
 use crate::{OpenedServer, Opens};
 use bw_layout::Limit;
-use bw_operators::{EventLog, StatusSetup};
+use bw_operators::{AllowFault, AllowList, EventLog, RuleFiles, StatusSetup};
 use bw_ports::{ListenerSetup, Network, PacedNetwork, StartRefusal};
+use std::alloc::{AllocError, Global};
 use std::io;
 use std::net::SocketAddr;
 
-/// A choice whether each link of a server may have one name alone, and whether what happens is said.
+/// What a line of a file of rules has to be.
+const WANTED: &str =
+    ": a name, or the start of names and *, and then networks, such as: ixm-* 10.0.0.0/8\n";
+
+/// The rules by which a server treats its links.
 pub trait ServeRules {
-    /// After a call for these choices it may be in the second state.
-    ghost chooses: { Self → Bool → Bool → Self → Type 0 };
+    ghost use Rattle.bw_serve.specs.declared.filtered_network.ServeChoice.{ServeChoice};
+
+    /// After a call for these choices it may have returned this, and be in the second state.
+    ghost chooses: { Self → ServeChoice → Result AllowRules StartRefusal → Self → Type 0 };
 
     /// Chooses whether each link that comes from now on may have one name alone, or any; and whether
-    /// what happens from now on is said, each line with its time.
+    /// what happens from now on is said, each line with its time. Returns which names may come from which
+    /// addresses, by the file that is named, if there is one.
+    ///
+    /// # Errors
+    /// `Unfit` with a line that names the file's first bad line, `Unusable` if it can't be read, `Memory`
+    /// if memory was refused.
     ///
     /// # Not specified
     /// Anything beyond what each implementation says of itself.
-    fn choose(&mut self, one_name: bool, log: bool)
-        ensures { chooses self.old one_name log self.new };
+    fn choose(&mut self, alloc: Global, choice: ServeChoice<'_>) -> Result<AllowList, StartRefusal>
+        ensures { chooses self.old choice.entry result self.new };
+}
+
+/// What is chosen of a server's links.
+#[derive(Clone, Copy)]
+pub struct ServeChoice<'a> {
+    /// Whether each may have one name alone.
+    pub one_name: bool,
+    /// Whether what happens is said.
+    pub log: bool,
+    /// The path of the file that lists which names may come from which addresses.
+    pub allow: Option<&'a str>,
 }
 
 /// A network, and whether each link to its servers may have one name alone.
@@ -46,14 +72,54 @@ impl<N> FilteredNetwork<N> {
     }
 }
 
-impl<N: EventLog> ServeRules for FilteredNetwork<N> {
-    ghost chooses = { λ n one_name log n'.
-        N.chooses (inner_network n) log (inner_network n') × (network_has_one_name n' ≡ one_name) };
+impl<N: EventLog + RuleFiles> ServeRules for FilteredNetwork<N> {
+    ghost use Rattle.bw_serve.specs.FilteredNetworks.{ChoosesRules};
 
-    fn choose(&mut self, one_name: bool, log: bool) {
-        self.network.log_events(log);
-        self.one_name = one_name;
+    ghost chooses = { ChoosesRules N.EventLog.chooses N.RuleFiles.reads };
+
+    fn choose(
+        &mut self,
+        alloc: Global,
+        choice: ServeChoice<'_>,
+    ) -> Result<AllowList, StartRefusal> {
+        self.network.log_events(choice.log);
+        self.one_name = choice.one_name;
+        let Some(path) = choice.allow else {
+            return Ok(AllowList::everyone());
+        };
+        let text = match self.network.read_rules(path) {
+            Ok(text) => text,
+            Err(error) => return Err(StartRefusal::Unusable(error)),
+        };
+        match AllowList::read(alloc, &text) {
+            Ok(list) => Ok(list),
+            Err(AllowFault::Line(number)) => Err(refuse_rule(alloc, path, number)),
+            Err(AllowFault::Memory) => Err(StartRefusal::Memory),
+        }
     }
+}
+
+/// Why a server isn't started whose file of rules has a bad line.
+fn refuse_rule(alloc: Global, path: &str, number: u64) -> StartRefusal
+    ensures { RefusesRule path.now number result }
+{
+    match bad_rule(alloc, path, number) {
+        Ok(line) => StartRefusal::Unfit(line),
+        Err(_) => StartRefusal::Memory,
+    }
+}
+
+/// The line that names a bad line of a file of rules.
+fn bad_rule(alloc: Global, path: &str, number: u64) -> Result<Vec<u8>, AllocError>
+    ensures { IfOk result (λ line. line.items ≡ bad_rule_line path.now number) }
+{
+    let number = format!(in alloc; "{number}")?;
+    let mut line = Vec::new(alloc);
+    line.extend_from_slice(path.as_bytes())?;
+    line.extend_from_slice(b":")?;
+    line.extend_from_slice(number.as_bytes())?;
+    line.extend_from_slice(WANTED.as_bytes())?;
+    Ok(line)
 }
 
 impl<N: Network> Network for FilteredNetwork<N> {

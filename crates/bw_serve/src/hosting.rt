@@ -7,6 +7,7 @@ use crate::refusing::{report_end, report_unbound};
 use crate::serving::{Bounds, run_event_loop};
 use bw_console::Exit;
 use bw_exchange::{Metered, Turns};
+use bw_operators::AllowList;
 use bw_ports::{ListenerSetup, Reactor};
 use bw_stream::Sink;
 use std::alloc::Global;
@@ -21,6 +22,8 @@ pub struct Hosting<'a> {
     pub folder: &'a str,
     /// How many exchanges are served, how many at once, and how long a connection may be silent.
     pub bounds: Bounds,
+    /// Which names may come from which addresses.
+    pub allow: &'a AllowList,
     /// Whether each connection is logged.
     pub log: bool,
 }
@@ -56,6 +59,7 @@ pub fn serve_at_once<N: ListenerSetup, T: Turns + Drop, O: Sink, E: Sink>(
         address,
         folder,
         bounds,
+        allow,
         log,
     } = *hosting;
     let mut reactor = match network.reactor(address, folder, bounds.places) {
@@ -67,6 +71,15 @@ pub fn serve_at_once<N: ListenerSetup, T: Turns + Drop, O: Sink, E: Sink>(
         return exit;
     }
     let mut server = Metered::new(server);
-    let exit = run_event_loop(alloc, &mut server, &mut reactor, &bounds, log, out, faults);
+    let exit = run_event_loop(
+        alloc,
+        &mut server,
+        &mut reactor,
+        &bounds,
+        allow,
+        log,
+        out,
+        faults,
+    );
     report_end(exit, faults)
 }

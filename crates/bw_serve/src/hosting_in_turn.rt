@@ -7,6 +7,7 @@ use crate::refusing::{report_end, report_unbound};
 use crate::serving_in_turn::serve_run;
 use bw_console::Exit;
 use bw_exchange::{Metered, Turns};
+use bw_operators::AllowList;
 use bw_ports::{Network, Peers};
 use bw_stream::Sink;
 use std::alloc::Global;
@@ -23,6 +24,8 @@ pub struct Serving<'a> {
     pub exchanges: u64,
     /// How many seconds it waits for a peer; without limit if `None`.
     pub timeout: Option<u32>,
+    /// Which names may come from which addresses.
+    pub allow: &'a AllowList,
     /// Whether each link is logged.
     pub log: bool,
 }
@@ -49,7 +52,7 @@ pub fn serve_in_turn<N: Network, T: Turns + Drop, O: Sink, E: Sink>(
     out: &mut O,
     faults: &mut E,
 ) -> Exit
-    ensures { ServesInTurn T.answers T.commits N.Peers.Peers N.Peers.Reader.Source
+    ensures { ServesInTurn T.answers T.committed T.commits N.Peers.Peers N.Peers.Reader.Source
         N.Peers.Writer.Sink O.Sink E.Sink N.Network serving.now opened result network.old network.new
         out.old out.new faults.old faults.new }
 {
@@ -58,6 +61,7 @@ pub fn serve_in_turn<N: Network, T: Turns + Drop, O: Sink, E: Sink>(
         folder,
         exchanges,
         timeout,
+        allow,
         log,
     } = *serving;
     let mut peers = match network.listen(address, folder, timeout) {
@@ -69,6 +73,15 @@ pub fn serve_in_turn<N: Network, T: Turns + Drop, O: Sink, E: Sink>(
         return exit;
     }
     let mut server = Metered::new(server);
-    let exit = serve_run(alloc, &mut server, &mut peers, exchanges, log, out, faults);
+    let exit = serve_run(
+        alloc,
+        &mut server,
+        &mut peers,
+        exchanges,
+        allow,
+        log,
+        out,
+        faults,
+    );
     report_end(exit, faults)
 }

@@ -1,7 +1,9 @@
 //! Laws of servers. Each function's contract is one; nothing runs.
+ghost use Rattle.bw_serve.specs.Guards.{GuardedRunsAreRuns};
 ghost use Rattle.bw_serve.specs.Names.{NamesStandApart};
 ghost use Rattle.bw_serve.specs.Openings.{HeldServersLeave};
 
+use bw_exchange::Turns;
 use bw_journal::{Journal, NoJournal};
 use bw_store::TakeStore;
 
@@ -20,5 +22,12 @@ pub fn law_names<S: TakeStore>()
 pub fn law_held_runs<S: TakeStore, J: Journal>()
     ensures { HeldServersLeave S.TakeStore J.Journal }
 {
-    bw_engine::laws::law_server_runs::<S, J>();
+    bw_session::laws::law_server_runs::<S, J>();
 }
+
+/// What a server answered that is given only what its peers may say is a run of that server, without
+/// what was turned away: that was answered `TableFull`, or `Next`, with next 0, and its name isn't
+/// allowed from its peer. Where all is allowed, all of it is a run.
+pub fn law_guarded<T: Turns>()
+    ensures { GuardedRunsAreRuns T.answers T.committed }
+{}

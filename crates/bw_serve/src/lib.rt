@@ -12,6 +12,7 @@ mod filtered_network;
 mod filtered_peers;
 mod filtered_reactor;
 mod filtered_reader;
+mod guarded;
 mod hosting;
 mod hosting_in_turn;
 pub mod laws;
@@ -28,7 +29,7 @@ mod serving_in_turn;
 mod serving_one;
 
 pub use filtered_link::FilteredLink;
-pub use filtered_network::{FilteredNetwork, ServeRules};
+pub use filtered_network::{FilteredNetwork, ServeChoice, ServeRules};
 pub use filtered_peers::FilteredPeers;
 pub use filtered_reactor::FilteredReactor;
 pub use filtered_reader::FilteredReader;

@@ -5,7 +5,7 @@ ghost use Rattle.bw_exchange.specs.LinkCounts.{none_counted};
 ghost use Rattle.bw_exchange.specs.MeteredServers.{metered_server, metered_counts};
 ghost use Rattle.bw_serve.specs.LinkLines.{Logs, peer_line};
 ghost use Rattle.bw_serve.specs.Lines.{name_of_connection_end};
-ghost use Rattle.bw_serve.specs.PeerSlots.{LogsAt, SwapsAt};
+ghost use Rattle.bw_serve.specs.PeerSlots.{HasAddressAt, LogsAt, SwapsAt};
 
 use crate::line::name_of;
 use crate::reporting::report_link;
@@ -83,6 +83,14 @@ pub(crate) fn empty_peer_slots(alloc: Global, places: usize) -> Result<Vec<PeerS
         peer_slots.push(PeerSlot::new(nowhere))?;
     }
     Ok(peer_slots)
+}
+
+/// The address of the peer at a place.
+pub(crate) fn address_at(peer_slots: &[PeerSlot], place: usize) -> SocketAddr
+    requires { place < length peer_slots.now }
+    ensures { HasAddressAt place peer_slots.now result }
+{
+    peer_slots[place].address
 }
 
 /// Puts a peer at a place.

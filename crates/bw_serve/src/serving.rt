@@ -7,12 +7,14 @@ ghost use Rattle.bw_serve.specs.EventLoops.{HasPeerSlots};
 ghost use Rattle.bw_serve.specs.Observations.{ObservesRun};
 ghost use Rattle.bw_serve.specs.Rounds.{IsShut, ServesRoundTo, goes_on_after, patience_of};
 ghost use Rattle.bw_serve.specs.EventLoopRuns.{RunsEventLoop};
+ghost use Rattle.bw_serve.specs.Guards.{Guarded};
 ghost use Rattle.bw_exchange.specs.MeteredServers.{metered_server};
 
 use crate::event_loop::{EventLoop, Round, Shut};
 use crate::observing::{NoRoundObserver, RoundObserver};
 use bw_console::Exit;
 use bw_exchange::{MESSAGE_PIECE, Metered, NotKept, Turns};
+use bw_operators::AllowList;
 use bw_ports::Reactor;
 use bw_stream::Sink;
 use std::alloc::Global;
@@ -43,6 +45,9 @@ pub struct Bounds {
 /// Each link that the reactor gives is at the place for which it was given, or over; one for which
 /// memory is refused is closed and counted.
 ///
+/// A message whose name `allow` doesn't allow from its peer's address is answered `TableFull`, and
+/// an ask `Next`, both with next 0, and the server isn't given it.
+///
 /// With `log` each connection that is over is a line on `faults` too: `peer ADDRESS names NAME..
 /// end END messages N bytes N`, with the first eight names of its messages. If memory is refused
 /// for the line, it is left out.
@@ -56,18 +61,21 @@ pub fn run_event_loop<B: Reactor, T: Turns, O: Sink, E: Sink>(
     server: &mut Metered<T>,
     reactor: &mut B,
     bounds: &Bounds,
+    allow: &AllowList,
     log: bool,
     out: &mut O,
     faults: &mut E,
 ) -> Exit
     requires { T.committed (metered_server server.old) }
     // A round: a wait of 250 ms at most, new peers at free places, a quantum a place, a commit.
-    ensures { RunsEventLoop B.Reactor B.Link.Link T.answers T.commits O.Sink E.Sink log bounds.now result
-        (metered_server server.old) (metered_server server.new) reactor.old reactor.new out.old
-        out.new faults.old faults.new }
+    ensures { RunsEventLoop B.Reactor B.Link.Link (Guarded T.answers allow.now) T.commits O.Sink E.Sink log
+        bounds.now result (metered_server server.old) (metered_server server.new) reactor.old
+        reactor.new out.old out.new faults.old faults.new }
 {
     let observer = &mut NoRoundObserver;
-    run_observed(alloc, server, reactor, bounds, log, observer, out, faults)
+    run_observed(
+        alloc, server, reactor, bounds, allow, log, observer, out, faults,
+    )
 }
 
 /// The same, while an observer is shown the server after each round that ended well.
@@ -76,18 +84,19 @@ pub fn run_observed<B: Reactor, T: Turns, V: RoundObserver<T>, O: Sink, E: Sink>
     server: &mut Metered<T>,
     reactor: &mut B,
     bounds: &Bounds,
+    allow: &AllowList,
     log: bool,
     observer: &mut V,
     out: &mut O,
     faults: &mut E,
 ) -> Exit
     requires { T.committed (metered_server server.old) }
-    ensures runs { RunsEventLoop B.Reactor B.Link.Link T.answers T.commits O.Sink E.Sink log bounds.now result
-        (metered_server server.old) (metered_server server.new) reactor.old reactor.new out.old
-        out.new faults.old faults.new }
+    ensures runs { RunsEventLoop B.Reactor B.Link.Link (Guarded T.answers allow.now) T.commits O.Sink E.Sink
+        log bounds.now result (metered_server server.old) (metered_server server.new) reactor.old
+        reactor.new out.old out.new faults.old faults.new }
     // Nothing else happens to the observer.
-    ensures observed { ObservesRun B.Reactor B.Link.Link T.answers T.commits O.Sink E.Sink log V.looks
-        bounds.now result (metered_server server.old) (metered_server server.new) reactor.old
+    ensures observed { ObservesRun B.Reactor B.Link.Link (Guarded T.answers allow.now) T.commits O.Sink
+        E.Sink log V.looks bounds.now result (metered_server server.old) (metered_server server.new) reactor.old
         reactor.new out.old out.new faults.old faults.new observer.old observer.new }
 {
     let Ok(mut event_loop) = EventLoop::new(alloc, bounds.places) else {
@@ -107,6 +116,7 @@ pub fn run_observed<B: Reactor, T: Turns, V: RoundObserver<T>, O: Sink, E: Sink>
             server,
             reactor,
             bounds,
+            allow,
             log,
             &mut buffer,
             out,
@@ -152,6 +162,7 @@ fn serve_round<B: Reactor, T: Turns, O: Sink, E: Sink>(
     server: &mut Metered<T>,
     reactor: &mut B,
     bounds: &Bounds,
+    allow: &AllowList,
     log: bool,
     buffer: &mut Vec<u8>,
     out: &mut O,
@@ -161,13 +172,12 @@ fn serve_round<B: Reactor, T: Turns, O: Sink, E: Sink>(
     requires committed { T.committed (metered_server server.old) }
     requires begun { begun_of event_loop.old.connections ≤ bounds.now.exchanges }
     requires peer_slots { HasPeerSlots event_loop.old }
-    ensures round { IfOk result (λ kept. ServesRoundTo B.Reactor B.Link.Link T.answers T.commits O.Sink
-        E.Sink log kept bounds.now.idle bounds.now.exchanges event_loop.old event_loop.new
-        (metered_server server.old)
-        (metered_server server.new) reactor.old reactor.new out.old out.new faults.old faults.new) }
+    ensures round { IfOk result (λ kept. ServesRoundTo B.Reactor B.Link.Link (Guarded T.answers allow.now)
+        T.commits O.Sink E.Sink log kept bounds.now.idle bounds.now.exchanges event_loop.old
+        event_loop.new (metered_server server.old) (metered_server server.new) reactor.old reactor.new out.old out.new faults.old faults.new) }
     ensures shut { OnErr result (IsShut B.Reactor B.Link.Link event_loop.old event_loop.new
-        (metered_server server.old)
-        (metered_server server.new) reactor.old reactor.new out.old out.new faults.old faults.new) }
+        (metered_server server.old) (metered_server server.new) reactor.old reactor.new out.old out.new
+        faults.old faults.new) }
     ensures committed { T.committed (metered_server server.new) }
     ensures begun { begun_of event_loop.new.connections ≤ bounds.now.exchanges }
     ensures count { B.failures reactor.new ≡ failures_after result (B.failures reactor.old) }
@@ -182,10 +192,11 @@ fn serve_round<B: Reactor, T: Turns, O: Sink, E: Sink>(
     let now = reactor.now();
     event_loop.welcome(alloc, reactor, bounds.exchanges, now)?;
     let round = Round {
-        now,
+        time: now,
         idle: bounds.idle,
+        allow,
         log,
     };
-    event_loop.serve_each(alloc, server, buffer.as_mut_slice(), round, out, faults);
+    event_loop.serve_each(alloc, server, buffer.as_mut_slice(), &round, out, faults);
     Ok(event_loop.commit(alloc, server, log, out, faults))
 }

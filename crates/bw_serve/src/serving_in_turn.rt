@@ -2,13 +2,16 @@
 ghost use Rattle.std.specs.Prelude.{◌≡◌};
 ghost use Rattle.bw_serve.specs.ServedAll.{ServedOutcome, Served, ServesNext, ServesPeer};
 ghost use Rattle.bw_serve.specs.ServedAll.{ServesRun};
+ghost use Rattle.bw_serve.specs.Guards.{GuardedOverCommits};
 ghost use Rattle.bw_serve.specs.ServedAll.{exit_now, lacks_sync};
 ghost use Rattle.bw_exchange.specs.MeteredServers.{metered_server};
 
+use crate::guarded::{Gate, serve_guarded};
 use crate::reporting::report_link;
-use crate::serving_one::{Ended, serve_link};
+use crate::serving_one::Ended;
 use bw_console::Exit;
 use bw_exchange::{ExchangeEnd, Metered, NotKept, Turns, end_name};
+use bw_operators::AllowList;
 use bw_ports::{AcceptFault, Peer, Peers};
 use bw_stream::{Sink, Source};
 use std::alloc::Global;
@@ -19,6 +22,9 @@ use std::alloc::Global;
 /// If an exchange breaks off, its line can't be written or its peer leaves before it is accepted,
 /// only that exchange ends, and it counts. `Done` after the last one; `Memory` if memory was refused
 /// to one; `Device` if no more peers are accepted, or a sync failed in a commit.
+///
+/// A message whose name `allow` doesn't allow from its peer's address is answered `TableFull`, and
+/// an ask `Next`, both with next 0, and the server isn't given it.
 ///
 /// With `log` each link is a line on `faults` too: `peer ADDRESS names NAME.. end END messages N
 /// bytes N`, with the first eight names of its messages.
@@ -31,16 +37,17 @@ pub fn serve_run<P: Peers, T: Turns, O: Sink, E: Sink>(
     server: &mut Metered<T>,
     peers: &mut P,
     exchanges: u64,
+    allow: &AllowList,
     log: bool,
     out: &mut O,
     faults: &mut E,
 ) -> Exit
-    ensures { ServesRun T.answers T.commits P.Peers P.Reader.Source P.Writer.Sink O.Sink E.Sink log exchanges
-        result (metered_server server.old) (metered_server server.new) peers.old peers.new out.old
-        out.new faults.old faults.new }
+    ensures { ServesRun (GuardedOverCommits T.answers T.committed allow.now) T.commits P.Peers
+        P.Reader.Source P.Writer.Sink O.Sink E.Sink log exchanges result (metered_server server.old)
+        (metered_server server.new) peers.old peers.new out.old out.new faults.old faults.new }
 {
     for index in 0..exchanges {
-        if let Some(exit) = serve_next(alloc, server, peers, index, log, out, faults) {
+        if let Some(exit) = serve_next(alloc, server, peers, index, allow, log, out, faults) {
             return exit;
         }
     }
@@ -53,21 +60,22 @@ fn serve_next<P: Peers, T: Turns, O: Sink, E: Sink>(
     server: &mut Metered<T>,
     peers: &mut P,
     index: u64,
+    allow: &AllowList,
     log: bool,
     out: &mut O,
     faults: &mut E,
 ) -> Option<Exit>
     ensures { (outcome : ServedOutcome) × (result ≡ exit_now outcome)
-        × ServesNext T.answers T.commits P.Peers P.Reader.Source P.Writer.Sink O.Sink E.Sink log index outcome
-        (metered_server server.old) (metered_server server.new) peers.old peers.new out.old out.new
-        faults.old faults.new }
+        × ServesNext (GuardedOverCommits T.answers T.committed allow.now) T.commits P.Peers
+        P.Reader.Source P.Writer.Sink O.Sink E.Sink log index outcome (metered_server server.old)
+        (metered_server server.new) peers.old peers.new out.old out.new faults.old faults.new }
 {
     let peer = match peers.accept() {
         Ok(peer) => peer,
         Err(AcceptFault::Gone) => return None,
         Err(AcceptFault::Closed) => return Some(Exit::Device),
     };
-    let ended = serve_peer(alloc, server, peer, index, log, out, faults);
+    let ended = serve_peer(alloc, server, peer, index, allow, log, out, faults);
     end_after(ended)
 }
 
@@ -77,19 +85,24 @@ fn serve_peer<R: Source + Drop, W: Sink + Drop, T: Turns, O: Sink, E: Sink>(
     server: &mut Metered<T>,
     peer: Peer<R, W>,
     index: u64,
+    allow: &AllowList,
     log: bool,
     out: &mut O,
     faults: &mut E,
 ) -> Ended
-    ensures { ServesPeer T.answers T.commits R.Source W.Sink O.Sink E.Sink log index
-        result.end result.exit peer
-        (metered_server server.old) (metered_server server.new) out.old out.new faults.old
-        faults.new }
+    ensures { ServesPeer (GuardedOverCommits T.answers T.committed allow.now) T.commits R.Source W.Sink
+        O.Sink E.Sink log index result.end result.exit peer (metered_server server.old)
+        (metered_server server.new) out.old out.new faults.old faults.new }
 {
     let Peer { address, mut link } = peer;
     server.start();
-    let ended = serve_link(
+    let gate = Gate {
+        allow,
+        peer: address,
+    };
+    let ended = serve_guarded(
         alloc,
+        &gate,
         server,
         &mut link.reader,
         &mut link.writer,

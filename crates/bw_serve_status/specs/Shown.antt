@@ -14,6 +14,7 @@ use Rattle.bw_operators.specs.declared.port.StatusPort.{Ghosts as PortGhosts}
 use Rattle.bw_operators.specs.declared.port.StatusSetup.{Ghosts as StatusGhosts}
 use Rattle.bw_serve.specs.Beginnings.{AsksOutside, Calls, ReportsUnbound, counted_calls, reactor_calls}
 use Rattle.bw_serve.specs.EventLoopRuns.{RunsEventLoop, answered_in_loop}
+use Rattle.bw_serve.specs.Guards.{FromPeer, Guarded}
 use Rattle.bw_serve.specs.Hostings.{ServesInWay, WayToServe}
 use Rattle.bw_serve.specs.Observations.{left_in_run}
 use Rattle.bw_serve.specs.Openings.{opening_lines}
@@ -45,12 +46,15 @@ module _ {T N B L O E P K : Type 0} (answers : T → Frame → List Reply → T 
   -- many recorders at once, while operators at this port are shown each round
   abbrev pub way_shown : Hosting → Option ℕ → P → WayToServe T B O E
   way_shown hosting takes opened_port = record {
-    runs = λ ended t t' b b' o o' e e'. (run : RunsEventLoop reactor link answers commits out reported
-        hosting.log hosting.bounds ended t t' b b' o o' e e')
-        × ShowsEachRound answers holds side.port side.link opened_port takes t (left_in_run reactor link
-        answers commits out reported hosting.log hosting.bounds ended t t' b b' o o' e e' run);
-    answered = λ ended t t' b b' o o' e e' ran. answered_in_loop reactor link answers commits out
-        reported hosting.log hosting.bounds ended t t' b b' o o' e e' ran.0;
+    runs = λ ended t t' b b' o o' e e'. (run : RunsEventLoop reactor link
+        (Guarded answers hosting.allow.now) commits out reported hosting.log hosting.bounds ended t t' b b' o
+        o' e e')
+        × ShowsEachRound answers holds hosting.allow.now side.port side.link opened_port takes t
+        (left_in_run reactor link (Guarded answers hosting.allow.now) commits out reported hosting.log
+        hosting.bounds ended t t' b b' o o' e e' run);
+    answered = λ ended t t' b b' o o' e e' ran. answered_in_loop reactor link
+        (Guarded answers hosting.allow.now) commits out reported hosting.log hosting.bounds ended t t' b b' o
+        o' e e' ran.0;
   }
 
   -- the reactor is asked for, and a port for operators beside it, and then it is served so
@@ -59,7 +63,7 @@ module _ {T N B L O E P K : Type 0} (answers : T → Frame → List Reply → T 
   ServesShown setup showing opened exit n n' o o' e e' =
       AsksOutside (reactor_calls setup showing.hosting) (ReportsUnbound reported showing.hosting.address)
       (λ b between. AsksOutside (port_calls side.setup showing b) (ReportsUnbound reported showing.status)
-      (λ p after. (n' ≡ after) × ServesInWay (way_shown showing.hosting opened.takes p) answers out
-      reported
+      (λ p after. (n' ≡ after) × ServesInWay (way_shown showing.hosting opened.takes p)
+      (FromPeer (Guarded answers showing.hosting.allow.now)) out reported
       (opening_lines opened.takes showing.hosting.address) exit opened.server b o o' e e')
       exit between n' o o' e e') exit n n' o o' e e'

@@ -51,7 +51,7 @@ pub fn serve_shown<
     faults: &mut E,
 ) -> Exit
     requires { T.committed opened.server }
-    // Each round is looked at once, with the counts of all that was answered until then.
+    // Each round is looked at once, with the counts of all that the server itself answered until then.
     ensures { ServesShown T.answers T.commits T.holds N.Reactor.Reactor N.Reactor.Link.Link O.Sink E.Sink
         (status_side N.StatusSetup N.Port.StatusPort N.Port.Link.Link) N.ListenerSetup showing.now opened
         result network.old network.new out.old out.new faults.old faults.new }
@@ -78,6 +78,7 @@ pub fn serve_shown<
         &mut server,
         &mut reactor,
         &hosting.bounds,
+        hosting.allow,
         hosting.log,
         &mut observer,
         out,

@@ -6,8 +6,10 @@ ghost use Rattle.bw_serve_status.specs.Tallies.{none_tallied, tallied, tallied_r
 use crate::tallies::Tallies;
 use arrayvec::ArrayVec;
 use bw_exchange::{NotKept, Turns};
+use bw_model::Name;
 use bw_wire::{Ask, Message, Reply};
 use std::alloc::{AllocError, Global};
+use std::net::SocketAddr;
 
 /// A server, and what it was sent and replied.
 #[derive(Drop)]
@@ -70,6 +72,11 @@ impl<T: Turns> Turns for Tallied<T> {
 
     fn commit(&mut self) -> Result<(), NotKept> {
         self.server.commit()
+    }
+
+    /// Tells the server. What was turned away before it came isn't counted here.
+    fn note_refused(&mut self, peer: SocketAddr, name: &Name) {
+        self.server.note_refused(peer, name);
     }
 }
 

@@ -37,3 +37,10 @@ pub mod ForgetLaws
 pub mod InsertLaws
 pub mod TableForms
 pub mod OutsideForms
+mod DoneCounts
+mod ServedRuns
+mod InputSteps
+pub mod GoodExchanges
+pub mod StoreRuns
+mod FirstFrames
+mod ServedInputs

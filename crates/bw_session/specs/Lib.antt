@@ -29,3 +29,5 @@ pub mod ConsecutiveCalls
 pub mod NumberPromises
 pub mod Promises
 pub mod TableChanges
+pub mod ServerRuns
+pub mod IngestRuns

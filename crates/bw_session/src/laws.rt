@@ -1,6 +1,7 @@
 //! Laws of the definitions on which servers of many names rely.
 ghost use Rattle.bw_model.specs.Turn.{IsolatesEachName};
 ghost use Rattle.bw_session.specs.Books.{QuietBooksAreInOrder, WaitingNumbersAreInOrder};
+ghost use Rattle.bw_session.specs.ServerRuns.{ServersAnswerInRuns};
 ghost use Rattle.bw_session.specs.QuietTurns.{SettledTurnsMeetNoFaults};
 ghost use Rattle.bw_session.specs.TableChanges.{NamesOutsideMayChange};
 
@@ -34,4 +35,10 @@ pub fn law_order<S: TakeStore, J: Journal>()
 /// server holds the same book, over a store that began with what lies there now.
 pub fn law_outside<S: TakeStore, J: Journal>()
     ensures { NamesOutsideMayChange S.TakeStore J.Journal }
+{}
+
+/// What a server answers, one frame after another, is a run from each book that it holds.
+pub fn law_server_runs<S: TakeStore, J: Journal>()
+    // Each frame has at most 17 replies and one more failure, which DelayedStore needs.
+    ensures { ServersAnswerInRuns S.TakeStore J.Journal }
 {}

@@ -1,4 +1,4 @@
-//! Sessions: what a server keeps of each name.
+//! Sessions: what a server keeps of each name; and a server's whole run over memory.
 //! Not stated: contents over a store that isn't honest.
 #![tactic(auto)]
 
@@ -8,6 +8,7 @@ mod borrowing;
 mod counting;
 mod drains;
 mod execution;
+mod ingest;
 mod keeping;
 mod kept_take;
 pub mod laws;
@@ -27,6 +28,7 @@ mod table;
 mod window;
 mod writing;
 
+pub use ingest::{Run, RunFault, ingest_run};
 pub use kept_take::KeptTake;
 pub use lending::StoresVisitor;
 pub use server::Server;

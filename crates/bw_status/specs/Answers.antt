@@ -83,7 +83,8 @@ whole_answer content = record { content = content; part = Whole }
 
 -- the bytes are answered as the request that they begin with
 abbrev pub IsReadable : List ℕ → Answer → Type 0
-IsReadable held a = (h : RequestHead) × (rest : List ℕ) × ReadsRequest held h rest × (a ≡ request_answer h)
+IsReadable held a = (h : RequestHead) × (rest : List ℕ) × ReadsRequest held h rest
+    × (a ≡ request_answer h)
 
 -- they are too many, or every request that they may begin has too many fields
 abbrev pub IsTooLarge : List ℕ → Answer → Type 0

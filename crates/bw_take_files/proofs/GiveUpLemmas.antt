@@ -1,5 +1,5 @@
 -- The paths of a take's files, and where they go if it is given up.
-use Rattle.std.proofs.Common.{◌≡◌, ◌≢◌, ℕ, List, ◌++◌, length, ap, arith, length-append}
+use Rattle.std.proofs.Common.{◌≢◌, ℕ, List, ◌++◌, length, ap, arith, length-append}
 use Rattle.std.specs.Prelude.{codes}
 use Rattle.bw_recovery.specs.Paths.{path_with}
 use Rattle.bw_take_files.specs.GivenUp.{paths_in, AreTakePathsApart}

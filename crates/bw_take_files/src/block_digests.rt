@@ -1,6 +1,8 @@
 //! Digests of blocks, made in the lanes of vectors before they are asked for.
-ghost use Rattle.std.specs.Prelude.{◌≡◌, ◌≤◌, ◌+◌, ◌*◌, IsTrue, IfSome, List, ℕ, Some, length};
+ghost use Rattle.std.specs.Prelude.{◌≡◌, ◌≤◌, ◌+◌, ◌*◌, IsTrue, IfOk, IfSome, List, ℕ, Some, length};
+ghost use Rattle.bw_store.specs.Stores.{Counts};
 ghost use Rattle.bw_disk.specs.DiskSteps.{StaysWhole};
+ghost use Rattle.bw_disk.specs.ReadFaults.{is_disk_fault};
 ghost use Rattle.bw_model.specs.Bytes.{zeros as zero_bytes};
 ghost use Rattle.bw_model.specs.Limits.{longest_block, longest_body};
 ghost use Rattle.bw_take_files.specs.BlockDigests.{block_digest_at, AreBlockDigestsIn, KeepsBlockDigests};
@@ -8,7 +10,7 @@ ghost use Rattle.bw_take_files.specs.BlockDigests.{block_digest_at, AreBlockDige
 use crate::bodies::{bodies_in, read_bodies};
 use crate::stored_block::{EntryPlace, JournalRef, StoredBlock, fills_lanes, next_blocks};
 use bw_digest::{LANES, digests};
-use bw_disk::Volume;
+use bw_disk::{ReadFault, Volume};
 
 /// Blocks, and the digest of the body of each one's message.
 #[derive(Clone, Copy)]
@@ -44,8 +46,6 @@ fn is_same(first: StoredBlock, second: StoredBlock) -> bool
 pub(crate) struct ReadAhead {
     /// The digests, if they were made.
     pub(crate) known: Option<BlockDigests>,
-    /// The number of a block whose samples couldn't be read.
-    pub(crate) failed: Option<u32>,
     /// The number of the first entry that wasn't looked at.
     pub(crate) until: u32,
 }
@@ -57,7 +57,6 @@ impl ReadAhead {
     {
         ReadAhead {
             known: None,
-            failed: None,
             until: 0,
         }
     }
@@ -72,18 +71,13 @@ impl ReadAhead {
             None => None,
         }
     }
-
-    /// Whether the samples of a number couldn't be read.
-    pub(crate) fn has_failed(&self, number: u32) -> bool {
-        match self.failed {
-            Some(failed) => failed == number,
-            None => false,
-        }
-    }
 }
 
 /// Reads the next blocks from an entry on and makes their digests, if this entry wasn't looked at
 /// and hashing them at once is faster.
+///
+/// # Errors
+/// `Disk` if a call of the disk failed.
 pub(crate) fn read_ahead<D: Volume>(
     disk: &mut D,
     file: &mut D::File,
@@ -91,42 +85,31 @@ pub(crate) fn read_ahead<D: Volume>(
     from: EntryPlace,
     before: ReadAhead,
     room: &mut [u8],
-) -> ReadAhead
+) -> Result<ReadAhead, ReadFault>
     requires zeros { journal.now.zeros.now ≡ zero_bytes longest_block }
     requires within { from.start ≤ length journal.now.bytes.now }
     requires near { from.offset ≤ 4786 + longest_block * from.number }
     requires room { length room.old ≡ 8 * longest_body }
+    ensures failures { Counts (D.failures disk.old) (D.failures disk.new) (is_disk_fault result) }
     ensures disk { StaysWhole D.Disk disk.old disk.new }
     ensures path { D.path_of file.new ≡ D.path_of file.old }
     ensures room { length room.new ≡ length room.old }
-    ensures known { IsTrue (D.honest disk.old) → (found : List ℕ) →
+    ensures known { IsTrue (D.honest disk.old) → IfOk result (λ ahead. (found : List ℕ) →
         D.contents disk.old (D.path_of file.old) ≡ Some found →
         KeepsBlockDigests journal.now.name.now found before.known →
-        KeepsBlockDigests journal.now.name.now found result.known }
+        KeepsBlockDigests journal.now.name.now found ahead.known) }
 {
     if from.number < before.until {
-        return before;
+        return Ok(before);
     }
     let (blocks, until) = next_blocks(journal, from);
     if !fills_lanes(&blocks) {
-        return ReadAhead {
-            until,
-            ..ReadAhead::new()
-        };
+        return Ok(ReadAhead { known: None, until });
     }
-    match read_bodies(disk, file, journal.name, &blocks, room) {
-        Ok(lens) => {
-            let digests = digests(&bodies_in(room, &lens));
-            ReadAhead {
-                known: Some(BlockDigests { blocks, digests }),
-                failed: None,
-                until,
-            }
-        }
-        Err(number) => ReadAhead {
-            known: None,
-            failed: Some(number),
-            until,
-        },
-    }
+    let lens = read_bodies(disk, file, journal.name, &blocks, room)?;
+    let digests = digests(&bodies_in(room, &lens));
+    Ok(ReadAhead {
+        known: Some(BlockDigests { blocks, digests }),
+        until,
+    })
 }

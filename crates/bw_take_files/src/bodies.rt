@@ -1,7 +1,9 @@
 //! The bodies of messages, made anew with the samples that a take's file has.
 ghost use Rattle.std.specs.Prelude.{◌≡◌, ◌≤◌, ◌<◌, ◌+◌, ◌*◌, ◌^◌, ◌++◌, IsTrue, IfOk, List, ℕ};
 ghost use Rattle.std.specs.Prelude.{Some, length, take, drop, slice_index};
+ghost use Rattle.bw_store.specs.Stores.{Counts};
 ghost use Rattle.bw_disk.specs.DiskSteps.{StaysWhole};
+ghost use Rattle.bw_disk.specs.ReadFaults.{is_disk_fault};
 ghost use Rattle.bw_model.specs.Holds.{body_of};
 ghost use Rattle.bw_model.specs.Limits.{longest_body};
 ghost use Rattle.bw_model.specs.Take.{Block};
@@ -21,16 +23,17 @@ pub(crate) const LONGEST_BODY: usize = 32_806;
 /// returns their lengths.
 ///
 /// # Errors
-/// The number of the first block whose samples couldn't be read.
+/// `Disk` if a call of the disk failed.
 pub(crate) fn read_bodies<D: Volume>(
     disk: &mut D,
     file: &mut D::File,
     name: &Name,
     blocks: &[StoredBlock; LANES],
     room: &mut [u8],
-) -> Result<[usize; LANES], u32>
+) -> Result<[usize; LANES], ReadFault>
     requires near { InEachLane (λ j. IsBlockNear (block_at blocks.now j)) }
     requires room { length room.old ≡ 8 * longest_body }
+    ensures failures { Counts (D.failures disk.old) (D.failures disk.new) (is_disk_fault result) }
     ensures disk { StaysWhole D.Disk disk.old disk.new }
     ensures path { D.path_of file.new ≡ D.path_of file.old }
     ensures room { length room.new ≡ length room.old }
@@ -45,9 +48,7 @@ pub(crate) fn read_bodies<D: Volume>(
         let block = block_in(blocks, lane);
         let start = lane * LONGEST_BODY;
         let part = &mut room[start..start + LONGEST_BODY];
-        let Ok(len) = read_body(disk, file, name, block, part) else {
-            return Err(block.number);
-        };
+        let len = read_body(disk, file, name, block, part)?;
         lens[lane] = len;
     }
     Ok(lens)
@@ -74,6 +75,7 @@ fn read_body<D: Volume>(
 ) -> Result<usize, ReadFault>
     requires near { IsBlockNear block }
     requires room { length room.old ≡ longest_body }
+    ensures failures { Counts (D.failures disk.old) (D.failures disk.new) (is_disk_fault result) }
     ensures disk { StaysWhole D.Disk disk.old disk.new }
     ensures path { D.path_of file.new ≡ D.path_of file.old }
     ensures room { length room.new ≡ longest_body }
@@ -126,6 +128,7 @@ pub(crate) fn read_from<D: Volume>(
     room: &mut [u8],
 ) -> Result<usize, ReadFault>
     requires offset { offset < 2 ^ 63 }
+    ensures failures { Counts (D.failures disk.old) (D.failures disk.new) (is_disk_fault result) }
     ensures disk { StaysWhole D.Disk disk.old disk.new }
     ensures path { D.path_of file.new ≡ D.path_of file.old }
     ensures room { length room.new ≡ length room.old }

@@ -1,6 +1,8 @@
 //! The digest of the samples of a take's file.
 ghost use Rattle.std.specs.Prelude.{◌≡◌, ◌≤◌, IsTrue, IfOk, List, ℕ, Some, take, drop};
+ghost use Rattle.bw_store.specs.Stores.{Counts};
 ghost use Rattle.bw_disk.specs.DiskSteps.{StaysWhole};
+ghost use Rattle.bw_disk.specs.ReadFaults.{is_disk_fault};
 ghost use Rattle.bw_model.specs.Limits.{largest};
 ghost use Rattle.bw_take_files.specs.SampleDigests.{samples_sha256, sha256_if_whole};
 
@@ -27,6 +29,7 @@ pub fn digest_samples<D: Volume>(
     path: &str,
     state: &TakeState,
 ) -> Result<Option<[u8; 32]>, ReadFault>
+    ensures failures { Counts (D.failures disk.old) (D.failures disk.new) (is_disk_fault result) }
     ensures disk { StaysWhole D.Disk disk.old disk.new }
     ensures value { IsTrue (D.honest disk.old) → IfOk result (λ digest. digest
         ≡ samples_sha256 state.now.parts (D.contents disk.old path.now)) }
@@ -52,6 +55,7 @@ fn digest_from<D: Volume>(
 ) -> Result<Option<[u8; 32]>, ReadFault>
     requires near { start ≤ 4786 }
     requires few { len ≤ largest }
+    ensures failures { Counts (D.failures disk.old) (D.failures disk.new) (is_disk_fault result) }
     ensures disk { StaysWhole D.Disk disk.old disk.new }
     ensures value { IsTrue (D.honest disk.old) → IfOk result (λ digest. (found : List ℕ) →
         D.contents disk.old (D.path_of file.old) ≡ Some found →

@@ -1,6 +1,9 @@
 //! Comparing the samples of a take's file with the digests in its journal.
-ghost use Rattle.std.specs.Prelude.{◌≡◌, ◌≤◌, ◌*◌, ◌^◌, IsTrue, IfOk, IfSome, option_map, List, ℕ, Some, length};
+ghost use Rattle.std.specs.Prelude.{◌≡◌, ◌≤◌, ◌*◌, ◌^◌, IsTrue, IsFalse, IfOk, IfSome, option_map};
+ghost use Rattle.std.specs.Prelude.{List, ℕ, Some, length};
+ghost use Rattle.bw_store.specs.Stores.{Counts};
 ghost use Rattle.bw_disk.specs.DiskSteps.{StaysWhole};
+ghost use Rattle.bw_disk.specs.ReadFaults.{is_disk_fault};
 ghost use Rattle.bw_model.specs.Bytes.{zeros as zero_bytes};
 ghost use Rattle.bw_model.specs.Limits.{longest_block, longest_body};
 ghost use Rattle.bw_journal.specs.Entries.{first_content as first_content_of};
@@ -41,6 +44,7 @@ pub fn find_changed<D: Volume>(
     journal: &[u8],
     state: &TakeState,
 ) -> Result<Option<u32>, ReadFault>
+    ensures failures { Counts (D.failures disk.old) (D.failures disk.new) (is_disk_fault result) }
     ensures disk { StaysWhole D.Disk disk.old disk.new }
     ensures value { IsTrue (D.honest disk.old) → IfOk result (λ number. number ≡ changed_in
         name.now state.now.parts journal.now (D.contents disk.old path.now)) }
@@ -73,6 +77,7 @@ fn compare_file<D: Volume>(
 ) -> Result<Option<u32>, ReadFault>
     requires few { length journal.now ≤ 2 ^ 40 }
     requires near { start ≤ 4786 }
+    ensures failures { Counts (D.failures disk.old) (D.failures disk.new) (is_disk_fault result) }
     ensures disk { StaysWhole D.Disk disk.old disk.new }
     ensures value { IsTrue (D.honest disk.old) → IfOk result (λ v. (found : List ℕ) →
         D.contents disk.old (D.path_of file.old) ≡ Some found →
@@ -91,7 +96,8 @@ fn compare_file<D: Volume>(
 
 /// This many zeros.
 fn make_zeros(alloc: Global, len: usize) -> Result<Vec<u8>, ReadFault>
-    ensures { IfOk result (λ v. v.items ≡ zero_bytes len) }
+    ensures memory { IsFalse (is_disk_fault result) }
+    ensures value { IfOk result (λ v. v.items ≡ zero_bytes len) }
 {
     match try_zeros(alloc, len) {
         Ok(zeros) => Ok(zeros),
@@ -123,6 +129,7 @@ fn first_changed<D: Volume>(
     requires few { length journal.now.bytes.now ≤ 2 ^ 40 }
     requires near { start ≤ 4786 }
     requires room { length room.old ≡ 8 * longest_body }
+    ensures failures { Counts (D.failures disk.old) (D.failures disk.new) (is_disk_fault result) }
     ensures disk { StaysWhole D.Disk disk.old disk.new }
     ensures value { IsTrue (D.honest disk.old) → IfOk result (λ v. (found : List ℕ) →
         D.contents disk.old (D.path_of file.old) ≡ Some found →
@@ -148,7 +155,7 @@ fn first_changed<D: Volume>(
             start: used,
             offset,
         };
-        ahead = read_ahead(disk, file, journal, from, ahead, room);
+        ahead = read_ahead(disk, file, journal, from, ahead, room)?;
         let block = StoredBlock {
             number,
             offset,
@@ -170,6 +177,7 @@ fn first_changed<D: Volume>(
 /// # Errors
 /// `Memory` if memory was refused.
 fn read_content(bytes: &[u8], content: &mut Vec<u8>) -> Result<Option<usize>, ReadFault>
+    ensures memory { IsFalse (is_disk_fault result) }
     ensures value { IfOk result (λ found.
         option_map (λ n. (content.new.items, n)) found ≡ first_content_of bytes.now) }
     ensures within { IfOk result (λ found. IfSome found (λ n. n ≤ length bytes.now)) }
@@ -195,6 +203,7 @@ fn is_kept<D: Volume>(
 ) -> Result<bool, ReadFault>
     requires near { IsBlockNear block }
     requires room { length room.old ≡ 8 * longest_body }
+    ensures failures { Counts (D.failures disk.old) (D.failures disk.new) (is_disk_fault result) }
     ensures disk { StaysWhole D.Disk disk.old disk.new }
     ensures path { D.path_of file.new ≡ D.path_of file.old }
     ensures room { length room.new ≡ length room.old }
@@ -224,6 +233,7 @@ fn digest_in<D: Volume>(
 ) -> Result<[u8; 32], ReadFault>
     requires near { IsBlockNear block }
     requires room { length room.old ≡ 8 * longest_body }
+    ensures failures { Counts (D.failures disk.old) (D.failures disk.new) (is_disk_fault result) }
     ensures disk { StaysWhole D.Disk disk.old disk.new }
     ensures path { D.path_of file.new ≡ D.path_of file.old }
     ensures room { length room.new ≡ length room.old }
@@ -232,9 +242,6 @@ fn digest_in<D: Volume>(
         KeepsBlockDigests name.now found ahead.now.known →
         digest ≡ block_digest_at name.now found block) }
 {
-    if ahead.has_failed(block.number) {
-        return Err(ReadFault::Disk);
-    }
     if let Some(digest) = ahead.find(block) {
         return Ok(digest);
     }

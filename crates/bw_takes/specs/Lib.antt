@@ -1,6 +1,7 @@
 pub mod TakeNames
 pub mod TakeFindings
 pub mod TakeLines
+pub mod JudgedTakes
 pub mod TakeSummaries
 pub mod TakeDigests
 pub mod TakeObjects

@@ -63,7 +63,8 @@ pub record IsFolderUnread (folder : List ℕ) (did : Outcome) : Type 0 where
   pub reads : did.reads_all ≡ true
 
 -- what the command did over a folder, where the disk is as honest as this, and has these contents
-abbrev pub IsShowing : ReportForm → Bool → List ℕ → (List ℕ → Option (List ℕ)) → Outcome → Type 0
+abbrev pub IsShowing : ReportForm → Bool → List ℕ → (List ℕ → Option (List ℕ)) →
+    Outcome → Type 0
 IsShowing form honest folder contents did =
     ShowsReport form honest folder contents did ⊎ IsFolderUnread folder did
     ⊎ IsOutOfMemory did

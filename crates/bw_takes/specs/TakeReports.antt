@@ -5,7 +5,6 @@ use Rattle.std.specs.Prelude.{codes}
 use Rattle.serde_json.specs.Written.{compact_text}
 use Rattle.bw_console.specs.Text.{as_line}
 use Rattle.bw_journal.specs.Rows.{row_count}
-use Rattle.bw_model.specs.Take.{Parts}
 use Rattle.bw_takes.specs.declared.listing.LineStyle.{LineStyle}
 use Rattle.bw_takes.specs.declared.listing.ReportForm.{ReportForm}
 use Rattle.bw_takes.specs.declared.listing.TakesReport.{TakesReport}
@@ -17,9 +16,10 @@ use Rattle.bw_recovery.specs.declared.finding.NameFault.TheVariants.{Journal, Ot
 use Rattle.bw_takes.specs.TakeLines.{next_line, numbered_line, opened_line, state_word, word_line}
 use Rattle.bw_takes.specs.TakeNames.{ListsTakes, AreNamesInOrder}
 use Rattle.bw_takes.specs.TakeObjects.{summary_with_digest}
-use Rattle.bw_takes.specs.TakeDigests.{closed_take, digest_said}
+use Rattle.bw_takes.specs.JudgedTakes.{JudgedTake, Lone, Blank, Wrong, Noted, Altered, judged_take}
+use Rattle.bw_takes.specs.TakeDigests.{closed_judged, digest_said}
 use Rattle.bw_takes.specs.TakeSummaries.{TakeSummary, Stands, Unopened, Opened, Faulty, Changed}
-use Rattle.bw_takes.specs.TakeSummaries.{is_sound_summary, story_summary, take_summary}
+use Rattle.bw_takes.specs.TakeSummaries.{is_sound_summary, summary_of}
 use Rattle.bw_takes.specs.declared.comparing.Depth.{Depth}
 use Rattle.bw_takes.specs.declared.comparing.Depth.TheVariants.{Journals, Samples}
 use Rattle.bw_takes.specs.UnreadEntries.{entry_path, unread_text}
@@ -35,13 +35,17 @@ cause_word (Journal fault) = journal_text fault
 cause_word (OtherLimit limit) = codes "OtherLimit"
 cause_word (File fault) = file_cause_text fault
 
--- what is reported of a take of which this is found
+-- what a take is judged to be of which this is found
+abbrev pub judged_finding : TakeFinding → JudgedTake
+judged_finding Stood = Lone
+judged_finding Unbegun = Blank
+judged_finding (Refused cause) = Wrong (cause_word cause)
+judged_finding (Begun r) = Noted r.state.parts (row_count r.table.items)
+judged_finding (HasChanged number) = Altered number
+
+-- what is reported of it
 abbrev pub finding_summary : TakeFinding → TakeSummary
-finding_summary Stood = Stands 0
-finding_summary Unbegun = Unopened 0
-finding_summary (Refused cause) = Faulty (cause_word cause)
-finding_summary (Begun r) = story_summary r.state.parts (row_count r.table.items)
-finding_summary (HasChanged number) = Changed number
+finding_summary found = summary_of (judged_finding found)
 
 -- its line of words, with what is said of its samples' digest
 abbrev pub summary_line : List ℕ → TakeSummary → SampleDigest → List ℕ
@@ -62,20 +66,20 @@ abbrev pub is_deep : Depth → Bool
 is_deep Journals = false
 is_deep Samples = true
 
--- what is reported of a take in a folder
-abbrev pub summary_in : Depth → List ℕ → (List ℕ → Option (List ℕ)) → List ℕ → TakeSummary
-summary_in depth folder contents name = take_summary (is_deep depth) name
+-- what a take in a folder is judged to be
+abbrev pub take_judged_in : Depth → List ℕ → (List ℕ → Option (List ℕ)) → List ℕ → JudgedTake
+take_judged_in depth folder contents name = judged_take (is_deep depth) name
     (contents (notes_path folder name)) (contents (wave_path folder name))
 
--- the take, if it is closed and nothing is wrong with it
-abbrev pub closed_in : Depth → List ℕ → (List ℕ → Option (List ℕ)) → List ℕ → Option Parts
-closed_in depth folder contents name = closed_take (is_deep depth) name
-    (contents (notes_path folder name)) (contents (wave_path folder name))
+-- what is reported of it
+abbrev pub summary_in : Depth → List ℕ → (List ℕ → Option (List ℕ)) → List ℕ → TakeSummary
+summary_in depth folder contents name = summary_of (take_judged_in depth folder contents name)
 
 -- what is said of the digest of its samples
-abbrev pub digest_in : ReportForm → List ℕ → (List ℕ → Option (List ℕ)) → List ℕ → SampleDigest
+abbrev pub digest_in : ReportForm → List ℕ → (List ℕ → Option (List ℕ)) → List ℕ →
+    SampleDigest
 digest_in form folder contents name = digest_said form.digest
-    (closed_in form.depth folder contents name) (contents (wave_path folder name))
+    (closed_judged (take_judged_in form.depth folder contents name)) (contents (wave_path folder name))
 
 -- its line
 abbrev pub line_in : ReportForm → List ℕ → (List ℕ → Option (List ℕ)) → List ℕ → List ℕ
@@ -116,7 +120,8 @@ told_after form folder contents told (name, Some entry) = record {
 }
 
 -- one more take is reported
-abbrev pub TellsTake : ReportForm → List ℕ → (List ℕ → Option (List ℕ)) → List ℕ → Told → Told →
+abbrev pub TellsTake : ReportForm → List ℕ → (List ℕ → Option (List ℕ)) → List ℕ →
+    Told → Told →
     Type 0
 TellsTake form folder contents name before after = (unread : Option TakeEntry)
     × (after ≡ told_after form folder contents before (name, unread))

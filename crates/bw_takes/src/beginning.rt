@@ -1,7 +1,9 @@
 //! Whether a file begins as the takes of this server do.
 ghost use Rattle.std.specs.Prelude.{◌≡◌, IsTrue, IfOk, false};
 ghost use Rattle.std.specs.Option.{option_map_or};
+ghost use Rattle.bw_store.specs.Stores.{Counts};
 ghost use Rattle.bw_disk.specs.DiskSteps.{StaysWhole};
+ghost use Rattle.bw_disk.specs.ReadFaults.{is_disk_fault};
 ghost use Rattle.bw_recovery.specs.Names.{begins_take};
 
 use bw_disk::{ReadFault, Volume};
@@ -18,6 +20,7 @@ pub(crate) fn is_take_at<D: Volume>(
     disk: &mut D,
     path: &str,
 ) -> Result<bool, ReadFault>
+    ensures failures { Counts (D.failures disk.old) (D.failures disk.new) (is_disk_fault result) }
     ensures disk { StaysWhole D.Disk disk.old disk.new }
     ensures value { IsTrue (D.honest disk.old) → IfOk result (λ v.
         v ≡ option_map_or begins_take (D.contents disk.old path.now) false) }

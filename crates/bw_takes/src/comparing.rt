@@ -1,12 +1,13 @@
 //! What is found of a take, as far as it is to be looked at.
 ghost use Rattle.std.specs.Prelude.{◌≡◌, IsTrue, IfOk};
+ghost use Rattle.bw_store.specs.Stores.{Counts};
 ghost use Rattle.bw_disk.specs.DiskSteps.{StaysWhole};
+ghost use Rattle.bw_disk.specs.ReadFaults.{is_disk_fault};
 ghost use Rattle.bw_journal.specs.Rows.{row_count};
 ghost use Rattle.bw_recovery.specs.Paths.{wave_path, notes_path};
 ghost use Rattle.bw_takes.specs.TakeFindings.{IsTakeFound};
-ghost use Rattle.bw_takes.specs.TakeDigests.{closed_unless, found_closed};
-ghost use Rattle.bw_takes.specs.TakeReports.{closed_in, finding_summary, summary_in};
-ghost use Rattle.bw_takes.specs.TakeSummaries.{changed_beside, checked_summary, story_summary};
+ghost use Rattle.bw_takes.specs.JudgedTakes.{changed_beside, noted_unless};
+ghost use Rattle.bw_takes.specs.TakeReports.{judged_finding, take_judged_in};
 
 use crate::finding::{TakeFinding, look_at_take};
 use bw_disk::{ReadFault, Volume, read_file};
@@ -46,13 +47,11 @@ pub fn examine_take<D: Volume>(
     name: &Name,
     depth: Depth,
 ) -> Result<TakeFinding, ReadFault>
+    ensures failures { Counts (D.failures disk.old) (D.failures disk.new) (is_disk_fault result) }
     ensures disk { StaysWhole D.Disk disk.old disk.new }
     // The fault of a start, or what the journal says; then the first number that isn't there.
-    ensures found { IsTrue (D.honest disk.old) → IfOk result (λ found. finding_summary found
-        ≡ summary_in depth folder.now (D.contents disk.old) name.now) }
-    // The take, if it is closed and nothing is wrong with it.
-    ensures closed { IsTrue (D.honest disk.old) → IfOk result (λ found. found_closed found
-        ≡ closed_in depth folder.now (D.contents disk.old) name.now) }
+    ensures found { IsTrue (D.honest disk.old) → IfOk result (λ found. judged_finding found
+        ≡ take_judged_in depth folder.now (D.contents disk.old) name.now) }
 {
     let found = look_at_take(alloc, disk, folder, name)?;
     match depth {
@@ -69,15 +68,12 @@ fn compare<D: Volume>(
     name: &Name,
     found: TakeFinding,
 ) -> Result<TakeFinding, ReadFault>
+    ensures failures { Counts (D.failures disk.old) (D.failures disk.new) (is_disk_fault result) }
     ensures disk { StaysWhole D.Disk disk.old disk.new }
     ensures found { IsTrue (D.honest disk.old) → IfOk result (λ after.
         IsTakeFound name.now (D.contents disk.old (notes_path folder.now name.now))
         (D.contents disk.old (wave_path folder.now name.now)) found →
-        finding_summary after ≡ summary_in Depth.Samples folder.now (D.contents disk.old) name.now) }
-    ensures closed { IsTrue (D.honest disk.old) → IfOk result (λ after.
-        IsTakeFound name.now (D.contents disk.old (notes_path folder.now name.now))
-        (D.contents disk.old (wave_path folder.now name.now)) found →
-        found_closed after ≡ closed_in Depth.Samples folder.now (D.contents disk.old) name.now) }
+        judged_finding after ≡ take_judged_in Depth.Samples folder.now (D.contents disk.old) name.now) }
 {
     match found {
         TakeFinding::Begun(replayed) => compare_begun(alloc, disk, folder, name, replayed),
@@ -96,16 +92,13 @@ fn compare_begun<D: Volume>(
     name: &Name,
     replayed: Replayed,
 ) -> Result<TakeFinding, ReadFault>
+    ensures failures { Counts (D.failures disk.old) (D.failures disk.new) (is_disk_fault result) }
     ensures disk { StaysWhole D.Disk disk.old disk.new }
-    ensures found { IsTrue (D.honest disk.old) → IfOk result (λ after. finding_summary after
-        ≡ checked_summary (changed_beside name.now replayed.state.parts
+    ensures found { IsTrue (D.honest disk.old) → IfOk result (λ after. judged_finding after
+        ≡ noted_unless (changed_beside name.now replayed.state.parts
         (D.contents disk.old (notes_path folder.now name.now))
         (D.contents disk.old (wave_path folder.now name.now)))
-        (story_summary replayed.state.parts (row_count replayed.table.items))) }
-    ensures closed { IsTrue (D.honest disk.old) → IfOk result (λ after. found_closed after
-        ≡ closed_unless (changed_beside name.now replayed.state.parts
-        (D.contents disk.old (notes_path folder.now name.now))
-        (D.contents disk.old (wave_path folder.now name.now))) replayed.state.parts) }
+        replayed.state.parts (row_count replayed.table.items)) }
 {
     match look_at_samples(alloc, disk, folder, name, &replayed.state)? {
         Some(number) => Ok(TakeFinding::Changed(number)),
@@ -121,6 +114,7 @@ fn look_at_samples<D: Volume>(
     name: &Name,
     state: &TakeState,
 ) -> Result<Option<u32>, ReadFault>
+    ensures failures { Counts (D.failures disk.old) (D.failures disk.new) (is_disk_fault result) }
     ensures disk { StaysWhole D.Disk disk.old disk.new }
     ensures value { IsTrue (D.honest disk.old) → IfOk result (λ v. v
         ≡ changed_beside name.now state.now.parts

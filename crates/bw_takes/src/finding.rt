@@ -1,6 +1,8 @@
 //! What is found of a take: by its journal, and by its file as far as a start reads it.
 ghost use Rattle.std.specs.Prelude.{◌≡◌, ℕ, List, Option, Some, Ok, Err, Result, IsTrue, IfOk};
+ghost use Rattle.bw_store.specs.Stores.{Counts};
 ghost use Rattle.bw_disk.specs.DiskSteps.{StaysWhole};
+ghost use Rattle.bw_disk.specs.ReadFaults.{is_disk_fault};
 ghost use Rattle.bw_journal.specs.Faults.{IsJournalFault};
 ghost use Rattle.bw_journal.specs.Replays.{Story, JournalFault, NotBegun as not_begun};
 ghost use Rattle.bw_journal.specs.Stories.{story_of};
@@ -58,6 +60,7 @@ pub(crate) fn look_at_take<D: Volume>(
     folder: &str,
     name: &Name,
 ) -> Result<TakeFinding, ReadFault>
+    ensures failures { Counts (D.failures disk.old) (D.failures disk.new) (is_disk_fault result) }
     ensures disk { StaysWhole D.Disk disk.old disk.new }
     ensures found { IsTrue (D.honest disk.old) → IfOk result (IsTakeFound name.now
         (D.contents disk.old (notes_path folder.now name.now))
@@ -76,6 +79,7 @@ fn look_at_paths<D: Volume>(
     notes: &str,
     name: &Name,
 ) -> Result<TakeFinding, ReadFault>
+    ensures failures { Counts (D.failures disk.old) (D.failures disk.new) (is_disk_fault result) }
     ensures disk { StaysWhole D.Disk disk.old disk.new }
     ensures found { IsTrue (D.honest disk.old) → IfOk result (IsTakeFound name.now
         (D.contents disk.old notes.now) (D.contents disk.old wave.now)) }
@@ -89,6 +93,7 @@ fn look_at_paths<D: Volume>(
 
 /// How many bytes the file at a path has; 0 if nothing is there.
 fn len_at<D: Volume>(disk: &mut D, path: &str) -> Result<u64, ReadFault>
+    ensures failures { Counts (D.failures disk.old) (D.failures disk.new) (is_disk_fault result) }
     ensures disk { StaysWhole D.Disk disk.old disk.new }
     ensures len { IsTrue (D.honest disk.old) →
         IfOk result (IsLengthOf (D.contents disk.old path.now)) }
@@ -115,6 +120,7 @@ fn judge_journal<D: Volume>(
     name: &Name,
     journal: &[u8],
 ) -> Result<TakeFinding, ReadFault>
+    ensures failures { Counts (D.failures disk.old) (D.failures disk.new) (is_disk_fault result) }
     ensures disk { StaysWhole D.Disk disk.old disk.new }
     ensures found { IsTrue (D.honest disk.old) → IsLengthOf (D.contents disk.old wave.now) before →
         IfOk result (IsTakeFound name.now (Some journal.now) (D.contents disk.old wave.now)) }
@@ -179,6 +185,7 @@ fn judge_begun<D: Volume>(
     limit: Limit,
     replayed: Replayed,
 ) -> Result<TakeFinding, ReadFault>
+    ensures failures { Counts (D.failures disk.old) (D.failures disk.new) (is_disk_fault result) }
     ensures disk { StaysWhole D.Disk disk.old disk.new }
     ensures found { IsTrue (D.honest disk.old) → IsLengthOf (D.contents disk.old wave.now) before →
         IfOk result (IsFoundBeside limit (Ok (story_of replayed)) (D.contents disk.old wave.now)) }
@@ -226,6 +233,7 @@ fn judge_fault<D: Volume>(
     wave: &str,
     fault: ReplayFault,
 ) -> Result<TakeFinding, ReadFault>
+    ensures failures { Counts (D.failures disk.old) (D.failures disk.new) (is_disk_fault result) }
     ensures disk { StaysWhole D.Disk disk.old disk.new }
     ensures found { IsTrue (D.honest disk.old) → IfOk result (λ found.
         (limit : ℕ) (reported : Result Story JournalFault) → IsJournalFault fault reported →
@@ -250,6 +258,7 @@ fn judge_unbegun<D: Volume>(
     disk: &mut D,
     wave: &str,
 ) -> Result<TakeFinding, ReadFault>
+    ensures failures { Counts (D.failures disk.old) (D.failures disk.new) (is_disk_fault result) }
     ensures disk { StaysWhole D.Disk disk.old disk.new }
     ensures found { IsTrue (D.honest disk.old) → IfOk result (λ found.
         (limit : ℕ) → IsFoundBeside limit (Err not_begun) (D.contents disk.old wave.now) found) }

@@ -1,9 +1,11 @@
 //! What is said of the SHA-256 of a take's samples.
 ghost use Rattle.std.specs.Prelude.{◌≡◌, true, IsTrue, IfOk};
+ghost use Rattle.bw_store.specs.Stores.{Counts};
 ghost use Rattle.bw_disk.specs.DiskSteps.{StaysWhole};
+ghost use Rattle.bw_disk.specs.ReadFaults.{is_disk_fault};
 ghost use Rattle.bw_recovery.specs.Paths.{wave_path};
-ghost use Rattle.bw_takes.specs.TakeDigests.{closed_story, digest_said, found_closed};
-ghost use Rattle.bw_takes.specs.TakeReports.{digest_in, finding_summary, summary_in};
+ghost use Rattle.bw_takes.specs.TakeDigests.{closed_judged, closed_story, digest_said};
+ghost use Rattle.bw_takes.specs.TakeReports.{digest_in, finding_summary, judged_finding, summary_in};
 
 use crate::comparing::examine_take;
 use crate::finding::TakeFinding;
@@ -46,6 +48,7 @@ pub(crate) fn examine_in_form<D: Volume>(
     name: &Name,
     form: ReportForm,
 ) -> Result<Examined, ReadFault>
+    ensures failures { Counts (D.failures disk.old) (D.failures disk.new) (is_disk_fault result) }
     ensures disk { StaysWhole D.Disk disk.old disk.new }
     ensures found { IsTrue (D.honest disk.old) → IfOk result (λ take. finding_summary take.finding
         ≡ summary_in form.depth folder.now (D.contents disk.old) name.now) }
@@ -66,9 +69,11 @@ fn digest_found<D: Volume>(
     asked: bool,
     finding: &TakeFinding,
 ) -> Result<SampleDigest, ReadFault>
+    ensures failures { Counts (D.failures disk.old) (D.failures disk.new) (is_disk_fault result) }
     ensures disk { StaysWhole D.Disk disk.old disk.new }
     ensures digest { IsTrue (D.honest disk.old) → IfOk result (λ said. said ≡ digest_said asked
-        (found_closed finding.now) (D.contents disk.old (wave_path folder.now name.now))) }
+        (closed_judged (judged_finding finding.now))
+        (D.contents disk.old (wave_path folder.now name.now))) }
 {
     if !asked {
         return Ok(SampleDigest::Unasked);
@@ -90,14 +95,12 @@ fn digest_begun<D: Volume>(
     name: &Name,
     state: &TakeState,
 ) -> Result<SampleDigest, ReadFault>
+    ensures failures { Counts (D.failures disk.old) (D.failures disk.new) (is_disk_fault result) }
     ensures disk { StaysWhole D.Disk disk.old disk.new }
     ensures digest { IsTrue (D.honest disk.old) → IfOk result (λ said. said ≡ digest_said true
         (closed_story state.now.parts) (D.contents disk.old (wave_path folder.now name.now))) }
 {
-    if state.is_taken() {
-        return Ok(SampleDigest::Missing);
-    }
-    if !state.is_closed() {
+    if state.is_taken() || !state.is_closed() {
         return Ok(SampleDigest::Missing);
     }
     let wave = path_in(alloc, folder, name, ".wav")?;

@@ -1,8 +1,8 @@
 //! A take of three messages, and how it is rehearsed with servers that stop.
 use bw_commands::event_in;
+use bw_delivery::{Lives, Machine, Rehearsed, StopEvent, StopsFault, rehearse_stops};
 use bw_layout::Limit;
 use bw_model::Name;
-use bw_rehearse::{Lives, Machine, Rehearsed, StopEvent, StopsFault, rehearse_stops};
 use std::alloc::Global;
 use std::test::Fail;
 

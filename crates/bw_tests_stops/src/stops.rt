@@ -1,7 +1,7 @@
 //! A take of three messages whose server stops, in each call of its disks and between turns, and is
 //! finished by the next one.
 use crate::plays::{CALLS, ENDLESS, FIRST, add, has_done, lives_of, play};
-use bw_rehearse::{Lives, Rehearsed, StopEvent};
+use bw_delivery::{Lives, Rehearsed, StopEvent};
 use std::alloc::Global;
 use std::process::Abort;
 use std::test::Fail;

@@ -7,7 +7,7 @@ use Rattle.bw_model.specs.Bytes.{at}
 use Rattle.bw_model.specs.Take.{Request, Verdict, Stored, is_stored}
 use Rattle.bw_model.specs.World.{Sender as Defined, OfferFault, offer, offer_fault, pending, pending_from}
 use Rattle.bw_model.specs.World.{refused, refused_from}
-use Rattle.bw_engine.proofs.HeardSenders.{all_heard, stored_is}
+use Rattle.bw_sender.proofs.HeardSenders.{all_heard, stored_is}
 use Rattle.bw_stream.specs.declared.sink.Sink.{Ghosts as Writer}
 use Rattle.bw_stream.specs.declared.source.Source.{Ghosts as Reader}
 use Rattle.bw_ports.specs.declared.dial.Dial.{Ghosts as DialGhosts}

@@ -1,6 +1,6 @@
 -- Which events leave a link for a reply that ends the upload.
 use Rattle.std.proofs.Common.{◌≡◌, List, [], ◌∷◌, ◌++◌, map, refl, sym, ap, ◌∙◌, append_assoc}
-use Rattle.bw_engine.specs.declared.stop.Stop.{Stop}
+use Rattle.bw_sender.specs.declared.stop.Stop.{Stop}
 use Rattle.bw_upload.specs.Conversations.{TalkEvent}
 use Rattle.bw_upload.specs.Courses.{UploadEvent, Fills, Misses, Makes, Talks, Leaves}
 use Rattle.bw_upload.specs.WindowFills.{FillEvent}

@@ -19,7 +19,7 @@ use Rattle.bw_upload.specs.SendState.{Sending, IsSettled, hear_in, new_sending, 
 use Rattle.bw_console.specs.declared.exit.Exit.TheVariants.{Done, Refused, Device}
 use Rattle.bw_upload.specs.SendState.{unoffered, OffersInOrder, EachIsStored, exit_for_sender, has_refused}
 use Rattle.bw_upload.proofs.OfferSteps.{taken, refused, all_taken, all_refused}
-use Rattle.bw_engine.proofs.HeardSenders.{all_heard, stored_is}
+use Rattle.bw_sender.proofs.HeardSenders.{all_heard, stored_is}
 use Rattle.bw_ports.specs.declared.dial.Dial.{Ghosts as DialGhosts}
 
 -- what was offered, and then these, are the requests of the input

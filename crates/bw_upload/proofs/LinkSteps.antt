@@ -10,8 +10,8 @@ use Rattle.bw_model.specs.World.{Sender as Defined, settled, pending, refused, r
 use Rattle.bw_stream.specs.declared.sink.Sink.{Ghosts as Writer}
 use Rattle.bw_stream.specs.declared.source.Source.{Ghosts as Reader}
 use Rattle.bw_sender.specs.Senders.{IsSender}
-use Rattle.bw_engine.specs.declared.stop.Stop.{Stop}
-use Rattle.bw_engine.specs.declared.stop.Stop.TheVariants as stops
+use Rattle.bw_sender.specs.declared.stop.Stop.{Stop}
+use Rattle.bw_sender.specs.declared.stop.Stop.TheVariants as stops
 use Rattle.bw_ports.specs.declared.dial.Dial.{Ghosts as DialGhosts}
 use Rattle.bw_ports.specs.declared.dial.DialFault.{DialFault}
 use Rattle.bw_ports.specs.declared.dial.Duplex.{Duplex}

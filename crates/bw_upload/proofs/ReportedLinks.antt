@@ -6,9 +6,9 @@ use Rattle.bw_stream.specs.declared.sink.Sink.{Ghosts as Writer}
 use Rattle.bw_stream.specs.declared.source.Source.{Ghosts as Reader}
 use Rattle.bw_sender.specs.declared.sender.Sender.{Sender}
 use Rattle.bw_wire.specs.Codecs.{reply_codec, spelling_of, Spelled}
-use Rattle.bw_engine.specs.Hears.{Hears}
-use Rattle.bw_engine.specs.Sent.{Exchanges}
-use Rattle.bw_engine.specs.declared.send_fault.SendFault.{SendFault}
+use Rattle.bw_sender.specs.Hears.{Hears}
+use Rattle.bw_sender.specs.Sent.{Exchanges}
+use Rattle.bw_sender.specs.declared.send_fault.SendFault.{SendFault}
 use Rattle.bw_upload.specs.RoundsMade.{AreHeardFrom, AreRounds, BeginWith, IsRound, heard_over}
 use Rattle.bw_upload.specs.SendState.{Sending, hear_in, offer_more}
 use Rattle.bw_ports.specs.declared.dial.Dial.{Ghosts as DialGhosts}

@@ -11,10 +11,10 @@ use Rattle.bw_stream.specs.declared.source.Source.{Ghosts as Reader}
 use Rattle.bw_sender.specs.Offers.{lent_pending}
 use Rattle.bw_sender.specs.Senders.{IsSender}
 use Rattle.bw_sender.specs.declared.sender.Sender.{Sender}
-use Rattle.bw_engine.specs.Hears.{hear_all}
-use Rattle.bw_engine.specs.Sent.{Exchanges}
-use Rattle.bw_engine.specs.declared.send_fault.SendFault.{SendFault}
-use Rattle.bw_engine.proofs.HeardSenders.{all_heard}
+use Rattle.bw_sender.specs.Hears.{hear_all}
+use Rattle.bw_sender.specs.Sent.{Exchanges}
+use Rattle.bw_sender.specs.declared.send_fault.SendFault.{SendFault}
+use Rattle.bw_sender.proofs.HeardSenders.{all_heard}
 use Rattle.bw_console.specs.Prints.{Nothing}
 use Rattle.bw_console.specs.declared.fault.Fault.{Fault}
 use Rattle.bw_console.specs.declared.fault.Fault.TheVariants as faults

@@ -10,15 +10,15 @@ use Rattle.bw_stream.specs.declared.source.Source.{Ghosts as Reader}
 use Rattle.bw_sender.specs.Senders.{IsSender}
 use Rattle.bw_sender.specs.declared.sender.Sender.{Sender}
 use Rattle.bw_exchange.specs.WholeExchanges.{HasGiven, HasNoneLeft}
-use Rattle.bw_engine.specs.Hears.{hear_all, IsHeardUpTo}
-use Rattle.bw_engine.specs.Stops.{first_stop}
-use Rattle.bw_engine.specs.Talks.{Listens, HearsPiece, HearsBadPiece}
-use Rattle.bw_engine.specs.declared.send_fault.SendFault.{SendFault}
-use Rattle.bw_engine.specs.declared.send_fault.SendFault.TheVariants as faults
-use Rattle.bw_engine.specs.declared.stop.Stop.{Stop}
-use Rattle.bw_engine.specs.declared.talk.Listened.{Listened}
-use Rattle.bw_engine.specs.declared.talk.Listened.TheVariants as listens
-use Rattle.bw_engine.specs.declared.talk.Talk.{Talk}
+use Rattle.bw_sender.specs.Hears.{hear_all, IsHeardUpTo}
+use Rattle.bw_sender.specs.Stops.{first_stop}
+use Rattle.bw_sender.specs.Talks.{Listens, HearsPiece, HearsBadPiece}
+use Rattle.bw_sender.specs.declared.send_fault.SendFault.{SendFault}
+use Rattle.bw_sender.specs.declared.send_fault.SendFault.TheVariants as faults
+use Rattle.bw_sender.specs.declared.stop.Stop.{Stop}
+use Rattle.bw_sender.specs.declared.talk.Listened.{Listened}
+use Rattle.bw_sender.specs.declared.talk.Listened.TheVariants as listens
+use Rattle.bw_sender.specs.declared.talk.Talk.{Talk}
 use Rattle.bw_ports.specs.declared.dial.Duplex.{Duplex}
 use Rattle.bw_upload.specs.Chains.{Chain}
 use Rattle.bw_upload.specs.Conversations.{Conversing, TalkEvent, Hears, Says, Breaks, TalkStep, MayHear, HearsReplies, HeedsStop}
@@ -30,9 +30,9 @@ use Rattle.bw_model.specs.World.{pending}
 use Rattle.bw_stream.specs.Moves.{Begins}
 use Rattle.bw_wire.specs.Codecs.{reply_codec}
 use Rattle.bw_wire.specs.FramerStates.{Pending, next_of}
-use Rattle.bw_engine.specs.Batches.{WritesMessages}
-use Rattle.bw_engine.specs.Hears.{GaveReplies}
-use Rattle.bw_engine.specs.SaidMessages.{unsaid_messages}
+use Rattle.bw_sender.specs.Batches.{WritesMessages}
+use Rattle.bw_sender.specs.Hears.{GaveReplies}
+use Rattle.bw_sender.specs.SaidMessages.{unsaid_messages}
 use Rattle.bw_upload.specs.declared.observer.LinkEnd.{LinkEnd}
 use Rattle.bw_upload.specs.declared.observer.LinkEnd.TheVariants as ends
 

@@ -10,10 +10,10 @@ use Rattle.bw_stream.specs.declared.sink.Sink.{Ghosts as Writer}
 use Rattle.bw_stream.specs.declared.source.Source.{Ghosts as Reader}
 use Rattle.bw_sender.specs.declared.sender.Sender.{Sender}
 use Rattle.bw_exchange.specs.WholeExchanges.{most_reads}
-use Rattle.bw_engine.specs.LinkReplies.{PartsWith}
-use Rattle.bw_engine.specs.Talks.{HasHeard}
-use Rattle.bw_engine.specs.declared.send_fault.SendFault.TheVariants as faults
-use Rattle.bw_engine.specs.declared.talk.Talk.{Talk}
+use Rattle.bw_sender.specs.LinkReplies.{PartsWith}
+use Rattle.bw_sender.specs.Talks.{HasHeard}
+use Rattle.bw_sender.specs.declared.send_fault.SendFault.TheVariants as faults
+use Rattle.bw_sender.specs.declared.talk.Talk.{Talk}
 use Rattle.bw_ports.specs.declared.dial.Dial.{Ghosts as DialGhosts}
 use Rattle.bw_ports.specs.declared.dial.Duplex.{Duplex}
 use Rattle.bw_ports.specs.declared.pause.Pause.{Ghosts as PauseGhosts}

@@ -8,13 +8,13 @@ use Rattle.bw_model.specs.World.{Sender, pending, refused}
 use Rattle.bw_stream.specs.Moves.{one_more, Begins}
 use Rattle.bw_stream.specs.declared.sink.Sink.{Ghosts as Writer}
 use Rattle.bw_stream.specs.declared.source.Source.{Ghosts as Reader}
-use Rattle.bw_engine.specs.Batches.{WritesMessages}
-use Rattle.bw_engine.specs.Hears.{hear_all, IsHeardUpTo}
-use Rattle.bw_engine.specs.LinkReplies.{PartsWith}
-use Rattle.bw_engine.specs.SaidMessages.{unsaid_messages}
-use Rattle.bw_engine.specs.Stops.{first_stop}
-use Rattle.bw_engine.specs.declared.send_fault.SendFault.TheVariants as faults
-use Rattle.bw_engine.specs.declared.stop.Stop.{Stop}
+use Rattle.bw_sender.specs.Batches.{WritesMessages}
+use Rattle.bw_sender.specs.Hears.{hear_all, IsHeardUpTo}
+use Rattle.bw_sender.specs.LinkReplies.{PartsWith}
+use Rattle.bw_sender.specs.SaidMessages.{unsaid_messages}
+use Rattle.bw_sender.specs.Stops.{first_stop}
+use Rattle.bw_sender.specs.declared.send_fault.SendFault.TheVariants as faults
+use Rattle.bw_sender.specs.declared.stop.Stop.{Stop}
 use Rattle.bw_exchange.specs.WholeExchanges.{most_reads, HasGiven, HasNoneLeft}
 use Rattle.bw_upload.specs.declared.observer.LinkEnd.{LinkEnd}
 use Rattle.bw_upload.specs.declared.observer.LinkEnd.TheVariants as ends

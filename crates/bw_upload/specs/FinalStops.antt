@@ -1,7 +1,7 @@
 -- The replies that end an upload: Conflict and TooFar.
 use Rattle.std.specs.Prelude.{List, [], ◌∷◌, ◌++◌}
-use Rattle.bw_engine.specs.declared.stop.Stop.{Stop}
-use Rattle.bw_engine.specs.declared.stop.Stop.TheVariants as stops
+use Rattle.bw_sender.specs.declared.stop.Stop.{Stop}
+use Rattle.bw_sender.specs.declared.stop.Stop.TheVariants as stops
 use Rattle.bw_upload.specs.Courses.{UploadEvent, Fills, Misses, Makes, Talks, Leaves}
 use Rattle.bw_upload.specs.declared.observer.LinkEnd.{LinkEnd}
 use Rattle.bw_upload.specs.declared.observer.LinkEnd.TheVariants as ends

@@ -10,9 +10,9 @@ use Rattle.bw_stream.specs.declared.source.Source.{Ghosts as Reader}
 use Rattle.bw_sender.specs.Senders.{IsSender}
 use Rattle.bw_sender.specs.declared.sender.Sender.{Sender}
 use Rattle.bw_wire.specs.Codecs.{reply_codec, Spelled}
-use Rattle.bw_engine.specs.Sent.{Exchanges}
-use Rattle.bw_engine.specs.declared.send_fault.SendFault.{SendFault}
-use Rattle.bw_engine.specs.declared.send_fault.SendFault.TheVariants.{Memory}
+use Rattle.bw_sender.specs.Sent.{Exchanges}
+use Rattle.bw_sender.specs.declared.send_fault.SendFault.{SendFault}
+use Rattle.bw_sender.specs.declared.send_fault.SendFault.TheVariants.{Memory}
 use Rattle.bw_ports.specs.NextLinks.{GivesNext}
 use Rattle.bw_upload.specs.SendState.{Sending, IsSettled, hear_in, offer_more}
 use Rattle.bw_ports.specs.declared.dial.Dial.{Ghosts as DialGhosts}

@@ -8,7 +8,7 @@ use Rattle.bw_model.specs.Replies.{Reply}
 use Rattle.bw_model.specs.World.{Sender, OfferFault, NumbersSpent, BeforeOpen, AfterClose}
 use Rattle.bw_model.specs.World.{WindowFull, offer, offer_fault, pending, refused, stored}
 use Rattle.bw_sender.specs.Senders.{IsSender, new_sender}
-use Rattle.bw_engine.specs.Hears.{hear_all}
+use Rattle.bw_sender.specs.Hears.{hear_all}
 use Rattle.bw_console.specs.declared.exit.Exit.{Exit}
 use Rattle.bw_console.specs.declared.exit.Exit.TheVariants.{Done, Refused, Device}
 use Rattle.bw_upload.specs.declared.dispatch.Dispatch.{Dispatch}

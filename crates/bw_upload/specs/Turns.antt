@@ -4,13 +4,13 @@ use Rattle.bw_stream.specs.declared.sink.Sink.{Ghosts as Writer}
 use Rattle.bw_stream.specs.declared.source.Source.{Ghosts as Reader}
 use Rattle.bw_sender.specs.Senders.{IsSender}
 use Rattle.bw_sender.specs.declared.sender.Sender.{Sender}
-use Rattle.bw_engine.specs.Talks.{HasHeard, first_unsaid}
-use Rattle.bw_engine.specs.declared.send_fault.SendFault.{SendFault}
-use Rattle.bw_engine.specs.declared.send_fault.SendFault.TheVariants as faults
-use Rattle.bw_engine.specs.declared.stop.Stop.{Stop}
-use Rattle.bw_engine.specs.declared.talk.Listened.{Listened}
-use Rattle.bw_engine.specs.declared.talk.Listened.TheVariants as listens
-use Rattle.bw_engine.specs.declared.talk.Talk.{Talk}
+use Rattle.bw_sender.specs.Talks.{HasHeard, first_unsaid}
+use Rattle.bw_sender.specs.declared.send_fault.SendFault.{SendFault}
+use Rattle.bw_sender.specs.declared.send_fault.SendFault.TheVariants as faults
+use Rattle.bw_sender.specs.declared.stop.Stop.{Stop}
+use Rattle.bw_sender.specs.declared.talk.Listened.{Listened}
+use Rattle.bw_sender.specs.declared.talk.Listened.TheVariants as listens
+use Rattle.bw_sender.specs.declared.talk.Talk.{Talk}
 use Rattle.bw_ports.specs.declared.dial.Duplex.{Duplex}
 use Rattle.bw_upload.specs.Chains.{Chain}
 use Rattle.bw_upload.specs.Conversations.{Conversing, Line, TalkEvent, TalkStep, LeavesBy, HeedsStop}

@@ -16,7 +16,7 @@ use Rattle.bw_upload.specs.FinalStops.{final_stop, final_stops}
 use Rattle.bw_upload.specs.FeedStops.{StopsFeed}
 use Rattle.bw_upload.specs.Supplies.{IsFilling}
 use Rattle.bw_upload.specs.declared.feed.Feed.{Ghosts as FeedGhosts}
-use Rattle.bw_engine.specs.declared.send_fault.SendFault.TheVariants as faults
+use Rattle.bw_sender.specs.declared.send_fault.SendFault.TheVariants as faults
 use Rattle.bw_upload.specs.declared.observer.LinkEnd.{LinkEnd}
 use Rattle.bw_upload.specs.declared.observer.LinkEnd.TheVariants as ends
 use Rattle.bw_upload.specs.declared.outcome.Outcome.{Outcome}

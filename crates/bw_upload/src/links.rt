@@ -14,9 +14,8 @@ use crate::observer::{LinkEnd, LinkEvent, Observer};
 use crate::outcome::{Outcome, Uploaded};
 use crate::supply::{Supply, fill, refusal};
 use crate::visit::visit;
-use bw_engine::Stop;
 use bw_ports::{Dial, Pause};
-use bw_sender::Sender;
+use bw_sender::{Sender, Stop};
 use std::alloc::Global;
 
 /// Sends what a feed gives as the requests of a sender, over one link as long as it lasts, and then

@@ -1,6 +1,5 @@
 //! Observers of an upload.
-use bw_engine::{SendFault, Stop};
-use bw_sender::Sender;
+use bw_sender::{SendFault, Sender, Stop};
 
 /// Why a link isn't used any more.
 #[derive(Clone, Copy, Debug, PartialEq, Eq)]

@@ -3,18 +3,17 @@ ghost use Rattle.std.specs.Prelude.{◌≡◌, ◌≢◌, Err, List, OnOk, OnErr
 ghost use Rattle.bw_model.specs.Replies.{Reply};
 ghost use Rattle.bw_model.specs.World.{Sender as Defined};
 ghost use Rattle.bw_sender.specs.Senders.{IsSender};
-ghost use Rattle.bw_engine.specs.Hears.{hear_all};
-ghost use Rattle.bw_engine.specs.declared.send_fault.SendFault.TheVariants.{Memory};
+ghost use Rattle.bw_sender.specs.Hears.{hear_all};
+ghost use Rattle.bw_sender.specs.declared.send_fault.SendFault.TheVariants.{Memory};
 ghost use Rattle.bw_upload.specs.RoundsMade.{IsRound, MakesRounds};
 ghost use Rattle.bw_upload.specs.SendState.{Sending, IsSending};
 
 use crate::dispatch::Dispatch;
 use crate::offering::offer_more_of;
 use crate::watch::Progress;
-use bw_engine::{SendFault, send_exchange};
 use bw_model::Request;
 use bw_ports::{Dial, Watch};
-use bw_sender::Sender;
+use bw_sender::{SendFault, Sender, send_exchange};
 use std::alloc::{AllocError, Global};
 
 /// Offers requests and makes exchanges, one a round and in at most `rounds` rounds, until all that

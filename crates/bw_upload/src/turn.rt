@@ -6,10 +6,9 @@ ghost use Rattle.bw_upload.specs.Turns.{IsTalking, HearsTurn, HearsOut, TakesTur
 ghost use Rattle.bw_upload.specs.Turns.{turn_end as end_of_turn, break_end as end_of_break};
 
 use crate::observer::LinkEnd;
-use bw_engine::{Listened, SendFault, Talk};
 use bw_exchange::MOST_READS;
 use bw_ports::Duplex;
-use bw_sender::Sender;
+use bw_sender::{Listened, SendFault, Sender, Talk};
 use bw_stream::{Sink, Source};
 use std::alloc::Global;
 

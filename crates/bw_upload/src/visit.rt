@@ -10,10 +10,9 @@ use crate::observer::{LinkEnd, Observer};
 use crate::outcome::Outcome;
 use crate::supply::{Supply, fill};
 use crate::turn::take_turn;
-use bw_engine::{SendFault, Talk};
 use bw_exchange::MOST_READS;
 use bw_ports::{Dial, Duplex, Pause};
-use bw_sender::Sender;
+use bw_sender::{SendFault, Sender, Talk};
 use std::alloc::Global;
 
 /// Uses a link as long as it can be: sends what is pending, reads a piece of the replies, and fills

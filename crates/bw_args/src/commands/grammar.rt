@@ -14,13 +14,14 @@ ghost use Rattle.bw_args.specs.Commands.{serve_how, serve_keeps, serve_many, ser
 ghost use Rattle.bw_args.specs.Commands.{takes_command, takes_how, takes_where};
 
 use super::options::{
-    block_option, check_flag, connect_option, digest_flag, exchanges_option, file_argument,
-    file_option, files_argument, folder_option, follow_flag, fruitless_option, fuse_option,
-    give_up_option, human_flag, idle_option, journal_flag, json_flag, limit_option, link_log_flag,
-    listen_option, log_flag, name_option, network_flag, one_name_flag, patience_option, pcm_option,
-    rate_option, recorders_option, rest_flag, rounds_option, set_option, skip_option, spool_option,
-    state_option, status_option, strict_flag, sync_flag, take_digest_flag, take_json_flag,
-    timeout_option, until_option, until_stopped_flag, watch_flag, write_flag,
+    allow_option, block_option, check_flag, connect_option, digest_flag, exchanges_option,
+    file_argument, file_option, files_argument, folder_option, follow_flag, fruitless_option,
+    fuse_option, give_up_option, human_flag, idle_option, journal_flag, json_flag, limit_option,
+    link_log_flag, listen_option, log_flag, name_option, network_flag, one_name_flag,
+    patience_option, pcm_option, rate_option, recorders_option, rest_flag, rounds_option,
+    set_option, skip_option, spool_option, state_option, status_option, strict_flag, sync_flag,
+    take_digest_flag, take_json_flag, timeout_option, until_option, until_stopped_flag, watch_flag,
+    write_flag,
 };
 use clap::{Arg, Command};
 use std::alloc::{AllocError, Global};
@@ -219,6 +220,7 @@ fn serve<'a>(alloc: Global) -> Result<Command<'a>, AllocError>
     ensures { IfOk result (IsCommand serve_command) }
 {
     let command = with_option(serve_keeps(alloc), one_name_flag(alloc));
+    let command = with_option(command, allow_option(alloc));
     with_option(command, status_option(alloc))
 }
 

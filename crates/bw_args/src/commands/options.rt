@@ -2,6 +2,7 @@
 ghost use Rattle.bw_args.specs.Commands.{IsOption, connect_option, exchanges_option, file_argument};
 ghost use Rattle.bw_args.specs.Commands.{flag, folder_option, fuse_option, idle_option};
 ghost use Rattle.bw_args.specs.Commands.{limit_option, listen_option, log_flag, name_option};
+ghost use Rattle.bw_args.specs.Commands.{allow_option};
 ghost use Rattle.bw_args.specs.Commands.{network_flag, one_name_flag, option, recorders_option, required};
 ghost use Rattle.bw_args.specs.Commands.{file_option, fruitless_option, journal_flag, repeated};
 ghost use Rattle.bw_args.specs.Commands.{rest_flag, rounds_option, set_option, strict_flag, sync_flag};
@@ -242,6 +243,13 @@ pub(crate) fn one_name_flag<'a>(alloc: Global) -> Arg<'a>
 {
     let help = "Ends a connection at a message under another name than its first";
     flag_option(alloc, "one-name", help)
+}
+
+pub(crate) fn allow_option<'a>(alloc: Global) -> Arg<'a>
+    ensures { IsOption allow_option result }
+{
+    let help = "Takes only the names, and from the addresses, that FILE lists";
+    value_option(alloc, "allow", "FILE", help)
 }
 
 pub(crate) fn sync_flag<'a>(alloc: Global) -> Arg<'a>

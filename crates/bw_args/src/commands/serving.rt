@@ -1,5 +1,5 @@
 //! The command `serve`.
-ghost use Rattle.std.specs.Prelude.{◌≡◌, codes, Some, IfOk, IfErr, OnErr, is_some, option_map};
+ghost use Rattle.std.specs.Prelude.{◌≡◌, codes, Some, IfOk, IfErr, OnErr, is_some, option_map, string_bytes};
 ghost use Rattle.clap.specs.Words.{first_value, found_of, rows_of};
 ghost use Rattle.bw_args.specs.Lines.{AsksForPath, GivesRecorders, IsEndGiven, IsFirstBad};
 ghost use Rattle.bw_args.specs.Lines.{IsFolderGiven, IsJournalingGiven, IsLineFor, IsRecordersGiven, IsRestGiven};
@@ -15,6 +15,13 @@ use std::net::SocketAddr;
 /// A text that is no address, or one where none is wanted.
 #[derive(Drop)]
 struct NoAddress;
+
+/// The paths that a server is given.
+#[derive(Drop)]
+struct ServedPaths {
+    folder: String,
+    allow: Option<String>,
+}
 
 /// Bad values are reported in this order: the address, the folder, the exchanges, the limit, those
 /// of `recorders_given`, `--until-stopped` with a number of exchanges, `--sync` without `--journal`,
@@ -58,10 +65,10 @@ pub(crate) fn serve_line(alloc: Global, options: &ArgMatches<'_>) -> Result<Comm
     };
     let log = flag_given(options, "log");
     let one_name = flag_given(options, "one-name");
-    let folder = String::from_str(alloc, path)?;
+    let paths = paths_given(alloc, path, options)?;
     Ok(CommandLine::Run(Task::Serve(Serve {
         listen,
-        folder,
+        folder: paths.folder,
         end,
         limit,
         recorders,
@@ -69,6 +76,7 @@ pub(crate) fn serve_line(alloc: Global, options: &ArgMatches<'_>) -> Result<Comm
         journal,
         rest,
         one_name,
+        allow: paths.allow,
         status,
     })))
 }
@@ -80,6 +88,24 @@ pub(crate) fn folder_given<'a>(options: &ArgMatches<'a>) -> Option<&'a str>
 {
     let path = options.get_str("folder")?;
     if path.is_empty() { None } else { Some(path) }
+}
+
+/// Copies the path of the folder, and that of the list of names, if the options give one.
+fn paths_given(
+    alloc: Global,
+    folder: &str,
+    options: &ArgMatches<'_>,
+) -> Result<ServedPaths, AllocError>
+    ensures folder { IfOk result (λ paths. string_bytes paths.folder ≡ folder.now) }
+    ensures allow { IfOk result (λ paths. option_map string_bytes paths.allow
+        ≡ first_value (found_of options.now) (codes "allow")) }
+{
+    let folder = String::from_str(alloc, folder)?;
+    let allow = match options.get_str("allow") {
+        Some(path) => Some(String::from_str(alloc, path)?),
+        None => None,
+    };
+    Ok(ServedPaths { folder, allow })
 }
 
 /// How the options say that recorders are served.

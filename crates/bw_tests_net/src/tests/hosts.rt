@@ -5,6 +5,7 @@ use crate::tests::play::{QUICK, QUICK_OTHER, bounds};
 use crate::tests::scripted_reactor::{Plan, Visit};
 use bw_console::Exit;
 use bw_layout::Limit;
+use bw_operators::AllowList;
 use bw_serve::{Hosting, open_new, report_refusal, serve_at_once};
 use bw_stream::MemorySink;
 use std::alloc::Global;
@@ -26,10 +27,12 @@ struct Wanted {
 /// Serves two at once over the memory's network, with a log, and compares the whole outcome.
 fn comes_to(rt: &impl Abort, alloc: Global, port: u16, folder: &str, wanted: &Wanted) {
     let mut memory_network = MemoryNetwork::new(alloc, Plan::over(TWO_VISITS, 10, 100));
+    let allow = AllowList::everyone();
     let hosting = Hosting {
         address: SocketAddr::from((Ipv4Addr::LOCALHOST, port)),
         folder,
         bounds: bounds(2, 2, 60_000),
+        allow: &allow,
         log: true,
     };
     let mut out = MemorySink::new(Vec::new(alloc));

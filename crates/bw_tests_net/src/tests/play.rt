@@ -6,6 +6,7 @@ use bw_console::Exit;
 use bw_exchange::Metered;
 use bw_layout::Limit;
 use bw_model::Name;
+use bw_operators::AllowList;
 use bw_serve::{Bounds, run_event_loop};
 use bw_session::Server;
 use bw_store::MemoryStore;
@@ -81,11 +82,13 @@ pub(crate) fn try_serve(alloc: Global, bounds: &Bounds, log: bool, plan: Plan) -
     let mut scripted_reactor = ScriptedReactor::new(alloc, plan);
     let mut out = MemorySink::new(Vec::new(alloc));
     let mut faults = MemorySink::new(Vec::new(alloc));
+    let allow = AllowList::everyone();
     let exit = run_event_loop(
         alloc,
         &mut server,
         &mut scripted_reactor,
         bounds,
+        &allow,
         log,
         &mut out,
         &mut faults,

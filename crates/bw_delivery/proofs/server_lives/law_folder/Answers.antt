@@ -1,5 +1,5 @@
 use Rattle.bw_delivery.proofs.Folders.{faults_stay_alone, new_folders_are_empty}
-use Rattle.bw_delivery.proofs.Lives.{lives_leave_books}
+use Rattle.bw_delivery.proofs.LifeLemmas.{lives_leave_books}
 use Rattle.bw_delivery.proofs.server_lives.law_folder.Goals as goal
 
 pub returns : goal.returns

@@ -1,4 +1,4 @@
-use Rattle.bw_delivery.proofs.Lives.{verdicts_outlive_servers}
+use Rattle.bw_delivery.proofs.LifeLemmas.{verdicts_outlive_servers}
 use Rattle.bw_delivery.proofs.server_lives.law_lives.Goals as goal
 
 pub returns : goal.returns

@@ -1,6 +1,6 @@
 use Rattle.bw_wire.specs.Replies.{reply_of}
 use Rattle.bw_send_file.specs.Asks.{bye_frame}
-use Rattle.bw_engine.proofs.Beginnings.{begins-after, begins-before}
+use Rattle.bw_sender.proofs.Beginnings.{begins-after, begins-before}
 use Rattle.bw_send_file.proofs.AskSteps.{begun_by, written_begins}
 use Rattle.bw_send_file.proofs.ReadSteps.{if_some}
 use Rattle.bw_send_file.proofs.asking.ask_over.Goals as goal

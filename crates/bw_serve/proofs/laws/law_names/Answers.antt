@@ -1,5 +1,5 @@
 use Rattle.std.proofs.Common.{[], refl}
-use Rattle.bw_engine.proofs.StoreRuns.{leaves_run}
+use Rattle.bw_session.proofs.StoreRuns.{leaves_run}
 use Rattle.bw_serve.proofs.laws.law_names.Goals as goal
 
 pub returns : goal.returns

@@ -1,11 +1,13 @@
 use Rattle.std.proofs.Common.{◌≡◌, ◌≤◌, ℕ, [], ap, refl, sym, subst, ◌∙◌}
 use Rattle.bw_connections.specs.Places.{connection_count}
 use Rattle.bw_serve.proofs.Growing.{grown_peer_slots, grows_still, turn_advances, turn_begun, turn_peer_slots}
-use Rattle.bw_serve.proofs.Withholding.{on_err, turns_committed}
+use Rattle.bw_serve.proofs.Guarding.{guarded_committed}
+use Rattle.bw_serve.proofs.Withholding.{on_err}
 use Rattle.bw_serve.specs.EventLoops.{InTurn, LetsIn}
 use Rattle.bw_serve.specs.Rounds.{IsShut, patience_of}
 use Rattle.bw_serve.proofs.Noticing.{all_still, wakes_none}
 use Rattle.bw_serve.proofs.Rounds.{welcomes_after, welcomes_none}
+use Rattle.bw_serve.specs.Guards.{Guarded}
 use Rattle.bw_serve.proofs.serving.serve_round.Goals as goal
 
 pub returns-in_default-clause-shut : goal.returns-in_default-clause-shut
@@ -49,10 +51,10 @@ returns-clause-round g c =
     let at : c.now-now.result ≡ g.B.Reactor.time c.welcome.new.reactor =
     c.now-now.ensures.time ∙ sym c.welcome.ensures.time in
     let n = connection_count c.welcome.new.self.connections in
-    let turn : InTurn g.B.Link.Link g.T.Turns.answers g.O.Sink g.E.Sink c.args.log
+    let turn : InTurn g.B.Link.Link (Guarded g.T.Turns.answers c.args.allow.now) g.O.Sink g.E.Sink c.args.log
     (g.B.Reactor.time c.welcome.new.reactor) c.args.bounds.now.idle n c.welcome.new.self e.new.self
     c.args.server.now.server e.new.server.server c.args.out.now e.new.out c.args.faults.now e.new.faults =
-    subst (λ (now : ℕ). InTurn g.B.Link.Link g.T.Turns.answers g.O.Sink g.E.Sink c.args.log now
+    subst (λ (now : ℕ). InTurn g.B.Link.Link (Guarded g.T.Turns.answers c.args.allow.now) g.O.Sink g.E.Sink c.args.log now
     c.args.bounds.now.idle n c.welcome.new.self e.new.self
     c.args.server.now.server e.new.server.server c.args.out.now e.new.out c.args.faults.now e.new.faults) at
     e.ensures.in_turn in (
@@ -81,10 +83,10 @@ returns-clause-round g c =
         printed = e.new.out;
         logged = e.new.faults;
         in_turn = turn;
-        kept = turns_committed g.T.Turns.answers _ c.args.server.now.server e.new.server.server c.commit.new.server.server
+        kept = guarded_committed g.T.Turns.answers c.args.allow.now e.new.server.server c.commit.new.server.server
+            c.commit.ensures.answered c.args.server.now.server _
             (λ same. c.commit.ensures.idle (subst (λ x. g.T.Turns.committed x) (sym same) c.requires.committed))
-            c.commit.ensures.answered
-            (turn_advances g.B.Link.Link g.T.Turns.answers g.O.Sink g.E.Sink c.args.log
+            (turn_advances g.B.Link.Link (Guarded g.T.Turns.answers c.args.allow.now) g.O.Sink g.E.Sink c.args.log
             (g.B.Reactor.time c.welcome.new.reactor) c.args.bounds.now.idle n c.welcome.new.self e.new.self
             c.args.server.now.server e.new.server.server c.args.out.now e.new.out c.args.faults.now e.new.faults turn).by_server;
         outcome = c.commit.result;
@@ -98,7 +100,7 @@ pub returns-clause-begun : goal.returns-clause-begun
 returns-clause-begun g c =
     let e = c.serve_each in
     subst (λ (n : ℕ). n ≤ c.args.bounds.now.exchanges)
-    (sym (c.commit.ensures.withholds.begun ∙ turn_begun g.B.Link.Link g.T.Turns.answers g.O.Sink
+    (sym (c.commit.ensures.withholds.begun ∙ turn_begun g.B.Link.Link (Guarded g.T.Turns.answers c.args.allow.now) g.O.Sink
     g.E.Sink c.args.log c.now-now.result c.args.bounds.now.idle (connection_count c.welcome.new.self.connections) c.welcome.new.self
     e.new.self c.args.server.now.server e.new.server.server c.args.out.now e.new.out c.args.faults.now e.new.faults
     e.ensures.in_turn))
@@ -108,7 +110,7 @@ pub returns-clause-peer_slots : goal.returns-clause-peer_slots
 returns-clause-peer_slots g c =
     let e = c.serve_each in
     let w = c.commit.ensures.withholds in
-    let quanta = turn_peer_slots g.B.Link.Link g.T.Turns.answers g.O.Sink g.E.Sink c.args.log c.now-now.result c.args.bounds.now.idle
+    let quanta = turn_peer_slots g.B.Link.Link (Guarded g.T.Turns.answers c.args.allow.now) g.O.Sink g.E.Sink c.args.log c.now-now.result c.args.bounds.now.idle
     (connection_count c.welcome.new.self.connections) c.welcome.new.self e.new.self c.args.server.now.server e.new.server.server
     c.args.out.now e.new.out c.args.faults.now e.new.faults e.ensures.in_turn
     (grown_peer_slots g.B.Link.Link c.notice.new.self c.welcome.new.self c.welcome.ensures.grows
@@ -119,7 +121,7 @@ pub commit-requires : goal.commit-requires
 commit-requires g c =
     let e = c.serve_each in
     record {
-      peer_slots = turn_peer_slots g.B.Link.Link g.T.Turns.answers g.O.Sink g.E.Sink c.args.log c.now-now.result c.args.bounds.now.idle
+      peer_slots = turn_peer_slots g.B.Link.Link (Guarded g.T.Turns.answers c.args.allow.now) g.O.Sink g.E.Sink c.args.log c.now-now.result c.args.bounds.now.idle
           (connection_count c.welcome.new.self.connections) c.welcome.new.self e.new.self c.args.server.now.server e.new.server.server
           c.args.out.now e.new.out c.args.faults.now e.new.faults e.ensures.in_turn
           (grown_peer_slots g.B.Link.Link c.notice.new.self c.welcome.new.self c.welcome.ensures.grows

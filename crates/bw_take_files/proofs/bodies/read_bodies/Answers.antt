@@ -1,5 +1,5 @@
 use Rattle.std.proofs.Common.{arith, ◌≡◌, ◌≤◌, ◌<◌, ◌+◌, ◌*◌, ◌-◌, ℕ, List, ◌++◌, IsTrue, length}
-use Rattle.std.proofs.Common.{slice_index, take, drop, inl, inr, sym, ap, ◌∙◌, subst}
+use Rattle.std.proofs.Common.{slice_index, take, drop, inl, inr, refl, sym, ap, ◌∙◌, subst}
 use Rattle.std.proofs.lemmas.Bool.{cases_lt}
 use Rattle.std.proofs.lemmas.List.{get_or-set_same, get_or-set_other, length-set}
 use Rattle.bw_disk.proofs.DiskChains.{stays_twice}
@@ -15,19 +15,20 @@ loop-lane-preserved g c =
     let room = c.loop-lane.room in
     let lens = c.loop-lane.lens in
     let part = c.read_body.new.room in
-    let len = c.in-Ok.len in
+    let len = c.in_ok-len.len in
     let low : lane < 8 = c.loop-lane-test.true in
     let start = lane * 32806 in
     let rest : List ℕ = drop (start + 32806 - start) (drop start room) in
     let now : List ℕ = take start room ++ (part ++ rest) in
     let lanes : length lens ≡ 8 = was.lanes in
-    let short : len ≤ 32806 = c.in-Ok.ensures.short in
-    let whole : length part ≡ 32806 = c.read_body.ensures.room in
+    let short : len ≤ 32806 = c.in_ok-len.ensures.short in
+    let whole : length part ≡ 32806 = c.in_ok-len.ensures.room in
     let all : length room ≡ 262448 = was.room ∙ c.requires.room in
     let fits : start ≤ length room = omega (arith, low, all) in
     record {
-      disk = stays_twice g.D.Disk _ _ _ was.disk c.read_body.ensures.disk;
-      path = c.read_body.ensures.path ∙ was.path;
+      failures = c.in_ok-len.ensures.failures.quiet refl ∙ was.failures;
+      disk = stays_twice g.D.Disk _ _ _ was.disk c.in_ok-len.ensures.disk;
+      path = c.in_ok-len.ensures.path ∙ was.path;
       room = part_length room part start _ (omega (arith, low, all)) (omega (arith, whole)) ∙ was.room;
       lanes = length-set lens lane len ∙ lanes;
       short = λ j below. elim (cases_lt j lane) [
@@ -57,7 +58,7 @@ loop-lane-preserved g c =
             rw (← at) (
             ap (λ (n : ℕ). take n (drop start now)) same
             ∙ part_begins room part rest start len fits (omega (arith, short, whole))
-            ∙ c.in-Ok.ensures.read (subst IsTrue (sym was.disk.honest) honest) found
+            ∙ c.in_ok-len.ensures.read (subst IsTrue (sym was.disk.honest) honest) found
             (still_found g.D.Disk _ _ _ _ found was.disk was.path honest stands)
             ∙ ap (body_at c.args.name.now found) c.block_in-block.ensures
             )

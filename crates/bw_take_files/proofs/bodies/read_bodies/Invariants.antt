@@ -8,6 +8,7 @@ use Rattle.bw_take_files.proofs.bodies.read_bodies.Given as goal
 -- the bodies of the lanes so far are in their parts of the room
 abbrev pub invariant-loop-lane : goal.invariant-loop-lane
 invariant-loop-lane g l = record {
+  failures : g.D.Disk.failures l.disk ≡ g.D.Disk.failures l.fn.disk;
   disk : StaysWhole g.D.Disk l.fn.disk l.disk;
   path : g.D.Disk.path_of l.file ≡ g.D.Disk.path_of l.fn.file;
   room : length l.room ≡ length l.fn.room;

@@ -21,6 +21,7 @@ loop-count-preserved g c =
       fits = grind (arith, len, fits, small);
       room = grind (arith, len, fits, small, was.room);
       path = c.read_at.ensures.path ∙ was.path;
+      failures = search rules;
       disk = stays_twice g.D.Disk c.args.disk.now c.loop-count.disk c.read_at.new.self was.disk stays;
       read = λ honest.
           let now = subst IsTrue (sym was.disk.honest) honest in

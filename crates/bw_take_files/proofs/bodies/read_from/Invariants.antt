@@ -10,6 +10,7 @@ invariant-loop-count g l = record {
   fits : l.count ≤ length l.room;
   room : length l.room ≡ length l.fn.room;
   path : g.D.Disk.path_of l.file ≡ g.D.Disk.path_of l.fn.file;
+  failures : g.D.Disk.failures l.disk ≡ g.D.Disk.failures l.fn.disk;
   disk : StaysWhole g.D.Disk l.fn.disk l.disk;
   read : IsTrue (g.D.Disk.honest l.fn.disk) →
       IsReadTo (option_map (drop l.fn.offset) (g.D.Disk.contents l.fn.disk (g.D.Disk.path_of l.fn.file))) l.count l.room;

@@ -31,6 +31,7 @@ loop-done-preserved g c =
     let count : c.in_ok-count.count ≡ wanted =
     omega (arith, c.in_ok-count.ensures.fits, room, c.if-count-wanted.false) in
     record {
+      failures = search rules;
       disk = stays_twice g.D.Disk _ _ _ was.disk c.in_ok-count.ensures.disk;
       path = c.in_ok-count.ensures.path ∙ was.path;
       within = omega (arith, c.min-wanted.ensures, c.loop-done-test.true);

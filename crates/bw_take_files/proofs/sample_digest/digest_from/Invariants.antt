@@ -6,6 +6,7 @@ use Rattle.bw_take_files.proofs.sample_digest.digest_from.Given as goal
 -- the samples so far are there, and hashed
 abbrev pub invariant-loop-done : goal.invariant-loop-done
 invariant-loop-done g l = record {
+  failures : g.D.Disk.failures l.disk ≡ g.D.Disk.failures l.fn.disk;
   disk : StaysWhole g.D.Disk l.fn.disk l.disk;
   path : g.D.Disk.path_of l.file ≡ g.D.Disk.path_of l.fn.file;
   within : l.done ≤ l.len;

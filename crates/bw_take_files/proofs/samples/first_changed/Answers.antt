@@ -13,6 +13,7 @@ use Rattle.bw_take_files.proofs.samples.first_changed.Goals as goal
 
 pub loop-step-init : goal.loop-step-init
 loop-step-init g c = record {
+  failures = refl;
   disk = record { honest = refl; contents = λ h path. refl; synced = λ h path. refl };
   path = refl;
   room = c.requires.room;
@@ -65,7 +66,7 @@ returns-then-not-kept-clause-value g c = λ honest found stands.
     ∙ ap first_content (take_rest bytes c.loop-step.used) in
     let known : Some entry ≡ entry_in content = search rules in
     let at_first = first_read (drop c.loop-step.used bytes) content c.in-Some.len entry read known in
-    let ahead = c.read_ahead-ahead.ensures in
+    let ahead = c.in_ok-ahead.ensures in
     let first = subst IsTrue (sym was.disk.honest) honest in
     let here = still_found g.D.Disk _ _ _ _ found was.disk was.path honest stands in
     let now = subst IsTrue (sym ahead.disk.honest) first in
@@ -98,7 +99,7 @@ loop-step-preserved g c =
     ∙ ap first_content (take_rest bytes c.loop-step.used) in
     let known : Some entry ≡ entry_in content = search rules in
     let at_first = first_read (drop c.loop-step.used bytes) content c.in-Some.len entry read known in
-    let ahead = c.read_ahead-ahead.ensures in
+    let ahead = c.in_ok-ahead.ensures in
     let short =
     subst (λ (xs : List ℕ). c.in-Some.len ≤ length xs) (take_rest bytes used)
     (of_some _ _ _ there_is c.in_ok-len.ensures.within) in
@@ -109,6 +110,7 @@ loop-step-preserved g c =
     let same : c.in-Ok.number ≡ step = search rules in
     let middle = stays_twice g.D.Disk _ _ _ was.disk ahead.disk in
     record {
+      failures = c.in_ok-kept.ensures.failures.quiet refl ∙ ahead.failures.quiet refl ∙ was.failures;
       disk = stays_twice g.D.Disk _ _ _ middle c.in_ok-kept.ensures.disk;
       path = c.in_ok-kept.ensures.path ∙ ahead.path ∙ was.path;
       room = c.in_ok-kept.ensures.room ∙ ahead.room ∙ was.room;

@@ -8,6 +8,7 @@ use Rattle.bw_take_files.proofs.samples.first_changed.Given as goal
 -- the samples of the numbers so far are there
 abbrev pub invariant-loop-step : goal.invariant-loop-step
 invariant-loop-step g l = record {
+  failures : g.D.Disk.failures l.disk ≡ g.D.Disk.failures l.fn.disk;
   disk : StaysWhole g.D.Disk l.fn.disk l.disk;
   path : g.D.Disk.path_of l.file ≡ g.D.Disk.path_of l.fn.file;
   room : length l.room ≡ 8 * longest_body;

@@ -1,7 +1,8 @@
-use Rattle.std.proofs.Common.{◌≡◌, ◌∙◌, ◌++◌, ◌∷◌, [], rules, map, sym, subst}
+use Rattle.std.proofs.Common.{◌≡◌, ◌∙◌, ◌++◌, ◌∷◌, [], rules, ap, map, sym, subst}
 use Rattle.std.proofs.lemmas.Map.Iter.{iter_end}
 use Rattle.bw_disk.proofs.DiskChains.{stays_twice}
 use Rattle.bw_takes.specs.TakeNames.{AreNamesInOrder, ListsTakes}
+use Rattle.bw_takes.specs.TakeSummaries.{summary_of}
 use Rattle.bw_takes.proofs.ProgressLemmas.{each_next, names_next}
 use Rattle.bw_takes.proofs.progress.progress_in.Goals as goal
 
@@ -16,7 +17,7 @@ loop-name-preserved g c =
       names = names_next _ _ c.progress_of.result _ c.in-Some.name pushed i.names (p.name ∙ c.copy.ensures);
       each = λ honest. each_next g.D.Disk c.args.folder.now c.args.disk.now c.loop-name.disk _ _
           c.progress_of.result _ _ pushed i.disk honest
-          (i.each honest) (p.name ∙ c.copy.ensures) p.shows f.found;
+          (i.each honest) (p.name ∙ c.copy.ensures) p.shows (λ h. ap summary_of (f.found h));
     }
 
 pub returns-clause-takes : goal.returns-clause-takes

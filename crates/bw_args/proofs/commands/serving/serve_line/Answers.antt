@@ -1,4 +1,4 @@
-use Rattle.std.proofs.Common.{codes, subst, sym}
+use Rattle.std.proofs.Common.{codes, refl, subst, sym}
 use Rattle.clap.specs.Words.{first_value, found_of}
 use Rattle.bw_args.specs.Lines.{GivesFolder, Serving, looked_at_serving, looked_at_waiting}
 use Rattle.bw_args.specs.declared.bad_value.BadValue.TheVariants.{Listen, Folder, Exchanges, Limit}
@@ -116,8 +116,8 @@ returns-in_default-status_given-clause-ok c = bad_line (found_of c.args.options.
     c.in_default-status_given.ensures))
     )
 
-pub returns-in_err-folder-clause-err : goal.returns-in_err-folder-clause-err
-returns-in_err-folder-clause-err c = on_err c.from_residual.result (
+pub returns-in_err-paths-clause-err : goal.returns-in_err-paths-clause-err
+returns-in_err-paths-clause-err c = on_err c.from_residual.result (
   Serving (record {
     listen = c.in-Some.listen;
     folder = c.in-Some-folder_given.path.now;
@@ -128,6 +128,7 @@ returns-in_err-folder-clause-err c = on_err c.from_residual.result (
     journal = c.in-Some-journaling.journal;
     rest = c.in-Some-rest_given.rest;
     one_name = c.flag_given-one_name.result;
+    allow = first_value (found_of c.args.options.now) (codes "allow");
     status = c.in-Ok-status_given.status;
   }),
   tt,
@@ -145,6 +146,7 @@ returns-in_err-folder-clause-err c = on_err c.from_residual.result (
     rests = a_rest (found_of c.args.options.now) _ _ _ c.flag_given-is_kept.ensures c.flag_given-is_asked.ensures
         c.in-Some-rest_given.ensures;
     names = c.flag_given-one_name.ensures;
+    allows = refl;
     shows = a_status (found_of c.args.options.now) _ _ c.flag_given-network.ensures c.in-Ok-status_given.ensures;
   }),
 )
@@ -153,7 +155,7 @@ pub returns-clause-ok : goal.returns-clause-ok
 returns-clause-ok c = server_asked (found_of c.args.options.now) _ (record {
   listens = an_address (found_of c.args.options.now) (codes "listen") _ _
       c.flag_given-network.ensures c.in-Some.ensures;
-  keeps = subst (GivesFolder _) (sym c.in_ok-folder.ensures.ok) c.in-Some-folder_given.ensures;
+  keeps = subst (GivesFolder _) (sym c.in_ok-paths.ensures.folder) c.in-Some-folder_given.ensures;
   ends = an_end (found_of c.args.options.now) _ _ _ c.flag_given.ensures c.in-Ok.ensures c.in-Some-end_given.ensures;
   limited = c.in-Some-limit_given.ensures;
   serves = c.in-Ok-recorders_given.ensures.ok;
@@ -163,5 +165,6 @@ returns-clause-ok c = server_asked (found_of c.args.options.now) _ (record {
   rests = a_rest (found_of c.args.options.now) _ _ _ c.flag_given-is_kept.ensures c.flag_given-is_asked.ensures
       c.in-Some-rest_given.ensures;
   names = c.flag_given-one_name.ensures;
+  allows = c.in_ok-paths.ensures.allow;
   shows = a_status (found_of c.args.options.now) _ _ c.flag_given-network.ensures c.in-Ok-status_given.ensures;
 })

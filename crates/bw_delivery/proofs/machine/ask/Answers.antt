@@ -1,0 +1,43 @@
+use Rattle.std.proofs.Common.{rules, refl, ap, ◌∙◌}
+use Rattle.bw_disk.specs.MemoryDisks.{content_at}
+use Rattle.bw_disk.specs.declared.memory_disk.MemoryDisk.{MemoryDisk}
+use Rattle.bw_journal.specs.Stops.{cut_book}
+use Rattle.bw_kept.proofs.LeftFolders.{kept_servers_leave_done}
+use Rattle.bw_delivery.proofs.LifeLemmas.{turn_stays}
+use Rattle.bw_delivery.proofs.ServedWorlds.{turns_of_worlds, deaths_are_steps}
+use Rattle.bw_commands.specs.RehearsedWorlds.{no_contents}
+use Rattle.bw_session.proofs.OrderLaws.{waiting_in_order}
+use Rattle.bw_delivery.proofs.MachineForms.{left_at}
+use Rattle.bw_delivery.proofs.machine.ask.Goals as goal
+
+pub returns-then-not-has_died : goal.returns-then-not-has_died
+returns-then-not-has_died c = λ limit w is.
+    let t = turns_of_worlds _ _ _ _ no_contents w _ _ _ _ is.holds tt c.ask-reply.ensures.answered in
+    let stays = turn_stays _ _ _ _ _ _ (record { frame = _; replies = _ }) c.ask-reply.ensures.answered in
+    record {
+      later = t.later;
+      next = t.next;
+      running = record {
+        limited = stays.limit ∙ is.limited;
+        holds = t.serves;
+        takes_live = search rules;
+        notes_live = search rules;
+      };
+    }
+
+pub returns : goal.returns
+returns c = λ limit w is.
+    let d = deaths_are_steps _ _ _ _ (kept_servers_leave_done _ _ (waiting_in_order _ _)) no_contents w _ _ _ _
+    is.holds tt c.ask-reply.ensures.answered in
+    let stays = turn_stays _ _ _ _ _ _ (record { frame = _; replies = _ }) c.ask-reply.ensures.answered in
+    let apart = c.in_ok-folder.ensures in
+    record {
+      silent = refl;
+      given = _;
+      later = d.later;
+      left = d.left;
+      next = d.next;
+      stands = left_at limit _ (cut_book d.left) _ _ _ _ _ _ (stays.limit ∙ is.limited) apart.journal apart.store
+          (ap (λ (m : MemoryDisk). content_at m.files.items) apart.notes)
+          (ap (λ (m : MemoryDisk). content_at m.files.items) apart.takes) d.stands;
+    }

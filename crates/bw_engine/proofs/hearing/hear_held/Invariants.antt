@@ -1,9 +1,0 @@
-use Rattle.std.proofs.Common.{length}
-use Rattle.bw_engine.specs.Hears.{HearsMore}
-use Rattle.bw_engine.proofs.hearing.hear_held.Given as goal
-
-abbrev pub invariant-loop : goal.invariant-loop
-invariant-loop l = HearsMore l.fn.sender l.sender l.fn.framer l.framer
-
-abbrev pub decreases-loop : goal.decreases-loop
-decreases-loop l = length l.framer.bytes

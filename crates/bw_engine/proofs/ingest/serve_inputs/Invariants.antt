@@ -1,7 +1,0 @@
-use Rattle.std.proofs.Common.{take}
-use Rattle.bw_engine.specs.IngestRuns.{ServesInputs, input_bytes}
-use Rattle.bw_engine.proofs.ingest.serve_inputs.Given as goal
-
-abbrev pub invariant-loop-input : goal.invariant-loop-input
-invariant-loop-input g l = ServesInputs g.T.Turns.answers l.fn.server l.server (input_bytes (take l.input-index l.inputs))
-    l.reported

@@ -1,5 +1,0 @@
-use Rattle.bw_engine.proofs.ServedRuns.{servers_run}
-use Rattle.bw_engine.proofs.laws.law_server_runs.Goals as goal
-
-pub returns : goal.returns
-returns g c = servers_run g.S.TakeStore g.J.Journal

@@ -1,5 +1,0 @@
-use Rattle.bw_engine.proofs.ListeningSteps.{heard_nothing}
-use Rattle.bw_engine.proofs.talk.Talk.new.Goals as goal
-
-pub returns-clause-heard : goal.returns-clause-heard
-returns-clause-heard c = heard_nothing _ c.new.ensures

@@ -1,0 +1,183 @@
+//! A server that is given only what its peer may say.
+ghost use Rattle.std.specs.Prelude.{◌≡◌, ◌<◌, ◌≤◌, [], ◌∷◌, map, length};
+ghost use Rattle.std.specs.List.{All};
+ghost use Rattle.bw_model.specs.Wire.{Says, Asks};
+ghost use Rattle.bw_wire.specs.Frames.{message_of, asked_name, asked_number};
+ghost use Rattle.bw_wire.specs.Replies.{reply_of, HasWireNumbers};
+ghost use Rattle.bw_exchange.specs.MeteredServers.{AnswersCounted};
+ghost use Rattle.bw_wire.specs.Held.{longest_message_piece};
+ghost use Rattle.bw_connections.specs.Places.{connection_count};
+ghost use Rattle.bw_connections.specs.Quanta.{WorksAt};
+ghost use Rattle.bw_serve.specs.Guards.{Guarded, GuardedOverCommits};
+ghost use Rattle.bw_serve.specs.GuardedServers.{metered_commits};
+ghost use Rattle.bw_serve.specs.ServedOne.{ServesTo};
+
+use crate::serving_one::{Ended, serve_link};
+use arrayvec::ArrayVec;
+use bw_connections::{Closed, Connections};
+use bw_exchange::{Metered, NotKept, Turns};
+use bw_operators::AllowList;
+use bw_ports::Link;
+use bw_stream::{Sink, Source};
+use bw_wire::{Ask, Message, Notice, Reply};
+use std::alloc::Global;
+use std::net::SocketAddr;
+
+/// A peer, and the list that says which names may come from it.
+#[derive(Clone, Copy)]
+pub(crate) struct Gate<'a> {
+    pub(crate) allow: &'a AllowList,
+    pub(crate) peer: SocketAddr,
+}
+
+impl Gate<'_> {
+    /// Has a server answer the peer's message, or turns it away: then it is counted, and the server
+    /// only told of it.
+    fn turn<T: Turns>(
+        &self,
+        server: &mut Metered<T>,
+        message: &Message<'_>,
+        replies: &mut ArrayVec<Reply, 17>,
+    )
+        ensures answered { AnswersCounted (Guarded T.answers self.now.allow.now self.now.peer) server.old
+            (Says (message_of message.now)) (map reply_of replies.new.items) server.new }
+        ensures numbers { All HasWireNumbers replies.new.items }
+    {
+        let name = message.name();
+        if self.allow.allows(self.peer, &name) {
+            server.turn(message, replies);
+            return;
+        }
+        server.count(message);
+        server.note_refused(self.peer, &name);
+        replies.clear();
+        replies.push(Reply::Notice {
+            name,
+            number: message.number(),
+            code: Notice::TableFull,
+            next: 0,
+        });
+    }
+
+    /// Has a server answer the peer's ask, or answers that nothing came yet.
+    fn ask<T: Turns>(&self, server: &mut Metered<T>, ask: &Ask<'_>) -> Reply
+        ensures answered { AnswersCounted (Guarded T.answers self.now.allow.now self.now.peer) server.old
+            (Asks (asked_name ask.now) (asked_number ask.now)) (reply_of result ∷ []) server.new }
+        ensures numbers { HasWireNumbers result }
+    {
+        let name = ask.name();
+        if self.allow.allows(self.peer, &name) {
+            return server.ask(ask);
+        }
+        Reply::Notice {
+            name,
+            number: ask.number(),
+            code: Notice::Next,
+            next: 0,
+        }
+    }
+}
+
+/// A server in a quantum of its peer's connection. The event loop commits it after the round, before
+/// any of these replies leaves: so nothing is committed here.
+#[derive(Drop)]
+pub(crate) struct GuardedQuantum<'a, T> {
+    pub(crate) metered: &'a mut Metered<T>,
+    pub(crate) gate: Gate<'a>,
+}
+
+impl<T: Turns> Turns for GuardedQuantum<'_, T> {
+    ghost use Rattle.bw_exchange.specs.Commits.{CommitsNothing};
+    ghost use Rattle.bw_serve.specs.GuardedServers.{AnswersInQuantum};
+
+    ghost answers = { AnswersInQuantum T.answers };
+
+    ghost committed = { λ g. Unit {0} };
+
+    ghost commits = { CommitsNothing };
+
+    fn turn(&mut self, message: &Message<'_>, replies: &mut ArrayVec<Reply, 17>) {
+        self.gate.turn(self.metered, message, replies);
+    }
+
+    fn ask(&mut self, ask: &Ask<'_>) -> Reply {
+        self.gate.ask(self.metered, ask)
+    }
+
+    fn commit(&mut self) -> Result<(), NotKept> {
+        Ok(())
+    }
+}
+
+/// A server in a whole exchange with a peer.
+#[derive(Drop)]
+pub(crate) struct GuardedExchange<'a, T> {
+    pub(crate) metered: &'a mut Metered<T>,
+    pub(crate) gate: Gate<'a>,
+}
+
+impl<T: Turns> Turns for GuardedExchange<'_, T> {
+    ghost use Rattle.bw_exchange.specs.MeteredServers.{metered_server};
+    ghost use Rattle.bw_serve.specs.GuardedServers.{AnswersInExchange, CommitsInExchange};
+
+    ghost answers = { AnswersInExchange T.answers T.committed };
+
+    ghost committed = { λ g. T.committed (metered_server g.metered.now) };
+
+    ghost commits = { CommitsInExchange T.commits };
+
+    fn turn(&mut self, message: &Message<'_>, replies: &mut ArrayVec<Reply, 17>) {
+        self.gate.turn(self.metered, message, replies);
+    }
+
+    fn ask(&mut self, ask: &Ask<'_>) -> Reply {
+        self.gate.ask(self.metered, ask)
+    }
+
+    fn commit(&mut self) -> Result<(), NotKept> {
+        self.metered.commit_server()
+    }
+}
+
+/// One quantum of the connection at a place, whose frames come from the gate's peer.
+pub(crate) fn work_guarded<L: Link + Drop, T: Turns>(
+    connections: &mut Connections<L>,
+    place: usize,
+    gate: &Gate<'_>,
+    server: &mut Metered<T>,
+    buffer: &mut [u8],
+    now: u64,
+) -> Option<Closed<L>>
+    requires place { place < connection_count connections.old }
+    requires buffer { length buffer.old ≤ longest_message_piece }
+    ensures { WorksAt L.Link (AnswersCounted (Guarded T.answers gate.now.allow.now gate.now.peer)) place now
+        result connections.old connections.new server.old server.new }
+{
+    let mut guarded = GuardedQuantum {
+        metered: server,
+        gate: *gate,
+    };
+    connections.work(place, &mut guarded, buffer, now)
+}
+
+/// Serves one exchange with the gate's peer, as `serve_link` does.
+pub(crate) fn serve_guarded<R: Source, W: Sink, T: Turns, O: Sink>(
+    alloc: Global,
+    gate: &Gate<'_>,
+    server: &mut Metered<T>,
+    reader: &mut R,
+    writer: &mut W,
+    index: u64,
+    out: &mut O,
+) -> Ended
+    ensures { ServesTo
+        (AnswersCounted (GuardedOverCommits T.answers T.committed gate.now.allow.now gate.now.peer))
+        (metered_commits T.commits) R.Source W.Sink O.Sink index result.end result.exit server.old
+        server.new reader.old reader.new writer.old writer.new out.old out.new }
+{
+    let mut guarded = GuardedExchange {
+        metered: server,
+        gate: *gate,
+    };
+    serve_link(alloc, &mut guarded, reader, writer, index, out)
+}
