@@ -65,7 +65,8 @@ form_for check json digest =
 abbrev pub IsWorkDone : {D DF F L P O E : Type 0} → FolderSide D DF F L P O E → FolderWork →
     List ℕ → D → D → F → F → Outcome → Type 0
 IsWorkDone side (Report check json digest) folder d d' f f' did =
-    IsShowing (form_for check json digest) (side.disk.honest d) folder (side.disk.contents d) did
+    IsShowing (form_for check json digest) (side.disk.honest d) folder (side.disk.contents d)
+    (side.disk.failures d) (side.disk.failures d') did
     × StaysWhole side.disk d d' × (f' ≡ f)
 IsWorkDone side Watch folder d d' f f' did = ⊥
 IsWorkDone side (GiveUp name) folder d d' f f' did = (answer : Result _ LockRefusal)

@@ -7,3 +7,4 @@ pub mod ProgressLemmas
 pub mod RoundLemmas
 pub mod WatchLemmas
 pub mod EndLemmas
+pub mod ReadCountLemmas

@@ -1,7 +1,7 @@
 -- The takes that the files of a folder belong to.
-use Rattle.std.proofs.Common.{◌≡◌, ◌⊎◌, inl, inr, ℕ, ◌+◌, ◌<◌, ◌≤◌, Bool, true, false, ◌&&◌, not, List, [], ◌∷◌, ◌++◌, length, map, take}
+use Rattle.std.proofs.Common.{◌≡◌, inl, inr, ℕ, ◌+◌, ◌<◌, ◌≤◌, Bool, true, ◌&&◌, not, List, [], ◌∷◌, ◌++◌, length, map, take}
 use Rattle.std.proofs.Common.{Option, Some, None, refl, sym, ◌∙◌, ap, subst, IsTrue}
-use Rattle.std.specs.Prelude.{◌↔◌, ◌==◌, IsSome, IfSome, get_or, codes, IsUtf8}
+use Rattle.std.specs.Prelude.{◌==◌, IsSome, IfSome, get_or, codes, IsUtf8}
 use Rattle.std.specs.Option.{SomeIff}
 use Rattle.std.specs.List.{All, Contains, list_all}
 use Rattle.std.proofs.lemmas.Bool.{and_parts, and_from}

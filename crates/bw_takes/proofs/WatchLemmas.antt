@@ -27,7 +27,7 @@ module _ {D F P W E : Type 0} (G : Ghosts D F) (waits : P → ℕ → P → Type
   last_stays : (before : List Row) (d d' : D) (did : Outcome) →
       IsLastRound (watch_side (reads_folder G) (fails_folder G) waits out reported) style folder before d d' did →
       StaysWhole G d d'
-  last_stays before d d' did (inl unread) = unread.1
+  last_stays before d d' did (inl unread) = unread.1.disk
   last_stays before d d' did (inr cut) = cut.1.disk
 
   ends_stay : (count : ℕ) (rows : List Row) (exit : Exit) (x x' : WatchWorld D P W E) →

@@ -6,6 +6,7 @@ use Rattle.bw_disk.specs.declared.disk.Disk.{Ghosts}
 use Rattle.bw_disk.specs.declared.reading.ReadFault.{ReadFault}
 use Rattle.bw_takes.specs.TakeLines.{state_word}
 use Rattle.bw_takes.specs.TakeNames.{ListsTakes, AreNamesInOrder}
+use Rattle.bw_takes.specs.ReadCounts.{CountsFault}
 use Rattle.bw_takes.specs.TakeReports.{cause_word, summary_in}
 use Rattle.bw_takes.specs.TakeSummaries.{TakeSummary, Stands, Unopened, Opened, Faulty, Changed}
 use Rattle.bw_takes.specs.declared.comparing.Depth.TheVariants.{Journals}
@@ -63,10 +64,11 @@ pub record AreTakesOf (folder : List ℕ) (contents : List ℕ → Option (List 
   pub lists : ListsTakes folder contents (map (λ take. take.name) takes)
   pub each : All (λ take. ShowsSummary (summary_in Journals folder contents take.name) take) takes
 
--- a disk is read, and stays as it is: these are its folder's takes
+-- a disk is read, of which no call fails, and stays as it is: these are its folder's takes
 pub record ReadsFolder {D F : Type 0} (G : Ghosts D F) (d : D) (folder : List ℕ)
     (takes : List TakeProgress) (d' : D) : Type 0 where
   pub disk : StaysWhole G d d'
+  pub quiet : G.failures d' ≡ G.failures d
   pub are : IsTrue (G.honest d) → AreTakesOf folder (G.contents d) takes
 
 -- the same as what a reader of a disk may read
@@ -74,6 +76,11 @@ abbrev pub reads_folder : {D F : Type 0} → Ghosts D F → D → List ℕ → L
     Type 0
 reads_folder G d folder takes d' = ReadsFolder G d folder takes d'
 
--- a disk that can't be read stays as it is
+-- a disk that can't be read stays as it is, and counts what failed
+pub record FailsFolder {D F : Type 0} (G : Ghosts D F) (d : D) (fault : ReadFault) (d' : D) : Type 0 where
+  pub disk : StaysWhole G d d'
+  pub counted : CountsFault (G.failures d) (G.failures d') fault
+
+-- the same as how a reader of a disk may fail
 abbrev pub fails_folder : {D F : Type 0} → Ghosts D F → D → List ℕ → ReadFault → D → Type 0
-fails_folder G d folder fault d' = StaysWhole G d d'
+fails_folder G d folder fault d' = FailsFolder G d fault d'

@@ -6,6 +6,7 @@ pub mod TakeSummaries
 pub mod TakeDigests
 pub mod TakeObjects
 pub mod UnreadEntries
+pub mod ReadCounts
 pub mod TakeReports
 pub mod Showings
 pub mod GiveUpShowings

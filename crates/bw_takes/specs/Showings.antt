@@ -9,6 +9,7 @@ use Rattle.bw_console.specs.declared.exit.Exit.{Exit}
 use Rattle.bw_console.specs.declared.exit.Exit.TheVariants as exits
 use Rattle.bw_console.specs.declared.fault.Fault.TheVariants as faults
 use Rattle.bw_takes.specs.declared.listing.ReportForm.{ReportForm}
+use Rattle.bw_takes.specs.ReadCounts.{Rises, has_lines}
 use Rattle.bw_takes.specs.TakeReports.{ReportsTakes, Told}
 use Rattle.bw_takes.specs.UnreadEntries.{unread_text}
 
@@ -47,10 +48,11 @@ ReportsUnread reported told exit e e' =
     ⊎ ((0 < length told.unread) × (exit ≡ exits.Device)
     × ((print : Print) × IsOf told.unread print × IsPrint reported print e e'))
 
--- the takes of a folder are reported
+-- the takes of a folder are reported, a file as one that can't be read only if a call failed
 pub record ShowsReport (form : ReportForm) (honest : Bool) (folder : List ℕ)
-    (contents : List ℕ → Option (List ℕ)) (did : Outcome) : Type 0 where
+    (contents : List ℕ → Option (List ℕ)) (before after : ℕ) (did : Outcome) : Type 0 where
   pub told : Told
+  pub counted : Rises before after (has_lines told.unread)
   pub is : IsTrue honest → ReportsTakes form folder contents told
   pub printed : PrintsTold told did
   pub reads : did.reads_all ≡ true
@@ -62,9 +64,11 @@ pub record IsFolderUnread (folder : List ℕ) (did : Outcome) : Type 0 where
   pub exit_is : did.exit ≡ exits.Device
   pub reads : did.reads_all ≡ true
 
--- what the command did over a folder, where the disk is as honest as this, and has these contents
-abbrev pub IsShowing : ReportForm → Bool → List ℕ → (List ℕ → Option (List ℕ)) →
+-- what the command did over a folder, where the disk is as honest as this, and has these contents, and
+-- so many of its calls had failed before and after
+abbrev pub IsShowing : ReportForm → Bool → List ℕ → (List ℕ → Option (List ℕ)) → ℕ → ℕ →
     Outcome → Type 0
-IsShowing form honest folder contents did =
-    ShowsReport form honest folder contents did ⊎ IsFolderUnread folder did
+IsShowing form honest folder contents before after did =
+    ShowsReport form honest folder contents before after did
+    ⊎ (IsFolderUnread folder did × Rises before after true)
     ⊎ IsOutOfMemory did

@@ -1,6 +1,6 @@
 -- The parts of the line of a take, and what it is judged by.
 use Rattle.std.specs.Prelude.{◌/◌, ◌%◌, ◌*◌, ◌==◌, ◌&&◌, ℕ, Bool, Result, Ok, Err}
-use Rattle.std.specs.Prelude.{List, [], ◌∷◌, ◌++◌, codes, decimal, length, take, drop}
+use Rattle.std.specs.Prelude.{List, ◌++◌, codes, decimal, length, take, drop}
 use Rattle.std.specs.Prelude.{min, nat_le, if◌then◌else◌}
 use Rattle.hex.specs.Hex.{decode_sized, encode_lower}
 use Rattle.hex.specs.declared.error.FromHexError.{FromHexError}

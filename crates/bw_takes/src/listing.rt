@@ -1,7 +1,9 @@
 //! The lines of a folder's takes.
-ghost use Rattle.std.specs.Prelude.{◌≡◌, ◌++◌, ◌&&◌, IsTrue, IfOk, OnOk};
+ghost use Rattle.std.specs.Prelude.{◌≡◌, ◌≤◌, ◌++◌, ◌&&◌, ℕ, true, IsTrue, IfOk, IfErr, OnOk};
 ghost use Rattle.bw_console.specs.Text.{as_line};
 ghost use Rattle.bw_disk.specs.DiskSteps.{StaysWhole};
+ghost use Rattle.bw_disk.specs.declared.reading.ReadFault.TheVariants.{Memory};
+ghost use Rattle.bw_takes.specs.ReadCounts.{CountsReport, Rises, has_lines};
 ghost use Rattle.bw_takes.specs.TakeReports.{ReportsTakes, TellsTake, finding_summary, styled_line};
 ghost use Rattle.bw_takes.specs.TakeReports.{TellsUnreadEntry, told_by};
 ghost use Rattle.bw_takes.specs.TakeSummaries.{is_sound_summary};
@@ -63,6 +65,8 @@ pub fn report_takes<D: Volume>(
     folder: &str,
     form: ReportForm,
 ) -> Result<TakesReport, ReadFault>
+    // A file is reported as one that can't be read only if a call of the disk failed.
+    ensures failures { CountsReport (D.failures disk.old) (D.failures disk.new) result }
     ensures disk { StaysWhole D.Disk disk.old disk.new }
     // A line follows from the journal's bytes and the file's alone.
     ensures report { IsTrue (D.honest disk.old) → IfOk result (λ report.
@@ -89,6 +93,10 @@ fn put_take<D: Volume>(
     form: ReportForm,
     report: &mut TakesReport,
 ) -> Result<(), ReadFault>
+    ensures counted { (start : ℕ) → Rises start (D.failures disk.old) (has_lines report.old.unread.items) →
+        OnOk result (Rises start (D.failures disk.new) (has_lines report.new.unread.items)) }
+    ensures grows { D.failures disk.old ≤ D.failures disk.new }
+    ensures memory { IfErr result (λ fault. fault ≡ Memory) }
     ensures disk { StaysWhole D.Disk disk.old disk.new }
     ensures told { IsTrue (D.honest disk.old) → OnOk result (TellsTake form folder.now
         (D.contents disk.old) name.now (told_by report.old) (told_by report.new)) }
@@ -108,6 +116,7 @@ fn put_found(
     take: &Examined,
     report: &mut TakesReport,
 ) -> Result<(), ReadFault>
+    ensures memory { IfErr result (λ fault. fault ≡ Memory) }
     ensures line { OnOk result (report.new.lines.items ≡ report.old.lines.items
         ++ styled_line style name.now (finding_summary take.now.finding) take.now.digest) }
     ensures unread { report.new.unread ≡ report.old.unread }
@@ -129,7 +138,10 @@ fn put_unread<D: Volume>(
     name: &Name,
     report: &mut TakesReport,
 ) -> Result<(), ReadFault>
+    ensures grows { D.failures disk.old ≤ D.failures disk.new }
+    ensures memory { IfErr result (λ fault. fault ≡ Memory) }
     ensures disk { StaysWhole D.Disk disk.old disk.new }
+    ensures lines_unread { OnOk result (has_lines report.new.unread.items ≡ true) }
     ensures unread { OnOk result (TellsUnreadEntry folder.now name.now
         report.old.unread.items report.new.unread.items) }
     ensures lines { report.new.lines ≡ report.old.lines }

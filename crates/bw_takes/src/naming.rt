@@ -1,7 +1,9 @@
 //! The names of the takes of a folder.
-ghost use Rattle.std.specs.Prelude.{◌≡◌, ◌++◌, ℕ, List, Some, IsTrue, IfSome, IfOk, OnOk, codes};
+ghost use Rattle.std.specs.Prelude.{◌≡◌, ◌++◌, ℕ, List, Some, IsTrue, IfSome, IfOk, IfErr, OnOk, codes};
 ghost use Rattle.bw_model.specs.Wire.{is_name as is_take_name};
 ghost use Rattle.bw_disk.specs.DiskSteps.{StaysWhole};
+ghost use Rattle.bw_disk.specs.declared.reading.ReadFault.TheVariants.{Memory};
+ghost use Rattle.bw_takes.specs.ReadCounts.{CountsRead};
 ghost use Rattle.bw_takes.specs.TakeNames.{IsFileOf, ListsTakes, AreNamesInOrder, AddsTake};
 
 use bw_disk::{ReadFault, Volume};
@@ -14,7 +16,7 @@ use std::collections::BTreeSet;
 /// bytes. Nothing is changed.
 ///
 /// # Errors
-/// `Disk` if a call of the disk failed; `Memory` if memory was refused.
+/// `Disk` if the folder can't be listed; `Memory` if memory was refused.
 ///
 /// # Not specified
 /// When memory is refused.
@@ -23,6 +25,7 @@ pub fn takes_in<D: Volume>(
     disk: &mut D,
     folder: &str,
 ) -> Result<BTreeSet<Name>, ReadFault>
+    ensures failures { CountsRead (D.failures disk.old) (D.failures disk.new) result }
     ensures disk { StaysWhole D.Disk disk.old disk.new }
     ensures ordered { IfOk result (λ names. AreNamesInOrder names.keys) }
     ensures each { IsTrue (D.honest disk.old) →
@@ -38,6 +41,7 @@ pub fn takes_in<D: Volume>(
 
 /// Adds the take that a file belongs to, if it belongs to one.
 fn add_take(file: &str, names: &mut BTreeSet<Name>) -> Result<(), ReadFault>
+    ensures memory { IfErr result (λ fault. fault ≡ Memory) }
     ensures added { OnOk result (AddsTake file.now names.old.keys names.new.keys) }
     ensures ordered { AreNamesInOrder names.old.keys → AreNamesInOrder names.new.keys }
 {

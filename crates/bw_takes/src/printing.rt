@@ -35,7 +35,8 @@ pub fn show_takes<D: Volume, W: Sink, E: Sink>(
     faults: &mut E,
 ) -> Exit
     ensures { (did : Outcome) × (did.exit ≡ result)
-        × IsShowing form (D.honest disk.old) folder.now (D.contents disk.old) did
+        × IsShowing form (D.honest disk.old) folder.now (D.contents disk.old) (D.failures disk.old)
+        (D.failures disk.new) did
         × StaysWhole D.Disk disk.old disk.new
         × HasWritten W.Sink E.Sink did out.old out.new faults.old faults.new }
 {

@@ -4,6 +4,7 @@ ghost use Rattle.bw_disk.specs.DiskSteps.{StaysWhole};
 ghost use Rattle.bw_disk.specs.declared.reading.ReadFault.{ReadFault as Fault};
 ghost use Rattle.bw_journal.specs.Rows.{row_count};
 ghost use Rattle.bw_takes.specs.FolderProgress.{AreTakesOf, ShowsSummary, fails_folder, reads_folder};
+ghost use Rattle.bw_takes.specs.ReadCounts.{CountsRead};
 ghost use Rattle.bw_takes.specs.TakeReports.{finding_summary};
 ghost use Rattle.bw_takes.specs.TakeSummaries.{story_summary};
 ghost use Rattle.bw_takes.specs.declared.progress.TakeProgress.{TakeProgress as Progress};
@@ -92,6 +93,7 @@ fn progress_in<D: Volume>(
     disk: &mut D,
     folder: &str,
 ) -> Result<Vec<TakeProgress>, ReadFault>
+    ensures failures { CountsRead (D.failures disk.old) (D.failures disk.new) result }
     ensures disk { StaysWhole D.Disk disk.old disk.new }
     ensures takes { IsTrue (D.honest disk.old) →
         IfOk result (λ takes. AreTakesOf folder.now (D.contents disk.old) takes.items) }

@@ -1,6 +1,7 @@
 //! Which file of a take can't be read.
-ghost use Rattle.std.specs.Prelude.{◌≡◌};
+ghost use Rattle.std.specs.Prelude.{◌≡◌, ◌≤◌, IfErr};
 ghost use Rattle.bw_disk.specs.DiskSteps.{StaysWhole};
+ghost use Rattle.bw_disk.specs.declared.reading.ReadFault.TheVariants.{Memory};
 ghost use Rattle.bw_takes.specs.UnreadEntries.{entry_ending};
 
 use bw_disk::{ReadFault, Volume, read_file};
@@ -41,6 +42,8 @@ pub(crate) fn find_unread<D: Volume>(
     folder: &str,
     name: &Name,
 ) -> Result<TakeEntry, ReadFault>
+    ensures grows { D.failures disk.old ≤ D.failures disk.new }
+    ensures memory { IfErr result (λ fault. fault ≡ Memory) }
     ensures disk { StaysWhole D.Disk disk.old disk.new }
 {
     let notes = path_in(alloc, folder, name, ".journal")?;

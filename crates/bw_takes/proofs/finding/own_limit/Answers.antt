@@ -1,4 +1,4 @@
-use Rattle.std.proofs.Common.{◌≡◌, ◌∙◌, ap, ℕ, List, drop, take}
+use Rattle.std.proofs.Common.{◌∙◌, ap, ℕ, List, drop, take}
 use Rattle.hex.specs.Hex.{decode_sized}
 use Rattle.bw_takes.specs.TakeLines.{own_limit, limit_spelled}
 use Rattle.bw_takes.proofs.finding.own_limit.Goals as goal

@@ -1,7 +1,8 @@
-use Rattle.std.proofs.Common.{◌≤◌, List, ℕ, map, length, sym, subst}
+use Rattle.std.proofs.Common.{◌≤◌, List, ℕ, map, length, refl, rules, sym, subst}
 use Rattle.std.specs.Prelude.{string_bytes}
 use Rattle.std.proofs.lemmas.List.{length-map}
 use Rattle.bw_disk.specs.Volumes.{Lists}
+use Rattle.bw_takes.proofs.ReadCountLemmas.{refused_read}
 use Rattle.bw_takes.proofs.TakeNameLemmas.{text_at, only_next, each_next, listed_all}
 use Rattle.bw_takes.proofs.naming.takes_in.Goals as goal
 
@@ -30,3 +31,9 @@ returns-clause-each g c = λ honest.
     listed_all c.args.folder.now (g.D.Disk.contents c.args.disk.now) files c.loop-file.names.keys c.loop-file.file-index
     all (subst (λ (xs : List _). Lists c.args.folder.now (g.D.Disk.contents c.args.disk.now) (map string_bytes xs))
     (sym c.deref-file-items.ensures.value) (c.in_ok-listed.ensures.names honest)) i.only i.each
+
+pub returns-in_err-add_take-clause-failures : goal.returns-in_err-add_take-clause-failures
+returns-in_err-add_take-clause-failures g c =
+    let same = c.in_ok-listed.ensures.call.failed.quiet refl in
+    let is = c.in_err-add_take.ensures.memory in
+    search (rules, refused_read (g.D.Disk.failures c.args.disk.now) (g.D.Disk.failures c.list.new.self) _ same is)

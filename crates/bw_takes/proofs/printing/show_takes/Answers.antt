@@ -8,7 +8,13 @@ returns-in-Ok g c =
     let p = c.print_report.ensures in (
       p.0,
       p.1,
-      inl (record { told = told_by c.in-Ok.report; is = c.in-Ok.ensures.report; printed = p.3; reads = p.2 }),
+      inl (record {
+        told = told_by c.in-Ok.report;
+        counted = c.in-Ok.ensures.failures;
+        is = c.in-Ok.ensures.report;
+        printed = p.3;
+        reads = p.2;
+      }),
       c.report_takes.ensures.disk,
       p.4,
     )

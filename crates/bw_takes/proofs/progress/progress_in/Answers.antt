@@ -1,4 +1,4 @@
-use Rattle.std.proofs.Common.{◌≡◌, ◌∙◌, ◌++◌, ◌∷◌, [], rules, ap, map, sym, subst}
+use Rattle.std.proofs.Common.{◌≡◌, ◌∙◌, ◌++◌, ◌∷◌, [], rules, refl, ap, map, sym, subst}
 use Rattle.std.proofs.lemmas.Map.Iter.{iter_end}
 use Rattle.bw_disk.proofs.DiskChains.{stays_twice}
 use Rattle.bw_takes.specs.TakeNames.{AreNamesInOrder, ListsTakes}
@@ -13,6 +13,7 @@ loop-name-preserved g c =
     let p = c.progress_of.ensures in
     let pushed : c.push.new.self.items ≡ c.loop-name.takes.items ++ c.progress_of.result ∷ [] = search rules in
     record {
+      quiet = f.failures.quiet refl ∙ i.quiet;
       disk = stays_twice g.D.Disk _ _ _ i.disk f.disk;
       names = names_next _ _ c.progress_of.result _ c.in-Some.name pushed i.names (p.name ∙ c.copy.ensures);
       each = λ honest. each_next g.D.Disk c.args.folder.now c.args.disk.now c.loop-name.disk _ _

@@ -10,6 +10,7 @@ use Rattle.bw_takes.proofs.progress.progress_in.Given as goal
 -- nothing has changed, and the takes are those of the names so far
 abbrev pub invariant-loop-name : goal.invariant-loop-name
 invariant-loop-name g l = record {
+  quiet : g.D.Disk.failures l.disk ≡ g.D.Disk.failures l.fn.disk;
   disk : StaysWhole g.D.Disk l.fn.disk l.disk;
   names : map (λ take. take.name) l.takes.items ≡ lent l.yielded;
   each : IsTrue (g.D.Disk.honest l.fn.disk) →
