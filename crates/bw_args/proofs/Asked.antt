@@ -165,7 +165,7 @@ wished_good name options wish asked = go wish asked
         also (server.limit, a.1.limited) also (a.1.serves.timeout, a.1.serves.waits)
         also (a.1.serves.most, a.1.serves.serves) also (a.1.serves.idle, a.1.serves.idles)
         also (server.recorders, a.1.serves) also (server.end, a.1.ends) also (server.journal, a.1.journals)
-        also (server.rest, a.1.rests) also (server.status, a.1.shows) also tt)
+        also (server.rest, a.1.rests) also (server.status, a.1.shows) also (server.log, a.1.reports) also tt)
     go (Sending sender) a =
         let paceless = no_pace (given_on_line options) a.1.lines a.1.unmixed in
         at (codes "send") a.0 (

@@ -1,5 +1,5 @@
 -- Values of `serve` and `send` that are bad, and what they want.
-use Rattle.std.proofs.Common.{ℕ, List, [], ◌∷◌, ◌++◌, true, false, Option, Some, None}
+use Rattle.std.proofs.Common.{◌≢◌, ℕ, List, [], ◌∷◌, ◌++◌, true, false, Option, Some, None}
 use Rattle.std.proofs.Common.{codes}
 use Rattle.std.proofs.Common.{refl, subst}
 use Rattle.std.specs.declared.net.socket_addr.SocketAddr.{SocketAddr}
@@ -11,7 +11,7 @@ use Rattle.bw_args.specs.Numbers.{IsCountText, IsLimitText, default_idle, defaul
 use Rattle.bw_args.specs.Numbers.{most_rounds, most_seconds}
 use Rattle.bw_args.specs.Numbers.{number_written}
 use Rattle.bw_args.specs.ReadWords.{as_read}
-use Rattle.bw_args.specs.Lines.{GivesCount, GivesRecorders, GivesStatus, IsEnd, IsLineOf, IsName, IsRecordersGiven}
+use Rattle.bw_args.specs.Lines.{GivesCount, GivesLog, GivesRecorders, GivesStatus, IsEnd, IsLineOf, IsName, IsRecordersGiven}
 use Rattle.bw_args.specs.PeerForms.{RefusesPeers, WantsPeers}
 use Rattle.bw_args.specs.PeerForms.{sending, serving}
 use Rattle.bw_args.specs.declared.CommandLine.{CommandLine}
@@ -20,9 +20,11 @@ use Rattle.bw_args.proofs.Asked.{bad, ◌and_then◌}
 use Rattle.bw_args.proofs.ValueLemmas.{IsBadAt, LacksSender, LacksServer, nothing, reported}
 use Rattle.bw_args.specs.declared.bad_value.BadValue.TheVariants.{Name, Limit, Listen, Folder, Exchanges, Timeout}
 use Rattle.bw_args.specs.declared.bad_value.BadValue.TheVariants.{Recorders, Idle, Wait}
-use Rattle.bw_args.specs.declared.bad_value.BadValue.TheVariants.{UntilStopped, Sync, Rest, Status, Connect, Rounds}
+use Rattle.bw_args.specs.declared.bad_value.BadValue.TheVariants.{UntilStopped, Sync, Rest, Status, Log, Connect, Rounds}
 use Rattle.bw_args.specs.declared.peers.End.TheVariants as when
 use Rattle.bw_args.specs.declared.peers.Recorders.{Recorders as Way}
+use Rattle.bw_args.specs.declared.peers.Logging.{Logging}
+use Rattle.bw_args.specs.declared.peers.Logging.TheVariants.{Lines, Json}
 use Rattle.bw_args.specs.declared.peers.Recorders.TheVariants.{InTurn, AtOnce}
 use Rattle.bw_args.specs.declared.peers.Journaling.TheVariants.{Without}
 use Rattle.bw_args.proofs.ServerLemmas.{serves_by}
@@ -171,6 +173,24 @@ status count text given none program listen folder address at full = (
       and_then bad (λ good. no_status text good.0 none good.1),
 )
 
+-- nothing is reported in a form that is another word
+no_log : (text : Text) (form : Option Logging) → text ≢ codes "lines" → text ≢ codes "json"
+    → ¬ GivesLog (Some text) form
+no_log text None lines json given = given
+no_log text (Some Lines) lines json given = lines given
+no_log text (Some Json) lines json given = json given
+
+log : (text : Text) → text ≢ codes "lines" → text ≢ codes "json"
+    → LacksServer ((codes "--log=" ++ text) ∷ []) Log
+unfolding clap_on_literals
+log text lines json program listen folder address at full = (
+  refl,
+  (address, at) and_then (folder, (full, refl)) and_then nothing and_then (default_limit, refl) and_then nothing
+      and_then nothing and_then nothing and_then (InTurn None, serves_by None None None _ refl refl refl refl)
+      and_then (when.Exchanges 1, (None, refl, refl)) and_then (Without, refl) and_then (false, refl)
+      and_then (None, refl) and_then bad (λ good. no_log text good.0 lines json good.1),
+)
+
 connect : (program address name : Text) → ((a : SocketAddr) → ¬ IsAddress false address a)
     → IsBadAt (as_read (sending program address name [])) Connect
 unfolding clap_on_literals
@@ -216,6 +236,7 @@ refuses_peers words line is = record {
   status_alone = λ t p l f a at full e. reported words _ line Status is e (status_alone t p l f a at full);
   status = λ k t given none p l f a at full e. reported words _ line Status is e
       (status k t given none p l f a at full);
+  log = λ t lines json p l f a at full e. reported words _ line Log is e (log t lines json p l f a at full);
   connect = λ p c n none e. reported words _ line Connect is e (connect p c n none);
   connect_far = λ p c n none e. reported words _ line Connect is e (connect_far p c n none);
   name = λ p c n a at none e. reported words _ line Name is e (name p c n a at none);

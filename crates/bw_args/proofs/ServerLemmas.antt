@@ -17,13 +17,14 @@ use Rattle.bw_args.specs.Numbers.{most_recorders, most_seconds}
 use Rattle.bw_args.specs.Numbers.{number_written}
 use Rattle.bw_args.specs.ReadWords.{as_read}
 use Rattle.bw_args.specs.Lines.{AsksFor, GivesAddress, GivesCount, GivesEnd, GivesFolder, GivesLimit, GivesRecorders, GivesStatus}
-use Rattle.bw_args.specs.Lines.{GivesServer, IsJournaling, GivesRest, IsLineOf, IsRecorders, IsWishOf, Service, Serving, Wish, is_set}
+use Rattle.bw_args.specs.Lines.{GivesLog, GivesServer, IsJournaling, GivesRest, IsLineOf, IsRecorders, IsWishOf, Service, Serving, Wish, is_set}
 use Rattle.bw_args.specs.PeerForms.{RunsServer, plain_server}
 use Rattle.bw_args.specs.PeerForms.{serving}
 use Rattle.bw_args.specs.declared.CommandLine.{CommandLine}
 use Rattle.bw_args.specs.declared.peers.End.TheVariants as when
 use Rattle.bw_args.specs.declared.peers.Recorders.{Recorders as Way}
 use Rattle.bw_args.specs.declared.peers.Journaling.TheVariants.{Kept, Synced}
+use Rattle.bw_args.specs.declared.peers.Logging.TheVariants.{Lines, Json}
 use Rattle.bw_args.specs.declared.peers.Recorders.TheVariants.{InTurn, AtOnce}
 use Rattle.bw_args.proofs.FormLemmas.{asked_runs, asks}
 
@@ -48,7 +49,7 @@ server_by : {given : Text → Option Text} {server : Service} → GivesEnd (give
     (is_set (given (codes "until-stopped"))) server.end
     → GivesLimit (given (codes "limit")) server.limit → GivesRecorders given server.recorders
     → GivesAddress (is_set (given (codes "network"))) (given (codes "listen")) server.listen
-    → GivesFolder (given (codes "folder")) server.folder → server.log ≡ is_set (given (codes "log"))
+    → GivesFolder (given (codes "folder")) server.folder → GivesLog (given (codes "log")) server.log
     → IsJournaling (is_set (given (codes "journal"))) (is_set (given (codes "sync"))) server.journal
     → GivesRest (is_set (given (codes "journal"))) (is_set (given (codes "rest"))) server.rest
     → server.one_name ≡ is_set (given (codes "one-name"))
@@ -160,9 +161,28 @@ until_stopped program listen folder address at full =
           (full, refl) refl refl refl refl refl refl,
     )
 
-log : AsksServer false (codes "--log" ∷ []) (λ a f. record (plain_server a f) { log = true })
+log : AsksServer false (codes "--log" ∷ []) (λ a f. record (plain_server a f) { log = Some Lines })
 unfolding clap_on_literals
 log program listen folder address at full =
+    asks refl (
+      refl,
+      server_by (None, refl, refl) refl (serves_by None None None _ refl refl refl refl) at
+          (full, refl) refl refl refl refl refl refl,
+    )
+
+log_json : AsksServer false (codes "--log=json" ∷ []) (λ a f. record (plain_server a f) { log = Some Json })
+unfolding clap_on_literals
+log_json program listen folder address at full =
+    asks refl (
+      refl,
+      server_by (None, refl, refl) refl (serves_by None None None _ refl refl refl refl) at
+          (full, refl) refl refl refl refl refl refl,
+    )
+
+log_json_apart : AsksServer false (codes "--log" ∷ codes "json" ∷ [])
+    (λ a f. record (plain_server a f) { log = Some Json })
+unfolding clap_on_literals
+log_json_apart program listen folder address at full =
     asks refl (
       refl,
       server_by (None, refl, refl) refl (serves_by None None None _ refl refl refl refl) at
@@ -377,6 +397,8 @@ runs_server words line is = record {
   network = λ p l f a at full e. asked_runs words _ line _ is e (network p l f a at full);
   until_stopped = λ p l f a at full e. asked_runs words _ line _ is e (until_stopped p l f a at full);
   log = λ p l f a at full e. asked_runs words _ line _ is e (log p l f a at full);
+  log_json = λ p l f a at full e. asked_runs words _ line _ is e (log_json p l f a at full);
+  log_json_apart = λ p l f a at full e. asked_runs words _ line _ is e (log_json_apart p l f a at full);
   journal = λ p l f a at full e. asked_runs words _ line _ is e (journal p l f a at full);
   sync = λ p l f a at full e. asked_runs words _ line _ is e (sync p l f a at full);
   rest = λ p l f a at full e. asked_runs words _ line _ is e (rest p l f a at full);

@@ -4,13 +4,14 @@ use Rattle.std.proofs.Common.{subst, ◌∷◌}
 use Rattle.std.proofs.Common.{refl, unwrap_or}
 use Rattle.std.specs.Prelude.{is_some, option_map}
 use Rattle.std.specs.Str.{bytes_eq}
+use Rattle.std.proofs.lemmas.Bool.{false≢true}
 use Rattle.std.proofs.lemmas.Slice.Eq.{bytes_eq-Decides}
 use Rattle.std.specs.declared.net.socket_addr.SocketAddr.{SocketAddr}
 use Rattle.std.proofs.NetLemmas.Theorems.{IsSocketText_unique}
 use Rattle.clap.specs.Words.{Row, Text, first_of}
 use Rattle.bw_args.specs.Given.{GivesAddress, GivesCount, GivesCountOr, GivesEnd, GivesFolder, GivesFuse, GivesLimit}
 use Rattle.bw_args.specs.Given.{GivesName, GivesRecorders, GivesRest, GivesStatus, IsEnd, IsJournaling}
-use Rattle.bw_args.specs.Given.{IsRecorders, IsWork, given_on_line}
+use Rattle.bw_args.specs.Given.{GivesLog, IsRecorders, IsWork, given_on_line}
 use Rattle.bw_args.specs.Sources.{GivesSource, PlainSource}
 use Rattle.bw_args.specs.PcmSources.{GivesFormat, GivesNumber, GivesSamples, IsFormatText, PlainPcm, at_comma}
 use Rattle.bw_args.specs.PcmSources.{fruitless_of, is_live, samples_with}
@@ -24,6 +25,8 @@ use Rattle.bw_args.specs.InspectedFiles.{GivesInspection, PlainInspection, has_o
 use Rattle.bw_args.specs.declared.folders.FolderWork.{FolderWork}
 use Rattle.bw_args.specs.declared.peers.End.{End}
 use Rattle.bw_args.specs.declared.peers.Journaling.{Journaling}
+use Rattle.bw_args.specs.declared.peers.Logging.{Logging}
+use Rattle.bw_args.specs.declared.peers.Logging.TheVariants.{Lines, Json}
 use Rattle.bw_args.specs.declared.peers.Recorders.{Recorders as Way}
 use Rattle.bw_args.specs.declared.peers.Send.{Send as Sender}
 
@@ -130,6 +133,19 @@ one_rest is_kept false a b x y = x ∙ sym y
 one_rest true true a b x y = x ∙ sym y
 one_rest false true a b x y = absurd x
 
+lines_or_json : codes "lines" ≡ codes "json" → ⊥
+lines_or_json e = false≢true (ap (λ (text : Text). bytes_eq text (codes "json")) e)
+
+one_log : (text : Option Text) (a b : Option Logging) → GivesLog text a → GivesLog text b → a ≡ b
+one_log None a b x y = x ∙ sym y
+one_log (Some text) None b x y = absurd x
+one_log (Some text) (Some Lines) None x y = absurd y
+one_log (Some text) (Some Lines) (Some Lines) x y = refl
+one_log (Some text) (Some Lines) (Some Json) x y = absurd (lines_or_json (sym x ∙ y))
+one_log (Some text) (Some Json) None x y = absurd y
+one_log (Some text) (Some Json) (Some Lines) x y = absurd (lines_or_json (sym y ∙ x))
+one_log (Some text) (Some Json) (Some Json) x y = refl
+
 one_server : (given : Text → Option Text) (a b : Service) → GivesServer given a → GivesServer given b → a ≡ b
 one_server given a b x y = λ i. record {
   listen = one_address _ _ a.listen b.listen x.listens y.listens i;
@@ -137,7 +153,7 @@ one_server given a b x y = λ i. record {
   end = ends_once _ _ a.end b.end x.ends y.ends i;
   limit = one_limit _ a.limit b.limit x.limited y.limited i;
   recorders = one_way given a.recorders b.recorders x.serves y.serves i;
-  log = (x.reports ∙ sym y.reports) i;
+  log = one_log _ a.log b.log x.reports y.reports i;
   journal = one_journaling _ _ a.journal b.journal x.journals y.journals i;
   rest = one_rest _ _ a.rest b.rest x.rests y.rests i;
   one_name = (x.names ∙ sym y.names) i;

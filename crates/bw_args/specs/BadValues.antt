@@ -6,7 +6,7 @@ use Rattle.bw_args.specs.declared.bad_value.BadValue.TheVariants.{Name, Limit, F
 use Rattle.bw_args.specs.declared.bad_value.BadValue.TheVariants.{Folder, Exchanges, Timeout}
 use Rattle.bw_args.specs.declared.bad_value.BadValue.TheVariants.{Recorders, Idle, Wait}
 use Rattle.bw_args.specs.declared.bad_value.BadValue.TheVariants.{UntilStopped, Sync, Rest, GiveUp, Connect}
-use Rattle.bw_args.specs.declared.bad_value.BadValue.TheVariants.{Watch, Status}
+use Rattle.bw_args.specs.declared.bad_value.BadValue.TheVariants.{Watch, Status, Log}
 use Rattle.bw_args.specs.declared.bad_value.BadValue.TheVariants.{Rounds, Fruitless, Mixed, Pcm, Skip}
 use Rattle.bw_args.specs.declared.bad_value.BadValue.TheVariants.{Block}
 use Rattle.bw_args.specs.declared.bad_value.BadValue.TheVariants.{Rate, MixedSamples, Inspection}
@@ -38,6 +38,7 @@ fault_said UntilStopped = codes "'--until-stopped' can't be given beside '--exch
 fault_said Sync = codes "'--sync' is for '--journal'"
 fault_said Rest = codes "'--rest' is for '--journal'"
 fault_said Status = codes "'--status <ADDR>' is for '--recorders <N>', and takes " ++ address_wanted
+fault_said Log = codes "'--log [<FORM>]' takes 'lines' or 'json', and may stand alone"
 fault_said Watch =
     codes "'--watch' can't be given beside '--check', '--json', '--digest' and '--give-up <NAME>'"
 fault_said GiveUp = codes "'--give-up <NAME>' takes 1 to 32 bytes of a-z, 0-9, '-' and '_', "

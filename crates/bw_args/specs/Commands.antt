@@ -1,5 +1,5 @@
 -- The command line as `clap` sees it.
-use Rattle.std.specs.Prelude.{◌≡◌, Some, true, false, codes}
+use Rattle.std.specs.Prelude.{◌≡◌, Some, true, false, codes, [], ◌∷◌}
 use Rattle.clap.specs.Words.{app_of, rule_of}
 use Rattle.clap.specs.Walk.{Rule, Text}
 use Rattle.clap.specs.Simple.{App, new_app, new_rule, on_top, with_rule, with_subcommand}
@@ -116,6 +116,13 @@ until_stopped_flag = flag (codes "until-stopped")
 abbrev pub log_flag : Rule
 log_flag = flag (codes "log")
 
+-- `--log` and `--log FORM`
+abbrev pub log_option : Rule
+log_option = record (option (codes "log")) {
+  range = Some (record { start_inclusive = 0; end_inclusive = 1 });
+  missing = codes "lines" ∷ [];
+}
+
 -- `--journal`
 abbrev pub journal_flag : Rule
 journal_flag = flag (codes "journal")
@@ -156,7 +163,7 @@ serve_many = with_rule (with_rule serve_how recorders_option) idle_option
 
 -- and when it ends, and what it reports
 abbrev pub serve_ends : App
-serve_ends = with_rule (with_rule serve_many until_stopped_flag) log_flag
+serve_ends = with_rule (with_rule serve_many until_stopped_flag) log_option
 
 -- and what it keeps beside the takes
 abbrev pub serve_keeps : App

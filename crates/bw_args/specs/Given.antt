@@ -15,6 +15,8 @@ use Rattle.bw_args.specs.declared.peers.End.{End}
 use Rattle.bw_args.specs.declared.peers.End.TheVariants as when
 use Rattle.bw_args.specs.declared.peers.Journaling.{Journaling}
 use Rattle.bw_args.specs.declared.peers.Journaling.TheVariants.{Without, Kept, Synced}
+use Rattle.bw_args.specs.declared.peers.Logging.{Logging}
+use Rattle.bw_args.specs.declared.peers.Logging.TheVariants.{Lines, Json}
 use Rattle.bw_args.specs.declared.peers.Recorders.{Recorders as Way}
 use Rattle.bw_args.specs.declared.peers.Recorders.TheVariants.{InTurn, AtOnce}
 
@@ -150,6 +152,18 @@ abbrev pub IsStatusGiven : {E : Type 0} → Bool → Option Text → Bool → Re
 IsStatusGiven network text of_many (Ok status) = GivesStatus network text of_many status
 IsStatusGiven network text of_many (Err fault) =
     (status : Option SocketAddr) → ¬ GivesStatus network text of_many status
+
+-- how a server reports what happens, as an option gives it, or that it doesn't
+abbrev pub GivesLog : Option Text → Option Logging → Type 0
+GivesLog None form = form ≡ None
+GivesLog (Some text) None = ⊥
+GivesLog (Some text) (Some Lines) = text ≡ codes "lines"
+GivesLog (Some text) (Some Json) = text ≡ codes "json"
+
+-- exactly that; a fault if the option gives another word
+abbrev pub IsLogGiven : {E : Type 0} → Option Text → Result (Option Logging) E → Type 0
+IsLogGiven text (Ok form) = GivesLog text form
+IsLogGiven text (Err fault) = (form : Option Logging) → ¬ GivesLog text form
 
 -- whether a server keeps journals: one of which they are synced keeps them
 abbrev pub IsJournaling : Bool → Bool → Journaling → Type 0

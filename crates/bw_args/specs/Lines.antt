@@ -4,7 +4,7 @@ pub use Rattle.bw_args.specs.Given.{GivesFuse, GivesNoFuse, IsFuseGiven, given_o
 pub use Rattle.bw_args.specs.Given.{GivesAddress, IsAddressGiven, GivesFolder, IsFolderGiven}
 pub use Rattle.bw_args.specs.Given.{GivesCount, IsCountGiven, IsEnd, IsEndGiven, GivesEnd}
 pub use Rattle.bw_args.specs.Given.{IsRecorders, IsRecordersGiven, GivesRecorders, IsJournaling}
-pub use Rattle.bw_args.specs.Given.{GivesRest, IsRestGiven}
+pub use Rattle.bw_args.specs.Given.{GivesRest, IsRestGiven, GivesLog, IsLogGiven}
 pub use Rattle.bw_args.specs.Given.{IsJournalingGiven, GivesCountOr, GivesRounds}
 pub use Rattle.bw_args.specs.Given.{GivesStatus, IsStatusGiven}
 pub use Rattle.bw_args.specs.Given.{IsWork, IsWorkGiven, GivesWork, is_watch_mixed}
@@ -39,12 +39,13 @@ use Rattle.bw_args.specs.declared.bad_value.BadValue.TheVariants.{Name, Limit, F
 use Rattle.bw_args.specs.declared.bad_value.BadValue.TheVariants.{Folder, Exchanges, Timeout}
 use Rattle.bw_args.specs.declared.bad_value.BadValue.TheVariants.{Recorders, Idle, Wait}
 use Rattle.bw_args.specs.declared.bad_value.BadValue.TheVariants.{UntilStopped, Sync, Rest, GiveUp, Connect}
-use Rattle.bw_args.specs.declared.bad_value.BadValue.TheVariants.{Watch, Status}
+use Rattle.bw_args.specs.declared.bad_value.BadValue.TheVariants.{Watch, Status, Log}
 use Rattle.bw_args.specs.declared.bad_value.BadValue.TheVariants.{Rounds, Fruitless, Rate, Mixed, Pcm, Skip}
 use Rattle.bw_args.specs.declared.bad_value.BadValue.TheVariants.{Block, MixedSamples, Inspection}
 use Rattle.bw_args.specs.declared.folders.FolderWork.{FolderWork}
 use Rattle.bw_args.specs.declared.peers.End.{End}
 use Rattle.bw_args.specs.declared.peers.Journaling.{Journaling}
+use Rattle.bw_args.specs.declared.peers.Logging.{Logging}
 use Rattle.bw_args.specs.declared.peers.Recorders.{Recorders as Way}
 use Rattle.bw_args.specs.declared.peers.Send.{Send as Sender}
 use Rattle.bw_args.specs.declared.Task.{Task}
@@ -61,7 +62,7 @@ pub record Service : Type 0 where
   pub end : End
   pub limit : ℕ
   pub recorders : Way
-  pub log : Bool
+  pub log : Option Logging
   pub journal : Journaling
   pub rest : Bool
   pub one_name : Bool
@@ -170,7 +171,7 @@ pub record GivesServer (given : Text → Option Text) (server : Service) : Type 
       GivesEnd (given (codes "exchanges")) (is_set (given (codes "until-stopped"))) server.end
   pub limited : GivesLimit (given (codes "limit")) server.limit
   pub serves : GivesRecorders given server.recorders
-  pub reports : server.log ≡ is_set (given (codes "log"))
+  pub reports : GivesLog (given (codes "log")) server.log
   pub journals :
       IsJournaling (is_set (given (codes "journal"))) (is_set (given (codes "sync"))) server.journal
   pub rests :
@@ -304,6 +305,7 @@ IsGood Rest given = (rest : Bool)
     × GivesRest (is_set (given (codes "journal"))) (is_set (given (codes "rest"))) rest
 IsGood Status given = (status : Option SocketAddr) × GivesStatus (is_set (given (codes "network")))
     (given (codes "status")) (is_some (given (codes "recorders"))) status
+IsGood Log given = (form : Option Logging) × GivesLog (given (codes "log")) form
 IsGood Watch given = is_watch_mixed (is_set (given (codes "watch")))
     (is_set (given (codes "check"))) (is_set (given (codes "json")))
     (is_set (given (codes "digest"))) (given (codes "give-up")) ≡ false
@@ -328,7 +330,7 @@ looked_at_waiting = Timeout ∷ Recorders ∷ Idle ∷ Wait ∷ []
 -- the values that say how a server ends, and what it does beside, in the order in which they are
 -- looked at
 abbrev pub looked_at_serving : List BadValue
-looked_at_serving = UntilStopped ∷ Sync ∷ Rest ∷ Status ∷ []
+looked_at_serving = UntilStopped ∷ Sync ∷ Rest ∷ Status ∷ Log ∷ []
 
 -- the values that say how a sender tries, in the order in which they are looked at
 abbrev pub looked_at_trying : List BadValue

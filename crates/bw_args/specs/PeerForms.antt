@@ -16,9 +16,10 @@ use Rattle.bw_args.specs.declared.bad_value.BadValue.{BadValue}
 use Rattle.bw_args.specs.declared.bad_value.BadValue.TheVariants.{Name, Limit, Listen, Folder}
 use Rattle.bw_args.specs.declared.bad_value.BadValue.TheVariants.{Exchanges, Timeout, UntilStopped}
 use Rattle.bw_args.specs.declared.bad_value.BadValue.TheVariants.{Recorders, Idle, Wait}
-use Rattle.bw_args.specs.declared.bad_value.BadValue.TheVariants.{Sync, Rest, Status, Connect, Rounds}
+use Rattle.bw_args.specs.declared.bad_value.BadValue.TheVariants.{Sync, Rest, Status, Log, Connect, Rounds}
 use Rattle.bw_args.specs.declared.peers.End.TheVariants as when
 use Rattle.bw_args.specs.declared.peers.Journaling.TheVariants.{Without, Kept, Synced}
+use Rattle.bw_args.specs.declared.peers.Logging.TheVariants.{Lines, Json}
 use Rattle.bw_args.specs.declared.peers.Recorders.TheVariants.{InTurn, AtOnce}
 use Rattle.bw_args.specs.declared.peers.Send.{Send as Sender}
 
@@ -30,7 +31,7 @@ plain_server address folder = record {
   end = when.Exchanges 1;
   limit = default_limit;
   recorders = InTurn None;
-  log = false;
+  log = None;
   journal = Without;
   rest = false;
   one_name = false;
@@ -108,7 +109,14 @@ pub record RunsServer (words : List Text) (line : CommandLine) : Type 0 where
   pub until_stopped : ForServer false words (codes "--until-stopped" ∷ [])
       (AsksToServe line (λ s. record s { end = when.UntilStopped }))
   -- with `--log`
-  pub log : ForServer false words (codes "--log" ∷ []) (AsksToServe line (λ s. record s { log = true }))
+  pub log : ForServer false words (codes "--log" ∷ [])
+      (AsksToServe line (λ s. record s { log = Some Lines }))
+  -- with `--log=json`
+  pub log_json : ForServer false words (codes "--log=json" ∷ [])
+      (AsksToServe line (λ s. record s { log = Some Json }))
+  -- with `--log json`
+  pub log_json_apart : ForServer false words (codes "--log" ∷ codes "json" ∷ [])
+      (AsksToServe line (λ s. record s { log = Some Json }))
   -- with `--journal`
   pub journal : ForServer false words (codes "--journal" ∷ [])
       (AsksToServe line (λ s. record s { journal = Kept }))
@@ -248,6 +256,9 @@ pub record RefusesPeers (words : List Text) (line : CommandLine) : Type 0 where
   pub status : (count status : Text) → IsCountText most_recorders count
       → ((at : SocketAddr) → ¬ IsAddress false status at) → ForServer false words
       ((codes "--recorders=" ++ count) ∷ (codes "--status=" ++ status) ∷ []) (ReportsBad line Status)
+  -- with `--log=FORM`, where FORM is another word
+  pub log : (form : Text) → form ≢ codes "lines" → form ≢ codes "json"
+      → ForServer false words ((codes "--log=" ++ form) ∷ []) (ReportsBad line Log)
   -- `send --connect=ADDR --name=NAME`, where ADDR is no local address
   pub connect : (program connect name : Text)
       → ((address : SocketAddr) → ¬ IsAddress false connect address)

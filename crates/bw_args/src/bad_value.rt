@@ -33,6 +33,8 @@ pub enum BadValue {
     Rest,
     /// The address at which a server shows its status, or `--status` without `--recorders`.
     Status,
+    /// The form of what a server reports.
+    Log,
     /// Other options of `takes` beside `--watch`.
     Watch,
     /// The name of a take that is given up, or other options of `takes` beside it.
@@ -92,6 +94,7 @@ impl BadValue {
             BadValue::Sync => BAD_SYNC,
             BadValue::Rest => BAD_REST,
             BadValue::Status => BAD_STATUS,
+            BadValue::Log => BAD_LOG,
             BadValue::Watch => BAD_WATCH,
             BadValue::GiveUp => BAD_GIVE_UP,
             BadValue::Connect => BAD_CONNECT,
@@ -158,6 +161,8 @@ const BAD_STATUS: &str = report!(
     "'--status <ADDR>' is for '--recorders <N>', and takes 127.0.0.1:PORT, or any IP:PORT ",
     "with '--network'; PORT is 1 to 65535"
 );
+
+const BAD_LOG: &str = report!("'--log [<FORM>]' takes 'lines' or 'json', and may stand alone");
 
 const BAD_WATCH: &str = report!(
     "'--watch' can't be given beside '--check', '--json', '--digest' and '--give-up <NAME>'"

@@ -24,7 +24,7 @@ use clap::Error;
 use clap::error::ErrorKind;
 pub use folders::{FolderWork, TakesFolder};
 pub use inspection::Inspection;
-pub use peers::{End, Journaling, Recorders, Send, Serve};
+pub use peers::{End, Journaling, Logging, Recorders, Send, Serve};
 pub use recordings::{FileSender, PcmSender, PcmSource, SourceFile};
 use std::alloc::{AllocError, Global};
 

@@ -32,6 +32,15 @@ pub enum Journaling {
     Synced,
 }
 
+/// How a server reports what happens, on standard error.
+#[derive(Clone, Copy, Debug, PartialEq, Eq)]
+pub enum Logging {
+    /// In lines of words, each after its time in UTC.
+    Lines,
+    /// In lines of JSON, each an object that has its time.
+    Json,
+}
+
 /// The server that a command line asks for.
 #[derive(Debug, PartialEq, Eq, Drop)]
 pub struct Serve {
@@ -46,9 +55,8 @@ pub struct Serve {
     pub limit: u64,
     /// How recorders are served.
     pub recorders: Recorders,
-    /// Whether connections, takes and refused messages are reported in lines on standard error, each
-    /// with its time in UTC.
-    pub log: bool,
+    /// How connections, takes and refused messages are reported, if they are.
+    pub log: Option<Logging>,
     /// Whether it keeps journals.
     pub journal: Journaling,
     /// Whether `--rest` is given, which changes nothing; only with journals.

@@ -10,7 +10,7 @@ use bw_folder::FolderStore;
 use bw_net::{
     FolderLock, LineCell, NotedFiles, SpoolCell, TcpDial, TcpPeers, TcpReactor, check_folder,
 };
-use bw_operators::{EventLog, RuleFiles, started_line};
+use bw_operators::{EventLog, LogForm, RuleFiles, started_line};
 use bw_ports::{ListenerSetup, Network, PacedNetwork, StartRefusal};
 use std::alloc::Global;
 use std::fs::File;
@@ -117,12 +117,12 @@ impl TcpNetwork<'_> {
     }
 }
 
-/// With a log each line on standard error begins with its time.
+/// With a log each line on standard error has its time.
 impl EventLog for TcpNetwork<'_> {
-    ghost chooses = { λ n log n'. n' ≡ n };
+    ghost chooses = { λ n form n'. n' ≡ n };
 
-    fn log_events(&mut self, log: bool) {
-        self.lines.log_events(log);
+    fn log_events(&mut self, form: Option<LogForm>) {
+        self.lines.log_events(form);
     }
 }
 

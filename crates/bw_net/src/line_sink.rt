@@ -3,7 +3,8 @@ ghost use Rattle.std.specs.Prelude.{◌≡◌, ◌<◌, ◌≤◌, length, None,
 
 use crate::counting::counted;
 use crate::lines::LineCell;
-use crate::stamping::{STAMP, write_stamped};
+use crate::stamping::{STAMP, write_logged};
+use bw_operators::LogForm;
 use bw_stream::{IoFailed, Sink, StdIo};
 use std::io::Write;
 use std::os::fd::{AsRawFd, RawFd};
@@ -13,7 +14,7 @@ const PIECE: usize = 4_096;
 
 /// Standard output or standard error, for lines. Where these don't wait any more, one that can't be
 /// written at once is left out, which is a failure of this writer; before the next one that can, it
-/// says how many were. With a log each line on standard error begins with its time.
+/// says how many were. With a log each line on standard error has its time.
 ///
 /// It doesn't report what is written, since no clause of std says what a reader gets.
 #[derive(Drop)]
@@ -66,18 +67,18 @@ impl<'a, W: Write + AsRawFd + Drop> LineSink<'a, W> {
         self.write_part(&bytes[..most])
     }
 
-    /// Writes a part of a line; with a log, its time before the first part.
+    /// Writes a part of a line; with a log, its time before the first part, or as objects of JSON.
     fn write_part(&mut self, bytes: &[u8]) -> Result<usize, IoFailed>
         ensures within { IfOk result (λ n. n ≤ length bytes.now) }
         ensures some { IfOk result (λ n. 0 < length bytes.now → 0 < n) }
         ensures failures { self.new.failures ≡ self.old.failures }
     {
-        if !self.lines.is_stamped(self.fd) {
+        let Some(form) = self.lines.form_of(self.fd) else {
             return self.inner.write(bytes);
-        }
+        };
         let part = &bytes[..line_end(bytes)];
-        let count = if self.is_fresh {
-            write_stamped(&self.rt, &mut self.inner, part)?;
+        let count = if self.is_fresh || form == LogForm::Json {
+            write_logged(&self.rt, form, &mut self.inner, part)?;
             part.len()
         } else {
             self.inner.write(part)?

@@ -5,9 +5,10 @@ ghost use Rattle.bw_net.specs.SeenLinks.{is_short_of_handles, left_out_text};
 use crate::faults::{FaultNotes, fault_line, is_fault};
 use crate::left_out::LeftOutNotes;
 use crate::room::Room;
-use crate::stamping::write_stamped;
+use crate::stamping::write_logged;
+use bw_operators::LogForm;
 use bw_status::LeftOutName;
-use bw_stream::{StdIo, write_all};
+use bw_stream::{IoFailed, Sink, StdIo, write_all};
 use std::alloc::{AllocError, Global};
 use std::cell::{Cell, RefCell};
 use std::io::{self, ErrorKind, Write};
@@ -63,8 +64,8 @@ pub struct LineCell {
     names: LeftOutNotes,
     /// Whether the last call of its store to begin a take failed.
     fails_to_begin: Cell<bool>,
-    /// Whether what happens is said, and each line on standard error begins with its time.
-    logs: Cell<bool>,
+    /// In which form what happens is reported, if it is: each line on standard error has its time then.
+    log: Cell<Option<LogForm>>,
     /// The peer whose message was turned away last, and its name.
     refused: RefCell<Option<(SocketAddr, String)>>,
 }
@@ -82,7 +83,7 @@ impl LineCell {
             faults: FaultNotes::new(),
             names: LeftOutNotes::new(),
             fails_to_begin: Cell::new(false),
-            logs: Cell::new(false),
+            log: Cell::new(None),
             refused: RefCell::new(None),
         }
     }
@@ -104,13 +105,13 @@ impl LineCell {
         Ok(())
     }
 
-    /// Chooses whether what happens from now on is said, and each line on standard error begins with its
-    /// time.
+    /// Chooses whether what happens from now on is reported, and in which form each line on standard error
+    /// has its time.
     ///
     /// # Not specified
     /// Anything: it has no contract.
-    pub fn log_events(&self, log: bool) {
-        self.logs.set(log);
+    pub fn log_events(&self, form: Option<LogForm>) {
+        self.log.set(form);
     }
 
     /// Whether what happens is said.
@@ -118,7 +119,7 @@ impl LineCell {
     /// # Not specified
     /// Whether it is.
     pub(crate) fn logs(&self) -> bool {
-        self.logs.get()
+        self.log.get().is_some()
     }
 
     /// Notes that a peer's message under this name was turned away. Returns whether the last one that was
@@ -158,11 +159,7 @@ impl LineCell {
     /// Writes a line on standard error, with its time if that is asked for.
     fn say(&self, rt: &HostRuntime, line: &[u8]) {
         let mut faults = StdIo::new(rt.stderr());
-        let _ = if self.logs() {
-            write_stamped(rt, &mut faults, line)
-        } else {
-            write_all(&mut faults, line)
-        };
+        let _ = self.write_line(rt, FAULTS, &mut faults, line);
     }
 
     /// Prints on standard error which call of a start failed first, if one did and no server listens.
@@ -325,9 +322,23 @@ impl LineCell {
         }
     }
 
-    /// Whether the lines of a descriptor begin with their time.
-    pub(crate) fn is_stamped(&self, fd: RawFd) -> bool {
-        fd == FAULTS && self.logs()
+    /// In which form the lines of a descriptor have their time, if they have it.
+    pub(crate) fn form_of(&self, fd: RawFd) -> Option<LogForm> {
+        if fd == FAULTS { self.log.get() } else { None }
+    }
+
+    /// Writes a line of a descriptor, with its time if that is asked for.
+    fn write_line<W: Sink>(
+        &self,
+        rt: &HostRuntime,
+        fd: RawFd,
+        writer: &mut W,
+        line: &[u8],
+    ) -> Result<(), IoFailed> {
+        match self.form_of(fd) {
+            Some(form) => write_logged(rt, form, writer, line),
+            None => write_all(writer, line),
+        }
     }
 
     /// Says how many lines of a descriptor were left out, if any were and there is room. Whether it is
@@ -348,12 +359,7 @@ impl LineCell {
         let Ok(line) = left_out_line(rt.alloc(), count) else {
             return false;
         };
-        let written = if self.is_stamped(fd) {
-            write_stamped(rt, writer, line.as_bytes())
-        } else {
-            write_all(writer, line.as_bytes())
-        };
-        if written.is_err() {
+        if self.write_line(rt, fd, writer, line.as_bytes()).is_err() {
             return false;
         }
         self.unsaid(fd).set(0);

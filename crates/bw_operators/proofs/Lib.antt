@@ -4,3 +4,4 @@ pub mod SilentLemmas
 pub mod Calendar
 mod NetworkLemmas
 mod AllowFileLemmas
+pub mod LogShapes

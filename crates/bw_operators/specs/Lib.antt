@@ -11,3 +11,4 @@ pub mod AllowLists
 pub mod AllowFiles
 pub mod AllowWords
 pub mod ExampleAllowLists
+pub mod LogObjects

@@ -13,6 +13,7 @@ mod log_choice;
 mod log_events;
 pub mod log_laws;
 mod log_lines;
+mod log_objects;
 mod log_stamp;
 mod network;
 mod operators;
@@ -22,12 +23,13 @@ mod rule_files;
 
 pub use allow_file::AllowFault;
 pub use allow_list::AllowList;
-pub use log_choice::EventLog;
+pub use log_choice::{EventLog, LogForm};
 pub use log_events::comes_about;
 pub use log_lines::{
     begun_line, peer_refused_line, started_line, take_closed_line, take_opened_line,
     take_refused_line,
 };
+pub use log_objects::log_object;
 pub use log_stamp::time_text;
 pub use operators::{OPERATORS, Operators};
 pub use port::{StatusPort, StatusSetup};

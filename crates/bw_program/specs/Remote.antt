@@ -1,6 +1,6 @@
 -- What is done for the command lines that use the network.
 use Rattle.std.specs.Prelude.{◌≡◌, ℕ, ◌*◌, Bool, true, false, Option, Some, None, Result, Ok, Err}
-use Rattle.std.specs.Prelude.{string_bytes, option_map, [], List}
+use Rattle.std.specs.Prelude.{string_bytes, option_map, is_some, [], List}
 use Rattle.std.specs.declared.net.socket_addr.SocketAddr.{SocketAddr}
 use Rattle.bw_stream.specs.declared.sink.Sink.{Ghosts as Writer}
 use Rattle.bw_stream.specs.declared.source.Source.{Ghosts as Reader}
@@ -8,6 +8,8 @@ use Rattle.bw_args.specs.declared.peers.End.{End}
 use Rattle.bw_args.specs.declared.peers.End.TheVariants as when
 use Rattle.bw_args.specs.declared.peers.Journaling.{Journaling}
 use Rattle.bw_args.specs.declared.peers.Journaling.TheVariants as journals
+use Rattle.bw_args.specs.declared.peers.Logging.{Logging}
+use Rattle.bw_args.specs.declared.peers.Logging.TheVariants as logging
 use Rattle.bw_args.specs.declared.peers.Recorders.{Recorders}
 use Rattle.bw_args.specs.declared.peers.Recorders.TheVariants as recorders
 use Rattle.bw_args.specs.declared.peers.Send.{Send}
@@ -24,6 +26,8 @@ use Rattle.bw_serve.specs.Hostings.{ServesAtOnce, ServesInTurn}
 use Rattle.bw_serve.specs.Openings.{OpensNew}
 use Rattle.bw_serve.specs.Refusals.{ReportsRefusal}
 use Rattle.bw_operators.specs.AllowLists.{AllowRules}
+use Rattle.bw_operators.specs.declared.log_choice.LogForm.{LogForm}
+use Rattle.bw_operators.specs.declared.log_choice.LogForm.TheVariants as forms
 use Rattle.bw_serve.specs.declared.filtered_network.ServeChoice.{ServeChoice}
 use Rattle.bw_serve.specs.declared.hosting.Hosting.{Hosting}
 use Rattle.bw_serve.specs.declared.hosting_in_turn.Serving.{Serving}
@@ -45,7 +49,7 @@ pub record IsServingAs (server : Serve) (allow : AllowRules) (timeout : Option �
   pub keeps : serving.folder.now ≡ string_bytes server.folder
   pub ends : serving.exchanges ≡ exchanges_of server.end
   pub waits : serving.timeout ≡ timeout
-  pub logs : serving.log ≡ server.log
+  pub logs : serving.log ≡ is_some server.log
   pub allows : serving.allow.now ≡ allow
 
 -- the server of this many recorders at once that a command line asks for: of one of them no frame
@@ -57,7 +61,7 @@ pub record IsHosting (server : Serve) (allow : AllowRules) (most idle : ℕ) (ho
   pub places : hosting.bounds.places ≡ most
   pub ends : hosting.bounds.exchanges ≡ exchanges_of server.end
   pub idles : hosting.bounds.idle ≡ 1_000 * idle
-  pub logs : hosting.log ≡ server.log
+  pub logs : hosting.log ≡ is_some server.log
   pub allows : hosting.allow.now ≡ allow
 
 -- the path of the file of rules, where there is one
@@ -65,10 +69,15 @@ abbrev pub rules_path : Option (List ℕ) → List ℕ
 rules_path None = []
 rules_path (Some path) = path
 
+-- the form in which a command line asks for a log
+abbrev pub log_form_of : Logging → LogForm
+log_form_of logging.Lines = forms.Lines
+log_form_of logging.Json = forms.Json
+
 -- what a command line chooses of the links of its server
 pub record IsChoice (server : Serve) (choice : ServeChoice) : Type 0 where
   pub names : choice.one_name ≡ server.one_name
-  pub logs : choice.log ≡ server.log
+  pub logs : choice.log ≡ option_map log_form_of server.log
   pub allows : option_map (λ path. path.now) choice.allow ≡ option_map string_bytes server.allow
 
 module _ {N X P R W L K SP SK D A B O E : Type 0} (network : NetworkGhosts N X P D R W A B)

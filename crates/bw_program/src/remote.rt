@@ -1,19 +1,19 @@
 //! The commands that use the network, as a command line asks for them.
-ghost use Rattle.std.specs.Prelude.{◌≡◌, IfOk};
+ghost use Rattle.std.specs.Prelude.{◌≡◌, IfOk, option_map};
 ghost use Rattle.bw_layout.specs.Limits.{IsLimit};
 ghost use Rattle.bw_program.specs.Remote.{IsChoice, IsHosting, IsServingAs, Sends, SendsTyped, ServesByRule};
-ghost use Rattle.bw_program.specs.Remote.{ServesOpened, exchanges_of};
+ghost use Rattle.bw_program.specs.Remote.{ServesOpened, exchanges_of, log_form_of};
 ghost use Rattle.bw_program.specs.Sources.{NotesInput};
 ghost use Rattle.bw_program.specs.Sides.{kept_side, reach_side, sender_side, server_side, turns_side};
 ghost use Rattle.bw_serve_status.specs.Shown.{status_side};
 
-use bw_args::{End, Journaling, Recorders, Send, Serve};
+use bw_args::{End, Journaling, Logging, Recorders, Send, Serve};
 use bw_console::Exit;
 use bw_console::print::print_diagnostic;
 use bw_exchange::Turns;
 use bw_journal::{Journal, NoJournal};
 use bw_layout::Limit;
-use bw_operators::{AllowList, StatusSetup};
+use bw_operators::{AllowList, LogForm, StatusSetup};
 use bw_ports::{ListenerSetup, Network, StartRefusal, Watch};
 use bw_serve::{
     Bounds, Hosting, OpenedServer, Opens, ServeChoice, ServeRules, Serving, open_new,
@@ -74,11 +74,22 @@ fn choice_of(server: &Serve) -> ServeChoice<'_>
 {
     ServeChoice {
         one_name: server.one_name,
-        log: server.log,
+        log: log_form(server.log),
         allow: match &server.allow {
             Some(path) => Some(path.as_str()),
             None => None,
         },
+    }
+}
+
+/// In which form what happens is reported, if the command line asks for it.
+fn log_form(logging: Option<Logging>) -> Option<LogForm>
+    ensures { result ≡ option_map log_form_of logging }
+{
+    match logging {
+        Some(Logging::Lines) => Some(LogForm::Lines),
+        Some(Logging::Json) => Some(LogForm::Json),
+        None => None,
     }
 }
 
@@ -135,7 +146,7 @@ fn serving_of<'a>(server: &'a Serve, allow: &'a AllowList, timeout: Option<u32>)
         folder: server.folder.as_str(),
         exchanges: exchanges(server.end),
         timeout,
-        log: server.log,
+        log: server.log.is_some(),
         allow,
     }
 }
@@ -153,7 +164,7 @@ fn hosting_of<'a>(server: &'a Serve, allow: &'a AllowList, most: u32, idle: u32)
         address: server.listen,
         folder: server.folder.as_str(),
         bounds,
-        log: server.log,
+        log: server.log.is_some(),
         allow,
     }
 }

@@ -1,8 +1,9 @@
 -- Peers, reactors and networks with a filter at each link.
-use Rattle.std.specs.Prelude.{◌≡◌, Bool, List, ℕ, Result, Ok, Err, map, option_map, Vec}
+use Rattle.std.specs.Prelude.{◌≡◌, Bool, List, ℕ, Option, Result, Ok, Err, map, option_map, Vec}
 use Rattle.std.specs.declared.alloc.Global.{Global}
 use Rattle.std.specs.declared.io.Error.{Error as IoError}
 use Rattle.bw_operators.specs.AllowLists.{AllowRules}
+use Rattle.bw_operators.specs.declared.log_choice.LogForm.{LogForm}
 use Rattle.bw_ports.specs.declared.starts.StartRefusal.{StartRefusal}
 use Rattle.bw_ports.specs.Reactors.{Admission}
 use Rattle.bw_ports.specs.declared.peers.Peer.{Peer}
@@ -76,7 +77,7 @@ PassedOn calls n result n' = calls result n'.network × (n'.one_name ≡ n.one_n
 
 -- it was chosen whether what happens is said, and whether links may have one name alone; and the file
 -- that is named was read
-pub record ChoosesRules {N : Type 0} (logs : N → Bool → N → Type 0)
+pub record ChoosesRules {N : Type 0} (logs : N → Option LogForm → N → Type 0)
     (reads : N → List ℕ → Result (Vec ℕ Global) IoError → Type 0) (n : FilteredNetwork N)
     (choice : ServeChoice) (result : Result AllowRules StartRefusal) (n' : FilteredNetwork N)
     : Type 0 where

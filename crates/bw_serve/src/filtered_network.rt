@@ -10,7 +10,7 @@ use crate::filtered_peers::FilteredPeers;
 use crate::filtered_reactor::FilteredReactor;
 use crate::{OpenedServer, Opens};
 use bw_layout::Limit;
-use bw_operators::{AllowFault, AllowList, EventLog, RuleFiles, StatusSetup};
+use bw_operators::{AllowFault, AllowList, EventLog, LogForm, RuleFiles, StatusSetup};
 use bw_ports::{ListenerSetup, Network, PacedNetwork, StartRefusal};
 use std::alloc::{AllocError, Global};
 use std::io;
@@ -28,7 +28,7 @@ pub trait ServeRules {
     ghost chooses: { Self → ServeChoice → Result AllowRules StartRefusal → Self → Type 0 };
 
     /// Chooses whether each link that comes from now on may have one name alone, or any; and whether
-    /// what happens from now on is said, each line with its time. Returns which names may come from which
+    /// what happens from now on is reported, each line with its time. Returns which names may come from which
     /// addresses, by the file that is named, if there is one.
     ///
     /// # Errors
@@ -46,8 +46,8 @@ pub trait ServeRules {
 pub struct ServeChoice<'a> {
     /// Whether each may have one name alone.
     pub one_name: bool,
-    /// Whether what happens is said.
-    pub log: bool,
+    /// In which form what happens is reported, if it is.
+    pub log: Option<LogForm>,
     /// The path of the file that lists which names may come from which addresses.
     pub allow: Option<&'a str>,
 }

@@ -158,7 +158,7 @@ fn server_outcome(server: &Serve) -> Outcome {
         Outcome::Rests(server.journal)
     } else if server.journal != Journaling::Without {
         Outcome::Keeps(server.journal)
-    } else if server.log {
+    } else if server.log.is_some() {
         Outcome::Logs(server.end, server.limit, server.recorders)
     } else {
         Outcome::Serves(server.end, server.limit, server.recorders)

@@ -17,7 +17,7 @@ use super::options::{
     allow_option, block_option, check_flag, connect_option, digest_flag, exchanges_option,
     file_argument, file_option, files_argument, folder_option, follow_flag, fruitless_option,
     fuse_option, give_up_option, human_flag, idle_option, journal_flag, json_flag, limit_option,
-    link_log_flag, listen_option, log_flag, name_option, network_flag, one_name_flag,
+    link_log_flag, listen_option, log_option, name_option, network_flag, one_name_flag,
     patience_option, pcm_option, rate_option, recorders_option, rest_flag, rounds_option,
     set_option, skip_option, spool_option, state_option, status_option, strict_flag, sync_flag,
     take_digest_flag, take_json_flag, timeout_option, until_option, until_stopped_flag, watch_flag,
@@ -238,7 +238,7 @@ fn serve_ends<'a>(alloc: Global) -> Result<Command<'a>, AllocError>
     ensures { IfOk result (IsCommand serve_ends) }
 {
     let command = with_option(serve_many(alloc), until_stopped_flag(alloc));
-    with_option(command, log_flag(alloc))
+    with_option(command, log_option(alloc))
 }
 
 /// The command of `serve_how` with the options for many recorders at once.

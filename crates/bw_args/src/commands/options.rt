@@ -1,7 +1,7 @@
 //! The options of the commands. Each is one of its own command alone.
 ghost use Rattle.bw_args.specs.Commands.{IsOption, connect_option, exchanges_option, file_argument};
 ghost use Rattle.bw_args.specs.Commands.{flag, folder_option, fuse_option, idle_option};
-ghost use Rattle.bw_args.specs.Commands.{limit_option, listen_option, log_flag, name_option};
+ghost use Rattle.bw_args.specs.Commands.{limit_option, listen_option, log_flag, log_option, name_option};
 ghost use Rattle.bw_args.specs.Commands.{allow_option};
 ghost use Rattle.bw_args.specs.Commands.{network_flag, one_name_flag, option, recorders_option, required};
 ghost use Rattle.bw_args.specs.Commands.{file_option, fruitless_option, journal_flag, repeated};
@@ -215,14 +215,18 @@ pub(crate) fn until_stopped_flag<'a>(alloc: Global) -> Arg<'a>
     flag_option(alloc, "until-stopped", help)
 }
 
-pub(crate) fn log_flag<'a>(alloc: Global) -> Arg<'a>
-    ensures { IsOption log_flag result }
+/// `--log` alone, or with the form of what is reported.
+pub(crate) fn log_option<'a>(alloc: Global) -> Arg<'a>
+    ensures { IsOption log_option result }
 {
-    let help = "Reports connections and takes in lines on standard error, each with its time";
-    flag_option(alloc, "log", help)
+    let help =
+        "Reports connections and takes on standard error, each with its time: in lines, or in json";
+    value_option(alloc, "log", "FORM", help)
+        .num_args(0..=1)
+        .default_missing_value("lines")
 }
 
-/// The same flag of a sender, for a recording alone.
+/// The flag of a sender, for a recording alone.
 pub(crate) fn link_log_flag<'a>(alloc: Global) -> Arg<'a>
     ensures { IsOption log_flag result }
 {

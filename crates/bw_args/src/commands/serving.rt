@@ -3,11 +3,11 @@ ghost use Rattle.std.specs.Prelude.{◌≡◌, codes, Some, IfOk, IfErr, OnErr, 
 ghost use Rattle.clap.specs.Words.{first_value, found_of, rows_of};
 ghost use Rattle.bw_args.specs.Lines.{AsksForPath, GivesRecorders, IsEndGiven, IsFirstBad};
 ghost use Rattle.bw_args.specs.Lines.{IsFolderGiven, IsJournalingGiven, IsLineFor, IsRecordersGiven, IsRestGiven};
-ghost use Rattle.bw_args.specs.Lines.{IsStatusGiven, looked_at_waiting};
+ghost use Rattle.bw_args.specs.Lines.{IsLogGiven, IsStatusGiven, looked_at_waiting};
 
 use super::limit_given;
 use super::network::{address_given, count_given, flag_given};
-use crate::{BadValue, CommandLine, End, Journaling, Recorders, Serve, Task, numbers};
+use crate::{BadValue, CommandLine, End, Journaling, Logging, Recorders, Serve, Task, numbers};
 use clap::ArgMatches;
 use std::alloc::{AllocError, Global};
 use std::net::SocketAddr;
@@ -15,6 +15,10 @@ use std::net::SocketAddr;
 /// A text that is no address, or one where none is wanted.
 #[derive(Drop)]
 struct NoAddress;
+
+/// A word that is no form of a log.
+#[derive(Drop)]
+struct NoForm;
 
 /// The paths that a server is given.
 #[derive(Drop)]
@@ -25,7 +29,8 @@ struct ServedPaths {
 
 /// Bad values are reported in this order: the address, the folder, the exchanges, the limit, those
 /// of `recorders_given`, `--until-stopped` with a number of exchanges, `--sync` without `--journal`,
-/// `--rest` without it, and the address of `--status`, or that without `--recorders`.
+/// `--rest` without it, the address of `--status`, or that without `--recorders`, and the form of
+/// `--log`.
 pub(crate) fn serve_line(alloc: Global, options: &ArgMatches<'_>) -> Result<CommandLine, AllocError>
     ensures ok { IfOk result (IsLineFor (Some (codes "serve", rows_of (found_of options.now)))) }
     ensures err { OnErr result
@@ -63,7 +68,9 @@ pub(crate) fn serve_line(alloc: Global, options: &ArgMatches<'_>) -> Result<Comm
     let Ok(status) = status_given(options, network) else {
         return Ok(CommandLine::BadValue(BadValue::Status));
     };
-    let log = flag_given(options, "log");
+    let Ok(log) = log_given(options) else {
+        return Ok(CommandLine::BadValue(BadValue::Log));
+    };
     let one_name = flag_given(options, "one-name");
     let paths = paths_given(alloc, path, options)?;
     Ok(CommandLine::Run(Task::Serve(Serve {
@@ -79,6 +86,23 @@ pub(crate) fn serve_line(alloc: Global, options: &ArgMatches<'_>) -> Result<Comm
         allow: paths.allow,
         status,
     })))
+}
+
+/// How the options say that what happens is reported.
+///
+/// # Errors
+/// `NoForm` if they give another word.
+fn log_given(options: &ArgMatches<'_>) -> Result<Option<Logging>, NoForm>
+    ensures { IsLogGiven (first_value (found_of options.now) (codes "log")) result }
+{
+    let Some(form) = options.get_str("log") else {
+        return Ok(None);
+    };
+    match form {
+        "lines" => Ok(Some(Logging::Lines)),
+        "json" => Ok(Some(Logging::Json)),
+        _ => Err(NoForm),
+    }
 }
 
 /// The path that the options give; none if it is empty, as an unset shell variable leaves it.

@@ -2,7 +2,7 @@ use Rattle.std.proofs.Common.{codes, refl, subst, sym}
 use Rattle.clap.specs.Words.{first_value, found_of}
 use Rattle.bw_args.specs.Lines.{GivesFolder, Serving, looked_at_serving, looked_at_waiting}
 use Rattle.bw_args.specs.declared.bad_value.BadValue.TheVariants.{Listen, Folder, Exchanges, Limit}
-use Rattle.bw_args.specs.declared.bad_value.BadValue.TheVariants.{UntilStopped, Sync, Rest, Status}
+use Rattle.bw_args.specs.declared.bad_value.BadValue.TheVariants.{UntilStopped, Sync, Rest, Status, Log}
 use Rattle.bw_args.proofs.Asked.{a_journaling, a_rest, a_status, an_address, an_end, bad, bad_line, first_then, found_address, no_address}
 use Rattle.bw_args.proofs.Asked.{no_end, no_journaling, no_rest, no_status, on_err, server_asked, way_then, ◌and_then◌}
 use Rattle.bw_args.proofs.commands.serving.serve_line.Goals as goal
@@ -116,6 +116,35 @@ returns-in_default-status_given-clause-ok c = bad_line (found_of c.args.options.
     c.in_default-status_given.ensures))
     )
 
+pub returns-in_default-log_given-clause-ok : goal.returns-in_default-log_given-clause-ok
+returns-in_default-log_given-clause-ok c = bad_line (found_of c.args.options.now) (codes "serve") Log (
+    found_address (found_of c.args.options.now) (codes "listen") _ _ c.flag_given-network.ensures c.in-Some.ensures
+    and_then (_, c.in-Some-folder_given.ensures) and_then (c.in-Ok.count, c.in-Ok.ensures)
+    and_then (c.in-Some-limit_given.limit, c.in-Some-limit_given.ensures)
+    and_then way_then looked_at_serving (first_value (found_of c.args.options.now)) Log
+    c.in-Ok-recorders_given.recorders c.in-Ok-recorders_given.ensures.ok
+    ((
+      c.in-Some-end_given.end,
+      an_end (found_of c.args.options.now) _ _ _ c.flag_given.ensures c.in-Ok.ensures
+          c.in-Some-end_given.ensures,
+    )
+    and_then (
+      c.in-Some-journaling.journal,
+      a_journaling (found_of c.args.options.now) _ _ _ c.flag_given-is_kept.ensures
+          c.flag_given-is_synced.ensures c.in-Some-journaling.ensures,
+    )
+    and_then (
+      c.in-Some-rest_given.rest,
+      a_rest (found_of c.args.options.now) _ _ _ c.flag_given-is_kept.ensures c.flag_given-is_asked.ensures
+          c.in-Some-rest_given.ensures,
+    )
+    and_then (
+      c.in-Ok-status_given.status,
+      a_status (found_of c.args.options.now) _ _ c.flag_given-network.ensures c.in-Ok-status_given.ensures,
+    )
+    and_then bad (λ good. c.in_default-log_given.ensures good.0 good.1))
+    )
+
 pub returns-in_err-paths-clause-err : goal.returns-in_err-paths-clause-err
 returns-in_err-paths-clause-err c = on_err c.from_residual.result (
   Serving (record {
@@ -124,7 +153,7 @@ returns-in_err-paths-clause-err c = on_err c.from_residual.result (
     end = c.in-Some-end_given.end;
     limit = c.in-Some-limit_given.limit;
     recorders = c.in-Ok-recorders_given.recorders;
-    log = c.flag_given-log.result;
+    log = c.in-Ok-log_given.log;
     journal = c.in-Some-journaling.journal;
     rest = c.in-Some-rest_given.rest;
     one_name = c.flag_given-one_name.result;
@@ -140,7 +169,7 @@ returns-in_err-paths-clause-err c = on_err c.from_residual.result (
         c.in-Some-end_given.ensures;
     limited = c.in-Some-limit_given.ensures;
     serves = c.in-Ok-recorders_given.ensures.ok;
-    reports = c.flag_given-log.ensures;
+    reports = c.in-Ok-log_given.ensures;
     journals = a_journaling (found_of c.args.options.now) _ _ _ c.flag_given-is_kept.ensures
         c.flag_given-is_synced.ensures c.in-Some-journaling.ensures;
     rests = a_rest (found_of c.args.options.now) _ _ _ c.flag_given-is_kept.ensures c.flag_given-is_asked.ensures
@@ -159,7 +188,7 @@ returns-clause-ok c = server_asked (found_of c.args.options.now) _ (record {
   ends = an_end (found_of c.args.options.now) _ _ _ c.flag_given.ensures c.in-Ok.ensures c.in-Some-end_given.ensures;
   limited = c.in-Some-limit_given.ensures;
   serves = c.in-Ok-recorders_given.ensures.ok;
-  reports = c.flag_given-log.ensures;
+  reports = c.in-Ok-log_given.ensures;
   journals = a_journaling (found_of c.args.options.now) _ _ _ c.flag_given-is_kept.ensures
       c.flag_given-is_synced.ensures c.in-Some-journaling.ensures;
   rests = a_rest (found_of c.args.options.now) _ _ _ c.flag_given-is_kept.ensures c.flag_given-is_asked.ensures
