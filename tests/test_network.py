@@ -273,6 +273,33 @@ def case_log_of_takes(folder):
         TALLY.holds(f"{name}: a fault", f"{place}/{take.name}.journal: LostFile, left out" in found, f"{found}")
 
 
+def case_log_as_json(folder):
+    """With `--log=json` each line is an object: its time, its message, and the take or peer that the line begins with."""
+    take = Take("objects", 48_000, 24)
+    for at, options in enumerate((("--log=json",), ("--log", "json"), ("--recorders", "2", "--log=json"))):
+        name = f"a log as JSON, {' '.join(options)}"
+        place = folder / f'{at}\t"\\é'  # what JSON escapes, and what it doesn't
+        place.mkdir()
+        server = Server(place, "--exchanges", "1", "--journal", *options, opening=("resumed 0 takes",))
+        port = say_logged(server.port, b"".join(take.messages()))
+        status, _, faults = server.end()
+        TALLY.same(f"{name}: the status", status, 0)
+        bodies = sum(len(said) - 4 for said in take.messages())
+        peer = f"{LOCAL}:{port}"
+        wanted = [
+            {"message": f"started {LOCAL}:{server.port} folder {place}"},
+            {"message": "begun", "peer": peer},
+            {"message": "opened frames 0", "take": take.name},
+            {"message": "closed frames 16000 seconds 0.333 MB 0.048", "take": take.name},
+            {"message": f"names {take.name} end EndOfInput messages {len(take.requests())} bytes {bodies}", "peer": peer},
+        ]
+        TALLY.same(name, logs.objects(name, faults), wanted)
+    words = ("serve", "--listen", f"{LOCAL}:0", "--folder", str(folder), "--log=xml")
+    status, out, faults = run(*words)
+    TALLY.same("another form of the log", (status, out), (2, ""))
+    TALLY.holds("another form of the log: the line", faults.startswith("error: '--log [<FORM>]' takes 'lines' or 'json'"), faults)
+
+
 def say_logged(port, said):
     """Sends this and receives the replies, over one connection; its port."""
     with connect(port) as peer:
@@ -366,6 +393,7 @@ CASES = [
     case_garbage,
     case_log,
     case_log_of_takes,
+    case_log_as_json,
     case_typed,
     case_silent_peer,
     case_deaf_peer,

@@ -279,7 +279,7 @@ Options:
       --recorders <N>      Up to how many recorders are served at once, 1 to 256 [default: one by one]
       --idle <SECONDS>     With --recorders: when who sends no whole message is let go, 1 to 86400 [default: 60]
       --until-stopped      Serves exchanges until the program is stopped, in place of --exchanges
-      --log                Reports connections and takes in lines on standard error, each with its time
+      --log [<FORM>]       Reports connections and takes on standard error, each with its time: in lines, or in json
       --journal            Keeps a journal of each take, and continues what an earlier server left
       --sync               With --journal: syncs file and journal before each reply
       --rest               With --journal: still read; changes nothing

@@ -1,5 +1,6 @@
 """What a server logs on standard error: a line for each event, with its time."""
 import datetime
+import json
 import re
 
 from kit.network import TALLY
@@ -17,6 +18,16 @@ def untimed(name, faults):
     in_order = times == sorted(times) and all(now - LONGEST_AGO < time <= now for time in times)
     TALLY.holds(f"{name}: the times", in_order, faults)
     return [line[2] for line in found if line]
+
+
+def objects(name, faults):
+    """The lines as objects of JSON, without their times, which are like those of `untimed`."""
+    found = [json.loads(line) for line in faults.splitlines()]
+    TALLY.holds(f"{name}: one object a line, its keys in order", [json.dumps(it, separators=(",", ":"), ensure_ascii=False)
+                                                                   for it in found] == faults.splitlines(), faults)
+    lines = [f"{it.pop('time', '')} {it['message']}" for it in found]
+    untimed(name, "\n".join(lines))
+    return found
 
 
 def ends(name, faults):

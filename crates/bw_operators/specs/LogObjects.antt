@@ -34,19 +34,19 @@ said_of_take time take said = object
     (member (codes "time") (string time) no_members)))
 
 -- a line that begins with these two words, after which this stands
-abbrev pub said_after : List ℕ → List ℕ → List ℕ → List ℕ → List ℕ → Data
-said_after time line first second rest =
+abbrev pub object_by_words : List ℕ → List ℕ → List ℕ → List ℕ → List ℕ → Data
+object_by_words time line first second rest =
     if bytes_eq first (codes "peer") then said_of_peer time second rest
     else (if bytes_eq first (codes "take") then said_of_take time second rest else said_at time line)
 
 -- a line that begins with this word, after which these stand
-abbrev pub said_from : List ℕ → List ℕ → List ℕ → List ℕ → Data
-said_from time line first others = if has_space others
-    then said_after time line first (before_first is_space others) (after_first is_space others)
+abbrev pub object_by_word : List ℕ → List ℕ → List ℕ → List ℕ → Data
+object_by_word time line first others = if has_space others
+    then object_by_words time line first (before_first is_space others) (after_first is_space others)
     else said_at time line
 
 -- a line without its end: `peer ADDRESS ..` and `take NAME ..` have the second word as a member
 unfoldable pub line_data : List ℕ → List ℕ → Data
 line_data time line = if has_space line
-    then said_from time line (before_first is_space line) (after_first is_space line)
+    then object_by_word time line (before_first is_space line) (after_first is_space line)
     else said_at time line

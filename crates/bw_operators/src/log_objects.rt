@@ -3,7 +3,7 @@ ghost use Rattle.std.specs.Prelude.{◌≡◌, IfOk, Some, string_bytes};
 ghost use Rattle.serde_json.specs.Read.{read};
 ghost use Rattle.serde_json.specs.View.{view};
 ghost use Rattle.serde_json.specs.Written.{compact_text};
-ghost use Rattle.bw_operators.specs.LogObjects.{line_data, said_after, said_at, said_from};
+ghost use Rattle.bw_operators.specs.LogObjects.{line_data, object_by_words, said_at, object_by_word};
 
 use serde_json::{Value, json};
 use std::alloc::{AllocError, Global};
@@ -43,7 +43,7 @@ fn value_from(
     first: &str,
     others: &str,
 ) -> Result<Value, AllocError>
-    ensures { IfOk result (λ v. view v ≡ said_from time.now line.now first.now others.now) }
+    ensures { IfOk result (λ v. view v ≡ object_by_word time.now line.now first.now others.now) }
 {
     match others.split_once(' ') {
         Some((second, rest)) => value_after(alloc, time, line, first, second, rest),
@@ -61,7 +61,7 @@ fn value_after(
     rest: &str,
 ) -> Result<Value, AllocError>
     ensures { IfOk result (λ v. view v
-        ≡ said_after time.now line.now first.now second.now rest.now) }
+        ≡ object_by_words time.now line.now first.now second.now rest.now) }
 {
     if first == "peer" {
         return json!(in alloc; {"message": rest, "peer": second, "time": time});
