@@ -294,7 +294,7 @@ def case_log_as_json(folder):
             {"message": f"names {take.name} end EndOfInput messages {len(take.requests())} bytes {bodies}", "peer": peer},
         ]
         TALLY.same(name, logs.objects(name, faults), wanted)
-    words = ("serve", "--listen", f"{LOCAL}:0", "--folder", str(folder), "--log=xml")
+    words = ("serve", "--listen", f"{LOCAL}:{free_port()}", "--folder", str(folder), "--log=xml")
     status, out, faults = run(*words)
     TALLY.same("another form of the log", (status, out), (2, ""))
     TALLY.holds("another form of the log: the line", faults.startswith("error: '--log [<FORM>]' takes 'lines' or 'json'"), faults)
