@@ -10,7 +10,7 @@ import sys
 
 sys.dont_write_bytecode = True  # nothing is left beside this script
 from kit import logs
-from kit.network import hear, LOCAL, reason, run, run_cases, Server, TALLY, wait_until
+from kit.network import free_port, hear, LOCAL, reason, run, run_cases, Server, TALLY, wait_until
 from kit.takes import BYE_FRAME
 
 LONGEST_RUN = 120  # seconds, for all of it
@@ -151,7 +151,7 @@ def case_refused(folder):
         place = folder / "place"
         place.mkdir(exist_ok=True)
         (folder / "list").write_bytes(text.encode("latin-1"))
-        words = ("serve", "--listen", f"{LOCAL}:0", "--folder", str(place), "--allow", str(folder / "list"))
+        words = ("serve", "--listen", f"{LOCAL}:{free_port()}", "--folder", str(place), "--allow", str(folder / "list"))
         status, out, faults = run(*words)
         TALLY.same(f"{text!r}: the status", (status, out), (1, ""))
         TALLY.holds(f"{text!r}: the line", faults.startswith(f"{folder}/list:{line}: "), faults)
@@ -165,7 +165,7 @@ def case_unread(folder):
     place.mkdir()
     (folder / "long").write_bytes(b"\n" * (2**20 + 1))
     for path, cause in ((folder / "none", reason(2)), (folder, reason(21)), (folder / "long", "file too large")):
-        words = ("serve", "--listen", f"{LOCAL}:0", "--folder", str(place), "--allow", str(path))
+        words = ("serve", "--listen", f"{LOCAL}:{free_port()}", "--folder", str(place), "--allow", str(path))
         status, out, faults = run(*words)
         TALLY.same(f"{path.name}: the status", (status, out), (3, ""))
         TALLY.holds(f"{path.name}: the line", str(path) in faults and cause in faults, faults)
