@@ -16,6 +16,8 @@ from kit.takes import BYE_FRAME
 LONGEST_RUN = 120  # seconds, for all of it
 OTHER = "127.0.0.2"
 
+SHOWN = "--status"  # at a free port
+
 # The take `a1`: OPEN 0 (48,000 Hz, one channel, 16 bits), BLOCK 1 with two frames, CLOSE 2 with the total 2.
 OPEN = b"\x12\0\0\0\x01\x02a1\0\0\0\0\x80\xbb\0\0\x01\0\x10\0\0\0"
 BLOCK = b"\x0c\0\0\0\x02\x02a1\x01\0\0\0\x01\0\x02\0"
@@ -26,7 +28,7 @@ FULL = [b"\x0d\0\0\0\x82\x02a1" + bytes([number]) + b"\0\0\0\x23\0\0\0\0" for nu
 NEXT_0 = b"\x0d\0\0\0\x82\x02a1\x07\0\0\0\x27\0\0\0\0"  # 39: Next
 NEXT_1 = b"\x0d\0\0\0\x82\x02a1\x07\0\0\0\x27\x01\0\0\0"
 
-WAYS = ((), ("--recorders", "2"), ("--recorders", "2", "--journal"))
+WAYS = ((), ("--recorders", "2"), ("--recorders", "2", "--journal"), ("--journal",), ("--recorders", "2", "--journal", SHOWN))
 
 # A list, a name, and from which of the two addresses it is taken.
 ROWS = (
@@ -78,7 +80,8 @@ REFUSED = (
 def served(folder, way, exchanges, *options):
     """A server with the list of the case's folder."""
     opening = ("resumed 0 takes",) if "--journal" in way else ()
-    words = ("--exchanges", str(exchanges), "--allow", str(folder.parent / "list"), *way, *options)
+    shown = (f"{LOCAL}:{free_port()}",) if SHOWN in way else ()
+    words = ("--exchanges", str(exchanges), "--allow", str(folder.parent / "list"), *way, *shown, *options)
     return Server(folder, *words, opening=opening)
 
 
@@ -115,7 +118,7 @@ def case_replies(folder):
     """What isn't allowed is answered TableFull, an ask of it Next 0, and nothing is kept of it; the others go on."""
     for way in WAYS:
         name = " ".join(("replies", *way))
-        place = folder / f"replies{len(way)}"
+        place = folder / "-".join(("replies", *way))
         place.mkdir()
         (folder / "list").write_text(f"a1 {OTHER}\n")
         server = served(place, way, 3, "--log")
@@ -126,13 +129,13 @@ def case_replies(folder):
         TALLY.same(f"{name}: no file", [path.name for path in place.iterdir() if path.suffix == ".wav"], [])
         with linked(server.port, OTHER) as peer:
             TALLY.same(f"{name}: opened", says(peer, OPEN + ASK, len(STORED[0] + NEXT_1)), STORED[0] + NEXT_1)
-            if way:
+            if "--recorders" in way:
                 with linked(server.port, LOCAL) as second:
                     said = says(second, BLOCK + ASK + BYE_FRAME, 2 * len(NEXT_0))
                     TALLY.same(f"{name}: beside the recorder", said, FULL[1] + NEXT_0)
             said = says(peer, BLOCK + CLOSE + BYE_FRAME, len(STORED[1] + STORED[2]))
             TALLY.same(f"{name}: the recorder goes on", said, STORED[1] + STORED[2])
-        if not way:
+        if "--recorders" not in way:
             with linked(server.port, LOCAL) as second:
                 said = says(second, BLOCK + ASK + BYE_FRAME, 2 * len(NEXT_0))
                 TALLY.same(f"{name}: after the recorder", said, FULL[1] + NEXT_0)
@@ -142,7 +145,7 @@ def case_replies(folder):
         TALLY.same(f"{name}: its messages are counted", [line for line in lines if "messages 3" in line][0],
                    f"peer {LOCAL}:{port} names a1 end Bye messages 3 bytes 46")
         if "--journal" in way:
-            TALLY.holds(f"{name}: the log", f"peer {LOCAL}:{port} refused a1" in lines, faults)
+            TALLY.same(f"{name}: the log", lines.count(f"peer {LOCAL}:{port} refused a1"), 1)
 
 
 def case_refused(folder):
