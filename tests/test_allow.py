@@ -5,8 +5,10 @@ Frames and replies are worked out by hand from docs/FORMATS.md. Peers come from 
 and 127.0.0.2. The program is the first argument, or the one of this repository. Prints what differs, and last
 'N passed, M failed'.
 """
+import json
 import socket
 import sys
+import urllib.request
 
 sys.dont_write_bytecode = True  # nothing is left beside this script
 from kit import logs
@@ -148,6 +150,26 @@ def case_replies(folder):
             TALLY.same(f"{name}: the log", lines.count(f"peer {LOCAL}:{port} refused a1"), 1)
 
 
+def case_shown(folder):
+    """The status shows the peer that a name is taken from, not one that was turned away, and counts no message of that."""
+    (folder / "list").write_text(f"a1 {OTHER}\n")
+    place, shown = folder / "place", free_port()
+    place.mkdir()
+    words = ("--recorders", "2", "--journal", "--status", f"{LOCAL}:{shown}", "--allow", str(folder / "list"))
+    server = Server(place, "--exchanges", "2", *words, opening=("resumed 0 takes",))
+    with linked(server.port, LOCAL) as kept_out, linked(server.port, OTHER) as peer:
+        TALLY.same("shown: turned away", says(kept_out, OPEN, len(FULL[0])), FULL[0])
+        TALLY.same("shown: opened", says(peer, OPEN, len(STORED[0])), STORED[0])
+        with urllib.request.urlopen(f"http://{LOCAL}:{shown}/takes.json", timeout=20) as answer:
+            status = json.load(answer)
+        found = [(take["name"], take["peer"]) for take in status["takes"]]
+        TALLY.same("shown: the peer", found, [("a1", f"{OTHER}:{peer.getsockname()[1]}")])
+        TALLY.same("shown: the messages", [it["count"] for it in status["messages"] if it["kind"] == "OPEN"], [1])
+        kept_out.sendall(BYE_FRAME)
+        peer.sendall(BYE_FRAME)
+    TALLY.same("shown: the server", server.end()[0], 0)
+
+
 def case_refused(folder):
     """A list with a bad line is refused at the start, by the number of the first one; nothing is made."""
     for text, line in REFUSED:
@@ -186,7 +208,7 @@ def case_longest(folder):
     TALLY.same("1 MiB: the server", server.end()[0], 0)
 
 
-CASES = [case_rows, case_replies, case_refused, case_unread, case_longest]
+CASES = [case_rows, case_replies, case_shown, case_refused, case_unread, case_longest]
 
 if __name__ == "__main__":
     sys.exit(run_cases(CASES, LONGEST_RUN))

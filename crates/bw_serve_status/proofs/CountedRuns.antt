@@ -81,7 +81,7 @@ module _ {T : Type 0} (answers : T → Frame → List Reply → T → Type 0)
 
     runs_shown : (hosting : Hosting) (exit : Exit) (t t' : Tallied T) (b b' : B) (o o' : O) (e e' : E)
         (v v' : StatusObserver P K) (opened : P) (takes : Option ℕ) → t.tallies ≡ none_tallied →
-        BeginsToShow opened takes v →
+        BeginsToShow opened takes hosting.allow.now v →
         RunsEventLoop reactor G (Guarded CountsTurn hosting.allow.now) CountsCommit out reported hosting.log hosting.bounds exit t t' b b' o o' e e' →
         ObservesRun reactor G (Guarded CountsTurn hosting.allow.now) CountsCommit out reported hosting.log (Looks holds port link) hosting.bounds exit
         t t' b b' o o' e e' v v' →
@@ -106,7 +106,7 @@ module _ {T : Type 0} (answers : T → Frame → List Reply → T → Type 0)
     pub counted_shown : (server : T) (hosting : Hosting) (exit : Exit) (t t' : Tallied T) (b b' : B) (o o' : O)
         (e e' : E) (v v' : StatusObserver P K) (opened : P) (takes : Option ℕ) → t.server ≡ server →
         t.tallies ≡ none_tallied →
-        BeginsToShow opened takes v →
+        BeginsToShow opened takes hosting.allow.now v →
         RunsEventLoop reactor G (Guarded CountsTurn hosting.allow.now) CountsCommit out reported hosting.log hosting.bounds exit t t' b b' o o' e e' →
         ObservesRun reactor G (Guarded CountsTurn hosting.allow.now) CountsCommit out reported hosting.log (Looks holds port link) hosting.bounds exit
         t t' b b' o o' e e' v v' →

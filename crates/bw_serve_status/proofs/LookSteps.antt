@@ -7,6 +7,7 @@ use Rattle.bw_ports.specs.declared.link.Link.{Ghosts as LinkGhosts}
 use Rattle.bw_serve.specs.declared.observing.RoundReport.{RoundReport}
 use Rattle.bw_status.specs.declared.answer.Answer.{Answer}
 use Rattle.bw_operators.specs.OperatorPlaces.{AdmitsAt, IsNextPlace, LastsLongest, LeavesOtherPlaces, StepsAt}
+use Rattle.bw_operators.specs.AllowLists.{AllowRules}
 use Rattle.bw_operators.specs.OperatorPlaces.{asked_at}
 use Rattle.bw_operators.specs.declared.port.StatusPort.{Ghosts as PortGhosts}
 use Rattle.bw_operators.specs.declared.operators.Operators.{Operators}
@@ -14,14 +15,15 @@ use Rattle.bw_serve_status.specs.Looks.{Accepts, Moment, RespondsToOne, ShowsOrC
 use Rattle.bw_serve_status.specs.declared.growth.Growth.{Growth}
 use Rattle.bw_serve_status.specs.declared.tallied.Tallied.{Tallied}
 
-abbrev pub moment_with : ℕ → ℕ → Option ℕ → List Growth → Moment
-moment_with now since resumed growth =
-    record { now = now; since = since; resumed = resumed; growth = growth }
+abbrev pub moment_with : ℕ → ℕ → Option ℕ → List Growth → AllowRules → Moment
+moment_with now since resumed growth allow =
+    record { now = now; since = since; resumed = resumed; growth = growth; allow = allow }
 
 -- the port reported the same time and the same start
-pub same_moment : (now now' since since' : ℕ) (resumed : Option ℕ) (growth : List Growth) → now' ≡ now →
-    since' ≡ since → moment_with now' since' resumed growth ≡ moment_with now since resumed growth
-same_moment now now' since since' resumed growth e f = rw (e, f) refl
+pub same_moment : (now now' since since' : ℕ) (resumed : Option ℕ) (growth : List Growth) (allow : AllowRules) →
+    now' ≡ now → since' ≡ since →
+    moment_with now' since' resumed growth allow ≡ moment_with now since resumed growth allow
+same_moment now now' since since' resumed growth allow e f = rw (e, f) refl
 
 -- one more operator is accepted
 pub accepts_one : {L : Type 0} (now : ℕ) (o between o' : Operators L) (place : ℕ) (link : L) →

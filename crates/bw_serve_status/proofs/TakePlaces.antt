@@ -4,7 +4,8 @@ use Rattle.std.proofs.lemmas.List.{at_drop_more}
 use Rattle.std.specs.Prelude.{Some}
 use Rattle.std.specs.Str.{bytes_eq}
 use Rattle.bw_serve.specs.declared.peer_slot.PeerSlot.{PeerSlot}
-use Rattle.bw_serve_status.specs.Takes.{has_sent, peer_of, replied_of}
+use Rattle.bw_operators.specs.AllowLists.{AllowRules}
+use Rattle.bw_serve_status.specs.Takes.{is_peer_of, peer_of, replied_of}
 use Rattle.bw_serve_status.specs.declared.name_tally.NameTally.{NameTally}
 
 -- the counts at a place are another's
@@ -21,15 +22,15 @@ replied_here name ts i t less is same =
     at_drop_more (replied_of name) ts i t less
     ∙ rw (ap (λ y. bytes_eq y.name name) (sym is) ∙ same) (ap (λ y. (y.refused, y.delayed)) (sym is))
 
--- the peer at a place has sent none of the name's messages
-pub peer_later : (name : List ℕ) (ps : List PeerSlot) (i : ℕ) (p : PeerSlot) → i < length ps → p ≡ get_or ps i p →
-    has_sent name p ≡ false → peer_of name (drop i ps) ≡ peer_of name (drop (i + 1) ps)
-peer_later name ps i p less is other =
-    at_drop_more (peer_of name) ps i p less ∙ rw (ap (has_sent name) (sym is) ∙ other) refl
+-- the peer at a place isn't the name's
+pub peer_later : (rules : AllowRules) (name : List ℕ) (ps : List PeerSlot) (i : ℕ) (p : PeerSlot) → i < length ps → p ≡ get_or ps i p →
+    is_peer_of rules name p ≡ false → peer_of rules name (drop i ps) ≡ peer_of rules name (drop (i + 1) ps)
+peer_later rules name ps i p less is other =
+    at_drop_more (peer_of rules name) ps i p less ∙ rw (ap (is_peer_of rules name) (sym is) ∙ other) refl
 
--- it has
-pub peer_here : (name : List ℕ) (ps : List PeerSlot) (i : ℕ) (p : PeerSlot) → i < length ps → p ≡ get_or ps i p →
-    has_sent name p ≡ true → peer_of name (drop i ps) ≡ Some p.address
-peer_here name ps i p less is same =
-    at_drop_more (peer_of name) ps i p less
-    ∙ rw (ap (has_sent name) (sym is) ∙ same) (ap (λ y. Some y.address) (sym is))
+-- it is
+pub peer_here : (rules : AllowRules) (name : List ℕ) (ps : List PeerSlot) (i : ℕ) (p : PeerSlot) → i < length ps → p ≡ get_or ps i p →
+    is_peer_of rules name p ≡ true → peer_of rules name (drop i ps) ≡ Some p.address
+peer_here rules name ps i p less is same =
+    at_drop_more (peer_of rules name) ps i p less
+    ∙ rw (ap (is_peer_of rules name) (sym is) ∙ same) (ap (λ y. Some y.address) (sym is))

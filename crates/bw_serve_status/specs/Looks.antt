@@ -6,6 +6,7 @@ use Rattle.bw_ports.specs.declared.link.Link.{Ghosts as LinkGhosts}
 use Rattle.bw_status.specs.Responses.{response_text}
 use Rattle.bw_status.specs.declared.answer.Answer.{Answer}
 use Rattle.bw_status.specs.declared.snapshot.Snapshot.{Snapshot}
+use Rattle.bw_operators.specs.AllowLists.{AllowRules}
 use Rattle.bw_operators.specs.OperatorPlaces.{AreConnections, IsFreeAt, LastsLongest, LetsOperatorIn}
 use Rattle.bw_operators.specs.OperatorPlaces.{LeavesOtherPlaces, RespondsAt, StepsAt, asked_at}
 use Rattle.bw_operators.specs.declared.operators.Operators.{Operators}
@@ -24,12 +25,13 @@ abbrev pub Accepts : {L : Type 0} → ℕ → Operators L → Operators L → Ty
 Accepts now o o' = (count : ℕ) × LetsOperatorIn now count o o'
 
 -- what an observer responds by: the time that its port reported last, when it was started, how many
--- takes were resumed then, if there are journals, and when each name grew last
+-- takes were resumed then, if there are journals, when each name grew last, and which names may come
 pub record Moment : Type 0 where
   pub now : ℕ
   pub since : ℕ
   pub resumed : Option ℕ
   pub growth : List Growth
+  pub allow : AllowRules
 
 -- an observer's
 abbrev pub moment_of : {P L : Type 0} → PortGhosts P L → StatusObserver P L → Moment
@@ -38,6 +40,7 @@ moment_of port o = record {
   since = port.started o.port;
   resumed = o.resumed;
   growth = o.growth.items;
+  allow = o.allow.now;
 }
 
 -- these surroundings are of the moment, and a port reported the rest of them
@@ -47,6 +50,7 @@ pub record Surrounds {P L : Type 0} (port : PortGhosts P L) (m : Moment) (around
   pub since : around.since ≡ m.since
   pub resumed : around.resumed ≡ m.resumed
   pub growth : around.growth.now ≡ m.growth
+  pub allow : around.allow.now ≡ m.allow
   pub has_folder : (p : P) × port.usable p around.has_folder
   pub begins : (p : P) × port.beginning p around.begins
   pub memory : (p : P) × port.used p around.memory
@@ -108,6 +112,7 @@ module _ {T : Type 0} (holds : T → (List ℕ → Option (List ℕ)) → Book �
         pub growth : NotesGrowth (port.time o'.port) server.tallies.names o.growth.items
             o'.growth.items
         pub resumed : o'.resumed ≡ o.resumed
+        pub allow : o'.allow.now ≡ o.allow.now
         pub started : port.started o'.port ≡ port.started o.port
         pub worked : Operators L
         pub steps : (place : ℕ) → StepsAt G (port.time o'.port) o.operators worked place

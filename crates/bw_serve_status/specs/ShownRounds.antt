@@ -27,13 +27,14 @@ pub record HasCounted {T : Type 0} (rules : AllowRules) (server : T) (answered :
   pub tallies_are : counted.tallies ≡ tallied_all none_tallied own
 
 -- an observer that has this port, at which nobody is connected yet; it knows how many takes the
--- server found, and no name has grown
-pub record BeginsToShow {P K : Type 0} (opened : P) (takes : Option ℕ) (observer : StatusObserver P K)
-    : Type 0 where
+-- server found and which names may come, and no name has grown
+pub record BeginsToShow {P K : Type 0} (opened : P) (takes : Option ℕ) (rules : AllowRules)
+    (observer : StatusObserver P K) : Type 0 where
   pub port : observer.port ≡ opened
   pub places : place_count observer.operators ≡ 32
   pub free : (place : ℕ) → place < 32 → IsFreeAt observer.operators place
   pub resumed : observer.resumed ≡ takes
+  pub allow : observer.allow.now ≡ rules
   pub growth : observer.growth.items ≡ no_growth
 
 module _ {T : Type 0} (answers : T → Frame → List Reply → T → Type 0)
@@ -47,6 +48,6 @@ module _ {T : Type 0} (answers : T → Frame → List Reply → T → Type 0)
         (λ (left : RoundLeft L T). AnswersAll (FromPeer (Guarded answers rules)) server left.answered
         left.server) rounds
     pub before : StatusObserver P K
-    pub begins : BeginsToShow opened takes before
+    pub begins : BeginsToShow opened takes rules before
     pub after : StatusObserver P K
     pub looked : LooksAfterEach (Looks holds port link) (HasCounted rules) rounds before after

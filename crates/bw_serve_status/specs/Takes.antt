@@ -1,6 +1,6 @@
 -- What is shown of a server's takes: of each name that it knows what its log says, and what was
 -- counted.
-use Rattle.std.specs.Prelude.{◌≡◌, ℕ, ◌*◌, ◌-◌, ◌/◌, ◌^◌, ◌==◌, Bool, Option, Some, None}
+use Rattle.std.specs.Prelude.{◌≡◌, ℕ, ◌*◌, ◌-◌, ◌/◌, ◌^◌, ◌==◌, ◌&&◌, Bool, Option, Some, None}
 use Rattle.std.specs.Prelude.{List, [], ◌∷◌, is_some, option_map, map, string_bytes, nat_lt}
 use Rattle.std.specs.Prelude.{if◌then◌else◌}
 use Rattle.std.specs.Cmp.Lexicographic.{slice_cmp}
@@ -11,6 +11,7 @@ use Rattle.std.specs.Str.{bytes_eq}
 use Rattle.std.specs.declared.net.socket_addr.SocketAddr.{SocketAddr}
 use Rattle.bw_model.specs.Book.{Book, Log, is_known, log_of, made}
 use Rattle.bw_model.specs.Take.{Format, Take, frames as frames_of, parts}
+use Rattle.bw_operators.specs.AllowLists.{AllowRules, may_come}
 use Rattle.bw_session.specs.Books.{count_waiting}
 use Rattle.bw_session.specs.KnownNames.{KnowsTaken, ListsNames}
 use Rattle.bw_serve.specs.declared.peer_slot.PeerSlot.{PeerSlot}
@@ -58,10 +59,15 @@ replied_of name (t ∷ ts) = if bytes_eq t.name name then (t.refused, t.delayed)
 abbrev pub has_sent : List ℕ → PeerSlot → Bool
 has_sent name peer = list_any (λ n. bytes_eq n name) peer.link_stats.names
 
+-- and the name may come from there
+abbrev pub is_peer_of : AllowRules → List ℕ → PeerSlot → Bool
+is_peer_of rules name peer = has_sent name peer && may_come rules peer.address name
+
 -- the first peer for which that holds
-abbrev pub peer_of : List ℕ → List PeerSlot → Option SocketAddr
-peer_of name [] = None
-peer_of name (p ∷ ps) = if has_sent name p then Some p.address else peer_of name ps
+abbrev pub peer_of : AllowRules → List ℕ → List PeerSlot → Option SocketAddr
+peer_of rules name [] = None
+peer_of rules name (p ∷ ps) =
+    if is_peer_of rules name p then Some p.address else peer_of rules name ps
 
 -- the take of a name whose log is this, where a file of the name existed before the server's or not
 abbrev pub take_of_log : Bool → Log → Take
@@ -83,7 +89,7 @@ pub record ShowsTake (existed : Bool) (log : Log) (tallies : List NameTally) (pe
   pub replied : (t.refused ≡ (replied_of name tallies).0) × (t.delayed ≡ (replied_of name tallies).1)
   pub quiet_is : t.quiet_ms
       ≡ option_map (λ at. around.now - at) (grown_at name tallies around.growth.now)
-  pub peer_is : t.peer ≡ peer_of name peers
+  pub peer_is : t.peer ≡ peer_of around.allow.now name peers
 
 -- the name that is shown
 abbrev pub take_name : TakeStatus → List ℕ

@@ -10,7 +10,7 @@ use crate::tallied::Tallied;
 use bw_console::print::give_up;
 use bw_console::{Exit, Fault};
 use bw_exchange::{Metered, Turns};
-use bw_operators::{StatusPort, StatusSetup};
+use bw_operators::{AllowList, StatusPort, StatusSetup};
 use bw_ports::{ListenerSetup, Reactor};
 use bw_serve::{Hosting, OpenedServer, print_opening, report_end, report_unbound, run_observed};
 use bw_session::HasTable;
@@ -67,7 +67,8 @@ pub fn serve_shown<
         Err(error) => return report_unbound(alloc, status, &error, faults),
     };
     let OpenedServer { server, takes } = opened;
-    let Ok((mut server, mut observer)) = begin_to_show(alloc, server, port, takes) else {
+    let Ok((mut server, mut observer)) = begin_to_show(alloc, server, port, takes, hosting.allow)
+    else {
         return give_up(faults, &Fault::Memory);
     };
     if let Err(exit) = print_opening(alloc, takes, address, out, faults) {
@@ -91,17 +92,18 @@ pub fn serve_shown<
 ///
 /// # Errors
 /// `AllocError` if memory was refused.
-fn begin_to_show<T: Drop, P: StatusPort + Drop>(
+fn begin_to_show<'a, T: Drop, P: StatusPort + Drop>(
     alloc: Global,
     server: T,
     port: P,
     takes: Option<u64>,
-) -> Result<(Metered<Tallied<T>>, StatusObserver<P>), AllocError>
+    allow: &'a AllowList,
+) -> Result<(Metered<Tallied<T>>, StatusObserver<'a, P>), AllocError>
     ensures server { IfOk result (λ begun. (metered_server begun.0).server ≡ server) }
     ensures tallies { IfOk result (λ begun. (metered_server begun.0).tallies ≡ none_tallied) }
-    ensures shows { IfOk result (λ begun. BeginsToShow port takes begun.1) }
+    ensures shows { IfOk result (λ begun. BeginsToShow port takes allow.now begun.1) }
 {
-    let observer = StatusObserver::new(alloc, port, takes)?;
+    let observer = StatusObserver::new(alloc, port, takes, allow)?;
     match Tallied::new(alloc, server) {
         Ok(server) => Ok((Metered::new(server), observer)),
         Err((error, _server)) => Err(error),

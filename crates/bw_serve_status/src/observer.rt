@@ -5,7 +5,7 @@ use crate::growth::{Growth, note_growth};
 use crate::name_tally::NAMES;
 use crate::snapshots::{Surroundings, snapshot_of};
 use crate::tallied::Tallied;
-use bw_operators::{OPERATORS, Operators, StatusPort};
+use bw_operators::{AllowList, OPERATORS, Operators, StatusPort};
 use bw_serve::{RoundObserver, RoundReport};
 use bw_session::HasTable;
 use bw_status::{Answer, response};
@@ -13,7 +13,7 @@ use std::alloc::{AllocError, Global};
 
 /// Serves operators after each round: at most one response, and no call waits.
 #[derive(Drop)]
-pub(crate) struct StatusObserver<P: StatusPort> {
+pub(crate) struct StatusObserver<'a, P: StatusPort> {
     alloc: Global,
     port: P,
     operators: Operators<P::Link>,
@@ -21,9 +21,11 @@ pub(crate) struct StatusObserver<P: StatusPort> {
     growth: Vec<Growth>,
     /// How many takes the server resumed; None without journals.
     resumed: Option<u64>,
+    /// Which names may come from which addresses.
+    allow: &'a AllowList,
 }
 
-impl<P: StatusPort + Drop> StatusObserver<P> {
+impl<'a, P: StatusPort + Drop> StatusObserver<'a, P> {
     ghost use Rattle.bw_operators.specs.OperatorPlaces.{AreConnections, IsFreeAt, LeavesOtherPlaces, asked_at};
     ghost use Rattle.bw_operators.specs.OperatorPlaces.{place_count};
     ghost use Rattle.bw_serve_status.specs.Growths.{no_growth};
@@ -38,10 +40,12 @@ impl<P: StatusPort + Drop> StatusObserver<P> {
         alloc: Global,
         port: P,
         resumed: Option<u64>,
-    ) -> Result<StatusObserver<P>, AllocError>
+        allow: &'a AllowList,
+    ) -> Result<StatusObserver<'a, P>, AllocError>
         ensures connections { IfOk result (λ o. AreConnections P.Link.Link o.operators) }
         ensures port { IfOk result (λ o. o.port ≡ port) }
         ensures resumed { IfOk result (λ o. o.resumed ≡ resumed) }
+        ensures allow { IfOk result (λ o. o.allow.now ≡ allow.now) }
         ensures places { IfOk result (λ o. place_count o.operators ≡ 32) }
         ensures free { IfOk result (λ o. (place : ℕ) → place < 32 → IsFreeAt o.operators place) }
         ensures growth { IfOk result (λ o. o.growth.items ≡ no_growth) }
@@ -57,6 +61,7 @@ impl<P: StatusPort + Drop> StatusObserver<P> {
             operators: Operators::new(alloc)?,
             growth: Vec::from_elem(alloc, none, NAMES)?,
             resumed,
+            allow,
         })
     }
 
@@ -154,6 +159,7 @@ impl<P: StatusPort + Drop> StatusObserver<P> {
             has_folder: self.port.has_folder(),
             begins: self.port.begins(),
             growth: self.growth.as_slice(),
+            allow: self.allow,
         };
         let snapshot = snapshot_of(self.alloc, server, round, around, left_out)?;
         response(self.alloc, answer, &snapshot)
@@ -170,7 +176,7 @@ impl<P: StatusPort + Drop> StatusObserver<P> {
     }
 }
 
-impl<T: HasTable, P: StatusPort + Drop> RoundObserver<Tallied<T>> for StatusObserver<P> {
+impl<T: HasTable, P: StatusPort + Drop> RoundObserver<Tallied<T>> for StatusObserver<'_, P> {
     ghost use Rattle.bw_serve_status.specs.Looks.{Looks};
 
     ghost looks = { Looks T.holds P.StatusPort P.Link.Link };

@@ -10,6 +10,7 @@ use crate::growth::Growth;
 use crate::name_tally::NAMES;
 use crate::takes::takes_of;
 use crate::tallied::Tallied;
+use bw_operators::AllowList;
 use bw_serve::RoundReport;
 use bw_session::HasTable;
 use bw_status::{Health, LeftOutName, Snapshot, TakeStatus};
@@ -34,6 +35,8 @@ pub(crate) struct Surroundings<'a> {
     pub(crate) begins: bool,
     /// When each name grew last, at the place of its counts.
     pub(crate) growth: &'a [Growth],
+    /// Which names may come from which addresses.
+    pub(crate) allow: &'a AllowList,
 }
 
 /// What a server is doing at the end of a round, and that these names are left out.

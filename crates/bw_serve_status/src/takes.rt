@@ -10,7 +10,7 @@ ghost use Rattle.bw_session.specs.Books.{HoldsBook};
 ghost use Rattle.bw_session.specs.KnownNames.{ListsNames};
 ghost use Rattle.bw_serve_status.specs.Takes.{ShowsOf, ShowsTake, ShowsTakes, has_sent};
 ghost use Rattle.bw_serve_status.specs.Takes.{if_format, lasting};
-ghost use Rattle.bw_serve_status.specs.Takes.{lasting_in, peer_of, replied_of, sound_of};
+ghost use Rattle.bw_serve_status.specs.Takes.{is_peer_of, lasting_in, peer_of, replied_of, sound_of};
 ghost use Rattle.bw_serve_status.specs.Takes.{state_for, take_of_log};
 ghost use Rattle.bw_serve_status.specs.Takes.{take_name};
 
@@ -19,6 +19,7 @@ use crate::name_tally::{NameTally, is_of};
 use crate::snapshots::Surroundings;
 use bw_journal::Journal;
 use bw_model::Name;
+use bw_operators::AllowList;
 use bw_serve::PeerSlot;
 use bw_session::Server;
 use bw_status::{ShownState, SoundFormat, TakeStatus};
@@ -113,7 +114,7 @@ fn take_of<S: TakeStore, J: Journal>(
         refused,
         delayed,
         quiet_ms: quiet_for(grown_at(around.growth, tallies, name), around.now),
-        peer: peer_of(peers, name),
+        peer: peer_of(around.allow, peers, name),
     })
 }
 
@@ -211,16 +212,24 @@ fn quiet_for(grown: Option<u64>, now: u64) -> Option<u64>
     }
 }
 
-/// The peer at the first place whose link has a message of a name among its first eight names.
-fn peer_of(peers: &[PeerSlot], name: &Name) -> Option<SocketAddr>
-    ensures { result ≡ peer_of name.now peers.now }
+/// The peer at the first place whose link has a message of a name among its first eight names, if the
+/// name is taken from there.
+fn peer_of(allow: &AllowList, peers: &[PeerSlot], name: &Name) -> Option<SocketAddr>
+    ensures { result ≡ peer_of allow.now name.now peers.now }
 {
     for peer in peers {
-        if has_sent(peer, name) {
+        if is_peer(allow, peer, name) {
             return Some(peer.address);
         }
     }
     None
+}
+
+/// Whether a name is among the first eight of a peer's link, and is taken from there.
+fn is_peer(allow: &AllowList, peer: &PeerSlot, name: &Name) -> bool
+    ensures { result ≡ is_peer_of allow.now name.now peer.now }
+{
+    has_sent(peer, name) && allow.allows(peer.address, name)
 }
 
 /// Whether a name is among the first eight of which messages came over a link.

@@ -6,17 +6,17 @@ use Rattle.bw_serve_status.proofs.takes.peer_of.Goals as goal
 
 pub loop-peer-preserved : goal.loop-peer-preserved
 loop-peer-preserved c =
-    sym (peer_later c.args.name.now c.args.peers.now c.loop-peer.peer-index c.peer-item.result
+    sym (peer_later c.args.allow.now c.args.name.now c.args.peers.now c.loop-peer.peer-index c.peer-item.result
     (omega arith) c.peer-item.is
-    (sym c.has_sent.ensures ∙ c.if-has_sent.false)) ∙ c.loop-peer.invariant
+    (sym c.is_peer.ensures ∙ c.if-is_peer.false)) ∙ c.loop-peer.invariant
 
-pub returns-then-has_sent : goal.returns-then-has_sent
-returns-then-has_sent c =
-    sym (peer_here c.args.name.now c.args.peers.now c.loop-peer.peer-index c.peer-item.result
+pub returns-then-is_peer : goal.returns-then-is_peer
+returns-then-is_peer c =
+    sym (peer_here c.args.allow.now c.args.name.now c.args.peers.now c.loop-peer.peer-index c.peer-item.result
     (omega arith) c.peer-item.is
-    (sym c.has_sent.ensures ∙ c.if-has_sent.true)) ∙ c.loop-peer.invariant
+    (sym c.is_peer.ensures ∙ c.if-is_peer.true)) ∙ c.loop-peer.invariant
 
 pub returns : goal.returns
 returns c =
-    sym (at_drop_all (peer_of c.args.name.now) c.args.peers.now c.loop-peer.peer-index
+    sym (at_drop_all (peer_of c.args.allow.now c.args.name.now) c.args.peers.now c.loop-peer.peer-index
     (omega arith)) ∙ c.loop-peer.invariant

@@ -3,7 +3,7 @@ use Rattle.bw_serve_status.proofs.LookSteps.{if_ok, same_moment}
 use Rattle.bw_serve_status.proofs.observer.StatusObserver.response_of.Goals as goal
 
 pub returns-clause-kept : goal.returns-clause-kept
-returns-clause-kept g c = same_moment _ _ _ _ _ _ (c.begins.ensures.time ∙ (c.has_folder.ensures.time
+returns-clause-kept g c = same_moment _ _ _ _ _ _ _ (c.begins.ensures.time ∙ (c.has_folder.ensures.time
     ∙ (c.lines_dropped.ensures.time ∙ (c.memory.ensures.time ∙ c.left_out.ensures.time))))
     (c.begins.ensures.started ∙ (c.has_folder.ensures.started
     ∙ (c.lines_dropped.ensures.started ∙ (c.memory.ensures.started ∙ c.left_out.ensures.started))))
@@ -18,6 +18,7 @@ returns-clause-shows g c = if_ok _ _ c.response.result (λ bytes is. record {
         ∙ (c.has_folder.ensures.started ∙ (c.lines_dropped.ensures.started ∙ c.memory.ensures.started)));
     resumed = refl;
     growth = c.as_slice.ensures.value;
+    allow = refl;
     has_folder = (_, c.has_folder.ensures.usable);
     begins = (_, c.begins.ensures.beginning);
     memory = (_, c.memory.ensures.used);

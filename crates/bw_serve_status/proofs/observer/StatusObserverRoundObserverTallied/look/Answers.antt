@@ -26,6 +26,7 @@ returns g c =
       growth = subst (λ n. NotesGrowth n counted old c.respond_to_oldest.new.self.growth.items) at
           (subst (NotesGrowth now counted old) (sym last) notes);
       resumed = ap (λ (m : Moment). m.resumed) kept;
+      allow = ap (λ (m : Moment). m.allow) kept;
       started = ap (λ (m : Moment). m.since) kept ∙ c.now-now.ensures.started;
       worked = c.work.new.self;
       steps = subst (λ n. (place : ℕ) → StepsAt g.P.Link.Link n c.args.self.now.operators c.work.new.self place) at
