@@ -839,7 +839,7 @@ static TEXTS: [(&[&str], &str); 17] = [
     ),
     (
         &["/tmp/x", "serve", "--help"],
-        "Reports connections and takes in lines on standard error, each with its time\n",
+        "--log [<FORM>]       Reports connections and takes on standard error, each with its time: in lines, or in json\n",
     ),
     (
         &["/tmp/x", "send", "--help"],
