@@ -24,7 +24,7 @@ def options_of_page():
     for section in (PACKAGING / "bwingest.1").read_text().split("\n.SS ")[1:]:
         name, _, text = section.partition("\n")
         text = text.partition("\n.SH ")[0].replace("\\-", "-")
-        found[name] = {OPTION.search(it)[0] for it in re.findall(r"(?m)^\.TP\n(\.BI? .*)$", text)}
+        found[name] = {OPTION.search(it)[0] for it in re.findall(r"(?m)^\.TP\n(\.B[IR]? .*)$", text)}
     return found
 
 
@@ -37,7 +37,7 @@ def options_of_bash():
 def options_of_zsh():
     text = (PACKAGING / "_bwingest").read_text().partition("case $command in\n")[2]
     found = re.findall(r"(?ms)^    ([a-z]+)\)(.*?);;$", text)
-    return {name: set(re.findall(r"'\*?(--[a-z-]+)\[", words)) - {"--help"} for name, words in found}
+    return {name: set(re.findall(r"'\*?(--[a-z-]+)(?:=-)?\[", words)) - {"--help"} for name, words in found}
 
 
 def main(words):

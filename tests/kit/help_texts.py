@@ -7,7 +7,7 @@ from kit.repository import ROOT
 PAGE = ROOT / "docs/OPERATING.md"
 END = "<!-- end -->"
 PLACE = re.compile(rf"(?ms)^(<!-- options:([a-z]+) -->\n)(.*?)^{END}$")
-OPTION = re.compile(r"(?m)^ {2,6}(?:-[a-zA-Z], )?(--[a-z-]+(?: <[^>]+>)?)  +(.+)$")
+OPTION = re.compile(r"(?m)^ {2,6}(?:-[a-zA-Z], )?(--[a-z-]+(?: \[?<[^>]+>\]?)?)  +(.+)$")
 
 
 def help_of(path, *words):
