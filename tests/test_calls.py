@@ -22,7 +22,8 @@ from cases.journals import CASES as CASES_OF_JOURNALS
 from cases.spools import CASES as CASES_OF_SPOOLS
 from cases.states import CASES as CASES_OF_STATES
 from kit.hints import hinted
-from kit.network import CANT_GO_ON, connect, finish, free_port, hear_all, hear_batch, LOCAL, reason, run_cases, TALLY
+from kit.network import CANT_GO_ON, connect, finish, free_port, hear, hear_all, hear_batch, LOCAL, reason, run_cases
+from kit.network import TALLY
 from kit.takes import bad_frame, BYE_FRAME, DELAYED_STORE, message, notice, verdict
 from kit.watched import accepted_at, accepted_in_turn, BLOCK, CLOSE, CLOSE_EMPTY, CLOSE_MARKED, DESCRIBE, ENDED
 from kit.watched import FIRST_LOOK, IN_TURN, is_waiting, MANY, MARK, OPEN, OTHER_BLOCK, said_to_a_file, same_calls
@@ -75,6 +76,23 @@ def case_many(folder):
     it.goes(second, 2)
     waits = set(it.ends("many", [0, 1, 2]))
     TALLY.same("many: the waits", waits | {"wait 3 0"}, {"wait 2 0", "wait 3 0", "wait 3 250"})
+
+
+def case_written_back(folder):
+    """Whenever 2 MiB more of a take are written, the system is asked to begin writing them to the disk (advice 4: they
+    aren't needed again). So the sync at the end finds little to do. What is near the start isn't asked for again.
+    """
+    it = Watched(folder, "--exchanges", "1", *IN_TURN)
+    peer = it.comes(accepted_in_turn(7))
+    it.asks(peer, "a1", OPEN)
+    for number in range(1, 130):
+        it.peers[peer].sendall(message("a1", number, b"\x02" + bytes(32_768)))
+        wanted = verdict("a1", number, 0)
+        TALLY.same(f"block {number}", hear(it.peers[peer], len(wanted)), wanted)
+    it.goes(peer, 0)
+    it.ended("written back: the server", (0, ["exchange 0 Bye"], ""))
+    wanted = ["advise a1.wav 0 2097842 4", "advise a1.wav 2097842 2097152 4"]
+    TALLY.same("what is written back", [line for line in it.lines() if line.startswith("advise")], wanted)
 
 
 def case_shut(folder):

@@ -195,6 +195,10 @@ def of_poll_set(watcher, call):
     return "poll poll"
 
 
+def of_advice(watcher, call):
+    return "advise {} {} {} {}".format(watcher.name(call), *call.words[1:4])
+
+
 def of_exit(watcher, call):
     return f"exit {call.words[0]}"
 
@@ -224,6 +228,7 @@ FORMS = {
     82: of_two_paths("rename", 0, 1),
     87: of_path("remove", 0),
     217: of_stream("list"),
+    221: of_advice,
     EXIT: of_exit,
     232: of_wait,
     233: of_registration,

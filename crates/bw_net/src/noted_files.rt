@@ -7,6 +7,10 @@ use std::cell::Cell;
 use std::fs::{Files, Metadata, OpenFile, OpenOptions};
 use std::io::{self, ErrorKind, Read, Seek, SeekFrom, Write};
 use std::net::SocketAddr;
+use std::os::fd::AsRawFd;
+
+/// After how many bytes the system is asked to begin to write them to the disk.
+const WRITE_BACK: u64 = 2 << 20;
 
 /// What a file is called whose path there was no memory for.
 const SOME_FILE: &str = "a file";
@@ -105,6 +109,8 @@ impl<'a> NotedFiles<'a> {
             files: *self,
             unwritten: Cell::new(is_new),
             unsynced: Cell::new(is_new),
+            position: Cell::new(0),
+            written_back: Cell::new(0),
         })
     }
 
@@ -184,6 +190,10 @@ pub struct NotedFile<'a, F> {
     unwritten: Cell<bool>,
     /// Whether it was made and not synced yet.
     unsynced: Cell<bool>,
+    /// Where the next byte is written.
+    position: Cell<u64>,
+    /// Up to where the system was asked to begin to write to the disk.
+    written_back: Cell<u64>,
 }
 
 impl<F> NotedFile<'_, F> {
@@ -214,6 +224,33 @@ impl<F> NotedFile<'_, F> {
     }
 }
 
+impl<F: AsRawFd> NotedFile<'_, F> {
+    /// Counts bytes that were written, and has the system begin to write them to the disk once they are
+    /// many: a sync at the end of a long take then finds little to do, so others don't wait for it. Bytes
+    /// near the file's start, which are written again and again, stay in memory.
+    fn write_back(&self, count: usize) {
+        let position = self.position.get().saturating_add(count as u64);
+        self.position.set(position);
+        let begin = self.written_back.get();
+        let Some(len) = position.checked_sub(begin) else {
+            return;
+        };
+        if len < WRITE_BACK {
+            return;
+        }
+        self.written_back.set(position);
+        if let (Ok(begin), Ok(len)) = (i64::try_from(begin), i64::try_from(len)) {
+            // It is advice: if it isn't taken, the sync takes longer.
+            let _advised = libc::posix_fadvise(
+                self.inner.as_raw_fd(),
+                begin,
+                len,
+                libc::POSIX_FADV_DONTNEED,
+            );
+        }
+    }
+}
+
 impl<F: Read> Read for NotedFile<'_, F> {
     ghost remaining = { λ f. F.remaining f.inner };
 
@@ -223,12 +260,15 @@ impl<F: Read> Read for NotedFile<'_, F> {
     }
 }
 
-impl<F: Write> Write for NotedFile<'_, F> {
+impl<F: Write + AsRawFd> Write for NotedFile<'_, F> {
     ghost contents = { λ f. F.contents f.inner };
 
     fn write(&mut self, buf: &[u8]) -> io::Result<usize> {
         let given = self.inner.write(buf);
         self.note_first(&self.unwritten, &given);
+        if let Ok(count) = &given {
+            self.write_back(*count);
+        }
         self.noted(given)
     }
 
@@ -245,6 +285,9 @@ impl<F: Seek> Seek for NotedFile<'_, F> {
 
     fn seek(&mut self, to: SeekFrom) -> io::Result<u64> {
         let given = self.inner.seek(to);
+        if let Ok(position) = &given {
+            self.position.set(*position);
+        }
         self.noted(given)
     }
 }
