@@ -3,12 +3,14 @@
  * and BYE, with at most 16 messages in flight. It reads verdicts while it writes. Messages and replies are those of
  * docs/FORMATS.md.
  *
- *     client PORT NAME BLOCKS SIZE [RECORDERS]
+ *     client PORT NAME BLOCKS SIZE [RECORDERS [RATE]]
  *
  * The samples are 16 bits wide, so that SIZE is even. With RECORDERS, at most 256, the takes are NAME-0 and so on, and
- * every connection is made before the first byte is sent. Prints how many seconds it took from the first byte to the
- * last verdict, and how fast the slowest recorder was, where the mean of all is 1. Where a verdict isn't Stored or a
- * connection breaks, it prints a line and has status 1.
+ * every connection is made before the first byte is sent. With RATE each recorder has so many bytes a second, as a live
+ * one does: its messages come at equal times, those of several recorders between each other's. Prints how many seconds
+ * it took from the first byte to the last verdict, and how fast the slowest recorder was, where the mean of all is 1;
+ * with RATE also how many milliseconds a verdict took from its message: half of them, 99 of 100, and all took no more.
+ * Where a verdict isn't Stored or a connection breaks, it prints a line and has status 1.
  */
 #include <arpa/inet.h>
 #include <errno.h>
@@ -56,7 +58,14 @@ struct recorder {
     struct outgoing out;
     struct incoming in;
     double taken;
+    double first;          /* when its first message may be sent */
+    double interval;       /* from one message to the next, 0 where it waits for none */
+    double begun[WINDOW];  /* when each message under way was */
 };
+
+/* How long each verdict took, in seconds. */
+static double *waits;
+static size_t wait_count;
 
 static void fail(const char *why) {
     fprintf(stderr, "client: %s\n", why);
@@ -155,10 +164,26 @@ static int is_done(const struct recorder *one) {
     return one->stored == one->take.blocks + 2;
 }
 
+static double seconds(void) {
+    struct timespec now;
+    clock_gettime(CLOCK_MONOTONIC, &now);
+    return (double)now.tv_sec + (double)now.tv_nsec / 1e9;
+}
+
+/* Whether a message is left that the window holds. */
+static int may_send(const struct recorder *one) {
+    return !has_more(&one->out) && one->sent < one->take.blocks + 2 && one->sent - one->stored < WINDOW;
+}
+
+/* When its next message may be sent. */
+static double next_time(const struct recorder *one) {
+    return one->first + one->interval * one->sent;
+}
+
 /* What there is to wait for: nothing where all is stored. */
-static struct pollfd waited_for(struct recorder *one) {
-    uint32_t messages = one->take.blocks + 2;
-    if (!has_more(&one->out) && one->sent < messages && one->sent - one->stored < WINDOW) {
+static struct pollfd waited_for(struct recorder *one, double now) {
+    if (may_send(one) && next_time(one) <= now) {
+        one->begun[one->sent % WINDOW] = now;
         put_message(&one->out, &one->take, one->sent++);
     }
     short events = (short)(POLLIN | (has_more(&one->out) ? POLLOUT : 0));
@@ -174,7 +199,11 @@ static void go_on(struct recorder *one, short ready) {
         if (!read_some(one->peer, &one->in)) {
             fail("the server ends too early");
         }
-        one->stored = take_verdicts(&one->in, &one->take, one->stored);
+        uint32_t before = one->stored;
+        one->stored = take_verdicts(&one->in, &one->take, before);
+        for (double now = seconds(); before < one->stored; before++) {
+            waits[wait_count++] = now - one->begun[before % WINDOW];
+        }
     }
     if (is_done(one)) {
         put_bye(&one->out);
@@ -182,21 +211,30 @@ static void go_on(struct recorder *one, short ready) {
     }
 }
 
-static double seconds(void) {
-    struct timespec now;
-    clock_gettime(CLOCK_MONOTONIC, &now);
-    return (double)now.tv_sec + (double)now.tv_nsec / 1e9;
+/* For how many milliseconds to wait at most: until the next message of a recorder, without end where none waits. */
+static int patience(const struct recorder *recorders, size_t count, double now) {
+    double next = -1;
+    for (size_t i = 0; i < count; i++) {
+        if (may_send(&recorders[i]) && (next < 0 || next_time(&recorders[i]) < next)) {
+            next = next_time(&recorders[i]);
+        }
+    }
+    return next < 0 ? -1 : next <= now ? 0 : (int)(1000 * (next - now)) + 1;
 }
 
 /* Sends all takes, notes how long each of them took, and returns how long all of them took. */
 static double send_takes(struct recorder *recorders, size_t count) {
     static struct pollfd ready[MOST_RECORDERS];
     double start = seconds();
+    for (size_t i = 0; i < count; i++) {
+        recorders[i].first = start + recorders[i].interval * (double)i / (double)count;
+    }
     for (size_t left = count; left > 0;) {
+        double now = seconds();
         for (size_t i = 0; i < count; i++) {
-            ready[i] = waited_for(&recorders[i]);
+            ready[i] = waited_for(&recorders[i], now);
         }
-        if (poll(ready, count, -1) < 0) {
+        if (poll(ready, count, patience(recorders, count, now)) < 0) {
             fail("poll");
         }
         for (size_t i = 0; i < count; i++) {
@@ -259,19 +297,36 @@ static double slowest(const struct recorder *recorders, size_t count) {
     return least * (double)count / sum;
 }
 
+static int compared(const void *one, const void *other) {
+    double a = *(const double *)one, b = *(const double *)other;
+    return (a > b) - (a < b);
+}
+
 int main(int count, char **words) {
     static struct recorder recorders[MOST_RECORDERS];
-    size_t many = count == 6 ? strtoul(words[5], NULL, 10) : 1;
-    if (count < 5 || count > 6 || many < 1 || many > MOST_RECORDERS) {
-        fail("usage: client PORT NAME BLOCKS SIZE [RECORDERS]");
+    size_t many = count > 5 ? strtoul(words[5], NULL, 10) : 1;
+    double rate = count > 6 ? strtod(words[6], NULL) : 0;
+    if (count < 5 || count > 7 || many < 1 || many > MOST_RECORDERS || (count > 6 && !(rate > 0))) {
+        fail("usage: client PORT NAME BLOCKS SIZE [RECORDERS [RATE]]");
     }
     for (size_t i = 0; i < many; i++) {
         recorders[i].take = take_of(words, i, many);
         recorders[i].peer = connect_to(words[1]);
+        recorders[i].interval = rate > 0 ? (double)recorders[i].take.size / rate : 0;
+    }
+    waits = calloc(many * ((size_t)recorders[0].take.blocks + 2), sizeof *waits);
+    if (!waits) {
+        fail("out of memory");
     }
     make_samples(recorders[0].take.size);
     double taken = send_takes(recorders, many);
-    printf("%.6f %.3f\n", taken, slowest(recorders, many));
+    printf("%.6f %.3f", taken, slowest(recorders, many));
+    if (rate > 0) {
+        qsort(waits, wait_count, sizeof *waits, compared);
+        printf(" %.3f %.3f %.3f", 1e3 * waits[wait_count / 2], 1e3 * waits[wait_count * 99 / 100],
+            1e3 * waits[wait_count - 1]);
+    }
+    printf("\n");
     for (size_t i = 0; i < many; i++) {
         close(recorders[i].peer);
     }
