@@ -9,8 +9,8 @@ use Rattle.std.specs.Net.Grammar.{IsIpText}
 use Rattle.std.proofs.NetLemmas.Theorems.{IsIpText_unique}
 use Rattle.std.specs.declared.net.ip_addr.IpAddr.{IpAddr}
 use Rattle.std.specs.declared.net.ip_addr.IpAddr.TheVariants as Ip
-use Rattle.bw_operators.specs.AllowLists.{AllowedNetwork, mapped_start, plain_octets}
-use Rattle.bw_operators.specs.AllowFiles.{SaysNetwork, IsAddressAlone, IsAddressAndBits, address_bits}
+use Rattle.bw_operators.specs.AllowLists.{AllowedNetwork, ip_octets, is_mapped, mapped_start, plain_octets}
+use Rattle.bw_operators.specs.AllowFiles.{SaysAddress, SaysNetwork, IsAddressAlone, IsAddressAndBits, address_bits}
 use Rattle.bw_operators.specs.AllowWords.{IsSplitAtSlash, HasNoSlash}
 
 pub plain_mapped : (octets : List ℕ) → starts_with nat_eq octets mapped_start ≡ true → plain_octets octets ≡ drop 12 octets
@@ -70,24 +70,31 @@ with_bits word front digits network parts k =
     same_parts k.text front (decimal network.bits) digits (number_no_slash network.bits (omega arith)) parts.last
     (sym k.whole ∙ parts.whole)
 
-pub no_parts : (word : List ℕ) → ((ip : IpAddr) → IsIpText word ip → ⊥) → HasNoSlash word →
+pub no_parts : (word : List ℕ) → ((ip : IpAddr) → SaysAddress word ip → ⊥) → HasNoSlash word →
     (network : AllowedNetwork) → SaysNetwork word network → ⊥
 no_parts word none without network (inl k) = none k.ip k.spelled
 no_parts word none without network (inr k) =
     no_slash_at k.text (decimal network.bits) (subst HasNoSlash k.whole without)
 
-pub no_address : (word front digits : List ℕ) → ((ip : IpAddr) → IsIpText word ip → ⊥) → IsSplitAtSlash word front digits →
-    ((ip : IpAddr) → IsIpText front ip → ⊥) → (network : AllowedNetwork) → SaysNetwork word network → ⊥
+pub no_address : (word front digits : List ℕ) → ((ip : IpAddr) → SaysAddress word ip → ⊥) → IsSplitAtSlash word front digits →
+    ((ip : IpAddr) → SaysAddress front ip → ⊥) → (network : AllowedNetwork) → SaysNetwork word network → ⊥
 no_address word front digits none parts bad network (inl k) = none k.ip k.spelled
 no_address word front digits none parts bad network (inr k) =
-    bad k.ip (subst (λ t. IsIpText t k.ip) (with_bits word front digits network parts k).0 k.spelled)
+    bad k.ip (subst (λ t. SaysAddress t k.ip) (with_bits word front digits network parts k).0 k.spelled)
 
-pub no_bits : (word front digits : List ℕ) (ip : IpAddr) → ((a : IpAddr) → IsIpText word a → ⊥) →
-    IsSplitAtSlash word front digits → IsIpText front ip → ((n : ℕ) → n ≤ address_bits ip → decimal n ≢ digits) →
+pub no_bits : (word front digits : List ℕ) (ip : IpAddr) → ((a : IpAddr) → SaysAddress word a → ⊥) →
+    IsSplitAtSlash word front digits → SaysAddress front ip → ((n : ℕ) → n ≤ address_bits ip → decimal n ≢ digits) →
     (network : AllowedNetwork) → SaysNetwork word network → ⊥
 no_bits word front digits ip none parts spelled bad network (inl k) = none k.ip k.spelled
 no_bits word front digits ip none parts spelled bad network (inr k) =
     let same = with_bits word front digits network parts k in
-    let own : IsIpText front k.ip = subst (λ t. IsIpText t k.ip) same.0 k.spelled in
-    let one : k.ip ≡ ip = IsIpText_unique front k.ip ip own spelled in
+    let own : SaysAddress front k.ip = subst (λ t. SaysAddress t k.ip) same.0 k.spelled in
+    let one : k.ip ≡ ip = IsIpText_unique front k.ip ip own.0 spelled.0 in
     bad network.bits (subst (λ a. network.bits ≤ address_bits a) one k.within) same.1
+
+-- a text that is such an address alone isn't one that a rule may have
+pub no_mapped : (text : List ℕ) (a : IpAddr) → IsIpText text a → is_mapped (ip_octets a) ≡ true → (ip : IpAddr) →
+    SaysAddress text ip → ⊥
+no_mapped text a spelled is ip says =
+    let one : ip ≡ a = IsIpText_unique text ip a says.0 spelled in
+    absurd (let e = sym (subst (λ x. is_mapped (ip_octets x) ≡ false) one says.1) ∙ is in cc)

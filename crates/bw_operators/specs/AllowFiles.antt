@@ -7,7 +7,7 @@ use Rattle.std.specs.Net.Grammar.{IsIpText}
 use Rattle.std.specs.declared.net.ip_addr.IpAddr.{IpAddr}
 use Rattle.std.specs.declared.net.ip_addr.IpAddr.TheVariants as Ip
 use Rattle.bw_model.specs.Wire.{is_name}
-use Rattle.bw_operators.specs.AllowLists.{AllowedNetwork, AllowRule, AllowRules, ip_octets}
+use Rattle.bw_operators.specs.AllowLists.{AllowedNetwork, AllowRule, AllowRules, ip_octets, is_mapped}
 use Rattle.bw_operators.specs.declared.allow_file.AllowFault.{AllowFault}
 use Rattle.bw_operators.specs.declared.allow_file.AllowFault.TheVariants.{Line, Memory}
 
@@ -33,10 +33,14 @@ abbrev pub address_bits : IpAddr → ℕ
 address_bits (Ip.V4 a) = 32
 address_bits (Ip.V6 a) = 128
 
+-- the text is an address, but not `::ffff:a.b.c.d`, as which no peer's address counts
+abbrev pub SaysAddress : List ℕ → IpAddr → Type 0
+SaysAddress text ip = IsIpText text ip × (is_mapped (ip_octets ip) ≡ false)
+
 -- the word is an address: the network of this one alone
 pub record IsAddressAlone (word : List ℕ) (network : AllowedNetwork) : Type 0 where
   pub ip : IpAddr
-  pub spelled : IsIpText word ip
+  pub spelled : SaysAddress word ip
   pub octets : network.octets ≡ ip_octets ip
   pub bits : network.bits ≡ address_bits ip
 
@@ -45,7 +49,7 @@ pub record IsAddressAndBits (word : List ℕ) (network : AllowedNetwork) : Type 
   pub text : List ℕ
   pub ip : IpAddr
   pub whole : word ≡ text ++ 47 ∷ decimal network.bits
-  pub spelled : IsIpText text ip
+  pub spelled : SaysAddress text ip
   pub octets : network.octets ≡ ip_octets ip
   pub within : network.bits ≤ address_bits ip
 

@@ -32,9 +32,12 @@ ip_octets (Ip.V6 a) = ipv6_octets a
 abbrev pub mapped_start : List ℕ
 mapped_start = 0 ∷ 0 ∷ 0 ∷ 0 ∷ 0 ∷ 0 ∷ 0 ∷ 0 ∷ 0 ∷ 0 ∷ 255 ∷ 255 ∷ []
 
+abbrev pub is_mapped : List ℕ → Bool
+is_mapped octets = starts_with nat_eq octets mapped_start
+
 -- such an address as IPv4, and any other as it is
 unfoldable pub plain_octets : List ℕ → List ℕ
-plain_octets octets = if starts_with nat_eq octets mapped_start then drop 12 octets else octets
+plain_octets octets = if is_mapped octets then drop 12 octets else octets
 
 -- two addresses of one kind have the same first bits
 abbrev pub begin_alike : ℕ → List ℕ → List ℕ → Bool

@@ -2,7 +2,7 @@
 use Rattle.std.specs.Prelude.{◌≡◌, ℕ, true, false, [], ◌∷◌, codes, Some, None}
 use Rattle.std.specs.declared.net.socket_addr.SocketAddr.{SocketAddr}
 use Rattle.std.specs.declared.net.socket_addr.SocketAddr.TheVariants as Socket
-use Rattle.bw_operators.specs.AllowLists.{AllowRules, AllowedNetwork, may_come, has_address}
+use Rattle.bw_operators.specs.AllowLists.{AllowRules, AllowedNetwork, may_come, has_address, is_mapped}
 
 -- 172.16.0.0/12, and the last address of it and the next one; 0.0.0.0/0; fe80::/10; 10.0.0.7 alone
 abbrev pub NetworksExample : Type 0
@@ -13,9 +13,18 @@ NetworksExample =
     (has_address (172 ∷ 31 ∷ 255 ∷ 255 ∷ []) private ≡ true)
     × (has_address (172 ∷ 32 ∷ 0 ∷ 0 ∷ []) private ≡ false)
     × (has_address (203 ∷ 0 ∷ 113 ∷ 9 ∷ []) any ≡ true)
-    × (has_address (0 ∷ 0 ∷ 0 ∷ 0 ∷ 0 ∷ 0 ∷ 0 ∷ 0 ∷ 0 ∷ 0 ∷ 0 ∷ 0 ∷ 0 ∷ 0 ∷ 0 ∷ 1 ∷ []) any ≡ false)
+    × (has_address (0 ∷ 0 ∷ 0 ∷ 0 ∷ 0 ∷ 0 ∷ 0 ∷ 0 ∷ 0 ∷ 0 ∷ 0 ∷ 0 ∷ 0 ∷ 0 ∷
+    0 ∷ 1 ∷ []) any ≡ false)
     × (has_address (10 ∷ 0 ∷ 0 ∷ 7 ∷ []) alone ≡ true)
     × (has_address (10 ∷ 0 ∷ 0 ∷ 6 ∷ []) alone ≡ false)
+
+-- ::ffff:10.0.0.7, ::10.0.0.7 and 10.0.0.7
+abbrev pub MappedExample : Type 0
+MappedExample = (is_mapped (0 ∷ 0 ∷ 0 ∷ 0 ∷ 0 ∷ 0 ∷ 0 ∷ 0 ∷ 0 ∷ 0 ∷ 255 ∷ 255 ∷
+    10 ∷ 0 ∷ 0 ∷ 7 ∷ []) ≡ true)
+    × (is_mapped (0 ∷ 0 ∷ 0 ∷ 0 ∷ 0 ∷ 0 ∷ 0 ∷ 0 ∷ 0 ∷ 0 ∷ 0 ∷ 0 ∷ 10 ∷ 0 ∷ 0 ∷ 7 ∷
+    []) ≡ false)
+    × (is_mapped (10 ∷ 0 ∷ 0 ∷ 7 ∷ []) ≡ false)
 
 -- a peer of IPv4
 abbrev pub peer_from : ℕ → ℕ → ℕ → ℕ → SocketAddr

@@ -1,8 +1,10 @@
 //! Networks: addresses that have the same first bits.
 ghost use Rattle.std.specs.Prelude.{◌≡◌, ◌≢◌, ◌-◌, ◌/◌, ◌^◌, ◌≤◌, ◌==◌, ℕ, MatchOption, decimal};
+ghost use Rattle.std.specs.declared.net.ip_addr.IpAddr.{IpAddr as ModelIp};
 ghost use Rattle.std.specs.Str.{bytes_eq};
-ghost use Rattle.bw_operators.specs.AllowLists.{AllowedNetwork, begin_alike, has_address, plain_octets};
-ghost use Rattle.bw_operators.specs.AllowFiles.{SaysNetwork, address_bits};
+ghost use Rattle.bw_operators.specs.AllowLists.{AllowedNetwork, begin_alike, has_address, ip_octets};
+ghost use Rattle.bw_operators.specs.AllowLists.{is_mapped, plain_octets};
+ghost use Rattle.bw_operators.specs.AllowFiles.{SaysAddress, SaysNetwork, address_bits};
 ghost use Rattle.bw_operators.specs.AllowWords.{IsSplitAtSlash, HasNoSlash};
 
 use itoa::Buffer;
@@ -64,10 +66,41 @@ const MAPPED_START: [u8; 12] = [0, 0, 0, 0, 0, 0, 0, 0, 0, 0, 255, 255];
 pub(crate) fn plain_octets(octets: &[u8]) -> &[u8]
     ensures { result.now ≡ plain_octets octets.now }
 {
-    if octets.starts_with(&MAPPED_START) {
+    if is_mapped(octets) {
         octets.split_at(12).1
     } else {
         octets
+    }
+}
+
+/// Whether an address is `::ffff:a.b.c.d`.
+fn is_mapped(octets: &[u8]) -> bool
+    ensures { result ≡ is_mapped octets.now }
+{
+    octets.starts_with(&MAPPED_START)
+}
+
+/// The address that a text is. `::ffff:a.b.c.d` is none: such a peer counts as `a.b.c.d`, so a rule
+/// with that address would fit nobody.
+fn address_of(text: &[u8]) -> Option<IpAddr>
+    ensures { MatchOption result ((ip : ModelIp) → ¬ SaysAddress text.now ip) (SaysAddress text.now) }
+{
+    let Ok(ip) = IpAddr::parse_ascii(text) else {
+        return None;
+    };
+    if has_mapped_start(ip) {
+        return None;
+    }
+    Some(ip)
+}
+
+/// Whether an address is `::ffff:a.b.c.d`.
+fn has_mapped_start(ip: IpAddr) -> bool
+    ensures { result ≡ is_mapped (ip_octets ip) }
+{
+    match ip {
+        IpAddr::V4(ip) => is_mapped(&ip.octets()),
+        IpAddr::V6(ip) => is_mapped(&ip.octets()),
     }
 }
 
@@ -76,14 +109,14 @@ pub(crate) fn network_of(word: &[u8]) -> Option<Network>
     ensures { MatchOption result ((network : AllowedNetwork) → ¬ SaysNetwork word.now network)
         (SaysNetwork word.now) }
 {
-    if let Ok(ip) = IpAddr::parse_ascii(word) {
+    if let Some(ip) = address_of(word) {
         let bits = address_bits(ip);
         return Some(Network { ip, bits });
     }
     let Some((address, digits)) = parts(word) else {
         return None;
     };
-    let Ok(ip) = IpAddr::parse_ascii(address) else {
+    let Some(ip) = address_of(address) else {
         return None;
     };
     let Some(bits) = bits_of(digits, address_bits(ip)) else {

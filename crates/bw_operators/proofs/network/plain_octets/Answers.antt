@@ -2,9 +2,9 @@ use Rattle.std.proofs.Common.{sym, ◌∙◌}
 use Rattle.bw_operators.proofs.NetworkLemmas.{plain_mapped, plain_other}
 use Rattle.bw_operators.proofs.network.plain_octets.Goals as goal
 
-pub returns-then-starts_with : goal.returns-then-starts_with
-returns-then-starts_with c = c.split_at.ensures.back
-    ∙ sym (plain_mapped c.args.octets.now (sym c.starts_with.ensures.value ∙ c.if-starts_with.true))
+pub returns-then-is_mapped : goal.returns-then-is_mapped
+returns-then-is_mapped c = c.split_at.ensures.back
+    ∙ sym (plain_mapped c.args.octets.now (sym c.is_mapped.ensures ∙ c.if-is_mapped.true))
 
-pub returns-else-starts_with : goal.returns-else-starts_with
-returns-else-starts_with c = sym (plain_other c.args.octets.now (sym c.starts_with.ensures.value ∙ c.if-starts_with.false))
+pub returns-else-is_mapped : goal.returns-else-is_mapped
+returns-else-is_mapped c = sym (plain_other c.args.octets.now (sym c.is_mapped.ensures ∙ c.if-is_mapped.false))
