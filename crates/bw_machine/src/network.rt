@@ -13,7 +13,7 @@ use bw_net::{
 use bw_operators::{EventLog, LogForm, RuleFiles, started_line};
 use bw_ports::{ListenerSetup, Network, PacedNetwork, StartRefusal};
 use std::alloc::Global;
-use std::fs::File;
+use std::fs::{self, File};
 use std::io::{self, ErrorKind, Read};
 use std::net::{SocketAddr, TcpListener};
 use std::time::Duration;
@@ -131,7 +131,7 @@ impl RuleFiles for TcpNetwork<'_> {
     ghost reads = { λ n path result. Unit {0} };
 
     fn read_rules(&self, path: &str) -> io::Result<Vec<u8>> {
-        let file = File::open(self.rt, path)?;
+        let file = open_rules(self.rt, path)?;
         let mut text = Vec::new(self.rt.alloc());
         file.take(MOST_RULES + 1).read_to_end(&mut text)?;
         if text.len() as u64 > MOST_RULES {
@@ -139,6 +139,19 @@ impl RuleFiles for TcpNetwork<'_> {
         }
         Ok(text)
     }
+}
+
+/// The file of rules at a path. To open a pipe would wait for its writer, and a device may give bytes
+/// for ever; that a folder can't be read the system says itself.
+///
+/// # Errors
+/// If it is a pipe, a socket or a device, or the system fails.
+fn open_rules(rt: &HostRuntime, path: &str) -> io::Result<File> {
+    let found = fs::metadata(rt, path)?;
+    if found.is_file() || found.is_dir() {
+        return File::open(rt, path);
+    }
+    Err(io::Error::new(ErrorKind::InvalidInput, "it isn't a regular file"))
 }
 
 /// Tests a folder for a server without journals.
