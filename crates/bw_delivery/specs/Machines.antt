@@ -22,6 +22,7 @@ use Rattle.bw_delivery.specs.StoppedWorlds.{Answers, Dies, IsNextStep}
 use Rattle.bw_commands.specs.RehearsedWorlds.{no_contents}
 use Rattle.bw_wire.specs.Replies.{reply_of}
 use Rattle.bw_wire.specs.declared.reply.Reply.{Reply as WireReply}
+use Rattle.bw_delivery.specs.declared.event.Lives.{Lives}
 use Rattle.bw_delivery.specs.declared.machine.Life.{Life}
 use Rattle.bw_delivery.specs.declared.machine.Folder.{Folder}
 use Rattle.bw_delivery.specs.declared.machine.Machine.{Machine}
@@ -40,6 +41,16 @@ pub record IsRunning (limit : ℕ) (book : Book) (life : Life) : Type 0 where
       ≤ (takes_disk (server_store (table_server life.server))).life
   pub notes_live : (journals_disk (server_journal (table_server life.server))).calls
       ≤ (journals_disk (server_journal (table_server life.server))).life
+
+-- no call of its disks was made yet, and each dies in the call that is chosen for it
+pub record IsUncalled (lives : Lives) (life : Life) : Type 0 where
+  pub takes : (takes_disk (server_store (table_server life.server))).life ≡ lives.takes
+  pub takes_reached : (takes_disk (server_store (table_server life.server))).reached ≡ lives.reached
+  pub takes_calls : (takes_disk (server_store (table_server life.server))).calls ≡ 0
+  pub notes : (journals_disk (server_journal (table_server life.server))).life ≡ lives.notes
+  pub notes_reached : (journals_disk (server_journal (table_server life.server))).reached
+      ≡ lives.reached
+  pub notes_calls : (journals_disk (server_journal (table_server life.server))).calls ≡ 0
 
 -- the done numbers of this book lie in what was left
 abbrev pub IsLeftAt : ℕ → Book → Folder → Type 0

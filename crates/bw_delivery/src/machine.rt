@@ -8,7 +8,7 @@ ghost use Rattle.bw_journal.specs.Stops.{cut_book};
 ghost use Rattle.bw_wire.specs.Frames.{message_of, asked_name, asked_number};
 ghost use Rattle.bw_wire.specs.Replies.{reply_of};
 ghost use Rattle.bw_delivery.specs.StoppedWorlds.{MayCome};
-ghost use Rattle.bw_delivery.specs.Machines.{IsRunning, IsLeftAt, IsMachine, TurnsMachine, the_folder};
+ghost use Rattle.bw_delivery.specs.Machines.{IsRunning, IsLeftAt, IsMachine, IsUncalled, TurnsMachine, the_folder};
 ghost use Rattle.bw_delivery.specs.Machines.{AnswersForName, BeginsOverLeft, StartsFound, written_to, runs};
 ghost use Rattle.bw_delivery.specs.PlayedEvents.{LeavesBook, MayStartIf, StopsIf, StartsIf};
 ghost use Rattle.bw_folder.specs.TakeFolders.{takes_disk, takes_folder};
@@ -91,8 +91,9 @@ impl Life {
         limit: Limit,
         lives: &Lives,
     ) -> Result<Life, AllocError>
-        ensures { (book : Book) → IsLeftAt limit book folder →
+        ensures running { (book : Book) → IsLeftAt limit book folder →
             IfOk result (λ life. IsRunning limit (cut_book book) life) }
+        ensures lives { IfOk result (IsUncalled lives.now) }
     {
         let (of_takes, of_notes) = folder_twice(alloc)?;
         let takes = MortalDisk::new(folder.takes, lives.takes, lives.reached);

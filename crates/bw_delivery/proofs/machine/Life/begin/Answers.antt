@@ -8,8 +8,8 @@ use Rattle.bw_commands.specs.RehearsedWorlds.{no_contents}
 use Rattle.bw_delivery.proofs.MachineForms.{begun, lies_by}
 use Rattle.bw_delivery.proofs.machine.Life.begin.Goals as goal
 
-pub returns-in-Ok-new : goal.returns-in-Ok-new
-returns-in-Ok-new c = λ book lies.
+pub returns-in-Ok-new-clause-running : goal.returns-in-Ok-new-clause-running
+returns-in-Ok-new-clause-running c = λ book lies.
     let s = c.in-Ok.ensures in
     let j = c.in_folder-journal.ensures in
     let t = c.in_folder-store.ensures in
@@ -30,3 +30,13 @@ returns-in-Ok-new c = λ book lies.
       takes_live = search rules;
       notes_live = search rules;
     }
+
+pub returns-in-Ok-new-clause-lives : goal.returns-in-Ok-new-clause-lives
+returns-in-Ok-new-clause-lives c = record {
+  takes = search rules;
+  takes_reached = search rules;
+  takes_calls = search rules;
+  notes = search rules;
+  notes_reached = search rules;
+  notes_calls = search rules;
+}
