@@ -6,6 +6,8 @@ and 127.0.0.2. The program is the first argument, or the one of this repository.
 'N passed, M failed'.
 """
 import json
+import os
+import pathlib
 import socket
 import sys
 import urllib.request
@@ -19,6 +21,7 @@ LONGEST_RUN = 120  # seconds, for all of it
 OTHER = "127.0.0.2"
 
 SHOWN = "--status"  # at a free port
+NO_FILE = "it isn't a regular file"
 
 # The take `a1`: OPEN 0 (48,000 Hz, one channel, 16 bits), BLOCK 1 with two frames, CLOSE 2 with the total 2.
 OPEN = b"\x12\0\0\0\x01\x02a1\0\0\0\0\x80\xbb\0\0\x01\0\x10\0\0\0"
@@ -49,6 +52,7 @@ ROWS = (
     ("* 127.0.0.3/31\n", "a1", (OTHER,)),
     ("* 127.0.0.0/30\n", "a1", (LOCAL, OTHER)),
     ("* ::/0\n", "a1", ()),
+    ("* ::127.0.0.1 ::fffe:127.0.0.1/128 127.0.0.1\n", "a1", (LOCAL,)),
     ("* ::1 10.0.0.0/8 127.0.0.2\n", "a1", (OTHER,)),
     ("b2 127.0.0.1\na1\t127.0.0.2\n", "a1", (OTHER,)),
     ("# a1 127.0.0.1\n\n  \n a1  127.0.0.2 \r\n", "a1", (OTHER,)),
@@ -74,6 +78,13 @@ REFUSED = (
     ("a1 localhost\n", 1),
     ("a1 127.0.0.1:80\n", 1),
     ("a1,b2 127.0.0.1\n", 1),
+    ("a1 ::ffff:127.0.0.1\n", 1),
+    ("a1 127.0.0.1\nb2 ::FFFF:7f00:1\n", 2),
+    ("a1 0:0:0:0:0:ffff:127.0.0.0/104\n", 1),
+    ("a1 ::ffff:0:0/96\n", 1),
+    ("a1 ::ffff:127.0.0.1/8\n", 1),
+    ("a1 127.0.0.1 ::ffff:127.0.0.1\n", 1),
+    ("\xef\xbb\xbfa1 127.0.0.1\n", 1),
     (f"{'a' * 33} 127.0.0.1\n", 1),
     ("a1 127.0.0.1\nb2 127.0.0.1\n\xff 127.0.0.1\n", 3),
 )
@@ -150,21 +161,32 @@ def case_replies(folder):
             TALLY.same(f"{name}: the log", lines.count(f"peer {LOCAL}:{port} refused a1"), 1)
 
 
+def asked(port):
+    """What a server says of itself at this port."""
+    with urllib.request.urlopen(f"http://{LOCAL}:{port}/takes.json", timeout=20) as answer:
+        return json.load(answer)
+
+
 def case_shown(folder):
-    """The status shows the peer that a name is taken from, not one that was turned away, and counts no message of that."""
+    """The status shows the peer that a name is taken from, not one that was turned away. What that sent has a count of its
+    own, in which asks are and BYE isn't, and no part in the others."""
     (folder / "list").write_text(f"a1 {OTHER}\n")
     place, shown = folder / "place", free_port()
     place.mkdir()
     words = ("--recorders", "2", "--journal", "--status", f"{LOCAL}:{shown}", "--allow", str(folder / "list"))
     server = Server(place, "--exchanges", "2", *words, opening=("resumed 0 takes",))
     with linked(server.port, LOCAL) as kept_out, linked(server.port, OTHER) as peer:
-        TALLY.same("shown: turned away", says(kept_out, OPEN, len(FULL[0])), FULL[0])
+        TALLY.same("shown: none so far", asked(shown)["turned_away"], 0)
+        TALLY.same("shown: turned away", says(kept_out, OPEN + ASK + BLOCK, 3 * len(NEXT_0)), FULL[0] + NEXT_0 + FULL[1])
         TALLY.same("shown: opened", says(peer, OPEN, len(STORED[0])), STORED[0])
-        with urllib.request.urlopen(f"http://{LOCAL}:{shown}/takes.json", timeout=20) as answer:
-            status = json.load(answer)
+        status = asked(shown)
         found = [(take["name"], take["peer"]) for take in status["takes"]]
         TALLY.same("shown: the peer", found, [("a1", f"{OTHER}:{peer.getsockname()[1]}")])
-        TALLY.same("shown: the messages", [it["count"] for it in status["messages"] if it["kind"] == "OPEN"], [1])
+        counted = {it["kind"]: it["count"] for it in status["messages"] if it["count"]}
+        TALLY.same("shown: the messages", (counted, status["turned_away"]), ({"OPEN": 1}, 3))
+        with urllib.request.urlopen(f"http://{LOCAL}:{shown}/metrics", timeout=20) as answer:
+            lines = answer.read().decode().splitlines()
+        TALLY.holds("shown: the counter", "bwingest_turned_away_total 3" in lines, "another count")
         kept_out.sendall(BYE_FRAME)
         peer.sendall(BYE_FRAME)
     TALLY.same("shown: the server", server.end()[0], 0)
@@ -185,11 +207,21 @@ def case_refused(folder):
 
 
 def case_unread(folder):
-    """A list that isn't there, is a folder, or has more than 1 MiB, is a fault of the outside."""
+    """A list that isn't there, is no file, or has more than 1 MiB, is a fault of the outside; nobody writes to the pipe."""
     place = folder / "place"
     place.mkdir()
     (folder / "long").write_bytes(b"\n" * (2**20 + 1))
-    for path, cause in ((folder / "none", reason(2)), (folder, reason(21)), (folder / "long", "file too large")):
+    os.mkfifo(folder / "pipe")
+    (folder / "link").symlink_to("pipe")
+    rows = (
+        (folder / "none", reason(2)),
+        (folder, reason(21)),
+        (folder / "long", "file too large"),
+        (folder / "pipe", NO_FILE),
+        (folder / "link", NO_FILE),
+        (pathlib.Path("/dev/zero"), NO_FILE),
+    )
+    for path, cause in rows:
         words = ("serve", "--listen", f"{LOCAL}:{free_port()}", "--folder", str(place), "--allow", str(path))
         status, out, faults = run(*words)
         TALLY.same(f"{path.name}: the status", (status, out), (3, ""))

@@ -36,6 +36,7 @@ LONGEST_REQUEST = 8_192
 OPERATORS = 32
 STRANGERS = 4  # who ask at once
 ENDED = 900  # connections, of whose lines a narrow pipe has no room for all
+CAUSES = ("Bye", "EndOfInput", "BadFrame", "ReadFault", "WriteFault", "NotKept", "TurnLimit", "Memory", "Idle")
 FIELDS = {
     "x-content-type-options": "nosniff",
     "x-frame-options": "DENY",
@@ -104,6 +105,21 @@ def same_head(name, fields, body, kind):
 
 def counts(values, kind):
     return {one["kind"]: one["count"] for one in values[kind] if one["count"]}
+
+
+def by_cause(**ends):
+    """How many connections ended, by each cause."""
+    return {**dict.fromkeys(CAUSES, 0), **ends}
+
+
+def same_ended(name, server, wanted):
+    """The counts of ends, as JSON and as a counter whose sum is how many ended."""
+    values, found = server.values(), metrics(server.ask("/metrics")[2].decode())
+    TALLY.same(f"{name}: by cause", values["ended_by"], wanted)
+    TALLY.same(f"{name}: in all", values["ended"], sum(wanted.values()))
+    family = {key: found[key] for key in found if key.startswith("bwingest_connections_ended_total")}
+    TALLY.same(f"{name}: the counter", family,
+               {f'bwingest_connections_ended_total{{cause="{cause}"}}': count for cause, count in wanted.items()})
 
 
 def metrics(text):
@@ -185,7 +201,8 @@ def same_counts(closed, begun, values):
     TALLY.same("values: blocks", kinds["BLOCK"], len(closed.blocks) + len(begun) - 3)
     TALLY.same("values: health", values["health"], "ready")
     TALLY.same("values: lines left out", values["lines_dropped"], 0)
-    TALLY.same("values: ended", values["ended"], 1)
+    TALLY.same("values: turned away", values["turned_away"], 0)
+    TALLY.same("values: ended", (values["ended"], values["ended_by"]), (1, by_cause(Bye=1)))
 
 
 def same_metrics(server, values):
@@ -196,11 +213,13 @@ def same_metrics(server, values):
         ('bwingest_takes{state="open"}', 1),
         ('bwingest_takes{state="closed"}', 1),
         ("bwingest_connections", values["connections"]),
-        ("bwingest_connections_ended_total", values["ended"]),
+        ('bwingest_connections_ended_total{cause="Bye"}', values["ended"]),
+        ('bwingest_connections_ended_total{cause="Idle"}', 0),
         ("bwingest_message_bytes_total", values["bytes"]),
         ('bwingest_verdicts_total{verdict="Stored"}', counts(values, "verdicts")["Stored"]),
         ("process_start_time_seconds", values["since"]),
         ("bwingest_lines_dropped_total", 0),
+        ("bwingest_turned_away_total", values["turned_away"]),
     ):
         TALLY.same(f"metrics: {name}", found.get(name), wanted)
     if promtool := shutil.which("promtool"):
@@ -246,6 +265,22 @@ def same_shown(node, page):
     TALLY.same("page: of ten thousand takes", found["many"], [500, "500 of 10000"])
     TALLY.same("page: its title", found["title"], "host:1 - bwingest")
     TALLY.same("page: names that are left out", (found["lost"], found["left_out"]), ("", "bad: a cause, left out"))
+
+
+def case_ends(folder):
+    """Connections are counted by their ends: two that say BYE, three that close, one with a bad frame, one that is silent."""
+    server = Shown(folder, "--until-stopped", "--recorders", "4", "--idle", "1")
+    TALLY.same("ends: of a new server", server.values()["ended_by"], by_cause())
+    for said, count in ((BYE_FRAME, 2), (b"", 3), (b"\xff" * 12, 1)):
+        for _ in range(count):
+            with connect(server.port) as peer:
+                peer.sendall(said)
+                peer.shutdown(socket.SHUT_WR)
+                hear_all(peer)
+    with connect(server.port):
+        wait_until(lambda: server.values()["ended"] == 7, "the silent one isn't ended")
+    same_ended("ends", server, by_cause(Bye=2, EndOfInput=3, BadFrame=1, Idle=1))
+    ends_by_signal("ends", server)
 
 
 def case_refused(folder):
@@ -539,7 +574,7 @@ def bother(server, seed):
 
 if __name__ == "__main__":
     cases = (
-        *(case_values, case_refused, case_each_path, case_named_statuses, case_slow, case_idle, case_unread),
+        *(case_values, case_ends, case_refused, case_each_path, case_named_statuses, case_slow, case_idle, case_unread),
         *(case_folder, case_left_out, case_beginning, case_unbound, case_made_up),
     )
     sys.exit(run_cases(cases, LONGEST_RUN))

@@ -17,7 +17,7 @@ use Rattle.bw_ports.specs.declared.link.Link.{Ghosts as LinkGhosts}
 use Rattle.bw_ports.specs.declared.peers.Peers.{Ghosts as PeerGhosts}
 use Rattle.bw_ports.specs.declared.reactor.Reactor.{Ghosts as ReactorGhosts}
 use Rattle.bw_serve.specs.EventLoopRuns.{RunsEventLoop, answered_in_loop}
-use Rattle.bw_serve.specs.Guards.{FromPeer}
+use Rattle.bw_serve.specs.Guards.{FromPeer, PeerAnswers}
 use Rattle.bw_serve.specs.declared.serving.Bounds.{Bounds}
 use Rattle.bw_serve.proofs.Guarding.{from_peer}
 
@@ -67,13 +67,13 @@ module _ {T P R W O E : Type 0} (answers : SocketAddr → T → Frame → List R
   by_run exchanges Device t t' p p' o o' e e' run = by_early exchanges Device t t' p p' o o' e e' run
   by_run exchanges Memory t t' p p' o o' e e' run = by_early exchanges Memory t t' p p' o o' e e' run
 
-module _ {T B L O E : Type 0} (answers : SocketAddr → T → Frame → List Reply → T → Type 0)
+module _ {T B L O E : Type 0} (answers : PeerAnswers T)
     (commits : T → Result (Unit {0}) NotKept → T → Type 0) (reactor : ReactorGhosts B L)
     (link : LinkGhosts L) (out : Writer O) (reported : Writer E) (log : Bool) where
   -- the server has answered them so
   pub by_loop : (bounds : Bounds) (exit : Exit) (t t' : T) (b b' : B) (o o' : O) (e e' : E)
       (run : RunsEventLoop reactor link answers commits out reported log bounds exit t t' b b' o o' e e') →
-      AnswersAll (FromPeer answers) t
+      AnswersAll (FromPeer answers.by_peer) t
       (answered_in_loop reactor link answers commits out reported log bounds exit t t' b b' o o' e e' run) t'
   by_loop bounds Done t t' b b' o o' e e' run = run.by_server
   by_loop bounds Refused t t' b b' o o' e e' run = run.by_server

@@ -3,9 +3,7 @@ use Rattle.std.proofs.Common.{◌≡◌, ◌⊎◌, inl, inr, ℕ, zero, suc, �
 use Rattle.std.proofs.Common.{length, vec_len, refl, sym, ap, subst, ◌∙◌, arith, append_assoc}
 use Rattle.std.proofs.Math.Nat.{eq-or-lt_of_le}
 use Rattle.std.proofs.lemmas.List.{append-nil, length-append, map-append}
-use Rattle.std.specs.declared.net.socket_addr.SocketAddr.{SocketAddr}
-use Rattle.bw_model.specs.Wire.{Frame}
-use Rattle.bw_model.specs.Replies.{Reply}
+use Rattle.std.proofs.lemmas.List.Sums.{fold-append}
 use Rattle.bw_stream.specs.declared.sink.Sink.{Ghosts as Writer}
 use Rattle.bw_exchange.specs.AnsweredFrames.{Answered, AnswersAll}
 use Rattle.bw_exchange.proofs.Going.{answers_append}
@@ -20,7 +18,8 @@ use Rattle.bw_serve.specs.EventLoops.{Advances, CountsEnds, Grows, HasPeerSlots,
 use Rattle.bw_serve.specs.EventLoops.{ended_in_turn, frames_in_turn}
 use Rattle.bw_serve.specs.Admissions.{HostsAll, HostsMore}
 use Rattle.bw_ports.specs.Reactors.{Admission}
-use Rattle.bw_serve.specs.Guards.{FromPeer}
+use Rattle.bw_serve.specs.CountedEnds.{end_counts, with_end, with_ends}
+use Rattle.bw_serve.specs.Guards.{FromPeer, PeerAnswers}
 use Rattle.bw_serve.specs.Lines.{ReportsEnds}
 use Rattle.bw_serve.specs.declared.event_loop.EventLoop.{EventLoop}
 use Rattle.bw_serve.proofs.Admitting.{hosts_more_still, hosts_more_then, hosts_served}
@@ -77,22 +76,32 @@ ends_then out n m (u ∷ us) vs o p q e f g =
 
 pub counts_then : {L O : Type 0} (out : Writer O) (a b c : EventLoop L) (us vs : List (Closed L)) (o p q : O) →
     CountsEnds out a b us o p → CountsEnds out b c vs p q → CountsEnds out a c (us ++ vs) o q
-counts_then out a b c us vs o p q f g n e =
-    let x = f n e in
-    let y = g (n + length us) x.1 in (
-      ends_then out n (n + length us) us vs o p q refl x.0 y.0,
-      y.1 ∙ ap up_to_last (let len = length-append us vs in omega (arith, len)),
-    )
+counts_then out a b c us vs o p q f g = record {
+  by_cause = g.by_cause ∙ (ap (λ (x : List (List ℕ × ℕ)). with_ends x vs) f.by_cause
+      ∙ sym (fold-append (λ so_far (x : Closed _). with_end so_far x.end) (end_counts a.ended_by) us vs));
+  prints = λ n e.
+      let x = f.prints n e in
+      let y = g.prints (n + length us) x.1 in (
+        ends_then out n (n + length us) us vs o p q refl x.0 y.0,
+        y.1 ∙ ap up_to_last (let len = length-append us vs in omega (arith, len)),
+      );
+}
 
 -- none ended
 pub counts_none : {L O : Type 0} (out : Writer O) (a b : EventLoop L) (o : O) → b.ended ≡ a.ended →
-    CountsEnds out a b [] o o
-counts_none out a b o e n h = (refl, e ∙ (h ∙ ap up_to_last (omega arith)))
+    b.ended_by ≡ a.ended_by → CountsEnds out a b [] o o
+counts_none out a b o e by = record {
+  by_cause = ap end_counts by;
+  prints = λ n h. (refl, e ∙ (h ∙ ap up_to_last (omega arith)));
+}
 
 -- it counts on from a step that ended none
 pub counts_on : {L O : Type 0} (out : Writer O) (a b c : EventLoop L) (closed : List (Closed L)) (o p : O) →
-    b.ended ≡ a.ended → CountsEnds out b c closed o p → CountsEnds out a c closed o p
-counts_on out a b c closed o p same f n e = f n (same ∙ e)
+    b.ended ≡ a.ended → b.ended_by ≡ a.ended_by → CountsEnds out b c closed o p → CountsEnds out a c closed o p
+counts_on out a b c closed o p same by f = record {
+  by_cause = f.by_cause ∙ ap (λ x. with_ends (end_counts x) closed) by;
+  prints = λ n e. f.prints n (same ∙ e);
+}
 
 -- nothing happened, and then more stays as it was
 pub grows_still : {L : Type 0} (G : LinkGhosts L) (c : EventLoop L) → Grows G c c
@@ -102,6 +111,8 @@ grows_still G c = record {
   peer_slots_are = refl;
   counts = λ over trace k own. own;
   ended = refl;
+  ended_by = refl;
+  turned_away = refl;
 }
 
 pub grows_then : {L : Type 0} (G : LinkGhosts L) (a b c : EventLoop L) → Grows G a b → Grows G b c → Grows G a c
@@ -114,6 +125,8 @@ grows_then {L} G a b c f g = record {
       (subst (λ (t : List Tagged). KeepsConnections G b.connections (over ++ []) t) (append-nil trace) (f.adds over trace k)))
       (f.counts over trace k own);
   ended = g.ended ∙ f.ended;
+  ended_by = g.ended_by ∙ f.ended_by;
+  turned_away = g.turned_away ∙ f.turned_away;
 }
 
 pub grown_peer_slots : {L : Type 0} (G : LinkGhosts L) (a b : EventLoop L) → Grows G a b → HasPeerSlots a → HasPeerSlots b
@@ -122,14 +135,17 @@ grown_peer_slots G a b g peer_slots = g.peer_slots_are ∙ (peer_slots ∙ sym g
 -- what may have bytes or room is reported so
 pub stays_woken : {L : Type 0} (G : LinkGhosts L) (place : ℕ) (a b : EventLoop L) → Adds G a.connections [] [] b.connections →
     ExistedUnder G place a.connections b.connections → StaysAt place a.connections b.connections → b.peer_slots
-    ≡ a.peer_slots → b.ended ≡ a.ended → KeepsEventLoop G a b
-stays_woken G place a b adds existed stays peer_slots ended = record {
+    ≡ a.peer_slots → b.ended ≡ a.ended → b.ended_by ≡ a.ended_by →
+    b.turned_away ≡ a.turned_away → KeepsEventLoop G a b
+stays_woken G place a b adds existed stays peer_slots ended by away = record {
   grows = record {
     adds = adds;
     places_are = stays.0.count;
     peer_slots_are = ap (λ s. vec_len s) peer_slots;
     counts = λ over trace k own. counts_existed G place a b trace peer_slots existed stays.0 own;
     ended = ended;
+    ended_by = by;
+    turned_away = away;
   };
   begun = stays.1;
   refused = stays.2;
@@ -143,7 +159,7 @@ stays_then G a b c f g = record {
   refused = g.refused ∙ f.refused;
 }
 
-module _ {L S O E : Type 0} (G : LinkGhosts L) (answers : SocketAddr → S → Frame → List Reply → S → Type 0) (out : Writer O)
+module _ {L S O E : Type 0} (G : LinkGhosts L) (answers : PeerAnswers S) (out : Writer O)
     (reported : Writer E) (log : Bool) where
   -- nothing was answered, and no connection ended
   pub advances_grown : (links : List (Admission L)) (a b : EventLoop L) (s : S) (o : O) (e : E) → Grows G a b →
@@ -151,7 +167,7 @@ module _ {L S O E : Type 0} (G : LinkGhosts L) (answers : SocketAddr → S → F
   advances_grown links a b s o e g hosts = record {
     by_server = refl;
     adds = g.adds;
-    prints = counts_none out a b o g.ended;
+    prints = counts_none out a b o g.ended g.ended_by;
     reports = reports_none G reported log a b e g;
     hosts = hosts;
   }
@@ -167,9 +183,9 @@ module _ {L S O E : Type 0} (G : LinkGhosts L) (answers : SocketAddr → S → F
       Advances G answers out reported log xs us ks a b s t o p e f → Advances G answers out reported log ys vs ls b c t u p q f g →
       Advances G answers out reported log (xs ++ ys) (us ++ vs) (ks ++ ls) a c s u o q e g
   advances_then a b c xs ys us vs ks ls s t u o p q e f g x y = record {
-    by_server = subst (λ (zs : List Answered). AnswersAll (FromPeer answers) s zs u)
+    by_server = subst (λ (zs : List Answered). AnswersAll (FromPeer answers.by_peer) s zs u)
         (sym (map-append (λ (x : Tagged). x.1) xs ys))
-        (answers_append (FromPeer answers) (all_answered xs) (all_answered ys) s t u x.by_server y.by_server);
+        (answers_append (FromPeer answers.by_peer) (all_answered xs) (all_answered ys) s t u x.by_server y.by_server);
     adds = adds_then G a.connections b.connections c.connections xs ys us vs x.adds y.adds;
     prints = counts_then out a b c us vs o p q x.prints y.prints;
     reports = reports_then G reported log a b c xs ys us vs e f g x.adds x.reports y.reports;
@@ -185,9 +201,9 @@ module _ {L S O E : Type 0} (G : LinkGhosts L) (answers : SocketAddr → S → F
       (x : ServesPlace G answers out reported log now idle place a b s t o p e f) →
       Advances G answers out reported log (tagged x.works.number x.works.answered) x.closed [] a b s t o p e f
   place_advances now idle place a b s t o p e f x = record {
-    by_server = subst (λ (xs : List Answered). AnswersAll (FromPeer answers) s xs t)
+    by_server = subst (λ (xs : List Answered). AnswersAll (FromPeer answers.by_peer) s xs t)
         (sym (answered_by x.works.number x.works.answered))
-        (from_peer answers x.peer_slot.address s x.works.answered t x.works.by_server);
+        (from_peer answers.by_peer x.peer_slot.address s x.works.answered t x.works.by_server);
     adds = x.adds;
     prints = x.prints;
     reports = x.reports;

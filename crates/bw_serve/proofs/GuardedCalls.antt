@@ -1,15 +1,15 @@
 -- What a server has answered and committed behind its gate.
-use Rattle.std.proofs.Common.{◌≡◌, ◌∙◌, List, refl, sym, subst}
+use Rattle.std.proofs.Common.{◌≡◌, ◌∙◌, List, [], ◌∷◌, ap, fold, refl, sym, subst}
 use Rattle.std.specs.Prelude.{Result}
 use Rattle.bw_model.specs.Wire.{Frame}
 use Rattle.bw_model.specs.Replies.{Reply}
-use Rattle.bw_exchange.specs.AnsweredFrames.{Answered, AnswersAll}
+use Rattle.bw_exchange.specs.AnsweredFrames.{Answered, AnswersAll, answered_frames}
 use Rattle.bw_exchange.specs.Commits.{CommitsUntil}
 use Rattle.bw_exchange.specs.MeteredServers.{AnswersCounted}
 use Rattle.bw_exchange.specs.declared.link_stats.Metered.{Metered}
 use Rattle.bw_exchange.specs.declared.serving.ExchangeEnd.{ExchangeEnd}
 use Rattle.bw_exchange.specs.declared.turns.NotKept.{NotKept}
-use Rattle.bw_serve.specs.Guards.{Guarded, GuardedOverCommits}
+use Rattle.bw_serve.specs.Guards.{Guarded, GuardedOverCommits, is_kept_out, turning_away}
 use Rattle.bw_serve.specs.GuardedServers.{AnswersInQuantum, AnswersInExchange, CommitsInExchange, metered_commits}
 use Rattle.bw_serve.specs.declared.guarded.GuardedQuantum.{GuardedQuantum}
 use Rattle.bw_serve.specs.declared.guarded.GuardedExchange.{GuardedExchange}
@@ -29,6 +29,23 @@ module _ {T : Type 0} (answers : T → Frame → List Reply → T → Type 0) (f
         h.answered,
     (h.reference ∙ keeps.0, h.gate ∙ keeps.1),
   )
+
+  counts_on : (s : GuardedQuantum T) (xs : List Answered) (g : GuardedQuantum T) → s.gate ≡ first.gate →
+      AnswersAll (AnswersInQuantum answers) s xs g →
+      g.turned_away ≡ fold (turning_away (is_kept_out first.gate.allow.now first.gate.peer)) s.turned_away
+      (answered_frames xs)
+  counts_on s [] g is h = ap (λ x. x.turned_away) h
+  counts_on s (a ∷ rest) g is h =
+      let away = turning_away (is_kept_out first.gate.allow.now first.gate.peer) in
+      counts_on h.0 rest g (h.1.gate ∙ is) h.2
+      ∙ ap (λ n. fold away n (answered_frames rest))
+      (subst (λ x. h.0.turned_away ≡ turning_away (is_kept_out x.allow.now x.peer) s.turned_away a.frame) is h.1.counted)
+
+  -- it has counted what was turned away of these frames
+  pub counts_by_quantum : (xs : List Answered) (g : GuardedQuantum T) → AnswersAll (AnswersInQuantum answers) first xs g →
+      g.turned_away ≡ fold (turning_away (is_kept_out first.gate.allow.now first.gate.peer)) first.turned_away
+      (answered_frames xs)
+  counts_by_quantum xs g h = counts_on first xs g refl h
 
   -- the server that it leaves behind
   pub left_by_quantum : (xs : List Answered) (g : GuardedQuantum T) (last : Metered T) →

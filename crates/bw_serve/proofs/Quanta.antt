@@ -5,9 +5,6 @@ use Rattle.std.specs.Prelude.{slice_get}
 use Rattle.std.specs.List.{AllByRecursion}
 use Rattle.std.proofs.lemmas.Bool.Decides.{eqb_tells}
 use Rattle.std.proofs.lemmas.List.{append-nil}
-use Rattle.std.specs.declared.net.socket_addr.SocketAddr.{SocketAddr}
-use Rattle.bw_model.specs.Wire.{Frame}
-use Rattle.bw_model.specs.Replies.{Reply}
 use Rattle.bw_stream.specs.declared.sink.Sink.{Ghosts as Writer}
 use Rattle.bw_exchange.specs.AnsweredFrames.{answered_frames}
 use Rattle.bw_connections.specs.declared.connection.Connection.{Connection}
@@ -21,6 +18,7 @@ use Rattle.bw_connections.specs.Places.{end_of_connection, expired_there}
 use Rattle.bw_connections.specs.Quanta.{EndsIts, IsEmpty, StaysAt, ExistedAt, ExistedUnder}
 use Rattle.bw_connections.proofs.Standing.{not_some, own-kept, some_is}
 use Rattle.bw_exchange.specs.LinkCounts.{counting_frame}
+use Rattle.bw_serve.specs.Guards.{PeerAnswers}
 use Rattle.bw_serve.specs.Admissions.{AreOf}
 use Rattle.bw_serve.specs.EventLoops.{AreSilent, CountsEnds, CountsOwn, LooksAfter, PeerSlotOf, ServesPlace, WorksCounted}
 use Rattle.bw_serve.specs.Lines.{LogsEnds, counted_of}
@@ -78,7 +76,7 @@ silence_ends {L} G now idle place a m y existed its is =
       λ empty. empty s.0 s.1,
     )
 
-module _ {L S E : Type 0} (G : LinkGhosts L) (answers : SocketAddr → S → Frame → List Reply → S → Type 0) (reported : Writer E)
+module _ {L S E : Type 0} (G : LinkGhosts L) (answers : PeerAnswers S) (reported : Writer E)
     (log : Bool) (place now : ℕ) (first : Option (Closed L)) (a mid b : EventLoop L) (s t : S)
     (w : WorksCounted G answers place now first a mid s t) (stays : StaysAt place mid.connections b.connections)
     (existed : ExistedAt place mid.connections b.connections) (peer_slots : b.peer_slots ≡ mid.peer_slots) (over : List (Closed L))
@@ -182,19 +180,20 @@ module _ {L S E : Type 0} (G : LinkGhosts L) (answers : SocketAddr → S → Fra
   place_counts closed e f h = (counts_own, reported_so closed e f h, silent over k.left)
 
 -- The quantum at a place, and what became of its connection after it.
-pub place_served : {L S O E : Type 0} (G : LinkGhosts L) (answers : SocketAddr → S → Frame → List Reply → S → Type 0)
+pub place_served : {L S O E : Type 0} (G : LinkGhosts L) (answers : PeerAnswers S)
     (out : Writer O) (reported : Writer E) (log : Bool) (place now idle : ℕ) (a mid b : EventLoop L) (m : Connections L)
     (first : Option (Closed L)) (rest : List (Closed L)) (s t : S) (o p : O) (e f : E) →
     (counted : WorksCounted G answers place now first a mid s t) → Adds G mid.connections [] rest m →
     StaysAt place mid.connections m → ExistedAt place mid.connections m → b.connections ≡ m → b.peer_slots ≡ mid.peer_slots →
-    ((d : Connection L) → HoldsConnectionAt a.connections place d → AllByRecursion (λ x. x.end ≡ Idle →
+    b.turned_away ≡ mid.turned_away → ((d : Connection L) → HoldsConnectionAt a.connections place d → AllByRecursion
+    (λ x. x.end ≡ Idle →
     (counted.works.answered ≡ []) × (idle < now - d.since)) (those first ++ rest)) →
     ((d : Connection L) → HoldsConnectionAt m place d → expired_at now idle d ≡ None) →
     CountsEnds out a b (those first ++ rest) o p →
     ReportsThose G reported log place a.connections mid.peer_slots.items (those first ++ rest) e f →
     LooksAfter now idle place first mid.connections (those first ++ rest) m →
     ServesPlace G answers out reported log now idle place a b s t o p e f
-place_served {L} G answers out reported log place now idle a mid b m first rest s t o p e f counted adds stays existed is peer_slots
+place_served {L} G answers out reported log place now idle a mid b m first rest s t o p e f counted adds stays existed is peer_slots away
     silent in_time prints reports following =
     let w = counted.works in
     let stays' : StaysAt place mid.connections b.connections = subst (λ x. StaysAt place mid.connections x) (sym is) stays in
@@ -205,6 +204,7 @@ place_served {L} G answers out reported log place now idle a mid b m first rest 
       peer_slot = counted.peer_slot;
       was = counted.was;
       works = w;
+      turned_away = away ∙ counted.turned_away;
       closed = those first ++ rest;
       following = subst (λ x. LooksAfter now idle place first mid.connections (those first ++ rest) x) (sym is) following;
       adds = subst (λ x. Adds G a.connections (tagged w.number w.answered) (those first ++ rest) x) (sym is)

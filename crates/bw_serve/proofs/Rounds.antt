@@ -4,9 +4,6 @@ use Rattle.std.proofs.Common.{[], ◌∷◌, ◌++◌, refl, sym, ap, subst, ◌
 use Rattle.std.specs.Prelude.{Result, Ok, Err, OnOk, OnErr, slice_get}
 use Rattle.std.proofs.lemmas.List.{append-nil}
 use Rattle.std.proofs.lemmas.Bool.Decides.{eqb_tells}
-use Rattle.std.specs.declared.net.socket_addr.SocketAddr.{SocketAddr}
-use Rattle.bw_model.specs.Wire.{Frame}
-use Rattle.bw_model.specs.Replies.{Reply}
 use Rattle.bw_stream.specs.declared.sink.Sink.{Ghosts as Writer}
 use Rattle.bw_connections.specs.declared.connection.Connection.{Connection}
 use Rattle.bw_exchange.specs.declared.turns.NotKept.{NotKept}
@@ -18,6 +15,7 @@ use Rattle.bw_connections.specs.Lives.{BeginsConnection}
 use Rattle.bw_connections.specs.Places.{connection_count}
 use Rattle.bw_connections.specs.Quanta.{BeginsAt, LeavesOthers, RefusesLink}
 use Rattle.bw_connections.proofs.Standing.{not_some, some_is}
+use Rattle.bw_serve.specs.Guards.{PeerAnswers}
 use Rattle.bw_serve.specs.Admissions.{Admits, AdmitsEach}
 use Rattle.bw_ports.specs.Reactors.{Admission}
 use Rattle.bw_serve.specs.EventLoops.{AcceptsPeer, Advances, IsNew, LetsIn, ended_in_turn, frames_in_turn}
@@ -110,7 +108,8 @@ welcomes_after reactor now later b x y a c at none w = record {
 }
 
 module _ {B L S O E : Type 0} (reactor : ReactorGhosts B L) (G : LinkGhosts L)
-    (answers : SocketAddr → S → Frame → List Reply → S → Type 0) (commits : S → Result (Unit {0}) NotKept → S → Type 0) (out : Writer O)
+    (answers : PeerAnswers S) (commits : S → Result (Unit {0}) NotKept → S → Type 0)
+    (out : Writer O)
     (reported : Writer E) (log : Bool) where
   -- what a round adds
   pub round_advances : (idle exchanges : ℕ) (a b : EventLoop L) (s t : S) (x y : B) (o p : O) (e f : E)

@@ -5,9 +5,6 @@ use Rattle.std.proofs.Common.{subst, ◌∙◌, arith}
 use Rattle.std.proofs.Common.{append_assoc}
 use Rattle.std.proofs.lemmas.List.{append-nil, length-append, map-append}
 use Rattle.std.specs.Prelude.{Result, Ok, Err}
-use Rattle.std.specs.declared.net.socket_addr.SocketAddr.{SocketAddr}
-use Rattle.bw_model.specs.Wire.{Frame}
-use Rattle.bw_model.specs.Replies.{Reply}
 use Rattle.bw_stream.specs.Moves.{one_more}
 use Rattle.bw_stream.specs.declared.sink.Sink.{Ghosts as Writer}
 use Rattle.bw_exchange.specs.AnsweredFrames.{Answered, AnswersAll}
@@ -26,7 +23,7 @@ use Rattle.bw_serve.specs.Rounds.{GoOnAfterEach, GoOnUntilLast, ServesInRounds, 
 use Rattle.bw_serve.specs.Rounds.{frames_of_run, goes_on_after}
 use Rattle.bw_serve.specs.Admissions.{HostsAll}
 use Rattle.bw_ports.specs.Reactors.{Admission}
-use Rattle.bw_serve.specs.Guards.{FromPeer}
+use Rattle.bw_serve.specs.Guards.{FromPeer, PeerAnswers}
 use Rattle.bw_serve.specs.Lines.{LogsEnds, ReportsEnds}
 use Rattle.bw_serve.specs.EventLoopRuns.{EndsAt, LacksSync}
 use Rattle.bw_serve.specs.Observations.{HasObserved, LooksAtRound, LooksAtEach, states_of_run}
@@ -52,12 +49,12 @@ pub all_ended : {L : Type 0} (exchanges : ℕ) (c : EventLoop L) (over : List (C
     c.ended ≡ up_to_last (length over) → exchanges ≤ c.ended → exchanges ≤ length over
 all_ended exchanges c over is all = omega (arith, is, all)
 
-module _ {L S O E : Type 0} (G : LinkGhosts L) (answers : SocketAddr → S → Frame → List Reply → S → Type 0) (out : Writer O)
+module _ {L S O E : Type 0} (G : LinkGhosts L) (answers : PeerAnswers S) (out : Writer O)
     (reported : Writer E) (log : Bool) where
   -- what a run has resulted in
   pub record SoFar (trace : List Tagged) (over : List (Closed L)) (links : List (Admission L)) (c : EventLoop L)
       (s s' : S) (o o' : O) (e e' : E) : Type 0 where
-    pub by_server : AnswersAll (FromPeer answers) s (all_answered trace) s'
+    pub by_server : AnswersAll (FromPeer answers.by_peer) s (all_answered trace) s'
     pub keeps : KeepsConnections G c.connections over trace
     pub counts : CountsOwn G c trace
     pub printed : ReportsEnds out 0 over o o'
@@ -85,12 +82,12 @@ module _ {L S O E : Type 0} (G : LinkGhosts L) (answers : SocketAddr → S → F
       Advances G answers out reported log more closed received c d t u p q f g →
       SoFar (trace ++ more) (over ++ closed) (links ++ received) d s u o q e g
   more_so_far trace more over closed links received c d s t u o p q e f g x y =
-      let prints = y.prints (length over) x.ended in
+      let prints = y.prints.prints (length over) x.ended in
       let reports = y.reports over trace x.keeps x.counts in
       record {
-        by_server = subst (λ (xs : List Answered). AnswersAll (FromPeer answers) s xs u)
+        by_server = subst (λ (xs : List Answered). AnswersAll (FromPeer answers.by_peer) s xs u)
             (sym (map-append (λ (x : Tagged). x.1) trace more))
-            (answers_append (FromPeer answers) (all_answered trace) (all_answered more) s t u x.by_server y.by_server);
+            (answers_append (FromPeer answers.by_peer) (all_answered trace) (all_answered more) s t u x.by_server y.by_server);
         keeps = y.adds over trace x.keeps;
         counts = reports.0;
         printed = ends_then out 0 (length over) over closed o p q (omega arith) x.printed prints.0;
@@ -114,7 +111,7 @@ lacks_sync commits mid (Err kept.WriteFault) s h stops = absurd (cc)
 lacks_sync commits mid (Err kept.SyncFault) s h stops = (mid, h)
 
 module _ {B L S O E V : Type 0} (reactor : ReactorGhosts B L) (G : LinkGhosts L)
-    (answers : SocketAddr → S → Frame → List Reply → S → Type 0) (commits : S → Result (Unit {0}) NotKept → S → Type 0)
+    (answers : PeerAnswers S) (commits : S → Result (Unit {0}) NotKept → S → Type 0)
     (out : Writer O) (reported : Writer E) (log : Bool) (looks : V → S → RoundReport → V → Type 0) where
   -- what rounds have resulted in, one after another, and what the observer has
   pub record Runs (last : Result (Unit {0}) NotKept) (places idle exchanges : ℕ) (c : EventLoop L) (s s' : S)

@@ -40,10 +40,11 @@ module _ {L O E : Type 0} (G : LinkGhosts L) (out : Writer O) (reported : Writer
   withholds_none c o e = record {
     closed = [];
     adds = adds_still G c.connections;
-    prints = counts_none out c c o refl;
+    prints = counts_none out c c o refl refl;
     reports = reports_none G reported log c c e (grows_still G c);
     hosts = hosts_more_still G c.connections c.connections []
         (λ over trace links k h. subst (λ (l : List (Closed L)). HostsAll G c.connections l links) (sym (append-nil over)) h);
+    turned_away = refl;
     places_are = refl;
     begun = refl;
     peer_slots_are = refl;
@@ -59,6 +60,7 @@ module _ {L O E : Type 0} (G : LinkGhosts L) (out : Writer O) (reported : Writer
     prints = counts_then out a b c x.closed y.closed o p q x.prints y.prints;
     reports = reports_then G reported log a b c [] [] x.closed y.closed e f g x.adds x.reports y.reports;
     hosts = hosts_more_then G a.connections b.connections c.connections [] [] x.closed y.closed [] x.adds x.hosts y.hosts;
+    turned_away = y.turned_away ∙ x.turned_away;
     places_are = y.stays.0.count ∙ x.places_are;
     begun = y.stays.1 ∙ x.begun;
     peer_slots_are = y.peer_slots_are ∙ x.peer_slots_are;
@@ -106,10 +108,11 @@ module _ {L O E : Type 0} (G : LinkGhosts L) (out : Writer O) (reported : Writer
   whose_its place a (y ∷ z ∷ zs) e f h d at = absurd h
 
   pub withholds_at : (place : ℕ) (a b : EventLoop L) (m : Connections L) (closed : List (Closed L)) (o p : O) (e f : E) →
-      b.connections ≡ m → b.peer_slots ≡ a.peer_slots → Adds G a.connections [] closed m → StaysAt place a.connections m →
+      b.connections ≡ m → b.peer_slots ≡ a.peer_slots → b.turned_away ≡ a.turned_away → Adds G a.connections [] closed m
+      → StaysAt place a.connections m →
       ExistedAt place a.connections m → HoldsNoReplies place m → CountsEnds out a b closed o p →
       ReportsIts place a closed e f → WithholdsAt G out reported log place a b o p e f
-  withholds_at place a b m closed o p e f is slots adds stays existed none prints reports = record {
+  withholds_at place a b m closed o p e f is slots away adds stays existed none prints reports = record {
     closed = closed;
     adds = adds';
     prints = prints;
@@ -122,6 +125,7 @@ module _ {L O E : Type 0} (G : LinkGhosts L) (out : Writer O) (reported : Writer
     hosts = hosts_more_still G a.connections b.connections closed (λ over trace links k h.
         hosts_served G place a.connections b.connections closed over trace [] links stays' existed'
         (whose_its place a closed e f reports) k (adds' over trace k) h);
+    turned_away = away;
     stays = stays';
     peer_slots_are = ap (λ v. vec_len v) slots;
     none_wait = subst (λ x. HoldsNoReplies place x) (sym is) none;

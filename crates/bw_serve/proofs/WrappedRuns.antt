@@ -1,6 +1,6 @@
 -- A run over a server that wraps another one is a run over the wrapped one, with the same frames and
 -- connections.
-use Rattle.std.proofs.Common.{◌≡◌, inl, inr, ◌∙◌, ℕ, zero, suc, Bool, Option, List, [], ◌∷◌, ◌++◌, refl, ap, subst, sym}
+use Rattle.std.proofs.Common.{◌≡◌, inl, inr, ◌∙◌, ℕ, zero, suc, Bool, Option, List, [], ◌∷◌, ◌++◌, fold, refl, ap, subst, sym}
 use Rattle.std.specs.Prelude.{Result, Err, length}
 use Rattle.std.specs.declared.net.socket_addr.SocketAddr.{SocketAddr}
 use Rattle.bw_model.specs.Wire.{Frame}
@@ -8,7 +8,7 @@ use Rattle.bw_model.specs.Replies.{Reply}
 use Rattle.bw_stream.specs.declared.sink.Sink.{Ghosts as Writer}
 use Rattle.bw_console.specs.declared.exit.Exit.{Exit}
 use Rattle.bw_console.specs.declared.exit.Exit.TheVariants.{Done, Refused, Usage, Device, Memory}
-use Rattle.bw_exchange.specs.AnsweredFrames.{Answered, AnswersAll}
+use Rattle.bw_exchange.specs.AnsweredFrames.{Answered, AnswersAll, answered_frames}
 use Rattle.bw_exchange.specs.declared.turns.NotKept.{NotKept}
 use Rattle.bw_exchange.specs.declared.turns.NotKept.TheVariants as kept
 use Rattle.bw_ports.specs.declared.link.Link.{Ghosts as LinkGhosts}
@@ -23,7 +23,7 @@ use Rattle.bw_serve.specs.declared.serving.Bounds.{Bounds}
 use Rattle.bw_serve.specs.EventLoops.{InTurn, ServesPlace, ended_in_turn, frames_in_turn}
 use Rattle.bw_serve.specs.Rounds.{GoOnAfterEach, GoOnUntilLast, ServesInRounds, ServesRound, ServesRounds, ended_in_rounds}
 use Rattle.bw_serve.specs.Rounds.{frames_in_rounds}
-use Rattle.bw_serve.specs.Guards.{FromPeer}
+use Rattle.bw_serve.specs.Guards.{FromPeer, PeerAnswers, turning_away}
 use Rattle.bw_serve.specs.EventLoopRuns.{EndsAt, HasServed}
 
 both : {X : Type 0} {xs xs' ys ys' : List X} → xs ≡ xs' → ys ≡ ys' → xs ++ ys ≡ xs' ++ ys'
@@ -66,15 +66,16 @@ all_inner inner outer answers passes t (a ∷ rest) t' h = (
   all_inner inner outer answers passes h.0 rest t' h.2,
 )
 
-module _ {T S : Type 0} (inner : T → S) (outer : SocketAddr → T → Frame → List Reply → T → Type 0)
-    (answers : SocketAddr → S → Frame → List Reply → S → Type 0)
-    (passes : (peer : SocketAddr) (t : T) (frame : Frame) (replies : List Reply) (t' : T) → outer peer t frame replies t' →
-    answers peer (inner t) frame replies (inner t')) (ends : T → Result (Unit {0}) NotKept → T → Type 0)
+module _ {T S : Type 0} (inner : T → S) (outer : PeerAnswers T)
+    (answers : PeerAnswers S)
+    (passes : (peer : SocketAddr) (t : T) (frame : Frame) (replies : List Reply) (t' : T) →
+    outer.by_peer peer t frame replies t' → answers.by_peer peer (inner t) frame replies (inner t'))
+    (same : answers.turns_away ≡ outer.turns_away) (ends : T → Result (Unit {0}) NotKept → T → Type 0)
     (commits : S → Result (Unit {0}) NotKept → S → Type 0)
     (passes_commits : (t : T) (r : Result (Unit {0}) NotKept) (t' : T) → ends t r t' → commits (inner t) r (inner t')) where
-  pub answers_inner : (t : T) (xs : List Answered) (t' : T) → AnswersAll (FromPeer outer) t xs t' →
-      AnswersAll (FromPeer answers) (inner t) xs (inner t')
-  answers_inner = all_inner inner (FromPeer outer) (FromPeer answers)
+  pub answers_inner : (t : T) (xs : List Answered) (t' : T) → AnswersAll (FromPeer outer.by_peer) t xs t' →
+      AnswersAll (FromPeer answers.by_peer) (inner t) xs (inner t')
+  answers_inner = all_inner inner (FromPeer outer.by_peer) (FromPeer answers.by_peer)
       (λ t frame replies t' h. record { peer = h.peer; answered = passes h.peer t frame replies t' h.answered })
 
   pub ends_inner : {B L : Type 0} (reactor : ReactorGhosts B L) (exit : Exit) (exchanges ended : ℕ) (t' : T) (b b' : B) →
@@ -88,11 +89,11 @@ module _ {T S : Type 0} (inner : T → S) (outer : SocketAddr → T → Frame �
 
   module _ {L : Type 0} (G : LinkGhosts L) where
     abbrev works_inner : (peer : SocketAddr) (place now : ℕ) (closed : Option (Closed L)) (m m' : Connections L) (t t' : T) →
-        WorksAt G (outer peer) place now closed m m' t t' →
-        WorksAt G (answers peer) place now closed m m' (inner t) (inner t')
+        WorksAt G (outer.by_peer peer) place now closed m m' t t' →
+        WorksAt G (answers.by_peer peer) place now closed m m' (inner t) (inner t')
     works_inner peer place now closed m m' t t' w =
-        works_by G (outer peer) (answers peer) place now closed m m' t t' (inner t) (inner t') w
-        (all_inner inner (outer peer) (answers peer) (passes peer) t w.answered t' w.by_server)
+        works_by G (outer.by_peer peer) (answers.by_peer peer) place now closed m m' t t' (inner t) (inner t') w
+        (all_inner inner (outer.by_peer peer) (answers.by_peer peer) (passes peer) t w.answered t' w.by_server)
 
     module _ {O E : Type 0} (out : Writer O) (reported : Writer E) (log : Bool) where
       abbrev place_inner : (now idle place : ℕ) (c c' : EventLoop L) (t t' : T) (o o' : O) (e e' : E) →
@@ -104,6 +105,8 @@ module _ {T S : Type 0} (inner : T → S) (outer : SocketAddr → T → Frame �
         peer_slot = p.peer_slot;
         was = p.was;
         works = works_inner p.peer_slot.address place now p.first c.connections p.between t t' p.works;
+        turned_away = subst (λ away. c'.turned_away ≡ fold (turning_away (away p.peer_slot.address)) c.turned_away
+            (answered_frames p.works.answered)) (sym same) p.turned_away;
         closed = p.closed;
         following = p.following;
         adds = p.adds;
@@ -173,7 +176,7 @@ module _ {T S : Type 0} (inner : T → S) (outer : SocketAddr → T → Frame �
           logged = r.logged;
           in_turn = turn_inner (reactor.time b') idle (connection_count r.between.connections) r.between r.served t r.mid
               o r.printed e r.logged r.in_turn;
-          kept = subst (λ (xs : List Tagged). AnswersAll (FromPeer answers) (inner t) (all_answered xs) (inner t'))
+          kept = subst (λ (xs : List Tagged). AnswersAll (FromPeer answers.by_peer) (inner t) (all_answered xs) (inner t'))
               (sym (frames_turn (reactor.time b') idle (connection_count r.between.connections) r.between r.served t r.mid
               o r.printed e r.logged r.in_turn)) (answers_inner t _ t' r.kept);
           outcome = r.outcome;

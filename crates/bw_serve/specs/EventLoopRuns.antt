@@ -1,8 +1,5 @@
 -- The result of serving an event loop.
 use Rattle.std.specs.Prelude.{Result, Err, ◌≡◌, ◌⊎◌, ℕ, ◌-◌, ◌^◌, ◌≤◌, Bool, false, List, [], ◌++◌, length}
-use Rattle.std.specs.declared.net.socket_addr.SocketAddr.{SocketAddr}
-use Rattle.bw_model.specs.Wire.{Frame}
-use Rattle.bw_model.specs.Replies.{Reply}
 use Rattle.bw_stream.specs.Moves.{one_more}
 use Rattle.bw_stream.specs.declared.sink.Sink.{Ghosts as Writer}
 use Rattle.bw_exchange.specs.AnsweredFrames.{Answered, AnswersAll}
@@ -21,7 +18,7 @@ use Rattle.bw_serve.specs.Admissions.{HostsAll}
 use Rattle.bw_serve.specs.EventLoops.{Grows}
 use Rattle.bw_ports.specs.Reactors.{Admission}
 use Rattle.bw_serve.specs.Rounds.{GoOnUntilLast, ServesInRounds, ended_of_run, frames_of_run}
-use Rattle.bw_serve.specs.Guards.{FromPeer}
+use Rattle.bw_serve.specs.Guards.{FromPeer, PeerAnswers}
 use Rattle.bw_serve.specs.Lines.{LogsEnds, ReportsEnds}
 use Rattle.bw_ports.specs.declared.reactor.Reactor.{Ghosts as ReactorGhosts}
 
@@ -45,7 +42,7 @@ EndsAt reactor commits exits.Device exchanges ended s b b' =
 EndsAt reactor commits _ exchanges ended s b b' = ⊥
 
 module _ {B L S O E : Type 0} (reactor : ReactorGhosts B L) (G : LinkGhosts L)
-    (answers : SocketAddr → S → Frame → List Reply → S → Type 0)
+    (answers : PeerAnswers S)
     (commits : S → Result (Unit {0}) NotKept → S → Type 0) (out : Writer O) (reported : Writer E)
     (log : Bool) where
   -- The server answered these frames, over connections of which these are over and others are at
@@ -67,7 +64,7 @@ module _ {B L S O E : Type 0} (reactor : ReactorGhosts B L) (G : LinkGhosts L)
     pub trace : List Tagged
     pub taken : trace ≡ frames_of_run reactor G answers commits out reported log bounds.places bounds.idle
         bounds.exchanges following s s' b reactor_after o o' e e' in_rounds
-    pub by_server : AnswersAll (FromPeer answers) s (all_answered trace) s'
+    pub by_server : AnswersAll (FromPeer answers.by_peer) s (all_answered trace) s'
     pub over : List (Closed L)
     pub are_over : over ≡ ended_of_run reactor G answers commits out reported log bounds.places bounds.idle
         bounds.exchanges following s s' b reactor_after o o' e e' in_rounds

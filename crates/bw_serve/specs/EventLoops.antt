@@ -3,9 +3,6 @@ use Rattle.std.specs.Prelude.{◌≡◌, ◌⊎◌, ℕ, zero, suc, ◌+◌, ◌
 use Rattle.std.specs.Prelude.{Option, Some, None, List, [], ◌∷◌, ◌++◌, fold, length, slice_get}
 use Rattle.std.specs.Prelude.{vec_len, Result, Ok, Err}
 use Rattle.std.specs.List.{AllByRecursion}
-use Rattle.std.specs.declared.net.socket_addr.SocketAddr.{SocketAddr}
-use Rattle.bw_model.specs.Wire.{Frame}
-use Rattle.bw_model.specs.Replies.{Reply}
 use Rattle.bw_stream.specs.declared.sink.Sink.{Ghosts as Writer}
 use Rattle.bw_exchange.specs.AnsweredFrames.{AnswersAll, answered_frames}
 use Rattle.bw_connections.specs.declared.connection.Connection.{Connection}
@@ -26,7 +23,8 @@ use Rattle.bw_exchange.specs.LinkCounts.{up_to_last, counting_frame}
 use Rattle.bw_connections.specs.Places.{refused_of}
 use Rattle.bw_serve.specs.Admissions.{AreOf, HostsMore}
 use Rattle.bw_ports.specs.Reactors.{Admission}
-use Rattle.bw_serve.specs.Guards.{FromPeer}
+use Rattle.bw_serve.specs.CountedEnds.{end_counts, none_ended, with_ends}
+use Rattle.bw_serve.specs.Guards.{FromPeer, PeerAnswers, turning_away}
 use Rattle.bw_serve.specs.Lines.{LogsEnds, ReportsEnds, counted_of}
 use Rattle.bw_serve.specs.declared.event_loop.EventLoop.{EventLoop}
 use Rattle.bw_serve.specs.declared.peer_slot.PeerSlot.{PeerSlot}
@@ -39,6 +37,8 @@ pub record IsNew {L : Type 0} (G : LinkGhosts L) (places : ℕ) (c : EventLoop L
   pub begun : begun_of c.connections ≡ 0
   pub refused : refused_of c.connections ≡ 0
   pub ended : c.ended ≡ 0
+  pub ended_by : c.ended_by ≡ none_ended
+  pub turned_away : c.turned_away ≡ 0
 
 -- whether a connection at one of the first places can proceed before its link has more bytes, or
 -- room
@@ -79,6 +79,8 @@ pub record Grows {L : Type 0} (G : LinkGhosts L) (c c' : EventLoop L) : Type 0 w
   pub counts : (over : List (Closed L)) (trace : List Tagged) →
       KeepsConnections G c.connections over trace → CountsOwn G c trace → CountsOwn G c' trace
   pub ended : c'.ended ≡ c.ended
+  pub ended_by : c'.ended_by ≡ c.ended_by
+  pub turned_away : c'.turned_away ≡ c.turned_away
 
 -- and no peer was accepted, or refused
 pub record KeepsEventLoop {L : Type 0} (G : LinkGhosts L) (c c' : EventLoop L) : Type 0 where
@@ -108,11 +110,12 @@ LooksAfter {L} now idle place None m closed m' = (last : Option (Closed L)) × (
     × ExistedAt place m m'
     × IfSome last (λ x. IsEmpty place m')
 
--- the line of each connection that ended was printed, and each was counted
-abbrev pub CountsEnds : {L O : Type 0} → Writer O → EventLoop L → EventLoop L → List (Closed L) →
-    O → O → Type 0
-CountsEnds out c c' closed o o' = (n : ℕ) → c.ended ≡ up_to_last n →
-    ReportsEnds out n closed o o' × (c'.ended ≡ up_to_last (n + length closed))
+-- the line of each connection that ended was printed, and each was counted, also by its cause
+pub record CountsEnds {L O : Type 0} (out : Writer O) (c c' : EventLoop L) (closed : List (Closed L))
+    (o o' : O) : Type 0 where
+  pub prints : (n : ℕ) → c.ended ≡ up_to_last n →
+      ReportsEnds out n closed o o' × (c'.ended ≡ up_to_last (n + length closed))
+  pub by_cause : end_counts c'.ended_by ≡ with_ends (end_counts c.ended_by) closed
 
 -- Frames more were answered, none of them over a connection that was over, and connections more are
 -- over: if the frames of each were counted they still are, and the ends are logged so.
@@ -124,14 +127,15 @@ ReportsRound {L} G reported log c more closed c' e e' = (over : List (Closed L))
     × AreSilent over more
 
 module _ {L S : Type 0} (G : LinkGhosts L)
-    (answers : SocketAddr → S → Frame → List Reply → S → Type 0) where
+    (answers : PeerAnswers S) where
   -- a quantum of the connection at a place, whose frames are answered as those of the peer at its
   -- slot, and counted there
   pub record WorksCounted (place now : ℕ) (closed : Option (Closed L)) (c c' : EventLoop L) (s s' : S)
       : Type 0 where
     pub peer_slot : PeerSlot
     pub was : slice_get c.peer_slots.items place ≡ Some peer_slot
-    pub works : WorksAt G (answers peer_slot.address) place now closed c.connections c'.connections s s'
+    pub works : WorksAt G (answers.by_peer peer_slot.address) place now closed c.connections
+        c'.connections s s'
     pub peer_slot' : PeerSlot
     pub sets : SetsPlace c.peer_slots.items place peer_slot' c'.peer_slots.items
     pub address : peer_slot'.address ≡ peer_slot.address
@@ -139,8 +143,11 @@ module _ {L S : Type 0} (G : LinkGhosts L)
         ≡ fold counting_frame peer_slot.link_stats (answered_frames works.answered)
     pub peer_slots_are : vec_len c'.peer_slots ≡ vec_len c.peer_slots
     pub ended : c'.ended ≡ c.ended
+    pub ended_by : c'.ended_by ≡ c.ended_by
+    pub turned_away : c'.turned_away ≡ fold (turning_away (answers.turns_away peer_slot.address))
+        c.turned_away (answered_frames works.answered)
 
-module _ {L S O E : Type 0} (G : LinkGhosts L) (answers : SocketAddr → S → Frame → List Reply → S → Type 0)
+module _ {L S O E : Type 0} (G : LinkGhosts L) (answers : PeerAnswers S)
     (out : Writer O) (reported : Writer E) (log : Bool) where
   -- At this time the connection at a place had its quantum, and only after that its silence was
   -- checked. The line of one that is over is printed, and it is logged.
@@ -151,7 +158,10 @@ module _ {L S O E : Type 0} (G : LinkGhosts L) (answers : SocketAddr → S → F
     -- its frames were answered as those of the peer at its slot
     pub peer_slot : PeerSlot
     pub was : slice_get c.peer_slots.items place ≡ Some peer_slot
-    pub works : WorksAt G (answers peer_slot.address) place now first c.connections between s s'
+    pub works : WorksAt G (answers.by_peer peer_slot.address) place now first c.connections between s s'
+    -- and those of them that are turned away were counted
+    pub turned_away : c'.turned_away ≡ fold (turning_away (answers.turns_away peer_slot.address))
+        c.turned_away (answered_frames works.answered)
     pub closed : List (Closed L)
     pub following : LooksAfter now idle place first between closed c'.connections
     pub adds : Adds G c.connections (tagged works.number works.answered) closed c'.connections
@@ -197,7 +207,7 @@ module _ {L S O E : Type 0} (G : LinkGhosts L) (answers : SocketAddr → S → F
   -- and these links more were accepted, or refused
   pub record Advances (more : List Tagged) (closed : List (Closed L)) (links : List (Admission L))
       (c c' : EventLoop L) (s s' : S) (o o' : O) (e e' : E) : Type 0 where
-    pub by_server : AnswersAll (FromPeer answers) s (all_answered more) s'
+    pub by_server : AnswersAll (FromPeer answers.by_peer) s (all_answered more) s'
     pub adds : Adds G c.connections more closed c'.connections
     pub prints : CountsEnds out c c' closed o o'
     pub reports : ReportsRound G reported log c more closed c' e e'
@@ -218,6 +228,7 @@ module _ {L O E : Type 0} (G : LinkGhosts L) (out : Writer O) (reported : Writer
     pub prints : CountsEnds out c c' closed o o'
     pub reports : ReportsRound G reported log c [] closed c' e e'
     pub hosts : HostsMore G c.connections [] closed c'.connections
+    pub turned_away : c'.turned_away ≡ c.turned_away
     pub stays : StaysAt place c.connections c'.connections
     pub peer_slots_are : vec_len c'.peer_slots ≡ vec_len c.peer_slots
     pub none_wait : HoldsNoReplies place c'.connections
@@ -229,6 +240,7 @@ module _ {L O E : Type 0} (G : LinkGhosts L) (out : Writer O) (reported : Writer
     pub prints : CountsEnds out c c' closed o o'
     pub reports : ReportsRound G reported log c [] closed c' e e'
     pub hosts : HostsMore G c.connections [] closed c'.connections
+    pub turned_away : c'.turned_away ≡ c.turned_away
     pub places_are : connection_count c'.connections ≡ connection_count c.connections
     pub begun : begun_of c'.connections ≡ begun_of c.connections
     pub peer_slots_are : vec_len c'.peer_slots ≡ vec_len c.peer_slots

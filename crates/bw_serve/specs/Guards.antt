@@ -1,10 +1,11 @@
 -- Which frames a server is given, by the peers that they come from.
-use Rattle.std.specs.Prelude.{◌≡◌, ◌⊎◌, ℕ, true, false, None, List, [], ◌∷◌}
+use Rattle.std.specs.Prelude.{◌≡◌, ◌⊎◌, ℕ, ◌+◌, Bool, true, false, not, if◌then◌else◌, None, List, [], ◌∷◌}
 use Rattle.std.specs.declared.net.socket_addr.SocketAddr.{SocketAddr}
 use Rattle.bw_model.specs.Wire.{Frame, Says, Asks, Bye}
 use Rattle.bw_model.specs.Replies.{Reply, Noticed, TableFull, Next}
 use Rattle.bw_model.specs.Turn.{notice}
 use Rattle.bw_exchange.specs.AnsweredFrames.{Answered, AnswersAll}
+use Rattle.bw_exchange.specs.LinkCounts.{up_to_last}
 use Rattle.bw_serve.specs.OneName.{frame_name}
 use Rattle.bw_operators.specs.AllowLists.{AllowRules, may_come}
 
@@ -16,7 +17,8 @@ turned_away Bye = []
 
 -- A peer's frame is answered by the server if its name is allowed from there. Else it is turned
 -- away, and these are the states of the server before and after it.
-pub record GuardedAs {S : Type 0} (rests : S → S → Type 0) (answers : S → Frame → List Reply → S → Type 0)
+pub record GuardedAs {S : Type 0} (rests : S → S → Type 0)
+    (answers : S → Frame → List Reply → S → Type 0)
     (rules : AllowRules) (peer : SocketAddr) (s : S) (frame : Frame) (replies : List Reply) (s' : S)
     : Type 0 where
   pub passed : may_come rules peer (frame_name frame) ≡ true → answers s frame replies s'
@@ -24,9 +26,29 @@ pub record GuardedAs {S : Type 0} (rests : S → S → Type 0) (answers : S → 
       (replies ≡ turned_away frame) × rests s s'
 
 -- a frame that is turned away changes nothing of the server
-abbrev pub Guarded : {S : Type 0} → (S → Frame → List Reply → S → Type 0) → AllowRules → SocketAddr →
+abbrev pub Guarded : {S : Type 0} → (S → Frame → List Reply → S → Type 0) → AllowRules →
+    SocketAddr →
     S → Frame → List Reply → S → Type 0
 Guarded answers rules = GuardedAs (λ s s'. s' ≡ s) answers rules
+
+-- a frame isn't given to the server: its name isn't allowed from this peer
+abbrev pub is_kept_out : AllowRules → SocketAddr → Frame → Bool
+is_kept_out rules peer frame = not (may_come rules peer (frame_name frame))
+
+-- how many were turned away after this frame more
+abbrev pub turning_away : (Frame → Bool) → ℕ → Frame → ℕ
+turning_away away n frame = if away frame then up_to_last (n + 1) else n
+
+-- how what comes from each peer is answered, and which of it is turned away
+pub record PeerAnswers (S : Type 0) : Type 1 where
+  pub by_peer : SocketAddr → S → Frame → List Reply → S → Type 0
+  pub turns_away : SocketAddr → Frame → Bool
+
+-- the same of a server that is given only what these rules allow
+abbrev pub guarded_answers : {S : Type 0} → (S → Frame → List Reply → S → Type 0) → AllowRules →
+    PeerAnswers S
+guarded_answers answers rules =
+    record { by_peer = Guarded answers rules; turns_away = is_kept_out rules }
 
 -- Between these states there was a commit, or nothing: what was answered in the first one was
 -- answered in the second, and if all of it was committed, they are the same.
@@ -42,7 +64,8 @@ abbrev pub GuardedOverCommits : {S : Type 0} → (S → Frame → List Reply →
 GuardedOverCommits answers committed rules = GuardedAs (Rests answers committed) answers rules
 
 -- it answered so what came from some peer
-pub record FromPeer {S : Type 0} (answers : SocketAddr → S → Frame → List Reply → S → Type 0) (s : S)
+pub record FromPeer {S : Type 0} (answers : SocketAddr → S → Frame → List Reply → S → Type 0)
+    (s : S)
     (frame : Frame) (replies : List Reply) (s' : S) : Type 0 where
   pub peer : SocketAddr
   pub answered : answers peer s frame replies s'
@@ -64,10 +87,12 @@ pub record IsAllowed (rules : AllowRules) (a : Answered) : Type 0 where
 abbrev pub LeavesAllowed : AllowRules → List Answered → List Answered → Type 0
 LeavesAllowed rules [] own = own ≡ []
 LeavesAllowed rules (a ∷ rest) own = (IsTurnedAway rules a × LeavesAllowed rules rest own)
-    ⊎ (IsAllowed rules a × ((more : List Answered) × (own ≡ a ∷ more) × LeavesAllowed rules rest more))
+    ⊎ (IsAllowed rules a × ((more : List Answered) × (own ≡ a ∷ more) × LeavesAllowed rules rest
+    more))
 
 -- Those of these that are allowed are a run of the server itself.
-abbrev pub AnswersAllowed : {S : Type 0} → (S → Frame → List Reply → S → Type 0) → AllowRules → S →
+abbrev pub AnswersAllowed : {S : Type 0} → (S → Frame → List Reply → S → Type 0) → AllowRules
+    → S →
     List Answered → S → Type 0
 AnswersAllowed answers rules s xs s' = (own : List Answered) × LeavesAllowed rules xs own
     × AnswersAll answers s own s'

@@ -15,7 +15,7 @@ use Rattle.bw_ports.specs.declared.peers.Peers.{Ghosts as PeerGhosts}
 use Rattle.bw_ports.specs.declared.reactor.Reactor.{Ghosts as ReactorGhosts}
 use Rattle.bw_serve.specs.Beginnings.{AsksOutside, IsUnprinted, ReportsUnbound, peer_calls, reactor_calls}
 use Rattle.bw_serve.specs.EventLoopRuns.{RunsEventLoop, answered_in_loop}
-use Rattle.bw_serve.specs.Guards.{FromPeer, Guarded, GuardedOverCommits}
+use Rattle.bw_serve.specs.Guards.{FromPeer, Guarded, GuardedOverCommits, guarded_answers}
 use Rattle.bw_serve.specs.Openings.{opening_lines}
 use Rattle.bw_serve.specs.ServedAll.{ServesRun, answered_in_run}
 use Rattle.bw_serve.specs.ServerReports.{ReportsExit}
@@ -53,7 +53,8 @@ module _ {T R O E : Type 0} (way : WayToServe T R O E) (answers : T → Frame �
 
 module _ {T P R W O E : Type 0} (answers : T → Frame → List Reply → T → Type 0)
     (committed : T → Type 0) (commits : T → Result (Unit {0}) NotKept → T → Type 0)
-    (peers : PeerGhosts P R W) (reader : Reader R) (writer : Writer W) (out : Writer O) (reported : Writer E) where
+    (peers : PeerGhosts P R W) (reader : Reader R) (writer : Writer W) (out : Writer O)
+    (reported : Writer E) where
   -- one recorder after another, whose frames are guarded by the list
   abbrev pub in_turn : Serving → WayToServe T P O E
   in_turn serving = record {
@@ -80,9 +81,9 @@ module _ {T B L O E : Type 0} (answers : T → Frame → List Reply → T → Ty
   abbrev pub at_once : Hosting → WayToServe T B O E
   at_once hosting = record {
     runs = λ ended t t' b b' o o' e e'. RunsEventLoop reactor link
-        (Guarded answers hosting.allow.now) commits out reported hosting.log hosting.bounds ended t t'
+        (guarded_answers answers hosting.allow.now) commits out reported hosting.log hosting.bounds ended t t'
         b b' o o' e e';
-    answered = answered_in_loop reactor link (Guarded answers hosting.allow.now) commits out reported
+    answered = answered_in_loop reactor link (guarded_answers answers hosting.allow.now) commits out reported
         hosting.log hosting.bounds;
   }
 

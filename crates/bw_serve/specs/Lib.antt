@@ -1,5 +1,6 @@
 pub mod Admissions
 pub mod Lines
+pub mod CountedEnds
 pub mod Filters
 pub mod OneName
 pub mod Guards

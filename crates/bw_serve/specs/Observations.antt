@@ -1,8 +1,5 @@
 -- What an observer of an event loop is shown: the server, as each round left it.
 use Rattle.std.specs.Prelude.{Result, ◌≡◌, ℕ, zero, suc, ◌-◌, Bool, List, [], ◌∷◌, ◌++◌}
-use Rattle.std.specs.declared.net.socket_addr.SocketAddr.{SocketAddr}
-use Rattle.bw_model.specs.Wire.{Frame}
-use Rattle.bw_model.specs.Replies.{Reply}
 use Rattle.bw_stream.specs.declared.sink.Sink.{Ghosts as Writer}
 use Rattle.bw_exchange.specs.AnsweredFrames.{Answered}
 use Rattle.bw_console.specs.declared.exit.Exit.{Exit}
@@ -12,6 +9,7 @@ use Rattle.bw_ports.specs.declared.link.Link.{Ghosts as LinkGhosts}
 use Rattle.bw_ports.specs.declared.reactor.Reactor.{Ghosts as ReactorGhosts}
 use Rattle.bw_connections.specs.ConnectionTables.{all_answered}
 use Rattle.bw_connections.specs.Places.{begun_of, connection_count}
+use Rattle.bw_serve.specs.Guards.{PeerAnswers}
 use Rattle.bw_serve.specs.declared.event_loop.EventLoop.{EventLoop}
 use Rattle.bw_serve.specs.declared.observing.RoundReport.{RoundReport}
 use Rattle.bw_serve.specs.declared.serving.Bounds.{Bounds}
@@ -19,11 +17,14 @@ use Rattle.bw_serve.specs.Rounds.{ServesInRounds, ServesRounds, frames_in_rounds
 use Rattle.bw_serve.specs.EventLoopRuns.{HasServed, RunsEventLoop}
 
 -- It says how many places an event loop has, how many connections were begun and haven't ended,
--- how many have, and what is kept of the peer at each place.
+-- how many have, by which causes, how many frames were turned away, and what is kept of the peer at
+-- each place.
 pub record IsRoundReportOf {L : Type 0} (c : EventLoop L) (round : RoundReport) : Type 0 where
   pub places : round.places ≡ connection_count c.connections
   pub connections : round.connections ≡ begun_of c.connections - c.ended
   pub ended : round.ended ≡ c.ended
+  pub ended_by : round.ended_by ≡ c.ended_by
+  pub turned_away : round.turned_away ≡ c.turned_away
   pub peers : round.peers.now ≡ c.peer_slots.items
 
 module _ {L S V : Type 0} (looks : V → S → RoundReport → V → Type 0) where
@@ -54,7 +55,7 @@ LooksAfterEach {L} {S} {T} {V} looks makes (left ∷ rest) v v' = (t : T) × (w 
     × LooksAfterEach looks makes rest w v'
 
 module _ {B L S O E : Type 0} (reactor : ReactorGhosts B L) (G : LinkGhosts L)
-    (answers : SocketAddr → S → Frame → List Reply → S → Type 0)
+    (answers : PeerAnswers S)
     (commits : S → Result (Unit {0}) NotKept → S → Type 0) (out : Writer O) (reported : Writer E)
     (log : Bool) where
   -- the event loop and the server, as each of these rounds left them

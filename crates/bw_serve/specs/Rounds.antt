@@ -3,9 +3,6 @@ use Rattle.std.specs.Prelude.{Result, Ok, Err, ◌≡◌, ◌⊎◌, ℕ, zero, 
 use Rattle.std.specs.Prelude.{List}
 use Rattle.std.specs.Prelude.{◌≤◌, [], ◌++◌, None, length}
 use Rattle.std.specs.List.{list_any}
-use Rattle.std.specs.declared.net.socket_addr.SocketAddr.{SocketAddr}
-use Rattle.bw_model.specs.Wire.{Frame}
-use Rattle.bw_model.specs.Replies.{Reply}
 use Rattle.bw_stream.specs.Moves.{one_more}
 use Rattle.bw_stream.specs.declared.sink.Sink.{Ghosts as Writer}
 use Rattle.bw_connections.specs.declared.connection.Connection.{Connection}
@@ -22,7 +19,7 @@ use Rattle.bw_ports.specs.Reactors.{Admission}
 use Rattle.bw_serve.specs.EventLoops.{Grows, WithholdsUnkept, InTurn, IsNew, LetsIn, KeepsEventLoop}
 use Rattle.bw_serve.specs.EventLoops.{can_go_on_in}
 use Rattle.bw_serve.specs.EventLoops.{ended_in_turn, frames_in_turn}
-use Rattle.bw_serve.specs.Guards.{FromPeer}
+use Rattle.bw_serve.specs.Guards.{FromPeer, PeerAnswers}
 use Rattle.bw_serve.specs.declared.event_loop.EventLoop.{EventLoop}
 use Rattle.bw_ports.specs.declared.reactor.Reactor.{Ghosts as ReactorGhosts}
 use Rattle.bw_ports.specs.declared.reactor.Ready.{Ready}
@@ -99,7 +96,7 @@ pub record IsShut {B L S O E : Type 0} (reactor : ReactorGhosts B L) (G : LinkGh
   pub logged : e' ≡ e
 
 module _ {B L S O E : Type 0} (reactor : ReactorGhosts B L) (G : LinkGhosts L)
-    (answers : SocketAddr → S → Frame → List Reply → S → Type 0)
+    (answers : PeerAnswers S)
     (commits : S → Result (Unit {0}) NotKept → S → Type 0) (out : Writer O) (reported : Writer E)
     (log : Bool) where
   -- A round: the reactor waited, but not at all if a connection could proceed; the links that were
@@ -129,7 +126,8 @@ module _ {B L S O E : Type 0} (reactor : ReactorGhosts B L) (G : LinkGhosts L)
         (connection_count between.connections) between served s mid o printed e logged
     -- then the server committed what these answered, and that is still how it answered; or replies
     -- that wait will not leave
-    pub kept : AnswersAll (FromPeer answers) s (all_answered (frames_in_turn G answers out reported log
+    pub kept : AnswersAll (FromPeer answers.by_peer) s
+        (all_answered (frames_in_turn G answers out reported log
         (reactor.time b') idle (connection_count between.connections) between served s mid o printed
         e logged in_turn)) s'
     pub outcome : Result (Unit {0}) NotKept

@@ -21,7 +21,8 @@ RefusesRule path number _ = ⊥
 
 -- What was read of the file is its text, which says who may come or has a first bad line that is
 -- named; or memory was refused. If the file can't be read, that error is the refusal.
-abbrev pub ListsRead : List ℕ → Result (Vec ℕ Global) IoError → Result AllowRules StartRefusal → Type 0
+abbrev pub ListsRead : List ℕ → Result (Vec ℕ Global) IoError → Result AllowRules StartRefusal
+    → Type 0
 ListsRead path (Ok text) (Ok rules) = ReadsAllowed text.items (Ok rules)
 ListsRead path (Ok text) (Err (refusals.Unfit lines)) = (number : ℕ)
     × ReadsAllowed text.items (Err (faults.Line number)) × (lines.items ≡ bad_rule_line path number)

@@ -54,7 +54,8 @@ module _ {T R W O E : Type 0} (answers : SocketAddr → T → Frame → List Rep
       (e e' : E) : Type 0 where
     pub r' : R
     pub w' : W
-    pub served : ServesTo (answers peer.address) commits reader writer out index end exit t t' peer.link.reader r'
+    pub served : ServesTo (answers peer.address) commits reader writer out index end exit t t'
+        peer.link.reader r'
         peer.link.writer w' o o'
     pub logs : Logs reported log
         (link_line peer.address end (message_count (answered_frames served.serves.answered))) e e'

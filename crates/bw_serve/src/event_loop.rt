@@ -5,6 +5,7 @@ ghost use Rattle.bw_wire.specs.Held.{longest_message_piece};
 ghost use Rattle.bw_stream.specs.Moves.{failures_after};
 ghost use Rattle.bw_exchange.specs.MeteredServers.{metered_server};
 
+use crate::end_counts::EndCounts;
 use crate::guarded::{Gate, work_guarded};
 use crate::line::print_end;
 use crate::observing::{RoundObserver, RoundReport};
@@ -41,6 +42,9 @@ pub(crate) struct EventLoop<L> {
     peer_slots: Vec<PeerSlot>,
     /// Stays at 2^64 - 1.
     ended: u64,
+    ended_by: EndCounts,
+    /// How many messages and asks were turned away; it stays at 2^64 - 1.
+    turned_away: u64,
 }
 
 impl<L: Link + Drop> EventLoop<L> {
@@ -53,7 +57,7 @@ impl<L: Link + Drop> EventLoop<L> {
     ghost use Rattle.bw_model.specs.Replies.{Reply as ModelReply};
     ghost use Rattle.bw_serve.specs.EventLoops.{ServesPlace, KeepsEventLoop, WorksCounted};
     ghost use Rattle.bw_serve.specs.EventLoops.{can_go_on_in};
-    ghost use Rattle.bw_serve.specs.Guards.{Guarded};
+    ghost use Rattle.bw_serve.specs.Guards.{guarded_answers};
     ghost use Rattle.bw_serve.specs.Observations.{LooksAtRound};
     ghost use Rattle.bw_serve.specs.Rounds.{AsksIn, NoticesAll, Welcomes};
     ghost use Rattle.bw_ports.specs.Reactors.{Admission};
@@ -71,6 +75,8 @@ impl<L: Link + Drop> EventLoop<L> {
             connections: Connections::new(alloc, places)?,
             peer_slots: empty_peer_slots(alloc, places)?,
             ended: 0,
+            ended_by: EndCounts::new(),
+            turned_away: 0,
         })
     }
 
@@ -102,6 +108,8 @@ impl<L: Link + Drop> EventLoop<L> {
             places: self.connections.places(),
             connections: self.connections.begun().saturating_sub(self.ended),
             ended: self.ended,
+            ended_by: self.ended_by,
+            turned_away: self.turned_away,
             peers: self.peer_slots.as_slice(),
         };
         observer.look(server.server(), &round);
@@ -201,7 +209,7 @@ impl<L: Link + Drop> EventLoop<L> {
     )
         requires buffer { length buffer.old ≤ longest_message_piece }
         requires peer_slots { HasPeerSlots self.old }
-        ensures in_turn { InTurn L.Link (Guarded T.answers round.now.allow.now) O.Sink E.Sink round.now.log
+        ensures in_turn { InTurn L.Link (guarded_answers T.answers round.now.allow.now) O.Sink E.Sink round.now.log
             round.now.time round.now.idle (connection_count self.old.connections) self.old self.new
             (metered_server server.old) (metered_server server.new) out.old out.new faults.old faults.new }
     {
@@ -225,7 +233,7 @@ impl<L: Link + Drop> EventLoop<L> {
         requires place { place < connection_count self.old.connections }
         requires peer_slots { HasPeerSlots self.old }
         requires buffer { length buffer.old ≤ longest_message_piece }
-        ensures { ServesPlace L.Link (Guarded T.answers round.now.allow.now) O.Sink E.Sink round.now.log
+        ensures { ServesPlace L.Link (guarded_answers T.answers round.now.allow.now) O.Sink E.Sink round.now.log
             round.now.time round.now.idle place self.old self.new (metered_server server.old)
             (metered_server server.new) out.old out.new faults.old faults.new }
     {
@@ -322,7 +330,7 @@ impl<L: Link + Drop> EventLoop<L> {
         requires place { place < connection_count self.old.connections }
         requires peer_slots { HasPeerSlots self.old }
         requires buffer { length buffer.old ≤ longest_message_piece }
-        ensures { WorksCounted L.Link (Guarded T.answers round.now.allow.now) place round.now.time result
+        ensures { WorksCounted L.Link (guarded_answers T.answers round.now.allow.now) place round.now.time result
             self.old self.new (metered_server server.old) (metered_server server.new) }
     {
         let gate = Gate {
@@ -337,12 +345,13 @@ impl<L: Link + Drop> EventLoop<L> {
             server,
             buffer,
             round.time,
+            &mut self.turned_away,
         );
         swap_at(&mut self.peer_slots, place, server);
         closed
     }
 
-    /// Prints the line of the connection at a place, which is over, counts it, and logs it if a log
+    /// Prints the line of the connection at a place, which is over, counts it by its cause, and logs it if a log
     /// is asked for. Its link is closed.
     fn end<O: Sink, E: Sink>(
         &mut self,
@@ -356,12 +365,14 @@ impl<L: Link + Drop> EventLoop<L> {
         requires { place < vec_len self.old.peer_slots }
         ensures connections { self.new.connections ≡ self.old.connections }
         ensures peer_slots { self.new.peer_slots ≡ self.old.peer_slots }
+        ensures turned_away { self.new.turned_away ≡ self.old.turned_away }
         ensures counts { CountsEnds O.Sink self.old self.new (closed ∷ []) out.old out.new }
         ensures logs { LogsAt E.Sink log place closed.end self.old.peer_slots.items faults.old
             faults.new }
     {
         print_end(self.ended, closed.end, out);
         self.ended = self.ended.saturating_add(1);
+        self.ended_by.count(closed.end);
         report_at(alloc, &self.peer_slots, place, closed.end, log, faults);
     }
 }

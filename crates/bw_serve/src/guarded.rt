@@ -1,14 +1,15 @@
 //! A server that is given only what its peer may say.
-ghost use Rattle.std.specs.Prelude.{◌≡◌, ◌<◌, ◌≤◌, [], ◌∷◌, map, length};
+ghost use Rattle.std.specs.Prelude.{◌≡◌, ◌<◌, ◌≤◌, [], ◌∷◌, fold, map, length};
 ghost use Rattle.std.specs.List.{All};
 ghost use Rattle.bw_model.specs.Wire.{Says, Asks};
 ghost use Rattle.bw_wire.specs.Frames.{message_of, asked_name, asked_number};
 ghost use Rattle.bw_wire.specs.Replies.{reply_of, HasWireNumbers};
+ghost use Rattle.bw_exchange.specs.AnsweredFrames.{answered_frames};
 ghost use Rattle.bw_exchange.specs.MeteredServers.{AnswersCounted};
 ghost use Rattle.bw_wire.specs.Held.{longest_message_piece};
 ghost use Rattle.bw_connections.specs.Places.{connection_count};
 ghost use Rattle.bw_connections.specs.Quanta.{WorksAt};
-ghost use Rattle.bw_serve.specs.Guards.{Guarded, GuardedOverCommits};
+ghost use Rattle.bw_serve.specs.Guards.{Guarded, GuardedOverCommits, is_kept_out, turning_away};
 ghost use Rattle.bw_serve.specs.GuardedServers.{metered_commits};
 ghost use Rattle.bw_serve.specs.ServedOne.{ServesTo};
 
@@ -31,22 +32,24 @@ pub(crate) struct Gate<'a> {
 }
 
 impl Gate<'_> {
-    /// Has a server answer the peer's message, or turns it away: then it is counted, and the server
-    /// only told of it.
+    /// Has a server answer the peer's message, or turns it away: then it is counted, and only
+    /// reported to the server. Returns whether it was turned away.
     fn turn<T: Turns>(
         &self,
         server: &mut Metered<T>,
         message: &Message<'_>,
         replies: &mut ArrayVec<Reply, 17>,
-    )
+    ) -> bool
         ensures answered { AnswersCounted (Guarded T.answers self.now.allow.now self.now.peer) server.old
             (Says (message_of message.now)) (map reply_of replies.new.items) server.new }
         ensures numbers { All HasWireNumbers replies.new.items }
+        ensures away { result ≡ is_kept_out self.now.allow.now self.now.peer
+            (Says (message_of message.now)) }
     {
         let name = message.name();
         if self.allow.allows(self.peer, &name) {
             server.turn(message, replies);
-            return;
+            return false;
         }
         server.count(message);
         server.note_refused(self.peer, &name);
@@ -57,24 +60,29 @@ impl Gate<'_> {
             code: Notice::TableFull,
             next: 0,
         });
+        true
     }
 
-    /// Has a server answer the peer's ask, or answers that nothing came yet.
-    fn ask<T: Turns>(&self, server: &mut Metered<T>, ask: &Ask<'_>) -> Reply
+    /// Has a server answer the peer's ask, or answers that nothing came yet. Returns whether it was
+    /// turned away, too.
+    fn ask<T: Turns>(&self, server: &mut Metered<T>, ask: &Ask<'_>) -> (Reply, bool)
         ensures answered { AnswersCounted (Guarded T.answers self.now.allow.now self.now.peer) server.old
-            (Asks (asked_name ask.now) (asked_number ask.now)) (reply_of result ∷ []) server.new }
-        ensures numbers { HasWireNumbers result }
+            (Asks (asked_name ask.now) (asked_number ask.now)) (reply_of result.0 ∷ []) server.new }
+        ensures numbers { HasWireNumbers result.0 }
+        ensures away { result.1 ≡ is_kept_out self.now.allow.now self.now.peer
+            (Asks (asked_name ask.now) (asked_number ask.now)) }
     {
         let name = ask.name();
         if self.allow.allows(self.peer, &name) {
-            return server.ask(ask);
+            return (server.ask(ask), false);
         }
-        Reply::Notice {
+        let reply = Reply::Notice {
             name,
             number: ask.number(),
             code: Notice::Next,
             next: 0,
-        }
+        };
+        (reply, true)
     }
 }
 
@@ -84,6 +92,8 @@ impl Gate<'_> {
 pub(crate) struct GuardedQuantum<'a, T> {
     pub(crate) metered: &'a mut Metered<T>,
     pub(crate) gate: Gate<'a>,
+    /// How many messages and asks were turned away; it stays at 2^64 - 1.
+    pub(crate) turned_away: u64,
 }
 
 impl<T: Turns> Turns for GuardedQuantum<'_, T> {
@@ -97,11 +107,17 @@ impl<T: Turns> Turns for GuardedQuantum<'_, T> {
     ghost commits = { CommitsNothing };
 
     fn turn(&mut self, message: &Message<'_>, replies: &mut ArrayVec<Reply, 17>) {
-        self.gate.turn(self.metered, message, replies);
+        if self.gate.turn(self.metered, message, replies) {
+            self.turned_away = self.turned_away.saturating_add(1);
+        }
     }
 
     fn ask(&mut self, ask: &Ask<'_>) -> Reply {
-        self.gate.ask(self.metered, ask)
+        let (reply, is_away) = self.gate.ask(self.metered, ask);
+        if is_away {
+            self.turned_away = self.turned_away.saturating_add(1);
+        }
+        reply
     }
 
     fn commit(&mut self) -> Result<(), NotKept> {
@@ -127,11 +143,11 @@ impl<T: Turns> Turns for GuardedExchange<'_, T> {
     ghost commits = { CommitsInExchange T.commits };
 
     fn turn(&mut self, message: &Message<'_>, replies: &mut ArrayVec<Reply, 17>) {
-        self.gate.turn(self.metered, message, replies);
+        let _is_away = self.gate.turn(self.metered, message, replies);
     }
 
     fn ask(&mut self, ask: &Ask<'_>) -> Reply {
-        self.gate.ask(self.metered, ask)
+        self.gate.ask(self.metered, ask).0
     }
 
     fn commit(&mut self) -> Result<(), NotKept> {
@@ -139,7 +155,8 @@ impl<T: Turns> Turns for GuardedExchange<'_, T> {
     }
 }
 
-/// One quantum of the connection at a place, whose frames come from the gate's peer.
+/// One quantum of the connection at a place, whose frames come from the gate's peer; those that are
+/// turned away are counted.
 pub(crate) fn work_guarded<L: Link + Drop, T: Turns>(
     connections: &mut Connections<L>,
     place: usize,
@@ -147,17 +164,23 @@ pub(crate) fn work_guarded<L: Link + Drop, T: Turns>(
     server: &mut Metered<T>,
     buffer: &mut [u8],
     now: u64,
+    turned_away: &mut u64,
 ) -> Option<Closed<L>>
     requires place { place < connection_count connections.old }
     requires buffer { length buffer.old ≤ longest_message_piece }
-    ensures { WorksAt L.Link (AnswersCounted (Guarded T.answers gate.now.allow.now gate.now.peer)) place now
-        result connections.old connections.new server.old server.new }
+    ensures { (works : WorksAt L.Link (AnswersCounted (Guarded T.answers gate.now.allow.now gate.now.peer))
+        place now result connections.old connections.new server.old server.new)
+        × (turned_away.new ≡ fold (turning_away (is_kept_out gate.now.allow.now gate.now.peer))
+        turned_away.old (answered_frames works.answered)) }
 {
     let mut guarded = GuardedQuantum {
         metered: server,
         gate: *gate,
+        turned_away: *turned_away,
     };
-    connections.work(place, &mut guarded, buffer, now)
+    let closed = connections.work(place, &mut guarded, buffer, now);
+    *turned_away = guarded.turned_away;
+    closed
 }
 
 /// Serves one exchange with the gate's peer, as `serve_link` does.

@@ -27,7 +27,7 @@ pub fn law_held_runs<S: TakeStore, J: Journal>()
 
 /// What a server answered that is given only what its peers may say is a run of that server, without
 /// what was turned away: that was answered `TableFull`, or `Next`, with next 0, and its name isn't
-/// allowed from its peer. Where all is allowed, all of it is a run.
+/// allowed from some peer. Where all is allowed, all of it is a run.
 pub fn law_guarded<T: Turns>()
     ensures { GuardedRunsAreRuns T.answers T.committed }
 {}

@@ -6,6 +6,7 @@
 //! took arrives.
 #![tactic(auto)]
 
+mod end_counts;
 mod event_loop;
 mod filtered_link;
 mod filtered_network;
@@ -28,6 +29,7 @@ mod serving;
 mod serving_in_turn;
 mod serving_one;
 
+pub use end_counts::EndCounts;
 pub use filtered_link::FilteredLink;
 pub use filtered_network::{FilteredNetwork, ServeChoice, ServeRules};
 pub use filtered_peers::FilteredPeers;

@@ -2,6 +2,7 @@
 ghost use Rattle.std.specs.Prelude.{◌≡◌};
 ghost use Rattle.bw_serve.specs.declared.observing.RoundReport.{RoundReport};
 
+use crate::end_counts::EndCounts;
 use crate::peer_slot::PeerSlot;
 
 /// What an event loop is at the end of a round.
@@ -13,6 +14,10 @@ pub struct RoundReport<'a> {
     pub connections: u64,
     /// How many have ended.
     pub ended: u64,
+    /// How many of these by each cause.
+    pub ended_by: EndCounts,
+    /// How many messages and asks were turned away, since their names aren't taken from their peers.
+    pub turned_away: u64,
     /// The peer of each place, or the last one that it had.
     pub peers: &'a [PeerSlot],
 }

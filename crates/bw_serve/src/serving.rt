@@ -7,7 +7,7 @@ ghost use Rattle.bw_serve.specs.EventLoops.{HasPeerSlots};
 ghost use Rattle.bw_serve.specs.Observations.{ObservesRun};
 ghost use Rattle.bw_serve.specs.Rounds.{IsShut, ServesRoundTo, goes_on_after, patience_of};
 ghost use Rattle.bw_serve.specs.EventLoopRuns.{RunsEventLoop};
-ghost use Rattle.bw_serve.specs.Guards.{Guarded};
+ghost use Rattle.bw_serve.specs.Guards.{guarded_answers};
 ghost use Rattle.bw_exchange.specs.MeteredServers.{metered_server};
 
 use crate::event_loop::{EventLoop, Round, Shut};
@@ -68,7 +68,7 @@ pub fn run_event_loop<B: Reactor, T: Turns, O: Sink, E: Sink>(
 ) -> Exit
     requires { T.committed (metered_server server.old) }
     // A round: a wait of 250 ms at most, new peers at free places, a quantum a place, a commit.
-    ensures { RunsEventLoop B.Reactor B.Link.Link (Guarded T.answers allow.now) T.commits O.Sink E.Sink log
+    ensures { RunsEventLoop B.Reactor B.Link.Link (guarded_answers T.answers allow.now) T.commits O.Sink E.Sink log
         bounds.now result (metered_server server.old) (metered_server server.new) reactor.old
         reactor.new out.old out.new faults.old faults.new }
 {
@@ -91,11 +91,11 @@ pub fn run_observed<B: Reactor, T: Turns, V: RoundObserver<T>, O: Sink, E: Sink>
     faults: &mut E,
 ) -> Exit
     requires { T.committed (metered_server server.old) }
-    ensures runs { RunsEventLoop B.Reactor B.Link.Link (Guarded T.answers allow.now) T.commits O.Sink E.Sink
+    ensures runs { RunsEventLoop B.Reactor B.Link.Link (guarded_answers T.answers allow.now) T.commits O.Sink E.Sink
         log bounds.now result (metered_server server.old) (metered_server server.new) reactor.old
         reactor.new out.old out.new faults.old faults.new }
     // Nothing else happens to the observer.
-    ensures observed { ObservesRun B.Reactor B.Link.Link (Guarded T.answers allow.now) T.commits O.Sink
+    ensures observed { ObservesRun B.Reactor B.Link.Link (guarded_answers T.answers allow.now) T.commits O.Sink
         E.Sink log V.looks bounds.now result (metered_server server.old) (metered_server server.new) reactor.old
         reactor.new out.old out.new faults.old faults.new observer.old observer.new }
 {
@@ -172,7 +172,7 @@ fn serve_round<B: Reactor, T: Turns, O: Sink, E: Sink>(
     requires committed { T.committed (metered_server server.old) }
     requires begun { begun_of event_loop.old.connections ≤ bounds.now.exchanges }
     requires peer_slots { HasPeerSlots event_loop.old }
-    ensures round { IfOk result (λ kept. ServesRoundTo B.Reactor B.Link.Link (Guarded T.answers allow.now)
+    ensures round { IfOk result (λ kept. ServesRoundTo B.Reactor B.Link.Link (guarded_answers T.answers allow.now)
         T.commits O.Sink E.Sink log kept bounds.now.idle bounds.now.exchanges event_loop.old
         event_loop.new (metered_server server.old) (metered_server server.new) reactor.old reactor.new out.old out.new faults.old faults.new) }
     ensures shut { OnErr result (IsShut B.Reactor B.Link.Link event_loop.old event_loop.new

@@ -13,7 +13,7 @@ use Rattle.bw_ports.specs.declared.link.Link.{Ghosts as LinkGhosts}
 use Rattle.bw_ports.specs.declared.reactor.Reactor.{Ghosts as ReactorGhosts}
 use Rattle.bw_operators.specs.AllowLists.{AllowRules}
 use Rattle.bw_operators.specs.declared.port.StatusPort.{Ghosts as PortGhosts}
-use Rattle.bw_serve.specs.Guards.{FromPeer, Guarded}
+use Rattle.bw_serve.specs.Guards.{FromPeer, Guarded, guarded_answers}
 use Rattle.bw_serve.specs.Observations.{ObservesRun, left_in_run}
 use Rattle.bw_serve.specs.EventLoopRuns.{RunsEventLoop}
 use Rattle.bw_serve.specs.declared.hosting.Hosting.{Hosting}
@@ -74,26 +74,32 @@ module _ {T : Type 0} (answers : T → Frame → List Reply → T → Type 0)
     -- a run of the server in one that counts, each round of which was shown
     abbrev RunsShown : Hosting → Exit → T → T → B → B → O → O → E → E → P → Option ℕ → Type 0
     RunsShown hosting exit s s' b b' o o' e e' opened takes =
-        (run : RunsEventLoop reactor G (Guarded answers hosting.allow.now) commits out reported hosting.log hosting.bounds exit s s' b b' o o' e e')
+        (run : RunsEventLoop reactor G (guarded_answers answers hosting.allow.now) commits out reported hosting.log hosting.bounds exit
+        s s' b
+        b' o o' e e')
         × ShowsEachRound answers holds hosting.allow.now port link opened takes s (left_in_run reactor G
-        (Guarded answers hosting.allow.now) commits out reported
+        (guarded_answers answers hosting.allow.now) commits out reported
         hosting.log hosting.bounds exit s s' b b' o o' e e' run)
 
     runs_shown : (hosting : Hosting) (exit : Exit) (t t' : Tallied T) (b b' : B) (o o' : O) (e e' : E)
         (v v' : StatusObserver P K) (opened : P) (takes : Option ℕ) → t.tallies ≡ none_tallied →
         BeginsToShow opened takes hosting.allow.now v →
-        RunsEventLoop reactor G (Guarded CountsTurn hosting.allow.now) CountsCommit out reported hosting.log hosting.bounds exit t t' b b' o o' e e' →
-        ObservesRun reactor G (Guarded CountsTurn hosting.allow.now) CountsCommit out reported hosting.log (Looks holds port link) hosting.bounds exit
+        RunsEventLoop reactor G (guarded_answers CountsTurn hosting.allow.now) CountsCommit out reported hosting.log hosting.bounds
+        exit t t' b
+        b' o o' e e' →
+        ObservesRun reactor G (guarded_answers CountsTurn hosting.allow.now) CountsCommit out reported hosting.log (Looks holds port link)
+        hosting.bounds exit
         t t' b b' o o' e e' v v' →
         RunsShown hosting exit (server_in t) (server_in t') b b' o o' e e' opened takes
     runs_shown hosting exit t t' b b' o o' e e' v v' opened takes none begins run seen =
-        let both = run_seen server_in (Guarded CountsTurn hosting.allow.now) (Guarded answers hosting.allow.now)
-        (turn_in hosting.allow.now) CountsCommit commits commit_in (HasCounted hosting.allow.now) reactor G out reported
+        let both = run_seen server_in (guarded_answers CountsTurn hosting.allow.now) (guarded_answers answers hosting.allow.now)
+        (turn_in hosting.allow.now) refl CountsCommit commits commit_in (HasCounted hosting.allow.now) reactor G out reported
         hosting.log (Looks holds port link) hosting.bounds exit t t' b b' o o' e e' v v'
         (counts_allowed hosting.allow.now t none) run seen in (
           both.0,
           record {
-            answered_so = run_answers G (Guarded answers hosting.allow.now) out reported hosting.log reactor commits hosting.bounds exit
+            answered_so = run_answers G (guarded_answers answers hosting.allow.now) out reported hosting.log reactor commits
+                hosting.bounds exit
                 (server_in t) (server_in t') b b' o o' e e' both.0;
             before = v;
             begins = begins;
@@ -107,8 +113,11 @@ module _ {T : Type 0} (answers : T → Frame → List Reply → T → Type 0)
         (e e' : E) (v v' : StatusObserver P K) (opened : P) (takes : Option ℕ) → t.server ≡ server →
         t.tallies ≡ none_tallied →
         BeginsToShow opened takes hosting.allow.now v →
-        RunsEventLoop reactor G (Guarded CountsTurn hosting.allow.now) CountsCommit out reported hosting.log hosting.bounds exit t t' b b' o o' e e' →
-        ObservesRun reactor G (Guarded CountsTurn hosting.allow.now) CountsCommit out reported hosting.log (Looks holds port link) hosting.bounds exit
+        RunsEventLoop reactor G (guarded_answers CountsTurn hosting.allow.now) CountsCommit out reported hosting.log hosting.bounds
+        exit t t' b
+        b' o o' e e' →
+        ObservesRun reactor G (guarded_answers CountsTurn hosting.allow.now) CountsCommit out reported hosting.log (Looks holds port link)
+        hosting.bounds exit
         t t' b b' o o' e e' v v' →
         RunsShown hosting exit server t'.server b b' o o' e e' opened takes
     counted_shown server hosting exit t t' b b' o o' e e' v v' opened takes is none begins run seen =

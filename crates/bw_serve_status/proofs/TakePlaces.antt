@@ -23,13 +23,15 @@ replied_here name ts i t less is same =
     ∙ rw (ap (λ y. bytes_eq y.name name) (sym is) ∙ same) (ap (λ y. (y.refused, y.delayed)) (sym is))
 
 -- the peer at a place isn't the name's
-pub peer_later : (rules : AllowRules) (name : List ℕ) (ps : List PeerSlot) (i : ℕ) (p : PeerSlot) → i < length ps → p ≡ get_or ps i p →
+pub peer_later : (rules : AllowRules) (name : List ℕ) (ps : List PeerSlot) (i : ℕ) (p : PeerSlot) → i < length ps → p ≡
+    get_or ps i p →
     is_peer_of rules name p ≡ false → peer_of rules name (drop i ps) ≡ peer_of rules name (drop (i + 1) ps)
 peer_later rules name ps i p less is other =
     at_drop_more (peer_of rules name) ps i p less ∙ rw (ap (is_peer_of rules name) (sym is) ∙ other) refl
 
 -- it is
-pub peer_here : (rules : AllowRules) (name : List ℕ) (ps : List PeerSlot) (i : ℕ) (p : PeerSlot) → i < length ps → p ≡ get_or ps i p →
+pub peer_here : (rules : AllowRules) (name : List ℕ) (ps : List PeerSlot) (i : ℕ) (p : PeerSlot) → i < length ps → p ≡ get_or
+    ps i p →
     is_peer_of rules name p ≡ true → peer_of rules name (drop i ps) ≡ Some p.address
 peer_here rules name ps i p less is same =
     at_drop_more (peer_of rules name) ps i p less

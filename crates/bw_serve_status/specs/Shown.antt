@@ -14,7 +14,7 @@ use Rattle.bw_operators.specs.declared.port.StatusPort.{Ghosts as PortGhosts}
 use Rattle.bw_operators.specs.declared.port.StatusSetup.{Ghosts as StatusGhosts}
 use Rattle.bw_serve.specs.Beginnings.{AsksOutside, Calls, ReportsUnbound, counted_calls, reactor_calls}
 use Rattle.bw_serve.specs.EventLoopRuns.{RunsEventLoop, answered_in_loop}
-use Rattle.bw_serve.specs.Guards.{FromPeer, Guarded}
+use Rattle.bw_serve.specs.Guards.{FromPeer, Guarded, guarded_answers}
 use Rattle.bw_serve.specs.Hostings.{ServesInWay, WayToServe}
 use Rattle.bw_serve.specs.Observations.{left_in_run}
 use Rattle.bw_serve.specs.Openings.{opening_lines}
@@ -47,13 +47,15 @@ module _ {T N B L O E P K : Type 0} (answers : T → Frame → List Reply → T 
   abbrev pub way_shown : Hosting → Option ℕ → P → WayToServe T B O E
   way_shown hosting takes opened_port = record {
     runs = λ ended t t' b b' o o' e e'. (run : RunsEventLoop reactor link
-        (Guarded answers hosting.allow.now) commits out reported hosting.log hosting.bounds ended t t' b b' o
+        (guarded_answers answers hosting.allow.now) commits out reported hosting.log hosting.bounds ended
+        t t' b b' o
         o' e e')
         × ShowsEachRound answers holds hosting.allow.now side.port side.link opened_port takes t
-        (left_in_run reactor link (Guarded answers hosting.allow.now) commits out reported hosting.log
+        (left_in_run reactor link (guarded_answers answers hosting.allow.now) commits out reported hosting.log
         hosting.bounds ended t t' b b' o o' e e' run);
     answered = λ ended t t' b b' o o' e e' ran. answered_in_loop reactor link
-        (Guarded answers hosting.allow.now) commits out reported hosting.log hosting.bounds ended t t' b b' o
+        (guarded_answers answers hosting.allow.now) commits out reported hosting.log hosting.bounds ended
+        t t' b b' o
         o' e e' ran.0;
   }
 

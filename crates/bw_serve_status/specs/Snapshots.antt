@@ -3,6 +3,7 @@ use Rattle.std.specs.Prelude.{◌≡◌, ◌==◌, ◌&&◌, ◌||◌, Bool, Lis
 use Rattle.std.specs.Prelude.{unwrap_or, if◌then◌else◌}
 use Rattle.std.specs.List.{list_any}
 use Rattle.bw_model.specs.Turn.{most_takes}
+use Rattle.bw_serve.specs.CountedEnds.{end_counts}
 use Rattle.bw_serve.specs.declared.observing.RoundReport.{RoundReport}
 use Rattle.bw_status.specs.declared.snapshot.Health.{Health}
 use Rattle.bw_status.specs.declared.snapshot.Health.TheVariants.{Ready, Folder, Full, Store}
@@ -39,6 +40,8 @@ pub record CopiesCounts (tally : Tally) (round : RoundReport) (around : Surround
   pub connections : s.connections ≡ round.connections
   pub places : s.places ≡ round.places
   pub ended : s.ended ≡ round.ended
+  pub ended_by : map kind_and_count s.ended_by.items ≡ end_counts round.ended_by
+  pub turned_away : s.turned_away ≡ round.turned_away
   pub bytes : s.bytes ≡ tally.bytes
   pub memory : s.memory ≡ around.memory
   pub lines_dropped : s.lines_dropped ≡ around.lines_dropped

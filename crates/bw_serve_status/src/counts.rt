@@ -1,8 +1,10 @@
 //! Counts under their names.
 ghost use Rattle.std.specs.Prelude.{◌≡◌, ◌++◌, ◌∷◌, [], IfOk, OnOk, map, slice_index_or};
+ghost use Rattle.bw_serve.specs.CountedEnds.{end_counts};
 ghost use Rattle.bw_serve_status.specs.CountNames.{kind_and_count, message_counts, notice_counts};
 ghost use Rattle.bw_serve_status.specs.CountNames.{verdict_counts};
 
+use bw_serve::EndCounts;
 use bw_status::Count;
 use std::alloc::{AllocError, Global};
 
@@ -67,6 +69,27 @@ pub(crate) fn notice_counts(alloc: Global, notices: &[u64]) -> Result<Vec<Count>
     Ok(counts)
 }
 
+/// Connections that ended, by the names of their ends.
+///
+/// # Errors
+/// `AllocError` if memory was refused.
+#[tactic(auto, using(std::proofs::lemmas::List::append_assoc))]
+pub(crate) fn end_counts(alloc: Global, ends: EndCounts) -> Result<Vec<Count>, AllocError>
+    ensures { IfOk result (λ counts. map kind_and_count counts.items ≡ end_counts ends) }
+{
+    let mut counts = Vec::new(alloc);
+    put_count(&mut counts, "Bye", ends.bye)?;
+    put_count(&mut counts, "EndOfInput", ends.end_of_input)?;
+    put_count(&mut counts, "BadFrame", ends.bad_frame)?;
+    put_count(&mut counts, "ReadFault", ends.read_fault)?;
+    put_count(&mut counts, "WriteFault", ends.write_fault)?;
+    put_count(&mut counts, "NotKept", ends.not_kept)?;
+    put_count(&mut counts, "TurnLimit", ends.turn_limit)?;
+    put_count(&mut counts, "Memory", ends.memory)?;
+    put_count(&mut counts, "Idle", ends.idle)?;
+    Ok(counts)
+}
+
 /// Appends the count at a place, or 0, under a name.
 fn put(
     counts: &mut Vec<Count>,
@@ -77,7 +100,14 @@ fn put(
     ensures { OnOk result (map kind_and_count counts.new.items
         ≡ map kind_and_count counts.old.items ++ (kind.now, slice_index_or numbers.now place 0) ∷ []) }
 {
-    let count = numbers.get(place).copied().unwrap_or(0);
+    put_count(counts, kind, numbers.get(place).copied().unwrap_or(0))
+}
+
+/// Appends a count under a name.
+fn put_count(counts: &mut Vec<Count>, kind: &'static str, count: u64) -> Result<(), AllocError>
+    ensures { OnOk result (map kind_and_count counts.new.items
+        ≡ map kind_and_count counts.old.items ++ (kind.now, count) ∷ []) }
+{
     counts.push(Count { kind, count })?;
     Ok(())
 }

@@ -5,7 +5,7 @@ ghost use Rattle.std.specs.List.{list_any};
 ghost use Rattle.bw_model.specs.Book.{Book};
 ghost use Rattle.bw_serve_status.specs.Snapshots.{CopiesCounts, finds_place, health_of, is_idle};
 
-use crate::counts::{message_counts, notice_counts, verdict_counts};
+use crate::counts::{end_counts, message_counts, notice_counts, verdict_counts};
 use crate::growth::Growth;
 use crate::name_tally::NAMES;
 use crate::takes::takes_of;
@@ -79,6 +79,8 @@ pub(crate) fn snapshot_of<T: HasTable>(
         connections: round.connections,
         places: round.places as u64,
         ended: round.ended,
+        ended_by: end_counts(alloc, round.ended_by)?,
+        turned_away: round.turned_away,
         bytes: tallies.bytes(),
         memory: around.memory,
         lines_dropped: around.lines_dropped,

@@ -74,7 +74,7 @@ impl<T: Turns> Turns for Tallied<T> {
         self.server.commit()
     }
 
-    /// Tells the server. What was turned away before it came isn't counted here.
+    /// Passes it on to the server. What was turned away before it came isn't counted here.
     fn note_refused(&mut self, peer: SocketAddr, name: &Name) {
         self.server.note_refused(peer, name);
     }

@@ -63,6 +63,11 @@ take_metrics s = metric_head (codes "bwingest_takes") (codes "Takes by state.") 
     s.resumed
     ++ left_out_metric s
 
+-- how many connections ended, by cause
+abbrev pub ended_metric : Snapshot → List ℕ
+ended_metric s = family (codes "bwingest_connections_ended_total")
+    (codes "Connections that ended, by cause.") (codes "cause") s.ended_by.items
+
 -- the connections
 abbrev pub connection_metrics : Snapshot → List ℕ
 connection_metrics s =
@@ -70,8 +75,7 @@ connection_metrics s =
     s.connections
     ++ metric (codes "bwingest_connection_places") (codes "Connections there may be.")
     (codes "gauge") s.places
-    ++ metric (codes "bwingest_connections_ended_total") (codes "Connections that ended.")
-    (codes "counter") s.ended
+    ++ ended_metric s
 
 -- how many messages and asks came
 abbrev pub message_metric : Snapshot → List ℕ
@@ -88,12 +92,18 @@ abbrev pub notice_metric : Snapshot → List ℕ
 notice_metric s = family (codes "bwingest_notices_total") (codes "Notices sent.") (codes "notice")
     s.notices.items
 
+-- what was turned away
+abbrev pub turned_away_metric : Snapshot → List ℕ
+turned_away_metric s = metric (codes "bwingest_turned_away_total")
+    (codes "Messages and asks whose names aren't taken from their peers.") (codes "counter")
+    s.turned_away
+
 -- what came and what was replied
 abbrev pub reply_metrics : Snapshot → List ℕ
 reply_metrics s =
     metric (codes "bwingest_message_bytes_total") (codes "Bytes of messages.") (codes "counter")
     s.bytes
-    ++ message_metric s ++ verdict_metric s ++ notice_metric s
+    ++ message_metric s ++ verdict_metric s ++ notice_metric s ++ turned_away_metric s
 
 -- the process's memory, if it is known
 abbrev pub memory_metric : Option ℕ → List ℕ

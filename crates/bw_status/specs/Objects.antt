@@ -1,6 +1,6 @@
 -- What a server is doing, as JSON. The members of an object stand in the order of their keys, as they
 -- are printed.
-use Rattle.std.specs.Prelude.{ℕ, List, map, Option, Some, None, codes, string_bytes}
+use Rattle.std.specs.Prelude.{ℕ, List, fold, map, Option, Some, None, codes, string_bytes}
 use Rattle.std.specs.Net.Text.{socket_text}
 use Rattle.std.specs.declared.net.socket_addr.SocketAddr.{SocketAddr}
 use Rattle.serde_json.specs.Data.{Data, null, number, string, unsigned, array, object, member}
@@ -94,11 +94,12 @@ left_out_data n = object
     (member (codes "name") (string (string_bytes n.name)) no_members))
 
 -- a server, with the members that are lists, or aren't always known
-abbrev pub snapshot_object : Snapshot → Data → Data → Data → Data → Data → Data → Data
-snapshot_object s left_out memory messages notices takes verdicts = object
+abbrev pub snapshot_object : Snapshot → Data → Data → Data → Data → Data → Data → Data → Data
+snapshot_object s ended_by left_out memory messages notices takes verdicts = object
     (member (codes "bytes") (unsigned_data s.bytes)
     (member (codes "connections") (unsigned_data s.connections)
     (member (codes "ended") (unsigned_data s.ended)
+    (member (codes "ended_by") ended_by
     (member (codes "health") (string (health_text s.health))
     (member (codes "left_out") left_out
     (member (codes "lines_dropped") (unsigned_data s.lines_dropped)
@@ -109,12 +110,18 @@ snapshot_object s left_out memory messages notices takes verdicts = object
     (member (codes "resumed") (unsigned_data s.resumed)
     (member (codes "since") (unsigned_data s.since)
     (member (codes "takes") takes
+    (member (codes "turned_away") (unsigned_data s.turned_away)
     (member (codes "uptime_ms") (unsigned_data s.uptime_ms)
-    (member (codes "verdicts") verdicts no_members)))))))))))))))
+    (member (codes "verdicts") verdicts no_members)))))))))))))))))
 
 -- how often each of these happened
 abbrev pub counts_data : List Count → Data
 counts_data counts = array (items_of (map count_data counts))
+
+-- these counts as an object, with a member for each kind
+abbrev pub kinds_data : List Count → Data
+kinds_data counts =
+    object (fold (λ members c. put c.kind.now (unsigned_data c.count) members) no_members counts)
 
 -- these names are left out
 abbrev pub left_outs_data : List LeftOutName → Data
@@ -122,8 +129,8 @@ left_outs_data names = array (items_of (map left_out_data names))
 
 -- what a server is doing
 abbrev pub snapshot_data : Snapshot → Data
-snapshot_data s = snapshot_object s (left_outs_data s.left_out.items) (unsigned_or_null s.memory)
-    (counts_data s.messages.items) (counts_data s.notices.items)
+snapshot_data s = snapshot_object s (kinds_data s.ended_by.items) (left_outs_data s.left_out.items)
+    (unsigned_or_null s.memory) (counts_data s.messages.items) (counts_data s.notices.items)
     (array (items_of (map take_data s.takes.items))) (counts_data s.verdicts.items)
 
 -- members with those that are lists
@@ -142,10 +149,13 @@ with_server s members = put (codes "health") (string (health_text s.health))
     (put (codes "since") (unsigned_data s.since)
     (put (codes "uptime_ms") (unsigned_data s.uptime_ms) members))))
 
--- members with the counts of connections, of takes that were resumed and of bytes
+-- members with the counts of connections, of takes that were resumed, of bytes, and of what was turned
+-- away
 abbrev pub with_links : Snapshot → Members → Members
 with_links s members = put (codes "bytes") (unsigned_data s.bytes)
     (put (codes "connections") (unsigned_data s.connections)
     (put (codes "ended") (unsigned_data s.ended)
+    (put (codes "ended_by") (kinds_data s.ended_by.items)
     (put (codes "places") (unsigned_data s.places)
-    (put (codes "resumed") (unsigned_data s.resumed) members))))
+    (put (codes "resumed") (unsigned_data s.resumed)
+    (put (codes "turned_away") (unsigned_data s.turned_away) members))))))

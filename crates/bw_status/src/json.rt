@@ -5,7 +5,7 @@ ghost use Rattle.serde_json.specs.Read.{read};
 ghost use Rattle.serde_json.specs.View.{items_of, members_view, view};
 ghost use Rattle.serde_json.specs.Written.{compact_text};
 ghost use Rattle.bw_status.specs.Objects.{count_data, left_out_data, snapshot_data, take_data};
-ghost use Rattle.bw_status.specs.Objects.{left_outs_data};
+ghost use Rattle.bw_status.specs.Objects.{kinds_data, left_outs_data};
 ghost use Rattle.bw_status.specs.Objects.{with_lists, with_server, with_links};
 
 use crate::json_take::{number_value, take_value};
@@ -100,7 +100,8 @@ fn put_server(
     )
 }
 
-/// Puts the counts of connections, of takes that were resumed and of bytes into an object.
+/// Puts the counts of connections, of takes that were resumed, of bytes, and of what was turned away
+/// into an object.
 fn put_links(
     alloc: Global,
     members: &mut Map<String, Value>,
@@ -109,8 +110,20 @@ fn put_links(
     ensures { OnOk result (members_view members.new.entries
         ≡ with_links snapshot.now (members_view members.old.entries)) }
 {
+    put(
+        members,
+        alloc,
+        "turned_away",
+        Value::from(snapshot.turned_away),
+    )?;
     put(members, alloc, "resumed", Value::from(snapshot.resumed))?;
     put(members, alloc, "places", Value::from(snapshot.places))?;
+    put(
+        members,
+        alloc,
+        "ended_by",
+        kinds_value(alloc, snapshot.ended_by.as_slice())?,
+    )?;
     put(members, alloc, "ended", Value::from(snapshot.ended))?;
     put(
         members,
@@ -158,6 +171,17 @@ fn counts_value(alloc: Global, counts: &[Count]) -> Result<Value, AllocError>
         values.push(count_value(alloc, count)?)?;
     }
     Ok(Value::Array(values))
+}
+
+/// The counts as an object, with a member for each kind.
+fn kinds_value(alloc: Global, counts: &[Count]) -> Result<Value, AllocError>
+    ensures { IfOk result (λ v. view v ≡ kinds_data counts.now) }
+{
+    let mut members = Map::new(alloc);
+    for count in counts {
+        put(&mut members, alloc, count.kind, Value::from(count.count))?;
+    }
+    Ok(Value::Object(members))
 }
 
 fn count_value(alloc: Global, count: &Count) -> Result<Value, AllocError>

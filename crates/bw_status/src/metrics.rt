@@ -1,11 +1,11 @@
 //! Metrics in Prometheus' text format, version 0.0.4.
 ghost use Rattle.std.specs.Prelude.{◌≡◌, ◌++◌, OnOk};
 ghost use Rattle.std.specs.List.{count_by};
-ghost use Rattle.bw_status.specs.Metrics.{connection_metrics, in_state, left_out_metric, memory_metric};
-ghost use Rattle.bw_status.specs.Metrics.{message_metric, metrics};
+ghost use Rattle.bw_status.specs.Metrics.{connection_metrics, ended_metric, in_state, left_out_metric};
+ghost use Rattle.bw_status.specs.Metrics.{memory_metric, message_metric, metrics};
 ghost use Rattle.bw_status.specs.Metrics.{notice_metric, process_metrics, reply_metrics};
 ghost use Rattle.bw_status.specs.Metrics.{state_line, state_rank};
-ghost use Rattle.bw_status.specs.Metrics.{take_metrics, verdict_metric};
+ghost use Rattle.bw_status.specs.Metrics.{take_metrics, turned_away_metric, verdict_metric};
 
 use crate::metric::{put_family, put_head, put_line, put_metric};
 use crate::snapshot::{ShownState, Snapshot, TakeStatus, take_state_word};
@@ -74,13 +74,16 @@ fn put_connections(out: &mut Vec<u8>, snapshot: &Snapshot) -> Result<(), AllocEr
         "gauge",
         snapshot.places,
     )?;
-    put_metric(
-        out,
-        "bwingest_connections_ended_total",
-        "Connections that ended.",
-        "counter",
-        snapshot.ended,
-    )
+    put_ended(out, snapshot)
+}
+
+/// Appends how many connections ended, by cause.
+fn put_ended(out: &mut Vec<u8>, snapshot: &Snapshot) -> Result<(), AllocError>
+    ensures { OnOk result (out.new.items ≡ out.old.items ++ ended_metric snapshot.now) }
+{
+    let name = "bwingest_connections_ended_total";
+    let help = "Connections that ended, by cause.";
+    put_family(out, name, help, "cause", snapshot.ended_by.as_slice())
 }
 
 /// Appends what came and what was replied.
@@ -97,7 +100,8 @@ fn put_replies(out: &mut Vec<u8>, snapshot: &Snapshot) -> Result<(), AllocError>
     )?;
     put_messages(out, snapshot)?;
     put_verdicts(out, snapshot)?;
-    put_notices(out, snapshot)
+    put_notices(out, snapshot)?;
+    put_turned_away(out, snapshot)
 }
 
 /// Appends how many messages and asks came.
@@ -122,6 +126,19 @@ fn put_notices(out: &mut Vec<u8>, snapshot: &Snapshot) -> Result<(), AllocError>
 {
     let (name, help) = ("bwingest_notices_total", "Notices sent.");
     put_family(out, name, help, "notice", snapshot.notices.as_slice())
+}
+
+/// Appends how many messages and asks were turned away.
+fn put_turned_away(out: &mut Vec<u8>, snapshot: &Snapshot) -> Result<(), AllocError>
+    ensures { OnOk result (out.new.items ≡ out.old.items ++ turned_away_metric snapshot.now) }
+{
+    put_metric(
+        out,
+        "bwingest_turned_away_total",
+        "Messages and asks whose names aren't taken from their peers.",
+        "counter",
+        snapshot.turned_away,
+    )
 }
 
 /// Appends what is reported of the process.

@@ -106,6 +106,10 @@ pub struct Snapshot {
     pub places: u64,
     /// How many have ended.
     pub ended: u64,
+    /// How many of these by each cause, all causes once.
+    pub ended_by: Vec<Count>,
+    /// How many messages and asks were turned away, since their names aren't taken from their peers.
+    pub turned_away: u64,
     /// How many bytes of messages' bodies came.
     pub bytes: u64,
     /// How much memory the process uses, in bytes, if that is known.

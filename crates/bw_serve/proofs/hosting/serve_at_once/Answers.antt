@@ -1,6 +1,6 @@
 use Rattle.std.proofs.Common.{inl, inr, refl, rules}
 use Rattle.bw_serve.proofs.AnsweredRuns.{by_loop}
-use Rattle.bw_serve.specs.Guards.{Guarded}
+use Rattle.bw_serve.specs.Guards.{guarded_answers}
 use Rattle.bw_serve.proofs.hosting.serve_at_once.Goals as goal
 
 pub returns-in-Err-print_opening : goal.returns-in-Err-print_opening
@@ -30,7 +30,8 @@ returns g c =
             ended = ran.result;
             logged = ran.new.faults;
             run = run;
-            answers_all = by_loop (Guarded g.T.Turns.answers c.args.hosting.now.allow.now) g.T.Turns.commits g.N.Reactor.Reactor g.N.Reactor.Link.Link g.O.Sink
+            answers_all = by_loop (guarded_answers g.T.Turns.answers c.args.hosting.now.allow.now) g.T.Turns.commits g.N.Reactor.Reactor
+                g.N.Reactor.Link.Link g.O.Sink
                 g.E.Sink c.args.hosting.now.log c.args.hosting.now.bounds ran.result c.args.opened.server
                 ran.new.server.server c.in-Ok.reactor ran.new.reactor c.print_opening.new.out ran.new.out
                 c.args.faults.now ran.new.faults run;

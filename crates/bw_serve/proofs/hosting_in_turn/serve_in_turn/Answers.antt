@@ -30,7 +30,8 @@ returns g c =
             ended = ran.result;
             logged = ran.new.faults;
             run = run;
-            answers_all = by_run (GuardedOverCommits g.T.Turns.answers g.T.Turns.committed c.args.serving.now.allow.now) g.T.Turns.commits g.N.Peers.Peers g.N.Peers.Reader.Source
+            answers_all = by_run (GuardedOverCommits g.T.Turns.answers g.T.Turns.committed c.args.serving.now.allow.now)
+                g.T.Turns.commits g.N.Peers.Peers g.N.Peers.Reader.Source
                 g.N.Peers.Writer.Sink g.O.Sink g.E.Sink c.args.serving.now.log c.args.serving.now.exchanges ran.result
                 c.args.opened.server ran.new.server.server c.in-Ok.peers ran.new.peers c.print_opening.new.out ran.new.out
                 c.args.faults.now ran.new.faults run;

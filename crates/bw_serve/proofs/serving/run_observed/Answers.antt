@@ -3,7 +3,7 @@ use Rattle.bw_stream.specs.Moves.{one_more}
 use Rattle.bw_console.specs.declared.exit.Exit.TheVariants as exits
 use Rattle.bw_serve.specs.Rounds.{goes_on_after}
 use Rattle.bw_serve.proofs.Running.{all_ended, lacks_sync, waited_more, runs_more, runs_none, runs_over, runs_shut}
-use Rattle.bw_serve.specs.Guards.{Guarded}
+use Rattle.bw_serve.specs.Guards.{guarded_answers}
 use Rattle.bw_serve.proofs.serving.run_observed.Goals as goal
 
 pub returns-in_default-clause-runs : goal.returns-in_default-clause-runs
@@ -26,7 +26,8 @@ loop-round-init g c =
       runs = (
         _,
         refl,
-        runs_none g.B.Reactor g.B.Link.Link (Guarded g.T.Turns.answers c.args.allow.now) g.T.Turns.commits g.O.Sink g.E.Sink c.args.log
+        runs_none g.B.Reactor g.B.Link.Link (guarded_answers g.T.Turns.answers c.args.allow.now) g.T.Turns.commits g.O.Sink g.E.Sink
+            c.args.log
             g.V.RoundObserver.looks c.args.bounds.now.places c.args.bounds.now.idle c.args.bounds.now.exchanges c.in-Ok.event_loop
             c.args.server.now.server c.args.reactor.now c.args.out.now c.args.faults.now c.args.observer.now n,
       );
@@ -47,7 +48,8 @@ loop-round-preserved g c =
       runs = (
         ok.round.0.outcome,
         subst (λ r. goes_on_after r ≡ true) (sym ok.round.1) (search rules),
-        runs_more g.B.Reactor g.B.Link.Link (Guarded g.T.Turns.answers c.args.allow.now) g.T.Turns.commits g.O.Sink g.E.Sink c.args.log
+        runs_more g.B.Reactor g.B.Link.Link (guarded_answers g.T.Turns.answers c.args.allow.now) g.T.Turns.commits g.O.Sink g.E.Sink
+            c.args.log
             g.V.RoundObserver.looks l.invariant.runs.0 l.invariant.runs.1 c.args.bounds.now.places c.args.bounds.now.idle
             c.args.bounds.now.exchanges l.event_loop r.new.event_loop
             c.args.server.now.server l.server.server r.new.server.server c.args.reactor.now l.reactor r.new.reactor
@@ -78,7 +80,8 @@ serve_round-requires-clause-peer_slots g c = c.loop-round.invariant.peer_slots
 pub returns-then-ended-bounds-clause-observed : goal.returns-then-ended-bounds-clause-observed
 returns-then-ended-bounds-clause-observed g c =
     let l = c.loop-round in
-    runs_over g.B.Reactor g.B.Link.Link (Guarded g.T.Turns.answers c.args.allow.now) g.T.Turns.commits g.O.Sink g.E.Sink c.args.log g.V.RoundObserver.looks
+    runs_over g.B.Reactor g.B.Link.Link (guarded_answers g.T.Turns.answers c.args.allow.now) g.T.Turns.commits g.O.Sink g.E.Sink c.args.log
+    g.V.RoundObserver.looks
     c.law_connections.ensures l.invariant.runs.0 c.args.bounds.now exits.Done l.event_loop c.args.server.now.server l.server.server
     c.args.reactor.now l.reactor c.args.out.now l.out c.args.faults.now l.faults c.args.observer.now l.observer
     l.invariant.runs.2 l.invariant.begun
@@ -92,7 +95,8 @@ returns-in_default-serve_round-clause-observed g c =
     let l = c.loop-round in
     let r = c.serve_round in
     let shut = c.in_default-serve_round.ensures in
-    runs_shut g.B.Reactor g.B.Link.Link (Guarded g.T.Turns.answers c.args.allow.now) g.T.Turns.commits g.O.Sink g.E.Sink c.args.log g.V.RoundObserver.looks
+    runs_shut g.B.Reactor g.B.Link.Link (guarded_answers g.T.Turns.answers c.args.allow.now) g.T.Turns.commits g.O.Sink g.E.Sink c.args.log
+    g.V.RoundObserver.looks
     c.law_connections.ensures l.invariant.runs.0 c.args.bounds.now exits.Device l.event_loop r.new.event_loop c.args.server.now.server
     l.server.server r.new.server.server c.args.reactor.now l.reactor r.new.reactor c.args.out.now l.out r.new.out
     c.args.faults.now l.faults r.new.faults c.args.observer.now l.observer l.invariant.runs.2 shut.shut r.ensures.begun
@@ -106,11 +110,12 @@ returns-then-not-may_go_on-clause-observed g c =
     let l = c.loop-round in
     let r = c.serve_round in
     let round = c.in-Ok-serve_round.ensures.round in
-    runs_over g.B.Reactor g.B.Link.Link (Guarded g.T.Turns.answers c.args.allow.now) g.T.Turns.commits g.O.Sink g.E.Sink c.args.log g.V.RoundObserver.looks
+    runs_over g.B.Reactor g.B.Link.Link (guarded_answers g.T.Turns.answers c.args.allow.now) g.T.Turns.commits g.O.Sink g.E.Sink c.args.log
+    g.V.RoundObserver.looks
     c.law_connections.ensures round.0.outcome c.args.bounds.now exits.Device r.new.event_loop c.args.server.now.server
     r.new.server.server c.args.reactor.now r.new.reactor c.args.out.now r.new.out c.args.faults.now r.new.faults
     c.args.observer.now c.show.new.observer
-    (runs_more g.B.Reactor g.B.Link.Link (Guarded g.T.Turns.answers c.args.allow.now) g.T.Turns.commits g.O.Sink g.E.Sink c.args.log
+    (runs_more g.B.Reactor g.B.Link.Link (guarded_answers g.T.Turns.answers c.args.allow.now) g.T.Turns.commits g.O.Sink g.E.Sink c.args.log
     g.V.RoundObserver.looks l.invariant.runs.0 l.invariant.runs.1 c.args.bounds.now.places c.args.bounds.now.idle
     c.args.bounds.now.exchanges l.event_loop r.new.event_loop
     c.args.server.now.server l.server.server r.new.server.server c.args.reactor.now l.reactor r.new.reactor
@@ -126,7 +131,8 @@ returns-then-not-may_go_on-clause-runs g c = (returns-then-not-may_go_on-clause-
 pub returns-clause-observed : goal.returns-clause-observed
 returns-clause-observed g c =
     let l = c.loop-round in
-    runs_over g.B.Reactor g.B.Link.Link (Guarded g.T.Turns.answers c.args.allow.now) g.T.Turns.commits g.O.Sink g.E.Sink c.args.log g.V.RoundObserver.looks
+    runs_over g.B.Reactor g.B.Link.Link (guarded_answers g.T.Turns.answers c.args.allow.now) g.T.Turns.commits g.O.Sink g.E.Sink c.args.log
+    g.V.RoundObserver.looks
     c.law_connections.ensures l.invariant.runs.0 c.args.bounds.now exits.Device l.event_loop c.args.server.now.server l.server.server
     c.args.reactor.now l.reactor c.args.out.now l.out c.args.faults.now l.faults c.args.observer.now l.observer
     l.invariant.runs.2 l.invariant.begun (λ over is. inl (inr (search rules)))

@@ -6,13 +6,13 @@ use Rattle.bw_connections.specs.Places.{begun_of}
 use Rattle.bw_wire.specs.Held.{longest_message_piece}
 use Rattle.bw_serve.specs.EventLoops.{HasPeerSlots}
 use Rattle.bw_serve.proofs.Running.{Runs}
-use Rattle.bw_serve.specs.Guards.{Guarded}
+use Rattle.bw_serve.specs.Guards.{guarded_answers}
 use Rattle.bw_serve.proofs.serving.run_observed.Given as goal
 
 abbrev pub invariant-loop-round : goal.invariant-loop-round
 invariant-loop-round g l = record {
   runs : (last : Result (Unit {0}) NotKept) × (goes_on_after last ≡ true)
-      × Runs g.B.Reactor g.B.Link.Link (Guarded g.T.Turns.answers l.fn.allow) g.T.Turns.commits g.O.Sink g.E.Sink l.fn.log
+      × Runs g.B.Reactor g.B.Link.Link (guarded_answers g.T.Turns.answers l.fn.allow) g.T.Turns.commits g.O.Sink g.E.Sink l.fn.log
       g.V.RoundObserver.looks last l.fn.bounds.places l.fn.bounds.idle l.fn.bounds.exchanges l.event_loop l.fn.server.server
       l.server.server l.fn.reactor l.reactor l.fn.out l.out l.fn.faults l.faults l.fn.observer l.observer;
   begun : begun_of l.event_loop.connections ≤ l.fn.bounds.exchanges;

@@ -1,7 +1,7 @@
 use Rattle.std.proofs.Common.{◌⊎◌, inl, inr, refl, rules}
 use Rattle.std.specs.Prelude.{Ok}
 use Rattle.bw_serve.specs.Beginnings.{Calls, GoesOnWith}
-use Rattle.bw_serve.specs.Guards.{Guarded}
+use Rattle.bw_serve.specs.Guards.{guarded_answers}
 use Rattle.bw_serve.proofs.AnsweredRuns.{by_loop}
 use Rattle.bw_serve_status.proofs.CountedRuns.{counted_shown}
 use Rattle.bw_serve_status.proofs.hosting.serve_shown.Goals as goal
@@ -58,7 +58,8 @@ returns g c =
           ended = ran.result;
           logged = ran.new.faults;
           run = run;
-          answers_all = by_loop (Guarded g.T.Turns.answers hosting.allow.now) g.T.Turns.commits g.N.Reactor.Reactor g.N.Reactor.Link.Link g.O.Sink
+          answers_all = by_loop (guarded_answers g.T.Turns.answers hosting.allow.now) g.T.Turns.commits g.N.Reactor.Reactor
+              g.N.Reactor.Link.Link g.O.Sink
               g.E.Sink hosting.log hosting.bounds ran.result c.args.opened.server answered c.in-Ok.reactor
               ran.new.reactor c.print_opening.new.out ran.new.out c.args.faults.now ran.new.faults run.0;
           reports = c.report_end.ensures;

@@ -11,4 +11,6 @@ returns g c =
       begun = m.begun;
       refused = m.refused;
       ended = refl;
+      ended_by = c.new-2.ensures;
+      turned_away = refl;
     }

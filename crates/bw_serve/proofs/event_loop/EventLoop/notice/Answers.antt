@@ -21,16 +21,16 @@ loop-place-preserved g c =
     let n = c.next_ready.ensures in
     record {
       stays = stays_then g.L.Link c.args.self.now l
-          (record { connections = c.wake.new.self; peer_slots = l.peer_slots; ended = l.ended }) c.loop-place.invariant.stays
+          (record l { connections = c.wake.new.self }) c.loop-place.invariant.stays
           (stays_woken g.L.Link c.in-Some.ready.place l
-          (record { connections = c.wake.new.self; peer_slots = l.peer_slots; ended = l.ended }) w.adds w.existed w.others refl refl);
+          (record l { connections = c.wake.new.self }) w.adds w.existed w.others refl refl refl refl);
       failures = n.failures ∙ c.loop-place.invariant.failures;
       waits = n.waits ∙ c.loop-place.invariant.waits;
       patience = n.patience ∙ c.loop-place.invariant.patience;
       tried = λ k was. n.tried k (c.loop-place.invariant.tried k was);
       admitted = λ xs was. n.admitted xs (c.loop-place.invariant.admitted xs was);
       notices = noticed_more g.B.Reactor c.loop-place._place c.args.reactor.now c.loop-place.reactor c.next_ready.new.self
-          c.in-Some.ready c.args.self.now l (record { connections = c.wake.new.self; peer_slots = l.peer_slots; ended = l.ended })
+          c.in-Some.ready c.args.self.now l (record l { connections = c.wake.new.self })
           c.loop-place.invariant.notices (λ rs was. c.in-Some.ensures.reported rs was) w.wakes w.others.0;
     }
 
@@ -41,18 +41,18 @@ returns-in-Some g c =
     let n = c.next_ready.ensures in
     record {
       stays = stays_then g.L.Link c.args.self.now l
-          (record { connections = c.wake.new.self; peer_slots = l.peer_slots; ended = l.ended }) c.loop-place.invariant.stays
+          (record l { connections = c.wake.new.self }) c.loop-place.invariant.stays
           (stays_woken g.L.Link c.in-Some.ready.place l
-          (record { connections = c.wake.new.self; peer_slots = l.peer_slots; ended = l.ended }) w.adds w.existed w.others refl refl);
+          (record l { connections = c.wake.new.self }) w.adds w.existed w.others refl refl refl refl);
       failures = n.failures ∙ c.loop-place.invariant.failures;
       waits = n.waits ∙ c.loop-place.invariant.waits;
       patience = n.patience ∙ c.loop-place.invariant.patience;
       tried = λ k was. n.tried k (c.loop-place.invariant.tried k was);
       admitted = λ xs was. n.admitted xs (c.loop-place.invariant.admitted xs was);
       notices = noticed_most g.B.Reactor (c.loop-place._place + 1) c.args.reactor.now c.next_ready.new.self c.args.self.now
-          (record { connections = c.wake.new.self; peer_slots = l.peer_slots; ended = l.ended })
+          (record l { connections = c.wake.new.self })
           (noticed_more g.B.Reactor c.loop-place._place c.args.reactor.now c.loop-place.reactor c.next_ready.new.self
-          c.in-Some.ready c.args.self.now l (record { connections = c.wake.new.self; peer_slots = l.peer_slots; ended = l.ended })
+          c.in-Some.ready c.args.self.now l (record l { connections = c.wake.new.self })
           c.loop-place.invariant.notices (λ rs was. c.in-Some.ensures.reported rs was) w.wakes w.others.0)
           (let end = c.places-place-end.ensures in omega arith);
     }

@@ -12,18 +12,20 @@ returns-clause-grows g c =
       places_are = b.others.count;
       peer_slots_are = c.put_at.ensures.count;
       counts = counts_in_slots g.L.Link c.args.place c.args.now c.args.accepted.link c.args.self.now
-          (record { connections = c.begin-refused.new.self; peer_slots = c.put_at.new.peer_slots; ended = c.args.self.now.ended })
+          (record c.args.self.now { connections = c.begin-refused.new.self; peer_slots = c.put_at.new.peer_slots })
           c.new.result c.begin-refused.result c.put_at.ensures.sets c.new.ensures.link_stats
           (subst (g.L.Link.calls_from c.args.accepted.link) (sym c.new.ensures.address) c.requires.peer) c.requires.free b.begins b.err
           b.others;
       ended = refl;
+      ended_by = refl;
+      turned_away = refl;
     }
 
 pub returns-clause-lets_in : goal.returns-clause-lets_in
 returns-clause-lets_in g c =
     let b = c.begin-refused.ensures in
     in_slots c.args.place c.args.now c.args.accepted.link c.args.self.now
-    (record { connections = c.begin-refused.new.self; peer_slots = c.put_at.new.peer_slots; ended = c.args.self.now.ended })
+    (record c.args.self.now { connections = c.begin-refused.new.self; peer_slots = c.put_at.new.peer_slots })
     c.begin-refused.result c.requires.free b.begins b.err b.others
 
 pub returns-clause-admits : goal.returns-clause-admits

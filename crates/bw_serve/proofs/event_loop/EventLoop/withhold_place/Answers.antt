@@ -8,10 +8,10 @@ returns-in_default g c =
     let w = c.in_default.ensures in
     let old = c.args.self.now in
     withholds_at g.L.Link g.O.Sink g.E.Sink c.args.log c.args.place old
-    (record { connections = c.withhold.new.self; peer_slots = old.peer_slots; ended = old.ended }) c.withhold.new.self [] c.args.out.now
-    c.args.out.now c.args.faults.now c.args.faults.now refl refl w.adds w.others w.stands w.withheld
-    (counts_none g.O.Sink old (record { connections = c.withhold.new.self; peer_slots = old.peer_slots; ended = old.ended }) c.args.out.now
-    refl) refl
+    (record old { connections = c.withhold.new.self }) c.withhold.new.self [] c.args.out.now
+    c.args.out.now c.args.faults.now c.args.faults.now refl refl refl w.adds w.others w.stands w.withheld
+    (counts_none g.O.Sink old (record old { connections = c.withhold.new.self }) c.args.out.now
+    refl refl) refl
 
 pub returns : goal.returns
 returns g c =
@@ -20,8 +20,8 @@ returns g c =
     let end = c.end.ensures in
     let y = c.in-Some.closed in
     withholds_at g.L.Link g.O.Sink g.E.Sink c.args.log c.args.place old c.end.new.self c.withhold.new.self (y ∷ [])
-    c.args.out.now c.end.new.out c.args.faults.now c.end.new.faults end.connections end.peer_slots w.adds w.others
+    c.args.out.now c.end.new.out c.args.faults.now c.end.new.faults end.connections end.peer_slots end.turned_away w.adds w.others
     w.stands w.withheld
-    (counts_on g.O.Sink old (record { connections = c.withhold.new.self; peer_slots = old.peer_slots; ended = old.ended }) c.end.new.self
-    (y ∷ []) c.args.out.now c.end.new.out refl end.counts)
+    (counts_on g.O.Sink old (record old { connections = c.withhold.new.self }) c.end.new.self
+    (y ∷ []) c.args.out.now c.end.new.out refl refl end.counts)
     (w.its, w.was, end.logs)

@@ -5,7 +5,7 @@ use Rattle.bw_exchange.specs.AnsweredFrames.{AnswersAll, answered_frames}
 use Rattle.bw_connections.proofs.Standing.{sets_again, some_is}
 use Rattle.bw_exchange.specs.LinkCounts.{counting_frame}
 use Rattle.bw_exchange.proofs.LinkStatsLemmas.{all_by_server, all_counted}
-use Rattle.bw_serve.specs.Guards.{Guarded}
+use Rattle.bw_serve.specs.Guards.{Guarded, is_kept_out, turning_away}
 use Rattle.bw_serve.specs.declared.peer_slot.PeerSlot.{PeerSlot}
 use Rattle.bw_serve.proofs.WrappedRuns.{works_by}
 use Rattle.bw_serve.proofs.event_loop.EventLoop.work.Goals as goal
@@ -18,7 +18,7 @@ returns g c =
     let all : c.deref.result.now ≡ c.args.self.now.peer_slots.items = search rules in
     let stands : slice_get c.args.self.now.peer_slots.items c.args.place ≡ Some at.peer_slot =
     subst (λ (xs : List PeerSlot). slice_get xs c.args.place ≡ Some at.peer_slot) all at.stands in
-    let w = c.work_guarded-closed.ensures in
+    let w = c.work_guarded-closed.ensures.0 in
     let t = c.swap_at.new.server in
     let u = c.work_guarded-closed.new.server in
     let from : SocketAddr = c.address_at.result in
@@ -47,4 +47,10 @@ returns g c =
           ∙ ap (λ x. fold counting_frame x (answered_frames w.answered)) before.given);
       peer_slots_are = c.swap_at-2.ensures.count ∙ c.swap_at.ensures.count;
       ended = refl;
+      ended_by = refl;
+      turned_away = subst (λ (a : SocketAddr). c.work_guarded-closed.new.turned_away
+          ≡ fold (turning_away (is_kept_out c.args.round.now.allow.now a)) c.args.self.now.turned_away
+          (answered_frames w.answered))
+          (at.address_is ∙ ap (λ x. x.address) (some_is at.peer_slot before.peer_slot (sym stands ∙ before.was)))
+          c.work_guarded-closed.ensures.1;
     }
