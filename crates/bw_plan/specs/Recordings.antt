@@ -134,7 +134,8 @@ extensible = 0xFFFE
 -- KSDATAFORMAT_SUBTYPE_PCM (the same, 00000001-0000-0010-8000-00aa00389b71)
 abbrev pub pcm_subformat : List ℕ
 pcm_subformat =
-    1 ∷ 0 ∷ 0 ∷ 0 ∷ 0 ∷ 0 ∷ 16 ∷ 0 ∷ 128 ∷ 0 ∷ 0 ∷ 170 ∷ 0 ∷ 56 ∷ 155 ∷ 113 ∷ []
+    1 ∷ 0 ∷ 0 ∷ 0 ∷ 0 ∷ 0 ∷ 16 ∷ 0 ∷ 128 ∷ 0 ∷ 0 ∷ 170 ∷ 0 ∷ 56 ∷ 155 ∷ 113
+    ∷ []
 
 -- the samples are PCM: by the format tag, or by the subformat of an extensible format (wSize 2,
 -- wValidBitsPerSample 2, dwChannelMask 4, SubFormat 16)
@@ -146,7 +147,8 @@ is_pcm f extension =
 -- KSDATAFORMAT_SUBTYPE_IEEE_FLOAT (the same, 00000003-0000-0010-8000-00aa00389b71)
 abbrev pub float_subformat : List ℕ
 float_subformat =
-    3 ∷ 0 ∷ 0 ∷ 0 ∷ 0 ∷ 0 ∷ 16 ∷ 0 ∷ 128 ∷ 0 ∷ 0 ∷ 170 ∷ 0 ∷ 56 ∷ 155 ∷ 113 ∷ []
+    3 ∷ 0 ∷ 0 ∷ 0 ∷ 0 ∷ 0 ∷ 16 ∷ 0 ∷ 128 ∷ 0 ∷ 0 ∷ 170 ∷ 0 ∷ 56 ∷ 155 ∷ 113
+    ∷ []
 
 -- the samples are floating-point numbers: by WAVE_FORMAT_IEEE_FLOAT, or by the subformat
 abbrev pub is_float : RawFmt → List ℕ → Bool

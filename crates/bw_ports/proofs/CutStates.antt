@@ -106,7 +106,8 @@ whole_states header counts text within =
     let fits : nat_le (length header + 1) (length (state_bytes header counts)) ≡ true = le-leb _ _ (omega (arith, len, own)) in
     ap (settled_in header) (sym (take_all (length (state_bytes header counts)) (state_bytes header counts) (omega arith)))
     ∙ cut_states header counts (length (state_bytes header counts)) text within
-    ∙ ap (λ (t : Bool). cond t (Some (greatest (whole_counts (length (state_bytes header counts) - (length header + 1)) counts))) None) fits
+    ∙ ap (λ (t : Bool). cond t (Some (greatest (whole_counts (length (state_bytes header counts) - (length header + 1)) counts)))
+    None) fits
     ∙ ap (λ (ms : List ℕ). Some (greatest ms))
     (all_whole (length (state_bytes header counts) - (length header + 1)) counts (omega (arith, len, own)))
 

@@ -124,13 +124,15 @@ module _ {X Z P R W L K O E N SP SK D A B T : Type 0} (side : ServerSide X Z P R
         exit between n' o o' e e'
 
   -- a server with journals, over what is in the folder
-  abbrev pub ServesKept : Bool → Serve → AllowRules → Exit → N → N → O → O → E → E → Type 0
+  abbrev pub ServesKept : Bool → Serve → AllowRules → Exit → N → N → O → O → E → E →
+      Type 0
   ServesKept sync server allow exit n n' o o' e e' = OpensAndServes
       (counted_calls kept.failures (λ n. kept.opens n (string_bytes server.folder) server.limit sync))
       kept.server server allow exit n n' o o' e e'
 
   -- a server with journals, or a new one without
-  abbrev pub ServesWith : Journaling → Serve → AllowRules → Exit → N → N → O → O → E → E → Type 0
+  abbrev pub ServesWith : Journaling → Serve → AllowRules → Exit → N → N → O → O → E →
+      E → Type 0
   ServesWith journals.Without server allow exit n n' o o' e e' = OpensAndServes
       (OpensNew side.store side.none (store_calls network (string_bytes server.folder)) server.limit)
       (new_turns side.store side.none) server allow exit n n' o o' e e'

@@ -66,7 +66,8 @@ pub record IsFolderUnread (folder : List ℕ) (did : Outcome) : Type 0 where
 
 -- what the command did over a folder, where the disk is as honest as this, and has these contents, and
 -- so many of its calls had failed before and after
-abbrev pub IsShowing : ReportForm → Bool → List ℕ → (List ℕ → Option (List ℕ)) → ℕ → ℕ →
+abbrev pub IsShowing : ReportForm → Bool → List ℕ → (List ℕ → Option (List ℕ)) → ℕ →
+    ℕ →
     Outcome → Type 0
 IsShowing form honest folder contents before after did =
     ShowsReport form honest folder contents before after did

@@ -67,7 +67,8 @@ is_deep Journals = false
 is_deep Samples = true
 
 -- what a take in a folder is judged to be
-abbrev pub take_judged_in : Depth → List ℕ → (List ℕ → Option (List ℕ)) → List ℕ → JudgedTake
+abbrev pub take_judged_in : Depth → List ℕ → (List ℕ → Option (List ℕ)) → List ℕ →
+    JudgedTake
 take_judged_in depth folder contents name = judged_take (is_deep depth) name
     (contents (notes_path folder name)) (contents (wave_path folder name))
 
