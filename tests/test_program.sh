@@ -261,31 +261,31 @@ ends_with 'a BW64 file' 0 ''
 
 # Help, and wrong command lines.
 run --version
-has_line 'the version' 0 out 'bwingest 1.0.0'
+has_line 'the version' 0 out 'bwingest 1.1.0'
 run --help
 has_line 'help' 0 out 'Usage: bwingest <COMMAND>'
 cat >wanted <<'EOF'
-Serves exchanges over TCP, and keeps each take's file
+Receives takes over TCP, and keeps a file of each
 
 Usage: bwingest serve [OPTIONS] --listen <ADDR> --folder <DIR>
 
 Options:
-      --listen <ADDR>      Where the server listens: 127.0.0.1:PORT, or any address with --network
-      --folder <DIR>       The folder that keeps the takes' files
-      --exchanges <N>      How many exchanges are served, 1 to 1000000 [default: 1]
-      --limit <N>          The greatest form size of a RIFF file, in bytes, even, from 8192 [default: 4294967294]
-      --timeout <SECONDS>  How long a silent peer is waited for, 1 to 86400 [default: for good]
-      --network            Takes any address; nothing on the wire is encrypted or signed
-      --recorders <N>      Up to how many recorders are served at once, 1 to 256 [default: one by one]
-      --idle <SECONDS>     With --recorders: when who sends no whole message is let go, 1 to 86400 [default: 60]
-      --until-stopped      Serves exchanges until the program is stopped, in place of --exchanges
-      --log [<FORM>]       Reports connections and takes on standard error, each with its time: in lines, or in json
+      --listen <ADDR>      The address to listen on: 127.0.0.1:PORT, or any address with --network
+      --folder <DIR>       The folder of the takes' files
+      --exchanges <N>      Ends after N exchanges (connections), 1 to 1000000 [default: 1]
+      --limit <N>          The largest form size of a RIFF file in bytes, even, at least 8192; a longer take is BW64 [default: 4294967294]
+      --timeout <SECONDS>  How long to wait for a silent peer, 1 to 86400 [default: forever]
+      --network            Allows any address; nothing on the wire is encrypted or signed
+      --recorders <N>      Serves up to N recorders at once, 1 to 256 [default: one after another]
+      --idle <SECONDS>     With --recorders: closes a connection that sends no whole message for so long, 1 to 86400 [default: 60]
+      --until-stopped      Serves until the program is stopped, instead of --exchanges
+      --log [<FORM>]       Reports connections and takes on standard error, each with its time; FORM is lines or json
       --journal            Keeps a journal of each take, and continues what an earlier server left
       --sync               With --journal: syncs file and journal before each reply
-      --rest               With --journal: still read; changes nothing
+      --rest               Accepted for older scripts; changes nothing
       --one-name           Ends a connection at a message under another name than its first
-      --allow <FILE>       Takes only the names, and from the addresses, that FILE lists
-      --status <ADDR>      With --recorders: shows its status over HTTP at 127.0.0.1:PORT, or any address with --network
+      --allow <FILE>       Accepts only the names that FILE lists, each from the addresses given there
+      --status <ADDR>      With --recorders: serves a status page over HTTP at 127.0.0.1:PORT, or any address with --network
   -h, --help               Print help
 
 Example: bwingest serve --listen 127.0.0.1:4100 --folder takes --until-stopped --recorders 16 --journal
@@ -298,24 +298,24 @@ Sends a recording, or the requests on standard input, until each has its verdict
 Usage: bwingest send [OPTIONS] --connect <ADDR> --name <NAME>
 
 Options:
-      --connect <ADDR>            Where the server listens: 127.0.0.1:PORT, or any address or host with --network
-      --name <NAME>               The take's name
-      --rounds <N>                How many exchanges of at most 16 requests are made, 1 to 1000 [default: 16]
-      --timeout <SECONDS>         How long a silent server is waited for, 1 to 86400 [default: for good; with --file or --spool 30]
-      --network                   Takes any address; nothing on the wire is encrypted or signed
-      --file <FILE>               A recording to send in place of standard input: a RIFF WAVE, BW64 or RF64 file
-      --set <KEY=VALUE>           Sets a field of the recording in place of the file's; may be given more than once
+      --connect <ADDR>            The server's address: 127.0.0.1:PORT, or any address or host with --network
+      --name <NAME>               The name of the take
+      --rounds <N>                Makes up to N exchanges of at most 16 requests, 1 to 1000 [default: 16]
+      --timeout <SECONDS>         How long to wait for a silent server, 1 to 86400 [default: forever; with --file or --spool 30]
+      --network                   Allows any address; nothing on the wire is encrypted or signed
+      --file <FILE>               The recording to send, instead of standard input: a RIFF WAVE, BW64 or RF64 file
+      --set <KEY=VALUE>           Sets a field of the recording, whatever the file has; may be repeated
       --strict                    Refuses a recording whose fields would have to be cleaned
-      --pcm <RATE,CHANNELS,BITS>  With --file or --spool: the file has no header; samples of this format, as in 48000,2,24
-      --skip <BYTES>              With --pcm: where in the file the samples begin, in bytes [default: 0]
-      --block <FRAMES>            With --pcm: sends blocks of so many frames [default: as many as 32768 bytes hold]
+      --pcm <RATE,CHANNELS,BITS>  With --file or --spool: the input is samples without a header, in this format, as in 48000,2,24
+      --skip <BYTES>              With --pcm: the offset of the samples in the file, in bytes [default: 0]
+      --block <FRAMES>            With --pcm: sends FRAMES in a block [default: as many as fit in 32768 bytes]
       --follow                    With --pcm: sends the file while another program is still writing it
-      --until <END>               With --follow: a path that exists once the recording has ended
-      --spool <SPOOL>             With --pcm, in place of --file: appends standard input to SPOOL, and sends that until the input ends
-      --fruitless <N>             With --file or --spool: gives up after N links in a row that settle nothing, 1 to 1000000 [default: 10; with --follow or --spool never]
-      --log                       With --file or --spool: reports each change of the link in a line on standard error
-      --state <STATE>             With --file: notes in STATE how far it is, and goes on there when it is run again
-      --rate <BYTES>              With --file or --spool: sends at most so many bytes a second, 1 to 4294967295 [default: any number]
+      --until <END>               With --follow: a path that exists once the recording is finished
+      --spool <SPOOL>             With --pcm, instead of --file: appends standard input to SPOOL, and sends it until the input ends
+      --fruitless <N>             With --file or --spool: gives up after N connections in a row that settle nothing, 1 to 1000000 [default: 10; with --follow or --spool never]
+      --log                       With --file or --spool: reports each change of the connection on standard error
+      --state <STATE>             With --file: keeps its progress in STATE, and continues from there when run again
+      --rate <BYTES>              With --file or --spool: sends at most BYTES a second, 1 to 4294967295 [default: no limit]
   -h, --help                      Print help
 
 Example: bwingest send --connect 127.0.0.1:4100 --name a1 --file take.wav

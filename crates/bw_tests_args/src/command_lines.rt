@@ -818,7 +818,7 @@ fn an_address_is_local_without_leave_for_the_network(rt: HostRuntime) -> Result<
 }
 
 static TEXTS: [(&[&str], &str); 17] = [
-    (&["/tmp/x", "--version"], "bwingest 1.0.0\n"),
+    (&["/tmp/x", "--version"], "bwingest 1.1.0\n"),
     (&["/tmp/x", "--help"], "Usage: bwingest <COMMAND>\n"),
     (&["/tmp/x"], "Usage: bwingest <COMMAND>\n"),
     (
@@ -839,11 +839,11 @@ static TEXTS: [(&[&str], &str); 17] = [
     ),
     (
         &["/tmp/x", "serve", "--help"],
-        "--log [<FORM>]       Reports connections and takes on standard error, each with its time: in lines, or in json\n",
+        "--log [<FORM>]       Reports connections and takes on standard error, each with its time; FORM is lines or json\n",
     ),
     (
         &["/tmp/x", "send", "--help"],
-        "How long a silent server is waited for, 1 to 86400 [default: for good; with --file or --spool 30]",
+        "How long to wait for a silent server, 1 to 86400 [default: forever; with --file or --spool 30]",
     ),
     (
         &["/tmp/x", "send", "--help"],

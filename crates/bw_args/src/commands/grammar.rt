@@ -77,7 +77,7 @@ fn program<'a>(alloc: Global) -> Result<Command<'a>, AllocError>
     ensures { IfOk result (λ c. app_of c ≡ program) }
 {
     Command::new(alloc, "bwingest")
-        .version("1.0.0")
+        .version("1.1.0")
         .about("An ingest server for field recordings")
         .subcommand_required(true)
         .bin_name("bwingest")
@@ -120,7 +120,7 @@ fn rehearse<'a>(alloc: Global) -> Result<Command<'a>, AllocError>
     let command = named(
         alloc,
         "rehearse",
-        "Plays a recorder and a server, event by event, from standard input",
+        "Steps through a recorder and a server, event by event, from standard input",
         "Example: bwingest rehearse --name a1 < events.txt",
     )
     .arg(name_option(alloc));
@@ -141,7 +141,7 @@ fn inspect_texts<'a>(alloc: Global) -> Result<Command<'a>, AllocError>
     let command = named(
         alloc,
         "inspect",
-        "Reports what is in files, or their first faults and where these are",
+        "Reports what files hold, or the first fault of each and its offset",
         "Examples: bwingest inspect --human take.wav; bwingest inspect --json takes/*.wav",
     )
     .arg(files_argument(alloc));
@@ -180,7 +180,7 @@ fn repair<'a>(alloc: Global) -> Result<Command<'a>, AllocError>
     let command = named(
         alloc,
         "repair",
-        "Says which sizes a file lacks whose writer was killed, or writes them",
+        "Reports the sizes that a killed writer left out of a file, or writes them",
         "Example: bwingest repair take.wav --write",
     )
     .arg(file_argument(alloc));
@@ -209,7 +209,7 @@ fn takes_where<'a>(alloc: Global) -> Result<Command<'a>, AllocError>
     let command = named(
         alloc,
         "takes",
-        "Reports how far each take of a server's folder is, or what is wrong with it",
+        "Lists the takes in a server's folder, and what is wrong with any of them",
         "Example: bwingest takes --folder takes --check",
     )
     .arg(folder_option(alloc));
@@ -265,7 +265,7 @@ fn serve_where<'a>(alloc: Global) -> Result<Command<'a>, AllocError>
     let command = named(
         alloc,
         "serve",
-        "Serves exchanges over TCP, and keeps each take's file",
+        "Receives takes over TCP, and keeps a file of each",
         "Example: bwingest serve --listen 127.0.0.1:4100 --folder takes --until-stopped --recorders 16 --journal",
     )
     .arg(listen_option(alloc));

@@ -53,7 +53,7 @@ fn flag_option<'a>(alloc: Global, name: &'a str, help: &'a str) -> Arg<'a>
 pub(crate) fn name_option<'a>(alloc: Global) -> Arg<'a>
     ensures { IsOption name_option result }
 {
-    let help = "The take's name";
+    let help = "The name of the take";
     required_option(alloc, "name", "NAME", help)
 }
 
@@ -61,7 +61,7 @@ pub(crate) fn limit_option<'a>(alloc: Global) -> Arg<'a>
     ensures { IsOption limit_option result }
 {
     let help =
-        "The greatest form size of a RIFF file, in bytes, even, from 8192 [default: 4294967294]";
+        "The largest form size of a RIFF file in bytes, even, at least 8192; a longer take is BW64 [default: 4294967294]";
     value_option(alloc, "limit", "N", help)
 }
 
@@ -137,7 +137,7 @@ pub(crate) fn check_flag<'a>(alloc: Global) -> Arg<'a>
 pub(crate) fn watch_flag<'a>(alloc: Global) -> Arg<'a>
     ensures { IsOption watch_flag result }
 {
-    let help = "Shows the takes each second, until it is stopped (Ctrl-C)";
+    let help = "Shows the takes every second, until it is stopped (Ctrl-C)";
     flag_option(alloc, "watch", help)
 }
 
@@ -151,7 +151,7 @@ pub(crate) fn give_up_option<'a>(alloc: Global) -> Arg<'a>
 pub(crate) fn timeout_option<'a>(alloc: Global) -> Arg<'a>
     ensures { IsOption timeout_option result }
 {
-    let help = "How long a silent peer is waited for, 1 to 86400 [default: for good]";
+    let help = "How long to wait for a silent peer, 1 to 86400 [default: forever]";
     value_option(alloc, "timeout", "SECONDS", help)
 }
 
@@ -160,21 +160,21 @@ pub(crate) fn patience_option<'a>(alloc: Global) -> Arg<'a>
     ensures { IsOption timeout_option result }
 {
     let help =
-        "How long a silent server is waited for, 1 to 86400 [default: for good; with --file or --spool 30]";
+        "How long to wait for a silent server, 1 to 86400 [default: forever; with --file or --spool 30]";
     value_option(alloc, "timeout", "SECONDS", help)
 }
 
 pub(crate) fn network_flag<'a>(alloc: Global) -> Arg<'a>
     ensures { IsOption network_flag result }
 {
-    let help = "Takes any address; nothing on the wire is encrypted or signed";
+    let help = "Allows any address; nothing on the wire is encrypted or signed";
     flag_option(alloc, "network", help)
 }
 
 pub(crate) fn listen_option<'a>(alloc: Global) -> Arg<'a>
     ensures { IsOption listen_option result }
 {
-    let help = "Where the server listens: 127.0.0.1:PORT, or any address with --network";
+    let help = "The address to listen on: 127.0.0.1:PORT, or any address with --network";
     required_option(alloc, "listen", "ADDR", help)
 }
 
@@ -182,21 +182,21 @@ pub(crate) fn listen_option<'a>(alloc: Global) -> Arg<'a>
 pub(crate) fn folder_option<'a>(alloc: Global) -> Arg<'a>
     ensures { IsOption folder_option result }
 {
-    let help = "The folder that keeps the takes' files";
+    let help = "The folder of the takes' files";
     required_option(alloc, "folder", "DIR", help)
 }
 
 pub(crate) fn exchanges_option<'a>(alloc: Global) -> Arg<'a>
     ensures { IsOption exchanges_option result }
 {
-    let help = "How many exchanges are served, 1 to 1000000 [default: 1]";
+    let help = "Ends after N exchanges (connections), 1 to 1000000 [default: 1]";
     value_option(alloc, "exchanges", "N", help)
 }
 
 pub(crate) fn recorders_option<'a>(alloc: Global) -> Arg<'a>
     ensures { IsOption recorders_option result }
 {
-    let help = "Up to how many recorders are served at once, 1 to 256 [default: one by one]";
+    let help = "Serves up to N recorders at once, 1 to 256 [default: one after another]";
     value_option(alloc, "recorders", "N", help)
 }
 
@@ -204,14 +204,14 @@ pub(crate) fn idle_option<'a>(alloc: Global) -> Arg<'a>
     ensures { IsOption idle_option result }
 {
     let help =
-        "With --recorders: when who sends no whole message is let go, 1 to 86400 [default: 60]";
+        "With --recorders: closes a connection that sends no whole message for so long, 1 to 86400 [default: 60]";
     value_option(alloc, "idle", "SECONDS", help)
 }
 
 pub(crate) fn until_stopped_flag<'a>(alloc: Global) -> Arg<'a>
     ensures { IsOption until_stopped_flag result }
 {
-    let help = "Serves exchanges until the program is stopped, in place of --exchanges";
+    let help = "Serves until the program is stopped, instead of --exchanges";
     flag_option(alloc, "until-stopped", help)
 }
 
@@ -220,7 +220,7 @@ pub(crate) fn log_option<'a>(alloc: Global) -> Arg<'a>
     ensures { IsOption log_option result }
 {
     let help =
-        "Reports connections and takes on standard error, each with its time: in lines, or in json";
+        "Reports connections and takes on standard error, each with its time; FORM is lines or json";
     value_option(alloc, "log", "FORM", help)
         .num_args(0..=1)
         .default_missing_value("lines")
@@ -230,8 +230,7 @@ pub(crate) fn log_option<'a>(alloc: Global) -> Arg<'a>
 pub(crate) fn link_log_flag<'a>(alloc: Global) -> Arg<'a>
     ensures { IsOption log_flag result }
 {
-    let help =
-        "With --file or --spool: reports each change of the link in a line on standard error";
+    let help = "With --file or --spool: reports each change of the connection on standard error";
     flag_option(alloc, "log", help)
 }
 
@@ -252,7 +251,7 @@ pub(crate) fn one_name_flag<'a>(alloc: Global) -> Arg<'a>
 pub(crate) fn allow_option<'a>(alloc: Global) -> Arg<'a>
     ensures { IsOption allow_option result }
 {
-    let help = "Takes only the names, and from the addresses, that FILE lists";
+    let help = "Accepts only the names that FILE lists, each from the addresses given there";
     value_option(alloc, "allow", "FILE", help)
 }
 
@@ -266,7 +265,7 @@ pub(crate) fn sync_flag<'a>(alloc: Global) -> Arg<'a>
 pub(crate) fn rest_flag<'a>(alloc: Global) -> Arg<'a>
     ensures { IsOption rest_flag result }
 {
-    let help = "With --journal: still read; changes nothing";
+    let help = "Accepted for older scripts; changes nothing";
     flag_option(alloc, "rest", help)
 }
 
@@ -274,35 +273,35 @@ pub(crate) fn status_option<'a>(alloc: Global) -> Arg<'a>
     ensures { IsOption status_option result }
 {
     let help =
-        "With --recorders: shows its status over HTTP at 127.0.0.1:PORT, or any address with --network";
+        "With --recorders: serves a status page over HTTP at 127.0.0.1:PORT, or any address with --network";
     value_option(alloc, "status", "ADDR", help)
 }
 
 pub(crate) fn connect_option<'a>(alloc: Global) -> Arg<'a>
     ensures { IsOption connect_option result }
 {
-    let help = "Where the server listens: 127.0.0.1:PORT, or any address or host with --network";
+    let help = "The server's address: 127.0.0.1:PORT, or any address or host with --network";
     required_option(alloc, "connect", "ADDR", help)
 }
 
 pub(crate) fn rounds_option<'a>(alloc: Global) -> Arg<'a>
     ensures { IsOption rounds_option result }
 {
-    let help = "How many exchanges of at most 16 requests are made, 1 to 1000 [default: 16]";
+    let help = "Makes up to N exchanges of at most 16 requests, 1 to 1000 [default: 16]";
     value_option(alloc, "rounds", "N", help)
 }
 
 pub(crate) fn file_option<'a>(alloc: Global) -> Arg<'a>
     ensures { IsOption file_option result }
 {
-    let help = "A recording to send in place of standard input: a RIFF WAVE, BW64 or RF64 file";
+    let help = "The recording to send, instead of standard input: a RIFF WAVE, BW64 or RF64 file";
     value_option(alloc, "file", "FILE", help)
 }
 
 pub(crate) fn set_option<'a>(alloc: Global) -> Arg<'a>
     ensures { IsOption set_option result }
 {
-    let help = "Sets a field of the recording in place of the file's; may be given more than once";
+    let help = "Sets a field of the recording, whatever the file has; may be repeated";
     repeated_option(alloc, "set", "KEY=VALUE", help)
 }
 
@@ -316,7 +315,7 @@ pub(crate) fn strict_flag<'a>(alloc: Global) -> Arg<'a>
 pub(crate) fn state_option<'a>(alloc: Global) -> Arg<'a>
     ensures { IsOption state_option result }
 {
-    let help = "With --file: notes in STATE how far it is, and goes on there when it is run again";
+    let help = "With --file: keeps its progress in STATE, and continues from there when run again";
     value_option(alloc, "state", "STATE", help)
 }
 
@@ -324,7 +323,7 @@ pub(crate) fn rate_option<'a>(alloc: Global) -> Arg<'a>
     ensures { IsOption rate_option result }
 {
     let help =
-        "With --file or --spool: sends at most so many bytes a second, 1 to 4294967295 [default: any number]";
+        "With --file or --spool: sends at most BYTES a second, 1 to 4294967295 [default: no limit]";
     value_option(alloc, "rate", "BYTES", help)
 }
 
@@ -332,7 +331,7 @@ pub(crate) fn fruitless_option<'a>(alloc: Global) -> Arg<'a>
     ensures { IsOption fruitless_option result }
 {
     let help =
-        "With --file or --spool: gives up after N links in a row that settle nothing, 1 to 1000000 [default: 10; with --follow or --spool never]";
+        "With --file or --spool: gives up after N connections in a row that settle nothing, 1 to 1000000 [default: 10; with --follow or --spool never]";
     value_option(alloc, "fruitless", "N", help)
 }
 
@@ -340,21 +339,21 @@ pub(crate) fn pcm_option<'a>(alloc: Global) -> Arg<'a>
     ensures { IsOption pcm_option result }
 {
     let help =
-        "With --file or --spool: the file has no header; samples of this format, as in 48000,2,24";
+        "With --file or --spool: the input is samples without a header, in this format, as in 48000,2,24";
     value_option(alloc, "pcm", "RATE,CHANNELS,BITS", help)
 }
 
 pub(crate) fn skip_option<'a>(alloc: Global) -> Arg<'a>
     ensures { IsOption skip_option result }
 {
-    let help = "With --pcm: where in the file the samples begin, in bytes [default: 0]";
+    let help = "With --pcm: the offset of the samples in the file, in bytes [default: 0]";
     value_option(alloc, "skip", "BYTES", help)
 }
 
 pub(crate) fn block_option<'a>(alloc: Global) -> Arg<'a>
     ensures { IsOption block_option result }
 {
-    let help = "With --pcm: sends blocks of so many frames [default: as many as 32768 bytes hold]";
+    let help = "With --pcm: sends FRAMES in a block [default: as many as fit in 32768 bytes]";
     value_option(alloc, "block", "FRAMES", help)
 }
 
@@ -368,7 +367,7 @@ pub(crate) fn follow_flag<'a>(alloc: Global) -> Arg<'a>
 pub(crate) fn until_option<'a>(alloc: Global) -> Arg<'a>
     ensures { IsOption until_option result }
 {
-    let help = "With --follow: a path that exists once the recording has ended";
+    let help = "With --follow: a path that exists once the recording is finished";
     value_option(alloc, "until", "END", help)
 }
 
@@ -376,7 +375,7 @@ pub(crate) fn spool_option<'a>(alloc: Global) -> Arg<'a>
     ensures { IsOption spool_option result }
 {
     let help =
-        "With --pcm, in place of --file: appends standard input to SPOOL, and sends that until the input ends";
+        "With --pcm, instead of --file: appends standard input to SPOOL, and sends it until the input ends";
     value_option(alloc, "spool", "SPOOL", help)
 }
 
