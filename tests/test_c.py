@@ -217,7 +217,7 @@ def case_names(_):
     TALLY.holds("the library's text", 0 < text <= LARGEST_TEXT, f"has {text} bytes")
     TALLY.same("its data", sum(int(words[1]) + int(words[2]) for words in sizes), 0)
     version = re.search(r"(?m)^Version: (.+)$", (ROOT / "c/bwi.pc").read_text())[1]
-    TALLY.same("the version that pkg-config is given", f"bwingest {version}\n", run("--version")[1])
+    TALLY.same("the version that pkg-config is given", f"bwingest {version}", run("--version")[1].partition("\n")[0])
 
 
 def case_random_calls(folder):

@@ -260,8 +260,15 @@ run inspect wide.wav
 ends_with 'a BW64 file' 0 ''
 
 # Help, and wrong command lines.
+{
+    echo 'bwingest 1.1.0'
+    sed -n 's/^pub const .*"//; /^toolchain: ./p; /^sources: ./p' "$here/../crates/bw_cli/src/build.rt"
+} >wanted
 run --version
-has_line 'the version' 0 out 'bwingest 1.1.0'
+ends_with 'the version' 0 ''
+run -V
+ends_with 'the version, by a letter' 0 ''
+has_line 'what the program was built from' 0 out "$(sed -n '/^sources: [0-9a-f]\{64\}$/p' wanted)"
 run --help
 has_line 'help' 0 out 'Usage: bwingest <COMMAND>'
 cat >wanted <<'EOF'

@@ -19,17 +19,17 @@ use std::io::IsTerminal;
 use std::process::ExitCode;
 
 /// Runs the command that the process was given, over its standard input and output, files, clock and
-/// network; the exit status is that of `start`.
+/// network; the exit status is that of `start`. `build`, whole lines, is what the program was built from.
 ///
 /// # Not specified
 /// Anything: no clause of std says what the words of the process are, or what it prints. The program is
 /// tested as it is built.
-pub fn run(rt: HostRuntime) -> ExitCode {
+pub fn run(rt: HostRuntime, build: &str) -> ExitCode {
     let spool = SpoolCell::new();
     let causes = CauseCell::new();
     let lines = LineCell::new();
     let network = FilteredNetwork::new(TcpNetwork::new(&rt, &spool, &causes, &lines));
-    let exit = run_over(rt, &spool, &causes, &lines, network);
+    let exit = run_over(rt, build, &spool, &causes, &lines, network);
     lines.report_start(&rt);
     exit
 }
@@ -38,6 +38,7 @@ pub fn run(rt: HostRuntime) -> ExitCode {
 /// steps if all parts of the outside meet in one function.
 fn run_over<N: PacedNetwork + ListenerSetup + Opens + ServeRules + StatusSetup<N::Reactor> + Drop>(
     rt: HostRuntime,
+    build: &str,
     spool: &SpoolCell,
     causes: &CauseCell,
     lines: &LineCell,
@@ -90,7 +91,7 @@ fn run_over<N: PacedNetwork + ListenerSetup + Opens + ServeRules + StatusSetup<N
         screens: screen_style(&rt),
         is_typed: rt.stdin().is_terminal(),
     };
-    start(rt.alloc(), &mut outside)
+    start(rt.alloc(), build, &mut outside)
 }
 
 /// How screens are shown on standard output: on a terminal in place, else as lines.

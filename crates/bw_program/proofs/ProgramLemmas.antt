@@ -1,5 +1,5 @@
 -- What the program does, from what its parts do.
-use Rattle.std.proofs.Common.{◌≡◌, ◌≢◌, ℕ, Bool, List, [], true, Option, Some, Result, Err, inl}
+use Rattle.std.proofs.Common.{◌≡◌, ◌≢◌, ◌++◌, ℕ, Bool, List, [], true, Option, Some, Result, Err, inl}
 use Rattle.std.proofs.Common.{inr, refl}
 use Rattle.std.proofs.Common.{subst}
 use Rattle.clap.specs.Walk.{Text}
@@ -18,45 +18,45 @@ use Rattle.bw_args.specs.declared.CommandLine.{CommandLine}
 use Rattle.bw_args.specs.declared.CommandLine.TheVariants.{Run, BadValue as Bad, Report}
 use Rattle.bw_args.specs.declared.Task.TheVariants.{Replay, Inspect, Rehearse, Serve, Send, SendFile, SendPcm}
 use Rattle.bw_args.specs.declared.Task.TheVariants.{Pack, Picture, InspectFiles, Repair, Takes}
-use Rattle.bw_program.specs.Programs.{DoesAlone, IsDoneFor, IsProgram, IsReporting, IsUnread}
+use Rattle.bw_program.specs.Programs.{DoesAlone, IsDoneFor, IsProgram, IsReporting, IsUnread, build_lines}
 use Rattle.bw_console.specs.declared.exit.Exit.{Exit}
 use Rattle.bw_console.specs.declared.exit.Exit.TheVariants as exits
 use Rattle.bw_console.specs.declared.fault.Fault.{Fault}
 use Rattle.bw_console.specs.declared.fault.Fault.TheVariants as faults
 
 -- lack of memory ends the writing of any text
-pub reported-memory : (kind : TextKind) (reported : Print) →
+pub reported-memory : (build : List ℕ) (kind : TextKind) (reported : Print) →
     IsReportedBy (Err faults.Memory) reported →
-    IsReporting kind
+    IsReporting build kind
     (record { reads_all = true; out = Nothing; faults = reported; exit = exits.Memory })
-reported-memory texts.DisplayHelp reported t =
+reported-memory build texts.DisplayHelp reported t =
     record { outcome = Err faults.Memory; exit_is = refl; reads = refl; text = []; prints = refl; reports = t }
-reported-memory texts.DisplayVersion reported t =
+reported-memory build texts.DisplayVersion reported t =
     record { outcome = Err faults.Memory; exit_is = refl; reads = refl; text = []; prints = refl; reports = t }
-reported-memory _ reported t =
+reported-memory build _ reported t =
     inr (record { exit_is = refl; reads = refl; prints = refl; reports = t })
 
 -- what is neither help nor the version is a fault of usage
-pub reported-usage : (kind : TextKind) (text : List ℕ) (reported : Print) → kind ≢ texts.DisplayHelp →
+pub reported-usage : (build : List ℕ) (kind : TextKind) (text : List ℕ) (reported : Print) → kind ≢ texts.DisplayHelp →
     kind ≢ texts.DisplayVersion → IsOf text reported →
-    IsReporting kind
+    IsReporting build kind
     (record { reads_all = true; out = Nothing; faults = reported; exit = exits.Usage })
-reported-usage texts.DisplayHelp text reported h v t = absurd (h refl)
-reported-usage texts.DisplayVersion text reported h v t = absurd (v refl)
-reported-usage _ text reported h v t =
+reported-usage build texts.DisplayHelp text reported h v t = absurd (h refl)
+reported-usage build texts.DisplayVersion text reported h v t = absurd (v refl)
+reported-usage build _ text reported h v t =
     inl (record { exit_is = refl; reads = refl; prints = refl; text = text; reports = t })
 
 -- help and the version are printed
-pub reported-help : (kind : TextKind) (outcome : Result (Unit {0}) Fault) (text : List ℕ)
+pub reported-help : (build : List ℕ) (kind : TextKind) (outcome : Result (Unit {0}) Fault) (text : List ℕ)
     (out reported : Print) → ¬ ((kind ≢ texts.DisplayHelp) × (kind ≢ texts.DisplayVersion)) →
-    IsPrintOfText text outcome out → IsReportedBy outcome reported →
-    IsReporting kind
+    IsPrintOfText (text ++ build_lines build kind) outcome out → IsReportedBy outcome reported →
+    IsReporting build kind
     (record { reads_all = true; out = out; faults = reported; exit = exit_of outcome })
-reported-help texts.DisplayHelp outcome text out reported n p t =
+reported-help build texts.DisplayHelp outcome text out reported n p t =
     record { outcome = outcome; exit_is = refl; reads = refl; text = text; prints = p; reports = t }
-reported-help texts.DisplayVersion outcome text out reported n p t =
+reported-help build texts.DisplayVersion outcome text out reported n p t =
     record { outcome = outcome; exit_is = refl; reads = refl; text = text; prints = p; reports = t }
-reported-help _ outcome text out reported n p t = absurd (n ((λ e. cc), (λ e. cc)))
+reported-help build _ outcome text out reported n p t = absurd (n ((λ e. cc), (λ e. cc)))
 
 module _ {S T F H G M SB SL KP Ed LK DK DF N X Z P R W L K SP SK D A B U J Q I O E V C T' : Type 0}
     (host : HostSide S T F H G M SB SL KP Ed LK DK DF I O E)
@@ -88,26 +88,26 @@ module _ {S T F H G M SB SL KP Ed LK DK DF N X Z P R W L K SP SK D A B U J Q I O
   }
 
   -- what is done for the words that were found is done for those that the system reported before
-  pub reported-words : (words : Option (List Text)) (found : List Text) (exit : Exit) (system : S)
+  pub reported-words : (build : List ℕ) (words : Option (List Text)) (found : List Text) (exit : Exit) (system : S)
       (x x' : Outside S F DK N Q I O E V C) →
       ((reported : List Text) → words ≡ Some reported → found ≡ reported) →
       host.system.file_at system ≡ host.system.file_at x.system →
       host.system.failures system ≡ host.system.failures x.system →
       IsProgram host server_side sender_side upload_side network listener_setup kept_servers
-      (Some found) exit (record x { system = system }) x' →
+      build (Some found) exit (record x { system = system }) x' →
       IsProgram host server_side sender_side upload_side network listener_setup kept_servers
-      words exit x x'
-  reported-words words found exit system x x' same files counts (inl a) =
+      build words exit x x'
+  reported-words build words found exit system x x' same files counts (inl a) =
       inl (record {
         line = a.line;
         comes = λ reported e.
             subst (λ (w : List Text). IsLineOf w a.line) (same reported e) (a.comes found refl);
         done = done_for a.line (subst (λ (g : Text → Option (List ℕ)).
             IsDoneFor host server_side sender_side upload_side network listener_setup kept_servers
-            g (host.system.failures x.system) a.line exit (record x { system = system }) x') files
+            build g (host.system.failures x.system) a.line exit (record x { system = system }) x') files
             (subst (λ (k : ℕ).
             IsDoneFor host server_side sender_side upload_side network listener_setup kept_servers
-            (host.system.file_at system) k a.line exit (record x { system = system }) x')
+            build (host.system.file_at system) k a.line exit (record x { system = system }) x')
             counts a.done));
       })
     where
@@ -122,10 +122,10 @@ module _ {S T F H G M SB SL KP Ed LK DK DF N X Z P R W L K SP SK D A B U J Q I O
 
       done_for : (line : CommandLine) →
           IsDoneFor host server_side sender_side upload_side network listener_setup kept_servers
-          (host.system.file_at x.system) (host.system.failures x.system) line exit
+          build (host.system.file_at x.system) (host.system.failures x.system) line exit
           (record x { system = system }) x' →
           IsDoneFor host server_side sender_side upload_side network listener_setup kept_servers
-          (host.system.file_at x.system) (host.system.failures x.system) line exit x x'
+          build (host.system.file_at x.system) (host.system.failures x.system) line exit x x'
       done_for (Run (Replay limit fuse)) done = alone done
       done_for (Run (Rehearse name limit)) done = alone done
       done_for (Run (Inspect file)) done = alone done
@@ -140,7 +140,7 @@ module _ {S T F H G M SB SL KP Ed LK DK DF N X Z P R W L K SP SK D A B U J Q I O
       done_for (Run (Takes listing)) done = done
       done_for (Bad value) done = alone done
       done_for (Report error) done = alone done
-  reported-words words found exit system x x' same files counts (inr w) =
+  reported-words build words found exit system x x' same files counts (inr w) =
       inr (subst (λ (k : ℕ).
       DoesAlone host server_side sender_side upload_side network listener_setup kept_servers
       IsUnread exit k x x') counts

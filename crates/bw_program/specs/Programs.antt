@@ -1,5 +1,5 @@
 -- What the program does for a command line.
-use Rattle.std.specs.Prelude.{◌≡◌, ◌⊎◌, ℕ, Bool, true, false, Option, Some, List, Result}
+use Rattle.std.specs.Prelude.{◌≡◌, ◌⊎◌, ◌++◌, ℕ, Bool, true, false, Option, Some, List, [], Result}
 use Rattle.std.specs.Prelude.{string_bytes}
 use Rattle.std.specs.declared.io.ErrorKind.{ErrorKind}
 use Rattle.clap.specs.Walk.{Text}
@@ -38,13 +38,18 @@ use Rattle.bw_program.specs.Uploads.{SendsByState}
 use Rattle.bw_program.specs.Sides.{HostSide, KeptSide, SenderSide, ServerSide, UploadSide}
 use Rattle.bw_program.specs.declared.outside.Outside.{Outside}
 
--- help or the version is printed
-pub record IsHelp (did : Outcome) : Type 0 where
+-- what is shown after a text of this kind: what the program was built from, after the version
+abbrev pub build_lines : List ℕ → TextKind → List ℕ
+build_lines build texts.DisplayVersion = build
+build_lines build _ = []
+
+-- help or the version is printed, with these lines after it
+pub record IsHelp (after : List ℕ) (did : Outcome) : Type 0 where
   pub outcome : Result (Unit {0}) Fault
   pub exit_is : did.exit ≡ exit_of outcome
   pub reads : did.reads_all ≡ true
   pub text : List ℕ
-  pub prints : IsPrintOfText text outcome did.out
+  pub prints : IsPrintOfText (text ++ after) outcome did.out
   pub reports : IsReportedBy outcome did.faults
 
 -- what is wrong with the command line is reported
@@ -63,10 +68,10 @@ pub record IsBadValue (text : List ℕ) (did : Outcome) : Type 0 where
   pub reports : IsOf text did.faults
 
 -- a text of this kind is reported where it belongs
-abbrev pub IsReporting : TextKind → Outcome → Type 0
-IsReporting texts.DisplayHelp did = IsHelp did
-IsReporting texts.DisplayVersion did = IsHelp did
-IsReporting _ did = IsUsage did ⊎ IsOutOfMemory did
+abbrev pub IsReporting : List ℕ → TextKind → Outcome → Type 0
+IsReporting build texts.DisplayHelp did = IsHelp [] did
+IsReporting build texts.DisplayVersion did = IsHelp build did
+IsReporting build _ did = IsUsage did ⊎ IsOutOfMemory did
 
 -- what is done for a task over these files and this input, where the system gives what is asked of
 -- it, or not; those that use the network, recordings or a folder are elsewhere
@@ -89,13 +94,13 @@ IsTaskDone file_at input (Repair file write) gives_all did = ⊥
 IsTaskDone file_at input (Takes listing) gives_all did = ⊥
 
 -- for a command line
-abbrev pub IsLineDone : (Text → Option (List ℕ)) → Option (List ℕ) → CommandLine → Bool →
+abbrev pub IsLineDone : List ℕ → (Text → Option (List ℕ)) → Option (List ℕ) → CommandLine → Bool →
     Outcome → Type 0
-IsLineDone file_at input (Run task) gives_all did = IsTaskDone file_at input task gives_all did
-IsLineDone file_at input (Bad value) gives_all did =
+IsLineDone build file_at input (Run task) gives_all did = IsTaskDone file_at input task gives_all did
+IsLineDone build file_at input (Bad value) gives_all did =
     IsBadValue (text_of value) did × (gives_all ≡ true)
-IsLineDone file_at input (Report error) gives_all did =
-    IsReporting (kind_of error) did × (gives_all ≡ true)
+IsLineDone build file_at input (Report error) gives_all did =
+    IsReporting build (kind_of error) did × (gives_all ≡ true)
 
 -- the words can't be read: if the system fails, that is reported; if it doesn't, memory is lacking
 abbrev pub IsUnread : Bool → Outcome → Type 0
@@ -125,66 +130,66 @@ module _ {S T F H G M SB SL KP Ed LK DK DF N X Z P R W L K SP SK D A B U J Q I O
 
   -- what is done for a command line, and how the program ends, where the system has these files and
   -- so many calls of it had failed
-  abbrev pub IsDoneFor : (Text → Option (List ℕ)) → ℕ → CommandLine → Exit →
+  abbrev pub IsDoneFor : List ℕ → (Text → Option (List ℕ)) → ℕ → CommandLine → Exit →
       Outside S F DK N Q I O E V C → Outside S F DK N Q I O E V C → Type 0
-  IsDoneFor file_at failed (Run (Serve server)) exit x x' =
+  IsDoneFor build file_at failed (Run (Serve server)) exit x x' =
       ServesByRule server_side host.out host.reported network listener_setup kept_servers server exit
       x.network x'.network x.out x'.out x.faults x'.faults
       × IsHostWell failed x' × (x'.files ≡ x.files) × (x'.input ≡ x.input)
       × (x'.pause ≡ x.pause) × (x'.disk ≡ x.disk)
-  IsDoneFor file_at failed (Run (Send sender)) exit x x' =
+  IsDoneFor build file_at failed (Run (Send sender)) exit x x' =
       SendsTyped network sender_side host.input host.out host.reported x.is_typed sender exit
       x.network x.input x'.input x.out x'.out x.faults x'.faults
       × IsHostWell failed x' × (x'.files ≡ x.files) × (x'.network ≡ x.network)
       × (x'.pause ≡ x.pause) × (x'.disk ≡ x.disk)
-  IsDoneFor file_at failed (Run (SendFile sender)) exit x x' =
+  IsDoneFor build file_at failed (Run (SendFile sender)) exit x x' =
       IfFile host.kinds host.reported (string_bytes sender.source.path) false exit
       x.files x'.files x.pause x'.pause x.out x'.out x.faults x'.faults
       (SendsByState upload_side sender_side network host.files host.states host.out host.reported
       sender exit x.files x'.files x.network x.pause x'.pause x.out x'.out x.faults x'.faults)
       × IsHostWell failed x' × (x'.network ≡ x.network) × (x'.input ≡ x.input) × (x'.disk ≡ x.disk)
-  IsDoneFor file_at failed (Run (SendPcm sender)) exit x x' =
+  IsDoneFor build file_at failed (Run (SendPcm sender)) exit x x' =
       IfFile host.kinds host.reported (string_bytes sender.source.path) sender.pcm.is_spooled exit
       x.files x'.files x.pause x'.pause x.out x'.out x.faults x'.faults
       (SendsPcmCommand upload_side sender_side network host.files host.spools host.out host.reported
       sender exit x.files x'.files x.network x.pause x'.pause x.out x'.out x.faults x'.faults)
       × IsHostWell failed x' × (x'.network ≡ x.network) × (x'.input ≡ x.input) × (x'.disk ≡ x.disk)
-  IsDoneFor file_at failed (Run (Pack source)) exit x x' =
+  IsDoneFor build file_at failed (Run (Pack source)) exit x x' =
       Packs host.out host.reported (host.files.file_at x.files) source exit
       (host.files.failures x.files) (host.files.failures x'.files) x.out x'.out x.faults x'.faults
       × IsHostWell failed x' × (x'.network ≡ x.network) × (x'.input ≡ x.input)
       × (x'.pause ≡ x.pause) × (x'.disk ≡ x.disk)
-  IsDoneFor file_at failed (Run (InspectFiles inspection)) exit x x' =
+  IsDoneFor build file_at failed (Run (InspectFiles inspection)) exit x x' =
       InspectsFiles host.files host.input host.out host.reported inspection exit
       x.files x'.files x.input x'.input x.out x'.out x.faults x'.faults
       × IsHostWell failed x' × (x'.network ≡ x.network) × (x'.pause ≡ x.pause) × (x'.disk ≡ x.disk)
-  IsDoneFor file_at failed (Run (Picture file)) exit x x' =
+  IsDoneFor build file_at failed (Run (Picture file)) exit x x' =
       DrawsFile host.files host.out host.reported (string_bytes file) exit
       x.files x'.files x.out x'.out x.faults x'.faults
       × IsHostWell failed x' × (x'.network ≡ x.network) × (x'.input ≡ x.input)
       × (x'.pause ≡ x.pause) × (x'.disk ≡ x.disk)
-  IsDoneFor file_at failed (Run (Repair file write)) exit x x' =
+  IsDoneFor build file_at failed (Run (Repair file write)) exit x x' =
       RepairsFile host.edits host.out host.reported (string_bytes file) write exit
       x.files x'.files x.out x'.out x.faults x'.faults
       × IsHostWell failed x' × (x'.network ≡ x.network) × (x'.input ≡ x.input)
       × (x'.pause ≡ x.pause) × (x'.disk ≡ x.disk)
-  IsDoneFor file_at failed (Run (Takes listing)) exit x x' =
+  IsDoneFor build file_at failed (Run (Takes listing)) exit x x' =
       WorksOnTakes (folder_side host.disk host.locks upload_side.pause host.out host.reported)
       x.screens listing exit (folder_world x.disk x.files x.pause x.out x.faults)
       (folder_world x'.disk x'.files x'.pause x'.out x'.faults)
       × IsHostWell failed x' × (x'.network ≡ x.network) × (x'.input ≡ x.input)
-  IsDoneFor file_at failed line exit x x' =
-      DoesAlone (IsLineDone file_at (host.input.left x.input) line) exit failed x x'
+  IsDoneFor build file_at failed line exit x x' =
+      DoesAlone (IsLineDone build file_at (host.input.left x.input) line) exit failed x x'
 
   -- the words result in a command line, and this is done for it
-  pub record IsAnswered (words : Option (List Text)) (exit : Exit) (x x' : Outside S F DK N Q I O E V C)
-      : Type 0 where
+  pub record IsAnswered (build : List ℕ) (words : Option (List Text)) (exit : Exit)
+      (x x' : Outside S F DK N Q I O E V C) : Type 0 where
     pub line : CommandLine
     pub comes : (given : List Text) → words ≡ Some given → IsLineOf given line
-    pub done : IsDoneFor (host.system.file_at x.system) (host.system.failures x.system) line exit x x'
+    pub done : IsDoneFor build (host.system.file_at x.system) (host.system.failures x.system) line exit x x'
 
-  -- what the program does if the system reports these words, or none
-  abbrev pub IsProgram : Option (List Text) → Exit → Outside S F DK N Q I O E V C →
+  -- what the program that was built so does if the system reports these words, or none
+  abbrev pub IsProgram : List ℕ → Option (List Text) → Exit → Outside S F DK N Q I O E V C →
       Outside S F DK N Q I O E V C → Type 0
-  IsProgram words exit x x' = IsAnswered words exit x x'
+  IsProgram build words exit x x' = IsAnswered build words exit x x'
       ⊎ DoesAlone IsUnread exit (host.system.failures x.system) x x'

@@ -1,5 +1,5 @@
 //! What the program does: its words, and what they ask for.
-ghost use Rattle.std.specs.Prelude.{◌≡◌, true, Some, map, string_bytes};
+ghost use Rattle.std.specs.Prelude.{◌≡◌, ◌++◌, ℕ, List, true, Some, IfOk, map, string_bytes};
 ghost use Rattle.std.specs.Process.{exit_status};
 ghost use Rattle.clap.specs.Values.{kind_of};
 ghost use Rattle.bw_args.specs.Lines.{HasNumbersInRange};
@@ -7,7 +7,7 @@ ghost use Rattle.bw_console.specs.Outcomes.{Outcome, HasWritten};
 ghost use Rattle.bw_console.specs.declared.exit.Exit.{Exit};
 ghost use Rattle.bw_console.specs.Exits.{status_of};
 ghost use Rattle.bw_send_file.specs.FileLooks.{LooksAt};
-ghost use Rattle.bw_program.specs.Programs.{IsDoneFor, IsProgram, IsReporting};
+ghost use Rattle.bw_program.specs.Programs.{IsDoneFor, IsProgram, IsReporting, build_lines};
 ghost use Rattle.bw_program.specs.Sides.{host_side, kept_side, sender_side, server_side, spool_side, state_side, turns_side, upload_side};
 ghost use Rattle.bw_serve_status.specs.Shown.{status_side};
 
@@ -38,16 +38,17 @@ use bw_serve::{Opens, ServeRules};
 use bw_stream::{Sink, Source};
 use bw_upload::{Feed, Observer};
 use clap::Error;
-use std::alloc::Global;
+use clap::error::ErrorKind;
+use std::alloc::{AllocError, Global};
 use std::process::ExitCode;
 
 /// Reads the command line, does what it asks for, and returns the program's exit status, 0 to 4.
-/// The watcher gets the progress of `send`, unless its links are logged.
+/// `--version` prints `build`, whole lines, after the version. The watcher gets the progress of `send`, unless its links are logged.
 ///
 /// # Not specified
 /// - When the status 4 is returned.
 /// - Which command line is obeyed if the system reports no words, as `Host` doesn't.
-/// - The texts of help, version and usage errors.
+/// - The texts of help and usage errors, and of the version but for the lines of `build` after it.
 pub fn start<
     S: System,
     F: RecordingFiles + StateKeeping + SpoolKeeping + EditedFiles + FolderLocks + FileKinds,
@@ -59,7 +60,7 @@ pub fn start<
     E: Sink,
     V: Watch + UploadWatch,
     G: Observer,
->(alloc: Global, outside: &mut Outside<S, F, D, N, P, R, W, E, V, G>) -> ExitCode
+>(alloc: Global, build: &str, outside: &mut Outside<S, F, D, N, P, R, W, E, V, G>) -> ExitCode
     // Commands without the network leave it alone, and each text goes to its stream.
     ensures { (exit : Exit) × (exit_status result ≡ status_of exit) × IsProgram
         (host_side S.System F.RecordingFiles (state_side F.kept_at F.States.StateFiles F.States.Log.StateLog)
@@ -73,9 +74,9 @@ pub fn start<
         N.Network N.ListenerSetup (kept_side N.Opens.opens N.Opens.failures
         (turns_side N.Server.Turns.answers N.Server.Turns.committed N.Server.Turns.commits
         N.Server.HasTable.holds))
-        (S.words outside.old.system) exit outside.old outside.new }
+        build.now (S.words outside.old.system) exit outside.old outside.new }
 {
-    ExitCode::from(obey(alloc, outside).status())
+    ExitCode::from(obey(alloc, build, outside).status())
 }
 
 /// Reads the command line, and does what it asks for.
@@ -90,7 +91,7 @@ fn obey<
     E: Sink,
     V: Watch + UploadWatch,
     G: Observer,
->(alloc: Global, outside: &mut Outside<S, F, D, N, P, R, W, E, V, G>) -> Exit
+>(alloc: Global, build: &str, outside: &mut Outside<S, F, D, N, P, R, W, E, V, G>) -> Exit
     ensures { IsProgram (host_side S.System F.RecordingFiles (state_side F.kept_at F.States.StateFiles F.States.Log.StateLog)
         (spool_side F.lends F.Keeper.SpoolKeeper) F.EditedFiles F.FolderLocks F.FileKinds D.Disk R.Source W.Sink E.Sink)
         (server_side N.Store.TakeStore ⟦<NoJournal as Journal>⟧ N.Peers.Peers
@@ -102,10 +103,10 @@ fn obey<
         N.Network N.ListenerSetup (kept_side N.Opens.opens N.Opens.failures
         (turns_side N.Server.Turns.answers N.Server.Turns.committed N.Server.Turns.commits
         N.Server.HasTable.holds))
-        (S.words outside.old.system) result outside.old outside.new }
+        build.now (S.words outside.old.system) result outside.old outside.new }
 {
     match outside.system.words() {
-        Ok(words) => answer(alloc, words.as_slice(), outside),
+        Ok(words) => answer(alloc, build, words.as_slice(), outside),
         Err(error) => report_bad_argv(&error, &mut outside.faults),
     }
 }
@@ -122,7 +123,12 @@ fn answer<
     E: Sink,
     V: Watch + UploadWatch,
     G: Observer,
->(alloc: Global, words: &[String], outside: &mut Outside<S, F, D, N, P, R, W, E, V, G>) -> Exit
+>(
+    alloc: Global,
+    build: &str,
+    words: &[String],
+    outside: &mut Outside<S, F, D, N, P, R, W, E, V, G>,
+) -> Exit
     ensures { IsProgram (host_side S.System F.RecordingFiles (state_side F.kept_at F.States.StateFiles F.States.Log.StateLog)
         (spool_side F.lends F.Keeper.SpoolKeeper) F.EditedFiles F.FolderLocks F.FileKinds D.Disk R.Source W.Sink E.Sink)
         (server_side N.Store.TakeStore ⟦<NoJournal as Journal>⟧ N.Peers.Peers
@@ -134,10 +140,10 @@ fn answer<
         N.Network N.ListenerSetup (kept_side N.Opens.opens N.Opens.failures
         (turns_side N.Server.Turns.answers N.Server.Turns.committed N.Server.Turns.commits
         N.Server.HasTable.holds))
-        (Some (map string_bytes words.now)) result outside.old outside.new }
+        build.now (Some (map string_bytes words.now)) result outside.old outside.new }
 {
     match parse(alloc, words) {
-        Ok(line) => perform(alloc, &line, outside),
+        Ok(line) => perform(alloc, build, &line, outside),
         Err(_) => give_up(&mut outside.faults, &Fault::Memory),
     }
 }
@@ -154,7 +160,12 @@ fn perform<
     E: Sink,
     V: Watch + UploadWatch,
     G: Observer,
->(alloc: Global, line: &CommandLine, outside: &mut Outside<S, F, D, N, P, R, W, E, V, G>) -> Exit
+>(
+    alloc: Global,
+    build: &str,
+    line: &CommandLine,
+    outside: &mut Outside<S, F, D, N, P, R, W, E, V, G>,
+) -> Exit
     requires { HasNumbersInRange line.now }
     ensures { IsDoneFor (host_side S.System F.RecordingFiles (state_side F.kept_at F.States.StateFiles F.States.Log.StateLog)
         (spool_side F.lends F.Keeper.SpoolKeeper) F.EditedFiles F.FolderLocks F.FileKinds D.Disk R.Source W.Sink E.Sink)
@@ -167,7 +178,7 @@ fn perform<
         N.Network N.ListenerSetup (kept_side N.Opens.opens N.Opens.failures
         (turns_side N.Server.Turns.answers N.Server.Turns.committed N.Server.Turns.commits
         N.Server.HasTable.holds))
-        (S.file_at outside.old.system) (S.failures outside.old.system) line.now result
+        build.now (S.file_at outside.old.system) (S.failures outside.old.system) line.now result
         outside.old outside.new }
 {
     match line {
@@ -176,7 +187,13 @@ fn perform<
             print_diagnostic(&mut outside.faults, value.text().as_bytes());
             Exit::Usage
         }
-        CommandLine::Report(text) => show(alloc, text, &mut outside.out, &mut outside.faults),
+        CommandLine::Report(text) => show(
+            alloc,
+            text,
+            build,
+            &mut outside.out,
+            &mut outside.faults,
+        ),
     }
 }
 
@@ -258,13 +275,19 @@ fn run<
     }
 }
 
-/// Prints help or the version, or says what is wrong with the command line.
-fn show<W: Sink, E: Sink>(alloc: Global, text: &Error, out: &mut W, faults: &mut E) -> Exit
-    ensures { (did : Outcome) × (did.exit ≡ result) × IsReporting (kind_of text.now) did
+/// Prints help, or the version and what was built, or says what is wrong with the command line.
+fn show<W: Sink, E: Sink>(
+    alloc: Global,
+    text: &Error,
+    build: &str,
+    out: &mut W,
+    faults: &mut E,
+) -> Exit
+    ensures { (did : Outcome) × (did.exit ≡ result) × IsReporting build.now (kind_of text.now) did
         × (did.reads_all ≡ true)
         × HasWritten W.Sink E.Sink did out.old out.new faults.old faults.new }
 {
-    let Ok(words) = format!(in alloc; "{text}") else {
+    let Ok(words) = shown_text(alloc, text, build) else {
         return give_up(faults, &Fault::Memory);
     };
     if text.use_stderr() {
@@ -274,5 +297,17 @@ fn show<W: Sink, E: Sink>(alloc: Global, text: &Error, out: &mut W, faults: &mut
     match print(out, words.as_bytes()) {
         Ok(()) => Exit::Done,
         Err(_) => give_up(faults, &Fault::Unwritable),
+    }
+}
+
+/// A text as it is shown: what the program was built from follows the version.
+fn shown_text(alloc: Global, text: &Error, build: &str) -> Result<String, AllocError>
+    ensures { IfOk result (λ shown. (words : List ℕ) ×
+        (string_bytes shown ≡ words ++ build_lines build.now (kind_of text.now))) }
+{
+    let words = format!(in alloc; "{text}")?;
+    match text.kind() {
+        ErrorKind::DisplayVersion => format!(in alloc; "{words}{build}"),
+        _ => Ok(words),
     }
 }

@@ -3,7 +3,7 @@ use Rattle.bw_program.proofs.ProgramLemmas.{reported-words}
 use Rattle.bw_program.proofs.program.obey.Goals as goal
 
 pub returns-in-Ok : goal.returns-in-Ok
-returns-in-Ok g c = reported-words _ _ _ _ _ _ _ _ _ _ _ _ _
+returns-in-Ok g c = reported-words _ _ _ _ _ _ _ _ _ _ _ _ _ _
     (λ reported e. ap (map string_bytes) c.as_slice.ensures.value ∙ c.in-Ok.ensures.ok reported e)
     c.in-Ok.ensures.files c.in-Ok.ensures.count c.answer.ensures
 

@@ -10,7 +10,7 @@ returns-in_default g c =
     let l = c.give_up.ensures.line in (
       record { reads_all = true; out = Nothing; faults = l.0; exit = Memory },
       sym c.give_up.ensures.exit,
-      reported-memory _ l.0 l.1,
+      reported-memory _ _ l.0 l.1,
       refl,
       record { printed = refl; reported = l.2 },
     )
