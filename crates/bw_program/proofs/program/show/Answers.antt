@@ -1,4 +1,4 @@
-use Rattle.std.proofs.Common.{Ok, Err, true, refl, sym}
+use Rattle.std.proofs.Common.{◌∙◌, Ok, Err, true, ap, refl, sym}
 use Rattle.bw_console.specs.Prints.{Nothing, Whole, Part}
 use Rattle.bw_console.specs.declared.exit.Exit.TheVariants.{Done, Device, Memory, Usage}
 use Rattle.bw_console.specs.declared.fault.Fault.TheVariants as faults
@@ -21,28 +21,31 @@ returns-then-use_stderr g c =
     let usage = c.use_stderr.ensures.0 c.if-use_stderr.true in (
       record { reads_all = true; out = Nothing; faults = l.0; exit = Usage },
       refl,
-      reported-usage _ _ l.0 usage.0 usage.1 l.1,
+      reported-usage _ _ _ l.0 usage.0 usage.1 l.1,
       refl,
       record { printed = refl; reported = l.2 },
     )
 
 pub returns-in-Ok-print : goal.returns-in-Ok-print
-returns-in-Ok-print g c = (
-  record { reads_all = true; out = Whole c.as_bytes-2.result.now; faults = Nothing; exit = Done },
-  refl,
-  reported-help _ (Ok tt) c.as_bytes-2.result.now _ _
-      (λ p. let t = c.use_stderr.ensures.1 p in let f = c.if-use_stderr.false in cc) refl refl,
-  refl,
-  record { printed = c.in-Ok-print.ensures.ok; reported = refl },
-)
+returns-in-Ok-print g c =
+    let shown = c.in-Ok.ensures in (
+      record { reads_all = true; out = Whole c.as_bytes-2.result.now; faults = Nothing; exit = Done },
+      refl,
+      reported-help _ _ (Ok tt) shown.0 _ _ (λ p. let t = c.use_stderr.ensures.1 p in let f = c.if-use_stderr.false in cc)
+          (ap Whole (c.as_bytes-2.ensures.value ∙ shown.1)) refl,
+      refl,
+      record { printed = c.in-Ok-print.ensures.ok; reported = refl },
+    )
 
 pub returns : goal.returns
 returns g c =
-    let l = c.give_up-in-Err.ensures.line in (
+    let l = c.give_up-in-Err.ensures.line in
+    let shown = c.in-Ok.ensures in (
       record { reads_all = true; out = Part c.as_bytes-2.result.now; faults = l.0; exit = Device },
       sym c.give_up-in-Err.ensures.exit,
-      reported-help _ (Err faults.Unwritable) c.as_bytes-2.result.now _ l.0
-          (λ p. let t = c.use_stderr.ensures.1 p in let f = c.if-use_stderr.false in cc) refl l.1,
+      reported-help _ _ (Err faults.Unwritable) shown.0 _ l.0
+          (λ p. let t = c.use_stderr.ensures.1 p in let f = c.if-use_stderr.false in cc)
+          (ap Part (c.as_bytes-2.ensures.value ∙ shown.1)) l.1,
       refl,
       record { printed = c.in-Err.ensures.err; reported = l.2 },
     )
