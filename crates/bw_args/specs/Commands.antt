@@ -44,8 +44,8 @@ abbrev pub word : Text → Rule
 word name = record (new_rule name) { value_names = 1; required = true }
 
 -- such words, at least one
-abbrev pub words : Text → Rule
-words name = record (word name) { action = Some Append }
+abbrev pub word_list : Text → Rule
+word_list name = record (word name) { action = Some Append }
 
 -- the command of this name with these options
 abbrev pub command : Text → List Rule → App
@@ -61,7 +61,7 @@ rehearse_command = command (codes "rehearse") (
 
 abbrev pub inspect_command : App
 inspect_command = command (codes "inspect") (
-    words (codes "file") ∷ flag (codes "json") ∷ flag (codes "human") ∷ flag (codes "digest") ∷ [])
+    word_list (codes "file") ∷ flag (codes "json") ∷ flag (codes "human") ∷ flag (codes "digest") ∷ [])
 
 abbrev pub pack_command : App
 pack_command = command (codes "pack") (

@@ -2,13 +2,51 @@
 use super::row::Kind::{Flag, Optional, Repeated, Required, Value, Word, Words};
 use super::row::Row;
 
+const LIMIT: Row = Row {
+    name: "limit",
+    kind: Value("N"),
+    help: "The largest form size of a RIFF file in bytes, even, at least 8192; a longer take is BW64 [default: 4294967294]",
+};
+
+const NAME: Row = Row {
+    name: "name",
+    kind: Required("NAME"),
+    help: "The name of the take",
+};
+
+const FILE: Row = Row {
+    name: "file",
+    kind: Word("FILE"),
+    help: "A RIFF WAVE, BW64 or RF64 file",
+};
+
+const SET: Row = Row {
+    name: "set",
+    kind: Repeated("KEY=VALUE"),
+    help: "Sets a field of the recording, whatever the file has; may be repeated",
+};
+
+const STRICT: Row = Row {
+    name: "strict",
+    kind: Flag,
+    help: "Refuses a recording whose fields would have to be cleaned",
+};
+
+const FOLDER: Row = Row {
+    name: "folder",
+    kind: Required("DIR"),
+    help: "The folder of the takes' files",
+};
+
+const NETWORK: Row = Row {
+    name: "network",
+    kind: Flag,
+    help: "Allows any address; nothing on the wire is encrypted or signed",
+};
+
 /// The options of `replay`.
 pub(crate) const REPLAY: [Row; 2] = [
-    Row {
-        name: "limit",
-        kind: Value("N"),
-        help: "The largest form size of a RIFF file in bytes, even, at least 8192; a longer take is BW64 [default: 4294967294]",
-    },
+    LIMIT,
     Row {
         name: "fuse",
         kind: Value("K"),
@@ -18,18 +56,7 @@ pub(crate) const REPLAY: [Row; 2] = [
 
 /// The options of `rehearse`. A name that begins with a hyphen reaches `clap` in the word of its option
 /// (`read_words`), since `clap`'s contract isn't exact for a command that takes such a word by itself.
-pub(crate) const REHEARSE: [Row; 2] = [
-    Row {
-        name: "name",
-        kind: Required("NAME"),
-        help: "The name of the take",
-    },
-    Row {
-        name: "limit",
-        kind: Value("N"),
-        help: "The largest form size of a RIFF file in bytes, even, at least 8192; a longer take is BW64 [default: 4294967294]",
-    },
-];
+pub(crate) const REHEARSE: [Row; 2] = [NAME, LIMIT];
 
 /// The options of `inspect`.
 pub(crate) const INSPECT: [Row; 4] = [
@@ -56,23 +83,7 @@ pub(crate) const INSPECT: [Row; 4] = [
 ];
 
 /// The options of `pack`.
-pub(crate) const PACK: [Row; 3] = [
-    Row {
-        name: "file",
-        kind: Word("FILE"),
-        help: "A RIFF WAVE, BW64 or RF64 file",
-    },
-    Row {
-        name: "set",
-        kind: Repeated("KEY=VALUE"),
-        help: "Sets a field of the recording, whatever the file has; may be repeated",
-    },
-    Row {
-        name: "strict",
-        kind: Flag,
-        help: "Refuses a recording whose fields would have to be cleaned",
-    },
-];
+pub(crate) const PACK: [Row; 3] = [FILE, SET, STRICT];
 
 /// The options of `picture`.
 pub(crate) const PICTURE: [Row; 1] = [Row {
@@ -83,11 +94,7 @@ pub(crate) const PICTURE: [Row; 1] = [Row {
 
 /// The options of `repair`.
 pub(crate) const REPAIR: [Row; 2] = [
-    Row {
-        name: "file",
-        kind: Word("FILE"),
-        help: "A RIFF WAVE, BW64 or RF64 file",
-    },
+    FILE,
     Row {
         name: "write",
         kind: Flag,
@@ -97,11 +104,7 @@ pub(crate) const REPAIR: [Row; 2] = [
 
 /// The options of `takes`.
 pub(crate) const TAKES: [Row; 6] = [
-    Row {
-        name: "folder",
-        kind: Required("DIR"),
-        help: "The folder of the takes' files",
-    },
+    FOLDER,
     Row {
         name: "check",
         kind: Flag,
@@ -136,31 +139,19 @@ pub(crate) const SERVE: [Row; 16] = [
         kind: Required("ADDR"),
         help: "The address to listen on: 127.0.0.1:PORT, or any address with --network",
     },
-    Row {
-        name: "folder",
-        kind: Required("DIR"),
-        help: "The folder of the takes' files",
-    },
+    FOLDER,
     Row {
         name: "exchanges",
         kind: Value("N"),
         help: "Ends after N exchanges (connections), 1 to 1000000 [default: 1]",
     },
-    Row {
-        name: "limit",
-        kind: Value("N"),
-        help: "The largest form size of a RIFF file in bytes, even, at least 8192; a longer take is BW64 [default: 4294967294]",
-    },
+    LIMIT,
     Row {
         name: "timeout",
         kind: Value("SECONDS"),
         help: "How long to wait for a silent peer, 1 to 86400 [default: forever]",
     },
-    Row {
-        name: "network",
-        kind: Flag,
-        help: "Allows any address; nothing on the wire is encrypted or signed",
-    },
+    NETWORK,
     Row {
         name: "recorders",
         kind: Value("N"),
@@ -220,11 +211,7 @@ pub(crate) const SEND: [Row; 18] = [
         kind: Required("ADDR"),
         help: "The server's address: 127.0.0.1:PORT, or any address or host with --network",
     },
-    Row {
-        name: "name",
-        kind: Required("NAME"),
-        help: "The name of the take",
-    },
+    NAME,
     Row {
         name: "rounds",
         kind: Value("N"),
@@ -235,26 +222,14 @@ pub(crate) const SEND: [Row; 18] = [
         kind: Value("SECONDS"),
         help: "How long to wait for a silent server, 1 to 86400 [default: forever; with --file or --spool 30]",
     },
-    Row {
-        name: "network",
-        kind: Flag,
-        help: "Allows any address; nothing on the wire is encrypted or signed",
-    },
+    NETWORK,
     Row {
         name: "file",
         kind: Value("FILE"),
         help: "The recording to send, instead of standard input: a RIFF WAVE, BW64 or RF64 file",
     },
-    Row {
-        name: "set",
-        kind: Repeated("KEY=VALUE"),
-        help: "Sets a field of the recording, whatever the file has; may be repeated",
-    },
-    Row {
-        name: "strict",
-        kind: Flag,
-        help: "Refuses a recording whose fields would have to be cleaned",
-    },
+    SET,
+    STRICT,
     Row {
         name: "pcm",
         kind: Value("RATE,CHANNELS,BITS"),
