@@ -1,5 +1,5 @@
 -- The command line as `clap` sees it.
-use Rattle.std.specs.Prelude.{◌≡◌, Some, true, false, codes, [], ◌∷◌}
+use Rattle.std.specs.Prelude.{◌≡◌, Some, true, false, codes, List, [], ◌∷◌, fold}
 use Rattle.clap.specs.Words.{app_of, rule_of}
 use Rattle.clap.specs.Walk.{Rule, Text}
 use Rattle.clap.specs.Simple.{App, new_app, new_rule, on_top, with_rule, with_subcommand}
@@ -32,274 +32,71 @@ flag name = record (new_rule name) { long = Some name; action = Some SetTrue }
 abbrev pub repeated : Text → Rule
 repeated name = record (option name) { action = Some Append }
 
--- `--limit N`
-abbrev pub limit_option : Rule
-limit_option = option (codes "limit")
-
--- `--name NAME`
-abbrev pub name_option : Rule
-name_option = required (codes "name")
-
--- `--fuse K`
-abbrev pub fuse_option : Rule
-fuse_option = option (codes "fuse")
-
--- `--timeout SECONDS`
-abbrev pub timeout_option : Rule
-timeout_option = option (codes "timeout")
-
--- `--network`
-abbrev pub network_flag : Rule
-network_flag = flag (codes "network")
-
--- `replay`, with its two options
-abbrev pub replay_command : App
-replay_command = with_rule (with_rule (new_app (codes "replay")) limit_option) fuse_option
-
--- `rehearse`, with its two options
-abbrev pub rehearse_command : App
-rehearse_command = with_rule (with_rule (new_app (codes "rehearse")) name_option) limit_option
-
--- the word that names a file
-abbrev pub file_argument : Rule
-file_argument = record (new_rule (codes "file")) { value_names = 1; required = true }
-
--- the words that name the files of `inspect`
-abbrev pub files_argument : Rule
-files_argument = record file_argument { action = Some Append }
-
--- `--json`
-abbrev pub json_flag : Rule
-json_flag = flag (codes "json")
-
--- `--human`
-abbrev pub human_flag : Rule
-human_flag = flag (codes "human")
-
--- `--digest`
-abbrev pub digest_flag : Rule
-digest_flag = flag (codes "digest")
-
--- `inspect`, with the files and `--json`
-abbrev pub inspect_texts : App
-inspect_texts = with_rule (with_rule (new_app (codes "inspect")) files_argument) json_flag
-
--- .. and its other options
-abbrev pub inspect_command : App
-inspect_command = with_rule (with_rule inspect_texts human_flag) digest_flag
-
--- `--listen ADDR`
-abbrev pub listen_option : Rule
-listen_option = required (codes "listen")
-
--- `--folder DIR`
-abbrev pub folder_option : Rule
-folder_option = required (codes "folder")
-
--- `--exchanges N`
-abbrev pub exchanges_option : Rule
-exchanges_option = option (codes "exchanges")
-
--- `--recorders N`
-abbrev pub recorders_option : Rule
-recorders_option = option (codes "recorders")
-
--- `--idle SECONDS`
-abbrev pub idle_option : Rule
-idle_option = option (codes "idle")
-
--- `--until-stopped`
-abbrev pub until_stopped_flag : Rule
-until_stopped_flag = flag (codes "until-stopped")
-
--- `--log`
-abbrev pub log_flag : Rule
-log_flag = flag (codes "log")
-
--- `--log` and `--log FORM`
-abbrev pub log_option : Rule
-log_option = record (option (codes "log")) {
+-- one that may stand alone, as if with this value: `--log` and `--log FORM`
+abbrev pub optional : Text → Text → Rule
+optional name alone = record (option name) {
   range = Some (record { start_inclusive = 0; end_inclusive = 1 });
-  missing = codes "lines" ∷ [];
+  missing = alone ∷ [];
 }
 
--- `--journal`
-abbrev pub journal_flag : Rule
-journal_flag = flag (codes "journal")
+-- a word that has to be given, `FILE`
+abbrev pub word : Text → Rule
+word name = record (new_rule name) { value_names = 1; required = true }
 
--- `--sync`
-abbrev pub sync_flag : Rule
-sync_flag = flag (codes "sync")
+-- such words, at least one
+abbrev pub word_list : Text → Rule
+word_list name = record (word name) { action = Some Append }
 
--- `--rest`
-abbrev pub rest_flag : Rule
-rest_flag = flag (codes "rest")
+-- the command of this name with these options
+abbrev pub command : Text → List Rule → App
+command name rules = fold with_rule (new_app name) rules
 
--- `--one-name`
-abbrev pub one_name_flag : Rule
-one_name_flag = flag (codes "one-name")
+abbrev pub replay_command : App
+replay_command = command (codes "replay") (
+    option (codes "limit") ∷ option (codes "fuse") ∷ [])
 
--- `--allow FILE`
-abbrev pub allow_option : Rule
-allow_option = option (codes "allow")
+abbrev pub rehearse_command : App
+rehearse_command = command (codes "rehearse") (
+    required (codes "name") ∷ option (codes "limit") ∷ [])
 
--- `--status ADDR`
-abbrev pub status_option : Rule
-status_option = option (codes "status")
+abbrev pub inspect_command : App
+inspect_command = command (codes "inspect") (
+    word_list (codes "file") ∷ flag (codes "json") ∷ flag (codes "human") ∷ flag (codes "digest") ∷ [])
 
--- `serve` with the options that say what is served and where
-abbrev pub serve_where : App
-serve_where =
-    with_rule
-    (with_rule (with_rule (new_app (codes "serve")) listen_option) folder_option) exchanges_option
-
--- and how peers are treated
-abbrev pub serve_how : App
-serve_how = with_rule (with_rule (with_rule serve_where limit_option) timeout_option) network_flag
-
--- and many of them at once
-abbrev pub serve_many : App
-serve_many = with_rule (with_rule serve_how recorders_option) idle_option
-
--- and when it ends, and what it reports
-abbrev pub serve_ends : App
-serve_ends = with_rule (with_rule serve_many until_stopped_flag) log_option
-
--- and what it keeps beside the takes
-abbrev pub serve_keeps : App
-serve_keeps = with_rule (with_rule (with_rule serve_ends journal_flag) sync_flag) rest_flag
-
--- `serve`, with its options
-abbrev pub serve_command : App
-serve_command = with_rule (with_rule (with_rule serve_keeps one_name_flag) allow_option) status_option
-
--- `--connect ADDR`
-abbrev pub connect_option : Rule
-connect_option = required (codes "connect")
-
--- `--rounds N`
-abbrev pub rounds_option : Rule
-rounds_option = option (codes "rounds")
-
--- `--file FILE`
-abbrev pub file_option : Rule
-file_option = option (codes "file")
-
--- `--set KEY=VALUE`
-abbrev pub set_option : Rule
-set_option = repeated (codes "set")
-
--- `--strict`
-abbrev pub strict_flag : Rule
-strict_flag = flag (codes "strict")
-
--- `--fruitless N`
-abbrev pub fruitless_option : Rule
-fruitless_option = option (codes "fruitless")
-
--- `--state STATE`
-abbrev pub state_option : Rule
-state_option = option (codes "state")
-
--- `--rate BYTES`
-abbrev pub rate_option : Rule
-rate_option = option (codes "rate")
-
--- `send` with the options that say where to, and under which name
-abbrev pub send_where : App
-send_where = with_rule
-    (with_rule (with_rule (new_app (codes "send")) connect_option) name_option)
-    rounds_option
-
--- and how long, and whether over the network
-abbrev pub send_how : App
-send_how = with_rule (with_rule send_where timeout_option) network_flag
-
--- and the recording that is sent
-abbrev pub send_source : App
-send_source = with_rule (with_rule (with_rule send_how file_option) set_option) strict_flag
-
--- `--pcm RATE,CHANNELS,BITS`
-abbrev pub pcm_option : Rule
-pcm_option = option (codes "pcm")
-
--- `--skip BYTES`
-abbrev pub skip_option : Rule
-skip_option = option (codes "skip")
-
--- `--block FRAMES`
-abbrev pub block_option : Rule
-block_option = option (codes "block")
-
--- `--follow`
-abbrev pub follow_flag : Rule
-follow_flag = flag (codes "follow")
-
--- `--until END`
-abbrev pub until_option : Rule
-until_option = option (codes "until")
-
--- and of which samples it is, where it has no header
-abbrev pub send_samples : App
-send_samples = with_rule (with_rule (with_rule send_source pcm_option) skip_option) block_option
-
--- `--spool SPOOL`
-abbrev pub spool_option : Rule
-spool_option = option (codes "spool")
-
--- and when it has ended, where it is still going on
-abbrev pub send_followed : App
-send_followed = with_rule (with_rule (with_rule send_samples follow_flag) until_option) spool_option
-
--- and when it gives up, and what it reports
-abbrev pub send_report : App
-send_report = with_rule (with_rule send_followed fruitless_option) log_flag
-
--- `send`, with its eighteen options
-abbrev pub send_command : App
-send_command = with_rule (with_rule send_report state_option) rate_option
-
--- `pack`, with the file and its two options
 abbrev pub pack_command : App
-pack_command = with_rule
-    (with_rule (with_rule (new_app (codes "pack")) file_argument) set_option)
-    strict_flag
+pack_command = command (codes "pack") (
+    word (codes "file") ∷ repeated (codes "set") ∷ flag (codes "strict") ∷ [])
 
--- `picture`, with the file
 abbrev pub picture_command : App
-picture_command = with_rule (new_app (codes "picture")) file_argument
+picture_command = command (codes "picture") (
+    word (codes "file") ∷ [])
 
--- `--write`
-abbrev pub write_flag : Rule
-write_flag = flag (codes "write")
-
--- `repair`, with the file and its flag
 abbrev pub repair_command : App
-repair_command = with_rule (with_rule (new_app (codes "repair")) file_argument) write_flag
+repair_command = command (codes "repair") (
+    word (codes "file") ∷ flag (codes "write") ∷ [])
 
--- `--check`
-abbrev pub check_flag : Rule
-check_flag = flag (codes "check")
-
--- `--give-up NAME`
-abbrev pub give_up_option : Rule
-give_up_option = option (codes "give-up")
-
--- `takes` with the folder, and how far its takes are looked at
-abbrev pub takes_where : App
-takes_where = with_rule (with_rule (new_app (codes "takes")) folder_option) check_flag
-
--- `--watch`
-abbrev pub watch_flag : Rule
-watch_flag = flag (codes "watch")
-
--- .. and how they are reported
-abbrev pub takes_how : App
-takes_how = with_rule (with_rule (with_rule takes_where json_flag) digest_flag) watch_flag
-
--- `takes`, with its six options
 abbrev pub takes_command : App
-takes_command = with_rule takes_how give_up_option
+takes_command = command (codes "takes") (
+    required (codes "folder") ∷ flag (codes "check") ∷ flag (codes "json") ∷ flag (codes "digest") ∷
+    flag (codes "watch") ∷ option (codes "give-up") ∷ [])
+
+abbrev pub serve_command : App
+serve_command = command (codes "serve") (
+    required (codes "listen") ∷ required (codes "folder") ∷ option (codes "exchanges") ∷
+    option (codes "limit") ∷ option (codes "timeout") ∷ flag (codes "network") ∷
+    option (codes "recorders") ∷ option (codes "idle") ∷ flag (codes "until-stopped") ∷
+    optional (codes "log") (codes "lines") ∷ flag (codes "journal") ∷ flag (codes "sync") ∷
+    flag (codes "rest") ∷ flag (codes "one-name") ∷ option (codes "allow") ∷
+    option (codes "status") ∷ [])
+
+abbrev pub send_command : App
+send_command = command (codes "send") (
+    required (codes "connect") ∷ required (codes "name") ∷ option (codes "rounds") ∷
+    option (codes "timeout") ∷ flag (codes "network") ∷ option (codes "file") ∷
+    repeated (codes "set") ∷ flag (codes "strict") ∷ option (codes "pcm") ∷ option (codes "skip") ∷
+    option (codes "block") ∷ flag (codes "follow") ∷ option (codes "until") ∷
+    option (codes "spool") ∷ option (codes "fruitless") ∷ flag (codes "log") ∷
+    option (codes "state") ∷ option (codes "rate") ∷ [])
 
 -- the program, which has a version and requires a command
 abbrev pub program : App

@@ -1,6 +1,7 @@
 pub mod Numbers
 pub mod Addresses
 pub mod Commands
+pub mod Rows
 pub mod ReadWords
 pub mod BadValues
 pub mod Given

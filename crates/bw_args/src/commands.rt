@@ -10,6 +10,7 @@ mod listing;
 mod network;
 mod one_file;
 mod options;
+mod row;
 mod samples;
 mod sending;
 mod serving;

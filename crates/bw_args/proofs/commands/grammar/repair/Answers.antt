@@ -1,8 +1,4 @@
-use Rattle.bw_args.proofs.BuilderLemmas.{one_option}
 use Rattle.bw_args.proofs.commands.grammar.repair.Goals as goal
 
 pub returns : goal.returns
-returns c =
-    c.with_option.ensures _ _
-    (one_option c.named.result c.arg-command.result c.file_argument.result _ _ c.named.ensures c.file_argument.ensures
-    c.arg-command.ensures) c.write_flag.ensures
+returns c = c.with_rows.ensures _ c.named-command.ensures
