@@ -2,5 +2,5 @@
 
 /// The toolchain, and the SHA-256 digest of the sources, a line each.
 pub const BUILD: &str = "toolchain: rattle-kit-13b logic dac8208d650f15bf
-sources: aff009318a7a9186ca16f855b8c5298278f8db28c84ef27d170203798bffa29f
+sources: 85fec86d6750e94dda76b58265163e990e20b6cf4d3cb8da09b90a16afaad7ca
 ";
