@@ -128,56 +128,63 @@ module _ {S T F H G M SB SL KP Ed LK DK DF N X Z P R W L K SP SK D A B U J Q I O
   abbrev pub IsHostWell : ℕ → Outside S F DK N Q I O E V C → Type 0
   IsHostWell failed x' = host.system.failures x'.system ≡ failed
 
-  -- what is done for a command line, and how the program ends, where the system has these files and
-  -- so many calls of it had failed
-  abbrev pub IsDoneFor : List ℕ → (Text → Option (List ℕ)) → ℕ → CommandLine → Exit →
+  -- what is done for a task, and how the program ends, where the system has these files and so many
+  -- calls of it had failed
+  abbrev pub IsTaskFor : (Text → Option (List ℕ)) → ℕ → Task → Exit →
       Outside S F DK N Q I O E V C → Outside S F DK N Q I O E V C → Type 0
-  IsDoneFor build file_at failed (Run (Serve server)) exit x x' =
+  IsTaskFor file_at failed (Serve server) exit x x' =
       ServesByRule server_side host.out host.reported network listener_setup kept_servers server exit
       x.network x'.network x.out x'.out x.faults x'.faults
       × IsHostWell failed x' × (x'.files ≡ x.files) × (x'.input ≡ x.input)
       × (x'.pause ≡ x.pause) × (x'.disk ≡ x.disk)
-  IsDoneFor build file_at failed (Run (Send sender)) exit x x' =
+  IsTaskFor file_at failed (Send sender) exit x x' =
       SendsTyped network sender_side host.input host.out host.reported x.is_typed sender exit
       x.network x.input x'.input x.out x'.out x.faults x'.faults
       × IsHostWell failed x' × (x'.files ≡ x.files) × (x'.network ≡ x.network)
       × (x'.pause ≡ x.pause) × (x'.disk ≡ x.disk)
-  IsDoneFor build file_at failed (Run (SendFile sender)) exit x x' =
+  IsTaskFor file_at failed (SendFile sender) exit x x' =
       IfFile host.kinds host.reported (string_bytes sender.source.path) false exit
       x.files x'.files x.pause x'.pause x.out x'.out x.faults x'.faults
       (SendsByState upload_side sender_side network host.files host.states host.out host.reported
       sender exit x.files x'.files x.network x.pause x'.pause x.out x'.out x.faults x'.faults)
       × IsHostWell failed x' × (x'.network ≡ x.network) × (x'.input ≡ x.input) × (x'.disk ≡ x.disk)
-  IsDoneFor build file_at failed (Run (SendPcm sender)) exit x x' =
+  IsTaskFor file_at failed (SendPcm sender) exit x x' =
       IfFile host.kinds host.reported (string_bytes sender.source.path) sender.pcm.is_spooled exit
       x.files x'.files x.pause x'.pause x.out x'.out x.faults x'.faults
       (SendsPcmCommand upload_side sender_side network host.files host.spools host.out host.reported
       sender exit x.files x'.files x.network x.pause x'.pause x.out x'.out x.faults x'.faults)
       × IsHostWell failed x' × (x'.network ≡ x.network) × (x'.input ≡ x.input) × (x'.disk ≡ x.disk)
-  IsDoneFor build file_at failed (Run (Pack source)) exit x x' =
+  IsTaskFor file_at failed (Pack source) exit x x' =
       Packs host.out host.reported (host.files.file_at x.files) source exit
       (host.files.failures x.files) (host.files.failures x'.files) x.out x'.out x.faults x'.faults
       × IsHostWell failed x' × (x'.network ≡ x.network) × (x'.input ≡ x.input)
       × (x'.pause ≡ x.pause) × (x'.disk ≡ x.disk)
-  IsDoneFor build file_at failed (Run (InspectFiles inspection)) exit x x' =
+  IsTaskFor file_at failed (InspectFiles inspection) exit x x' =
       InspectsFiles host.files host.input host.out host.reported inspection exit
       x.files x'.files x.input x'.input x.out x'.out x.faults x'.faults
       × IsHostWell failed x' × (x'.network ≡ x.network) × (x'.pause ≡ x.pause) × (x'.disk ≡ x.disk)
-  IsDoneFor build file_at failed (Run (Picture file)) exit x x' =
+  IsTaskFor file_at failed (Picture file) exit x x' =
       DrawsFile host.files host.out host.reported (string_bytes file) exit
       x.files x'.files x.out x'.out x.faults x'.faults
       × IsHostWell failed x' × (x'.network ≡ x.network) × (x'.input ≡ x.input)
       × (x'.pause ≡ x.pause) × (x'.disk ≡ x.disk)
-  IsDoneFor build file_at failed (Run (Repair file write)) exit x x' =
+  IsTaskFor file_at failed (Repair file write) exit x x' =
       RepairsFile host.edits host.out host.reported (string_bytes file) write exit
       x.files x'.files x.out x'.out x.faults x'.faults
       × IsHostWell failed x' × (x'.network ≡ x.network) × (x'.input ≡ x.input)
       × (x'.pause ≡ x.pause) × (x'.disk ≡ x.disk)
-  IsDoneFor build file_at failed (Run (Takes listing)) exit x x' =
+  IsTaskFor file_at failed (Takes listing) exit x x' =
       WorksOnTakes (folder_side host.disk host.locks upload_side.pause host.out host.reported)
       x.screens listing exit (folder_world x.disk x.files x.pause x.out x.faults)
       (folder_world x'.disk x'.files x'.pause x'.out x'.faults)
       × IsHostWell failed x' × (x'.network ≡ x.network) × (x'.input ≡ x.input)
+  IsTaskFor file_at failed task exit x x' =
+      DoesAlone (IsTaskDone file_at (host.input.left x.input) task) exit failed x x'
+
+  -- for a command line, by a program that was built from what these lines say
+  abbrev pub IsDoneFor : List ℕ → (Text → Option (List ℕ)) → ℕ → CommandLine → Exit →
+      Outside S F DK N Q I O E V C → Outside S F DK N Q I O E V C → Type 0
+  IsDoneFor build file_at failed (Run task) exit x x' = IsTaskFor file_at failed task exit x x'
   IsDoneFor build file_at failed line exit x x' =
       DoesAlone (IsLineDone build file_at (host.input.left x.input) line) exit failed x x'
 

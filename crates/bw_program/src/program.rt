@@ -7,7 +7,7 @@ ghost use Rattle.bw_console.specs.Outcomes.{Outcome, HasWritten};
 ghost use Rattle.bw_console.specs.declared.exit.Exit.{Exit};
 ghost use Rattle.bw_console.specs.Exits.{status_of};
 ghost use Rattle.bw_send_file.specs.FileLooks.{LooksAt};
-ghost use Rattle.bw_program.specs.Programs.{IsDoneFor, IsProgram, IsReporting, build_lines};
+ghost use Rattle.bw_program.specs.Programs.{IsDoneFor, IsProgram, IsReporting, IsTaskFor, build_lines};
 ghost use Rattle.bw_program.specs.Sides.{host_side, kept_side, sender_side, server_side, spool_side, state_side, turns_side, upload_side};
 ghost use Rattle.bw_serve_status.specs.Shown.{status_side};
 
@@ -211,7 +211,7 @@ fn run<
     G: Observer,
 >(alloc: Global, task: &Task, outside: &mut Outside<S, F, D, N, P, R, W, E, V, G>) -> Exit
     requires { HasNumbersInRange (CommandLine.Run task.now) }
-    ensures { IsDoneFor (host_side S.System F.RecordingFiles (state_side F.kept_at F.States.StateFiles F.States.Log.StateLog)
+    ensures { IsTaskFor (host_side S.System F.RecordingFiles (state_side F.kept_at F.States.StateFiles F.States.Log.StateLog)
         (spool_side F.lends F.Keeper.SpoolKeeper) F.EditedFiles F.FolderLocks F.FileKinds D.Disk R.Source W.Sink E.Sink)
         (server_side N.Store.TakeStore ⟦<NoJournal as Journal>⟧ N.Peers.Peers
         N.Peers.Reader.Source N.Peers.Writer.Sink N.Reactor.Reactor N.Reactor.Link.Link N.ServeRules
@@ -223,7 +223,7 @@ fn run<
         (turns_side N.Server.Turns.answers N.Server.Turns.committed N.Server.Turns.commits
         N.Server.HasTable.holds))
         (S.file_at outside.old.system) (S.failures outside.old.system)
-        (CommandLine.Run task.now) result outside.old outside.new }
+        task.now result outside.old outside.new }
 {
     let Outside {
         system,
