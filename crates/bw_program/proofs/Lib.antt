@@ -1,3 +1,5 @@
 pub mod ProgramLemmas
+mod FolderLemmas
 mod InspectionLemmas
+mod RequestLemmas
 mod ServingLemmas
