@@ -2,5 +2,5 @@
 
 /// The toolchain, and the SHA-256 digest of the sources, a line each.
 pub const BUILD: &str = "toolchain: rattle-kit-13b logic dac8208d650f15bf
-sources: 85fec86d6750e94dda76b58265163e990e20b6cf4d3cb8da09b90a16afaad7ca
+sources: dc5e722913567e5d90465227683e058fdf9826c901da7233d0a0a57b5297ec00
 ";

@@ -6,9 +6,9 @@ use Rattle.bw_stream.specs.declared.sink.Sink.{Ghosts as Writer}
 use Rattle.bw_console.specs.Outcomes.{Outcome, HasWritten}
 use Rattle.bw_console.specs.Prints.{failures_if}
 use Rattle.bw_console.specs.declared.exit.Exit.{Exit}
-use Rattle.bw_convert.specs.Conversions.{IsConversion}
-use Rattle.bw_convert.specs.declared.form.WideForm.{WideForm}
-use Rattle.bw_convert.specs.declared.form.WideForm.TheVariants.{Rf64, Bw64}
+use Rattle.bw_repair.specs.Conversions.{IsConversion}
+use Rattle.bw_repair.specs.declared.conversions.form.WideForm.{WideForm}
+use Rattle.bw_repair.specs.declared.conversions.form.WideForm.TheVariants.{Rf64, Bw64}
 use Rattle.bw_disk.specs.declared.disk.Disk.{Ghosts as DiskGhosts}
 use Rattle.bw_ports.specs.declared.recording_files.RecordingFiles.{Ghosts as FileGhosts}
 

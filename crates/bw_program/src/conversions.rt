@@ -8,7 +8,7 @@ use crate::behavior::Behavior;
 use crate::outside::{Environment, Outside};
 use bw_args::AskedForm;
 use bw_console::Exit;
-use bw_convert::{WideForm, convert_file};
+use bw_repair::{WideForm, convert_file};
 use std::alloc::Global;
 
 /// Makes a file of the one at a path, at another.

@@ -1,5 +1,0 @@
-use Rattle.bw_convert.proofs.Leftovers.{leftovers_unread}
-use Rattle.bw_convert.proofs.laws.law_leftovers.Goals as goal
-
-pub returns : goal.returns
-returns c = record { unread = leftovers_unread }

@@ -1,9 +1,0 @@
-pub mod Forms
-pub mod Faults
-pub mod Checks
-pub mod Steps
-pub mod Copies
-pub mod Makings
-pub mod Texts
-pub mod Conversions
-pub mod Laws
