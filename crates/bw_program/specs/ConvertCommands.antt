@@ -19,8 +19,8 @@ pub record ConversionSide (F H G M D DF O E : Type 0) : Type 1 where
   pub out : Writer O
   pub reported : Writer E
 
-abbrev pub conversion_side : {F H G M D DF O E : Type 0} → FileGhosts F H G M → DiskGhosts D DF → Writer O →
-    Writer E → ConversionSide F H G M D DF O E
+abbrev pub conversion_side : {F H G M D DF O E : Type 0} → FileGhosts F H G M → DiskGhosts D DF →
+    Writer O → Writer E → ConversionSide F H G M D DF O E
 conversion_side files disk out reported =
     record { files = files; disk = disk; out = out; reported = reported }
 
@@ -40,10 +40,11 @@ form_asked asked.Rf64 = Rf64
 form_asked asked.Bw64 = Bw64
 
 -- the file at this path was converted, as far as it is of the other form
-abbrev pub ConvertsFile : {F H G M D DF O E : Type 0} → ConversionSide F H G M D DF O E → List ℕ → List ℕ →
-    AskedForm → Exit → ConversionWorld F D O E → ConversionWorld F D O E → Type 0
+abbrev pub ConvertsFile : {F H G M D DF O E : Type 0} → ConversionSide F H G M D DF O E → List ℕ →
+    List ℕ → AskedForm → Exit → ConversionWorld F D O E → ConversionWorld F D O E → Type 0
 ConvertsFile side path to form exit w w' =
     (did : Outcome) × (did.exit ≡ exit) × (gives_all : Bool)
-    × IsConversion side.disk (side.files.file_at w.files path) to (form_asked form) path w.disk w'.disk gives_all did
+    × IsConversion side.disk (side.files.file_at w.files path) to (form_asked form) path
+    w.disk w'.disk gives_all did
     × (side.files.failures w'.files ≡ failures_if gives_all (side.files.failures w.files))
     × HasWritten side.out side.reported did w.out w'.out w.faults w'.faults

@@ -192,8 +192,8 @@ pub record ProgramWorld (S F DK N Q I O E : Type 0) : Type 0 where
   pub screens : ScreenStyle
   pub is_typed : Bool
 
-abbrev pub program_world : {S F DK N Q I O E : Type 0} → S → F → DK → N → Q → I → O → E → ScreenStyle →
-    Bool → ProgramWorld S F DK N Q I O E
+abbrev pub program_world : {S F DK N Q I O E : Type 0} → S → F → DK → N → Q → I → O → E →
+    ScreenStyle → Bool → ProgramWorld S F DK N Q I O E
 program_world system files disk network pause input out faults screens is_typed = record {
   system = system;
   files = files;

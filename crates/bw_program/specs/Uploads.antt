@@ -91,8 +91,8 @@ module _ {U J F H G M S L Q N X P R W D A B O E : Type 0} (upload : UploadSide U
       SendsKept path sender exit f f' n q q' o o' e e' ⊎ GivesUpState exit f f' q q' o o' e e'
 
   -- with the state at a path, or without
-  abbrev pub SendsByPath : Option (List ℕ) → FileSender → Exit → F → F → N → Q → Q → O → O →
-      E → E → Type 0
+  abbrev pub SendsByPath : Option (List ℕ) → FileSender → Exit → F → F → N → Q → Q →
+      O → O → E → E → Type 0
   SendsByPath None sender exit f f' n q q' o o' e e' =
       SendsRecording upload side network files out reported sender exit f f' n q q' o o' e e'
   SendsByPath (Some path) sender exit f f' n q q' o o' e e' =

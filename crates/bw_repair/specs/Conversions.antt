@@ -30,8 +30,8 @@ pub record Converts {D F : Type 0} (G : Ghosts D F) (b to : List ℕ) (form : Wi
   pub makes : IsTrue (G.honest old) → IsMade G to (renamed form b) old new
 
 -- what a fault of FILE's bytes or of OUT leaves of OUT
-abbrev pub LeavesFault : {D F : Type 0} → Ghosts D F → List ℕ → List ℕ → WideForm → ConvertKind →
-    D → D → Type 0
+abbrev pub LeavesFault : {D F : Type 0} → Ghosts D F → List ℕ → List ℕ → WideForm →
+    ConvertKind → D → D → Type 0
 LeavesFault G b to form kind old new =
     IsTrue (G.honest old) → LeavesOut form (unnamed b) kind (G.contents old to) (G.contents new to)
 

@@ -7,5 +7,5 @@ use Rattle.bw_repair.specs.declared.conversions.form.WideForm.{WideForm}
 
 -- it reads as no file, unless it is whole
 abbrev pub LeftoversAreUnread : Type 0
-LeftoversAreUnread = (form : WideForm) (b x : List ℕ) → Leftover form (unnamed b) (Some x) → HasReading x →
-    x ≡ renamed form b
+LeftoversAreUnread = (form : WideForm) (b x : List ℕ) → Leftover form (unnamed b) (Some x) →
+    HasReading x → x ≡ renamed form b

@@ -13,6 +13,7 @@ pub record IsStep {D F : Type 0} (G : Ghosts D F) (path : List ℕ) (fails : Boo
     pub synced : IsTrue (G.honest old) → KeepsOthers (G.synced old) (G.synced new) path
 
 -- if an honest disk has these bytes at the path before, it has those after
-abbrev pub GrowsTo : {D F : Type 0} → Ghosts D F → List ℕ → List ℕ → List ℕ → D → D → Type 0
+abbrev pub GrowsTo : {D F : Type 0} → Ghosts D F → List ℕ → List ℕ → List ℕ → D → D →
+    Type 0
 GrowsTo G path before after old new =
     IsTrue (G.honest old) → G.contents old path ≡ Some before → G.contents new path ≡ Some after

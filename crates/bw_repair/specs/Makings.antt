@@ -33,12 +33,14 @@ abbrev pub MayLeaveOver : WideForm → List ℕ → Option (List ℕ) → Option
 MayLeaveOver form w before after = (after ≡ before) ⊎ ((before ≡ None) × Leftover form w after)
 
 -- a read fails before OUT is made or after it; any other fault of FILE is found before
-abbrev pub LeavesUnread : WideForm → List ℕ → InspectKind → Option (List ℕ) → Option (List ℕ) → Type 0
+abbrev pub LeavesUnread : WideForm → List ℕ → InspectKind → Option (List ℕ) →
+    Option (List ℕ) → Type 0
 LeavesUnread form w Read before after = MayLeaveOver form w before after
 LeavesUnread form w _ before after = after ≡ before
 
 -- what OUT is before and after a fault of this kind
-abbrev pub LeavesOut : WideForm → List ℕ → ConvertKind → Option (List ℕ) → Option (List ℕ) → Type 0
+abbrev pub LeavesOut : WideForm → List ℕ → ConvertKind → Option (List ℕ) → Option (List ℕ) →
+    Type 0
 LeavesOut form w (Unread kind) before after = LeavesUnread form w kind before after
 LeavesOut form w Riff before after = after ≡ before
 LeavesOut form w SameForm before after = after ≡ before

@@ -19,9 +19,7 @@ mod writing;
 
 pub use checking::check;
 pub use command::repair_file;
-pub use conversions::{
-    ConvertError, ConvertFault, ConvertKind, WideForm, convert, convert_file,
-};
+pub use conversions::{ConvertError, ConvertFault, ConvertKind, WideForm, convert, convert_file};
 pub use decision::{Sizes, decide};
 pub use fault::{RepairFault, RepairKind};
 pub use overlay::Overlay;

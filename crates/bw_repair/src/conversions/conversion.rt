@@ -10,10 +10,9 @@ ghost use Rattle.bw_repair.specs.DiskSteps.{IsStep};
 
 use crate::conversions::checking::check_file;
 use crate::conversions::making::make_file;
-use crate::{ConvertError, WideForm};
+use crate::{ConvertError, Overlay, WideForm};
 use bw_disk::Volume;
 use bw_ports::RecordingFiles;
-use crate::Overlay;
 use bw_stream::Source;
 use std::alloc::Global;
 
