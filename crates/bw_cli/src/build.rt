@@ -2,5 +2,5 @@
 
 /// The toolchain, and the SHA-256 digest of the sources, a line each.
 pub const BUILD: &str = "toolchain: rattle-kit-13f logic dac8208d650f15bf
-sources: 194e3c6af79c4eca756557e69e294f70610d61fdae81cd12f78053d86de46f64
+sources: a6a785f605f61fc5bdf97f98db53dd4ec3a03fc6df1cdd32786a2809e7315103
 ";

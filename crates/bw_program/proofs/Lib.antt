@@ -1,4 +1,5 @@
 pub mod ProgramLemmas
+mod ConversionLemmas
 mod FolderLemmas
 mod InspectionLemmas
 mod RequestLemmas
