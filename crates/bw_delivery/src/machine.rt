@@ -1,5 +1,5 @@
 //! A machine with a server over a folder in memory: its start, its turns, and what a stop leaves.
-ghost use Rattle.std.specs.Prelude.{◌≡◌, ◌≤◌, ◌<◌, ◌⊎◌, ℕ, [], ◌∷◌, true, false, IsTrue, IsFalse, IfOk};
+ghost use Rattle.std.specs.Prelude.{◌≡◌, ◌≤◌, ◌<◌, ◌⊎◌, ℕ, List, Ok, [], ◌∷◌, true, false, IsTrue, IsFalse, IfOk};
 ghost use Rattle.std.specs.Prelude.{map, length, string_bytes};
 ghost use Rattle.bw_model.specs.Wire.{Says, Asks};
 ghost use Rattle.bw_model.specs.Book.{Book};
@@ -13,6 +13,8 @@ ghost use Rattle.bw_delivery.specs.Machines.{AnswersForName, BeginsOverLeft, Sta
 ghost use Rattle.bw_delivery.specs.PlayedEvents.{LeavesBook, MayStartIf, StopsIf, StartsIf};
 ghost use Rattle.bw_folder.specs.TakeFolders.{takes_disk, takes_folder};
 ghost use Rattle.bw_folder.specs.JournalFolders.{journals_disk, journals_folder};
+ghost use Rattle.bw_folder.specs.JournalFolders.{committed_in, noted_in_folder, journal_on_disk};
+ghost use Rattle.bw_folder.specs.PendingNotes.{IsOnDisk};
 ghost use Rattle.bw_session.specs.SeenServers.{server_store, server_journal};
 ghost use Rattle.bw_kept.specs.KeptServers.{table_server};
 
@@ -21,7 +23,7 @@ use crate::event::Lives;
 use crate::shown::shown_notes;
 use arrayvec::ArrayVec;
 use bw_disk::{MemoryDisk, MortalDisk};
-use bw_exchange::Turns;
+use bw_exchange::{NotKept, Turns};
 use bw_folder::{FolderJournal, FolderStore};
 use bw_kept::KeptServer;
 use bw_layout::Limit;
@@ -266,6 +268,20 @@ fn folder_twice(alloc: Global) -> Result<(String, String), AllocError>
     Ok((one, two))
 }
 
+/// Whether a server goes on after a commit that returned this: it kept all, and no disk has died.
+fn goes_on(server: &MachineServer, kept: Result<(), NotKept>) -> bool
+    ensures kept { IsTrue result → kept ≡ Ok tt }
+    ensures takes { IsTrue result → (takes_disk (server_store (table_server server.now))).calls
+        ≤ (takes_disk (server_store (table_server server.now))).life }
+    ensures notes { IsTrue result → (journals_disk (server_journal (table_server server.now))).calls
+        ≤ (journals_disk (server_journal (table_server server.now))).life }
+{
+    match kept {
+        Ok(()) => !has_died(server),
+        Err(_not_kept) => false,
+    }
+}
+
 /// Whether a disk of a server has died.
 fn has_died(server: &MachineServer) -> bool
     ensures takes { IsFalse result → (takes_disk (server_store (table_server server.now))).calls
@@ -285,8 +301,9 @@ fn has_died(server: &MachineServer) -> bool
     server.journal().disk().is_dead()
 }
 
-/// A message reaches a server, and its replies are put into `out`. If a disk died in this turn, the
-/// machine has stopped, and `out` has no reply: replies are sent after their turn.
+/// A message reaches a server, which commits its turn, and its replies are put into `out`. If a disk died
+/// in this turn, or the commit failed, the machine has stopped, and `out` has no reply: replies are sent
+/// after the commit.
 ///
 /// # Errors
 /// `AllocError` if the server's folder isn't the one that it started over. That doesn't happen,
@@ -306,7 +323,8 @@ pub(crate) fn turn(
     server.turn(message, out);
     // Called for its clause on how many fit.
     let _few = out.len();
-    if !has_died(&server) {
+    let kept = server.commit();
+    if goes_on(&server, kept) {
         return Ok(Machine::Runs(Life { server }));
     }
     out.clear();
@@ -314,8 +332,8 @@ pub(crate) fn turn(
     Ok(Machine::Stopped(folder))
 }
 
-/// A server is asked: its reply, and the machine. If a disk died in this turn, the machine has
-/// stopped, and there is no reply.
+/// A server is asked: its reply, and the machine. If a disk died in this turn, or the commit failed, the
+/// machine has stopped, and there is no reply.
 ///
 /// # Errors
 /// As those of `turn`.
@@ -325,7 +343,8 @@ pub(crate) fn ask(life: Life, ask: &Ask<'_>) -> Result<(Option<Reply>, Machine),
 {
     let Life { mut server } = life;
     let reply = server.ask(ask);
-    if !has_died(&server) {
+    let kept = server.commit();
+    if goes_on(&server, kept) {
         return Ok((Some(reply), Machine::Runs(Life { server })));
     }
     let folder = take_apart(server)?;
@@ -363,8 +382,15 @@ fn take_apart(server: MachineServer) -> Result<Folder, AllocError>
         takes_folder (server_store (table_server server)) ≡ the_folder) }
     ensures journal { IfOk result (λ folder.
         journals_folder (server_journal (table_server server)) ≡ the_folder) }
+    // What a disk has of the notes is what a stop leaves of them.
+    ensures on_disk { IfOk result (λ folder. (name : List ℕ) → IsOnDisk
+        (committed_in (server_journal (table_server server)) name)
+        (noted_in_folder (server_journal (table_server server)) name)
+        (journal_on_disk (server_journal (table_server server)) name)) }
 {
     let (store, journal) = server.into_server().into_stores();
+    // Called for its clause on what its files have.
+    journal.law_on_disk();
     if store.folder() != FOLDER {
         return Err(AllocError);
     }

@@ -4,6 +4,9 @@ pub mod Headings
 pub mod JournalPaths
 pub mod Existences
 pub mod JournalNames
+pub mod PendingLaws
+pub mod PendingForms
+pub mod CommitForms
 pub mod HeaderKeeping
 pub mod ClosedTakes
 pub mod ClosedNames

@@ -6,6 +6,7 @@ use Rattle.bw_disk.specs.declared.disk.Disk.{Ghosts as DiskGhosts}
 use Rattle.bw_folder.specs.declared.folder.FolderStore.{FolderStore}
 use Rattle.bw_folder.specs.declared.journal.FolderJournal.{FolderJournal}
 use Rattle.bw_journal.specs.declared.journal.Journal.{Ghosts as JournalGhosts}
+use Rattle.bw_kept.specs.DiskNotes.{AreCommitted}
 use Rattle.bw_kept.specs.LeftFolders.{KnowsNone}
 use Rattle.bw_machine.specs.KeptOpenings.{BeginsOver, HasDisks}
 use Rattle.bw_session.specs.Books.{HoldsBook}
@@ -24,12 +25,13 @@ module _ {X Y : Type 0} (S : StoreGhosts X) (J : JournalGhosts Y) where
   pub knows_none : (s : Server X Y S J) (store : X) (journal : Y) (limit : ℕ) → server_store s ≡ store →
       server_journal s ≡ journal → server_limit s ≡ limit → HoldsBook S J (S.contents store) s [] →
       limit ≤ 4294967294 → J.folder journal ≡ S.folder store →
-      ((name : List ℕ) → (J.header journal name).limit ≡ limit) → KnowsNone S J s
-  knows_none s store journal limit st jo li held most folder limits = record {
+      ((name : List ℕ) → (J.header journal name).limit ≡ limit) → AreCommitted J journal → KnowsNone S J s
+  knows_none s store journal limit st jo li held most folder limits all = record {
     held = subst (λ x. HoldsBook S J (S.contents x) s []) (sym st) held;
     small = omega (arith, li, most);
     folder = ap J.folder jo ∙ folder ∙ sym (ap S.folder st);
     limits = λ name. ap (λ j. (J.header j name).limit) jo ∙ limits name ∙ sym li;
+    committed = subst (AreCommitted J) (sym jo) all;
   }
 
 module _ {D E F H : Type 0} {G : DiskGhosts D F} {K : DiskGhosts E H}

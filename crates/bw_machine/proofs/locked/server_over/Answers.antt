@@ -1,6 +1,7 @@
 use Rattle.std.proofs.Common.{◌∙◌, ◌≤◌, subst, sym}
 use Rattle.bw_kept.specs.KeptServers.{table_server}
 use Rattle.bw_kept.specs.LeftFolders.{KnowsNone}
+use Rattle.bw_kept.proofs.DiskForms.{empty_committed}
 use Rattle.bw_machine.proofs.OpenedServers.{knows_none, of_same}
 use Rattle.bw_machine.proofs.locked.server_over.Goals as goal
 
@@ -14,4 +15,4 @@ returns-in-Ok-with_journal-clause-none g c =
     made.limit made.book
     (subst (λ n. n ≤ 4294967294) c.bytes-most.ensures.value c.bytes-most.ensures.range.no_larger)
     (journal.ensures.folder ∙ c.in-Ok-from_str.ensures.ok ∙ sym (store.ensures.folder ∙ c.in-Ok.ensures.ok))
-    (λ name. journal.ensures.limit)) c.kept_over.ensures.server
+    (λ name. journal.ensures.limit) (empty_committed _ journal.result journal.ensures.pending)) c.kept_over.ensures.server
