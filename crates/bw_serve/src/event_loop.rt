@@ -197,7 +197,8 @@ impl<L: Link + Drop> EventLoop<L> {
         let _refused = self.connections.begin(alloc, place, link, now);
     }
 
-    /// One quantum of each connection, in the order of their places.
+    /// One quantum of each connection, in the order of their places. What they hold then is hashed
+    /// ahead over all of them, before the next round answers it.
     pub(crate) fn serve_each<T: Turns, O: Sink, E: Sink>(
         &mut self,
         alloc: Global,
@@ -216,6 +217,7 @@ impl<L: Link + Drop> EventLoop<L> {
         for place in 0..self.connections.places() {
             self.serve_place(alloc, place, server, buffer, round, out, faults);
         }
+        self.connections.hash_ahead();
     }
 
     /// One quantum of the connection at a place, which may end in it, or because it was silent too
@@ -319,7 +321,8 @@ impl<L: Link + Drop> EventLoop<L> {
     }
 
     /// One quantum of the connection at a place, whose messages are guarded by the list as those of
-    /// its peer, and counted for it alone.
+    /// its peer, and counted for it alone. Where nothing can be done this costs nothing: most places
+    /// are free, and most connections wait.
     fn work<T: Turns>(
         &mut self,
         place: usize,
@@ -333,6 +336,9 @@ impl<L: Link + Drop> EventLoop<L> {
         ensures { WorksCounted L.Link (guarded_answers T.answers round.now.allow.now) place round.now.time result
             self.old self.new (metered_server server.old) (metered_server server.new) }
     {
+        if self.connections.rests(place) {
+            return None;
+        }
         let gate = Gate {
             allow: round.allow,
             peer: address_at(&self.peer_slots, place),

@@ -1,7 +1,8 @@
 //! A stream of frames that comes in pieces.
 ghost use Rattle.std.specs.Prelude.{◌≡◌, ◌+◌, ◌≤◌, length, IsOk, OnOk, OnErr};
+ghost use Rattle.bw_wire.specs.BodyDigests.{body_in, IsDigestOf};
 
-use crate::body_digests::{BodyDigests, kept_digest};
+use crate::body_digests::{BodyDigests, HeldBody, held_body, kept_digest, with_digest};
 use crate::fault::WireFault;
 use crate::frame_prefix::{FramePrefix, frame_prefix_of};
 use crate::intake::{Intake, Phase};
@@ -103,6 +104,42 @@ impl Framer {
             return;
         }
         self.digests = BodyDigests::of(self.intake.buffer.as_slice(), self.intake.start);
+    }
+
+    /// The body of the first whole frame from a place on. Places count from the first byte that isn't used up.
+    ///
+    /// # Not specified
+    /// Which body it is, if any: a message's `digest` doesn't depend on it.
+    pub fn held_body(&self, from: usize) -> Option<HeldBody> {
+        held_body(self.intake.bytes(), from)
+    }
+
+    /// The bytes of a body.
+    pub fn body_at(&self, body: HeldBody) -> &[u8]
+        ensures { result.now ≡ body_in self.now.bytes body }
+    {
+        body.bytes_of(self.intake.bytes())
+    }
+
+    /// Whether the digest of this body is known.
+    ///
+    /// # Not specified
+    /// Whether it is: a message's `digest` doesn't depend on it.
+    pub fn knows_digest(&self, body: HeldBody) -> bool {
+        let at = self.intake.start.saturating_add(body.at);
+        kept_digest(&self.digests, at, body.len).is_some()
+    }
+
+    /// Keeps the digest of this body, which was computed elsewhere, for its message. Of more than
+    /// eight some are left out.
+    pub fn keep_digest(&mut self, body: HeldBody, digest: [u8; 32])
+        requires { IsDigestOf (body_in self.old.bytes body) digest }
+        ensures { self.new ≡ self.old }
+    {
+        let start = self.intake.start;
+        if let Some(at) = start.checked_add(body.at) {
+            self.digests = Some(with_digest(&self.digests, start, at, body.len, digest));
+        }
     }
 
     /// The first frame of the bytes that are left, which is used up; None if it isn't whole yet.

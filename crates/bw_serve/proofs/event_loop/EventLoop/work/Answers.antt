@@ -2,6 +2,8 @@ use Rattle.std.proofs.Common.{◌≡◌, ◌∙◌, Some, List, ap, fold, refl, 
 use Rattle.std.specs.Prelude.{slice_get}
 use Rattle.std.specs.declared.net.socket_addr.SocketAddr.{SocketAddr}
 use Rattle.bw_exchange.specs.AnsweredFrames.{AnswersAll, answered_frames}
+use Rattle.std.proofs.lemmas.Option.{slice_get-get_or}
+use Rattle.bw_connections.proofs.Resting.{rests_through}
 use Rattle.bw_connections.proofs.Standing.{sets_again, some_is}
 use Rattle.bw_exchange.specs.LinkCounts.{counting_frame}
 use Rattle.bw_exchange.proofs.LinkStatsLemmas.{all_by_server, all_counted}
@@ -9,6 +11,24 @@ use Rattle.bw_serve.specs.Guards.{Guarded, is_kept_out, turning_away}
 use Rattle.bw_serve.specs.declared.peer_slot.PeerSlot.{PeerSlot}
 use Rattle.bw_serve.proofs.WrappedRuns.{works_by}
 use Rattle.bw_serve.proofs.event_loop.EventLoop.work.Goals as goal
+
+pub returns-then-rests : goal.returns-then-rests
+returns-then-rests g c =
+    let at = slice_get-get_or c.args.self.now.peer_slots.items c.args.place _ (search rules) in
+    record {
+      peer_slot = _;
+      was = at;
+      works = rests_through g.L.Link _ c.args.place c.args.round.now.time c.args.self.now.connections
+          c.args.server.now.server (sym c.rests.ensures ∙ (search rules));
+      peer_slot' = _;
+      sets = record { there = at; elsewhere = λ j other. refl };
+      address = refl;
+      counted = refl;
+      peer_slots_are = refl;
+      ended = refl;
+      ended_by = refl;
+      turned_away = refl;
+    }
 
 pub returns : goal.returns
 returns g c =
