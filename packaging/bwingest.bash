@@ -17,7 +17,7 @@ _bwingest() {
     picture) options='--help' ;;
     repair) options='--write --help' ;;
     convert) options='--rf64 --bw64 --help' ;;
-    takes) options='--folder --check --json --digest --watch --give-up --help' ;;
+    takes) options='--folder --check --json --digest --watch --give-up --verify --help' ;;
     replay) options='--limit --fuse --help' ;;
     rehearse) options='--name --limit --help' ;;
     esac

@@ -22,7 +22,7 @@ use Rattle.bw_args.specs.Lines.{AsksForPath, AsksNothing, GivesSender, GivesServ
 use Rattle.bw_args.specs.Lines.{IsEndWithin, HasPort, IsFirstBad, IsGood, IsLineFor, IsWayWithin, IsWishOf, IsWithin, Service}
 use Rattle.bw_args.specs.Lines.{FileUpload, Wish, looked_at, looked_at_trying, looked_at_waiting}
 use Rattle.bw_args.specs.Lines.{Replaying, Rehearsing, Inspecting, Packing, Sending, SendingPcm, Serving}
-use Rattle.bw_args.specs.Lines.{Uploading, PcmUpload, looked_at_samples, InspectingFiles, Repairing, Listing, Picturing}
+use Rattle.bw_args.specs.Lines.{Uploading, PcmUpload, looked_at_samples, InspectingFiles, Repairing, Listing, Verifying, Picturing}
 use Rattle.bw_args.specs.PcmSources.{GivesFormat, GivesSamples, PlainPcm, fruitless_of, is_live, is_unpaired}
 use Rattle.bw_args.specs.PcmSources.{samples_with}
 use Rattle.bw_args.specs.declared.commands.samples.WrittenFormat.{WrittenFormat}
@@ -34,12 +34,15 @@ use Rattle.bw_args.specs.declared.CommandLine.TheVariants.{Run, BadValue as Bad,
 use Rattle.bw_args.specs.declared.Task.TheVariants.{Replay, Rehearse, Serve, Send, SendFile, SendPcm}
 use Rattle.bw_args.proofs.WishLemmas.{one_count, other_name, same_way}
 use Rattle.bw_args.specs.declared.folders.FolderWork.{FolderWork}
+use Rattle.bw_args.specs.declared.folders.FolderWork.TheVariants.{Report as Reported}
+use Rattle.bw_args.specs.Forms.{RunsFor}
+use Rattle.bw_args.specs.VerifyOptions.{IsVerifyGiven, is_verify_given_mixed, is_verify_mixed}
 use Rattle.bw_args.specs.declared.peers.End.{End}
 use Rattle.bw_args.specs.declared.peers.Journaling.{Journaling}
 use Rattle.bw_args.specs.declared.peers.Recorders.{Recorders as Way}
 use Rattle.bw_args.specs.declared.peers.Send.{Send as Sender}
 use Rattle.bw_args.specs.declared.bad_value.BadValue.{BadValue}
-use Rattle.bw_args.specs.declared.bad_value.BadValue.TheVariants.{Name, Limit, Fuse, UntilStopped, Sync, Status, Wait, GiveUp}
+use Rattle.bw_args.specs.declared.bad_value.BadValue.TheVariants.{Name, Limit, Fuse, UntilStopped, Sync, Status, Wait, GiveUp, Watch}
 use Rattle.bw_args.specs.declared.bad_value.BadValue.TheVariants.{Inspection}
 
 -- the value that is looked at first is good, and one after it is bad
@@ -146,6 +149,27 @@ watch_good : (watch check json digest : Bool) (name : Option Text) (work : Folde
 watch_good true check json digest name work is = is.0
 watch_good false check json digest name work is = refl
 
+-- takes that aren't compared with receipts
+unverified_good : (given : Text → Option Text) → given (codes "verify") ≡ None
+    → is_verify_given_mixed given ≡ false
+unverified_good given none = rw none refl
+
+-- what is asked for beside receipts is nothing, so that a report would be good
+verified_alone : (w c j d : Bool) (n r : Option Text) (receipts : Text) → r ≡ Some receipts
+    → is_verify_mixed w c j d n r ≡ false
+    → (is_watch_mixed w c j d n ≡ false) × ((work : FolderWork) × IsWork w c j d n work)
+verified_alone true c j d n (Some r) receipts is alone = absurd (is_not alone)
+verified_alone false true j d n (Some r) receipts is alone = absurd (is_not alone)
+verified_alone false false true d n (Some r) receipts is alone = absurd (is_not alone)
+verified_alone false false false true n (Some r) receipts is alone = absurd (is_not alone)
+verified_alone false false false false (Some n) (Some r) receipts is alone = absurd (is_not alone)
+verified_alone false false false false None (Some r) receipts is alone = (refl, (Reported false false false, refl))
+verified_alone w c j d n None receipts is alone = let bad : None ≡ Some receipts = is in cc
+
+verified_good : (given : Text → Option Text) (receipts : Text) → IsVerifyGiven given receipts
+    → IsGood Watch given × IsGood GiveUp given
+verified_good given receipts v = verified_alone _ _ _ _ _ _ receipts v.is v.alone
+
 -- what is asked for has good values alone
 pub wished_good : (name : Text) (options : List Row) (wish : Wish) → IsWishOf (Some (name, options)) wish
     → AllGood (looked_at name) (given_on_line options)
@@ -158,8 +182,11 @@ wished_good name options wish asked = go wish asked
     go : (w : Wish) → IsWishOf (Some (name, options)) w → AllGood (looked_at name) (given_on_line options)
     go (Replaying limit fuse) a = at (codes "replay") a.0 ((limit, a.1), ((fuse, a.2), tt))
     go (Rehearsing take_name limit) a = at (codes "rehearse") a.0 ((take_name, a.1), ((limit, a.2), tt))
-    go (Listing folder work) a =
-        at (codes "takes") a.0 ((folder, a.1), (watch_good _ _ _ _ _ work a.2, ((work, a.2), tt)))
+    go (Listing folder work) a = at (codes "takes") a.0 ((folder, a.1),
+        (unverified_good (given_on_line options) a.2, (watch_good _ _ _ _ _ work a.3, ((work, a.3), tt))))
+    go (Verifying folder receipts) a =
+        let alone = verified_good (given_on_line options) receipts a.2 in
+        at (codes "takes") a.0 ((folder, a.1), (a.2.alone, (alone.0, (alone.1, tt))))
     go (Serving server) a = at (codes "serve") a.0 (
         (server.listen, a.1.listens) also (server.folder, a.1.keeps) also (a.1.ends.0, a.1.ends.1)
         also (server.limit, a.1.limited) also (a.1.serves.timeout, a.1.serves.waits)
@@ -416,11 +443,13 @@ no_repaired_line found given = (nothing, inr (refl, refl))
 
 -- the folder of takes that is given is the one that is asked for, and so is what is done there
 pub listing_asked : (found : Found) (folder : Text) (work : FolderWork)
-    → GivesFolder (first_value found (codes "folder")) folder → GivesWork (first_value found) work
+    → GivesFolder (first_value found (codes "folder")) folder → first_value found (codes "verify") ≡ None
+    → GivesWork (first_value found) work
     → IsWishOf (Some (codes "takes", rows_of found)) (Listing folder work)
-listing_asked found folder work given done = (
+listing_asked found folder work given alone done = (
   refl,
   by_rows found (λ g. GivesFolder (g (codes "folder")) folder) given,
+  by_rows found (λ g. g (codes "verify") ≡ None) alone,
   by_rows found (λ g. GivesWork g work) done,
 )
 
@@ -655,6 +684,43 @@ pub no_work : (found : Found) (watch check json digest : Bool) (name : Option Te
 no_work found watch check json digest name watches checks prints hashes names none good =
     none good.0 (works_at _ _ _ _ _ watch check json digest name good.0 (sym watches) (sym checks) (sym prints)
     (sym hashes) (sym names) good.1)
+
+-- whether something is asked for beside receipts, where the options were read before
+pub verify_mixed : (found : Found) (watch check json digest : Bool) (name receipts : Option Text) (mixed : Bool)
+    → watch ≡ is_set (first_value found (codes "watch")) → check ≡ is_set (first_value found (codes "check"))
+    → json ≡ is_set (first_value found (codes "json")) → digest ≡ is_set (first_value found (codes "digest"))
+    → name ≡ first_value found (codes "give-up") → receipts ≡ first_value found (codes "verify")
+    → mixed ≡ is_verify_mixed watch check json digest name receipts → mixed ≡ is_verify_given_mixed (first_value found)
+verify_mixed found watch check json digest name receipts mixed watches checks prints hashes names verifies is =
+    let w = is_set (first_value found (codes "watch")) in
+    let c = is_set (first_value found (codes "check")) in
+    let j = is_set (first_value found (codes "json")) in
+    let d = is_set (first_value found (codes "digest")) in
+    let n = first_value found (codes "give-up") in
+    is
+    ∙ ap (λ x. is_verify_mixed x check json digest name receipts) watches
+    ∙ ap (λ x. is_verify_mixed w x json digest name receipts) checks
+    ∙ ap (λ x. is_verify_mixed w c x digest name receipts) prints
+    ∙ ap (λ x. is_verify_mixed w c j x name receipts) hashes
+    ∙ ap (λ x. is_verify_mixed w c j d x receipts) names ∙ ap (is_verify_mixed w c j d n) verifies
+
+-- the folder and the file of receipts that are given are those that are asked for
+pub verify_asked : (found : Found) (folder receipts : Text) → GivesFolder (first_value found (codes "folder")) folder
+    → IsVerifyGiven (first_value found) receipts
+    → IsWishOf (Some (codes "takes", rows_of found)) (Verifying folder receipts)
+verify_asked found folder receipts given alone = (
+  refl,
+  by_rows found (λ g. GivesFolder (g (codes "folder")) folder) given,
+  by_rows found (λ g. IsVerifyGiven g receipts) alone,
+)
+
+pub verify_runs : (found : Found) (folder receipts : Text) → GivesFolder (first_value found (codes "folder")) folder
+    → IsVerifyGiven (first_value found) receipts → (line : CommandLine) → RunsFor (Verifying folder receipts) line
+    → IsLineFor (Some (codes "takes", rows_of found)) line
+verify_runs found folder receipts given alone (Run task) runs =
+    subst (IsWishOf (Some (codes "takes", rows_of found))) (sym runs) (verify_asked found folder receipts given alone)
+verify_runs found folder receipts given alone (Bad value) runs = absurd runs
+verify_runs found folder receipts given alone (Report error) runs = absurd runs
 
 -- whether something is asked for beside the watch, where the options were read before
 pub watch_mixed : (found : Found) (watch check json digest : Bool) (name : Option Text) (mixed : Bool)

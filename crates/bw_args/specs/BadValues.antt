@@ -6,7 +6,7 @@ use Rattle.bw_args.specs.declared.bad_value.BadValue.TheVariants.{Name, Limit, F
 use Rattle.bw_args.specs.declared.bad_value.BadValue.TheVariants.{Folder, Exchanges, Timeout}
 use Rattle.bw_args.specs.declared.bad_value.BadValue.TheVariants.{Recorders, Idle, Wait}
 use Rattle.bw_args.specs.declared.bad_value.BadValue.TheVariants.{UntilStopped, Sync, Rest, GiveUp, Connect}
-use Rattle.bw_args.specs.declared.bad_value.BadValue.TheVariants.{Watch, Status, Log}
+use Rattle.bw_args.specs.declared.bad_value.BadValue.TheVariants.{Watch, Verify, Status, Log}
 use Rattle.bw_args.specs.declared.bad_value.BadValue.TheVariants.{Rounds, Fruitless, Mixed, Pcm, Skip}
 use Rattle.bw_args.specs.declared.bad_value.BadValue.TheVariants.{Block}
 use Rattle.bw_args.specs.declared.bad_value.BadValue.TheVariants.{Rate, MixedSamples, Inspection, Form}
@@ -41,6 +41,7 @@ fault_said Status = codes "'--status <ADDR>' is for '--recorders <N>', and takes
 fault_said Log = codes "'--log [<FORM>]' takes 'lines' or 'json', and may stand alone"
 fault_said Watch =
     codes "'--watch' can't be given beside '--check', '--json', '--digest' and '--give-up <NAME>'"
+fault_said Verify = codes "'--verify <RECEIPTS>' goes with '--folder <DIR>' alone"
 fault_said GiveUp = codes "'--give-up <NAME>' takes 1 to 32 bytes of a-z, 0-9, '-' and '_', "
     ++ codes "without '--check', '--json' and '--digest'"
 fault_said Connect =

@@ -82,7 +82,7 @@ convert_command = command (codes "convert") (
 abbrev pub takes_command : App
 takes_command = command (codes "takes") (
     required (codes "folder") ∷ flag (codes "check") ∷ flag (codes "json") ∷ flag (codes "digest") ∷
-    flag (codes "watch") ∷ option (codes "give-up") ∷ [])
+    flag (codes "watch") ∷ option (codes "give-up") ∷ option (codes "verify") ∷ [])
 
 abbrev pub serve_command : App
 serve_command = command (codes "serve") (

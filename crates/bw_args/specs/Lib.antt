@@ -8,6 +8,7 @@ pub mod Given
 pub mod Sources
 pub mod PcmSources
 pub mod AskedForms
+pub mod VerifyOptions
 pub mod Ranges
 pub mod Lines
 pub mod Forms

@@ -37,6 +37,8 @@ pub enum BadValue {
     Log,
     /// Other options of `takes` beside `--watch`.
     Watch,
+    /// Other options of `takes` beside `--verify`.
+    Verify,
     /// The name of a take that is given up, or other options of `takes` beside it.
     GiveUp,
     /// The address of the server that requests are sent to.
@@ -98,6 +100,7 @@ impl BadValue {
             BadValue::Status => BAD_STATUS,
             BadValue::Log => BAD_LOG,
             BadValue::Watch => BAD_WATCH,
+            BadValue::Verify => BAD_VERIFY,
             BadValue::GiveUp => BAD_GIVE_UP,
             BadValue::Connect => BAD_CONNECT,
             BadValue::Rounds => BAD_ROUNDS,
@@ -170,6 +173,8 @@ const BAD_LOG: &str = report!("'--log [<FORM>]' takes 'lines' or 'json', and may
 const BAD_WATCH: &str = report!(
     "'--watch' can't be given beside '--check', '--json', '--digest' and '--give-up <NAME>'"
 );
+
+const BAD_VERIFY: &str = report!("'--verify <RECEIPTS>' goes with '--folder <DIR>' alone");
 
 const BAD_GIVE_UP: &str = report!(
     "'--give-up <NAME>' takes 1 to 32 bytes of a-z, 0-9, '-' and '_', without '--check', ",

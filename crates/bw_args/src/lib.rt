@@ -79,6 +79,11 @@ pub enum Task {
     },
     /// Report the takes of a folder, or give one of them up.
     Takes(TakesFolder),
+    /// Compare the takes of a folder with the receipts in a file.
+    Verify {
+        folder: String,
+        receipts: String,
+    },
 }
 
 /// What a command line results in.

@@ -16,6 +16,7 @@ use Rattle.bw_args.specs.declared.Task.{Task}
 use Rattle.bw_args.specs.declared.Task.TheVariants.{Replay, Inspect, Rehearse, Serve, Send, SendFile}
 use Rattle.bw_args.specs.declared.Task.TheVariants.{SendPcm}
 use Rattle.bw_args.specs.declared.Task.TheVariants.{Pack, Picture, InspectFiles, Repair, Convert, Takes}
+use Rattle.bw_args.specs.declared.Task.TheVariants.{Verify}
 use Rattle.bw_console.specs.Outcomes.{Outcome, Does, IsOutOfMemory}
 use Rattle.bw_commands.specs.Replays.{IsReplay}
 use Rattle.bw_console.specs.Faults.{IsReportedBy, exit_of}
@@ -30,7 +31,7 @@ use Rattle.bw_ports.specs.declared.network.Network.{Ghosts as NetworkGhosts}
 use Rattle.bw_ports.specs.declared.listener_setup.ListenerSetup.{Ghosts as ListenerSetupGhosts}
 use Rattle.bw_program.specs.ConvertCommands.{ConvertsFile, conversion_side, conversion_world}
 use Rattle.bw_program.specs.FileCommands.{InspectsFiles, IsInspectedAt}
-use Rattle.bw_program.specs.TakesCommands.{WorksOnTakes, folder_side, folder_world}
+use Rattle.bw_program.specs.TakesCommands.{VerifiesFolder, WorksOnTakes, folder_side, folder_world}
 use Rattle.bw_program.specs.PictureCommands.{DrawsFile}
 use Rattle.bw_program.specs.RecordingCommands.{Packs}
 use Rattle.bw_program.specs.RepairCommands.{RepairsFile}
@@ -99,6 +100,7 @@ IsTaskDone file_at input (Picture file) gives_all did = ⊥
 IsTaskDone file_at input (Repair file write) gives_all did = ⊥
 IsTaskDone file_at input (Convert file out form) gives_all did = ⊥
 IsTaskDone file_at input (Takes listing) gives_all did = ⊥
+IsTaskDone file_at input (Verify folder receipts) gives_all did = ⊥
 
 -- the bad value is reported
 abbrev pub IsValueReported : BadValue → Bool → Outcome → Type 0
@@ -188,6 +190,12 @@ module _ {S T F H G M SB SL KP Ed LK DK DF N X Z P R W L K SP SK D A B U J Q I O
   IsTaskFor file_at failed (Takes listing) exit x x' =
       WorksOnTakes (folder_side host.disk host.locks upload_side.pause host.out host.reported)
       x.screens listing exit (folder_world x.disk x.files x.pause x.out x.faults)
+      (folder_world x'.disk x'.files x'.pause x'.out x'.faults)
+      × IsHostWell failed x' × (x'.network ≡ x.network) × (x'.input ≡ x.input)
+  IsTaskFor file_at failed (Verify folder receipts) exit x x' =
+      VerifiesFolder (folder_side host.disk host.locks upload_side.pause host.out host.reported)
+      (string_bytes folder) (string_bytes receipts) exit
+      (folder_world x.disk x.files x.pause x.out x.faults)
       (folder_world x'.disk x'.files x'.pause x'.out x'.faults)
       × IsHostWell failed x' × (x'.network ≡ x.network) × (x'.input ≡ x.input)
   IsTaskFor file_at failed task exit x x' =

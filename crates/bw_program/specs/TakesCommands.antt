@@ -16,6 +16,7 @@ use Rattle.bw_takes.specs.declared.listing.LineStyle.TheVariants.{Words, Json}
 use Rattle.bw_takes.specs.declared.listing.ReportForm.{ReportForm}
 use Rattle.bw_takes.specs.FolderProgress.{fails_folder, reads_folder}
 use Rattle.bw_takes.specs.GiveUpShowings.{IsGivingUp}
+use Rattle.bw_takes.specs.ReceiptChecks.{IsVerifying}
 use Rattle.bw_takes.specs.Showings.{IsShowing}
 use Rattle.bw_takes.specs.Watches.{Watches, watch_side, watch_world}
 use Rattle.bw_takes.specs.declared.comparing.Depth.{Depth}
@@ -101,3 +102,15 @@ abbrev pub WorksOnTakes : {D DF F L P O E : Type 0} → FolderSide D DF F L P O 
     TakesFolder → Exit → FolderWorld D F P O E → FolderWorld D F P O E → Type 0
 WorksOnTakes side style listing exit w w' =
     WorksOnFolder side style listing.work (string_bytes listing.folder) exit w w'
+
+-- the takes of a folder were compared with the receipts at a path, and nothing has changed
+pub record VerifiesFolder {D DF F L P O E : Type 0} (side : FolderSide D DF F L P O E)
+    (folder path : List ℕ) (exit : Exit) (w w' : FolderWorld D F P O E) : Type 0 where
+  pub did : Outcome
+  pub ends : did.exit ≡ exit
+  pub is : IsVerifying (side.disk.honest w.disk) folder path (side.disk.contents w.disk)
+      (side.disk.failures w.disk) (side.disk.failures w'.disk) did
+  pub disk : StaysWhole side.disk w.disk w'.disk
+  pub writes : HasWritten side.out side.reported did w.out w'.out w.faults w'.faults
+  pub unlocked : w'.locks ≡ w.locks
+  pub unpaused : w'.pause ≡ w.pause

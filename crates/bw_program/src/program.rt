@@ -11,7 +11,7 @@ ghost use Rattle.bw_program.specs.Requests.{ByLine, ByTask, ByWords};
 
 use crate::behavior::Behavior;
 use crate::conversions::convert_recording;
-use crate::folders::work_on_takes;
+use crate::folders::{verify_folder, work_on_takes};
 use crate::outside::{Environment, Outside, ProgressObservers};
 use crate::remote::send_typed;
 use crate::sources::{send_file_there, send_pcm_there};
@@ -134,6 +134,7 @@ fn run<X: Environment>(
         Task::Repair { file, write } => repair_recording(alloc, file, *write, outside),
         Task::Convert { file, out, form } => { convert_recording(alloc, file, out, *form, outside) }
         Task::Takes(listing) => work_on_takes(alloc, listing, outside),
+        Task::Verify { folder, receipts } => verify_folder(alloc, folder, receipts, outside),
     }
 }
 

@@ -159,7 +159,7 @@ fn each_line_runs_or_reports(rt: HostRuntime) -> Result<(), AllocError> {
     lines_come_to(&rt, rt.alloc(), &[], &LINES)
 }
 
-static TAKES: [Line; 23] = [
+static TAKES: [Line; 29] = [
     (&["--folder", "-d"], Outcome::Lists([false, false, false])),
     (&["--folder=-d"], Outcome::Lists([false, false, false])),
     (
@@ -181,6 +181,8 @@ static TAKES: [Line; 23] = [
     (&["--watch", "--folder", "-d"], Outcome::Watches),
     (&["--folder", "-d", "--give-up=-a"], Outcome::GivesUp),
     (&["--give-up=-a", "--folder=-d"], Outcome::GivesUp),
+    (&["--folder", "-d", "--verify=-r"], Outcome::Verifies),
+    (&["--verify", "-r", "--folder=-d"], Outcome::Verifies),
     (&["--help"], Outcome::Shows),
     (&[], Outcome::Refuses),
     (&["-d"], Outcome::Refuses),
@@ -198,6 +200,10 @@ static TAKES: [Line; 23] = [
         Outcome::Refuses,
     ),
     (&["--folder=-d", "--give-up=A"], Outcome::Refuses),
+    (&["--folder=-d", "--verify"], Outcome::Refuses),
+    (&["--folder=-d", "--verify=-r", "--json"], Outcome::Refuses),
+    (&["--folder=-d", "--verify=-r", "--watch"], Outcome::Refuses),
+    (&["--folder=-d", "--verify=-r", "--give-up=-a"], Outcome::Refuses),
     (&["--folder=-d", "--give-up="], Outcome::Refuses),
     (
         &["--folder=-d", "--check", "--give-up=-a"],

@@ -69,6 +69,8 @@ pub(crate) enum Outcome {
     Watches,
     /// Gives up the take `-a` of the folder `-d`.
     GivesUp,
+    /// Compares the takes of the folder `-d` with the receipts in the file `-r`.
+    Verifies,
     /// Text on standard output, status 0.
     Shows,
     /// Text on standard error, status 2.
@@ -139,6 +141,12 @@ fn run_outcome(task: &Task, words: &[&str]) -> Outcome {
         Task::Convert { .. } => Outcome::Confuses,
         Task::Takes(asked) if asked.folder.as_str() == "-d" => work_outcome(&asked.work),
         Task::Takes(_) => Outcome::Confuses,
+        Task::Verify { folder, receipts }
+            if folder.as_str() == "-d" && receipts.as_str() == "-r" =>
+        {
+            Outcome::Verifies
+        }
+        Task::Verify { .. } => Outcome::Confuses,
     }
 }
 

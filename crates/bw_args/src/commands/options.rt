@@ -123,7 +123,7 @@ pub(crate) const CONVERT: [Row; 4] = [
 ];
 
 /// The options of `takes`.
-pub(crate) const TAKES: [Row; 6] = [
+pub(crate) const TAKES: [Row; 7] = [
     FOLDER,
     Row {
         name: "check",
@@ -149,6 +149,11 @@ pub(crate) const TAKES: [Row; 6] = [
         name: "give-up",
         kind: Value("NAME"),
         help: "Renames the journal and the file of this take, so that its name is free again",
+    },
+    Row {
+        name: "verify",
+        kind: Value("RECEIPTS"),
+        help: "Compares the takes with the receipts in this file, and prints which differ",
     },
 ];
 

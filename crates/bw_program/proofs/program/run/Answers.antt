@@ -39,3 +39,6 @@ returns-in-Takes g c = task_is _ _ _ _ _ _ _ _ _ _ c.in-Takes.is c.work_on_takes
 
 pub returns-in-Convert : goal.returns-in-Convert
 returns-in-Convert g c = task_is _ _ _ _ _ _ _ _ _ _ c.in-Convert.is c.convert_recording.ensures
+
+pub returns-in-Verify : goal.returns-in-Verify
+returns-in-Verify g c = task_is _ _ _ _ _ _ _ _ _ _ c.in-Verify.is c.verify_folder.ensures

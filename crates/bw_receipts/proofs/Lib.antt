@@ -1,0 +1,3 @@
+pub mod ReceiptFileLemmas
+pub mod LineLemmas
+pub mod ReceiptShapes

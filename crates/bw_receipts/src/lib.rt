@@ -1,0 +1,16 @@
+//! Receipts: what a sender read of a take that is stored, a line of words or of JSON for each. They are
+//! written, and read again.
+//! Not stated: that other samples don't have the same digest (a premise).
+#![tactic(auto)]
+
+mod cutting;
+mod line;
+mod object;
+mod reading;
+mod receipt;
+mod words;
+mod writing;
+
+pub use reading::read_receipts;
+pub use receipt::{Receipt, ReceiptFault};
+pub use writing::{receipt_json, receipt_line};
