@@ -11,9 +11,9 @@ _bwingest() {
     esac
     case ${COMP_WORDS[1]} in
     serve) options='--listen --folder --exchanges --limit --timeout --network --recorders --idle --until-stopped --log --journal --sync --rest --one-name --allow --status --help' ;;
-    send) options='--connect --name --rounds --timeout --network --file --set --strict --fruitless --log --state --rate --pcm --skip --block --follow --until --spool --help' ;;
+    send) options='--connect --name --rounds --timeout --network --file --set --strict --strict-texts --fruitless --log --state --rate --pcm --skip --block --follow --until --spool --help' ;;
     inspect) options='--json --human --digest --help' ;;
-    pack) options='--set --strict --help' ;;
+    pack) options='--set --strict --strict-texts --help' ;;
     picture) options='--help' ;;
     repair) options='--write --help' ;;
     convert) options='--rf64 --bw64 --help' ;;

@@ -312,7 +312,8 @@ Options:
       --network                   Allows any address; nothing on the wire is encrypted or signed
       --file <FILE>               The recording to send, instead of standard input: a RIFF WAVE, BW64 or RF64 file
       --set <KEY=VALUE>           Sets a field of the recording, whatever the file has; may be repeated
-      --strict                    Refuses a recording whose fields would have to be cleaned
+      --strict                    Refuses a recording that would lose anything of the file
+      --strict-texts              Refuses a recording whose texts or cue points would change
       --pcm <RATE,CHANNELS,BITS>  With --file or --spool: the input is samples without a header, in this format, as in 48000,2,24
       --skip <BYTES>              With --pcm: the offset of the samples in the file, in bytes [default: 0]
       --block <FRAMES>            With --pcm: sends FRAMES in a block [default: as many as fit in 32768 bytes]

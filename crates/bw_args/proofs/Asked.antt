@@ -82,7 +82,8 @@ no_pace given none unmixed =
     go : (file set fruitless state rate : Option Text) → file ≡ None
         → (if is_some file then is_some (given (codes "rounds"))
         else (is_some set || (is_some fruitless || (is_some state || (is_some rate
-        || (is_set (given (codes "strict")) || is_set (given (codes "log")))))))) ≡ false
+        || (is_set (given (codes "strict"))
+        || (is_set (given (codes "strict-texts")) || is_set (given (codes "log"))))))))) ≡ false
         → (fruitless ≡ None) × (rate ≡ None)
     go (Some text) set fruitless state rate is unmixed = let bad : Some text ≡ None = is in cc
     go None (Some text) fruitless state rate is unmixed = let bad : true ≡ false = unmixed in cc
@@ -100,7 +101,8 @@ no_rounds given path has unmixed = go (path_given given) (given (codes "rounds")
         → (if is_some file then is_some rounds
         else (is_some (given (codes "set")) || (is_some (given (codes "fruitless"))
         || (is_some (given (codes "state")) || (is_some (given (codes "rate"))
-        || (is_set (given (codes "strict")) || is_set (given (codes "log")))))))) ≡ false
+        || (is_set (given (codes "strict"))
+        || (is_set (given (codes "strict-texts")) || is_set (given (codes "log"))))))))) ≡ false
         → rounds ≡ None
     go None rounds is unmixed = let bad : None ≡ Some path = is in cc
     go (Some text) None is unmixed = refl
@@ -351,11 +353,13 @@ pub source_asked : (found : Found) (path_in : (Text → Option Text) → Option 
     → Some path ≡ path_in (first_value found)
     → source.path ≡ path → source.settings ≡ settings_on_line (rows_of found)
     → source.strict ≡ is_set (first_value found (codes "strict"))
+    → source.strict_texts ≡ is_set (first_value found (codes "strict-texts"))
     → GivesSource (path_in (given_on_line (rows_of found))) (rows_of found) source
-source_asked found path_in path source given at sets strict = record {
+source_asked found path_in path source given at sets strict texts = record {
   from = sym (ap Some at ∙ by_rows found (λ g. Some path ≡ path_in g) given);
   sets = sets;
   refuses = by_rows found (λ g. source.strict ≡ is_set (g (codes "strict"))) strict;
+  refuses_texts = by_rows found (λ g. source.strict_texts ≡ is_set (g (codes "strict-texts"))) texts;
 }
 
 -- the file of this path, with what else is given
@@ -364,6 +368,7 @@ found_source found path = record {
   path = path;
   settings = settings_on_line (rows_of found);
   strict = is_set (first_value found (codes "strict"));
+  strict_texts = is_set (first_value found (codes "strict-texts"));
 }
 
 -- no file's path is given, and one

@@ -33,14 +33,21 @@ is_entered = record { walks = refl; takes = refl; finds = refl }
 pack_asks : (path : Text) → IsPlain path → AsksPack (path ∷ []) (source_at path)
 unfolding clap_on_literals
 pack_asks path is program = values_ask is_entered program (unknown path ∷ []) (is, tt) refl
-    (refl, record { from = refl; sets = refl; refuses = refl })
+    (refl, record { from = refl; sets = refl; refuses = refl; refuses_texts = refl })
 
 strict_asks : (path : Text) → IsPlain path
     → AsksPack (codes "--strict" ∷ path ∷ []) (record (source_at path) { strict = true })
 unfolding clap_on_literals
 strict_asks path is program =
     values_ask is_entered program (literal (codes "--strict") ∷ unknown path ∷ []) (tt, (is, tt)) refl
-    (refl, record { from = refl; sets = refl; refuses = refl })
+    (refl, record { from = refl; sets = refl; refuses = refl; refuses_texts = refl })
+
+strict_texts_asks : (path : Text) → IsPlain path
+    → AsksPack (codes "--strict-texts" ∷ path ∷ []) (record (source_at path) { strict_texts = true })
+unfolding clap_on_literals
+strict_texts_asks path is program =
+    values_ask is_entered program (literal (codes "--strict-texts") ∷ unknown path ∷ []) (tt, (is, tt)) refl
+    (refl, record { from = refl; sets = refl; refuses = refl; refuses_texts = refl })
 
 sets_asks : (path a b : Text) → IsPlain path
     → AsksPack ((codes "--set=" ++ a) ∷ (codes "--set=" ++ b) ∷ path ∷ [])
@@ -48,13 +55,14 @@ sets_asks : (path a b : Text) → IsPlain path
 unfolding clap_on_literals
 sets_asks path a b is program = values_ask is_entered program
     (literal (codes "--set=" ++ a) ∷ literal (codes "--set=" ++ b) ∷ unknown path ∷ []) (tt, (tt, (is, tt))) refl
-    (refl, record { from = refl; sets = refl; refuses = refl })
+    (refl, record { from = refl; sets = refl; refuses = refl; refuses_texts = refl })
 
 pub runs_pack : (words : List Text) (line : CommandLine) → IsLineOf words line → RunsPack words line
 unfolding clap_on_literals
 runs_pack words line is = record {
   alone = λ p f plain e. asked_runs words _ line _ is e (pack_asks f plain p);
   strict = λ p f plain e. asked_runs words _ line _ is e (strict_asks f plain p);
+  strict_texts = λ p f plain e. asked_runs words _ line _ is e (strict_texts_asks f plain p);
   sets = λ p f a b plain e. asked_runs words _ line _ is e (sets_asks f a b plain p);
   none = λ p e. asked_reports MissingRequiredArgument words _ line is e refl;
 }
@@ -90,7 +98,7 @@ alone_sends path program connect name address at named =
     asks refl (
       refl,
       upload_by (None, refl, refl) (None, refl, refl) at (named, refl)
-          (record { from = refl; sets = refl; refuses = refl }) refl refl refl refl
+          (record { from = refl; sets = refl; refuses = refl; refuses_texts = refl }) refl refl refl refl
           (samples_by None None None refl refl refl refl refl),
     )
 
@@ -102,7 +110,7 @@ sets_sends path x y program connect name address at named =
     asks refl (
       refl,
       upload_by (None, refl, refl) (None, refl, refl) at (named, refl)
-          (record { from = refl; sets = refl; refuses = refl }) refl refl refl refl
+          (record { from = refl; sets = refl; refuses = refl; refuses_texts = refl }) refl refl refl refl
           (samples_by None None None refl refl refl refl refl),
     )
 
@@ -113,7 +121,18 @@ strict_sends path program connect name address at named =
     asks refl (
       refl,
       upload_by (None, refl, refl) (None, refl, refl) at (named, refl)
-          (record { from = refl; sets = refl; refuses = refl }) refl refl refl refl
+          (record { from = refl; sets = refl; refuses = refl; refuses_texts = refl }) refl refl refl refl
+          (samples_by None None None refl refl refl refl refl),
+    )
+
+strict_texts_sends : (path : Text) → AsksSender false (with_file path (codes "--strict-texts" ∷ []))
+    (λ a n. Uploading (record (plain_upload a n path) { source = record (source_at path) { strict_texts = true } }))
+unfolding clap_on_literals
+strict_texts_sends path program connect name address at named =
+    asks refl (
+      refl,
+      upload_by (None, refl, refl) (None, refl, refl) at (named, refl)
+          (record { from = refl; sets = refl; refuses = refl; refuses_texts = refl }) refl refl refl refl
           (samples_by None None None refl refl refl refl refl),
     )
 
@@ -125,7 +144,7 @@ fruitless_sends path count is program connect name address at named =
     asks refl (
       refl,
       upload_by (None, refl, refl) (Some (number_written count), (is, refl), refl) at (named, refl)
-          (record { from = refl; sets = refl; refuses = refl }) refl refl refl refl
+          (record { from = refl; sets = refl; refuses = refl; refuses_texts = refl }) refl refl refl refl
           (samples_by None None None refl refl refl refl refl),
     )
 
@@ -137,7 +156,7 @@ timeout_sends path seconds is program connect name address at named =
     asks refl (
       refl,
       upload_by (Some (number_written seconds), (is, refl), refl) (None, refl, refl) at (named, refl)
-          (record { from = refl; sets = refl; refuses = refl }) refl refl refl refl
+          (record { from = refl; sets = refl; refuses = refl; refuses_texts = refl }) refl refl refl refl
           (samples_by None None None refl refl refl refl refl),
     )
 
@@ -148,7 +167,7 @@ log_sends path program connect name address at named =
     asks refl (
       refl,
       upload_by (None, refl, refl) (None, refl, refl) at (named, refl)
-          (record { from = refl; sets = refl; refuses = refl }) refl refl refl refl
+          (record { from = refl; sets = refl; refuses = refl; refuses_texts = refl }) refl refl refl refl
           (samples_by None None None refl refl refl refl refl),
     )
 
@@ -159,7 +178,7 @@ state_sends path state program connect name address at named =
     asks refl (
       refl,
       upload_by (None, refl, refl) (None, refl, refl) at (named, refl)
-          (record { from = refl; sets = refl; refuses = refl }) refl refl refl refl
+          (record { from = refl; sets = refl; refuses = refl; refuses_texts = refl }) refl refl refl refl
           (samples_by None None None refl refl refl refl refl),
     )
 
@@ -171,7 +190,7 @@ rate_sends path bytes is program connect name address at named =
     asks refl (
       refl,
       upload_by (None, refl, refl) (None, refl, refl) at (named, refl)
-          (record { from = refl; sets = refl; refuses = refl }) refl refl (is, refl) refl
+          (record { from = refl; sets = refl; refuses = refl; refuses_texts = refl }) refl refl (is, refl) refl
           (samples_by None None None refl refl refl refl refl),
     )
 
@@ -182,7 +201,7 @@ network_sends path program connect name address at named =
     asks refl (
       refl,
       upload_by (None, refl, refl) (None, refl, refl) at (named, refl)
-          (record { from = refl; sets = refl; refuses = refl }) refl refl refl refl
+          (record { from = refl; sets = refl; refuses = refl; refuses_texts = refl }) refl refl refl refl
           (samples_by None None None refl refl refl refl refl),
     )
 
@@ -191,6 +210,7 @@ runs_file_sender words line is = record {
   alone = λ f p c n a at named e. asked_runs words _ line _ is e (alone_sends f p c n a at named);
   sets = λ f x y p c n a at named e. asked_runs words _ line _ is e (sets_sends f x y p c n a at named);
   strict = λ f p c n a at named e. asked_runs words _ line _ is e (strict_sends f p c n a at named);
+  strict_texts = λ f p c n a at named e. asked_runs words _ line _ is e (strict_texts_sends f p c n a at named);
   fruitless = λ f t given p c n a at named e. asked_runs words _ line _ is e
       (fruitless_sends f t given p c n a at named);
   timeout = λ f t given p c n a at named e. asked_runs words _ line _ is e (timeout_sends f t given p c n a at named);
@@ -220,6 +240,14 @@ mixed_sets a program connect name address at named = (
 mixed_strict : LacksSender (codes "--strict" ∷ []) Mixed
 unfolding clap_on_literals
 mixed_strict program connect name address at named = (
+  refl,
+  (address, at) and_then (name, (named, refl)) and_then nothing and_then nothing and_then nothing
+      and_then nothing and_then bad not_mixed,
+)
+
+mixed_strict_texts : LacksSender (codes "--strict-texts" ∷ []) Mixed
+unfolding clap_on_literals
+mixed_strict_texts program connect name address at named = (
   refl,
   (address, at) and_then (name, (named, refl)) and_then nothing and_then nothing and_then nothing
       and_then nothing and_then bad not_mixed,
@@ -281,6 +309,7 @@ refuses_files words line is = record {
   rounds = λ f t given p c n a at named e. reported words _ line Mixed is e (mixed_rounds f t given p c n a at named);
   sets = λ x p c n a at named e. reported words _ line Mixed is e (mixed_sets x p c n a at named);
   strict = λ p c n a at named e. reported words _ line Mixed is e (mixed_strict p c n a at named);
+  strict_texts = λ p c n a at named e. reported words _ line Mixed is e (mixed_strict_texts p c n a at named);
   log = λ p c n a at named e. reported words _ line Mixed is e (mixed_log p c n a at named);
   fruitless = λ t given p c n a at named e. reported words _ line Mixed is e
       (mixed_fruitless t given p c n a at named);

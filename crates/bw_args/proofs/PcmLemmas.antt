@@ -52,7 +52,7 @@ alone_sends path text format given program connect name address at named =
     asks refl (
       refl,
       pcm_by None refl refl (samples_by (Some format) None None given refl refl refl refl) at (named, refl)
-          (record { from = refl; sets = refl; refuses = refl }) (None, refl, refl) refl refl refl,
+          (record { from = refl; sets = refl; refuses = refl; refuses_texts = refl }) (None, refl, refl) refl refl refl,
     )
 
 skip_sends : (path text bytes : Text) (format : WrittenFormat) → IsFormatText text format → IsNumber bytes
@@ -65,7 +65,7 @@ skip_sends path text bytes format given number program connect name address at n
       refl,
       pcm_by None refl refl (samples_by (Some format) (Some (number_written bytes)) None given (number, refl) refl
           refl refl) at (named, refl)
-          (record { from = refl; sets = refl; refuses = refl }) (None, refl, refl) refl refl refl,
+          (record { from = refl; sets = refl; refuses = refl; refuses_texts = refl }) (None, refl, refl) refl refl refl,
     )
 
 block_sends : (path text frames : Text) (format : WrittenFormat) → IsFormatText text format
@@ -79,7 +79,7 @@ block_sends path text frames format given number program connect name address at
       refl,
       pcm_by None refl refl (samples_by (Some format) None (Some (number_written frames)) given refl (number, refl)
           refl refl) at (named, refl)
-          (record { from = refl; sets = refl; refuses = refl }) (None, refl, refl) refl refl refl,
+          (record { from = refl; sets = refl; refuses = refl; refuses_texts = refl }) (None, refl, refl) refl refl refl,
     )
 
 follow_sends : (path text end : Text) (format : WrittenFormat) → IsFormatText text format
@@ -91,7 +91,7 @@ follow_sends path text end format given program connect name address at named =
     asks refl (
       refl,
       pcm_by None refl refl (samples_by (Some format) None None given refl refl refl refl) at (named, refl)
-          (record { from = refl; sets = refl; refuses = refl }) (None, refl, refl) refl refl refl,
+          (record { from = refl; sets = refl; refuses = refl; refuses_texts = refl }) (None, refl, refl) refl refl refl,
     )
 
 fruitless_sends : (path text end count : Text) (format : WrittenFormat) → IsFormatText text format
@@ -109,7 +109,7 @@ fruitless_sends path text end count format given number program connect name add
       refl,
       pcm_by (Some (number_written count)) (number, refl) refl
           (samples_by (Some format) None None given refl refl refl refl) at (named, refl)
-          (record { from = refl; sets = refl; refuses = refl }) (None, refl, refl) refl refl refl,
+          (record { from = refl; sets = refl; refuses = refl; refuses_texts = refl }) (None, refl, refl) refl refl refl,
     )
 
 spool_sends : (path text : Text) (format : WrittenFormat) → IsFormatText text format
@@ -121,7 +121,7 @@ spool_sends path text format given program connect name address at named =
     asks refl (
       refl,
       pcm_by None refl refl (samples_by (Some format) None None given refl refl refl refl) at (named, refl)
-          (record { from = refl; sets = refl; refuses = refl }) (None, refl, refl) refl refl refl,
+          (record { from = refl; sets = refl; refuses = refl; refuses_texts = refl }) (None, refl, refl) refl refl refl,
     )
 
 rate_sends : (path text bytes : Text) (format : WrittenFormat) → IsFormatText text format
@@ -132,7 +132,7 @@ rate_sends path text bytes format given number program connect name address at n
     asks refl (
       refl,
       pcm_by None refl refl (samples_by (Some format) None None given refl refl refl refl) at (named, refl)
-          (record { from = refl; sets = refl; refuses = refl }) (None, refl, refl) refl (number, refl) refl,
+          (record { from = refl; sets = refl; refuses = refl; refuses_texts = refl }) (None, refl, refl) refl (number, refl) refl,
     )
 
 pub runs_pcm_sender : (words : List Text) (line : CommandLine) → IsLineOf words line → RunsPcmSender words line

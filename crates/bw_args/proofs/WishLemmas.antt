@@ -174,7 +174,12 @@ one_source : (given : Option Text) (options : List Row) (a b : PlainSource) → 
 one_source given options a b x y =
     let from : Some a.path ≡ Some b.path = sym x.from ∙ y.from in
     let path : a.path ≡ b.path = cc in
-    λ i. record { path = path i; settings = (x.sets ∙ sym y.sets) i; strict = (x.refuses ∙ sym y.refuses) i }
+    λ i. record {
+      path = path i;
+      settings = (x.sets ∙ sym y.sets) i;
+      strict = (x.refuses ∙ sym y.refuses) i;
+      strict_texts = (x.refuses_texts ∙ sym y.refuses_texts) i;
+    }
 
 one_upload : (options : List Row) (a b : FileUpload) → GivesUpload options a → GivesUpload options b → a ≡ b
 one_upload options a b x y = λ i. record {

@@ -51,7 +51,7 @@ fault_said Fruitless =
     codes "'--fruitless <N>' takes a number from 1 to 1000000, in at most ten digits"
 fault_said Rate =
     codes "'--rate <BYTES>' takes a number from 1 to 4294967295, in at most ten digits"
-fault_said Mixed = codes "'--set', '--strict', '--fruitless', '--log', '--state' and '--rate' are "
+fault_said Mixed = codes "'--set', '--strict', '--strict-texts', '--fruitless', '--log', '--state' and '--rate' are "
     ++ codes "for '--file <FILE>' or '--spool <SPOOL>', and '--rounds <N>' for a sender without these"
 fault_said Pcm = codes "'--pcm <RATE,CHANNELS,BITS>' takes three numbers with commas between them, "
     ++ codes "each from 0 to 4294967295, in at most ten digits"

@@ -27,7 +27,7 @@ pub record RunsCommands (words : List Text) (line : CommandLine) : Type 0 where
   pub send_file : RunsFileSender words line
   -- `--pcm` with each option; `--follow` and `--spool` never give up unless `--fruitless` is there
   pub send_pcm : RunsPcmSender words line
-  -- one file that doesn't begin with `-`; `--strict`, or settings in their order, unread here
+  -- one file that doesn't begin with `-`; `--strict`, `--strict-texts`, or settings in their order, unread here
   pub pack : RunsPack words line
   -- one file that doesn't begin with `-`, or `-` itself
   pub picture : RunsPicture words line

@@ -65,7 +65,8 @@ inspect_command = command (codes "inspect") (
 
 abbrev pub pack_command : App
 pack_command = command (codes "pack") (
-    word (codes "file") ∷ repeated (codes "set") ∷ flag (codes "strict") ∷ [])
+    word (codes "file") ∷ repeated (codes "set") ∷ flag (codes "strict") ∷
+    flag (codes "strict-texts") ∷ [])
 
 abbrev pub picture_command : App
 picture_command = command (codes "picture") (
@@ -97,7 +98,7 @@ abbrev pub send_command : App
 send_command = command (codes "send") (
     required (codes "connect") ∷ required (codes "name") ∷ option (codes "rounds") ∷
     option (codes "timeout") ∷ flag (codes "network") ∷ option (codes "file") ∷
-    repeated (codes "set") ∷ flag (codes "strict") ∷ option (codes "pcm") ∷ option (codes "skip") ∷
+    repeated (codes "set") ∷ flag (codes "strict") ∷ flag (codes "strict-texts") ∷ option (codes "pcm") ∷ option (codes "skip") ∷
     option (codes "block") ∷ flag (codes "follow") ∷ option (codes "until") ∷
     option (codes "spool") ∷ option (codes "fruitless") ∷ flag (codes "log") ∷
     option (codes "state") ∷ option (codes "rate") ∷ [])

@@ -14,7 +14,7 @@ use Rattle.bw_args.specs.declared.bad_value.BadValue.TheVariants.{Fruitless, Mix
 
 -- a file of which nothing else is said
 abbrev pub source_at : Text → PlainSource
-source_at path = record { path = path; settings = []; strict = false }
+source_at path = record { path = path; settings = []; strict = false; strict_texts = false }
 
 -- `pack FILE` runs, with each of its options, whatever the program's name
 pub record RunsPack (words : List Text) (line : CommandLine) : Type 0 where
@@ -25,6 +25,10 @@ pub record RunsPack (words : List Text) (line : CommandLine) : Type 0 where
   pub strict : (program path : Text) → IsPlain path
       → words ≡ program ∷ codes "pack" ∷ codes "--strict" ∷ path ∷ []
       → RunsFor (Packing (record (source_at path) { strict = true })) line
+  -- `pack --strict-texts FILE`
+  pub strict_texts : (program path : Text) → IsPlain path
+      → words ≡ program ∷ codes "pack" ∷ codes "--strict-texts" ∷ path ∷ []
+      → RunsFor (Packing (record (source_at path) { strict_texts = true })) line
   -- `pack --set=A --set=B FILE`
   pub sets : (program path a b : Text) → IsPlain path
       → words ≡ program ∷ codes "pack" ∷ (codes "--set=" ++ a) ∷ (codes "--set="
@@ -69,6 +73,9 @@ pub record RunsFileSender (words : List Text) (line : CommandLine) : Type 0 wher
   -- with `--strict`
   pub strict : (path : Text) → ForSender false words (with_file path (codes "--strict" ∷ []))
       (AsksToUpload line path (λ s. record s { source = record s.source { strict = true } }))
+  -- with `--strict-texts`
+  pub strict_texts : (path : Text) → ForSender false words (with_file path (codes "--strict-texts" ∷ []))
+      (AsksToUpload line path (λ s. record s { source = record s.source { strict_texts = true } }))
   -- with `--fruitless=N`
   pub fruitless : (path count : Text) → IsCountText most_fruitless count
       → ForSender false words (with_file path ((codes "--fruitless=" ++ count) ∷ []))
@@ -102,6 +109,8 @@ pub record RefusesFiles (words : List Text) (line : CommandLine) : Type 0 where
   pub sets : (a : Text) → ForSender false words ((codes "--set=" ++ a) ∷ []) (ReportsBad line Mixed)
   -- `--strict`
   pub strict : ForSender false words (codes "--strict" ∷ []) (ReportsBad line Mixed)
+  -- `--strict-texts`
+  pub strict_texts : ForSender false words (codes "--strict-texts" ∷ []) (ReportsBad line Mixed)
   -- `--log`
   pub log : ForSender false words (codes "--log" ∷ []) (ReportsBad line Mixed)
   -- `--state=STATE`

@@ -194,8 +194,8 @@ const BAD_RATE: &str = report!(
 );
 
 const BAD_MIXED: &str = report!(
-    "'--set', '--strict', '--fruitless', '--log', '--state' and '--rate' are for '--file ",
-    "<FILE>' or '--spool <SPOOL>', and '--rounds <N>' for a sender without these"
+    "'--set', '--strict', '--strict-texts', '--fruitless', '--log', '--state' and '--rate' are ",
+    "for '--file <FILE>' or '--spool <SPOOL>', and '--rounds <N>' for a sender without these"
 );
 
 const BAD_PCM: &str = report!(

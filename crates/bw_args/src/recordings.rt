@@ -10,8 +10,10 @@ pub struct SourceFile {
     /// What is set in place of what the file has, each as it was given, in this order. Whether they
     /// are settings isn't checked here.
     pub settings: Vec<String>,
-    /// Whether a recording that would be cleaned is refused.
+    /// Whether a recording is refused that loses anything of the file.
     pub strict: bool,
+    /// Whether a recording is refused whose texts would be cleaned, or that loses cue points.
+    pub strict_texts: bool,
 }
 
 /// Headerless samples, as a command line describes them. Whether there is such a format isn't

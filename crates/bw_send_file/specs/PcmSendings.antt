@@ -114,7 +114,7 @@ module _ {F P D R W : Type 0} (feed : FeedGhosts F FeedFault) (pause : PauseGhos
   -- what is set can't be read, or memory was refused: nothing was opened
   abbrev pub RefusesOptions : PcmFile → Ways P D → Ways P D → Packing → Type 0
   RefusesOptions f old new did =
-      (RefusesSettings (map string_bytes f.file.settings.now) f.file.is_strict f.file.frames did
+      (RefusesSettings (map string_bytes f.file.settings.now) f.file.strict f.file.frames did
       ⊎ RunsOutOfMemory did) × (new ≡ old)
 
   -- the command did this for a recorder with a file whose samples were opened so
@@ -123,5 +123,5 @@ module _ {F P D R W : Type 0} (feed : FeedGhosts F FeedFault) (pause : PauseGhos
   IsPcmSent recorder f opens old new did =
       RefusesOptions f old new did
       ⊎ ((o : Options) × (opened : Result F OpenFault)
-      × (options_of (map string_bytes f.file.settings.now) f.file.is_strict f.file.frames ≡ Some o)
+      × (options_of (map string_bytes f.file.settings.now) f.file.strict f.file.frames ≡ Some o)
       × opens o opened × SendsOpened (errand_of recorder f.file) opened old new did)

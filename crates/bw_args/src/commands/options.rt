@@ -29,7 +29,13 @@ const SET: Row = Row {
 const STRICT: Row = Row {
     name: "strict",
     kind: Flag,
-    help: "Refuses a recording whose fields would have to be cleaned",
+    help: "Refuses a recording that would lose anything of the file",
+};
+
+const STRICT_TEXTS: Row = Row {
+    name: "strict-texts",
+    kind: Flag,
+    help: "Refuses a recording whose texts or cue points would change",
 };
 
 const FOLDER: Row = Row {
@@ -83,7 +89,7 @@ pub(crate) const INSPECT: [Row; 4] = [
 ];
 
 /// The options of `pack`.
-pub(crate) const PACK: [Row; 3] = [FILE, SET, STRICT];
+pub(crate) const PACK: [Row; 4] = [FILE, SET, STRICT, STRICT_TEXTS];
 
 /// The options of `picture`.
 pub(crate) const PICTURE: [Row; 1] = [Row {
@@ -225,7 +231,7 @@ pub(crate) const SERVE: [Row; 16] = [
 ];
 
 /// The options of `send`.
-pub(crate) const SEND: [Row; 18] = [
+pub(crate) const SEND: [Row; 19] = [
     Row {
         name: "connect",
         kind: Required("ADDR"),
@@ -250,6 +256,7 @@ pub(crate) const SEND: [Row; 18] = [
     },
     SET,
     STRICT,
+    STRICT_TEXTS,
     Row {
         name: "pcm",
         kind: Value("RATE,CHANNELS,BITS"),

@@ -18,12 +18,14 @@ pub(crate) fn source_given(
     ensures { IfOk result (λ source.
         (string_bytes source.path ≡ path.now)
         × (map string_bytes source.settings.items ≡ settings_on_line (rows_of (found_of options.now)))
-        × (source.strict ≡ is_set (first_value (found_of options.now) (codes "strict")))) }
+        × (source.strict ≡ is_set (first_value (found_of options.now) (codes "strict")))
+        × (source.strict_texts ≡ is_set (first_value (found_of options.now) (codes "strict-texts")))) }
 {
     Ok(SourceFile {
         path: String::from_str(alloc, path)?,
         settings: settings_given(alloc, options)?,
         strict: flag_given(options, "strict"),
+        strict_texts: flag_given(options, "strict-texts"),
     })
 }
 
@@ -88,5 +90,6 @@ pub(crate) fn is_mixed(options: &ArgMatches<'_>) -> bool
         || options.get_str("state").is_some()
         || options.get_str("rate").is_some()
         || flag_given(options, "strict")
+        || flag_given(options, "strict-texts")
         || flag_given(options, "log")
 }

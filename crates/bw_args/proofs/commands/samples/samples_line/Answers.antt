@@ -20,7 +20,8 @@ returns-clause-ok c =
     let same = c.in_ok-pcm.ensures in
     pcm_asked (found_of c.args.options.now) _ c.args.tries.fruitless c.requires.connects c.requires.named
     (source_asked (found_of c.args.options.now) path_given c.args.path.now (in_plain c.in_ok-source.source)
-    c.requires.takes c.in_ok-source.ensures.0 c.in_ok-source.ensures.1 c.in_ok-source.ensures.2)
+    c.requires.takes c.in_ok-source.ensures.0 c.in_ok-source.ensures.1 c.in_ok-source.ensures.2
+    c.in_ok-source.ensures.3)
     (subst (λ (p : PlainPcm). GivesSamples (first_value (found_of c.args.options.now)) (Some p)) (sym same)
     c.requires.samples)
     (c.args.tries.timeout, c.requires.tries.waits, c.unwrap_or.ensures)
