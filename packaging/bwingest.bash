@@ -3,7 +3,7 @@
 _bwingest() {
     local word=${COMP_WORDS[COMP_CWORD]} last=${COMP_WORDS[COMP_CWORD - 1]} options=
     if [ "$COMP_CWORD" = 1 ]; then
-        COMPREPLY=($(compgen -W 'replay rehearse inspect pack picture repair takes serve send help --help --version' -- "$word"))
+        COMPREPLY=($(compgen -W 'replay rehearse inspect pack picture repair convert takes serve send help --help --version' -- "$word"))
         return
     fi
     case $last in
@@ -16,6 +16,7 @@ _bwingest() {
     pack) options='--set --strict --help' ;;
     picture) options='--help' ;;
     repair) options='--write --help' ;;
+    convert) options='--rf64 --bw64 --help' ;;
     takes) options='--folder --check --json --digest --watch --give-up --help' ;;
     replay) options='--limit --fuse --help' ;;
     rehearse) options='--name --limit --help' ;;

@@ -14,7 +14,7 @@ from kit.help_texts import commands_of, options_of, PAGE, PLACE, table_of
 from kit.repository import ROOT, program
 from kit.tally import Tally
 
-OPTION = re.compile(r"--[a-z][a-z-]*")
+OPTION = re.compile(r"--[a-z][a-z0-9-]*")
 PACKAGING = ROOT / "packaging"
 
 
@@ -37,7 +37,7 @@ def options_of_bash():
 def options_of_zsh():
     text = (PACKAGING / "_bwingest").read_text().partition("case $command in\n")[2]
     found = re.findall(r"(?ms)^    ([a-z]+)\)(.*?);;$", text)
-    return {name: set(re.findall(r"'\*?(--[a-z-]+)(?:=-)?\[", words)) - {"--help"} for name, words in found}
+    return {name: set(re.findall(r"'\*?(--[a-z0-9-]+)(?:=-)?\[", words)) - {"--help"} for name, words in found}
 
 
 def main(words):

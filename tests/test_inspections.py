@@ -17,7 +17,7 @@ from cases import inspections as cases_of_inspections
 from cases.recordings import PLAIN, SENT, TEXTS
 from kit.hints import hinted
 from kit.network import reason, run, run_cases, TALLY
-from kit.recordings import bext, chunk, cue, data, fmt, Recording, riff
+from kit.recordings import bext, chunk, cue, data, extensible, FLOAT_SUBFORMAT, fmt, Recording, riff
 from kit.takes import little
 from kit.waves import fault, human, KEYS, report
 
@@ -39,10 +39,53 @@ ODD_FILES = [
     ("a time of more than 64 bits in milliseconds", riff(fmt(Recording(rate=1)), bext(time=(1 << 64) - 1), data(b""))),
     ("cue points", riff(fmt(PLAIN), data(PLAIN.samples), cue([(n, n * 3, n * 47) for n in range(500)]))),
 ]
+INFO = chunk(b"INAM", b"Owls\0") + chunk(b"IART", b"A. Field\0\0") + chunk(b"ICMT", "Fluß, \tlouder\\\0".encode())
+ADTL = chunk(b"labl", little(7, 4) + b"first owl\0") + chunk(b"note", little(7, 4) + b"far away\0")
+LENGTHY = chunk(b"LIST", b"INFO" + chunk(b"ICMT", b"x" * 65_531) + chunk(b"INAM", b"unseen"))
+SURROUND = Recording(channels=6, bits=32)
+CODING = b"A=PCM,F=48000,W=24,M=mono\r\nA=ANALOGUE\r\n"
+SPOKEN = riff(
+    extensible(SURROUND, mask=0x3F, subformat=FLOAT_SUBFORMAT),
+    bext(TEXTS, history=CODING),
+    data(bytes(24)),
+    cue([(7, 0, 0)]),
+    chunk(b"LIST", b"INFO" + INFO),
+    chunk(b"LIST", b"adtl" + ADTL + chunk(b"ltxt", little(7, 4) + bytes(16))),
+)
+SAID = (
+    "tag WAVE_FORMAT_EXTENSIBLE",
+    "speakers 0000003f FL FR FC LFE BL BR",
+    "subformat 00000003-0000-0010-8000-00aa00389b71 KSDATAFORMAT_SUBTYPE_IEEE_FLOAT",
+    "history A=PCM,F=48000,W=24,M=mono\\x0d\\x0aA=ANALOGUE\\x0d\\x0a",
+    "info INAM Owls",
+    "info IART A. Field",
+    "info ICMT Fluß, \\x09louder\\x5c",
+    "label 7 first owl",
+    "note 7 far away",
+)
+SPEAKING = [
+    ("all contents", SPOKEN),
+    ("each speaker", riff(extensible(PLAIN, mask=0xFFFFFFFF), data(b""))),
+    ("no speaker, a subformat of another kind", riff(extensible(PLAIN, mask=0, subformat=bytes(range(16))), data(b""))),
+    ("an extension that is short", riff(fmt(PLAIN, tag=0xFFFE, extension=bytes(21)), data(b""))),
+    ("A-law and an unknown tag", riff(fmt(PLAIN, tag=6), data(b""))),
+    ("an unknown tag", riff(fmt(PLAIN, tag=0x4321), data(b""))),
+    ("texts that are odd", riff(fmt(PLAIN), chunk(b"LIST", b"INFO" + chunk(b"I\0\xff ", b"\xff\x01") + chunk(b"INAM", b"")), data(b""))),
+    ("a list without a type", riff(fmt(PLAIN), chunk(b"LIST", b"INF"), data(b""))),
+    ("a list of another type", riff(fmt(PLAIN), chunk(b"LIST", b"wavl" + INFO), data(b""))),
+    ("a text past the end of its list", riff(fmt(PLAIN), chunk(b"LIST", b"INFOINAM\xff\xff\xff\xffcut off"), data(b""))),
+    ("a head past the end of its list", riff(fmt(PLAIN), chunk(b"LIST", b"INFO" + INFO + b"INAM\4\0\0"), data(b""))),
+    ("a label without a cue point", riff(fmt(PLAIN), chunk(b"LIST", b"adtl" + chunk(b"labl", b"abc") + ADTL), data(b""))),
+    ("a list of more than is read", riff(fmt(PLAIN), LENGTHY, data(b""))),
+    ("a history of more than is read", riff(fmt(PLAIN), bext(history=b"A=PCM\r\n" * 10_000), data(b""))),
+    ("a history with a zero byte", riff(fmt(PLAIN), bext(history=b"A=PCM\r\n\0rest"), data(b""))),
+    ("more chunks than are looked at", riff(fmt(PLAIN), data(b""), *[chunk(b"LIST", b"INFO" + INFO)] * 64)),
+]
 READABLE = [
     *((one.of, one.file) for one in cases_of_inspections.REPORTS),
     *((one.of, one.file) for one in SENT),
     *ODD_FILES,
+    *SPEAKING,
 ]
 FAULTS = cases_of_inspections.FAULTS[::23] + cases_of_inspections.FAULTS[-16:]
 
@@ -234,8 +277,23 @@ def case_human_several(folder):
     TALLY.same("--human, several", run("inspect", "--human", good, cut), (1, wanted, ""))
 
 
+def case_contents(folder):
+    """Worked contents are lines after all others, and objects in JSON; a pipe's are unknown."""
+    path = written(folder, SPOKEN, "a.wav")
+    _, out, _ = run("inspect", "--human", path)
+    TALLY.same("--human, contents", tuple(out.split("\n")[-len(SAID) - 1 : -1]), SAID)
+    _, out, _ = run("inspect", "--json", path)
+    kinds = [line.split()[0] for line in SAID]
+    TALLY.same("--json, contents", [one["kind"] for one in objects(out)[0]["contents"]], kinds)
+    named = {"id": "labl", "id_hex": "6c61626c", "kind": "label", "point": 7}
+    wanted = named | {"text": "first owl", "text_hex": "6669727374206f776c"}
+    TALLY.same("--json, a label", objects(out)[0]["contents"][7], wanted)
+    status, out, faults = run("inspect", "--json", "/dev/stdin", given=SPOKEN)
+    TALLY.same("--json, a pipe", (status, objects(out)[0]["contents"], faults), (0, None, ""))
+
+
 def case_input(folder):
-    """Standard input has the same report as a file with its bytes."""
+    """Standard input has the same report as a file with its bytes, but for contents."""
     for of, file in READABLE:
         path = written(folder, file, "a.wav")
         TALLY.same(f"-, {of}", run("inspect", "-", given=file), run("inspect", path))
@@ -308,6 +366,8 @@ def case_foreign(folder):
             made.append((f"ffmpeg, {codec}", made_by(folder, f"{codec}.wav", *tone, "-c:a", codec)))
         words = ("-write_bext", "1", "-metadata", "description=Fluß am Abend", "-metadata", "time_reference=123456789")
         made.append(("ffmpeg, bext", made_by(folder, "bext.wav", *tone, *words)))
+        words = ("-ac", "6", "-metadata", "title=Owls", "-metadata", "comment=near the river")
+        made.append(("ffmpeg, INFO and speakers", made_by(folder, "info.wav", *tone, *words)))
         made.append(("ffmpeg, RF64", made_by(folder, "rf64.wav", *tone, "-rf64", "always")))
     if shutil.which("sox"):
         for bits in (8, 16, 24, 32):
@@ -342,6 +402,7 @@ CASES = [
     case_human,
     case_human_values,
     case_human_several,
+    case_contents,
     case_input,
     case_names,
     case_keys,

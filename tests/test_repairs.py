@@ -14,11 +14,11 @@ import signal
 import struct
 import subprocess
 import sys
-import time
 import wave
 from dataclasses import dataclass
 
 sys.dont_write_bytecode = True  # nothing is left beside this script
+from kit.at_writes import AtWrite
 from kit.hints import hinted
 from kit.network import finish, PROGRAM, run, run_cases, start, TALLY
 from kit.repository import ROOT
@@ -27,7 +27,6 @@ from kit.watcher import Watcher
 
 LONGEST_RUN = 120  # seconds, for all of it
 UNKNOWN = 0xFFFF_FFFF
-WRITE = 1  # the call's number on x86-64
 FMT_16 = struct.pack("<HHIIHH", 1, 2, 48_000, 192_000, 4, 16)
 FMT_24 = struct.pack("<HHIIHH", 1, 2, 48_000, 288_000, 6, 24)
 FMT_8 = struct.pack("<HHIIHH", 1, 1, 8_000, 8_000, 1, 8)
@@ -121,30 +120,6 @@ REFUSED = {
 }
 NOT_LAST_EITHER = with_form(UNKNOWN, FMT, (b"data", 1_000, bytes(1_000)), (b"LIST", 8, bytes(8)))
 OVERLAP_IN_THE_FILE = with_form(36 + 1_000, FMT, (b"data", 2_000, bytes(4_000)))
-
-
-class AtWrite:
-    """At the given write into a file the program is killed, or the call is refused."""
-
-    def __init__(self, number, does):
-        self.left, self.does, self.process = number, does, None
-
-    def before(self, call):
-        if call.number == WRITE and call.words[0] > 2:
-            self.left -= 1
-            if self.left == 0:
-                self.does(self, call)
-
-    def after(self, call):
-        pass
-
-    def kill(self, _call):
-        while self.process is None:
-            time.sleep(0.001)
-        os.kill(self.process, signal.SIGKILL)
-
-    def refuse(self, call):
-        call.refuse()
 
 
 def repair_traced(path, number, does):

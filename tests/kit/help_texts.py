@@ -7,7 +7,7 @@ from kit.repository import ROOT
 PAGE = ROOT / "docs/OPERATING.md"
 END = "<!-- end -->"
 PLACE = re.compile(rf"(?ms)^(<!-- options:([a-z]+) -->\n)(.*?)^{END}$")
-OPTION = re.compile(r"(?m)^ {2,6}(?:-[a-zA-Z], )?(--[a-z-]+(?: \[?<[^>]+>\]?)?)  +(.+)$")
+OPTION = re.compile(r"(?m)^ {2,6}(?:-[a-zA-Z], )?(--[a-z0-9-]+(?: \[?<[^>]+>\]?)?)  +(.+)$")
 
 
 def help_of(path, *words):
@@ -35,4 +35,4 @@ def table_of(path, command):
 def cell_of(text):
     """A text of --help as a cell: options in it as code, a default in parentheses."""
     text = re.sub(r"\[(default: [^]]*)\]", r"(\1)", text.replace("|", "\\|"))
-    return re.sub(r"(?<![\w-])(--[a-z-]+)", r"`\1`", text)
+    return re.sub(r"(?<![\w-])(--[a-z0-9-]+)", r"`\1`", text)

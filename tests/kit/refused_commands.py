@@ -1,8 +1,9 @@
-"""The commands over files and folders, with calls refused in turn: pictures, repairs, takes, and senders of files."""
+"""The commands over files and folders, with calls refused in turn: pictures, repairs, conversions, takes, senders."""
 import shutil
 import signal
 import subprocess
 
+from cases.inspections import TABLED
 from cases.recordings import SENT, STEREO
 from kit.folders import folder_in, left_by, small_take
 from kit.network import LOCAL, Server
@@ -47,6 +48,34 @@ def try_repairs(runs, program):
     for kind in (*KINDS, "sync"):
         run = lambda kind, number: repaired(runs, program, left, kind, number)
         runs.each("repair", kind, run, wrong)
+
+
+def converted(runs, program, kind, number):
+    """Makes an RF64 file, with this call refused: how it ended, and what was made."""
+    path, out = runs.work / "wide.wav", runs.work / "made.wav"
+    path.write_bytes(TABLED)
+    out.unlink(missing_ok=True)
+    found = runs.one([program, "convert", "--rf64", path, out], b"", kind, number)
+    return *found, out.read_bytes() if out.exists() else b""
+
+
+def try_conversions(runs, program):
+    """What is made has no id until all else is written, and the last sync alone may fail after that."""
+    whole, without = b"RF64" + TABLED[4:], bytes(4) + TABLED[4:]
+
+    def wrong(kind, found, wanted):
+        status, out, _, made = found
+        if made != whole and made != without[: len(made)]:
+            return "another file"
+        if found[:2] == wanted[:2]:
+            return None if made == whole else "no whole file"
+        if status not in ((3, 4) if kind == "growth" else (3,)):
+            return "another status"
+        return None if is_prefix(out, wanted[1]) else "another text"
+
+    for kind in (*KINDS, "sync"):
+        run = lambda kind, number: converted(runs, program, kind, number)
+        runs.each("convert", kind, run, wrong)
 
 
 def try_takes(runs, program):

@@ -1,11 +1,15 @@
 """What `inspect --json` prints of a WAVE file, as a reader of its own finds it (docs/FORMATS.md, BS.2088, Tech 3306)."""
 import hashlib
+import uuid
 
 NOT_GIVEN = 0x7FFF
 UNSAID = 0xFFFFFFFF
 TEXTS = (("description", 0, 256), ("originator", 256, 32), ("reference", 288, 32), ("date", 320, 10), ("clock", 330, 8))
 LEVELS = ("value", "range", "peak", "momentary", "short")
-KEYS = ("at", "bext", "chunks", "cues", "data", "fault", "file", "fmt", "form", "form_hex", "ok", "sha256", "size")
+KEYS = ("at", "bext", "chunks", "contents", "cues", "data", "fault", "file", "fmt", "form", "form_hex", "ok", "sha256", "size")
+TAGS = {1: "PCM", 3: "IEEE_FLOAT", 6: "ALAW", 7: "MULAW", 0xFFFE: "EXTENSIBLE"}
+SPEAKERS = "FL FR FC LFE BL BR FLC FRC BC SL SR TC TFL TFC TFR TBL TBC TBR".split()
+MOST_CHUNKS, MOST_BYTES = 64, 65_536  # of a file, of a chunk: what is read of contents
 
 
 def number(file, at, length):
@@ -88,8 +92,57 @@ def cues_of(content, rate):
     return found
 
 
+def said(kind, name, text, point=None):
+    """What a chunk says, as an object."""
+    text = text.split(b"\0")[0]
+    named = {"id": text_of(name), "id_hex": name.hex(), "kind": kind, "point": point}
+    return named | {"text": text_of(text), "text_hex": text.hex()}
+
+
+def format_said(content):
+    """What `fmt ` says by numbers."""
+    tag = number(content, 0, 2)
+    yield said("tag", b"fmt ", f"WAVE_FORMAT_{TAGS[tag]}".encode() if tag in TAGS else b"")
+    if tag == 0xFFFE and len(content) >= 40:
+        mask, guid = number(content, 20, 4), content[24:40]
+        names = [name for bit, name in enumerate(SPEAKERS) if mask >> bit & 1]
+        yield said("speakers", b"fmt ", " ".join([f"{mask:08x}", *names]).encode())
+        name = TAGS.get(number(guid, 0, 2)) if guid[2:] == bytes.fromhex("000000001000800000aa00389b71") else None
+        words = [str(uuid.UUID(bytes_le=guid)), *([f"KSDATAFORMAT_SUBTYPE_{name}"] if name else [])]
+        yield said("subformat", b"fmt ", " ".join(words).encode())
+
+
+def list_said(content):
+    """The texts of a `LIST`, by its type."""
+    at = 4
+    while at + 8 <= len(content):
+        name, size = content[at : at + 4], number(content, at + 4, 4)
+        text = content[at + 8 : at + 8 + size]
+        if content[:4] == b"INFO":
+            yield said("info", name, text)
+        elif content[:4] == b"adtl" and name in (b"labl", b"note") and len(text) >= 4:
+            yield said({b"labl": "label", b"note": "note"}[name], name, text[4:], number(text, 0, 4))
+        at += 8 + size + size % 2
+
+
+def contents_of(file, chunks):
+    """What the chunks say beside the report."""
+    found = []
+    for name, at, size in chunks[:MOST_CHUNKS]:
+        content = file[at + 8 : at + 8 + min(size, MOST_BYTES)]
+        if name == b"fmt ":
+            found.extend(format_said(content))
+        elif name == b"bext" and len(content) > 602:
+            found.append(said("history", name, content[602:]))
+        elif name == b"LIST":
+            found.extend(list_said(content))
+        if name in (b"fmt ", b"bext", b"LIST") and size > MOST_BYTES:
+            found.append(said("cut", name, b"after 65536 bytes"))
+    return found
+
+
 def report(name, file, digest=False):
-    """The object of a file without a fault."""
+    """The object of a file without a fault; nothing is said of the contents of standard input."""
     chunks, size = chunks_of(file)
     contents = {}
     for chunk, at, length in chunks:
@@ -105,6 +158,7 @@ def report(name, file, digest=False):
         "form": text_of(file[:4]),
         "form_hex": file[:4].hex(),
         "size": size,
+        "contents": contents_of(file, chunks) if name != "-" else None,
         "chunks": [{"id": text_of(i), "id_hex": i.hex(), "at": at, "size": length} for i, at, length in chunks],
         "fmt": fmt,
         "data": {"at": place, "bytes": len(samples), "frames": frames, "ms": milliseconds(frames, fmt["rate"])},
@@ -141,6 +195,11 @@ def shown(bytes_):
     return "".join(f"\\x{ord(c):02x}" if ord(c) < 32 or c in "\x7f\\" or ord(c) >= most else c for c in units)
 
 
+def visible(digits):
+    """An id without blanks and control characters."""
+    return "".join(chr(c) if 33 <= c <= 126 else "." for c in bytes.fromhex(digits))
+
+
 def human(found):
     """What `inspect --human` prints of a file without a fault, from its object."""
     fmt, data, bext = found["fmt"], found["data"], found["bext"]
@@ -163,10 +222,12 @@ def human(found):
                 level = bext["loudness"][key]
                 lines.append(f"{name} {'unset' if level is None else hundredths(level, unit)}")
     lines.extend(f"marker {cue['id']} {clock(cue['ms'])}" for cue in found["cues"])
-    for one in found["chunks"]:
-        visible = "".join(chr(c) if 33 <= c <= 126 else "." for c in bytes.fromhex(one["id_hex"]))
-        lines.append(f"chunk {visible} {sized(one['size'])}")
+    lines.extend(f"chunk {visible(one['id_hex'])} {sized(one['size'])}" for one in found["chunks"])
     lines.extend([f"sha256={found['sha256']}"] if found["sha256"] else [])
+    for one in found["contents"] or []:
+        detail = f" {one['point']}" if one["point"] is not None else ""
+        detail = f" {visible(one['id_hex'])}" if one["kind"] in ("info", "cut") else detail
+        lines.extend([f"{one['kind']}{detail} {shown(bytes.fromhex(one['text_hex']))}"] if one["text_hex"] else [])
     return "".join(line + "\n" for line in lines)
 
 

@@ -4,6 +4,7 @@ use Rattle.clap.specs.Walk.{Text}
 use Rattle.bw_args.specs.CommandForms.{RefusesLines, RunsCommands}
 use Rattle.bw_args.specs.Lines.{IsLineOf}
 use Rattle.bw_args.specs.declared.CommandLine.{CommandLine}
+use Rattle.bw_args.proofs.ConvertLemmas.{runs_convert}
 use Rattle.bw_args.proofs.FileLemmas.{refuses_files, runs_file_sender, runs_pack}
 use Rattle.bw_args.proofs.FolderLemmas.{runs_takes}
 use Rattle.bw_args.proofs.FormLemmas.{runs_replay}
@@ -29,6 +30,7 @@ runs_commands words line is = record {
   pack = runs_pack words line is;
   picture = runs_picture words line is;
   repair = runs_repair words line is;
+  convert = runs_convert words line is;
   takes = runs_takes words line is;
 }
 

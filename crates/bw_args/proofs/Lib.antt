@@ -16,5 +16,7 @@ pub mod FileLemmas
 pub mod PcmLemmas
 pub mod PictureLemmas
 pub mod RepairLemmas
+pub mod ConvertAsked
+pub mod ConvertLemmas
 pub mod FolderLemmas
 pub mod AllCommandLemmas

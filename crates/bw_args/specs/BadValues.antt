@@ -9,7 +9,7 @@ use Rattle.bw_args.specs.declared.bad_value.BadValue.TheVariants.{UntilStopped, 
 use Rattle.bw_args.specs.declared.bad_value.BadValue.TheVariants.{Watch, Status, Log}
 use Rattle.bw_args.specs.declared.bad_value.BadValue.TheVariants.{Rounds, Fruitless, Mixed, Pcm, Skip}
 use Rattle.bw_args.specs.declared.bad_value.BadValue.TheVariants.{Block}
-use Rattle.bw_args.specs.declared.bad_value.BadValue.TheVariants.{Rate, MixedSamples, Inspection}
+use Rattle.bw_args.specs.declared.bad_value.BadValue.TheVariants.{Rate, MixedSamples, Inspection, Form}
 
 -- what an address is
 abbrev pub address_wanted : Text
@@ -64,6 +64,7 @@ fault_said MixedSamples = codes "'--pcm' is for '--file <FILE>' or '--spool <SPO
     ++ codes "with '--until <END>', and neither with '--spool'"
 fault_said Inspection = codes "'--json' can't be given beside '--human', and '-', which is read once, "
     ++ codes "beside another file or '--digest'"
+fault_said Form = codes "'convert' takes one of '--rf64' and '--bw64'"
 
 -- the end of a line, and an empty line
 abbrev pub line_and_gap : Text

@@ -1,6 +1,7 @@
 -- What the forms of all commands result in.
 use Rattle.std.specs.Prelude.{List}
 use Rattle.clap.specs.Walk.{Text}
+use Rattle.bw_args.specs.ConvertForms.{RunsConvert}
 use Rattle.bw_args.specs.FileForms.{RefusesFiles, RunsFileSender, RunsPack}
 use Rattle.bw_args.specs.FolderForms.{RunsTakes}
 use Rattle.bw_args.specs.Forms.{RefusesValues, RunsInspect, RunsRehearsal, RunsReplay}
@@ -32,6 +33,8 @@ pub record RunsCommands (words : List Text) (line : CommandLine) : Type 0 where
   pub picture : RunsPicture words line
   -- one file that doesn't begin with `-`, and `--write`
   pub repair : RunsRepair words line
+  -- two files that don't begin with `-`, and one of `--rf64` and `--bw64`, before or after them
+  pub convert : RunsConvert words line
   -- a folder that isn't empty, each flag of `takes`, and which of them can't be combined
   pub takes : RunsTakes words line
 

@@ -75,6 +75,10 @@ abbrev pub repair_command : App
 repair_command = command (codes "repair") (
     word (codes "file") ∷ flag (codes "write") ∷ [])
 
+abbrev pub convert_command : App
+convert_command = command (codes "convert") (
+    word (codes "file") ∷ word (codes "out") ∷ flag (codes "rf64") ∷ flag (codes "bw64") ∷ [])
+
 abbrev pub takes_command : App
 takes_command = command (codes "takes") (
     required (codes "folder") ∷ flag (codes "check") ∷ flag (codes "json") ∷ flag (codes "digest") ∷
@@ -112,9 +116,11 @@ offline =
     inspect_command.top)
     pack_command.top
 
--- .. and those that draw a file or change it in place
+-- .. and those that draw a file, change it in place or make another of it
 abbrev pub on_files : App
-on_files = with_subcommand (with_subcommand offline picture_command.top) repair_command.top
+on_files = with_subcommand
+    (with_subcommand (with_subcommand offline picture_command.top) repair_command.top)
+    convert_command.top
 
 -- .. and the one on a folder of takes
 abbrev pub on_folders : App

@@ -7,6 +7,7 @@ pub mod BadValues
 pub mod Given
 pub mod Sources
 pub mod PcmSources
+pub mod AskedForms
 pub mod Ranges
 pub mod Lines
 pub mod Forms
@@ -16,5 +17,6 @@ pub mod PcmForms
 pub mod InspectedFiles
 pub mod PictureForms
 pub mod RepairForms
+pub mod ConvertForms
 pub mod FolderForms
 pub mod CommandForms

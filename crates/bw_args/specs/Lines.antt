@@ -32,6 +32,7 @@ use Rattle.bw_args.specs.Sources.{GivesSource, PlainSource, in_plain, is_mixed, 
 use Rattle.bw_args.specs.PcmSources.{GivesFormat, GivesNumber, GivesSamples, PlainPcm}
 use Rattle.bw_args.specs.PcmSources.{are_samples_mixed, fruitless_of, is_live, plain_pcm}
 use Rattle.bw_args.specs.ReadWords.{as_read}
+use Rattle.bw_args.specs.AskedForms.{GivesConversion}
 use Rattle.bw_args.specs.declared.CommandLine.{CommandLine}
 use Rattle.bw_args.specs.declared.CommandLine.TheVariants.{Run, BadValue as Bad, Report}
 use Rattle.bw_args.specs.declared.bad_value.BadValue.{BadValue}
@@ -41,7 +42,7 @@ use Rattle.bw_args.specs.declared.bad_value.BadValue.TheVariants.{Recorders, Idl
 use Rattle.bw_args.specs.declared.bad_value.BadValue.TheVariants.{UntilStopped, Sync, Rest, GiveUp, Connect}
 use Rattle.bw_args.specs.declared.bad_value.BadValue.TheVariants.{Watch, Status, Log}
 use Rattle.bw_args.specs.declared.bad_value.BadValue.TheVariants.{Rounds, Fruitless, Rate, Mixed, Pcm, Skip}
-use Rattle.bw_args.specs.declared.bad_value.BadValue.TheVariants.{Block, MixedSamples, Inspection}
+use Rattle.bw_args.specs.declared.bad_value.BadValue.TheVariants.{Block, MixedSamples, Inspection, Form}
 use Rattle.bw_args.specs.declared.folders.FolderWork.{FolderWork}
 use Rattle.bw_args.specs.declared.peers.End.{End}
 use Rattle.bw_args.specs.declared.peers.Journaling.{Journaling}
@@ -49,11 +50,12 @@ use Rattle.bw_args.specs.declared.peers.Logging.{Logging}
 use Rattle.bw_args.specs.declared.peers.Recorders.{Recorders as Way}
 use Rattle.bw_args.specs.declared.peers.Send.{Send as Sender}
 use Rattle.bw_args.specs.declared.Task.{Task}
+use Rattle.bw_args.specs.declared.asked_form.AskedForm.{AskedForm}
 use Rattle.bw_args.specs.declared.commands.samples.WrittenFormat.{WrittenFormat}
 use Rattle.bw_args.specs.declared.commands.sending.Tries.{Tries}
 use Rattle.bw_args.specs.declared.Task.TheVariants.{Replay, Rehearse, Inspect, Serve, Send, SendFile}
 use Rattle.bw_args.specs.declared.Task.TheVariants.{SendPcm}
-use Rattle.bw_args.specs.declared.Task.TheVariants.{Pack, InspectFiles, Picture, Repair, Takes}
+use Rattle.bw_args.specs.declared.Task.TheVariants.{Pack, InspectFiles, Picture, Repair, Convert, Takes}
 
 -- the server that a command line asks for
 pub record Service : Type 0 where
@@ -101,8 +103,9 @@ pub record PcmUpload : Type 0 where
 -- what may be asked for: a replay with this limit, in which the call of this number fails, or none;
 -- a rehearsal of the take of this name, with this limit; to inspect the file of this path, or files;
 -- a server or a sender; the sender of a recording, of headerless samples, or a recording's requests;
--- the waveform of the file of this path; the sizes that it lacks, to be written or not; what is
--- done with the takes of a folder
+-- the waveform of the file of this path; the sizes that it lacks, to be written or not; the
+-- file of the second path, made of that of the first in this form; what is done with the takes of a
+-- folder
 pub data Wish : Type 0 where
   Replaying : ℕ → Option ℕ → Wish
   Rehearsing : Text → ℕ → Wish
@@ -115,6 +118,7 @@ pub data Wish : Type 0 where
   Packing : PlainSource → Wish
   Picturing : Text → Wish
   Repairing : Text → Bool → Wish
+  Converting : Text → Text → AskedForm → Wish
   Listing : Text → FolderWork → Wish
 
 -- what a task is about
@@ -160,6 +164,7 @@ wish_of (SendPcm sender) = SendingPcm (record {
 wish_of (Pack source) = Packing (in_plain source)
 wish_of (Picture file) = Picturing (string_bytes file)
 wish_of (Repair file write) = Repairing (string_bytes file) write
+wish_of (Convert file out form) = Converting (string_bytes file) (string_bytes out) form
 wish_of (Takes listing) = Listing (string_bytes listing.folder) listing.work
 
 -- what is given is this server
@@ -255,6 +260,8 @@ IsWishOf (Some command) (Picturing path) =
 IsWishOf (Some command) (Repairing path write) =
     (command.0 ≡ codes "repair") × (first_of (codes "file") command.1 ≡ Some path)
     × (write ≡ is_set (first_of (codes "write") command.1))
+IsWishOf (Some command) (Converting path to form) =
+    (command.0 ≡ codes "convert") × GivesConversion (given_on_line command.1) path to form
 IsWishOf (Some command) (Listing folder work) =
     (command.0 ≡ codes "takes") × GivesFolder (given_on_line command.1 (codes "folder")) folder
     × GivesWork (given_on_line command.1) work
@@ -276,6 +283,7 @@ HasPath (SendingPcm sender) = ⊤
 HasPath (Packing source) = ⊤
 HasPath (Picturing path) = ⊤
 HasPath (Repairing path write) = ⊤
+HasPath (Converting path to form) = ⊤
 HasPath (Listing folder work) = ⊤
 
 -- they ask for something of which a path is kept
@@ -322,6 +330,7 @@ IsGood Skip given = (bytes : Option ℕ) × GivesNumber (given (codes "skip")) b
 IsGood Block given = (frames : Option ℕ) × GivesCount most_block (given (codes "block")) frames
 IsGood MixedSamples given = are_samples_mixed given ≡ false
 IsGood Inspection given = ⊤
+IsGood Form given = ⊤
 
 -- the values that say how recorders are served, in the order in which they are looked at
 abbrev pub looked_at_waiting : List BadValue
@@ -357,9 +366,10 @@ IsFirstBad (first ∷ later) given value = (¬ IsGood first given × (value ≡ 
     ⊎ (IsGood first given × IsFirstBad later given value)
 
 -- what is bad of a command of which no value is looked at: of `inspect`, what is asked for
--- together; elsewhere a limit is there for what `clap` doesn't let through
+-- together; of `convert`, the form; elsewhere a limit is there for what `clap` doesn't let through
 abbrev pub bad_unlooked : Text → BadValue
-bad_unlooked command = if bytes_eq command (codes "inspect") then Inspection else Limit
+bad_unlooked command = if bytes_eq command (codes "inspect") then Inspection
+    else (if bytes_eq command (codes "convert") then Form else Limit)
 
 -- the value for which they ask for nothing
 abbrev pub Lacks : Option (Text × List Row) → BadValue → Type 0

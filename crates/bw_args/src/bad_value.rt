@@ -61,6 +61,8 @@ pub enum BadValue {
     MixedSamples,
     /// `--json` together with `--human`, or standard input (`-`) beside another file or `--digest`.
     Inspection,
+    /// Both forms, or none, that a file is converted to.
+    Form,
 }
 
 /// The text that reports a value of which this is wrong, said in one or more pieces.
@@ -107,6 +109,7 @@ impl BadValue {
             BadValue::Block => BAD_BLOCK,
             BadValue::MixedSamples => BAD_MIXED_SAMPLES,
             BadValue::Inspection => BAD_INSPECTION,
+            BadValue::Form => BAD_FORM,
         }
     }
 }
@@ -218,3 +221,5 @@ const BAD_INSPECTION: &str = report!(
     "'--json' can't be given beside '--human', and '-', which is read once, beside another ",
     "file or '--digest'"
 );
+
+const BAD_FORM: &str = report!("'convert' takes one of '--rf64' and '--bw64'");

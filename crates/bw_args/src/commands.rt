@@ -4,6 +4,7 @@ ghost use Rattle.clap.specs.Words.{first_value, found_of, rows_of, subcommand_ro
 ghost use Rattle.bw_args.specs.Lines.{AsksForPath, IsFuseGiven, IsLimitGiven, IsLineFor};
 ghost use Rattle.bw_args.specs.Lines.{IsNameGiven};
 
+mod converting;
 mod grammar;
 mod inspecting;
 mod listing;
@@ -56,6 +57,7 @@ pub fn line_of(
         "pack" => one_file::pack_line(alloc, options),
         "picture" => one_file::picture_line(alloc, options),
         "repair" => one_file::repair_line(alloc, options),
+        "convert" => converting::convert_line(alloc, options),
         "takes" => listing::takes_line(alloc, options),
         // `clap` refuses words without a command of ours.
         _ => Ok(CommandLine::BadValue(BadValue::Limit)),

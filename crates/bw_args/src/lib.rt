@@ -9,6 +9,7 @@ ghost use Rattle.bw_args.specs.CommandForms.{RefusesLines, RunsCommands};
 ghost use Rattle.bw_args.specs.Forms.{ReportsHelp};
 
 mod addresses;
+mod asked_form;
 mod bad_value;
 mod commands;
 mod folders;
@@ -18,6 +19,7 @@ mod peers;
 mod read_words;
 mod recordings;
 
+pub use asked_form::AskedForm;
 pub use bad_value::BadValue;
 use bw_model::Name;
 use clap::Error;
@@ -34,12 +36,20 @@ pub enum Task {
     /// Run each line of standard input as an exchange. A file whose RIFF form would be longer than
     /// `limit` bytes is written as BW64. With a `fuse`, the call of the store with that number
     /// fails, the first being number 0.
-    Replay { limit: u64, fuse: Option<u32> },
+    Replay {
+        limit: u64,
+        fuse: Option<u32>,
+    },
     /// Play a recorder and a server, by the events on standard input. The take has this
     /// name; `limit` is as for a replay.
-    Rehearse { name: Name, limit: u64 },
+    Rehearse {
+        name: Name,
+        limit: u64,
+    },
     /// Report what is in the file at this path.
-    Inspect { file: String },
+    Inspect {
+        file: String,
+    },
     /// Report what is in several files, or in a way of its own.
     InspectFiles(Inspection),
     /// Serve exchanges over TCP.
@@ -53,9 +63,20 @@ pub enum Task {
     /// Print the requests of a recording.
     Pack(SourceFile),
     /// Draw the waveform of the recording in the file at this path.
-    Picture { file: String },
+    Picture {
+        file: String,
+    },
     /// Report which sizes the file at this path lacks; write them into it, if `write` says so.
-    Repair { file: String, write: bool },
+    Repair {
+        file: String,
+        write: bool,
+    },
+    /// Make a file at `out` with the bytes of the one at `file` under this form's id.
+    Convert {
+        file: String,
+        out: String,
+        form: AskedForm,
+    },
     /// Report the takes of a folder, or give one of them up.
     Takes(TakesFolder),
 }
@@ -74,8 +95,8 @@ pub enum CommandLine {
 /// Parses a command line, whose first word is the program's own name.
 ///
 /// Which words run a task, and of what kind an error is, follows from `clap`'s own contract
-/// (`line`). In plain terms the contract says of seventy-five forms that they run, of fifty-five
-/// which value is a fault and of seventeen what they print (`runs`, `refuses`, `help`). Examples
+/// (`line`). In plain terms the contract says of seventy-nine forms that they run, of fifty-seven
+/// which value is a fault and of nineteen what they print (`runs`, `refuses`, `help`). Examples
 /// test that options may be given in all their forms and orders, and that all else is refused,
 /// except `--` at the end or before a file.
 ///

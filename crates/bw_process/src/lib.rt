@@ -7,7 +7,7 @@ use bw_machine::{TcpNetwork, Terminal};
 use bw_net::{ClockStopwatch, Host, HostRecordings, LineCell, LineSink, SpoolCell, SpoolPause};
 use bw_operators::StatusSetup;
 use bw_ports::{ListenerSetup, PacedNetwork};
-use bw_program::{Outside, start};
+use bw_program::{Environment, Outside, ProgressObservers, start};
 use bw_progress::{
     ClearingSink, LastOutage, LineHandle, OutageReports, RenewingPause, SendWatch, SharedProgress,
 };
@@ -15,8 +15,54 @@ use bw_send_file::LinkLog;
 use bw_serve::{FilteredNetwork, Opens, ServeRules};
 use bw_stream::StdIo;
 use bw_takes::ScreenStyle;
-use std::io::IsTerminal;
+use std::io::{IsTerminal, Stderr, Stdin, Stdout};
+use std::marker::PhantomData;
 use std::process::ExitCode;
+
+/// What the process works over, besides a network.
+struct Process<'a, N> {
+    environment: PhantomData<(&'a ProcessCells, N)>,
+}
+
+impl<'a, N: PacedNetwork + ListenerSetup + Opens + ServeRules + StatusSetup<N::Reactor>> Environment
+    for Process<'a, N> {
+    type System = Host<'a>;
+
+    type Files = HostRecordings<'a>;
+
+    type Disk = SystemDisk<&'a HostRuntime>;
+
+    type Network = N;
+
+    type Pause = RenewingPause<SpoolPause<'a>, ProgressHandle<'a>>;
+
+    type Input = StdIo<Stdin>;
+
+    type Output = ClearingSink<LineSink<'a, Stdout>, ProgressHandle<'a>>;
+
+    type Diagnostics = ClearingSink<LineSink<'a, Stderr>, ProgressHandle<'a>>;
+
+    type Watch = OutageReports<
+        'a,
+        SendWatch<'a, Terminal, HostRecordings<'a>, Terminal, ClockStopwatch<HostRuntime>>,
+        ClearingSink<StdIo<Stderr>, ProgressHandle<'a>>,
+    >;
+
+    type Log = OutageReports<'a, LinkLog<StdIo<Stderr>>, StdIo<Stderr>>;
+}
+
+/// The line of a sender's progress, and what shows it.
+type TerminalProgress = SharedProgress<Terminal, ClockStopwatch<HostRuntime>>;
+
+type ProgressHandle<'a> = LineHandle<'a, Terminal, ClockStopwatch<HostRuntime>>;
+
+/// What parts of the outside share.
+#[derive(Drop)]
+struct ProcessCells {
+    spool: SpoolCell,
+    causes: CauseCell,
+    lines: LineCell,
+}
 
 /// Runs the command that the process was given, over its standard input and output, files, clock and
 /// network; the exit status is that of `start`. `build`, whole lines, is what the program was built from.
@@ -25,12 +71,14 @@ use std::process::ExitCode;
 /// Anything: no clause of std says what the words of the process are, or what it prints. The program is
 /// tested as it is built.
 pub fn run(rt: HostRuntime, build: &str) -> ExitCode {
-    let spool = SpoolCell::new();
-    let causes = CauseCell::new();
-    let lines = LineCell::new();
-    let network = FilteredNetwork::new(TcpNetwork::new(&rt, &spool, &causes, &lines));
-    let exit = run_over(rt, build, &spool, &causes, &lines, network);
-    lines.report_start(&rt);
+    let cells = ProcessCells {
+        spool: SpoolCell::new(),
+        causes: CauseCell::new(),
+        lines: LineCell::new(),
+    };
+    let network = TcpNetwork::new(&rt, &cells.spool, &cells.causes, &cells.lines);
+    let exit = run_over(rt, build, &cells, FilteredNetwork::new(network));
+    cells.lines.report_start(&rt);
     exit
 }
 
@@ -39,9 +87,7 @@ pub fn run(rt: HostRuntime, build: &str) -> ExitCode {
 fn run_over<N: PacedNetwork + ListenerSetup + Opens + ServeRules + StatusSetup<N::Reactor> + Drop>(
     rt: HostRuntime,
     build: &str,
-    spool: &SpoolCell,
-    causes: &CauseCell,
-    lines: &LineCell,
+    cells: &ProcessCells,
     network: N,
 ) -> ExitCode {
     let terminal = Terminal::new(&rt);
@@ -49,34 +95,67 @@ fn run_over<N: PacedNetwork + ListenerSetup + Opens + ServeRules + StatusSetup<N
     // A copy of the runtime, since the prover refuses a reference here beside the sinks of lines.
     let stopwatch = ClockStopwatch::new(rt);
     let line = SharedProgress::new(rt.alloc(), screen, stopwatch);
-    let mut outside = Outside {
-        system: Host::new(&rt),
-        files: HostRecordings::new(&rt, spool),
-        disk: SystemDisk::new(&rt),
+    let mut outside = outside_of(&rt, cells, &line, network);
+    let mut observers = observers_of(&rt, cells, &line, terminal);
+    start(rt.alloc(), build, &mut outside, &mut observers)
+}
+
+/// What the program works over. All that is lent has one lifetime here and below, since the prover
+/// shortens none in a struct.
+fn outside_of<
+    'a,
+    N: PacedNetwork + ListenerSetup + Opens + ServeRules + StatusSetup<N::Reactor> + Drop,
+>(
+    rt: &'a HostRuntime,
+    cells: &'a ProcessCells,
+    line: &'a TerminalProgress,
+    network: N,
+) -> Outside<Process<'a, N>> {
+    Outside {
+        system: Host::new(rt),
+        files: HostRecordings::new(rt, &cells.spool),
+        disk: SystemDisk::new(rt),
         network,
         pause: RenewingPause {
-            inner: SpoolPause::new(&rt, spool),
-            line: LineHandle { shared: &line },
+            inner: SpoolPause::new(rt, &cells.spool),
+            line: LineHandle { shared: line },
         },
         input: StdIo::new(rt.stdin()),
         out: ClearingSink {
-            inner: LineSink::new(rt, lines, rt.stdout()),
-            line: LineHandle { shared: &line },
+            inner: LineSink::new(*rt, &cells.lines, rt.stdout()),
+            line: LineHandle { shared: line },
         },
         faults: ClearingSink {
-            inner: LineSink::new(rt, lines, rt.stderr()),
-            line: LineHandle { shared: &line },
+            inner: LineSink::new(*rt, &cells.lines, rt.stderr()),
+            line: LineHandle { shared: line },
         },
+        screens: screen_style(rt),
+        is_typed: rt.stdin().is_terminal(),
+        environment: PhantomData,
+    }
+}
+
+/// Who is shown what a sender does.
+fn observers_of<
+    'a,
+    N: PacedNetwork + ListenerSetup + Opens + ServeRules + StatusSetup<N::Reactor> + Drop,
+>(
+    rt: &'a HostRuntime,
+    cells: &'a ProcessCells,
+    line: &'a TerminalProgress,
+    terminal: Terminal,
+) -> ProgressObservers<Process<'a, N>> {
+    ProgressObservers {
         watch: OutageReports {
             watch: SendWatch {
                 rounds: terminal,
-                files: HostRecordings::new(&rt, spool),
-                line: &line,
+                files: HostRecordings::new(rt, &cells.spool),
+                line,
             },
-            causes,
+            causes: &cells.causes,
             faults: ClearingSink {
                 inner: StdIo::new(rt.stderr()),
-                line: LineHandle { shared: &line },
+                line: LineHandle { shared: line },
             },
             last: LastOutage::none(),
         },
@@ -84,14 +163,12 @@ fn run_over<N: PacedNetwork + ListenerSetup + Opens + ServeRules + StatusSetup<N
             watch: LinkLog {
                 out: StdIo::new(rt.stderr()),
             },
-            causes,
+            causes: &cells.causes,
             faults: StdIo::new(rt.stderr()),
             last: LastOutage::none(),
         },
-        screens: screen_style(&rt),
-        is_typed: rt.stdin().is_terminal(),
-    };
-    start(rt.alloc(), build, &mut outside)
+        environment: PhantomData,
+    }
 }
 
 /// How screens are shown on standard output: on a terminal in place, else as lines.

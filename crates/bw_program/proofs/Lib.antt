@@ -1,3 +1,6 @@
 pub mod ProgramLemmas
+mod ConversionLemmas
+mod FolderLemmas
 mod InspectionLemmas
+mod RequestLemmas
 mod ServingLemmas

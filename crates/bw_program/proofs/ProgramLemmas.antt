@@ -12,12 +12,11 @@ use Rattle.bw_console.specs.Outcomes.{Outcome}
 use Rattle.bw_console.specs.Prints.{IsOf, IsPrint, Nothing, Print}
 use Rattle.bw_ports.specs.declared.network.Network.{Ghosts as NetworkGhosts}
 use Rattle.bw_ports.specs.declared.listener_setup.ListenerSetup.{Ghosts as ListenerSetupGhosts}
-use Rattle.bw_program.specs.Sides.{HostSide, KeptSide, SenderSide, ServerSide, UploadSide}
-use Rattle.bw_program.specs.declared.outside.Outside.{Outside}
+use Rattle.bw_program.specs.Sides.{HostSide, KeptSide, SenderSide, ServerSide, UploadSide, ProgramWorld}
 use Rattle.bw_args.specs.declared.CommandLine.{CommandLine}
 use Rattle.bw_args.specs.declared.CommandLine.TheVariants.{Run, BadValue as Bad, Report}
 use Rattle.bw_args.specs.declared.Task.TheVariants.{Replay, Inspect, Rehearse, Serve, Send, SendFile, SendPcm}
-use Rattle.bw_args.specs.declared.Task.TheVariants.{Pack, Picture, InspectFiles, Repair, Takes}
+use Rattle.bw_args.specs.declared.Task.TheVariants.{Pack, Picture, InspectFiles, Repair, Convert, Takes}
 use Rattle.bw_program.specs.Programs.{DoesAlone, IsDoneFor, IsProgram, IsReporting, IsUnread, build_lines}
 use Rattle.bw_console.specs.declared.exit.Exit.{Exit}
 use Rattle.bw_console.specs.declared.exit.Exit.TheVariants as exits
@@ -58,7 +57,7 @@ reported-help build texts.DisplayVersion outcome text out reported n p t =
     record { outcome = outcome; exit_is = refl; reads = refl; text = text; prints = p; reports = t }
 reported-help build _ outcome text out reported n p t = absurd (n ((λ e. cc), (λ e. cc)))
 
-module _ {S T F H G M SB SL KP Ed LK DK DF N X Z P R W L K SP SK D A B U J Q I O E V C T' : Type 0}
+module _ {S T F H G M SB SL KP Ed LK DK DF N X Z P R W L K SP SK D A B U J Q I O E T' : Type 0}
     (host : HostSide S T F H G M SB SL KP Ed LK DK DF I O E)
     (server_side : ServerSide X Z P R W L K N SP SK) (sender_side : SenderSide D A B)
     (upload_side : UploadSide U J Q) (network : NetworkGhosts N X P D R W A B)
@@ -66,7 +65,7 @@ module _ {S T F H G M SB SL KP Ed LK DK DF N X Z P R W L K SP SK D A B U J Q I O
     (kept_servers : KeptSide N T') where
   -- a text is reported, and all else stays as it was
   pub reports_alone : {is_asked : Bool → Outcome → Type 0} {exit : Exit}
-      {x : Outside S F DK N Q I O E V C} {after : E} (reported : Print) (ending : Exit) → ending ≡ exit →
+      {x : ProgramWorld S F DK N Q I O E} {after : E} (reported : Print) (ending : Exit) → ending ≡ exit →
       is_asked true (record { reads_all = true; out = Nothing; faults = reported; exit = ending }) →
       IsPrint host.reported reported x.faults after →
       DoesAlone host server_side sender_side upload_side network listener_setup kept_servers is_asked exit
@@ -89,7 +88,7 @@ module _ {S T F H G M SB SL KP Ed LK DK DF N X Z P R W L K SP SK D A B U J Q I O
 
   -- what is done for the words that were found is done for those that the system reported before
   pub reported-words : (build : List ℕ) (words : Option (List Text)) (found : List Text) (exit : Exit) (system : S)
-      (x x' : Outside S F DK N Q I O E V C) →
+      (x x' : ProgramWorld S F DK N Q I O E) →
       ((reported : List Text) → words ≡ Some reported → found ≡ reported) →
       host.system.file_at system ≡ host.system.file_at x.system →
       host.system.failures system ≡ host.system.failures x.system →
@@ -137,6 +136,7 @@ module _ {S T F H G M SB SL KP Ed LK DK DF N X Z P R W L K SP SK D A B U J Q I O
       done_for (Run (Pack source)) done = done
       done_for (Run (Picture file)) done = done
       done_for (Run (Repair file write)) done = done
+      done_for (Run (Convert file out form)) done = done
       done_for (Run (Takes listing)) done = done
       done_for (Bad value) done = alone done
       done_for (Report error) done = alone done

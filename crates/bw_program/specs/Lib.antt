@@ -1,6 +1,7 @@
 pub mod FileCommands
 pub mod Programs
 pub mod Remote
+pub mod Requests
 pub mod RecordingCommands
 pub mod PictureCommands
 pub mod TakesCommands
@@ -10,3 +11,4 @@ pub mod Uploads
 pub mod PcmUploads
 pub mod PcmCommands
 pub mod RepairCommands
+pub mod ConvertCommands

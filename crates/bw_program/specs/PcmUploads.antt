@@ -76,7 +76,9 @@ module _ {U J F H G M Q N X P R W D A B O E : Type 0} (upload : UploadSide U J Q
     pub file_is : IsPcmFileOf sender file
     pub did : Packing
     pub ends : did.exit ≡ exit
-    pub is : SendsSamples (awaited_end sender.pcm.is_spooled sender.pcm.until) recorder file f
-        (record { pause = q; dial = first }) (record { pause = q'; dial = last }) did
+    pub awaits : Option Bool
+    pub awaits_is : awaits ≡ awaited_end sender.pcm.is_spooled sender.pcm.until
+    pub is : SendsSamples awaits recorder file f (record { pause = q; dial = first })
+        (record { pause = q'; dial = last }) did
     pub failures : files.failures f' ≡ failures_if did.is_system_well (files.failures f)
     pub writes : HasPacked out reported did o o' e e'

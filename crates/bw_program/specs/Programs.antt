@@ -4,16 +4,18 @@ use Rattle.std.specs.Prelude.{string_bytes}
 use Rattle.std.specs.declared.io.ErrorKind.{ErrorKind}
 use Rattle.clap.specs.Walk.{Text}
 use Rattle.clap.specs.Values.{kind_of}
+use Rattle.clap.specs.declared.error.Error.{Error}
 use Rattle.clap.specs.declared.error.ErrorKind.{ErrorKind as TextKind}
 use Rattle.clap.specs.declared.error.ErrorKind.TheVariants as texts
 use Rattle.bw_args.specs.Lines.{IsLineOf}
 use Rattle.bw_args.specs.BadValues.{text_of}
+use Rattle.bw_args.specs.declared.bad_value.BadValue.{BadValue}
 use Rattle.bw_args.specs.declared.CommandLine.{CommandLine}
 use Rattle.bw_args.specs.declared.CommandLine.TheVariants.{Run, BadValue as Bad, Report}
 use Rattle.bw_args.specs.declared.Task.{Task}
 use Rattle.bw_args.specs.declared.Task.TheVariants.{Replay, Inspect, Rehearse, Serve, Send, SendFile}
 use Rattle.bw_args.specs.declared.Task.TheVariants.{SendPcm}
-use Rattle.bw_args.specs.declared.Task.TheVariants.{Pack, Picture, InspectFiles, Repair, Takes}
+use Rattle.bw_args.specs.declared.Task.TheVariants.{Pack, Picture, InspectFiles, Repair, Convert, Takes}
 use Rattle.bw_console.specs.Outcomes.{Outcome, Does, IsOutOfMemory}
 use Rattle.bw_commands.specs.Replays.{IsReplay}
 use Rattle.bw_console.specs.Faults.{IsReportedBy, exit_of}
@@ -26,6 +28,7 @@ use Rattle.bw_console.specs.declared.fault.Fault.{Fault}
 use Rattle.bw_delivery.specs.Chosen.{IsChosenRehearsal}
 use Rattle.bw_ports.specs.declared.network.Network.{Ghosts as NetworkGhosts}
 use Rattle.bw_ports.specs.declared.listener_setup.ListenerSetup.{Ghosts as ListenerSetupGhosts}
+use Rattle.bw_program.specs.ConvertCommands.{ConvertsFile, conversion_side, conversion_world}
 use Rattle.bw_program.specs.FileCommands.{InspectsFiles, IsInspectedAt}
 use Rattle.bw_program.specs.TakesCommands.{WorksOnTakes, folder_side, folder_world}
 use Rattle.bw_program.specs.PictureCommands.{DrawsFile}
@@ -33,10 +36,13 @@ use Rattle.bw_program.specs.RecordingCommands.{Packs}
 use Rattle.bw_program.specs.RepairCommands.{RepairsFile}
 use Rattle.bw_program.specs.Remote.{SendsTyped, ServesByRule}
 use Rattle.bw_program.specs.Sources.{IfFile}
-use Rattle.bw_program.specs.PcmCommands.{SendsPcmCommand}
-use Rattle.bw_program.specs.Uploads.{SendsByState}
-use Rattle.bw_program.specs.Sides.{HostSide, KeptSide, SenderSide, ServerSide, UploadSide}
-use Rattle.bw_program.specs.declared.outside.Outside.{Outside}
+use Rattle.bw_program.specs.PcmCommands.{SendsBySpool, SendsPcmCommand}
+use Rattle.bw_program.specs.PcmUploads.{SendsPcm}
+use Rattle.bw_program.specs.Requests.{ProgramRequest, ByWords, ByLine, ByTask, ByUpload, Upload}
+use Rattle.bw_program.specs.Requests.{NewRecording, KeptRecording, AnyRecording}
+use Rattle.bw_program.specs.Requests.{SpooledSamples, FileSamples, AnySamples}
+use Rattle.bw_program.specs.Uploads.{SendsByState, SendsOrGivesUp, SendsRecording}
+use Rattle.bw_program.specs.Sides.{HostSide, KeptSide, SenderSide, ServerSide, UploadSide, ProgramWorld}
 
 -- what is shown after a text of this kind: what the program was built from, after the version
 abbrev pub build_lines : List ℕ → TextKind → List ℕ
@@ -91,23 +97,23 @@ IsTaskDone file_at input (SendPcm sender) gives_all did = ⊥
 IsTaskDone file_at input (Pack source) gives_all did = ⊥
 IsTaskDone file_at input (Picture file) gives_all did = ⊥
 IsTaskDone file_at input (Repair file write) gives_all did = ⊥
+IsTaskDone file_at input (Convert file out form) gives_all did = ⊥
 IsTaskDone file_at input (Takes listing) gives_all did = ⊥
 
--- for a command line
-abbrev pub IsLineDone : List ℕ → (Text → Option (List ℕ)) → Option (List ℕ) → CommandLine → Bool →
-    Outcome → Type 0
-IsLineDone build file_at input (Run task) gives_all did = IsTaskDone file_at input task gives_all did
-IsLineDone build file_at input (Bad value) gives_all did =
-    IsBadValue (text_of value) did × (gives_all ≡ true)
-IsLineDone build file_at input (Report error) gives_all did =
-    IsReporting build (kind_of error) did × (gives_all ≡ true)
+-- the bad value is reported
+abbrev pub IsValueReported : BadValue → Bool → Outcome → Type 0
+IsValueReported value gives_all did = IsBadValue (text_of value) did × (gives_all ≡ true)
+
+-- a text is shown
+abbrev pub IsTextReported : List ℕ → Error → Bool → Outcome → Type 0
+IsTextReported build error gives_all did = IsReporting build (kind_of error) did × (gives_all ≡ true)
 
 -- the words can't be read: if the system fails, that is reported; if it doesn't, memory is lacking
 abbrev pub IsUnread : Bool → Outcome → Type 0
 IsUnread true did = IsOutOfMemory did
 IsUnread false did = (kind : ErrorKind) × IsBadArgv kind did
 
-module _ {S T F H G M SB SL KP Ed LK DK DF N X Z P R W L K SP SK D A B U J Q I O E V C T' : Type 0}
+module _ {S T F H G M SB SL KP Ed LK DK DF N X Z P R W L K SP SK D A B U J Q I O E T' : Type 0}
     (host : HostSide S T F H G M SB SL KP Ed LK DK DF I O E)
     (server_side : ServerSide X Z P R W L K N SP SK) (sender_side : SenderSide D A B)
     (upload_side : UploadSide U J Q) (network : NetworkGhosts N X P D R W A B)
@@ -116,7 +122,7 @@ module _ {S T F H G M SB SL KP Ed LK DK DF N X Z P R W L K SP SK D A B U J Q I O
   -- this is done without the network, recordings and folders, where so many calls of the system
   -- had failed
   pub record DoesAlone (is_asked : Bool → Outcome → Type 0) (exit : Exit) (failed : ℕ)
-      (x x' : Outside S F DK N Q I O E V C) : Type 0 where
+      (x x' : ProgramWorld S F DK N Q I O E) : Type 0 where
     pub does : Does host.input host.out host.reported is_asked exit failed
         (host.system.failures x'.system) x.input x'.input x.out x'.out x.faults x'.faults
     pub unused : x'.network ≡ x.network
@@ -125,13 +131,13 @@ module _ {S T F H G M SB SL KP Ed LK DK DF N X Z P R W L K SP SK D A B U J Q I O
     pub kept : x'.disk ≡ x.disk
 
   -- the system didn't fail
-  abbrev pub IsHostWell : ℕ → Outside S F DK N Q I O E V C → Type 0
+  abbrev pub IsHostWell : ℕ → ProgramWorld S F DK N Q I O E → Type 0
   IsHostWell failed x' = host.system.failures x'.system ≡ failed
 
   -- what is done for a task, and how the program ends, where the system has these files and so many
   -- calls of it had failed
   abbrev pub IsTaskFor : (Text → Option (List ℕ)) → ℕ → Task → Exit →
-      Outside S F DK N Q I O E V C → Outside S F DK N Q I O E V C → Type 0
+      ProgramWorld S F DK N Q I O E → ProgramWorld S F DK N Q I O E → Type 0
   IsTaskFor file_at failed (Serve server) exit x x' =
       ServesByRule server_side host.out host.reported network listener_setup kept_servers server exit
       x.network x'.network x.out x'.out x.faults x'.faults
@@ -173,6 +179,12 @@ module _ {S T F H G M SB SL KP Ed LK DK DF N X Z P R W L K SP SK D A B U J Q I O
       x.files x'.files x.out x'.out x.faults x'.faults
       × IsHostWell failed x' × (x'.network ≡ x.network) × (x'.input ≡ x.input)
       × (x'.pause ≡ x.pause) × (x'.disk ≡ x.disk)
+  IsTaskFor file_at failed (Convert file out form) exit x x' =
+      ConvertsFile (conversion_side host.files host.disk host.out host.reported) (string_bytes file)
+      (string_bytes out) form exit (conversion_world x.files x.disk x.out x.faults)
+      (conversion_world x'.files x'.disk x'.out x'.faults)
+      × IsHostWell failed x' × (x'.network ≡ x.network) × (x'.input ≡ x.input)
+      × (x'.pause ≡ x.pause)
   IsTaskFor file_at failed (Takes listing) exit x x' =
       WorksOnTakes (folder_side host.disk host.locks upload_side.pause host.out host.reported)
       x.screens listing exit (folder_world x.disk x.files x.pause x.out x.faults)
@@ -183,20 +195,62 @@ module _ {S T F H G M SB SL KP Ed LK DK DF N X Z P R W L K SP SK D A B U J Q I O
 
   -- for a command line, by a program that was built from what these lines say
   abbrev pub IsDoneFor : List ℕ → (Text → Option (List ℕ)) → ℕ → CommandLine → Exit →
-      Outside S F DK N Q I O E V C → Outside S F DK N Q I O E V C → Type 0
+      ProgramWorld S F DK N Q I O E → ProgramWorld S F DK N Q I O E → Type 0
   IsDoneFor build file_at failed (Run task) exit x x' = IsTaskFor file_at failed task exit x x'
-  IsDoneFor build file_at failed line exit x x' =
-      DoesAlone (IsLineDone build file_at (host.input.left x.input) line) exit failed x x'
+  IsDoneFor build file_at failed (Bad value) exit x x' =
+      DoesAlone (IsValueReported value) exit failed x x'
+  IsDoneFor build file_at failed (Report error) exit x x' =
+      DoesAlone (IsTextReported build error) exit failed x x'
 
   -- the words result in a command line, and this is done for it
   pub record IsAnswered (build : List ℕ) (words : Option (List Text)) (exit : Exit)
-      (x x' : Outside S F DK N Q I O E V C) : Type 0 where
+      (x x' : ProgramWorld S F DK N Q I O E) : Type 0 where
     pub line : CommandLine
     pub comes : (given : List Text) → words ≡ Some given → IsLineOf given line
     pub done : IsDoneFor build (host.system.file_at x.system) (host.system.failures x.system) line exit x x'
 
   -- what the program that was built so does if the system reports these words, or none
-  abbrev pub IsProgram : List ℕ → Option (List Text) → Exit → Outside S F DK N Q I O E V C →
-      Outside S F DK N Q I O E V C → Type 0
+  abbrev pub IsProgram : List ℕ → Option (List Text) → Exit → ProgramWorld S F DK N Q I O E →
+      ProgramWorld S F DK N Q I O E → Type 0
   IsProgram build words exit x x' = IsAnswered build words exit x x'
       ⊎ DoesAlone IsUnread exit (host.system.failures x.system) x x'
+
+  -- this was sent over links that are made so, after such pauses
+  abbrev pub IsSentOver : Upload → Exit → ProgramWorld S F DK N Q I O E →
+      ProgramWorld S F DK N Q I O E → Type 0
+  IsSentOver (NewRecording sender) exit x x' =
+      SendsRecording upload_side sender_side network host.files host.out host.reported
+      sender exit x.files x'.files x.network x.pause x'.pause x.out x'.out x.faults x'.faults
+  IsSentOver (KeptRecording path sender) exit x x' =
+      SendsOrGivesUp upload_side sender_side network host.files host.states host.out host.reported path
+      sender exit x.files x'.files x.network x.pause x'.pause x.out x'.out x.faults x'.faults
+  IsSentOver (AnyRecording sender) exit x x' =
+      SendsByState upload_side sender_side network host.files host.states host.out host.reported
+      sender exit x.files x'.files x.network x.pause x'.pause x.out x'.out x.faults x'.faults
+  IsSentOver (SpooledSamples sender) exit x x' =
+      SendsBySpool upload_side sender_side network host.files host.spools host.out host.reported true
+      sender exit x.files x'.files x.network x.pause x'.pause x.out x'.out x.faults x'.faults
+  IsSentOver (FileSamples sender) exit x x' =
+      SendsPcm upload_side sender_side network host.files host.out host.reported
+      sender exit x.files x'.files x.network x.pause x'.pause x.out x'.out x.faults x'.faults
+  IsSentOver (AnySamples sender) exit x x' =
+      SendsPcmCommand upload_side sender_side network host.files host.spools host.out host.reported
+      sender exit x.files x'.files x.network x.pause x'.pause x.out x'.out x.faults x'.faults
+
+  -- .. and nothing else was used
+  pub record IsSentAlone (upload : Upload) (exit : Exit) (x x' : ProgramWorld S F DK N Q I O E) : Type 0 where
+    pub sent : IsSentOver upload exit x x'
+    pub well : IsHostWell (host.system.failures x.system) x'
+    pub unused : x'.network ≡ x.network
+    pub unread : x'.input ≡ x.input
+    pub kept : x'.disk ≡ x.disk
+
+  -- what was asked for is done
+  abbrev pub DoesRequest : ProgramRequest → Exit → ProgramWorld S F DK N Q I O E →
+      ProgramWorld S F DK N Q I O E → Type 0
+  DoesRequest (ByWords build words) exit x x' = IsProgram build words exit x x'
+  DoesRequest (ByLine build line) exit x x' =
+      IsDoneFor build (host.system.file_at x.system) (host.system.failures x.system) line exit x x'
+  DoesRequest (ByTask task) exit x x' =
+      IsTaskFor (host.system.file_at x.system) (host.system.failures x.system) task exit x x'
+  DoesRequest (ByUpload upload) exit x x' = IsSentAlone upload exit x x'

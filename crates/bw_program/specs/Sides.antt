@@ -32,6 +32,7 @@ use Rattle.bw_send_file.specs.declared.fault.FeedFault.{FeedFault}
 use Rattle.bw_serve.specs.declared.opening.OpenedServer.{OpenedServer}
 use Rattle.bw_serve_status.specs.Shown.{StatusSide}
 use Rattle.bw_ports.specs.declared.spool_keeper.SpoolKeeper.{Ghosts as KeeperGhosts}
+use Rattle.bw_takes.specs.declared.screen.ScreenStyle.{ScreenStyle}
 use Rattle.bw_upload.specs.declared.feed.Feed.{Ghosts as FeedGhosts}
 
 -- what the states of senders have, and the files that they are kept in
@@ -177,3 +178,31 @@ abbrev pub upload_side : {U J Q : Type 0} → FeedGhosts U FeedFault →
     FeedGhosts J FeedFault → PauseGhosts Q → UploadSide U J Q
 upload_side feed looks_at follow pause =
     record { feed = feed; looks_at = looks_at; follow = follow; pause = pause }
+
+-- the parts themselves, as they are before or after a command
+pub record ProgramWorld (S F DK N Q I O E : Type 0) : Type 0 where
+  pub system : S
+  pub files : F
+  pub disk : DK
+  pub network : N
+  pub pause : Q
+  pub input : I
+  pub out : O
+  pub faults : E
+  pub screens : ScreenStyle
+  pub is_typed : Bool
+
+abbrev pub program_world : {S F DK N Q I O E : Type 0} → S → F → DK → N → Q → I → O → E →
+    ScreenStyle → Bool → ProgramWorld S F DK N Q I O E
+program_world system files disk network pause input out faults screens is_typed = record {
+  system = system;
+  files = files;
+  disk = disk;
+  network = network;
+  pause = pause;
+  input = input;
+  out = out;
+  faults = faults;
+  screens = screens;
+  is_typed = is_typed;
+}

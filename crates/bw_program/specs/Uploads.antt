@@ -1,5 +1,5 @@
 -- What is done for the command lines that send recordings.
-use Rattle.std.specs.Prelude.{◌≡◌, ◌⊎◌, ℕ, List, None, Some, string_bytes}
+use Rattle.std.specs.Prelude.{◌≡◌, ◌⊎◌, ℕ, List, Option, None, Some, option_map, string_bytes}
 use Rattle.std.specs.Net.Text.{socket_text}
 use Rattle.bw_stream.specs.declared.sink.Sink.{Ghosts as Writer}
 use Rattle.bw_args.specs.declared.recordings.FileSender.{FileSender}
@@ -90,10 +90,15 @@ module _ {U J F H G M S L Q N X P R W D A B O E : Type 0} (upload : UploadSide U
   SendsOrGivesUp path sender exit f f' n q q' o o' e e' =
       SendsKept path sender exit f f' n q q' o o' e e' ⊎ GivesUpState exit f f' q q' o o' e e'
 
-  -- with a state or without
+  -- with the state at a path, or without
+  abbrev pub SendsByPath : Option (List ℕ) → FileSender → Exit → F → F → N → Q → Q →
+      O → O → E → E → Type 0
+  SendsByPath None sender exit f f' n q q' o o' e e' =
+      SendsRecording upload side network files out reported sender exit f f' n q q' o o' e e'
+  SendsByPath (Some path) sender exit f f' n q q' o o' e e' =
+      SendsOrGivesUp path sender exit f f' n q q' o o' e e'
+
+  -- as the command line says
   abbrev pub SendsByState : FileSender → Exit → F → F → N → Q → Q → O → O → E → E →
       Type 0
-  SendsByState sender exit f f' n q q' o o' e e' = elim sender.state [
-    | None ↦ SendsRecording upload side network files out reported sender exit f f' n q q' o o' e e'
-    | Some state ↦ SendsOrGivesUp (string_bytes state) sender exit f f' n q q' o o' e e'
-  ]
+  SendsByState sender = SendsByPath (option_map string_bytes sender.state) sender

@@ -1,34 +1,36 @@
 //! The commands on a folder of takes, as a command line asks for them.
 ghost use Rattle.std.specs.Prelude.{◌≡◌};
-ghost use Rattle.bw_program.specs.TakesCommands.{WorksOnTakes, folder_side, folder_world, form_for};
+ghost use Rattle.bw_args.specs.declared.Task.TheVariants.{Takes};
+ghost use Rattle.bw_program.specs.Requests.{ByTask};
+ghost use Rattle.bw_program.specs.TakesCommands.{form_for};
 
+use crate::behavior::Behavior;
+use crate::outside::{Environment, Outside};
 use bw_args::{FolderWork, TakesFolder};
 use bw_console::Exit;
-use bw_disk::Volume;
-use bw_ports::{FolderLocks, Pause};
-use bw_stream::Sink;
-use bw_takes::{
-    Depth, LineStyle, ReportForm, ScreenStyle, give_up_locked, show_takes, watch_takes,
-};
+use bw_takes::{Depth, LineStyle, ReportForm, give_up_locked, show_takes, watch_takes};
 use std::alloc::Global;
 
 /// Reports the takes of the folder that the command line names, once or until the program is stopped,
 /// or gives one of them up.
-pub(crate) fn work_on_takes<D: Volume, L: FolderLocks, P: Pause, W: Sink, E: Sink>(
+pub(crate) fn work_on_takes<X: Environment>(
     alloc: Global,
     listing: &TakesFolder,
-    screens: ScreenStyle,
-    disk: &mut D,
-    locks: &mut L,
-    pause: &mut P,
-    out: &mut W,
-    faults: &mut E,
+    outside: &mut Outside<X>,
 ) -> Exit
-    ensures { WorksOnTakes (folder_side D.Disk L.FolderLocks P.Pause W.Sink E.Sink) screens listing.now
-        result (folder_world disk.old locks.old pause.old out.old faults.old)
-        (folder_world disk.new locks.new pause.new out.new faults.new) }
+    ensures { ⟦<Outside<X> as Behavior>⟧.does (ByTask (Takes listing.now)) result
+        outside.old outside.new }
 {
     let folder = listing.folder.as_str();
+    let Outside {
+        disk,
+        files: locks,
+        pause,
+        out,
+        faults,
+        screens,
+        ..
+    } = outside;
     match &listing.work {
         FolderWork::Report {
             check,
@@ -38,7 +40,7 @@ pub(crate) fn work_on_takes<D: Volume, L: FolderLocks, P: Pause, W: Sink, E: Sin
             let form = report_form(*check, *json, *digest);
             show_takes(alloc, disk, folder, form, out, faults)
         }
-        FolderWork::Watch => watch_takes(alloc, disk, folder, screens, pause, out, faults),
+        FolderWork::Watch => watch_takes(alloc, disk, folder, *screens, pause, out, faults),
         FolderWork::GiveUp(name) => give_up_locked(alloc, disk, locks, folder, name, out, faults),
     }
 }

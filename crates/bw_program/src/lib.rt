@@ -2,6 +2,8 @@
 //! Not stated: which text help and usage print; what the watcher and the log of links do.
 #![tactic(auto)]
 
+mod behavior;
+mod conversions;
 mod folders;
 mod inspections;
 mod outside;
@@ -10,7 +12,9 @@ mod recordings;
 mod remote;
 mod samples;
 mod sources;
+mod tasks;
 mod uploads;
 
-pub use outside::Outside;
+pub use behavior::Behavior;
+pub use outside::{Environment, Outside, ProgressObservers};
 pub use program::start;

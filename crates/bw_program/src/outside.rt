@@ -1,31 +1,93 @@
 //! What the program works over.
+use bw_disk::Volume;
+use bw_operators::StatusSetup;
+use bw_ports::{
+    EditedFiles, FileKinds, FolderLocks, ListenerSetup, PacedNetwork, Pause, RecordingFiles,
+    SpoolKeeping, StateKeeping, System, Watch,
+};
+use bw_progress::UploadWatch;
+use bw_serve::{Opens, ServeRules};
+use bw_stream::{Sink, Source};
 use bw_takes::ScreenStyle;
+use bw_upload::Observer;
+use std::marker::PhantomData;
+
+/// The types of what the program works over.
+pub trait Environment {
+    /// The system, which gives the words of the command line.
+    type System: System;
+
+    /// The files of recordings.
+    type Files: RecordingFiles
+        + StateKeeping
+        + SpoolKeeping
+        + EditedFiles
+        + FolderLocks
+        + FileKinds;
+
+    /// The disk of servers' folders.
+    type Disk: Volume;
+
+    /// Where servers listen and senders connect.
+    type Network: PacedNetwork
+        + ListenerSetup
+        + Opens
+        + ServeRules
+        + StatusSetup<<Self::Network as ListenerSetup>::Reactor>;
+
+    /// Waits between links.
+    type Pause: Pause;
+
+    /// Standard input.
+    type Input: Source;
+
+    /// Standard output.
+    type Output: Sink;
+
+    /// Standard error.
+    type Diagnostics: Sink;
+
+    /// Is shown a sender's progress.
+    type Watch: Watch + UploadWatch;
+
+    /// Is shown the links of a sender of recordings.
+    type Log: Observer;
+}
 
 /// What the program works over, besides memory.
 #[derive(Drop)]
-pub struct Outside<S, F, D, N, P, R, W, E, V, G> {
+pub struct Outside<X: Environment> {
     /// The system, which gives the words of the command line.
-    pub system: S,
+    pub system: X::System,
     /// The files of recordings.
-    pub files: F,
+    pub files: X::Files,
     /// The disk of servers' folders.
-    pub disk: D,
+    pub disk: X::Disk,
     /// Where servers listen and senders connect.
-    pub network: N,
+    pub network: X::Network,
     /// Waits between links.
-    pub pause: P,
+    pub pause: X::Pause,
     /// Standard input.
-    pub input: R,
+    pub input: X::Input,
     /// Standard output.
-    pub out: W,
+    pub out: X::Output,
     /// Standard error.
-    pub faults: E,
-    /// Is shown a sender's progress, of its rounds or of an upload.
-    pub watch: V,
-    /// Is shown the links of a sender of recordings, where a log is asked for.
-    pub log: G,
+    pub faults: X::Diagnostics,
     /// How screens are shown on standard output.
     pub screens: ScreenStyle,
     /// Whether standard input is typed on a terminal.
     pub is_typed: bool,
+    /// Shows the lifetimes that `X` names: the prover wants them in a field.
+    pub environment: PhantomData<X>,
+}
+
+/// Who is shown what a sender does.
+#[derive(Drop)]
+pub struct ProgressObservers<X: Environment> {
+    /// Is shown its progress, of its rounds or of an upload.
+    pub watch: X::Watch,
+    /// Is shown the links of a sender of recordings, where a log is asked for.
+    pub log: X::Log,
+    /// As in `Outside`.
+    pub environment: PhantomData<X>,
 }

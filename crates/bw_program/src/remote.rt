@@ -1,12 +1,16 @@
 //! The commands that use the network, as a command line asks for them.
 ghost use Rattle.std.specs.Prelude.{◌≡◌, IfOk, option_map};
 ghost use Rattle.bw_layout.specs.Limits.{IsLimit};
-ghost use Rattle.bw_program.specs.Remote.{IsChoice, IsHosting, IsServingAs, Sends, SendsTyped, ServesByRule};
+ghost use Rattle.bw_args.specs.declared.Task.TheVariants.{Send as Sending};
+ghost use Rattle.bw_program.specs.Remote.{IsChoice, IsHosting, IsServingAs, ServesByRule};
 ghost use Rattle.bw_program.specs.Remote.{ServesOpened, exchanges_of, log_form_of};
+ghost use Rattle.bw_program.specs.Requests.{ByTask};
+ghost use Rattle.bw_program.specs.Sides.{kept_side, reach_side, server_side, turns_side};
 ghost use Rattle.bw_program.specs.Sources.{NotesInput};
-ghost use Rattle.bw_program.specs.Sides.{kept_side, reach_side, sender_side, server_side, turns_side};
 ghost use Rattle.bw_serve_status.specs.Shown.{status_side};
 
+use crate::behavior::Behavior;
+use crate::outside::{Environment, Outside};
 use bw_args::{End, Journaling, Logging, Recorders, Send, Serve};
 use bw_console::Exit;
 use bw_console::print::print_diagnostic;
@@ -14,14 +18,14 @@ use bw_exchange::Turns;
 use bw_journal::{Journal, NoJournal};
 use bw_layout::Limit;
 use bw_operators::{AllowList, LogForm, StatusSetup};
-use bw_ports::{ListenerSetup, Network, StartRefusal, Watch};
+use bw_ports::{ListenerSetup, Network, StartRefusal};
 use bw_serve::{
     Bounds, Hosting, OpenedServer, Opens, ServeChoice, ServeRules, Serving, open_new,
     report_refusal, serve_at_once, serve_in_turn,
 };
 use bw_serve_status::{Showing, serve_shown};
 use bw_session::HasTable;
-use bw_stream::{Sink, Source};
+use bw_stream::Sink;
 use bw_upload::send_run;
 use std::alloc::Global;
 
@@ -52,18 +56,22 @@ pub(crate) fn serve_as<
         Err(refusal) => return report_refusal(alloc, rules, &refusal, faults),
     };
     let folder = server.folder.as_str();
+    let orders = Orders {
+        server,
+        allow: &allow,
+    };
     match server.journal {
         Journaling::Without => {
             let opened = open_new(alloc, network, folder, limit);
-            serve_opened(alloc, server, &allow, opened, network, out, faults)
+            serve_opened(alloc, &orders, opened, network, out, faults)
         }
         Journaling::Kept => {
             let opened = network.open(folder, limit, false);
-            serve_opened(alloc, server, &allow, opened, network, out, faults)
+            serve_opened(alloc, &orders, opened, network, out, faults)
         }
         Journaling::Synced => {
             let opened = network.open(folder, limit, true);
-            serve_opened(alloc, server, &allow, opened, network, out, faults)
+            serve_opened(alloc, &orders, opened, network, out, faults)
         }
     }
 }
@@ -93,6 +101,13 @@ fn log_form(logging: Option<Logging>) -> Option<LogForm>
     }
 }
 
+/// What a server is asked to do, and which names may come from which addresses.
+#[derive(Clone, Copy)]
+struct Orders<'a> {
+    server: &'a Serve,
+    allow: &'a AllowList,
+}
+
 /// Serves with the server that was opened, or reports why none was.
 fn serve_opened<
     N: Network + ListenerSetup + StatusSetup<N::Reactor>,
@@ -101,8 +116,7 @@ fn serve_opened<
     E: Sink,
 >(
     alloc: Global,
-    server: &Serve,
-    allow: &AllowList,
+    orders: &Orders<'_>,
     opened: Result<OpenedServer<T>, StartRefusal>,
     network: &mut N,
     out: &mut W,
@@ -112,9 +126,11 @@ fn serve_opened<
     ensures { ServesOpened N.Network N.ListenerSetup (reach_side N.Peers.Peers N.Peers.Reader.Source
         N.Peers.Writer.Sink N.Reactor.Reactor N.Reactor.Link.Link
         (status_side N.StatusSetup N.Port.StatusPort N.Port.Link.Link)) W.Sink E.Sink
-        (turns_side T.answers T.committed T.commits T.holds) server.now allow.now opened result
+        (turns_side T.answers T.committed T.commits T.holds) orders.now.server.now orders.now.allow.now opened result
         network.old network.new out.old out.new faults.old faults.new }
 {
+    let server = orders.server;
+    let allow = orders.allow;
     let opened = match opened {
         Ok(opened) => opened,
         Err(refusal) => return report_refusal(alloc, server.folder.as_str(), &refusal, faults),
@@ -192,39 +208,25 @@ fn note_input<E: Sink>(is_typed: bool, faults: &mut E)
     }
 }
 
-/// Sends as `send_as` does. It first reports what is read, if a user types it.
-pub(crate) fn send_typed<N: Network, R: Source, W: Sink, E: Sink, V: Watch>(
+/// Sends as the command line asks for, and reports the progress to the watcher. It first reports what
+/// is read, if a user types it.
+pub(crate) fn send_typed<X: Environment>(
     alloc: Global,
     sender: &Send,
-    is_typed: bool,
-    network: &N,
-    input: &mut R,
-    out: &mut W,
-    faults: &mut E,
-    watch: &mut V,
+    outside: &mut Outside<X>,
+    watch: &mut X::Watch,
 ) -> Exit
-    ensures { SendsTyped N.Network (sender_side N.Dial.Dial N.Dial.Reader.Source N.Dial.Writer.Sink)
-        R.Source W.Sink E.Sink is_typed sender.now result network.now input.old input.new out.old out.new
-        faults.old faults.new }
+    ensures { ⟦<Outside<X> as Behavior>⟧.does (ByTask (Sending sender.now)) result outside.old outside.new }
 {
-    note_input(is_typed, faults);
-    send_as(alloc, sender, network, input, out, faults, watch)
-}
-
-/// Sends as the command line asks for, and reports the progress to the watcher.
-fn send_as<N: Network, R: Source, W: Sink, E: Sink, V: Watch>(
-    alloc: Global,
-    sender: &Send,
-    network: &N,
-    input: &mut R,
-    out: &mut W,
-    faults: &mut E,
-    watch: &mut V,
-) -> Exit
-    ensures { Sends N.Network (sender_side N.Dial.Dial N.Dial.Reader.Source N.Dial.Writer.Sink)
-        R.Source W.Sink E.Sink sender.now result network.now input.old input.new out.old out.new
-        faults.old faults.new }
-{
+    let Outside {
+        network,
+        input,
+        out,
+        faults,
+        is_typed,
+        ..
+    } = outside;
+    note_input(*is_typed, faults);
     let mut dial = network.dial(sender.connect, sender.timeout);
     send_run(
         alloc,

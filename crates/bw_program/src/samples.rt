@@ -1,23 +1,20 @@
 //! The command that sends headerless samples, as a command line asks for it.
-ghost use Rattle.std.specs.Prelude.{◌≡◌, min, true};
-ghost use Rattle.bw_send_file.specs.FileLooks.{LooksAt};
-ghost use Rattle.bw_program.specs.PcmUploads.{IsPcmFileOf, IsPcmRecorderOf, SendsPcm, awaited_end, file_awaited, most_in_field};
-ghost use Rattle.bw_program.specs.PcmCommands.{SendsBySpool, SendsPcmCommand, spool_line};
-ghost use Rattle.bw_program.specs.Sides.{sender_side, spool_side, upload_side};
+ghost use Rattle.std.specs.Prelude.{◌≡◌, min};
 ghost use Rattle.bw_ports.specs.Purposes.{line_of};
+ghost use Rattle.bw_program.specs.PcmCommands.{spool_line};
+ghost use Rattle.bw_program.specs.PcmUploads.{IsPcmFileOf, IsPcmRecorderOf, awaited_end, file_awaited, most_in_field};
+ghost use Rattle.bw_program.specs.Requests.{AnySamples, ByUpload, FileSamples, SpooledSamples};
 
+use crate::behavior::Behavior;
+use crate::outside::{Environment, Outside};
 use bw_args::PcmSender;
 use bw_console::Exit;
 use bw_plan::Pcm;
-use bw_ports::{
-    Network, PacedNetwork, Pause, Purpose, RecordingFiles, SpoolKeeper, SpoolKeeping, hold_spool,
-    keep_unless_done,
-};
+use bw_ports::{PacedNetwork, Purpose, SpoolKeeping, hold_spool, keep_unless_done};
 use bw_progress::{Extent, SamplesSent, UploadWatch};
 use bw_recorder::RecordingFile;
-use bw_send_file::{PcmFeed, PcmFile, PlanFeed, Recorder, follow_samples, send_samples};
-use bw_stream::Sink;
-use bw_upload::{Feed, Observer};
+use bw_send_file::{PcmFile, Recorder, follow_samples, send_samples};
+use bw_upload::Observer;
 use std::alloc::Global;
 
 /// When all of a recording is written.
@@ -31,71 +28,40 @@ enum Ending<'a> {
 
 /// Sends the headerless samples that the command line names, and reports each change of the link to
 /// the observer. A spool is held first, and what still comes is kept in it unless all is stored.
-pub(crate) fn send_pcm_as<
-    F: RecordingFiles + SpoolKeeping,
-    N: PacedNetwork,
-    P: Pause,
-    G: Observer,
-    W: Sink,
-    E: Sink,
->(
+pub(crate) fn send_pcm_as<X: Environment, G: Observer>(
     alloc: Global,
     sender: &PcmSender,
-    files: &mut F,
-    network: &N,
-    pause: &mut P,
+    outside: &mut Outside<X>,
     observer: &mut G,
-    out: &mut W,
-    faults: &mut E,
 ) -> Exit
-    ensures { SendsPcmCommand
-        (upload_side ⟦<PlanFeed<F::File, F::Stamped> as Feed>⟧ (LooksAt F.Stamped.Stamped)
-        ⟦<PcmFeed<F::Growing> as Feed>⟧ P.Pause)
-        (sender_side N.Dial.Dial N.Dial.Reader.Source N.Dial.Writer.Sink) N.Network
-        F.RecordingFiles (spool_side F.lends F.Keeper.SpoolKeeper) W.Sink E.Sink
-        sender.now result files.old files.new network.now
-        pause.old pause.new out.old out.new faults.old faults.new }
+    ensures { ⟦<Outside<X> as Behavior>⟧.does (ByUpload (AnySamples sender.now)) result
+        outside.old outside.new }
 {
     if sender.pcm.is_spooled {
-        send_spool(alloc, sender, files, network, pause, observer, out, faults)
+        send_spool(alloc, sender, outside, observer)
     } else {
-        send_samples_as(alloc, sender, files, network, pause, observer, out, faults)
+        send_samples_as(alloc, sender, outside, observer)
     }
 }
 
 /// Sends the samples of a spool, which is held as long as that takes.
-fn send_spool<
-    F: RecordingFiles + SpoolKeeping,
-    N: PacedNetwork,
-    P: Pause,
-    G: Observer,
-    W: Sink,
-    E: Sink,
->(
+fn send_spool<X: Environment, G: Observer>(
     alloc: Global,
     sender: &PcmSender,
-    files: &mut F,
-    network: &N,
-    pause: &mut P,
+    outside: &mut Outside<X>,
     observer: &mut G,
-    out: &mut W,
-    faults: &mut E,
 ) -> Exit
-    ensures { SendsBySpool
-        (upload_side ⟦<PlanFeed<F::File, F::Stamped> as Feed>⟧ (LooksAt F.Stamped.Stamped)
-        ⟦<PcmFeed<F::Growing> as Feed>⟧ P.Pause)
-        (sender_side N.Dial.Dial N.Dial.Reader.Source N.Dial.Writer.Sink) N.Network
-        F.RecordingFiles (spool_side F.lends F.Keeper.SpoolKeeper) W.Sink E.Sink
-        true sender.now result files.old files.new network.now
-        pause.old pause.new out.old out.new faults.old faults.new }
+    ensures { ⟦<Outside<X> as Behavior>⟧.does (ByUpload (SpooledSamples sender.now)) result
+        outside.old outside.new }
 {
-    let mut keeper = files.keeper();
+    let mut keeper = outside.files.keeper();
     let path = sender.source.path.as_str();
-    if let Err(exit) = hold_spool(alloc, path, &purpose_of(sender), &mut keeper, faults) {
+    let purpose = purpose_of(sender);
+    if let Err(exit) = hold_spool(alloc, path, &purpose, &mut keeper, &mut outside.faults) {
         return exit;
     }
-    let exit = send_samples_as(alloc, sender, files, network, pause, observer, out, faults);
-    keep_unless_done(alloc, path, exit, &mut keeper, faults);
+    let exit = send_samples_as(alloc, sender, outside, observer);
+    keep_unless_done(alloc, path, exit, &mut keeper, &mut outside.faults);
     exit
 }
 
@@ -113,23 +79,23 @@ fn purpose_of(sender: &PcmSender) -> Purpose<'_>
 }
 
 /// Sends the samples in the file that the command line names.
-fn send_samples_as<F: RecordingFiles, N: PacedNetwork, P: Pause, G: Observer, W: Sink, E: Sink>(
+fn send_samples_as<X: Environment, G: Observer>(
     alloc: Global,
     sender: &PcmSender,
-    files: &mut F,
-    network: &N,
-    pause: &mut P,
+    outside: &mut Outside<X>,
     observer: &mut G,
-    out: &mut W,
-    faults: &mut E,
 ) -> Exit
-    ensures { SendsPcm
-        (upload_side ⟦<PlanFeed<F::File, F::Stamped> as Feed>⟧ (LooksAt F.Stamped.Stamped)
-        ⟦<PcmFeed<F::Growing> as Feed>⟧ P.Pause)
-        (sender_side N.Dial.Dial N.Dial.Reader.Source N.Dial.Writer.Sink) N.Network
-        F.RecordingFiles W.Sink E.Sink sender.now result files.old files.new network.now
-        pause.old pause.new out.old out.new faults.old faults.new }
+    ensures { ⟦<Outside<X> as Behavior>⟧.does (ByUpload (FileSamples sender.now)) result
+        outside.old outside.new }
 {
+    let Outside {
+        files,
+        network,
+        pause,
+        out,
+        faults,
+        ..
+    } = outside;
     let mut dial = network.dial_paced(sender.connect, Some(sender.timeout), sender.rate);
     let file = pcm_file_of(sender);
     let recorder = recorder_of(sender);
@@ -145,30 +111,14 @@ fn send_samples_as<F: RecordingFiles, N: PacedNetwork, P: Pause, G: Observer, W:
 
 /// Sends the headerless samples that the command line names as `send_pcm_as` does, and has its
 /// progress shown.
-pub(crate) fn send_pcm_watched<
-    F: RecordingFiles + SpoolKeeping,
-    N: PacedNetwork,
-    P: Pause,
-    V: UploadWatch,
-    W: Sink,
-    E: Sink,
->(
+pub(crate) fn send_pcm_watched<X: Environment, V: UploadWatch>(
     alloc: Global,
     sender: &PcmSender,
-    files: &mut F,
-    network: &N,
-    pause: &mut P,
+    outside: &mut Outside<X>,
     watch: &mut V,
-    out: &mut W,
-    faults: &mut E,
 ) -> Exit
-    ensures { SendsPcmCommand
-        (upload_side ⟦<PlanFeed<F::File, F::Stamped> as Feed>⟧ (LooksAt F.Stamped.Stamped)
-        ⟦<PcmFeed<F::Growing> as Feed>⟧ P.Pause)
-        (sender_side N.Dial.Dial N.Dial.Reader.Source N.Dial.Writer.Sink) N.Network
-        F.RecordingFiles (spool_side F.lends F.Keeper.SpoolKeeper) W.Sink E.Sink
-        sender.now result files.old files.new network.now
-        pause.old pause.new out.old out.new faults.old faults.new }
+    ensures { ⟦<Outside<X> as Behavior>⟧.does (ByUpload (AnySamples sender.now)) result
+        outside.old outside.new }
 {
     let file = pcm_file_of(sender);
     let extent = match ending_of(sender) {
@@ -181,7 +131,7 @@ pub(crate) fn send_pcm_watched<
         extent,
     };
     watch.begin_samples(alloc, &sender.name, &samples);
-    let exit = send_pcm_as(alloc, sender, files, network, pause, watch, out, faults);
+    let exit = send_pcm_as(alloc, sender, outside, watch);
     watch.end();
     exit
 }

@@ -1,118 +1,72 @@
 //! The command that sends a recording's file, as a command line asks for it.
-ghost use Rattle.std.specs.Prelude.{Some};
-ghost use Rattle.bw_send_file.specs.FileLooks.{LooksAt};
-ghost use Rattle.bw_program.specs.Sides.{sender_side, state_side, upload_side};
-ghost use Rattle.bw_program.specs.Uploads.{IsRecorderOf, SendsByState, SendsOrGivesUp, SendsRecording};
+ghost use Rattle.bw_program.specs.Requests.{AnyRecording, ByUpload, KeptRecording, NewRecording};
+ghost use Rattle.bw_program.specs.Uploads.{IsRecorderOf};
 
+use crate::behavior::Behavior;
+use crate::outside::{Environment, Outside};
 use crate::recordings::recording_of;
 use bw_args::FileSender;
 use bw_console::print::give_up;
 use bw_console::{Exit, Fault};
-use bw_ports::{Network, PacedNetwork, Pause, RecordingFiles, StateKeeping};
+use bw_ports::{PacedNetwork, RecordingFiles, StateKeeping};
 use bw_progress::UploadWatch;
-use bw_send_file::{Job, PcmFeed, PlanFeed, Recorder, StatePlace, send_file, send_file_on};
-use bw_stream::Sink;
-use bw_upload::{Feed, Observer};
+use bw_send_file::{Job, Recorder, StatePlace, send_file, send_file_on};
+use bw_upload::Observer;
 use std::alloc::Global;
 
 /// Sends the recording that the command line names, with a state if that names one too, and reports
 /// each change of the link to the observer.
-pub(crate) fn send_file_as<
-    F: RecordingFiles + StateKeeping,
-    N: PacedNetwork,
-    P: Pause,
-    G: Observer,
-    W: Sink,
-    E: Sink,
->(
+pub(crate) fn send_file_as<X: Environment, G: Observer>(
     alloc: Global,
     sender: &FileSender,
-    files: &mut F,
-    network: &N,
-    pause: &mut P,
+    outside: &mut Outside<X>,
     observer: &mut G,
-    out: &mut W,
-    faults: &mut E,
 ) -> Exit
-    ensures { SendsByState
-        (upload_side ⟦<PlanFeed<F::File, F::Stamped> as Feed>⟧ (LooksAt F.Stamped.Stamped)
-        ⟦<PcmFeed<F::Growing> as Feed>⟧ P.Pause)
-        (sender_side N.Dial.Dial N.Dial.Reader.Source N.Dial.Writer.Sink) N.Network F.RecordingFiles
-        (state_side F.kept_at F.States.StateFiles F.States.Log.StateLog) W.Sink E.Sink
-        sender.now result files.old files.new network.now
-        pause.old pause.new out.old out.new faults.old faults.new }
+    ensures { ⟦<Outside<X> as Behavior>⟧.does (ByUpload (AnyRecording sender.now)) result
+        outside.old outside.new }
 {
     match &sender.state {
-        None => send_new(alloc, sender, files, network, pause, observer, out, faults),
-        Some(state) => {
-            let state = state.as_str();
-            send_kept(
-                alloc, sender, state, files, network, pause, observer, out, faults,
-            )
-        }
+        None => send_new(alloc, sender, outside, observer),
+        Some(state) => send_kept(alloc, sender, state.as_str(), outside, observer),
     }
 }
 
 /// Sends the recording that the command line names as `send_file_as` does, and has its progress
 /// shown.
-pub(crate) fn send_file_watched<
-    F: RecordingFiles + StateKeeping,
-    N: PacedNetwork,
-    P: Pause,
-    V: UploadWatch,
-    W: Sink,
-    E: Sink,
->(
+pub(crate) fn send_file_watched<X: Environment, V: UploadWatch>(
     alloc: Global,
     sender: &FileSender,
-    files: &mut F,
-    network: &N,
-    pause: &mut P,
+    outside: &mut Outside<X>,
     watch: &mut V,
-    out: &mut W,
-    faults: &mut E,
 ) -> Exit
-    ensures { SendsByState
-        (upload_side ⟦<PlanFeed<F::File, F::Stamped> as Feed>⟧ (LooksAt F.Stamped.Stamped)
-        ⟦<PcmFeed<F::Growing> as Feed>⟧ P.Pause)
-        (sender_side N.Dial.Dial N.Dial.Reader.Source N.Dial.Writer.Sink) N.Network F.RecordingFiles
-        (state_side F.kept_at F.States.StateFiles F.States.Log.StateLog) W.Sink E.Sink
-        sender.now result files.old files.new network.now
-        pause.old pause.new out.old out.new faults.old faults.new }
+    ensures { ⟦<Outside<X> as Behavior>⟧.does (ByUpload (AnyRecording sender.now)) result
+        outside.old outside.new }
 {
     watch.begin_file(alloc, &sender.name, &recording_of(&sender.source));
-    let exit = send_file_as(alloc, sender, files, network, pause, watch, out, faults);
+    let exit = send_file_as(alloc, sender, outside, watch);
     watch.end();
     exit
 }
 
 /// Sends the recording with the state at a path.
-fn send_kept<
-    F: RecordingFiles + StateKeeping,
-    N: PacedNetwork,
-    P: Pause,
-    G: Observer,
-    W: Sink,
-    E: Sink,
->(
+fn send_kept<X: Environment, G: Observer>(
     alloc: Global,
     sender: &FileSender,
     state: &str,
-    files: &mut F,
-    network: &N,
-    pause: &mut P,
+    outside: &mut Outside<X>,
     observer: &mut G,
-    out: &mut W,
-    faults: &mut E,
 ) -> Exit
-    ensures { SendsOrGivesUp
-        (upload_side ⟦<PlanFeed<F::File, F::Stamped> as Feed>⟧ (LooksAt F.Stamped.Stamped)
-        ⟦<PcmFeed<F::Growing> as Feed>⟧ P.Pause)
-        (sender_side N.Dial.Dial N.Dial.Reader.Source N.Dial.Writer.Sink) N.Network F.RecordingFiles
-        (state_side F.kept_at F.States.StateFiles F.States.Log.StateLog) W.Sink E.Sink
-        state.now sender.now result files.old files.new network.now
-        pause.old pause.new out.old out.new faults.old faults.new }
+    ensures { ⟦<Outside<X> as Behavior>⟧.does (ByUpload (KeptRecording state.now sender.now)) result
+        outside.old outside.new }
 {
+    let Outside {
+        files,
+        network,
+        pause,
+        out,
+        faults,
+        ..
+    } = outside;
     let Ok(address) = sender.connect.to_string(alloc) else {
         return give_up(faults, &Fault::Memory);
     };
@@ -142,23 +96,23 @@ fn send_kept<
 }
 
 /// Sends the recording without a state.
-fn send_new<F: RecordingFiles, N: PacedNetwork, P: Pause, G: Observer, W: Sink, E: Sink>(
+fn send_new<X: Environment, G: Observer>(
     alloc: Global,
     sender: &FileSender,
-    files: &mut F,
-    network: &N,
-    pause: &mut P,
+    outside: &mut Outside<X>,
     observer: &mut G,
-    out: &mut W,
-    faults: &mut E,
 ) -> Exit
-    ensures { SendsRecording
-        (upload_side ⟦<PlanFeed<F::File, F::Stamped> as Feed>⟧ (LooksAt F.Stamped.Stamped)
-        ⟦<PcmFeed<F::Growing> as Feed>⟧ P.Pause)
-        (sender_side N.Dial.Dial N.Dial.Reader.Source N.Dial.Writer.Sink) N.Network
-        F.RecordingFiles W.Sink E.Sink sender.now result files.old files.new network.now
-        pause.old pause.new out.old out.new faults.old faults.new }
+    ensures { ⟦<Outside<X> as Behavior>⟧.does (ByUpload (NewRecording sender.now)) result
+        outside.old outside.new }
 {
+    let Outside {
+        files,
+        network,
+        pause,
+        out,
+        faults,
+        ..
+    } = outside;
     let mut dial = network.dial_paced(sender.connect, Some(sender.timeout), sender.rate);
     let file = recording_of(&sender.source);
     send_file(

@@ -5,3 +5,11 @@ pub mod SizeLaws
 pub mod Settled
 pub mod Reports
 pub mod Written
+pub mod OutWrites
+pub mod StepLaws
+pub mod PieceCopies
+pub mod Fills
+pub mod Checked
+pub mod Leftovers
+pub mod Overlaid
+pub mod Converted

@@ -10,3 +10,12 @@ pub mod Soundnesses
 pub mod Writes
 pub mod Texts
 pub mod Repairs
+pub mod Forms
+pub mod ConvertFaults
+pub mod Checks
+pub mod DiskSteps
+pub mod Copies
+pub mod Makings
+pub mod ConvertTexts
+pub mod Conversions
+pub mod ConvertLaws

@@ -1,4 +1,5 @@
-//! Laws of repairs: functions that do nothing, whose contracts are the statements.
+//! Laws of repairs and conversions: functions that do nothing, whose contracts are the statements.
+ghost use Rattle.bw_repair.specs.ConvertLaws.{LeftoversAreUnread};
 ghost use Rattle.bw_repair.specs.Decisions.{DecidedSizesStay};
 ghost use Rattle.bw_repair.specs.RepairedFiles.{SizesAloneChange};
 
@@ -10,4 +11,9 @@ pub fn law_sizes()
 /// A file that has got the sizes that were decided for it keeps them.
 pub fn law_settled()
     ensures settled { DecidedSizesStay }
+{}
+
+/// What a conversion leaves that fails or is killed isn't read as a file, unless it is whole.
+pub fn law_leftovers()
+    ensures unread { LeftoversAreUnread }
 {}

@@ -17,6 +17,8 @@ use Rattle.bw_report.specs.Values.{hex_or_null, level_data, number_or_null, text
 use Rattle.bw_report.specs.Objects.{bext_data, bext_or_null, chunk_data}
 use Rattle.bw_report.specs.Objects.{cue_data, fault_data, loudness_data, report_data}
 use Rattle.bw_report.specs.Objects.{samples_data}
+use Rattle.bw_contents.specs.Texts.{Said}
+use Rattle.bw_report.specs.ContentTexts.{contents_or_null, said_data}
 use Rattle.bw_report.specs.Entries.{found_data}
 use Rattle.bw_report.specs.declared.found.Found.{Found}
 use Rattle.bw_report.specs.declared.found.Found.TheVariants.{Read, Faulty, Unopened}
@@ -68,18 +70,27 @@ chunks : (entries : List Entry) → items_have_float (items_of (map chunk_data e
 chunks [] = refl
 chunks (e ∷ es) = simp (text, chunks es)
 
+contents : (all : List Said) → items_have_float (items_of (map said_data all)) ≡ false
+contents [] = refl
+contents (x ∷ xs) = simp (text, maybe_number, contents xs)
+
+maybe_contents : (known : Option (List Said)) → has_float (contents_or_null known) ≡ false
+maybe_contents None = refl
+maybe_contents (Some all) = contents all
+
 cues : (rate : ℕ) (points : List RawCue) → items_have_float (items_of (map (cue_data rate) points)) ≡ false
 cues rate [] = refl
 cues rate (c ∷ cs) = simp (maybe_number, cues rate cs)
 
-report : (name : List ℕ) (digest : Option (List ℕ)) (r : Report) → has_float (report_data name digest r) ≡ false
-report name digest r = simp (maybe_bext, chunks, cues, maybe_number, text, maybe_hex)
+report : (name : List ℕ) (digest : Option (List ℕ)) (known : Option (List Said)) (r : Report)
+    → has_float (report_data name digest known r) ≡ false
+report name digest known r = simp (maybe_bext, chunks, maybe_contents, cues, maybe_number, text, maybe_hex)
 
 fault : (name kind : List ℕ) (place : Option ℕ) → has_float (fault_data name kind place) ≡ false
 fault name kind place = simp maybe_number
 
 pub found-has_float : (name : List ℕ) (found : Found) → has_float (found_data name found) ≡ false
-found-has_float name (Read r digest) = report name digest (reported_by r)
+found-has_float name (Read r digest known) = report name digest known (reported_by r)
 found-has_float name (Faulty f) = fault name (name_of f.kind) (Some f.offset)
 found-has_float name (Unopened exit) = fault name (codes "Open") None
 
@@ -143,6 +154,16 @@ chunks_depth (e ∷ es) =
     let one : depth (chunk_data e) ≤ 1 = simp text_depth (lit≤ tt) in
     max-le one (chunks_depth es)
 
+contents_depth : (all : List Said) → items_depth (items_of (map said_data all)) ≤ 1
+contents_depth [] = omega arith
+contents_depth (x ∷ xs) =
+    let one : depth (said_data x) ≤ 1 = simp (text_depth, number_depth) (lit≤ tt) in
+    max-le one (contents_depth xs)
+
+maybe_contents_depth : (known : Option (List Said)) → depth (contents_or_null known) ≤ 3
+maybe_contents_depth None = omega arith
+maybe_contents_depth (Some all) = omega (arith, contents_depth all)
+
 cues_depth : (rate : ℕ) (points : List RawCue) → items_depth (items_of (map (cue_data rate) points)) ≤ 1
 cues_depth rate [] = omega arith
 cues_depth rate (c ∷ cs) =
@@ -152,21 +173,23 @@ cues_depth rate (c ∷ cs) =
 samples_depth : (place size : ℕ) (f : RawFmt) → depth (samples_data place size f) ≤ 2
 samples_depth place size f = simp number_depth (lit≤ tt)
 
-report_depth : (name : List ℕ) (digest : Option (List ℕ)) (r : Report) → depth (report_data name digest r) ≤ 4
-report_depth name digest r =
+report_depth : (name : List ℕ) (digest : Option (List ℕ)) (known : Option (List Said)) (r : Report)
+    → depth (report_data name digest known r) ≤ 4
+report_depth name digest known r =
     let b : depth (bext_or_null r.fmt.rate r.bext) ≤ 3 = omega (arith, maybe_bext_depth r.fmt.rate r.bext) in
     let cs : items_depth (items_of (map chunk_data r.chunks)) ≤ 1 = chunks_depth r.chunks in
     let ps : items_depth (items_of (map (cue_data r.fmt.rate) r.cues)) ≤ 1 = cues_depth r.fmt.rate r.cues in
     let d : depth (samples_data r.data_at r.data_size r.fmt) ≤ 3 =
     omega (arith, samples_depth r.data_at r.data_size r.fmt) in
-    below_four _ (max-le (lit≤ tt) (max-le b (max-le (omega (arith, cs)) (max-le (omega (arith, ps)) (max-le d
+    below_four _ (max-le (lit≤ tt) (max-le b (max-le (omega (arith, cs)) (max-le (maybe_contents_depth known)
+    (max-le (omega (arith, ps)) (max-le d
     (max-le (lit≤ tt) (max-le (lit≤ tt) (max-le (lit≤ tt) (max-le (flat 3 _ (text_depth r.form))
-    (max-le (lit≤ tt) (max-le (lit≤ tt) (max-le (flat 3 _ (hex_depth digest)) (lit≤ tt)))))))))))))
+    (max-le (lit≤ tt) (max-le (lit≤ tt) (max-le (flat 3 _ (hex_depth digest)) (lit≤ tt))))))))))))))
 
 fault_depth : (name kind : List ℕ) (place : Option ℕ) → depth (fault_data name kind place) ≤ 4
 fault_depth name kind place = simp number_depth (lit≤ tt)
 
 pub found-depth : (name : List ℕ) (found : Found) → depth (found_data name found) ≤ 127
-found-depth name (Read r digest) = omega (arith, report_depth name digest (reported_by r))
+found-depth name (Read r digest known) = omega (arith, report_depth name digest known (reported_by r))
 found-depth name (Faulty f) = omega (arith, fault_depth name (name_of f.kind) (Some f.offset))
 found-depth name (Unopened exit) = omega (arith, fault_depth name (codes "Open") None)

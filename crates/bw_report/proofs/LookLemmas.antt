@@ -15,6 +15,8 @@ use Rattle.bw_inspect.specs.Faults.{bytes_fault, kind_of}
 use Rattle.bw_inspect.specs.declared.fault.InspectFault.{InspectFault}
 use Rattle.bw_inspect.specs.declared.fault.InspectKind.{InspectKind}
 use Rattle.bw_inspect.specs.declared.fault.InspectKind.TheVariants.{Read as FailedRead}
+use Rattle.bw_inspect.specs.declared.report.Report.{Report}
+use Rattle.bw_contents.specs.Texts.{Said}
 use Rattle.bw_commands.specs.Inspections.{IsPrintOfText}
 use Rattle.std.specs.declared.io.ErrorKind.{ErrorKind}
 use Rattle.bw_console.specs.Faults.{exit_on, input_fault_text}
@@ -26,13 +28,13 @@ use Rattle.bw_console.specs.declared.exit.Exit.{Exit}
 use Rattle.bw_console.specs.declared.exit.Exit.TheVariants.{Done, Refused, Usage, Device, Memory as OutOfMemory}
 use Rattle.bw_console.specs.declared.fault.Fault.{Fault}
 use Rattle.bw_report.specs.Entries.{entry_text}
-use Rattle.bw_report.specs.FileFindings.{IsFoundInBytes, exit_of_found, worse}
+use Rattle.bw_report.specs.FileFindings.{HasReportAndDigest, IsFoundInBytes, exit_of_found, worse}
 use Rattle.bw_report.specs.FileLooks.{IsOpening, IsReportedUnopened}
 use Rattle.bw_report.specs.FileLooks.{ArePrints, IsStoppedEarly, IsFoundAt, IsLookAt, IsShown, Look, look_entry}
 use Rattle.bw_report.specs.FileLooks.{failures_after_looks, worst}
 use Rattle.bw_report.specs.declared.entry.Wanted.{Wanted}
 use Rattle.bw_report.specs.declared.found.Found.{Found}
-use Rattle.bw_report.specs.declared.found.Found.TheVariants.{Unopened}
+use Rattle.bw_report.specs.declared.found.Found.TheVariants.{Read, Unopened}
 
 -- the look at a file that was opened: nothing is reported of that
 abbrev pub opened_look : List ℕ → Found → Look
@@ -49,6 +51,11 @@ pub no_bytes_fault : (f : InspectFault) (met : BytesFault) → f.kind ≡ Failed
 no_bytes_fault f met is same =
     let none : bytes_fault f ≡ None =
     ap (λ (k : InspectKind). option_map (λ (x : FaultKind). record { kind = x; offset = f.offset }) (kind_of k)) is in
+    let bad : None ≡ Some met = sym none ∙ same in cc
+
+-- .. nor is one of no kind of theirs
+pub no_fault : (f : InspectFault) (met : BytesFault) → bytes_fault f ≡ None → bytes_fault f ≡ Some met → ⊥
+no_fault f met none same =
     let bad : None ≡ Some met = sym none ∙ same in cc
 
 -- no exit is better than that of what succeeded
@@ -93,6 +100,40 @@ pub found_again : {E : Type 0} (reported : Writer E) (file_at there : List ℕ �
     → IsFoundAt reported there true path found n1 n2 e e1 → IsFoundAt reported file_at digest path found n n2 e e1
 found_again reported file_at there digest path found n n1 n2 e e1 files counts asked is =
     rw (asked, ← files, ← counts) is
+
+-- .. after a call that changed neither
+pub found_after : {E : Type 0} (reported : Writer E) (file_at there : List ℕ → Option (List ℕ)) (digest : Bool)
+    (path : List ℕ) (found : Found) (n n1 n2 : ℕ) (e e1 : E) → there ≡ file_at → n1 ≡ n
+    → IsFoundAt reported there digest path found n1 n2 e e1 → IsFoundAt reported file_at digest path found n n2 e e1
+found_after reported file_at there digest path found n n1 n2 e e1 files counts is = rw (← files, ← counts) is
+
+-- what is found at a third look, into the chunks of a file that has a report
+module _ {E : Type 0} (reported : Writer E) (file_at there : List ℕ → Option (List ℕ)) (digest : Bool) (path : List ℕ)
+    (before found : Found) (r : Report) (d : Option (List ℕ)) (known : Option (List Said)) (n n1 n2 : ℕ) (e e1 e2 : E)
+    (is : before ≡ Read r d known) (files : there ≡ file_at)
+    (first : IsFoundAt reported file_at digest path before n n1 e e1) where
+  is_read : first.look.found ≡ Read r d known
+  is_read = first.has ∙ is
+
+  was_opened : IsOpening (Read r d known) first.look
+  was_opened = subst (λ (f : Found). IsOpening f first.look) is_read first.is.opening
+
+  has_report : Of (there path) (λ b. HasReportAndDigest b digest r d)
+  has_report b same =
+      let there_is : file_at first.look.path ≡ Some b =
+      ap file_at first.at ∙ ap (λ (f : List ℕ → Option (List ℕ)). f path) (sym files) ∙ same in
+      (subst (IsFoundInBytes b digest) is_read (first.is.right b there_is)).0
+
+  same_count : n1 ≡ n
+  same_count = first.failures ∙ ap (λ (opened : Bool). failures_if opened n) was_opened.0
+
+  same_faults : e1 ≡ e
+  same_faults = subst (λ (p : Print). IsPrint reported p e e1) was_opened.1 first.reports
+
+  pub found_inside : (Of (there path) (λ b. HasReportAndDigest b digest r d)
+      → IsFoundAt reported there digest path found n1 n2 e1 e2)
+      → IsFoundAt reported file_at digest path found n n2 e e2
+  found_inside next = rw (← files, ← same_count, ← same_faults) (next has_report)
 
 -- one more print after these
 prints_more : {S : Type 0} (w : Writer S) (ps : List Print) (p : Print) (a b c : S) → ArePrints w ps a b

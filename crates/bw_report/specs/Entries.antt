@@ -8,6 +8,7 @@ use Rattle.bw_inspect.specs.Faults.{inspect_fault_text, name_of}
 use Rattle.bw_inspect.specs.Reports.{reported_by}
 use Rattle.bw_inspect.specs.declared.fault.InspectFault.{InspectFault}
 use Rattle.bw_console.specs.Text.{as_line}
+use Rattle.bw_report.specs.ContentTexts.{contents_lines}
 use Rattle.bw_report.specs.HumanTexts.{human_text}
 use Rattle.bw_report.specs.Objects.{fault_data, report_data}
 use Rattle.bw_report.specs.ShownTexts.{name_line}
@@ -18,7 +19,7 @@ use Rattle.bw_report.specs.declared.found.Found.TheVariants.{Read, Faulty, Unope
 
 -- what is found under a name, as JSON
 abbrev pub found_data : List ℕ → Found → Data
-found_data name (Read r digest) = report_data name digest (reported_by r)
+found_data name (Read r digest contents) = report_data name digest contents (reported_by r)
 found_data name (Faulty f) = fault_data name (name_of f.kind) (Some f.offset)
 found_data name (Unopened exit) = fault_data name (codes "Open") None
 
@@ -33,13 +34,14 @@ digest_text (Some digest) = as_line (codes "sha256=" ++ encode_lower digest)
 
 -- what is found, in lines
 abbrev pub plain_text : Found → List ℕ
-plain_text (Read r digest) = report_text (reported_by r) ++ digest_text digest
+plain_text (Read r digest contents) = report_text (reported_by r) ++ digest_text digest
 plain_text (Faulty f) = fault_entry f
 plain_text (Unopened exit) = as_line (codes "fault Open")
 
 -- the same for people
 abbrev pub human_entry : Found → List ℕ
-human_entry (Read r digest) = human_text (reported_by r) ++ digest_text digest
+human_entry (Read r digest contents) =
+    human_text (reported_by r) ++ digest_text digest ++ contents_lines contents
 human_entry (Faulty f) = fault_entry f
 human_entry (Unopened exit) = as_line (codes "fault Open")
 

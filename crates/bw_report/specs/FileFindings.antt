@@ -6,6 +6,8 @@ use Rattle.bw_inspect.specs.Faults.{bytes_fault}
 use Rattle.bw_inspect.specs.Readings.{GivesReport, HasReading}
 use Rattle.bw_inspect.specs.Reports.{reported_by}
 use Rattle.bw_inspect.specs.declared.report.Report.{Report}
+use Rattle.bw_contents.specs.Contents.{chunks_say}
+use Rattle.bw_contents.specs.Texts.{Said}
 use Rattle.bw_commands.specs.Inspections.{exit_for_fault}
 use Rattle.bw_console.specs.Exits.{status_of}
 use Rattle.bw_console.specs.declared.exit.Exit.{Exit}
@@ -28,15 +30,25 @@ abbrev pub IsDigestIn : List ℕ → Report → Bool → Option (List ℕ) → T
 IsDigestIn b r asked digest =
     digest ≡ (if asked then Some (digest_at b r.data_at r.data_size) else None)
 
+-- the bytes have this report and digest
+abbrev pub HasReportAndDigest : List ℕ → Bool → Report → Option (List ℕ) → Type 0
+HasReportAndDigest b asked r digest = IsReportIn b r × IsDigestIn b r asked digest
+
+-- this is what the chunks of the report say, if they were read
+abbrev pub AreContentsIn : List ℕ → Report → Option (List Said) → Type 0
+AreContentsIn b r None = ⊤
+AreContentsIn b r (Some contents) = contents ≡ chunks_say b r.chunks
+
 -- this is found in the bytes: a fault of the bytes is their first
 abbrev pub IsFoundInBytes : List ℕ → Bool → Found → Type 0
-IsFoundInBytes b asked (Read r digest) = IsReportIn b r × IsDigestIn b r asked digest
+IsFoundInBytes b asked (Read r digest contents) =
+    HasReportAndDigest b asked r digest × AreContentsIn b r contents
 IsFoundInBytes b asked (Faulty f) = (met : Fault) → bytes_fault f ≡ Some met → IsFault b met
 IsFoundInBytes b asked (Unopened exit) = ⊤
 
 -- how a command ends by this file
 abbrev pub exit_of_found : Found → Exit
-exit_of_found (Read r digest) = Done
+exit_of_found (Read r digest contents) = Done
 exit_of_found (Faulty f) = exit_for_fault f.kind
 exit_of_found (Unopened exit) = exit
 

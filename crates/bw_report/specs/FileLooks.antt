@@ -33,7 +33,7 @@ IsReportedUnopened path did = ((kind : ErrorKind) × IsUnopened path kind did) �
 
 -- whether a file was opened, and what was reported, by what was found
 abbrev pub IsOpening : Found → Look → Type 0
-IsOpening (Read r digest) l = (l.is_opened ≡ true) × (l.reported ≡ Nothing)
+IsOpening (Read r digest contents) l = (l.is_opened ≡ true) × (l.reported ≡ Nothing)
 IsOpening (Faulty f) l = (l.is_opened ≡ true) × (l.reported ≡ Nothing)
 IsOpening (Unopened exit) l = (l.is_opened ≡ false) × ((did : Outcome) × ((did.exit ≡ exit)
     × ((did.faults ≡ l.reported) × IsReportedUnopened l.path did)))

@@ -14,13 +14,13 @@ use Rattle.bw_report.specs.declared.found.Found.TheVariants.{Read, Faulty, Unope
 
 -- it was looked at
 abbrev pub WasOpened : Found → Type 0
-WasOpened (Read r digest) = ⊤
+WasOpened (Read r digest contents) = ⊤
 WasOpened (Faulty f) = ⊤
 WasOpened (Unopened exit) = ⊥
 
 -- whether all reads succeeded, by what was found
 abbrev pub is_read_by : Found → Bool
-is_read_by (Read r digest) = true
+is_read_by (Read r digest contents) = true
 is_read_by (Faulty f) = not (is_failed_read f.kind)
 is_read_by (Unopened exit) = true
 

@@ -2,6 +2,7 @@ pub mod Times
 pub mod UnitTexts
 pub mod ShownTexts
 pub mod Values
+pub mod ContentTexts
 pub mod Objects
 pub mod HumanTexts
 pub mod Digests

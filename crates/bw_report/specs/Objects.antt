@@ -6,6 +6,8 @@ use Rattle.bw_model.specs.Report.{RawFmt, RawBext, RawCue, Report, frames_of}
 use Rattle.serde_json.specs.Data.{Data, null, boolean, string, array, object, Members, no_members}
 use Rattle.serde_json.specs.Data.{member, put}
 use Rattle.serde_json.specs.View.{items_of}
+use Rattle.bw_contents.specs.Texts.{Said}
+use Rattle.bw_report.specs.ContentTexts.{contents_or_null}
 use Rattle.bw_report.specs.Times.{milliseconds}
 use Rattle.bw_report.specs.Values.{hex_data, hex_or_null, level_data, number_data, number_or_null}
 use Rattle.bw_report.specs.Values.{text_data, with_text}
@@ -119,11 +121,12 @@ bext_or_null rate (Some b) = bext_data rate b
 
 -- what is in a file, under its name
 abbrev pub contents_data : List ℕ → ℕ → Data → Data → Data → Data → Data → Data → Data →
-    Data → Data
-contents_data name size bext chunks cues samples fmt form form_hex sha256 = object
+    Data → Data → Data
+contents_data name size bext chunks contents cues samples fmt form form_hex sha256 = object
     (member (codes "at") null
     (member (codes "bext") bext
     (member (codes "chunks") chunks
+    (member (codes "contents") contents
     (member (codes "cues") cues
     (member (codes "data") samples
     (member (codes "fault") null
@@ -133,13 +136,15 @@ contents_data name size bext chunks cues samples fmt form form_hex sha256 = obje
     (member (codes "form_hex") form_hex
     (member (codes "ok") (boolean true)
     (member (codes "sha256") sha256
-    (member (codes "size") (number_data size) no_members)))))))))))))
+    (member (codes "size") (number_data size) no_members))))))))))))))
 
--- the file of a name that has this report, with the SHA-256 of its samples, if that is given
-abbrev pub report_data : List ℕ → Option (List ℕ) → Report → Data
-report_data name digest r = contents_data name r.size
+-- the file of a name that has this report, with the SHA-256 of its samples and what its chunks say,
+-- if these are given
+abbrev pub report_data : List ℕ → Option (List ℕ) → Option (List Said) → Report → Data
+report_data name digest contents r = contents_data name r.size
     (bext_or_null r.fmt.rate r.bext)
     (array (items_of (map chunk_data r.chunks)))
+    (contents_or_null contents)
     (array (items_of (map (cue_data r.fmt.rate) r.cues)))
     (samples_data r.data_at r.data_size r.fmt)
     (fmt_data r.fmt)
@@ -153,6 +158,7 @@ fault_data name fault place = object
     (member (codes "at") (number_or_null place)
     (member (codes "bext") null
     (member (codes "chunks") null
+    (member (codes "contents") null
     (member (codes "cues") null
     (member (codes "data") null
     (member (codes "fault") (string fault)
@@ -162,7 +168,7 @@ fault_data name fault place = object
     (member (codes "form_hex") null
     (member (codes "ok") (boolean false)
     (member (codes "sha256") null
-    (member (codes "size") null no_members)))))))))))))
+    (member (codes "size") null no_members))))))))))))))
 
 -- members with what is said of the whole file
 abbrev pub with_whole_file : Option (List ℕ) → Report → Members → Members
@@ -185,6 +191,10 @@ with_placed_parts r members = put (codes "at") null
     (put (codes "bext") (bext_or_null r.fmt.rate r.bext)
     (put (codes "chunks") (array (items_of (map chunk_data r.chunks)))
     (put (codes "cues") (array (items_of (map (cue_data r.fmt.rate) r.cues))) members)))
+
+-- members with what the chunks say
+abbrev pub with_contents : Option (List Said) → Members → Members
+with_contents contents members = put (codes "contents") (contents_or_null contents) members
 
 -- members with those of a chunk
 abbrev pub with_listed_chunk : Entry → Members → Members
@@ -222,7 +232,7 @@ without_format members = put (codes "fmt") null (put (codes "form") null
 -- members with null for the samples and the chunks
 abbrev pub without_parts : Members → Members
 without_parts members = put (codes "bext") null (put (codes "chunks") null
-    (put (codes "cues") null (put (codes "data") null members)))
+    (put (codes "contents") null (put (codes "cues") null (put (codes "data") null members))))
 
 -- members with the name, and the fault with its place
 abbrev pub with_fault : List ℕ → List ℕ → Option ℕ → Members → Members

@@ -4,16 +4,19 @@ ghost use Rattle.bw_model.specs.Report.{report_text};
 ghost use Rattle.bw_commands.specs.Inspections.{IsPrintOfText};
 ghost use Rattle.bw_console.specs.Prints.{IsPrint, Print};
 ghost use Rattle.bw_inspect.specs.Reports.{reported_by};
+ghost use Rattle.bw_report.specs.ContentTexts.{contents_lines};
 ghost use Rattle.bw_report.specs.Entries.{digest_text, entry_text, fault_entry};
 ghost use Rattle.bw_report.specs.Entries.{heading as heading_of};
 ghost use Rattle.bw_report.specs.HumanTexts.{human_text};
 
+use crate::contents::put_contents;
 use crate::found::Found;
 use crate::human::put_report;
 use crate::json::json_line;
 use crate::shown::put_name;
 use bw_console::Fault;
 use bw_console::print::print;
+use bw_contents::Contents;
 use bw_inspect::{InspectFault, Report, write_report};
 use bw_stream::{MemorySink, Sink};
 use std::alloc::{AllocError, Global};
@@ -103,7 +106,11 @@ fn plain_entry(alloc: Global, named: bool, name: &str, found: &Found) -> Result<
 {
     let text = heading(alloc, named, name)?;
     match found {
-        Found::Read { report, digest } => {
+        Found::Read {
+            report,
+            digest,
+            contents: _,
+        } => {
             let text = with_report(text, report)?;
             with_digest(alloc, text, digest)
         }
@@ -122,9 +129,14 @@ fn people_entry(
 {
     let text = heading(alloc, named, name)?;
     match found {
-        Found::Read { report, digest } => {
+        Found::Read {
+            report,
+            digest,
+            contents,
+        } => {
             let text = with_lines(alloc, text, report)?;
-            with_digest(alloc, text, digest)
+            let text = with_digest(alloc, text, digest)?;
+            with_contents(alloc, text, contents)
         }
         Found::Faulty(fault) => with_fault(alloc, text, fault),
         Found::Unopened(_) => with_line(text, "fault Open\n"),
@@ -183,6 +195,18 @@ fn with_lines(alloc: Global, mut text: Vec<u8>, report: &Report) -> Result<Vec<u
     ensures { IfOk result (λ v. v.items ≡ text.items ++ human_text (reported_by report.now)) }
 {
     put_report(alloc, &mut text, report)?;
+    Ok(text)
+}
+
+/// The text with the lines of what the chunks say below it.
+fn with_contents(
+    alloc: Global,
+    mut text: Vec<u8>,
+    contents: &Option<Contents>,
+) -> Result<Vec<u8>, AllocError>
+    ensures { IfOk result (λ v. v.items ≡ text.items ++ contents_lines contents.now) }
+{
+    put_contents(alloc, &mut text, contents)?;
     Ok(text)
 }
 

@@ -1,16 +1,18 @@
 //! Files one after another, each with its entry.
-ghost use Rattle.std.specs.Prelude.{◌≡◌, true, map, string_bytes};
+ghost use Rattle.std.specs.Prelude.{◌≡◌, Bool, None, true, map, string_bytes};
+ghost use Rattle.bw_inspect.specs.Faults.{bytes_fault};
 ghost use Rattle.bw_stream.specs.Readers.{Of};
-ghost use Rattle.bw_report.specs.FileFindings.{IsGivenOf};
+ghost use Rattle.bw_report.specs.FileFindings.{HasReportAndDigest, IsGivenOf};
 ghost use Rattle.bw_report.specs.FileLooks.{IsFoundAt, AreInspected, Look};
 
 use crate::digest::report_digest;
-use crate::entry::{Wanted, print_entry};
+use crate::entry::{Style, Wanted, print_entry};
 use crate::exits::worse;
 use crate::found::Found;
 use bw_console::print::give_up;
 use bw_console::{Exit, report_unopened};
-use bw_inspect::{Report, inspect};
+use bw_contents::read_contents;
+use bw_inspect::{InspectFault, InspectKind, Report, inspect};
 use bw_ports::RecordingFiles;
 use bw_stream::Sink;
 use std::alloc::Global;
@@ -41,7 +43,7 @@ pub fn inspect_files<F: RecordingFiles, W: Sink, E: Sink>(
 {
     let mut worst = Exit::Done;
     for path in paths {
-        let found = look(alloc, files, path.as_str(), wanted.digest, faults);
+        let found = look(alloc, files, path.as_str(), wanted, faults);
         worst = worse(worst, found.exit());
         match print_entry(alloc, wanted, path.as_str(), &found, out) {
             Ok(()) => {}
@@ -51,8 +53,35 @@ pub fn inspect_files<F: RecordingFiles, W: Sink, E: Sink>(
     worst
 }
 
-/// Looks at the file at a path, and reports why it can't be opened.
+/// Looks at the file at a path as it is wanted, and reports why it can't be opened. In plain lines
+/// nothing is said of its chunks' contents.
 fn look<F: RecordingFiles, E: Sink>(
+    alloc: Global,
+    files: &mut F,
+    path: &str,
+    wanted: Wanted,
+    faults: &mut E,
+) -> Found
+    ensures files { F.file_at files.new ≡ F.file_at files.old }
+    ensures found { IsFoundAt E.Sink (F.file_at files.old) wanted.digest path.now result
+        (F.failures files.old) (F.failures files.new) faults.old faults.new }
+{
+    let found = look_over(alloc, files, path, wanted.digest, faults);
+    if wanted.style == Style::Plain {
+        return found;
+    }
+    match found {
+        Found::Read {
+            report,
+            digest,
+            contents: _unread,
+        } => look_inside(alloc, files, path, report, digest, faults),
+        other => other,
+    }
+}
+
+/// Looks at the file at a path, and reports why it can't be opened.
+fn look_over<F: RecordingFiles, E: Sink>(
     alloc: Global,
     files: &mut F,
     path: &str,
@@ -72,6 +101,7 @@ fn look<F: RecordingFiles, E: Sink>(
                     Found::Read {
                         report,
                         digest: None,
+                        contents: None,
                     }
                 }
             }
@@ -99,9 +129,84 @@ fn look_again<F: RecordingFiles, E: Sink>(
             Ok(digest) => Found::Read {
                 report,
                 digest: Some(digest),
+                contents: None,
             },
             Err(fault) => Found::Faulty(fault),
         },
         Err(error) => Found::Unopened(report_unopened(alloc, path, &error, faults)),
+    }
+}
+
+/// Looks into the chunks of the file at a path that has this report and digest, unless it has no
+/// length, as a pipe, whose bytes are gone.
+fn look_inside<F: RecordingFiles, E: Sink>(
+    alloc: Global,
+    files: &mut F,
+    path: &str,
+    report: Report,
+    digest: Option<[u8; 32]>,
+    faults: &mut E,
+) -> Found
+    ensures files { F.file_at files.new ≡ F.file_at files.old }
+    ensures found { (asked : Bool) →
+        Of (F.file_at files.old path.now) (λ b. HasReportAndDigest b asked report digest) →
+        IsFoundAt E.Sink (F.file_at files.old) asked path.now result
+        (F.failures files.old) (F.failures files.new) faults.old faults.new }
+{
+    match files.stamp(path) {
+        Ok(stamp) => {
+            let is_empty = stamp.len == 0;
+            if is_empty {
+                Found::Read {
+                    report,
+                    digest,
+                    contents: None,
+                }
+            } else {
+                look_within(alloc, files, path, report, digest, faults)
+            }
+        }
+        Err(error) => Found::Unopened(report_unopened(alloc, path, &error, faults)),
+    }
+}
+
+/// Looks into the chunks of the file at a path that has this report and digest.
+fn look_within<F: RecordingFiles, E: Sink>(
+    alloc: Global,
+    files: &mut F,
+    path: &str,
+    report: Report,
+    digest: Option<[u8; 32]>,
+    faults: &mut E,
+) -> Found
+    ensures files { F.file_at files.new ≡ F.file_at files.old }
+    ensures found { (asked : Bool) →
+        Of (F.file_at files.old path.now) (λ b. HasReportAndDigest b asked report digest) →
+        IsFoundAt E.Sink (F.file_at files.old) asked path.now result
+        (F.failures files.old) (F.failures files.new) faults.old faults.new }
+{
+    match files.open(path) {
+        Ok(mut file) => match read_contents(alloc, &mut file, report.chunks.as_slice()) {
+            Ok(contents) => Found::Read {
+                report,
+                digest,
+                contents: Some(contents),
+            },
+            Err(fault) => Found::Faulty(unread(fault)),
+        },
+        Err(error) => Found::Unopened(report_unopened(alloc, path, &error, faults)),
+    }
+}
+
+/// The fault of chunks that weren't read: Memory or Read, also if the file isn't as it was.
+fn unread(fault: InspectFault) -> InspectFault
+    ensures { bytes_fault result ≡ None }
+{
+    match fault.kind {
+        InspectKind::Memory => fault,
+        _ => InspectFault {
+            kind: InspectKind::Read,
+            offset: fault.offset,
+        },
     }
 }

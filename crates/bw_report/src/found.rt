@@ -4,15 +4,18 @@ ghost use Rattle.bw_report.specs.FileFindings.{exit_of_found};
 
 use crate::exits::exit_on;
 use bw_console::Exit;
+use bw_contents::Contents;
 use bw_inspect::{InspectFault, Report};
 
 /// What is found at a path.
 #[derive(Drop)]
 pub enum Found {
-    /// A file with this report, and the SHA-256 of its samples, where that is asked for.
+    /// A file with this report, and the SHA-256 of its samples, where that is asked for; and what
+    /// its chunks say beside the report, where they were read.
     Read {
         report: Report,
         digest: Option<[u8; 32]>,
+        contents: Option<Contents>,
     },
     /// A file with this fault.
     Faulty(InspectFault),

@@ -329,7 +329,7 @@ fn put_chunk(text: &mut Vec<u8>, chunk: &ListedChunk) -> Result<(), AllocError>
 }
 
 /// An identifier, with a full stop for each byte that isn't visible.
-fn visible(id: &[u8; 4]) -> [u8; 4]
+pub(crate) fn visible(id: &[u8; 4]) -> [u8; 4]
     ensures { result ≡ map id_byte id.now }
 {
     id.map(|byte| if byte.is_ascii_graphic() { byte } else { b'.' })

@@ -60,6 +60,7 @@ fn look_at_input<R: Source>(alloc: Global, input: &mut R) -> Found
         Ok(report) => Found::Read {
             report,
             digest: None,
+            contents: None,
         },
         Err(fault) => Found::Faulty(fault),
     }

@@ -5,15 +5,17 @@ ghost use Rattle.serde_json.specs.View.{members_view, view};
 ghost use Rattle.serde_json.specs.Written.{compact_text};
 ghost use Rattle.bw_inspect.specs.Reports.{reported_by};
 ghost use Rattle.bw_report.specs.Objects.{fault_data, report_data, with_fault, without_format};
-ghost use Rattle.bw_report.specs.Objects.{without_parts};
+ghost use Rattle.bw_report.specs.Objects.{with_contents, without_parts};
 ghost use Rattle.bw_report.specs.Objects.{with_form_and_format, with_placed_parts, with_placed_samples, with_whole_file};
 ghost use Rattle.bw_report.specs.Values.{hex_or_null};
 ghost use Rattle.bw_report.specs.Entries.{found_data};
 
 use crate::bext::bext_value;
+use crate::contents::contents_value;
 use crate::found::Found;
 use crate::parts::{chunks_value, cues_value, fmt_value, samples_value};
 use crate::value::{hex_value, number_value, text_value};
+use bw_contents::Contents;
 use bw_inspect::Report;
 use serde_json::{Map, Value, put};
 use std::alloc::{AllocError, Global};
@@ -41,7 +43,11 @@ fn found_value(alloc: Global, name: &str, found: &Found) -> Result<Value, AllocE
     ensures { IfOk result (λ v. view v ≡ found_data name.now found.now) }
 {
     match found {
-        Found::Read { report, digest } => report_value(alloc, name, report, digest),
+        Found::Read {
+            report,
+            digest,
+            contents,
+        } => report_value(alloc, name, report, digest, contents),
         Found::Faulty(fault) => { fault_value(alloc, name, fault.kind.name(), Some(fault.offset)) }
         Found::Unopened(_) => fault_value(alloc, name, "Open", None),
     }
@@ -52,15 +58,31 @@ fn report_value(
     name: &str,
     report: &Report,
     digest: &Option<[u8; 32]>,
+    contents: &Option<Contents>,
 ) -> Result<Value, AllocError>
-    ensures { IfOk result (λ v. view v ≡ report_data name.now digest.now (reported_by report.now)) }
+    ensures { IfOk result (λ v. view v
+        ≡ report_data name.now digest.now contents.now (reported_by report.now)) }
 {
     let mut members = Map::new(alloc);
     put_whole(alloc, &mut members, report, digest)?;
     put_format(alloc, &mut members, report)?;
     put_samples(alloc, &mut members, name, report)?;
     put_parts(alloc, &mut members, report)?;
+    put_contents(alloc, &mut members, contents)?;
     Ok(Value::Object(members))
+}
+
+/// Puts what the chunks say into an object.
+fn put_contents(
+    alloc: Global,
+    members: &mut Map<String, Value>,
+    contents: &Option<Contents>,
+) -> Result<(), AllocError>
+    ensures { OnOk result (members_view members.new.entries
+        ≡ with_contents contents.now (members_view members.old.entries)) }
+{
+    let value = contents_value(alloc, contents)?;
+    put(members, alloc, "contents", value)
 }
 
 /// Puts what is said of the whole file into an object.
@@ -188,6 +210,7 @@ fn put_no_parts(alloc: Global, members: &mut Map<String, Value>) -> Result<(), A
 {
     put(members, alloc, "data", Value::Null)?;
     put(members, alloc, "cues", Value::Null)?;
+    put(members, alloc, "contents", Value::Null)?;
     put(members, alloc, "chunks", Value::Null)?;
     put(members, alloc, "bext", Value::Null)
 }

@@ -4,6 +4,7 @@
 #![tactic(auto)]
 
 mod bext;
+mod contents;
 mod digest;
 mod entry;
 mod exits;

@@ -2,7 +2,7 @@
 //! texts they print.
 use crate::outcomes::{Line, Outcome, Said, comes_to, lines_come_to, parse_words, value_comes_to};
 use bw_args::numbers::number;
-use bw_args::{CommandLine, End, Journaling, Recorders};
+use bw_args::{AskedForm, CommandLine, End, Journaling, Recorders};
 use std::alloc::{AllocError, Global};
 use std::process::Abort;
 
@@ -737,6 +737,32 @@ fn a_repair_takes_a_file_and_a_flag(rt: HostRuntime) -> Result<(), AllocError> {
     lines_come_to(&rt, rt.alloc(), &["bwingest", "repair"], &REPAIR_LINES)
 }
 
+static CONVERSIONS: [Line; 12] = [
+    (
+        &["--rf64", "--", "-f", "-o"],
+        Outcome::Converts(AskedForm::Rf64),
+    ),
+    (
+        &["--bw64", "--", "-f", "-o"],
+        Outcome::Converts(AskedForm::Bw64),
+    ),
+    (&["--help"], Outcome::Shows),
+    (&[], Outcome::Refuses),
+    (&["--rf64"], Outcome::Refuses),
+    (&["--rf64", "--", "-f"], Outcome::Refuses),
+    (&["--", "-f", "-o"], Outcome::Refuses),
+    (&["--rf64", "--bw64", "--", "-f", "-o"], Outcome::Refuses),
+    (&["--rf64", "--rf64", "--", "-f", "-o"], Outcome::Refuses),
+    (&["--rf64", "-f", "-o"], Outcome::Refuses),
+    (&["--rf64", "--", "-f", "-o", "-o"], Outcome::Refuses),
+    (&["--rf64=true", "--", "-f", "-o"], Outcome::Refuses),
+];
+
+#[test]
+fn a_conversion_takes_two_files_and_one_form(rt: HostRuntime) -> Result<(), AllocError> {
+    lines_come_to(&rt, rt.alloc(), &["bwingest", "convert"], &CONVERSIONS)
+}
+
 static PICTURES: [Line; 6] = [
     (&["--", "-f"], Outcome::Draws),
     (&["--help"], Outcome::Shows),
@@ -817,7 +843,7 @@ fn an_address_is_local_without_leave_for_the_network(rt: HostRuntime) -> Result<
     Ok(())
 }
 
-static TEXTS: [(&[&str], &str); 17] = [
+static TEXTS: [(&[&str], &str); 18] = [
     (&["/tmp/x", "--version"], "bwingest 1.1.0\n"),
     (&["/tmp/x", "--help"], "Usage: bwingest <COMMAND>\n"),
     (&["/tmp/x"], "Usage: bwingest <COMMAND>\n"),
@@ -857,6 +883,10 @@ static TEXTS: [(&[&str], &str); 17] = [
     (
         &["/tmp/x", "picture", "--help"],
         "Example: bwingest picture take.wav > take.svg\n",
+    ),
+    (
+        &["/tmp/x", "convert", "--help"],
+        "Example: bwingest convert --rf64 take.wav take-rf64.wav\n",
     ),
     (
         &["/tmp/x", "inspect", "--help"],

@@ -1,7 +1,7 @@
 //! The outcomes of command lines, in small values, and how tests compare them.
 use bw_args::{
-    CommandLine, End, FileSender, FolderWork, Journaling, PcmSender, Recorders, Send, Serve,
-    SourceFile, Task, parse,
+    AskedForm, CommandLine, End, FileSender, FolderWork, Journaling, PcmSender, Recorders, Send,
+    Serve, SourceFile, Task, parse,
 };
 use bw_model::Name;
 use clap::Error;
@@ -60,6 +60,8 @@ pub(crate) enum Outcome {
     Draws,
     /// Repairs the file `-f`, and writes it or doesn't.
     Repairs { is_written: bool },
+    /// Converts the file `-f` to `-o`, in this form.
+    Converts(AskedForm),
     /// Reports the takes of the folder `-d`: whether their samples are compared, in JSON,
     /// and with their digests.
     Lists([bool; 3]),
@@ -131,6 +133,10 @@ fn run_outcome(task: &Task, words: &[&str]) -> Outcome {
             is_written: *write,
         },
         Task::Repair { .. } => Outcome::Confuses,
+        Task::Convert { file, out, form } if file.as_str() == "-f" && out.as_str() == "-o" => {
+            Outcome::Converts(*form)
+        }
+        Task::Convert { .. } => Outcome::Confuses,
         Task::Takes(asked) if asked.folder.as_str() == "-d" => work_outcome(&asked.work),
         Task::Takes(_) => Outcome::Confuses,
     }

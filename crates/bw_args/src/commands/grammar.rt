@@ -2,13 +2,16 @@
 ghost use Rattle.std.specs.Prelude.{◌≡◌, IfOk};
 ghost use Rattle.clap.specs.Simple.{App, new_app, with_subcommand};
 ghost use Rattle.clap.specs.Words.{app_of};
-ghost use Rattle.bw_args.specs.Commands.{IsCommand, command_line, inspect_command};
+ghost use Rattle.bw_args.specs.Commands.{IsCommand, command_line, convert_command};
+ghost use Rattle.bw_args.specs.Commands.{inspect_command};
 ghost use Rattle.bw_args.specs.Commands.{offline, on_files, on_folders, pack_command};
 ghost use Rattle.bw_args.specs.Commands.{picture_command, program, rehearse_command};
 ghost use Rattle.bw_args.specs.Commands.{repair_command, replay_command, send_command};
 ghost use Rattle.bw_args.specs.Commands.{serve_command, takes_command};
 
-use super::options::{INSPECT, PACK, PICTURE, REHEARSE, REPAIR, REPLAY, SEND, SERVE, TAKES};
+use super::options::{
+    CONVERT, INSPECT, PACK, PICTURE, REHEARSE, REPAIR, REPLAY, SEND, SERVE, TAKES,
+};
 use super::row::with_rows;
 use clap::Command;
 use std::alloc::{AllocError, Global};
@@ -28,12 +31,13 @@ fn on_folders<'a>(alloc: Global) -> Result<Command<'a>, AllocError>
     with_command(on_files(alloc), takes(alloc))
 }
 
-/// The program of `offline` with the commands that draw a file or change it in place.
+/// The program of `offline` with the commands that draw a file, change it in place or make another of it.
 fn on_files<'a>(alloc: Global) -> Result<Command<'a>, AllocError>
     ensures { IfOk result (λ c. app_of c ≡ on_files) }
 {
     let program = with_command(offline(alloc), picture(alloc));
-    with_command(program, repair(alloc))
+    let program = with_command(program, repair(alloc));
+    with_command(program, convert(alloc))
 }
 
 /// The program with the commands that use no network.
@@ -147,6 +151,18 @@ fn repair<'a>(alloc: Global) -> Result<Command<'a>, AllocError>
         "Example: bwingest repair take.wav --write",
     );
     with_rows(alloc, command, &REPAIR)
+}
+
+fn convert<'a>(alloc: Global) -> Result<Command<'a>, AllocError>
+    ensures { IfOk result (IsCommand convert_command) }
+{
+    let command = named(
+        alloc,
+        "convert",
+        "Makes a new file with the bytes of a BW64 or RF64 file under the other one's id",
+        "Example: bwingest convert --rf64 take.wav take-rf64.wav",
+    );
+    with_rows(alloc, command, &CONVERT)
 }
 
 fn takes<'a>(alloc: Global) -> Result<Command<'a>, AllocError>

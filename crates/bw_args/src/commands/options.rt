@@ -102,6 +102,26 @@ pub(crate) const REPAIR: [Row; 2] = [
     },
 ];
 
+/// The options of `convert`.
+pub(crate) const CONVERT: [Row; 4] = [
+    FILE,
+    Row {
+        name: "out",
+        kind: Word("OUT"),
+        help: "A path at which nothing is: the file that is made",
+    },
+    Row {
+        name: "rf64",
+        kind: Flag,
+        help: "Makes an RF64 file (EBU Tech 3306) of a BW64 file",
+    },
+    Row {
+        name: "bw64",
+        kind: Flag,
+        help: "Makes a BW64 file (ITU-R BS.2088) of an RF64 file",
+    },
+];
+
 /// The options of `takes`.
 pub(crate) const TAKES: [Row; 6] = [
     FOLDER,

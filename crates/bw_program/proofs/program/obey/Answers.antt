@@ -1,4 +1,5 @@
-use Rattle.std.proofs.Common.{◌∙◌, inr, ap, map, string_bytes, false, refl}
+use Rattle.std.proofs.Common.{◌∙◌, Bool, inr, ap, map, string_bytes, false, refl, subst, sym}
+use Rattle.bw_console.specs.Prints.{IsPrint, Print, failures_if}
 use Rattle.bw_program.proofs.ProgramLemmas.{reported-words}
 use Rattle.bw_program.proofs.program.obey.Goals as goal
 
@@ -17,8 +18,13 @@ returns-in-Err g c =
         gives_all = false;
         is = (_, l.2);
         failures = c.in-Err.ensures.count;
-        reads = rw l.2.reads refl;
-        writes = record { printed = rw l.2.prints refl; reported = l.3 };
+        reads = ap (λ (reads_all : Bool). failures_if reads_all (g.X.Input.Source.failures c.args.outside.now.input))
+            (sym l.2.reads);
+        writes = record {
+          printed = subst (λ (p : Print). IsPrint g.X.Output.Sink p c.args.outside.now.out c.args.outside.now.out)
+              (sym l.2.prints) refl;
+          reported = l.3;
+        };
       };
       unused = refl;
       unread = refl;

@@ -1,38 +1,54 @@
-use Rattle.std.proofs.Common.{sym}
+use Rattle.std.proofs.Common.{◌∙◌, Some, None, ap, refl, sym}
+use Rattle.std.specs.Prelude.{is_some}
+use Rattle.bw_program.specs.PcmUploads.{file_awaited}
 use Rattle.bw_program.proofs.samples.send_samples_as.Goals as goal
 
 pub returns-in-Awaited : goal.returns-in-Awaited
 returns-in-Awaited g c =
-    let s = c.follow_samples.ensures in
-    record {
-      first = c.dial_paced-dial.result;
-      calls = c.dial_paced-dial.ensures.received;
-      last = c.follow_samples.new.dial;
-      recorder = c.recorder_of-recorder.result;
-      recorder_is = c.recorder_of-recorder.ensures;
-      file = c.pcm_file_of-file.result;
-      file_is = c.pcm_file_of-file.ensures;
-      did = s.0;
-      ends = s.1;
-      is = rw (sym c.ending_of.ensures, c.in-Awaited.is) s.2;
-      failures = s.3;
-      writes = s.4;
+    let s = c.follow_samples.ensures in record {
+      sent = record {
+        first = c.dial_paced-dial.result;
+        calls = c.dial_paced-dial.ensures.received;
+        last = c.follow_samples.new.dial;
+        recorder = c.recorder_of-recorder.result;
+        recorder_is = c.recorder_of-recorder.ensures;
+        file = c.pcm_file_of-file.result;
+        file_is = c.pcm_file_of-file.ensures;
+        did = s.0;
+        ends = s.1;
+        awaits = Some (is_some c.in-Awaited.until);
+        awaits_is = sym (ap file_awaited c.in-Awaited.is) ∙ c.ending_of.ensures;
+        is = s.2;
+        failures = s.3;
+        writes = s.4;
+      };
+      well = refl;
+      unused = refl;
+      unread = refl;
+      kept = refl;
     }
 
 pub returns : goal.returns
 returns g c =
-    let s = c.send_samples.ensures in
-    record {
-      first = c.dial_paced-dial.result;
-      calls = c.dial_paced-dial.ensures.received;
-      last = c.send_samples.new.dial;
-      recorder = c.recorder_of-recorder.result;
-      recorder_is = c.recorder_of-recorder.ensures;
-      file = c.pcm_file_of-file.result;
-      file_is = c.pcm_file_of-file.ensures;
-      did = s.0;
-      ends = s.1;
-      is = rw (sym c.ending_of.ensures, c.in-Past.is) s.2;
-      failures = s.3;
-      writes = s.4;
+    let s = c.send_samples.ensures in record {
+      sent = record {
+        first = c.dial_paced-dial.result;
+        calls = c.dial_paced-dial.ensures.received;
+        last = c.send_samples.new.dial;
+        recorder = c.recorder_of-recorder.result;
+        recorder_is = c.recorder_of-recorder.ensures;
+        file = c.pcm_file_of-file.result;
+        file_is = c.pcm_file_of-file.ensures;
+        did = s.0;
+        ends = s.1;
+        awaits = None;
+        awaits_is = sym (ap file_awaited c.in-Past.is) ∙ c.ending_of.ensures;
+        is = s.2;
+        failures = s.3;
+        writes = s.4;
+      };
+      well = refl;
+      unused = refl;
+      unread = refl;
+      kept = refl;
     }

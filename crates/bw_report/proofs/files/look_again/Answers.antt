@@ -1,14 +1,18 @@
-use Rattle.std.proofs.Common.{refl, ap, Some}
+use Rattle.std.proofs.Common.{refl, ap, Some, None}
 use Rattle.bw_report.specs.declared.found.Found.TheVariants.{Read, Faulty}
 use Rattle.bw_report.proofs.LookLemmas.{found_opened, found_unopened, no_bytes_fault}
 use Rattle.bw_report.proofs.files.look_again.Goals as goal
 
 pub returns-in-Ok-report_digest-clause-found : goal.returns-in-Ok-report_digest-clause-found
 returns-in-Ok-report_digest-clause-found g c = λ given.
-    found_opened g.E.Sink _ _ c.args.path.now (Read c.args.report (Some c.in-Ok-report_digest.digest)) _ _ _ (λ b e.
+    found_opened g.E.Sink _ _ c.args.path.now
+    (Read c.args.report (Some c.in-Ok-report_digest.digest) None) _ _ _ (λ b e.
     let was = (given b e).1 in (
-      record { reading_is = was.reading_is; is = was.reports },
-      ap Some (c.in-Ok-report_digest.ensures.ok b (c.in-Ok.ensures.ok b e)),
+      (
+        record { reading_is = was.reading_is; is = was.reports },
+        ap Some (c.in-Ok-report_digest.ensures.ok b (c.in-Ok.ensures.ok b e)),
+      ),
+      tt,
     )) (refl, refl) c.in-Ok.ensures.count
 
 pub returns-in-Err-report_digest-clause-found : goal.returns-in-Err-report_digest-clause-found

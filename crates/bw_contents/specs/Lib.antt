@@ -1,0 +1,4 @@
+pub mod Texts
+pub mod Formats
+pub mod Lists
+pub mod Contents

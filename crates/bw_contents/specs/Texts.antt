@@ -1,0 +1,47 @@
+-- What a text of a file is.
+use Rattle.std.specs.Prelude.{ℕ, List, [], ◌∷◌, codes, Option, Some, None}
+use Rattle.bw_contents.specs.declared.content.Kind.{Kind}
+use Rattle.bw_contents.specs.declared.content.Kind.TheVariants.{Tag, Speakers, Subformat, History, Info}
+use Rattle.bw_contents.specs.declared.content.Kind.TheVariants.{Label, Note, Cut}
+
+-- what is said, and as what
+pub record Said : Type 0 where
+  pub kind : Kind
+  pub text : List ℕ
+
+-- this alone
+abbrev pub one_said : Kind → List ℕ → List Said
+one_said kind text = record { kind = kind; text = text } ∷ []
+
+-- the name of what it is
+abbrev pub kind_name : Kind → List ℕ
+kind_name Tag = codes "tag"
+kind_name Speakers = codes "speakers"
+kind_name Subformat = codes "subformat"
+kind_name History = codes "history"
+kind_name (Info id) = codes "info"
+kind_name (Label point) = codes "label"
+kind_name (Note point) = codes "note"
+kind_name (Cut id) = codes "cut"
+
+-- the id of the chunk that says it
+abbrev pub kind_id : Kind → List ℕ
+kind_id Tag = codes "fmt "
+kind_id Speakers = codes "fmt "
+kind_id Subformat = codes "fmt "
+kind_id History = codes "bext"
+kind_id (Info id) = id
+kind_id (Label point) = codes "labl"
+kind_id (Note point) = codes "note"
+kind_id (Cut id) = id
+
+-- the cue point that it is about
+abbrev pub kind_point : Kind → Option ℕ
+kind_point Tag = None
+kind_point Speakers = None
+kind_point Subformat = None
+kind_point History = None
+kind_point (Info id) = None
+kind_point (Label point) = Some point
+kind_point (Note point) = Some point
+kind_point (Cut id) = None

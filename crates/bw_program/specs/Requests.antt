@@ -1,0 +1,25 @@
+-- What is asked of the program.
+use Rattle.std.specs.Prelude.{ℕ, List, Option}
+use Rattle.clap.specs.Walk.{Text}
+use Rattle.bw_args.specs.declared.CommandLine.{CommandLine}
+use Rattle.bw_args.specs.declared.Task.{Task}
+use Rattle.bw_args.specs.declared.recordings.FileSender.{FileSender}
+use Rattle.bw_args.specs.declared.recordings.PcmSender.{PcmSender}
+
+-- what is sent: a recording, without a state, with the state at a path, or as the command line says;
+-- headerless samples, of a spool, of a file, or as the command line says
+pub data Upload : Type 0 where
+  NewRecording : FileSender → Upload
+  KeptRecording : List ℕ → FileSender → Upload
+  AnyRecording : FileSender → Upload
+  SpooledSamples : PcmSender → Upload
+  FileSamples : PcmSender → Upload
+  AnySamples : PcmSender → Upload
+
+-- what the words mean that the system reports, or none; a command line; a task; or an upload. The first
+-- two are asked of a program that was built from what these lines say
+pub data ProgramRequest : Type 0 where
+  ByWords : List ℕ → Option (List Text) → ProgramRequest
+  ByLine : List ℕ → CommandLine → ProgramRequest
+  ByTask : Task → ProgramRequest
+  ByUpload : Upload → ProgramRequest
