@@ -194,7 +194,7 @@ impl<L: Link + Drop> Connections<L> {
     /// One quantum of the connection at a place, at a time in milliseconds: it reads, then answers,
     /// then sends. Returns the connection if it is over.
     ///
-    /// At most 64 frames are answered. `buffer` has at most 262,480 bytes.
+    /// At most 64 frames are answered. `buffer` has at most 524,960 bytes.
     ///
     /// # Not specified
     /// - How much of what a link has is read, and how much of what waits is offered to it: only

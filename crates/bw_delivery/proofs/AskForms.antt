@@ -1,6 +1,6 @@
 -- What a server that is asked answers, and what it is then.
 use Rattle.std.proofs.Common.{◌≡◌, inl, inr, ℕ, Bool, List, [], ◌∷◌, length, drop, take, ◌-◌, Option, Some, None}
-use Rattle.std.proofs.Common.{refl, sym, ◌∙◌, ap, subst}
+use Rattle.std.proofs.Common.{refl, sym, ◌∙◌, ap, subst, arith}
 use Rattle.std.specs.Prelude.{Result, Ok, IfOk}
 use Rattle.std.proofs.lemmas.List.{take_rest}
 use Rattle.bw_model.specs.Wire.{Second, Frame, Asks, Reason, body, framed, decoded}
@@ -9,8 +9,8 @@ use Rattle.bw_model.specs.Replies.{Reply}
 use Rattle.bw_model.specs.Book.{Book, log_of}
 use Rattle.bw_model.specs.Exchange.{nothing_stands}
 use Rattle.bw_model.specs.World.{World}
-use Rattle.bw_kept.specs.LeftFolders.{GoesAhead}
-use Rattle.bw_delivery.specs.StoppedWorlds.{TurnsInFolder}
+use Rattle.bw_kept.specs.LeftFolders.{LeavesAtLeast}
+use Rattle.bw_delivery.specs.StoppedWorlds.{RunsInFolder, TurnsInFolder}
 use Rattle.bw_wire.specs.EncodedFrames.{IsFrameOf}
 use Rattle.bw_wire.specs.Frames.{frame_of, asked_name, asked_number}
 use Rattle.bw_wire.specs.declared.message.Ask.{Ask as Asked}
@@ -18,7 +18,7 @@ use Rattle.bw_wire.specs.declared.message.Frame.{Frame as Read}
 use Rattle.bw_wire.specs.declared.message.Frame.TheVariants as frames
 use Rattle.bw_wire.specs.declared.reply.Reply.{Reply as WireReply}
 use Rattle.bw_delivery.specs.Asks.{next_asked}
-use Rattle.bw_delivery.specs.Machines.{IsRunning, ShowsNext, IsMachine, TurnsMachine, written_to}
+use Rattle.bw_delivery.specs.Machines.{IsRunning, ShowsNext, IsMachine, TurnsMachine, one_frame, written_to}
 use Rattle.bw_delivery.specs.declared.machine.Machine.{Machine}
 use Rattle.bw_delivery.specs.declared.machine.Machine.TheVariants.{Runs, Stopped}
 use Rattle.bw_delivery.specs.declared.machine.Folder.{Folder}
@@ -85,14 +85,28 @@ ask_says existed b later name r done (inr (off, same)) is =
     none_some : {k : ℕ} → None ≡ Some k → ⊥
     none_some e = cc
 
+-- all of a book is left of it
+pub left_whole : (book : Book) → LeavesAtLeast book book book
+left_whole book = record {
+  numbers = record {
+    names = λ n. refl;
+    logs = λ n. record { kept = (log_of book n).done; is = refl; most = inl (omega arith) };
+  };
+  done = λ n. omega arith;
+}
+
 module _ (limit : ℕ) (w : World) (name : List ℕ) where
+  pub asked_book : (replies : List Reply) (later : Book) →
+      RunsInFolder nothing_stands w.book (one_frame (Asks name 0) replies) later → later ≡ w.book
+  asked_book replies later (mid, turn, same) = same ∙ ask_keeps nothing_stands w.book mid name replies turn
+
   -- no reply is written: the server stopped
   pub looked_none : (machine : Machine) → TurnsMachine limit w (Asks name 0) [] machine →
       ShowsNext limit w name 0 machine
-  looked_none (Runs life) g = absurd (ask_answered nothing_stands w.book g.later name g.next.1)
+  looked_none (Runs life) g = absurd (ask_answered nothing_stands w.book g.next.1.0 name g.next.1.1)
   looked_none (Stopped folder) d = (
     d.left,
-    subst (λ (b : Book). GoesAhead b d.left) (ask_keeps nothing_stands w.book d.later name d.given d.next.1) d.next.2,
+    subst (λ (b : Book). LeavesAtLeast w.book b d.left) (asked_book d.given d.later d.next.1) d.next.2,
     d.stands,
   )
 
@@ -100,9 +114,8 @@ module _ (limit : ℕ) (w : World) (name : List ℕ) where
   pub looked_some : (r : Reply) (done : ℕ) → next_asked r ≡ Some done → (machine : Machine) →
       TurnsMachine limit w (Asks name 0) (r ∷ []) machine → ShowsNext limit w name done machine
   looked_some r done is (Runs life) g = (
-    ask_says nothing_stands w.book g.later name r done g.next.1 is,
-    subst (λ (b : Book). IsRunning limit b life)
-        (ask_keeps nothing_stands w.book g.later name (r ∷ []) g.next.1) g.running,
+    ask_says nothing_stands w.book g.next.1.0 name r done g.next.1.1 is,
+    subst (λ (b : Book). IsRunning limit b life) (asked_book (r ∷ []) g.later g.next.1) g.running,
   )
   looked_some r done is (Stopped folder) d = absurd (no_reply d.silent)
     where
@@ -114,7 +127,7 @@ module _ (limit : ℕ) (w : World) (name : List ℕ) where
       ShowsNext limit w name 0 (Stopped folder)
   looked_stopped machine folder e is = (
     w.book,
-    record { names = λ n. refl; logs = λ n. inl refl },
+    left_whole w.book,
     subst (IsMachine limit w.book) e is,
   )
 

@@ -1,11 +1,10 @@
 -- What keeps the done numbers of a log.
-use Rattle.std.proofs.Common.{inl, inr, ℕ, ◌<◌, Bool, List, refl, sym, ◌∙◌, subst, arith}
+use Rattle.std.proofs.Common.{◌≡◌, ℕ, ◌<◌, ◌≤◌, Bool, List, refl, sym, ◌∙◌, ap, subst, arith}
 use Rattle.bw_model.specs.Take.{Verdict}
 use Rattle.bw_model.specs.Book.{Log, Book, log_of}
 use Rattle.bw_journal.specs.Stops.{cut_log, cut_book}
 use Rattle.bw_journal.proofs.CutLaws.{at-take, logs_cut, verdict-cut}
-use Rattle.bw_session.specs.NextNumbers.{with_done}
-use Rattle.bw_kept.specs.LeftFolders.{GoesAhead}
+use Rattle.bw_kept.specs.LeftFolders.{DoesFewer}
 use Rattle.bw_delivery.specs.Lives.{KeepsDoneNumbers, IsVerdictOf}
 
 module _ (taken : Bool) where
@@ -30,16 +29,13 @@ module _ (taken : Bool) where
       let more = k.done in
       ((let b : n < new.done = omega (arith, below, more) in b), is.1 ∙ sym (k.verdicts n below))
 
-  -- one number more is done
-  keeps_next : (log : Log) → KeepsDoneNumbers taken log (with_done log)
-  keeps_next log = record { done = omega arith; requests = λ n below. refl; verdicts = λ n below. refl }
-
-  pub keeps_ahead : (book later : Book) → GoesAhead book later → (name : List ℕ) →
-      KeepsDoneNumbers taken (log_of book name) (log_of later name)
-  keeps_ahead book later goes name = elim (goes.logs name) [
-    | inl same ↦ subst (KeepsDoneNumbers taken (log_of book name)) (sym same) (keeps_itself (log_of book name))
-    | inr x ↦ subst (KeepsDoneNumbers taken (log_of book name)) (sym x.1) (keeps_next (log_of book name))
-  ]
+  -- the first numbers of a later log are done, at least these
+  pub keeps_first : (old log left : Log) → KeepsDoneNumbers taken old log → DoesFewer log left → old.done ≤ left.done →
+      KeepsDoneNumbers taken old left
+  keeps_first old log left k d least =
+      let e : left.done ≡ d.kept = ap (λ (l : Log). l.done) d.is in
+      subst (KeepsDoneNumbers taken old) (sym d.is)
+      (record { done = omega (arith, least, e); requests = k.requests; verdicts = k.verdicts })
 
   -- the log is cut to its done numbers
   keeps_cut : (log : Log) → KeepsDoneNumbers taken log (cut_log log)

@@ -31,6 +31,9 @@ use Rattle.bw_session.specs.Books.{count_waiting}
 use Rattle.bw_kept.specs.FolderRuns.{ServesFrame, turn_where, stops_where, name_of_frame, ends_with_request}
 use Rattle.bw_kept.specs.KeptFolders.{AreLogs, IsOutOfTable}
 use Rattle.bw_kept.specs.LeftFolders.{LeavesDone}
+use Rattle.std.specs.List.{AllByRecursion}
+use Rattle.bw_model.specs.ExamplesOfWorlds.{small_take}
+use Rattle.bw_delivery.specs.Senders.{IsOfRequests}
 use Rattle.bw_delivery.specs.Lives.{LiesIn}
 use Rattle.bw_delivery.specs.ExamplesOfLives.{log_with, book_with, journal_with, block_entry, folder_with, nothing_first}
 use Rattle.bw_delivery.specs.ExamplesOfLives.{killed_folder, KilledInATurnExample}
@@ -176,11 +179,16 @@ left_whole = inl (record {
   file = file_of_closed;
 })
 
-leaves : LeavesDone example_limit nothing_first (book_with 2 1) killed_folder.journals killed_folder.files
+leaves : LeavesDone example_limit nothing_first (book_with 2 1) (λ name. length (journal_with 1))
+    killed_folder.journals killed_folder.files
 leaves = record {
-  later = book_with 2 1;
-  ahead = record { names = λ name. refl; logs = λ name. inl refl };
-  left = lies_alone (log_with 1 1) (journal_with 1 ++ block_entry 20) is_opened refl refl left_cut;
+  left = book_with 2 1;
+  numbers = record {
+    names = λ name. refl;
+    logs = λ name. record { kept = (log_of (book_with 2 1) name).done; is = refl; most = inl (omega arith) };
+  };
+  least = λ name n within ends. within;
+  lies = lies_alone (log_with 1 1) (journal_with 1 ++ block_entry 20) is_opened refl refl left_cut;
 }
 
 pub killed_in_a_turn : KilledInATurnExample
@@ -194,4 +202,8 @@ killed_in_a_turn = (
 pub sent_life : {X Y : Type 0} (S : StoreGhosts X) (J : JournalGhosts Y)
     (Fails : List ℕ → Server X Y S J → Server X Y S J → Type 0) (Differs : List ℕ → Server X Y S J → Type 0) →
     SentLifeExample S J Fails Differs
-sent_life S J Fails Differs life same = record { answered = sym same; joined = joined }
+sent_life S J Fails Differs life same none = record {
+  answered = sym same;
+  joined = joined;
+  unkept = subst (AllByRecursion (IsOfRequests (record { name = a1; requests = small_take; had = [] }))) (sym none) tt;
+}

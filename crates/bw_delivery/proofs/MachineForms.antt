@@ -7,11 +7,17 @@ use Rattle.std.specs.Option.{option_or}
 use Rattle.bw_model.specs.Book.{Book}
 use Rattle.bw_folder.specs.Folders.{take_content}
 use Rattle.bw_folder.specs.Journals.{journal_path, notes_at}
+use Rattle.bw_folder.specs.JournalFolders.{journal_on_disk, noted_in_folder, unwritten_in}
+use Rattle.bw_folder.specs.PendingNotes.{UnwrittenNotes, noted_with, unwritten_of}
+use Rattle.bw_folder.specs.declared.journal.FolderJournal.{FolderJournal}
+use Rattle.bw_disk.specs.declared.disk.Disk.{Ghosts as DiskGhosts}
 use Rattle.bw_store.specs.declared.store.TakeStore.{Ghosts as StoreGhosts}
 use Rattle.bw_journal.specs.declared.journal.Journal.{Ghosts as JournalGhosts}
 use Rattle.bw_session.specs.Books.{HoldsBook}
 use Rattle.bw_session.specs.declared.server.Server.{Server}
-use Rattle.bw_kept.specs.LeftFolders.{EmptyServersHold, LiesThere}
+use Rattle.bw_kept.specs.DiskNotes.{AreCommitted}
+use Rattle.bw_kept.specs.KeptFolders.{HoldsKept}
+use Rattle.bw_kept.specs.LeftFolders.{CommittedBooksAreCovered, EmptyServersHold, LiesThere}
 use Rattle.bw_delivery.specs.ServedWorlds.{ServesBook}
 use Rattle.bw_delivery.proofs.Folders.{new_folders_are_empty}
 use Rattle.bw_commands.specs.RehearsedWorlds.{no_contents}
@@ -44,6 +50,15 @@ left_at limit before book at_notes at_takes notes later_notes takes later_takes 
     (subst (λ (x : Paths). LiesThere before no_contents book (notes_at notes the_folder) (take_content x the_folder)) (sym ts)
     (subst (λ (d : List ℕ). LiesThere before no_contents book (notes_at notes d) (take_content takes the_folder)) n
     (subst (λ (d : List ℕ). LiesThere before no_contents book (notes_at notes at_notes) (take_content takes d)) t left))))
+
+-- where nothing is pending, what the journals' disk has is what is noted
+pub lies_noted : {E H : Type 0} {K : DiskGhosts E H} (j : FolderJournal E H K) (limit : ℕ) (book : Book) (files : Paths) →
+    unwritten_in j ≡ [] → LiesThere limit no_contents book (journal_on_disk j) files →
+    LiesThere limit no_contents book (noted_in_folder j) files
+lies_noted j limit book files none lies =
+    let noted : List (List ℕ × UnwrittenNotes) → Paths =
+    λ all name. noted_with (unwritten_of all name) (journal_on_disk j name) in
+    subst (λ (x : Paths). LiesThere limit no_contents book x files) (ap noted (sym none)) lies
 
 or_none : (o : Option (List ℕ)) → option_or o None ≡ o
 or_none None = refl
@@ -80,23 +95,32 @@ lies_by limit book at_notes at_takes notes later_notes takes later_takes n t ns 
 
 -- A server that knows no name begins with what lies in its folder.
 module _ {X Y : Type 0} (S : StoreGhosts X) (J : JournalGhosts Y) where
-  pub begun : EmptyServersHold S J → (first : Paths) (limit : ℕ) (book : Book) (store : X) (journal : Y)
-      (s : Server X Y S J) → s.stores.store ≡ store → s.stores.journal ≡ journal → s.limit ≡ limit →
+  pub begun : EmptyServersHold S J → CommittedBooksAreCovered S J → (first : Paths) (limit : ℕ) (book : Book) (store : X)
+      (journal : Y) (s : Server X Y S J) → s.stores.store ≡ store → s.stores.journal ≡ journal → s.limit ≡ limit →
       HoldsBook S J (S.contents store) s [] → limit < 2 ^ 32 → J.folder journal ≡ S.folder store →
       ((name : List ℕ) → (J.header journal name).limit ≡ limit) → IsTrue (S.honest store) → IsTrue (J.honest journal) →
-      LiesThere limit first book (J.notes journal) (S.contents store) → ServesBook S J first s book
-  begun hold first limit book store journal s is_store is_journal is_limit held small same limits honest honest_notes lies =
+      AreCommitted J journal → LiesThere limit first book (J.notes journal) (S.contents store) → ServesBook S J first s book
+  begun hold covers first limit book store journal s is_store is_journal is_limit held small same limits honest honest_notes all
+      lies =
+      let mine : IsTrue (S.honest s.stores.store) = subst (λ (x : X). IsTrue (S.honest x)) (sym is_store) honest in
+      let notes : IsTrue (J.honest s.stores.journal) =
+      subst (λ (y : Y). IsTrue (J.honest y)) (sym is_journal) honest_notes in
+      let committed : AreCommitted J s.stores.journal = subst (AreCommitted J) (sym is_journal) all in
+      let kept : HoldsKept S J first s book =
+      hold first s book
+      (record {
+        held = subst (λ (x : X). HoldsBook S J (S.contents x) s []) (sym is_store) held;
+        small = subst (λ (n : ℕ). n < 2 ^ 32) (sym is_limit) small;
+        folder = ap J.folder is_journal ∙ same ∙ ap S.folder (sym is_store);
+        limits = λ name. ap (λ (y : Y). (J.header y name).limit) is_journal ∙ limits name ∙ sym is_limit;
+        committed = committed;
+      })
+      (subst (λ (n : ℕ). LiesThere n first book (J.notes s.stores.journal) (S.contents s.stores.store)) (sym is_limit)
+      (subst (λ (y : Y). LiesThere limit first book (J.notes y) (S.contents s.stores.store)) (sym is_journal)
+      (subst (λ (x : X). LiesThere limit first book (J.notes journal) (S.contents x)) (sym is_store) lies))) in
       record {
-        held = hold first s book
-            (record {
-              held = subst (λ (x : X). HoldsBook S J (S.contents x) s []) (sym is_store) held;
-              small = subst (λ (n : ℕ). n < 2 ^ 32) (sym is_limit) small;
-              folder = ap J.folder is_journal ∙ same ∙ ap S.folder (sym is_store);
-              limits = λ name. ap (λ (y : Y). (J.header y name).limit) is_journal ∙ limits name ∙ sym is_limit;
-            })
-            (subst (λ (n : ℕ). LiesThere n first book (J.notes s.stores.journal) (S.contents s.stores.store)) (sym is_limit)
-            (subst (λ (y : Y). LiesThere limit first book (J.notes y) (S.contents s.stores.store)) (sym is_journal)
-            (subst (λ (x : X). LiesThere limit first book (J.notes journal) (S.contents x)) (sym is_store) lies)));
-        honest = subst (λ (x : X). IsTrue (S.honest x)) (sym is_store) honest;
-        honest_notes = subst (λ (y : Y). IsTrue (J.honest y)) (sym is_journal) honest_notes;
+        held = kept;
+        honest = mine;
+        honest_notes = notes;
+        covered = covers first s book mine notes kept committed;
       }

@@ -10,13 +10,14 @@ use Rattle.bw_model.specs.Turn.{good}
 use Rattle.bw_model.specs.Exchange.{nothing_stands}
 use Rattle.bw_model.specs.World.{World, Event, Offer, Send, Deliver, Bring, Ask, happens, pending}
 use Rattle.bw_journal.specs.Stops.{cut_book}
-use Rattle.bw_kept.specs.LeftFolders.{GoesAhead}
-use Rattle.bw_delivery.specs.StoppedWorlds.{WorldStep, Happens, Answers, Dies, Stops, Starts, MayCome, IsNextStep}
+use Rattle.bw_kept.specs.LeftFolders.{LeavesAtLeast}
+use Rattle.bw_delivery.proofs.AskForms.{asked_book}
+use Rattle.bw_delivery.specs.StoppedWorlds.{WorldStep, Happens, Answers, Stops, Starts, MayCome, IsNextStep}
 use Rattle.bw_commands.specs.RehearsedWorlds.{event_meaning}
 use Rattle.bw_commands.specs.declared.event.Event.{Event as Played}
 use Rattle.bw_commands.proofs.Staging.{sent_book, brought_book}
 use Rattle.bw_delivery.specs.Machines.{IsRunning, IsLeftAt, IsMachine, KeepsRunning, DiesInTurn}
-use Rattle.bw_delivery.specs.Machines.{TurnsMachine, AnswersForName, BeginsOverLeft, StartsFound, runs}
+use Rattle.bw_delivery.specs.Machines.{TurnsMachine, AnswersForName, BeginsOverLeft, StartsFound, one_frame, runs}
 use Rattle.bw_delivery.specs.Networks.{IsNetwork}
 use Rattle.bw_delivery.specs.declared.event.StopEvent.{StopEvent}
 use Rattle.bw_delivery.specs.PlayedEvents.{PlaysBy, LeavesBook, IsPlayed, IsPlayedEvent, AnswersOrDies}
@@ -154,19 +155,19 @@ module _ (limit : ℕ) (w : World) (later : Network) where
       (n : (book : Book) → IsNetwork (with_replies w replies book) later) where
     went_on : (life : Life) → KeepsRunning limit w f replies life → PlaysBy limit w AreSteps later (Runs life)
     went_on life g = record {
-      steps = Answers f replies g.later ∷ [];
+      steps = Answers (one_frame f replies) g.later ∷ [];
       world = with_replies w replies g.later;
-      played = played (Answers f replies g.later ∷ []) true (inl (refl, (replies, (g.later, refl))));
-      went = (g.next, refl);
+      played = played (Answers (one_frame f replies) g.later ∷ []) true (inl (refl, (replies, (g.later, refl))));
+      went = (g.next, ap (λ (rs : List Reply). with_replies w rs g.later) (sym (append-nil replies)));
       network_is = n g.later;
       machine_is = g.running;
     }
 
     stopped : (folder : Folder) → DiesInTurn limit w f replies folder → PlaysBy limit w AreSteps later (Stopped folder)
     stopped folder d = record {
-      steps = Dies f d.given d.later d.left ∷ [];
+      steps = Stops (one_frame f d.given) d.later d.left ∷ [];
       world = record w { book = d.left };
-      played = played (Dies f d.given d.later d.left ∷ []) false (inr (refl, (d.given, (d.later, (d.left, refl)))));
+      played = played (Stops (one_frame f d.given) d.later d.left ∷ []) false (inr (refl, (d.given, (d.later, (d.left, refl)))));
       went = (d.next, refl);
       network_is = subst (λ (rs : List Reply). IsNetwork (record {
         sender = w.sender;
@@ -230,10 +231,10 @@ module _ (limit : ℕ) (w : World) (m : Machine) where
       StartsFound limit w name (Runs life) →
       LeavesBook limit w (λ steps on. (on ≡ true) × StartsIf (runs m) name steps) (Runs life)
   started folder life name e f = record {
-    steps = Starts ∷ Dies (Asks name 0) f.given f.later f.left ∷ Starts ∷ [];
+    steps = Starts ∷ Stops (one_frame (Asks name 0) f.given) f.later f.left ∷ Starts ∷ [];
     book = cut_book f.left;
     played = subst (λ (b : Bool). (true ≡ true)
-        × StartsIf b name (Starts ∷ Dies (Asks name 0) f.given f.later f.left ∷ Starts ∷ []))
+        × StartsIf b name (Starts ∷ Stops (one_frame (Asks name 0) f.given) f.later f.left ∷ Starts ∷ []))
         (sym (ap runs e)) (refl, (f.given, (f.later, (f.left, refl))));
     went = (tt, (f.next, (tt, refl)));
     machine_is = f.machine_is;
@@ -242,17 +243,18 @@ module _ (limit : ℕ) (w : World) (m : Machine) where
   pub counted : (folder : Folder) (later : Machine) (name : List ℕ) → m ≡ Stopped folder → StartsFound limit w name later →
       LeavesBook limit w (MayStartIf (runs m) name) later
   counted folder (Runs life) name e f = record {
-    steps = Starts ∷ Dies (Asks name 0) f.given f.later f.left ∷ Starts ∷ [];
+    steps = Starts ∷ Stops (one_frame (Asks name 0) f.given) f.later f.left ∷ Starts ∷ [];
     book = cut_book f.left;
-    played = subst (λ (b : Bool). MayStartIf b name (Starts ∷ Dies (Asks name 0) f.given f.later f.left ∷ Starts ∷ []) true)
+    played = subst (λ (b : Bool). MayStartIf b name (Starts
+        ∷ Stops (one_frame (Asks name 0) f.given) f.later f.left ∷ Starts ∷ []) true)
         (sym (ap runs e)) (inl (refl, (f.given, (f.later, (f.left, refl)))));
     went = (tt, (f.next, (tt, refl)));
     machine_is = f.machine_is;
   }
   counted folder (Stopped left) name e f = record {
-    steps = Starts ∷ Dies (Asks name 0) f.given f.later f.left ∷ [];
+    steps = Starts ∷ Stops (one_frame (Asks name 0) f.given) f.later f.left ∷ [];
     book = f.left;
-    played = subst (λ (b : Bool). MayStartIf b name (Starts ∷ Dies (Asks name 0) f.given f.later f.left ∷ []) false)
+    played = subst (λ (b : Bool). MayStartIf b name (Starts ∷ Stops (one_frame (Asks name 0) f.given) f.later f.left ∷ []) false)
         (sym (ap runs e)) (inr (refl, (f.given, (f.later, (f.left, refl)))));
     went = (tt, (f.next, refl));
     machine_is = f.machine_is;
@@ -268,14 +270,14 @@ module _ (limit : ℕ) (w : World) (m : Machine) where
   stopped_already folder e is =
       unchanged (Stopped folder) _ (subst (λ (b : Bool). (false ≡ false) × StopsIf b []) (sym (ap runs e)) (refl, refl)) e is
 
-  pub stopped_now : (life : Life) (folder : Folder) (left : Book) → m ≡ Runs life →
-      IsNextStep nothing_stands w (Stops left) → IsLeftAt limit left folder →
+  pub stopped_now : (life : Life) (folder : Folder) (later left : Book) → m ≡ Runs life →
+      IsNextStep nothing_stands w (Stops [] later left) → IsLeftAt limit left folder →
       LeavesBook limit w (λ steps on. (on ≡ false) × StopsIf (runs m) steps) (Stopped folder)
-  stopped_now life folder left e next stands = record {
-    steps = Stops left ∷ [];
+  stopped_now life folder later left e next stands = record {
+    steps = Stops [] later left ∷ [];
     book = left;
-    played = subst (λ (b : Bool). (false ≡ false) × StopsIf b (Stops left ∷ [])) (sym (ap runs e))
-        (refl, (left, refl));
+    played = subst (λ (b : Bool). (false ≡ false) × StopsIf b (Stops [] later left ∷ [])) (sym (ap runs e))
+        (refl, (later, (left, refl)));
     went = (next, refl);
     machine_is = stands;
   }
@@ -299,7 +301,12 @@ module _ (limit : ℕ) (w : World) (name : List ℕ) where
     given = replies;
     later = g.later;
     left = left;
-    next = (tt, g.next.1, ahead);
+    next = (
+      (tt, tt),
+      g.next.1,
+      subst (λ (b : Book). LeavesAtLeast b g.later left)
+          (asked_book limit (record w { book = cut_book w.book }) name replies g.later g.next.1) ahead,
+    );
     machine_is = running;
   }
 
@@ -313,7 +320,7 @@ module _ (limit : ℕ) (w : World) (name : List ℕ) where
   each_anew life (Err e) f h = h
 
 -- A server that began over what another left.
-pub each_started : {E : Type 0} (limit : ℕ) (book left : Book) → GoesAhead book left → (r : Result Life E) →
+pub each_started : {E : Type 0} (limit : ℕ) (book left : Book) → LeavesAtLeast book book left → (r : Result Life E) →
     IfOk r (λ life. IsRunning limit (cut_book left) life) → IfOk r (BeginsOverLeft limit book)
 each_started limit book left ahead (Ok life) h = (left, ahead, h)
 each_started limit book left ahead (Err e) h = h

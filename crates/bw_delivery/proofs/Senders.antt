@@ -1,5 +1,5 @@
 -- A sender to servers that follow one another counts only what lies in the last folder.
-use Rattle.std.proofs.Common.{◌≡◌, inl, inr, ℕ, zero, suc, ◌<◌, Bool, true, false, List, [], ◌∷◌, map, Option, Some}
+use Rattle.std.proofs.Common.{◌≡◌, ◌⊎◌, inl, inr, ℕ, zero, suc, ◌<◌, Bool, true, false, List, [], ◌∷◌, map, Option, Some}
 use Rattle.std.proofs.Common.{is_some, length, refl, sym, ◌∙◌, ap, subst, arith}
 use Rattle.std.specs.List.{AllByRecursion, Contains, list_any}
 use Rattle.bw_model.specs.Bytes.{at, first_free}
@@ -8,7 +8,10 @@ use Rattle.bw_model.specs.File.{file_of}
 use Rattle.bw_model.specs.Exchange.{take_in}
 use Rattle.bw_model.specs.World.{is_close}
 use Rattle.bw_model.specs.Book.{Log, Book, log_of, is_known, made_by}
-use Rattle.bw_model.proofs.BookLemmas.{unknown_log}
+use Rattle.std.specs.Prelude.{slice_get}
+use Rattle.std.specs.Str.{bytes_eq}
+use Rattle.bw_model.specs.Wire.{Message, Frame, Says, Asks, Bye}
+use Rattle.bw_model.proofs.BookLemmas.{same_name, unknown_log}
 use Rattle.bw_model.proofs.MapLemmas.{at-first_free}
 use Rattle.bw_model.proofs.TrueReplies.{IsSound}
 use Rattle.bw_store.specs.declared.store.TakeStore.{Ghosts as StoreGhosts}
@@ -21,15 +24,15 @@ use Rattle.bw_session.specs.declared.server.Server.{Server}
 use Rattle.bw_connections.specs.ConnectionTables.{all_answered}
 use Rattle.bw_delivery.specs.Deliveries.{HasOnly, IsDelivered, HeardOverLinks}
 use Rattle.bw_delivery.proofs.ClosedLaws.{AreStored, stored_closes}
-use Rattle.bw_delivery.proofs.DeliveryLaws.{joined_frames, delivered_by}
+use Rattle.bw_delivery.proofs.DeliveryLaws.{IsOfEither, joined_frames, delivered_by}
 use Rattle.bw_delivery.proofs.DoneRequests.{within_requests, prefix_of_requests, made_of_requests}
 use Rattle.bw_delivery.proofs.FolderDeliveries.{folder_sound}
-use Rattle.bw_delivery.proofs.SoundTurns.{IsSoundStep}
+use Rattle.bw_delivery.proofs.SoundTurns.{IsOneOf, IsOfAnother, IsSoundStep}
 use Rattle.bw_delivery.proofs.WholeTakes.{IsWholeTake, all_made, not_taken, whole_take}
 use Rattle.bw_kept.specs.FolderRuns.{IsFolderRun}
-use Rattle.bw_kept.specs.LeftFolders.{GoesAhead, KeptServersLeaveDone, EmptyServersHold}
-use Rattle.bw_delivery.specs.Lives.{Folder, LiesIn, KeepsDoneNumbers, IsVerdictOf, Life, FollowOn, folder_of, folder_after}
-use Rattle.bw_delivery.specs.Senders.{SenderBefore, SentLife, CameOverLinks, HasVerdict}
+use Rattle.bw_kept.specs.LeftFolders.{CommittedBooksAreCovered, DoesFewer, KeptServersLeaveDone, EmptyServersHold}
+use Rattle.bw_delivery.specs.Lives.{Folder, LiesIn, KeepsDoneNumbers, IsVerdictOf, Life, FollowOn, folder_after}
+use Rattle.bw_delivery.specs.Senders.{SenderBefore, SentLife, CameOverLinks, HasVerdict, IsOfRequests}
 use Rattle.bw_delivery.specs.Senders.{SendersCountDone}
 use Rattle.bw_delivery.proofs.ClosedFiles.{closed_lies}
 use Rattle.bw_delivery.proofs.DoneNumbers.{keeps_itself, keeps_on, done_stays}
@@ -50,24 +53,37 @@ only_sound requests book name logs only = record {
     free k below false e = let none = ap (λ (l : Log). l.done) (unknown_log book name e) in absurd (omega (arith, none, below))
 
 -- a stop admits nothing
-only_stops : (requests : List Request) (book later : Book) (name : List ℕ) → GoesAhead book later →
-    HasOnly requests (log_of book name) → HasOnly requests (log_of (cut_book later) name)
-only_stops requests book later name goes only n r e =
+only_stops : (requests : List Request) (log : Log) (left : Book) (name : List ℕ) → DoesFewer log (log_of left name) →
+    HasOnly requests log → HasOnly requests (log_of (cut_book left) name)
+only_stops requests log left name d only n r e =
     only n r (sym (ap (λ (s : List (Option Request)). at s n) same) ∙ there)
   where
-    same : (log_of later name).admitted ≡ (log_of book name).admitted
-    same = elim (goes.logs name) [
-      | inl e ↦ ap (λ (l : Log). l.admitted) e
-      | inr x ↦ ap (λ (l : Log). l.admitted) x.1
-    ]
+    same : (log_of left name).admitted ≡ log.admitted
+    same = ap (λ (l : Log). l.admitted) d.is
 
-    there : at (log_of later name).admitted n ≡ Some r
-    there = at-take_some (log_of later name).done n (log_of later name).admitted r
-        (sym (ap (λ (l : Log). at l.admitted n) (logs_cut later name)) ∙ e)
+    there : at (log_of left name).admitted n ≡ Some r
+    there = at-take_some (log_of left name).done n (log_of left name).admitted r
+        (sym (ap (λ (l : Log). at l.admitted n) (logs_cut left name)) ∙ e)
+
+-- a frame that wasn't kept is one of the requests, or another's
+unkept_frame : (s : SenderBefore) (f : Frame) → ((m : Message) → f ≡ Says m → m.name ≡ s.name →
+    slice_get s.requests m.number ≡ Some m.request) → IsOneOf s.name s.requests f ⊎ IsOfAnother s.name f
+unkept_frame s (Says m) was = go (bytes_eq m.name s.name) refl
+  where
+    go : (v : Bool) → bytes_eq m.name s.name ≡ v → IsOneOf s.name s.requests (Says m) ⊎ IsOfAnother s.name (Says m)
+    go true same = let is = same_name m.name s.name same in inl (is, was m refl is)
+    go false off = inr off
+unkept_frame s (Asks x n) was = inl tt
+unkept_frame s Bye was = inl tt
+
+unkept_frames : (s : SenderBefore) (answered : List Answered) → AllByRecursion (IsOfRequests s) answered →
+    AllByRecursion (IsOfEither s.name s.requests) answered
+unkept_frames s [] each = tt
+unkept_frames s (a ∷ rest) each = (unkept_frame s a.frame each.0, unkept_frames s rest each.1)
 
 module _ {X Y : Type 0} (S : StoreGhosts X) (J : JournalGhosts Y)
     (Fails : List ℕ → Server X Y S J → Server X Y S J → Type 0) (Differs : List ℕ → Server X Y S J → Type 0)
-    (stops : KeptServersLeaveDone S J) (begins : EmptyServersHold S J)
+    (stops : KeptServersLeaveDone S J) (begins : EmptyServersHold S J) (covers : CommittedBooksAreCovered S J)
     (limit : ℕ) (first : List ℕ → Option (List ℕ)) (s : SenderBefore) where
   abbrev taken : Bool
   taken = is_some (first s.name)
@@ -88,17 +104,28 @@ module _ {X Y : Type 0} (S : StoreGhosts X) (J : JournalGhosts Y)
 
   -- one life
   life_sound : (book : Book) (x : SentLife S J Fails Differs)
-      (l : LifeLeft S J Fails Differs stops begins limit first book x.life) → HasLogs book →
+      (l : LifeLeft S J Fails Differs stops begins covers limit first book x.life) → HasLogs book →
       HasOnly s.requests (log_of book s.name) → CameOverLinks S J Fails Differs s x →
       IsSoundStep taken s.requests s.name (log_of book s.name) (log_of l.turns.later s.name)
       (replies_of (all_answered x.trace))
   life_sound book x l logs only sent =
-      folder_sound existed s.requests s.name (failures_of S J x.life.began) (failures_of S J x.life.ended) book
+      folder_sound existed s.requests s.name (failures_of S J x.life.began) (failures_of S J x.life.committed) book
       l.turns.later (all_answered x.trace)
-      (subst (λ (xs : List Answered). IsFolderRun existed (failures_of S J x.life.began) (failures_of S J x.life.ended)
+      (subst (λ (xs : List Answered). IsFolderRun existed (failures_of S J x.life.began) (failures_of S J x.life.committed)
       book xs l.turns.later) (sym sent.answered) l.turns.went)
       (only_sound s.requests book s.name logs only)
       (joined_frames s.name s.requests x.links x.trace sent.joined)
+
+  -- what it answered after its last commit
+  life_sound_on : (book : Book) (x : SentLife S J Fails Differs)
+      (l : LifeLeft S J Fails Differs stops begins covers limit first book x.life) →
+      HasOnly s.requests (log_of l.turns.later s.name) → CameOverLinks S J Fails Differs s x →
+      HasOnly s.requests (log_of l.turns_on.later s.name)
+  life_sound_on book x l only sent =
+      (folder_sound existed s.requests s.name (failures_of S J x.life.committed) (failures_of S J x.life.ended) l.turns.later
+      l.turns_on.later x.life.unkept l.turns_on.went
+      (only_sound s.requests l.turns.later s.name l.turns.held.each.logs only)
+      (unkept_frames s x.life.unkept sent.unkept)).sound.admitted
 
   pub sent_kept : (f : Folder) (book : Book) (sent : List (SentLife S J Fails Differs)) → LiesIn limit first book f →
       HasOnly s.requests (log_of book s.name) → FollowOn S J Fails Differs limit f (lives_of sent) →
@@ -111,14 +138,15 @@ module _ {X Y : Type 0} (S : StoreGhosts X) (J : JournalGhosts Y)
     heard = λ x has n v heard. absurd (let below = has.1 in omega (arith, below));
   }
   sent_kept f book (x ∷ sent) lies only went was =
-      let l = life_left S J Fails Differs stops begins limit first book f x.life lies went.0 in
+      let l = life_left S J Fails Differs stops begins covers limit first book f x.life lies went.0 in
       let step = life_sound book x l lies.each.logs only was.0 in
-      let next : Book = cut_book l.left.later in
-      let on = sent_kept (folder_of S J Fails Differs x.life.ended) next sent l.left.left
-      (only_stops s.requests l.turns.later l.left.later s.name l.left.ahead step.sound.admitted) went.1 was.1 in
+      let next : Book = cut_book l.left in
+      let on = sent_kept x.life.found next sent l.lies
+      (only_stops s.requests (log_of l.turns_on.later s.name) l.left s.name (l.numbers.logs s.name)
+      (life_sound_on book x l step.sound.admitted was.0)) went.1 was.1 in
       let later : KeepsDoneNumbers taken (log_of l.turns.later s.name) (log_of on.after s.name) =
       keeps_on taken (log_of l.turns.later s.name) (log_of next s.name) (log_of on.after s.name)
-      (stop_keeps S J Fails Differs stops begins limit first book x.life l s.name) on.kept in
+      (stop_keeps S J Fails Differs stops begins covers limit first book x.life l s.name) on.kept in
       let d : IsDelivered existed s.name s.requests (HeardOverLinks x.links s.name) (log_of l.turns.later s.name)
       l.turns.later = delivered_by existed s.name s.requests x.links l.turns.later x.trace was.0.joined step in
       record {
@@ -169,9 +197,9 @@ module _ (existed : List ℕ → Bool) (name : List ℕ) (requests : List Reques
 
 pub senders_count : {X Y : Type 0} (S : StoreGhosts X) (J : JournalGhosts Y)
     (Fails : List ℕ → Server X Y S J → Server X Y S J → Type 0) (Differs : List ℕ → Server X Y S J → Type 0) →
-    KeptServersLeaveDone S J → EmptyServersHold S J → SendersCountDone S J Fails Differs
-senders_count S J Fails Differs stops begins limit first book f s sent lies named was went sent_so =
-    let k = sent_kept S J Fails Differs stops begins limit first s f book sent lies was.only went sent_so in
+    KeptServersLeaveDone S J → EmptyServersHold S J → CommittedBooksAreCovered S J → SendersCountDone S J Fails Differs
+senders_count S J Fails Differs stops begins covers limit first book f s sent lies named was went sent_so =
+    let k = sent_kept S J Fails Differs stops begins covers limit first s f book sent lies was.only went sent_so in
     let existed : List ℕ → Bool = λ name. is_some (first name) in
     let log : Log = log_of k.after s.name in
     let sound : IsSound s.requests log = only_sound s.requests k.after s.name k.lies.each.logs k.only in

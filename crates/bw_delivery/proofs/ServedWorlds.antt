@@ -1,67 +1,74 @@
 -- Turns, stops and starts of servers over a folder are steps of a world.
-use Rattle.std.proofs.Common.{inl, inr, ℕ, List, Option, ◌∙◌}
-use Rattle.bw_model.specs.Wire.{Frame}
-use Rattle.bw_model.specs.Replies.{Reply}
+use Rattle.std.proofs.Common.{inl, inr, ℕ, Bool, List, [], ◌∷◌, Option, ◌∙◌}
 use Rattle.bw_model.specs.Book.{Book}
-use Rattle.bw_model.specs.World.{World}
 use Rattle.bw_store.specs.declared.store.TakeStore.{Ghosts as StoreGhosts}
 use Rattle.bw_journal.specs.declared.journal.Journal.{Ghosts as JournalGhosts}
+use Rattle.bw_exchange.specs.AnsweredFrames.{Answered}
 use Rattle.bw_session.specs.declared.server.Server.{Server}
-use Rattle.bw_kept.specs.KeptTurns.{KeptTurn, FolderTurn}
-use Rattle.bw_kept.specs.LeftFolders.{KeptServersLeaveDone, EmptyServersHold}
-use Rattle.bw_delivery.specs.StoppedWorlds.{TurnsInFolder}
-use Rattle.bw_delivery.specs.ServedWorlds.{existed_in, ServesBook, StopsAreSteps, StartsAreSteps, TurnsAreOfWorlds}
-use Rattle.bw_delivery.specs.ServedWorlds.{DeathsAreSteps}
-use Rattle.bw_delivery.proofs.LifeLemmas.{turn_stays}
+use Rattle.bw_kept.specs.FolderRuns.{IsFolderRun}
+use Rattle.bw_kept.specs.LeftFolders.{CommittedBooksAreCovered, KeptServersLeaveDone, EmptyServersHold}
+use Rattle.bw_delivery.specs.StoppedWorlds.{RunsInFolder}
+use Rattle.bw_delivery.specs.ServedWorlds.{StopsAreSteps, StartsAreSteps, TurnsAreOfWorlds}
+use Rattle.bw_delivery.proofs.DoneJournals.{book_admits}
+use Rattle.bw_delivery.proofs.LifeLemmas.{least_done, turns_kept}
+
+-- a run on a folder's book, without its counts
+runs_in : (existed : List ℕ → Bool) (before after : ℕ) (book : Book) (answered : List Answered) (later : Book) →
+    IsFolderRun existed before after book answered later → RunsInFolder existed book answered later
+runs_in existed before after book [] later run = run.1
+runs_in existed before after book (a ∷ rest) later (count, mid, turn, more) = (
+  mid,
+  elim turn [
+    | inl (full, served) ↦ inl (before, count, full, served)
+    | inr off ↦ inr (off.0, off.1)
+  ],
+  runs_in existed count after mid rest later more,
+)
 
 module _ {X Y : Type 0} (S : StoreGhosts X) (J : JournalGhosts Y) where
-  pub stops_are_steps : KeptServersLeaveDone S J → StopsAreSteps S J
-  stops_are_steps leave first w s k =
-      let done = leave first s w.book k.honest k.honest_notes k.held in
-      record { left = done.later; next = done.ahead; stands = done.left }
-
-  pub starts_are_steps : EmptyServersHold S J → StartsAreSteps S J
-  starts_are_steps begins first w s none honest honest_notes lies = record {
-    held = begins first s _ none lies;
-    honest = honest;
-    honest_notes = honest_notes;
-  }
+  pub starts_are_steps : EmptyServersHold S J → CommittedBooksAreCovered S J → StartsAreSteps S J
+  starts_are_steps begins covers first w s none honest honest_notes lies =
+      let held = begins first s _ none lies in
+      record {
+        held = held;
+        honest = honest;
+        honest_notes = honest_notes;
+        covered = covers first s _ honest honest_notes held none.committed;
+      }
 
   module _ (Fails : List ℕ → Server X Y S J → Server X Y S J → Type 0) (Differs : List ℕ → Server X Y S J → Type 0) where
-    -- a turn, and the book that its server holds then
-    record Turned (first : List ℕ → Option (List ℕ)) (w : World) (f : Frame) (replies : List Reply)
-        (new : Server X Y S J) : Type 0 where
-      later : Book
-      turns : TurnsInFolder (existed_in first) w.book f replies later
-      serves : ServesBook S J first new later
-
-    turned : (first : List ℕ → Option (List ℕ)) (w : World) (old new : Server X Y S J) (f : Frame)
-        (replies : List Reply) → ServesBook S J first old w.book → KeptTurn S J Fails Differs old f replies new →
-        Turned first w f replies new
-    turned first w old new f replies k t =
-        let turn : FolderTurn S J Fails Differs first old new w.book f replies =
-        t.turned k.honest k.honest_notes first w.book k.held in
-        let stays = turn_stays S J Fails Differs old new (record { frame = f; replies = replies }) t in
+    pub turns_of_worlds : CommittedBooksAreCovered S J → TurnsAreOfWorlds S J Fails Differs
+    turns_of_worlds covers first w old new answered k may went all =
+        let t = turns_kept S J Fails Differs first old new answered w.book k.held k.honest k.honest_notes went in
+        let honest = t.stays.honest ∙ k.honest in
+        let honest_notes = t.stays.honest_notes ∙ k.honest_notes in
         record {
-          later = turn.later;
-          turns = elim (turn.turned) [
-            | inl served ↦ inl (_, _, turn.full, served)
-            | inr off ↦ inr (off.answered, off.left)
-          ];
+          later = t.later;
+          next = (may, runs_in _ _ _ w.book answered t.later t.went);
           serves = record {
-            held = turn.held;
-            honest = stays.honest ∙ k.honest;
-            honest_notes = stays.honest_notes ∙ k.honest_notes;
+            held = t.held;
+            honest = honest;
+            honest_notes = honest_notes;
+            covered = covers first new t.later honest honest_notes t.held all;
           };
         }
 
-    pub turns_of_worlds : TurnsAreOfWorlds S J Fails Differs
-    turns_of_worlds first w old new f replies k may t =
-        let x = turned first w old new f replies k t in
-        record { later = x.later; next = (may, x.turns); serves = x.serves }
-
-    pub deaths_are_steps : KeptServersLeaveDone S J → DeathsAreSteps S J Fails Differs
-    deaths_are_steps leave first w old new f replies k may t =
-        let x = turned first w old new f replies k t in
-        let done = leave first new x.later x.serves.honest x.serves.honest_notes x.serves.held in
-        record { later = x.later; left = done.later; next = (may, x.turns, done.ahead); stands = done.left }
+    pub stops_are_steps : KeptServersLeaveDone S J → StopsAreSteps S J Fails Differs
+    stops_are_steps leave first w old new answered journals k may went on =
+        let t = turns_kept S J Fails Differs first old new answered w.book k.held k.honest k.honest_notes went in
+        let done = leave first new t.later (t.stays.honest ∙ k.honest) (t.stays.honest_notes ∙ k.honest_notes) t.held journals
+        on in
+        record {
+          later = t.later;
+          left = done.left;
+          next = (
+            may,
+            runs_in _ _ _ w.book answered t.later t.went,
+            record {
+              numbers = done.numbers;
+              done = least_done S J Fails Differs first old new w.book answered t journals (S.contents new.stores.store) done
+                  (book_admits w.book k.held.each.logs) k.covered;
+            },
+          );
+          stands = done.lies;
+        }

@@ -15,10 +15,12 @@ use Rattle.bw_model.proofs.SenderSteps.{WasOffered, IsKept}
 use Rattle.bw_model.proofs.WorldLaws.{event_true, faithful, start}
 use Rattle.bw_journal.specs.Stops.{cut_log, cut_book}
 use Rattle.bw_journal.proofs.CutLaws.{at-take, at-take_some, verdict-cut, logs_cut}
-use Rattle.bw_session.specs.NextNumbers.{with_done}
-use Rattle.bw_kept.specs.LeftFolders.{GoesAhead}
-use Rattle.bw_delivery.specs.StoppedWorlds.{WorldStep, Happens, Answers, Dies, Stops, Starts, MayCome, TurnsInFolder}
-use Rattle.bw_delivery.specs.StoppedWorlds.{WorldStepsTo, StoppedWorldsAreFaithful}
+use Rattle.std.proofs.Common.{append_assoc}
+use Rattle.std.proofs.lemmas.List.{append-nil}
+use Rattle.bw_exchange.specs.AnsweredFrames.{Answered, replies_of}
+use Rattle.bw_kept.specs.LeftFolders.{DoesFewer, LeavesAtLeast}
+use Rattle.bw_delivery.specs.StoppedWorlds.{WorldStep, Happens, Answers, Stops, Starts, MayCome, MayComeEach, TurnsInFolder}
+use Rattle.bw_delivery.specs.StoppedWorlds.{RunsInFolder, WorldStepsTo, StoppedWorldsAreFaithful}
 use Rattle.bw_delivery.proofs.FaithfulFrames.{MayBeOf, folder_frame}
 
 -- what is sound stays so if the log is cut
@@ -43,24 +45,38 @@ waiting : (o : Option Request) → is_some o ≡ true → (r : Request) × (o �
 waiting None e = absurd (none_true e)
 waiting (Some r) e = (r, refl)
 
--- what is sound stays so if the number that waits is done
-sound_ahead : (offered : List Request) (log : Log) → is_pending log ≡ true → IsSound offered log →
-    IsSound offered (with_done log)
-sound_ahead offered log waits h = record {
-  admitted = h.admitted;
-  filled = λ k below. go k below (cases_lt k log.done);
-}
+-- what is sound stays so where the first numbers are done
+sound_first : (offered : List Request) (log left : Log) → DoesFewer log left → IsSound offered log → IsSound offered left
+sound_first offered log left d h =
+    subst (IsSound offered) (sym d.is) (record { admitted = h.admitted; filled = λ k below. filled k below d.most })
   where
-    go : (k : ℕ) → k < suc log.done → (k < log.done) ⊎ (log.done ≤ k) → (r : Request) × (at log.admitted k ≡ Some r)
-    go k below (inl under) = h.filled k under
-    go k below (inr over) =
-        let same : log.done ≡ k = omega (arith, below, over) in
-        let x = waiting (at log.admitted log.done) waits in
-        (x.0, ap (at log.admitted) (sym same) ∙ x.1)
+    filled : (k : ℕ) → k < d.kept → (d.kept ≤ log.done) ⊎ ((is_pending log ≡ true) × (d.kept ≡ suc log.done)) →
+        (r : Request) × (at log.admitted k ≡ Some r)
+    filled k below (inl few) = h.filled k (omega (arith, below, few))
+    filled k below (inr (waits, is)) = go (cases_lt k log.done)
+      where
+        go : (k < log.done) ⊎ (log.done ≤ k) → (r : Request) × (at log.admitted k ≡ Some r)
+        go (inl under) = h.filled k under
+        go (inr over) =
+            let same : log.done ≡ k = omega (arith, below, is, over) in
+            let x = waiting (at log.admitted log.done) waits in
+            (x.0, ap (at log.admitted) (sym same) ∙ x.1)
 
--- such a log has its verdicts
-grows_ahead : (taken : Bool) (log : Log) → Grows taken log (with_done log)
-grows_ahead taken log = record { done = omega arith; verdicts = λ n below. refl }
+-- and such a log has the verdicts of an earlier one, if it has its done numbers
+grows_first : (taken : Bool) (old log left : Log) → DoesFewer log left → old.done ≤ left.done → Grows taken old log →
+    Grows taken old left
+grows_first taken old log left d least g =
+    let e : left.done ≡ d.kept = ap (λ (l : Log). l.done) d.is in
+    subst (Grows taken old) (sym d.is) (record { done = omega (arith, least, e); verdicts = g.verdicts })
+
+grows_then : (taken : Bool) (a b c : Log) → Grows taken a b → Grows taken b c → Grows taken a c
+grows_then taken a b c f g =
+    let first = f.done in
+    let second = g.done in
+    record {
+      done = omega (arith, first, second);
+      verdicts = λ n below. g.verdicts n (omega (arith, first, below)) ∙ f.verdicts n below;
+    }
 
 module _ (existed : List ℕ → Bool) (w : World) (k : IsKept existed w) where
   abbrev old : Log
@@ -103,33 +119,6 @@ module _ (existed : List ℕ → Bool) (w : World) (k : IsKept existed w) where
   cut_kept =
       by_log (cut_book w.book) (cut_log old) (logs_cut w.book w.sender.name) (sound_cut w.sender.offered old k.sound)
       (grows_cut (existed w.sender.name) old)
-
-  ahead_kept : (left : Book) → GoesAhead w.book left → IsKept existed (record w { book = left })
-  ahead_kept left ahead = go (ahead.logs w.sender.name)
-    where
-      go : (log_of left w.sender.name ≡ old) ⊎ ((is_pending old ≡ true) × (log_of left w.sender.name ≡ with_done old)) →
-          IsKept existed (record w { book = left })
-      go (inl same) = by_log left old same k.sound (record { done = omega arith; verdicts = λ n below. refl })
-      go (inr (waits, is)) =
-          by_log left (with_done old) is (sound_ahead w.sender.offered old waits k.sound)
-          (grows_ahead (existed w.sender.name) old)
-
--- with these replies a world is kept
-unwritten : (existed : List ℕ → Bool) (w : World) (replies : List Reply) →
-    Each (IsTrueReply (existed w.sender.name) w.sender.name (log_of w.book w.sender.name)) replies →
-    IsKept existed w → IsKept existed (record w { replies = replies })
-unwritten existed w replies reported k = record {
-  sound = k.sound;
-  were = k.were;
-  reported = reported;
-  known = k.known;
-  near = k.near;
-}
-
--- what holds of each holds of the first ones
-each-first : {X : Type 0} (P : X → Type 0) (xs ys : List X) → Each P (xs ++ ys) → Each P xs
-each-first P [] ys h = tt
-each-first P (x ∷ xs) ys h = (h.0, each-first P xs ys h.1)
 
 -- a reply that is true stays so if the log grows
 grown_reply : (taken : Bool) (name : List ℕ) (old new : Log) → Grows taken old new → (r : Reply) →
@@ -174,16 +163,60 @@ comes_kept existed w f replies later k may turns =
       near = k.near;
     }
 
--- a server stops in the turn of a frame
-dies_kept : (existed : List ℕ → Bool) (w : World) (f : Frame) (replies : List Reply) (later left : Book) →
-    IsKept existed w → MayCome w f → TurnsInFolder existed w.book f replies later → GoesAhead later left →
+-- its log grows
+comes_grows : (existed : List ℕ → Bool) (w : World) (f : Frame) (replies : List Reply) (later : Book) →
+    IsKept existed w → MayCome w f → TurnsInFolder existed w.book f replies later →
+    Grows (existed w.sender.name) (log_of w.book w.sender.name) (log_of later w.sender.name)
+comes_grows existed w f replies later k may turns =
+    (folder_frame existed w.sender.offered w.sender.name w.book later f replies k.sound (may_be_of existed w f k may)
+    turns).grows
+
+-- what may come may still, once other frames were answered
+may_still : (w : World) (book : Book) (replies : List Reply) (f : Frame) → MayCome w f →
+    MayCome (record w { book = book; replies = replies }) f
+may_still w book replies (Says m) may = may
+may_still w book replies (Asks x n) may = tt
+may_still w book replies Bye may = tt
+
+may_each : (w : World) (book : Book) (replies : List Reply) (answered : List Answered) → MayComeEach w answered →
+    MayComeEach (record w { book = book; replies = replies }) answered
+may_each w book replies [] may = tt
+may_each w book replies (a ∷ rest) may = (may_still w book replies a.frame may.0, may_each w book replies rest may.1)
+
+-- the turns of frames that may come
+record ComesEach (existed : List ℕ → Bool) (w : World) (answered : List Answered) (later : Book) : Type 0 where
+  kept : IsKept existed (record w { book = later; replies = w.replies ++ replies_of answered })
+  grows : Grows (existed w.sender.name) (log_of w.book w.sender.name) (log_of later w.sender.name)
+
+comes_each : (existed : List ℕ → Bool) (w : World) (answered : List Answered) (later : Book) → IsKept existed w →
+    MayComeEach w answered → RunsInFolder existed w.book answered later → ComesEach existed w answered later
+comes_each existed w [] later k may same = record {
+  kept = subst (λ (b : Book). IsKept existed (record w { book = b; replies = w.replies ++ [] })) (sym same)
+      (subst (λ (rs : List Reply). IsKept existed (record w { replies = rs })) (sym (append-nil w.replies)) k);
+  grows = subst (λ (b : Book). Grows (existed w.sender.name) (log_of w.book w.sender.name) (log_of b w.sender.name))
+      (sym same) (record { done = omega arith; verdicts = λ n below. refl });
+}
+comes_each existed w (a ∷ rest) later k may (mid, turn, more) =
+    let next : World = record w { book = mid; replies = w.replies ++ a.replies } in
+    let on = comes_each existed next rest later (comes_kept existed w a.frame a.replies mid k may.0 turn)
+    (may_each w mid (w.replies ++ a.replies) rest may.1) more in
+    record {
+      kept = subst (λ (rs : List Reply). IsKept existed (record w { book = later; replies = rs }))
+          (append_assoc w.replies a.replies (replies_of rest)) on.kept;
+      grows = grows_then (existed w.sender.name) (log_of w.book w.sender.name) (log_of mid w.sender.name)
+          (log_of later w.sender.name) (comes_grows existed w a.frame a.replies mid k may.0 turn) on.grows;
+    }
+
+-- a server stops after these
+stops_kept : (existed : List ℕ → Bool) (w : World) (answered : List Answered) (later left : Book) → IsKept existed w →
+    MayComeEach w answered → RunsInFolder existed w.book answered later → LeavesAtLeast w.book later left →
     IsKept existed (record w { book = left })
-dies_kept existed w f replies later left kept may turns ahead =
-    let turned : World = record w { book = later; replies = w.replies ++ replies } in
-    let moved = ahead_kept existed turned (comes_kept existed w f replies later kept may turns) left ahead in
-    unwritten existed (record turned { book = left }) w.replies
-    (each-first (IsTrueReply (existed w.sender.name) w.sender.name (log_of left w.sender.name)) w.replies
-    replies moved.reported) moved
+stops_kept existed w answered later left k may runs leaves =
+    let name = w.sender.name in
+    let on = comes_each existed w answered later k may runs in
+    let d = leaves.numbers.logs name in
+    grown existed w k left (sound_first w.sender.offered (log_of later name) (log_of left name) d on.kept.sound)
+    (grows_first (existed name) (log_of w.book name) (log_of later name) (log_of left name) d (leaves.done name) on.grows)
 
 -- each step keeps the sender's part true
 steps_kept : (existed : List ℕ → Bool) (w : World) (steps : List WorldStep) (later : World) → IsKept existed w →
@@ -191,14 +224,12 @@ steps_kept : (existed : List ℕ → Bool) (w : World) (steps : List WorldStep) 
 steps_kept existed w [] later kept same = subst (IsKept existed) (sym same) kept
 steps_kept existed w (Happens e faults ∷ ss) later kept (next, more) =
     steps_kept existed (happens existed w e faults) ss later (event_true existed w e faults kept) more
-steps_kept existed w (Answers f replies after ∷ ss) later kept (next, more) =
-    steps_kept existed (record w { book = after; replies = w.replies ++ replies }) ss later
-    (comes_kept existed w f replies after kept next.0 next.1) more
-steps_kept existed w (Dies f replies after left ∷ ss) later kept (next, more) =
+steps_kept existed w (Answers answered after ∷ ss) later kept (next, more) =
+    steps_kept existed (record w { book = after; replies = w.replies ++ replies_of answered }) ss later
+    (comes_each existed w answered after kept next.0 next.1).kept more
+steps_kept existed w (Stops answered after left ∷ ss) later kept (next, more) =
     steps_kept existed (record w { book = left }) ss later
-    (dies_kept existed w f replies after left kept next.0 next.1 next.2) more
-steps_kept existed w (Stops left ∷ ss) later kept (next, more) =
-    steps_kept existed (record w { book = left }) ss later (ahead_kept existed w kept left next) more
+    (stops_kept existed w answered after left kept next.0 next.1 next.2) more
 steps_kept existed w (Starts ∷ ss) later kept (next, more) =
     steps_kept existed (record w { book = cut_book w.book }) ss later (cut_kept existed w kept) more
 

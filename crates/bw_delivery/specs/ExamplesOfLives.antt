@@ -1,5 +1,5 @@
 -- A worked row: two lives of servers over a folder, of which the first is killed while it notes a BLOCK.
-use Rattle.std.specs.Prelude.{◌≡◌, ℕ, false, Option, Some, None, List, [], ◌∷◌, ◌++◌, map, take}
+use Rattle.std.specs.Prelude.{◌≡◌, ℕ, false, Option, Some, None, List, [], ◌∷◌, ◌++◌, length, map, take}
 use Rattle.std.specs.Prelude.{if◌then◌else◌}
 use Rattle.std.specs.Str.{bytes_eq}
 use Rattle.bw_model.specs.Take.{Open, Block, Close, Stored}
@@ -71,7 +71,8 @@ second_answers =
 abbrev pub KilledInATurnExample : Type 0
 KilledInATurnExample =
     IsFolderRun nothing_stands 0 1 [] first_answers (book_with 2 1)
-    × LeavesDone example_limit nothing_first (book_with 2 1) killed_folder.journals killed_folder.files
+    × LeavesDone example_limit nothing_first (book_with 2 1) (λ name. length (journal_with 1))
+    killed_folder.journals killed_folder.files
     × IsFolderRun nothing_stands 0 0 (cut_book (book_with 2 1)) second_answers (book_with 3 3)
     × LiesIn example_limit nothing_first (book_with 3 3) (folder_with (journal_with 3))
 
@@ -81,6 +82,7 @@ module _ {X Y : Type 0} (S : StoreGhosts X) (J : JournalGhosts Y)
   -- `CameOverLinks` asks nothing of a life but its answers: with the worked trace, over the worked links, it
   -- holds of each.
   abbrev pub SentLifeExample : Type 0
-  SentLifeExample = (life : Life S J Fails Differs) → life.answered ≡ all_answered worked_trace →
+  SentLifeExample = (life : Life S J Fails Differs) → life.kept ≡ all_answered worked_trace →
+      life.unkept ≡ [] →
       CameOverLinks S J Fails Differs (record { name = a1; requests = small_take; had = [] })
       (record { life = life; trace = worked_trace; links = worked_links })

@@ -9,16 +9,17 @@ use Rattle.bw_model.specs.Replies.{Judged}
 use Rattle.bw_model.specs.Book.{Log, Book, log_of, verdict_at}
 use Rattle.bw_model.specs.Exchange.{take_in}
 use Rattle.bw_store.specs.declared.store.TakeStore.{Ghosts as StoreGhosts}
-use Rattle.bw_journal.specs.Stops.{without}
+use Rattle.bw_journal.specs.Stops.{cut_book, without}
 use Rattle.bw_journal.specs.declared.journal.Journal.{Ghosts as JournalGhosts}
 use Rattle.bw_exchange.specs.AnsweredFrames.{Answered, AnswersAll, replies_of}
 use Rattle.bw_session.specs.Books.{failures_of}
 use Rattle.bw_session.specs.declared.server.Server.{Server}
 use Rattle.bw_session.specs.SeenServers.{server_store, server_journal, server_limit}
+use Rattle.bw_kept.specs.DiskNotes.{AreOnDisk, AreCommitted}
 use Rattle.bw_kept.specs.FolderRuns.{IsFolderRun}
 use Rattle.bw_kept.specs.KeptFolders.{HasNameFault, HoldsKept}
 use Rattle.bw_kept.specs.KeptTurns.{KeptTurn}
-use Rattle.bw_kept.specs.LeftFolders.{LiesThere, LeavesDone, KnowsNone}
+use Rattle.bw_kept.specs.LeftFolders.{LiesThere, LeavesFirst, KnowsNone}
 
 -- What is in a folder: the journal and the file of each name.
 pub record Folder : Type 0 where
@@ -70,19 +71,25 @@ HasClosedFile limit first book f name =
 module _ {X Y : Type 0} (S : StoreGhosts X) (J : JournalGhosts Y)
     (Fails : List ℕ → Server X Y S J → Server X Y S J → Type 0)
     (Differs : List ℕ → Server X Y S J → Type 0) where
-  -- a server as it began and as it was stopped, and the frames that it answered
+  -- A server as it began; the frames that it answered up to its last commit that kept them all, and the
+  -- server after that commit; the frames that it answered after it, of which no reply left; the server as
+  -- it was stopped; and the folder as it was found then.
   pub record Life : Type 0 where
     pub began : Server X Y S J
-    pub answered : List Answered
+    pub kept : List Answered
+    pub committed : Server X Y S J
+    pub unkept : List Answered
     pub ended : Server X Y S J
+    pub found : Folder
 
   -- what is in a server's folder
   abbrev pub folder_of : Server X Y S J → Folder
   folder_of s = record { journals = J.notes (server_journal s); files = S.contents (server_store s) }
 
   -- A server began over a folder with an empty table, over honest store and journal, and answered these
-  -- frames. Any calls may have failed: one that is killed within a turn is as if all calls failed from
-  -- there on.
+  -- frames, of which it kept some first ones. Any calls may have failed: one that is killed within a turn
+  -- is as if all calls failed from there on. The files are found as they were, and of each name's notes
+  -- what the disk may have.
   pub record IsLife (limit : ℕ) (f : Folder) (life : Life) : Type 0 where
     pub limit_is : server_limit life.began ≡ limit
     pub empty : KnowsNone S J life.began
@@ -92,20 +99,31 @@ module _ {X Y : Type 0} (S : StoreGhosts X) (J : JournalGhosts Y)
         (folder_of life.began).files name ≡ f.files name
     pub honest : IsTrue (S.honest (server_store life.began))
     pub honest_notes : IsTrue (J.honest (server_journal life.began))
-    pub went : AnswersAll (KeptTurn S J Fails Differs) life.began life.answered life.ended
+    pub went : AnswersAll (KeptTurn S J Fails Differs) life.began life.kept life.committed
+    pub all : AreCommitted J (server_journal life.committed)
+    pub went_on : AnswersAll (KeptTurn S J Fails Differs) life.committed life.unkept life.ended
+    pub found_files : (name : List ℕ) → life.found.files name ≡ (folder_of life.ended).files name
+    pub found_notes : AreOnDisk J (server_journal life.ended) life.found.journals
 
   -- As it began it held the book; its frames were turns on that, each on what the one before left, and
-  -- it held the last. Of that, or of one in which numbers that waited are done, the done numbers lie in
-  -- its folder: the next server begins with these.
+  -- it held the last. Of that the first numbers lie in the folder that is found, at least all that were
+  -- done at the last commit, with their requests and verdicts: the next server begins with these.
   pub record LifeLeavesBook (limit : ℕ) (first : List ℕ → Option (List ℕ)) (book : Book)
       (life : Life) :
       Type 0 where
     pub began : HoldsKept S J first life.began book
-    pub later : Book
+    pub kept : Book
     pub turned : IsFolderRun (λ name. is_some (first name)) (failures_of S J life.began)
-        (failures_of S J life.ended) book life.answered later
+        (failures_of S J life.committed) book life.kept kept
+    pub later : Book
+    pub turned_on : IsFolderRun (λ name. is_some (first name)) (failures_of S J life.committed)
+        (failures_of S J life.ended) kept life.unkept later
     pub ended : HoldsKept S J first life.ended later
-    pub left : LeavesDone limit first later (folder_of life.ended).journals (folder_of life.ended).files
+    pub left : Book
+    pub numbers : LeavesFirst later left
+    pub lies : LiesIn limit first (cut_book left) life.found
+    pub keeps : (name : List ℕ) →
+        KeepsDoneNumbers (is_some (first name)) (log_of kept name) (log_of left name)
 
   -- so it is from each book that lies there
   abbrev pub LivesLeaveBooks : Type 0
@@ -116,16 +134,16 @@ module _ {X Y : Type 0} (S : StoreGhosts X) (J : JournalGhosts Y)
   -- each began over what the one before left
   abbrev pub FollowOn : ℕ → Folder → List Life → Type 0
   FollowOn limit f [] = Unit {0}
-  FollowOn limit f (life ∷ lives) = IsLife limit f life × FollowOn limit (folder_of life.ended) lives
+  FollowOn limit f (life ∷ lives) = IsLife limit f life × FollowOn limit life.found lives
 
   -- what is in the folder after some lives
   abbrev pub folder_after : Folder → List Life → Folder
   folder_after f [] = f
-  folder_after f (life ∷ lives) = folder_after (folder_of life.ended) lives
+  folder_after f (life ∷ lives) = folder_after life.found lives
 
   -- They leave a folder in which a book lies: it keeps each number that was done at first, each verdict
-  -- that one of them gave is that of a done number, each closed take has its file, and each that was
-  -- closed at first is what it was.
+  -- of a frame that one of them kept is that of a done number, each closed take has its file, and each
+  -- that was closed at first is what it was.
   pub record LivesKeepVerdicts (limit : ℕ) (first : List ℕ → Option (List ℕ)) (book : Book)
       (f : Folder)
       (lives : List Life) : Type 0 where
@@ -134,7 +152,7 @@ module _ {X Y : Type 0} (S : StoreGhosts X) (J : JournalGhosts Y)
     pub kept : (name : List ℕ) →
         KeepsDoneNumbers (is_some (first name)) (log_of book name) (log_of after name)
     pub given : (life : Life) → Contains lives life → (name : List ℕ) (n : ℕ) (v : Verdict) →
-        WasGiven life.answered name n v → IsVerdictOf (is_some (first name)) (log_of after name) n v
+        WasGiven life.kept name n v → IsVerdictOf (is_some (first name)) (log_of after name) n v
     pub closed : (name : List ℕ) → IsTrue (is_name name) →
         HasClosedFile limit first after (folder_after f lives) name
     pub stays : (name : List ℕ) → IsTrue (take_in (is_some (first name)) book name).closed →

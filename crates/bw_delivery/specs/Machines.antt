@@ -16,9 +16,10 @@ use Rattle.bw_folder.specs.TakeFolders.{takes_disk}
 use Rattle.bw_folder.specs.JournalFolders.{journals_disk}
 use Rattle.bw_journal.specs.Stops.{cut_book}
 use Rattle.bw_kept.specs.KeptServers.{table_server}
-use Rattle.bw_kept.specs.LeftFolders.{GoesAhead, LiesThere}
+use Rattle.bw_exchange.specs.AnsweredFrames.{Answered}
+use Rattle.bw_kept.specs.LeftFolders.{LeavesAtLeast, LiesThere}
 use Rattle.bw_delivery.specs.ServedWorlds.{ServesBook}
-use Rattle.bw_delivery.specs.StoppedWorlds.{Answers, Dies, IsNextStep}
+use Rattle.bw_delivery.specs.StoppedWorlds.{Answers, Stops, IsNextStep}
 use Rattle.bw_commands.specs.RehearsedWorlds.{no_contents}
 use Rattle.bw_wire.specs.Replies.{reply_of}
 use Rattle.bw_wire.specs.declared.reply.Reply.{Reply as WireReply}
@@ -79,11 +80,15 @@ abbrev pub written_to : Option WireReply → List Reply
 written_to None = []
 written_to (Some r) = reply_of r ∷ []
 
+-- a frame that was answered so
+abbrev pub one_frame : Frame → List Reply → List Answered
+one_frame f replies = record { frame = f; replies = replies } ∷ []
+
 -- The server went on: this is a turn of the world, whose replies are written.
 pub record KeepsRunning (limit : ℕ) (w : World) (f : Frame) (replies : List Reply)
     (life : Life) : Type 0 where
   pub later : Book
-  pub next : IsNextStep nothing_stands w (Answers f replies later)
+  pub next : IsNextStep nothing_stands w (Answers (one_frame f replies) later)
   pub running : IsRunning limit later life
 
 -- The server stopped in the turn, none of whose replies is written: that is a step of the world.
@@ -93,7 +98,7 @@ pub record DiesInTurn (limit : ℕ) (w : World) (f : Frame) (replies : List Repl
   pub given : List Reply
   pub later : Book
   pub left : Book
-  pub next : IsNextStep nothing_stands w (Dies f given later left)
+  pub next : IsNextStep nothing_stands w (Stops (one_frame f given) later left)
   pub stands : IsLeftAt limit left folder
 
 -- what becomes of a machine by a frame
@@ -109,7 +114,7 @@ AnswersForName limit w name machine = (replies : List Reply)
 -- another server began over what one left that held this book
 abbrev pub BeginsOverLeft : ℕ → Book → Life → Type 0
 BeginsOverLeft limit book life =
-    (left : Book) × GoesAhead book left × IsRunning limit (cut_book left) life
+    (left : Book) × LeavesAtLeast book book left × IsRunning limit (cut_book left) life
 
 -- A server started over what was left from the world's book, found a name, and stopped; another that
 -- started over what it left goes on, or none does.
@@ -118,7 +123,7 @@ pub record StartsFound (limit : ℕ) (w : World) (name : List ℕ) (machine : Ma
   pub later : Book
   pub left : Book
   pub next : IsNextStep nothing_stands (record w { book = cut_book w.book })
-      (Dies (Asks name 0) given later left)
+      (Stops (one_frame (Asks name 0) given) later left)
   pub machine_is : IsMachine limit (if runs machine then cut_book left else left) machine
 
 -- A machine was looked at: how many numbers of the name are done, if its server runs; it may have
@@ -127,7 +132,7 @@ abbrev pub ShowsNext : ℕ → World → List ℕ → ℕ → Machine → Type 0
 ShowsNext limit w name done (machines.Runs life) =
     (done ≡ (log_of w.book name).done) × IsRunning limit w.book life
 ShowsNext limit w name done (machines.Stopped folder) =
-    (left : Book) × GoesAhead w.book left × IsLeftAt limit left folder
+    (left : Book) × LeavesAtLeast w.book w.book left × IsLeftAt limit left folder
 
 -- what the disk of the journals shows at a path: the journals, and the takes' files of the other disk
 abbrev pub shown_at : (List ℕ → Option (List ℕ)) → (List ℕ → Option (List ℕ)) → List ℕ →

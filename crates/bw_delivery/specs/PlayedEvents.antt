@@ -6,9 +6,9 @@ use Rattle.bw_model.specs.Book.{Book}
 use Rattle.bw_model.specs.Turn.{good}
 use Rattle.bw_model.specs.Exchange.{nothing_stands}
 use Rattle.bw_model.specs.World as model
-use Rattle.bw_delivery.specs.StoppedWorlds.{WorldStep, Happens, Answers, Dies, Stops, Starts, WorldStepsTo}
+use Rattle.bw_delivery.specs.StoppedWorlds.{WorldStep, Happens, Answers, Stops, Starts, WorldStepsTo}
 use Rattle.bw_commands.specs.RehearsedWorlds.{event_meaning}
-use Rattle.bw_delivery.specs.Machines.{IsMachine, runs}
+use Rattle.bw_delivery.specs.Machines.{IsMachine, one_frame, runs}
 use Rattle.bw_delivery.specs.Networks.{IsNetwork}
 use Rattle.bw_delivery.specs.declared.machine.Machine.{Machine}
 use Rattle.bw_delivery.specs.declared.network.Network.{Network}
@@ -19,9 +19,9 @@ use Rattle.bw_delivery.specs.declared.event.StopEvent.TheVariants as events
 abbrev pub AnswersOrDies : Frame → List WorldStep → Bool → Type 0
 AnswersOrDies f steps on =
     ((on ≡ true) × ((replies : List Reply)
-    × ((later : Book) × (steps ≡ Answers f replies later ∷ []))))
+    × ((later : Book) × (steps ≡ Answers (one_frame f replies) later ∷ []))))
     ⊎ ((on ≡ false) × ((replies : List Reply) × ((later : Book) × ((left : Book)
-    × (steps ≡ Dies f replies later left ∷ [])))))
+    × (steps ≡ Stops (one_frame f replies) later left ∷ [])))))
 
 -- a message comes, which is lost while no server runs
 abbrev pub DeliversIf : Bool → Option Message → List WorldStep → Bool → Type 0
@@ -36,13 +36,13 @@ AsksIf false name steps on = (on ≡ false) × (steps ≡ [])
 
 -- a server that runs stops
 abbrev pub StopsIf : Bool → List WorldStep → Type 0
-StopsIf true steps = (left : Book) × (steps ≡ Stops left ∷ [])
+StopsIf true steps = (later : Book) × ((left : Book) × (steps ≡ Stops [] later left ∷ []))
 StopsIf false steps = steps ≡ []
 
 -- a server starts, is asked for a name and stops, and then another starts, or none does
 abbrev pub FindsAndStops : List ℕ → List WorldStep → List WorldStep → Type 0
 FindsAndStops name more steps = (replies : List Reply) × ((later : Book) × ((left : Book)
-    × (steps ≡ Starts ∷ Dies (Asks name 0) replies later left ∷ more)))
+    × (steps ≡ Starts ∷ Stops (one_frame (Asks name 0) replies) later left ∷ more)))
 
 -- a server starts if none runs, once one has found the name
 abbrev pub StartsIf : Bool → List ℕ → List WorldStep → Type 0

@@ -1,15 +1,16 @@
 -- A sender to servers that follow one another over a folder.
-use Rattle.std.specs.Prelude.{◌≡◌, ◌⊎◌, ◌<◌, ℕ, false, Option, Some, is_some, IsTrue, List, length, map}
+use Rattle.std.specs.Prelude.{◌≡◌, ◌⊎◌, ◌<◌, ℕ, false, Option, Some, is_some, IsTrue, List, length, map, slice_get}
 use Rattle.std.specs.List.{AllByRecursion, Contains, list_any}
 use Rattle.bw_model.specs.Bytes.{at}
 use Rattle.bw_model.specs.Take.{Request, Verdict, Stored}
 use Rattle.bw_model.specs.File.{file_of}
-use Rattle.bw_model.specs.Wire.{is_name}
+use Rattle.bw_model.specs.Wire.{Message, Says, is_name}
 use Rattle.bw_model.specs.Book.{Log, Book, log_of, made_by}
 use Rattle.bw_model.specs.Exchange.{take_in}
 use Rattle.bw_model.specs.World.{is_close}
 use Rattle.bw_store.specs.declared.store.TakeStore.{Ghosts as StoreGhosts}
 use Rattle.bw_journal.specs.declared.journal.Journal.{Ghosts as JournalGhosts}
+use Rattle.bw_exchange.specs.AnsweredFrames.{Answered}
 use Rattle.bw_session.specs.declared.server.Server.{Server}
 use Rattle.bw_connections.specs.ConnectionTables.{Tagged, all_answered}
 use Rattle.bw_delivery.specs.Deliveries.{LinkBytes, IsJoined, HasOnly, HeardOverLinks}
@@ -30,6 +31,11 @@ pub record IsItsLog (s : SenderBefore) (first : List ℕ → Option (List ℕ))
   pub only : HasOnly s.requests log
   pub kept : (n : ℕ) (v : Verdict) → Has n v → IsVerdictOf (is_some (first s.name)) log n v
 
+-- a message of its name is one of its requests
+abbrev pub IsOfRequests : SenderBefore → Answered → Type 0
+IsOfRequests s a = (m : Message) → a.frame ≡ Says m → m.name ≡ s.name →
+    slice_get s.requests m.number ≡ Some m.request
+
 -- a verdict that it had
 abbrev pub Had : SenderBefore → ℕ → Verdict → Type 0
 Had s n v = at s.had n ≡ Some v
@@ -37,16 +43,19 @@ Had s n v = at s.had n ≡ Some v
 module _ {X Y : Type 0} (S : StoreGhosts X) (J : JournalGhosts Y)
     (Fails : List ℕ → Server X Y S J → Server X Y S J → Type 0)
     (Differs : List ℕ → Server X Y S J → Type 0) where
-  -- a server's life, its frames with the numbers of the links that they came over, and the sender's links
+  -- a server's life, its kept frames with the numbers of the links that they came over, and the sender's
+  -- links
   pub record SentLife : Type 0 where
     pub life : Life S J Fails Differs
     pub trace : List Tagged
     pub links : List (ℕ × LinkBytes)
 
-  -- Those frames are the life's, and over no other link came a message of the sender's name.
+  -- Those frames are the life's, and over no other link came a message of the sender's name; and among the
+  -- frames that weren't kept each message of its name is one of its requests.
   pub record CameOverLinks (s : SenderBefore) (x : SentLife) : Type 0 where
-    pub answered : all_answered x.trace ≡ x.life.answered
+    pub answered : all_answered x.trace ≡ x.life.kept
     pub joined : IsJoined s.name s.requests x.links x.trace
+    pub unkept : AllByRecursion (IsOfRequests s) x.life.unkept
 
   -- a verdict that it had, or that a link to one of these servers gave it
   abbrev pub HasVerdict : SenderBefore → List SentLife → ℕ → Verdict → Type 0

@@ -16,6 +16,7 @@ mod network;
 mod rehearsal;
 mod server_lives;
 mod shown;
+mod stopping;
 mod takes;
 mod text;
 

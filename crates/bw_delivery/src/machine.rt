@@ -1,5 +1,5 @@
 //! A machine with a server over a folder in memory: its start, its turns, and what a stop leaves.
-ghost use Rattle.std.specs.Prelude.{◌≡◌, ◌≤◌, ◌<◌, ◌⊎◌, ℕ, [], ◌∷◌, true, false, IsTrue, IsFalse, IfOk};
+ghost use Rattle.std.specs.Prelude.{◌≡◌, ◌≤◌, ℕ, [], true, false, IfOk};
 ghost use Rattle.std.specs.Prelude.{map, length, string_bytes};
 ghost use Rattle.bw_model.specs.Wire.{Says, Asks};
 ghost use Rattle.bw_model.specs.Book.{Book};
@@ -11,14 +11,11 @@ ghost use Rattle.bw_delivery.specs.StoppedWorlds.{MayCome};
 ghost use Rattle.bw_delivery.specs.Machines.{IsRunning, IsLeftAt, IsMachine, IsUncalled, TurnsMachine, the_folder};
 ghost use Rattle.bw_delivery.specs.Machines.{AnswersForName, BeginsOverLeft, StartsFound, written_to, runs};
 ghost use Rattle.bw_delivery.specs.PlayedEvents.{LeavesBook, MayStartIf, StopsIf, StartsIf};
-ghost use Rattle.bw_folder.specs.TakeFolders.{takes_disk, takes_folder};
-ghost use Rattle.bw_folder.specs.JournalFolders.{journals_disk, journals_folder};
-ghost use Rattle.bw_session.specs.SeenServers.{server_store, server_journal};
-ghost use Rattle.bw_kept.specs.KeptServers.{table_server};
 
 use crate::asks::asked;
 use crate::event::Lives;
 use crate::shown::shown_notes;
+use crate::stopping::{goes_on, take_apart};
 use arrayvec::ArrayVec;
 use bw_disk::{MemoryDisk, MortalDisk};
 use bw_exchange::Turns;
@@ -34,7 +31,7 @@ use std::alloc::{AllocError, Global};
 pub(crate) const FOLDER: &str = "takes";
 
 /// A server over disks in memory that die.
-type MachineServer = KeptServer<
+pub(crate) type MachineServer = KeptServer<
     FolderStore<MortalDisk<MemoryDisk>>,
     FolderJournal<MortalDisk<MemoryDisk>>,
 >;
@@ -266,27 +263,9 @@ fn folder_twice(alloc: Global) -> Result<(String, String), AllocError>
     Ok((one, two))
 }
 
-/// Whether a disk of a server has died.
-fn has_died(server: &MachineServer) -> bool
-    ensures takes { IsFalse result → (takes_disk (server_store (table_server server.now))).calls
-        ≤ (takes_disk (server_store (table_server server.now))).life }
-    ensures notes { IsFalse result → (journals_disk (server_journal (table_server server.now))).calls
-        ≤ (journals_disk (server_journal (table_server server.now))).life }
-    ensures died { IsTrue result →
-        ((takes_disk (server_store (table_server server.now))).life
-        < (takes_disk (server_store (table_server server.now))).calls)
-        ⊎ ((journals_disk (server_journal (table_server server.now))).life
-        < (journals_disk (server_journal (table_server server.now))).calls) }
-{
-    let server = server.server();
-    if server.store().disk().is_dead() {
-        return true;
-    }
-    server.journal().disk().is_dead()
-}
-
-/// A message reaches a server, and its replies are put into `out`. If a disk died in this turn, the
-/// machine has stopped, and `out` has no reply: replies are sent after their turn.
+/// A message reaches a server, which commits its turn, and its replies are put into `out`. If a disk died
+/// in this turn, or the commit failed, the machine has stopped, and `out` has no reply: replies are sent
+/// after the commit.
 ///
 /// # Errors
 /// `AllocError` if the server's folder isn't the one that it started over. That doesn't happen,
@@ -306,7 +285,8 @@ pub(crate) fn turn(
     server.turn(message, out);
     // Called for its clause on how many fit.
     let _few = out.len();
-    if !has_died(&server) {
+    let kept = server.commit();
+    if goes_on(&server, kept) {
         return Ok(Machine::Runs(Life { server }));
     }
     out.clear();
@@ -314,8 +294,8 @@ pub(crate) fn turn(
     Ok(Machine::Stopped(folder))
 }
 
-/// A server is asked: its reply, and the machine. If a disk died in this turn, the machine has
-/// stopped, and there is no reply.
+/// A server is asked: its reply, and the machine. If a disk died in this turn, or the commit failed, the
+/// machine has stopped, and there is no reply.
 ///
 /// # Errors
 /// As those of `turn`.
@@ -325,7 +305,8 @@ pub(crate) fn ask(life: Life, ask: &Ask<'_>) -> Result<(Option<Reply>, Machine),
 {
     let Life { mut server } = life;
     let reply = server.ask(ask);
-    if !has_died(&server) {
+    let kept = server.commit();
+    if goes_on(&server, kept) {
         return Ok((Some(reply), Machine::Runs(Life { server })));
     }
     let folder = take_apart(server)?;
@@ -348,31 +329,4 @@ pub(crate) fn stop(machine: Machine) -> Result<Machine, AllocError>
         }
         Machine::Stopped(folder) => Ok(Machine::Stopped(folder)),
     }
-}
-
-/// What the disks of a server have.
-///
-/// # Errors
-/// `AllocError` if its folder isn't the one that it started over.
-fn take_apart(server: MachineServer) -> Result<Folder, AllocError>
-    ensures takes { IfOk result (λ folder. folder.takes
-        ≡ (takes_disk (server_store (table_server server))).inner) }
-    ensures notes { IfOk result (λ folder. folder.notes
-        ≡ (journals_disk (server_journal (table_server server))).inner) }
-    ensures store { IfOk result (λ folder.
-        takes_folder (server_store (table_server server)) ≡ the_folder) }
-    ensures journal { IfOk result (λ folder.
-        journals_folder (server_journal (table_server server)) ≡ the_folder) }
-{
-    let (store, journal) = server.into_server().into_stores();
-    if store.folder() != FOLDER {
-        return Err(AllocError);
-    }
-    if journal.folder() != FOLDER {
-        return Err(AllocError);
-    }
-    Ok(Folder {
-        takes: store.into_disk().into_inner(),
-        notes: journal.into_disk().into_inner(),
-    })
 }

@@ -8,7 +8,7 @@ ghost use Rattle.bw_kept.specs.KeptTurns.{DiskFails, DisksDiffer};
 ghost use Rattle.bw_delivery.specs.Lives.{FaultsStayAlone, LivesLeaveBooks, VerdictsOutliveServers};
 ghost use Rattle.bw_delivery.specs.Lives.{NewFoldersAreEmpty};
 ghost use Rattle.bw_delivery.specs.ExamplesOfStops.{StoppedTurnExample};
-ghost use Rattle.bw_delivery.specs.ServedWorlds.{DeathsAreSteps, StartsAreSteps, StopsAreSteps};
+ghost use Rattle.bw_delivery.specs.ServedWorlds.{StartsAreSteps, StopsAreSteps};
 ghost use Rattle.bw_delivery.specs.ServedWorlds.{TurnsAreOfWorlds};
 ghost use Rattle.bw_delivery.specs.StoppedWorlds.{StoppedWorldsAreFaithful};
 ghost use Rattle.bw_delivery.specs.Senders.{SendersCountDone};
@@ -21,8 +21,9 @@ use bw_store::TakeStore;
 
 /// A server that begins over a folder with an empty table holds the book that lies there. Wherever
 /// it is stopped, after whatever frames, of which any calls may have failed, as in a disk that died
-/// in one, the done numbers of its book lie there, or of one in which numbers that waited are done.
-/// That is what the next one begins with: a kill, a drop of a name and a start are one relation.
+/// in one, and whatever its disk has of notes that aren't committed, the first numbers of its book lie
+/// there: at least all that were done at its last commit, and at most all and the one that waits of each
+/// name. That is what the next one begins with: a kill, a drop of a name and a start are one relation.
 pub fn law_folder<D: Volume, E: Volume>()
     ensures life { LivesLeaveBooks ⟦<FolderStore<D> as TakeStore>⟧ ⟦<FolderJournal<E> as Journal>⟧
         (DiskFails D.Disk E.Disk) (DisksDiffer D.Disk E.Disk) }
@@ -36,8 +37,9 @@ pub fn law_folder<D: Volume, E: Volume>()
 }
 
 /// However many servers follow one another over a folder, each stopped wherever it was: every
-/// verdict that any of them gave is that of a done number of the last book, and each number that
-/// was done stays so, with its request and its verdict. Each closed take's file is that of the
+/// verdict of a frame that any of them committed, so that its reply might leave, is that of a done
+/// number of the last book, and each number that was done at first or at a commit stays so, with its
+/// request and its verdict. Each closed take's file is that of the
 /// take, byte for byte, and a take that was closed stays what it was.
 pub fn law_lives<D: Volume, E: Volume>()
     ensures { VerdictsOutliveServers ⟦<FolderStore<D> as TakeStore>⟧ ⟦<FolderJournal<E> as Journal>⟧
@@ -68,15 +70,15 @@ pub fn law_stopped_worlds()
     ensures { StoppedWorldsAreFaithful }
 {}
 
-/// Real servers take the steps of such a world, whichever of their calls fail. Each turn of a server
-/// that holds the world's book is one of the world; a stop within a turn, or between turns, is a step
-/// too, and what it leaves is what the next server begins with: that is the world's next one.
+/// Real servers take the steps of such a world, whichever of their calls fail. The turns of a server that
+/// holds the world's book, up to a commit that kept them, are a step of the world; a stop after any turns
+/// since then, or within one, is a step too, and what it leaves is what the next server begins with: that
+/// is the world's next one.
 pub fn law_served_worlds<D: Volume, E: Volume>()
     ensures turns { TurnsAreOfWorlds ⟦<FolderStore<D> as TakeStore>⟧ ⟦<FolderJournal<E> as Journal>⟧
         (DiskFails D.Disk E.Disk) (DisksDiffer D.Disk E.Disk) }
-    ensures deaths { DeathsAreSteps ⟦<FolderStore<D> as TakeStore>⟧ ⟦<FolderJournal<E> as Journal>⟧
+    ensures stops { StopsAreSteps ⟦<FolderStore<D> as TakeStore>⟧ ⟦<FolderJournal<E> as Journal>⟧
         (DiskFails D.Disk E.Disk) (DisksDiffer D.Disk E.Disk) }
-    ensures stops { StopsAreSteps ⟦<FolderStore<D> as TakeStore>⟧ ⟦<FolderJournal<E> as Journal>⟧ }
     ensures starts { StartsAreSteps ⟦<FolderStore<D> as TakeStore>⟧ ⟦<FolderJournal<E> as Journal>⟧ }
 {
     law_begins::<FolderStore<D>, FolderJournal<E>>();

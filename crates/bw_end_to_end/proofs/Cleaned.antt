@@ -15,11 +15,13 @@ use Rattle.bw_model.specs.Limits.{longest_history}
 use Rattle.bw_model.specs.Take.{Shape, Text, Digits, Whole, Maybe, Level, shapes, is_printable, is_history_byte}
 use Rattle.bw_model.specs.Take.{matches, not_given}
 use Rattle.bw_model.specs.ReadBack.{reported_cue}
-use Rattle.bw_plan.specs.CleanedContents.{text_cleaned_of, printable_byte, history_byte, history_of, is_separator, is_like_at}
+use Rattle.bw_plan.specs.CleanedContents.{text_cleaned_of, history_byte, history_of, is_separator, is_like_at}
 use Rattle.bw_plan.specs.CleanedContents.{is_like, placed, with_separators, are_zero, value_of, values_of, with_cue}
 use Rattle.bw_plan.specs.CleanedContents.{markers_of}
+use Rattle.bw_plan.specs.CleanedTexts.{cleaned_text}
 use Rattle.bw_plan.specs.PlanLaws.{are_markers}
 use Rattle.bw_plan.proofs.CleanParts.{history_clean, markers_clean}
+use Rattle.bw_plan.proofs.CleanTexts.{cleaned_same, text_printable}
 use Rattle.bw_end_to_end.specs.Copies.{CleansOnce}
 
 pub pushed : {X : Type 0} {x y : X} {xs ys : List X} → x ≡ y → xs ≡ ys → x ∷ xs ≡ y ∷ ys
@@ -80,9 +82,6 @@ text-whole v h = ap text_cleaned_of (sym (append-nil v)) ∙ text-padded v 0 h
 
 pub printable_text : (v : List ℕ) → list_all is_printable v ≡ true → list_all is_some_byte v ≡ true
 printable_text v h = all-weaker is_printable is_some_byte printable_some v h
-
-pub printable-same : (v : List ℕ) → list_all is_printable v ≡ true → map printable_byte v ≡ v
-printable-same v h = map-same is_printable printable_byte (λ c e. ap (λ (x : Bool). cond x c 63) e) v h
 
 -- a history that may be stored
 pub history_text : (v : List ℕ) → list_all is_history_byte v ≡ true → text_cleaned_of v ≡ v
@@ -191,24 +190,11 @@ is_plain (Whole w) = true
 is_plain (Maybe w) = true
 is_plain Level = true
 
-printable : (c : ℕ) → is_printable (printable_byte c) ≡ true
-printable c = go (is_printable c) refl
-  where
-    go : (v : Bool) → is_printable c ≡ v → is_printable (cond v c 63) ≡ true
-    go true e = e
-    go false e = refl
-
-all_printable : (cs : List ℕ) → list_all is_printable (map printable_byte cs) ≡ true
-all_printable [] = refl
-all_printable (c ∷ cs) =
-    and_from (is_printable (printable_byte c)) (list_all is_printable (map printable_byte cs)) (printable c)
-    (all_printable cs)
-
 value-again : (s : Shape) (bytes : List ℕ) → is_plain s ≡ true → value_of s (value_of s bytes) ≡ value_of s bytes
 value-again (Text w) bytes p =
-    let v = map printable_byte (text_cleaned_of bytes) in
-    let fine = all_printable (text_cleaned_of bytes) in
-    ap (map printable_byte) (text-whole v (printable_text v fine)) ∙ printable-same v fine
+    let v = cleaned_text (text_cleaned_of bytes) in
+    let fine = text_printable (text_cleaned_of bytes) in
+    ap cleaned_text (text-whole v (printable_text v fine)) ∙ cleaned_same v fine
 value-again (Digits []) bytes p = absurd (false≢true p)
 value-again (Digits (f ∷ fs)) bytes p = go (is_like form text) refl
   where
@@ -247,7 +233,7 @@ value-again Level bytes p = go (bytes_eq bytes not_given) refl
 
 -- of no bytes there is no value
 value-none : (s : Shape) → is_plain s ≡ true → value_of s [] ≡ []
-value-none (Text w) p = refl
+value-none (Text w) p = cleaned_same [] refl
 value-none (Digits []) p = absurd (false≢true p)
 value-none (Digits (f ∷ fs)) p = refl
 value-none (Whole w) p = refl

@@ -26,6 +26,8 @@ use Rattle.bw_plan.specs.PlanLaws.{take_made_of, fields_of, are_markers}
 use Rattle.bw_plan.specs.Recordings.{Options, Outline, Recording, FileNotes, recording_of, outline, outline_of}
 use Rattle.bw_plan.specs.Recordings.{format_faults, faults_of_content, bext_fields, given_count, piece_count}
 use Rattle.bw_plan.specs.Recordings.{request_count, block_frames, head_place, samples_of, notes_of, is_bext_kept}
+use Rattle.bw_plan.specs.Strictness.{refuses_texts}
+use Rattle.bw_plan.specs.declared.options.Strictness.{Strictness}
 use Rattle.bw_plan.proofs.FaultLists.{outlined, fits_block}
 use Rattle.bw_plan.proofs.Openings.{reads_as, recorded_as}
 use Rattle.bw_plan.proofs.PlanLaws.{align_is_some, pieces_hold, plans_make_takes}
@@ -87,7 +89,7 @@ fewer_given (s ∷ ss) (v ∷ values) =
 fewer_frames : (k q : ℕ) → max 1 (min k q) ≤ max 1 (min q q)
 fewer_frames k q = omega arith
 
-copy_few : (o : Options) (r : Recording) (strict : Bool) → 1 ≤ block_align r.outline.format →
+copy_few : (o : Options) (r : Recording) (strict : Strictness) → 1 ≤ block_align r.outline.format →
     request_count (block_frames o r.outline.format) r.outline ≤ 16777216 →
     request_count (block_frames (read_again strict) r.outline.format) (copy_of r).outline ≤ 16777216
 copy_few o r strict some few =
@@ -208,7 +210,7 @@ bext_kept o r limit c =
     and_from _ _ (texts_are_kept r.outline.values c.room.values c.whole.clean.values)
     (history_kept r.outline.history c.whole.clean.history c.room.history)
 
-no_content_fault : (o : Options) (r : Recording) (limit : ℕ) (strict : Bool) → IsCarried o r →
+no_content_fault : (o : Options) (r : Recording) (limit : ℕ) (strict : Strictness) → IsCarried o r →
     first_that_holds (faults_of_content (read_again strict) (copy_notes r limit) (copy_of r).outline) ≡ None
 no_content_fault o r limit strict c =
     let few = copy_few o r strict (align_is_some r.outline.format c.whole.clean.format) c.few in
@@ -216,10 +218,10 @@ no_content_fault o r limit strict c =
     first-none (faults_of_content (read_again strict) (copy_notes r limit) (copy_of r).outline) (
       ap (λ (k : ℕ). not (k == 0)) c.whole.clean.whole,
       (
-        ap (λ (v : Bool). strict && not v) (bext_kept o r limit c) ∙ and-false strict,
+        ap (λ (v : Bool). refuses_texts strict && not v) (bext_kept o r limit c) ∙ and-false (refuses_texts strict),
         (
-          ap (λ (v : Bool). strict && v) (le-ltb (length ms) (length (map reported_cue ms))
-              (let l = length-map ms reported_cue in omega (arith, l))) ∙ and-false strict,
+          ap (λ (v : Bool). refuses_texts strict && v) (le-ltb (length ms) (length (map reported_cue ms))
+              (let l = length-map ms reported_cue in omega (arith, l))) ∙ and-false (refuses_texts strict),
           (
             le-ltb 16777216 (request_count (block_frames (read_again strict) r.outline.format)
                 (copy_of r).outline) few,
@@ -258,7 +260,7 @@ outline_read o r limit c n =
 
 -- All of it.
 
-file_read : (o : Options) (r : Recording) (limit : ℕ) (strict : Bool) → IsCarried o r → HasNumbers r.outline →
+file_read : (o : Options) (r : Recording) (limit : ℕ) (strict : Strictness) → IsCarried o r → HasNumbers r.outline →
     block_align r.outline.format ≤ 32768 → limit ≤ 4294967294 →
     recording_of (file_with r.outline.format (take_made_of r) limit) (read_again strict) ≡ Ok (copy_of r)
 file_read o r limit strict c n low below =

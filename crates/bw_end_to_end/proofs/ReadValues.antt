@@ -12,11 +12,13 @@ use Rattle.bw_model.specs.Take.{is_length_allowed, are_bytes_allowed, FieldFault
 use Rattle.bw_model.specs.Wire.{is_below, are_bytes}
 use Rattle.bw_model.proofs.BookLemmas.{name_refl}
 use Rattle.bw_model.proofs.FieldLaws.{length-field_bytes}
-use Rattle.bw_plan.specs.CleanedContents.{text_cleaned_of, printable_byte, is_like, with_separators, are_zero, value_of}
+use Rattle.bw_plan.specs.CleanedContents.{text_cleaned_of, is_like, with_separators, are_zero, value_of}
 use Rattle.bw_plan.specs.PlanLaws.{fields_of, are_values}
 use Rattle.bw_plan.proofs.CleanParts.{is_value}
 use Rattle.bw_end_to_end.specs.Copies.{is_not_given, given_value}
-use Rattle.bw_end_to_end.proofs.Cleaned.{pushed, text-padded, printable_text, printable-same, like_text, of_form, is_plain}
+use Rattle.bw_plan.specs.CleanedTexts.{cleaned_text}
+use Rattle.bw_plan.proofs.CleanTexts.{cleaned_same}
+use Rattle.bw_end_to_end.proofs.Cleaned.{pushed, text-padded, printable_text, like_text, of_form, is_plain}
 
 -- What is allowed.
 
@@ -138,7 +140,7 @@ nothing_given false = refl
 
 -- what isn't given reads as nothing
 none-read : (s : Shape) → is_plain s ≡ true → value_of s (field_bytes s []) ≡ []
-none-read (Text w) p = ap (map printable_byte) (text-read (Text w) [] refl refl refl)
+none-read (Text w) p = ap cleaned_text (text-read (Text w) [] refl refl refl) ∙ cleaned_same [] refl
 none-read (Digits []) p = absurd (false≢true p)
 none-read (Digits (f ∷ fs)) p =
     ap (λ (t : List ℕ). cond (is_like (f ∷ fs) t) (with_separators (f ∷ fs) t) [])
@@ -158,8 +160,8 @@ whole_long c cs w h = go (or_cases (length (c ∷ cs) == 0) (length (c ∷ cs) =
 some-read : (s : Shape) (c : ℕ) (cs : List ℕ) → is_plain s ≡ true → is_value s (c ∷ cs) ≡ true →
     value_of s (field_bytes s (c ∷ cs)) ≡ given_value s (c ∷ cs)
 some-read (Text w) c cs p h =
-    ap (map printable_byte) (text-read (Text w) (c ∷ cs) refl p h)
-    ∙ printable-same (c ∷ cs) (allowed (Text w) c cs h).bytes
+    ap cleaned_text (text-read (Text w) (c ∷ cs) refl p h)
+    ∙ cleaned_same (c ∷ cs) (allowed (Text w) c cs h).bytes
 some-read (Digits []) c cs p h = absurd (false≢true p)
 some-read (Digits (f ∷ fs)) c cs p h =
     let of = of_form (f ∷ fs) (c ∷ cs) p (allowed (Digits (f ∷ fs)) c cs h).bytes in

@@ -16,10 +16,11 @@ use Rattle.bw_ports.specs.declared.dial.Dial.{Ghosts as DialGhosts}
 use Rattle.bw_ports.specs.declared.pause.Pause.{Ghosts as PauseGhosts}
 use Rattle.bw_plan.specs.Plans.{plan, field_requests, block_requests, mark_request}
 use Rattle.bw_plan.specs.Recordings.{Options, Recording, block_frames, recording_of}
+use Rattle.bw_plan.specs.declared.options.Strictness.{Strictness}
 use Rattle.bw_recorder.proofs.Statuses.{kind_ends, memory_ends, refused_ends, unopened_ends, usage_ends}
 use Rattle.bw_recorder.specs.Packs.{Packing, IsOpenReport}
 use Rattle.bw_recorder.specs.declared.fault.OpenFault.{OpenFault}
-use Rattle.bw_recorder.specs.declared.fault.OpenFault.TheVariants.{Unopened, Refused, Changed}
+use Rattle.bw_recorder.specs.declared.fault.OpenFault.TheVariants.{Unopened, Refused, Lossy, Changed}
 use Rattle.bw_upload.specs.declared.feed.Feed.{Ghosts as FeedGhosts}
 use Rattle.bw_send_file.specs.FileSendings.{RefusesToSend, errand_of}
 use Rattle.bw_send_file.specs.Sendings.{Errand}
@@ -60,6 +61,7 @@ open_ends command path (Unopened error) exit print (did, same, faults, inl x) do
 open_ends command path (Unopened error) exit print (did, same, faults, inr x) done =
     memory_ends (sym x.exit_is ∙ same ∙ done)
 open_ends command path (Refused f) exit print h done = kind_ends f.kind (sym h.0 ∙ done)
+open_ends command path (Lossy text) exit print h done = refused_ends (sym h.0 ∙ done)
 open_ends command path Changed exit print h done = refused_ends (sym h.0 ∙ done)
 
 module _ {F P D R W T : Type 0} (feed : FeedGhosts F FeedFault) (pause : PauseGhosts P)
@@ -67,7 +69,7 @@ module _ {F P D R W T : Type 0} (feed : FeedGhosts F FeedFault) (pause : PauseGh
     (done_feeds : DoneFeedsAreStored feed pause dial reader writer)
     (uploads : (most : Option ℕ) → UploadsSendRequests feed pause dial reader writer most)
     (promise : Promise kind) where
-  refusal_ends : (path : List ℕ) (file : Option (List ℕ)) (texts : List (List ℕ)) (strict : Bool) (frames : Option ℕ)
+  refusal_ends : (path : List ℕ) (file : Option (List ℕ)) (texts : List (List ℕ)) (strict : Strictness) (frames : Option ℕ)
       (did : Packing) → RefusesToSend feed pause dial reader writer path file texts strict frames did →
       did.exit ≡ exits.Done → ⊥
   refusal_ends path file texts strict frames did (inl x) done = usage_ends (sym x.exit_is ∙ done)
@@ -113,12 +115,12 @@ module _ {F P D R W T : Type 0} (feed : FeedGhosts F FeedFault) (pause : PauseGh
 
   pub sent_files_are_copied : SentFilesAreCopied feed pause dial reader writer kind
   sent_files_are_copied recorder file b old new did bytes (inl refused) done =
-      absurd (refusal_ends file.path.now (Some b) (map string_bytes file.settings.now) file.is_strict file.frames did
+      absurd (refusal_ends file.path.now (Some b) (map string_bytes file.settings.now) file.strict file.frames did
       refused.0 done)
   sent_files_are_copied recorder file b old new did bytes (inr (o, asked, went)) done =
       let fed = went.right b refl in
       let e : Errand = errand_of recorder file in
-      let spelled = options_spelled (map string_bytes file.settings.now) file.is_strict file.frames o asked in
+      let spelled = options_spelled (map string_bytes file.settings.now) file.strict file.frames o asked in
       let stores = done_feeds e went.begun went.ended old new went.sent went.sends (sym went.exit_is ∙ done)
       (plan (block_frames o fed.recording.outline.format) fed.recording) fed.gives in
       record {

@@ -46,7 +46,7 @@ module _ {F P D R W T : Type 0} (feed : FeedGhosts F FeedFault) (pause : PauseGh
       SendsSamplesCopy feed pause dial reader writer kind recorder file b old new o r
   samples_copied recorder file b old new did o begun r bytes asked went done is left =
       let e : Errand = errand_of recorder file.file in
-      let spelled = options_spelled (map string_bytes file.file.settings.now) file.file.is_strict file.file.frames o
+      let spelled = options_spelled (map string_bytes file.file.settings.now) file.file.strict file.file.frames o
       asked in
       let stores = done_feeds e begun went.ended old new went.sent went.sends (sym went.exit_is ∙ done) (plan_by o r)
       left in

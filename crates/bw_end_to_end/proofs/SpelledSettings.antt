@@ -19,6 +19,7 @@ use Rattle.bw_plan.specs.AllowedSettings.{is_setting, are_settings}
 use Rattle.bw_plan.specs.Recordings.{Setting, Field, History, Options}
 use Rattle.bw_plan.specs.SettingTexts.{setting_of, spelled_setting, spelled_field, spelled_value, decoded_value}
 use Rattle.bw_plan.specs.SettingTexts.{number_of, level_of, tag_of, allowed}
+use Rattle.bw_plan.specs.declared.options.Strictness.{Strictness}
 use Rattle.bw_plan.proofs.WholeRecordings.{not_ok, ok_inj}
 use Rattle.bw_recorder.specs.SettingLists.{settings_after, options_of}
 use Rattle.bw_end_to_end.specs.Copies.{is_setting_of_bytes}
@@ -205,7 +206,7 @@ settings_spelled kept (text ∷ texts) ss h k =
     go (Some s) e h rest = rest s h (one_more kept s k (setting_spelled text s e))
 
 -- what texts spell is allowed, and of bytes
-pub options_spelled : (texts : List (List ℕ)) (strict : Bool) (frames : Option ℕ) (o : Options) →
+pub options_spelled : (texts : List (List ℕ)) (strict : Strictness) (frames : Option ℕ) (o : Options) →
     options_of texts strict frames ≡ Some o → AreSpelled o.settings
 options_spelled texts strict frames o h = go (settings_after [] texts) refl h
   where

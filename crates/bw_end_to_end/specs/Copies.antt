@@ -17,6 +17,7 @@ use Rattle.bw_plan.specs.PcmRecordings.{pcm_recording_of}
 use Rattle.bw_plan.specs.Plans.{plan}
 use Rattle.bw_plan.specs.Recordings.{Options, no_options, Recording, Setting, Field, History}
 use Rattle.bw_plan.specs.Recordings.{recording_of, block_frames}
+use Rattle.bw_plan.specs.declared.options.Strictness.{Strictness}
 use Rattle.bw_plan.specs.declared.pcm.Pcm.{Pcm}
 
 -- the bytes of a field mean that it isn't given: a time or a UMID of zero, a level of 7FFFh
@@ -55,12 +56,12 @@ is_setting_of_bytes (Field tag v) = are_bytes v
 is_setting_of_bytes (History history) = true
 
 -- how a file is read that was written already: nothing is set, and cleaning may be refused
-abbrev pub read_again : Bool → Options
+abbrev pub read_again : Strictness → Options
 read_again strict = record no_options { strict = strict }
 
 -- There is a file, and it reads as this recording, also where nothing may be cleaned.
 abbrev pub ReadsAsRecording : Option (List ℕ) → Recording → Type 0
-ReadsAsRecording file r = (strict : Bool) →
+ReadsAsRecording file r = (strict : Strictness) →
     option_map (λ b. recording_of b (read_again strict)) file ≡ Some (Ok r)
 
 -- The file of the take that the recording's requests make reads as the recording's copy, whatever

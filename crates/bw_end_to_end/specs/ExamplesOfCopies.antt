@@ -8,6 +8,7 @@ use Rattle.bw_model.specs.ExampleWords.{hex, mono, small_file, cue_file, two_fra
 use Rattle.bw_plan.specs.Plans.{plan}
 use Rattle.bw_plan.specs.Recordings.{Options, no_options, Field, Recording, FaultAt, recording_of}
 use Rattle.bw_plan.specs.PcmRecordings.{pcm_recording_of}
+use Rattle.bw_plan.specs.declared.options.Strictness.TheVariants.{Texts}
 use Rattle.bw_plan.specs.ExamplesOfPlans.{planned, changed, extensible_file, mono_after}
 use Rattle.bw_end_to_end.specs.Copies.{read_again}
 
@@ -32,17 +33,17 @@ SameFileExample = CopiesTo small_file small_file × CopiesTo cue_file cue_file
 abbrev pub ExtensibleCopyExample : Type 0
 ExtensibleCopyExample = CopiesTo extensible_file small_file
 
--- a UTF-8 letter becomes two question marks, a date gets its own separators, and no other byte of
+-- a letter of UTF-8 loses its accent, a date gets its own separators, and no other byte of
 -- the file differs
 abbrev pub CleanedCopyExample : Type 0
 CleanedCopyExample =
-    CopiesTo (changed 80 (hex "4dc3bc72")) (changed 80 (codes "M??r"))
+    CopiesTo (changed 80 (hex "4dc3bc72")) (changed 80 (codes "Mur"))
     × CopiesTo (changed 400 (codes "2024.05:01")) (changed 400 (codes "2024-05-01"))
 
 -- the file of what is cleaned reads as the cleaned recording, also where nothing may be cleaned
 abbrev pub ReadAgainExample : Type 0
 ReadAgainExample =
-    recording_of (changed 80 (codes "M??r")) (read_again true)
+    recording_of (changed 80 (codes "Mur")) (read_again Texts)
     ≡ recording_of (changed 80 (hex "4dc3bc72")) no_options
 
 -- A time that is set to zero is sent, but its file is the one without it, and reads so: there the

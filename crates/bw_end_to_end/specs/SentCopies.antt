@@ -85,7 +85,7 @@ module _ {F P D R W T : Type 0} (feed : FeedGhosts F FeedFault) (pause : PauseGh
   pub record SendsCopy (recorder : Recorder) (file : RecordingFile) (b : List ℕ)
       (old new : Ways P D) : Type 0 where
     pub o : Options
-    pub asked : options_of (map string_bytes file.settings.now) file.is_strict file.frames ≡ Some o
+    pub asked : options_of (map string_bytes file.settings.now) file.strict file.frames ≡ Some o
     pub recording : Recording
     pub is : recording_of b o ≡ Ok recording
     pub begun : F

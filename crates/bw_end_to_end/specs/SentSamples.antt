@@ -43,7 +43,7 @@ module _ {F P D R W T : Type 0} (feed : FeedGhosts F FeedFault) (pause : PauseGh
   -- the command line spells these options
   abbrev pub HasOptions : PcmFile → Options → Type 0
   HasOptions file o =
-      options_of (map string_bytes file.file.settings.now) file.file.is_strict file.file.frames
+      options_of (map string_bytes file.file.settings.now) file.file.strict file.file.frames
       ≡ Some o
 
   -- It is so of a file of these bytes, if `send --file --pcm` ended with status 0, whatever its

@@ -36,7 +36,7 @@ pub enum FeedError {
 /// One exchange with a recorder, between the pieces of its bytes.
 ///
 /// While it wants to read it holds at most 32,809 bytes of frames, in a block of at most 65,618;
-/// else at most 295,289, in a block that is no larger. It holds at most 65,600 bytes of replies.
+/// else at most 557,769, in a block that is no larger. It holds at most 65,600 bytes of replies.
 /// While replies aren't taken, no more frames are answered, and so no more bytes are wanted.
 #[derive(Drop)]
 pub struct Exchange {
@@ -114,7 +114,7 @@ impl Exchange {
         self.outgoing.as_slice()
     }
 
-    /// Feeds the next piece, of at most 262,480 bytes, to an exchange that wants to read.
+    /// Feeds the next piece, of at most 524,960 bytes, to an exchange that wants to read.
     ///
     /// # Errors
     /// `TooLong` if more than 2^62 bytes would have been fed; `Memory` if memory was refused, never

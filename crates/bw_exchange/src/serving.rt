@@ -19,9 +19,9 @@ use bw_stream::{IoFailed, Sink, Source, write_all};
 use bw_wire::WireFault;
 use std::alloc::Global;
 
-/// The longest piece of messages that is read, in bytes: eight of the longest frames, so that their
-/// digests can be computed at once.
-pub const MESSAGE_PIECE: usize = 262_480;
+/// The longest piece of messages that is read, in bytes: sixteen of the longest frames, which a sender
+/// may have on the way, so that their digests are computed at once and one commit is for all of them.
+pub const MESSAGE_PIECE: usize = 524_960;
 
 /// How many frames more than one are answered between two commits, at most.
 const MOST_IN_BATCH: usize = 1 << 20;
@@ -169,7 +169,7 @@ fn feed_piece(exchange: &mut Exchange, piece: &[u8]) -> Result<(), ExchangeEnd>
     match exchange.feed(piece) {
         Ok(()) => Ok(()),
         Err(FeedError::Memory) => Err(ExchangeEnd::Memory),
-        // 2^32 reads of at most 262,480 bytes never exceed 2^62 bytes.
+        // 2^32 reads of at most 524,960 bytes never exceed 2^62 bytes.
         Err(FeedError::TooLong) => unreachable!(),
     }
 }

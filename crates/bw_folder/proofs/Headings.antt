@@ -1,6 +1,6 @@
 -- What putting a header at the start of a file leaves.
 use Rattle.std.proofs.Common.{◌≡◌, ◌∙◌, ℕ, ◌+◌, ◌<◌, ◌≤◌, List, ◌++◌, length, take, drop, Option, Some, None, refl, sym, ap, subst}
-use Rattle.std.proofs.Common.{arith, inl, inr, IsSome, true, false, ◌⊎◌}
+use Rattle.std.proofs.Common.{arith, inl, inr, IsSome, IsTrue, Bool, true, false, ◌⊎◌}
 use Rattle.std.specs.Prelude.{min, option_map, OnErr, Result, Ok, Err}
 use Rattle.std.proofs.lemmas.List.{take_all, take-append-drop, length-append}
 use Rattle.bw_model.proofs.Elements.{some_inj}
@@ -96,3 +96,19 @@ pub failed_started : {T E : Type 0} (r : Result T E) (h : List ℕ) (before mid 
     Starts h before mid → after ≡ mid → OnErr r (StartsInPart h before after)
 failed_started (Ok x) h before mid after starts same = tt
 failed_started (Err e) h before mid after starts same = started_in_part h before mid after starts same
+
+-- A journal didn't begin: bytes of the name wait, and the same is noted; or none do, and what is noted is what the file has.
+pub begin_failed : {T E : Type 0} (r : Result T E) (h : List ℕ) (waits : Bool) (noted noted' found found' : Option (List ℕ)) →
+    (waits ≡ false → (noted ≡ found) × (noted' ≡ found')) → (IsTrue waits → noted' ≡ noted) →
+    OnErr r (StartsInPart h found found') → OnErr r (StartsInPart h noted noted')
+begin_failed (Ok x) h waits noted noted' found found' idle busy failed = tt
+begin_failed (Err e) h waits noted noted' found found' idle busy failed = go waits refl
+  where
+    go : (b : Bool) → waits ≡ b → StartsInPart h noted noted'
+    go true is =
+        let same : noted' ≡ noted = busy is in
+        record { prefix = λ p. subst (IsPrefixOf h) (sym same) p; kept = λ w. same; only = inl same }
+    go false is =
+        let both = idle is in
+        subst (λ (o : Option (List ℕ)). StartsInPart h noted o) (sym both.1)
+        (subst (λ (o : Option (List ℕ)). StartsInPart h o found') (sym both.0) failed)

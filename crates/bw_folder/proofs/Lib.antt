@@ -4,6 +4,12 @@ pub mod Headings
 pub mod JournalPaths
 pub mod Existences
 pub mod JournalNames
+pub mod SyncLaws
+pub mod PendingLaws
+pub mod PendingForms
+pub mod NoteKeeping
+pub mod ChangedJournals
+pub mod CommitForms
 pub mod HeaderKeeping
 pub mod ClosedTakes
 pub mod ClosedNames

@@ -1,5 +1,5 @@
 -- What is found and restored of a name, where its two files are in a folder.
-use Rattle.std.proofs.Common.{◌≡◌, ℕ, List, Option, Some, None, Ok, Err, refl, sym, ◌∙◌, subst}
+use Rattle.std.proofs.Common.{◌≡◌, ℕ, List, false, Option, Some, None, Ok, Err, refl, sym, ◌∙◌, subst}
 use Rattle.std.specs.Prelude.{Result, IfOk, OnOk, IfNone, IfSome, IsSome, IsTrue}
 use Rattle.bw_disk.specs.declared.reading.ReadFault.{ReadFault}
 use Rattle.bw_recovery.specs.Findings.{IsFound, IsRestored, SparesFile, leaves_take}
@@ -9,7 +9,13 @@ use Rattle.bw_recovery.specs.Restorings.{is_refused}
 use Rattle.bw_recovery.specs.declared.finding.Finding.{Finding}
 use Rattle.bw_recovery.specs.declared.finding.Finding.TheVariants.{Refused, Unbegun, Begun}
 use Rattle.bw_folder.specs.Folders.{take_path}
-use Rattle.bw_folder.specs.Journals.{journal_path}
+use Rattle.std.specs.List.{list_any}
+use Rattle.bw_store.specs.Stores.{KeepsOthers}
+use Rattle.bw_folder.specs.declared.journal.OpenJournal.{OpenJournal}
+use Rattle.bw_folder.specs.Journals.{journal_path, notes_at}
+use Rattle.bw_folder.specs.PendingNotes.{pendings, unwritten_of, waits, noted_at}
+use Rattle.bw_folder.proofs.PendingLaws.{noted_idle}
+use Rattle.bw_folder.proofs.PendingForms.{none_waits}
 use Rattle.bw_folder.specs.RecoveredNames.{FindsName, RestoresName}
 
 -- what is at each path of a disk
@@ -105,3 +111,17 @@ pub refused_leaves : (finding : Finding) → IsTrue (is_refused finding) → IsT
 refused_leaves (Refused cause) e = refl
 refused_leaves Unbegun e = absurd cc
 refused_leaves (Begun b) e = absurd cc
+
+-- what changes besides a name's journal, at its path in the same folder
+pub notes_others : (inner folder name : List ℕ) (before after : Contents) → inner ≡ folder →
+    KeepsOthers before after (notes_path inner name) → KeepsOthers before after (journal_path folder name)
+unfolding journal_path path_with
+notes_others inner folder name before after same others =
+    subst (λ (f : List ℕ). KeepsOthers before after (notes_path f name)) same others
+
+-- nothing is pending of any name: what is noted is what the files have
+pub noted_idly : {F : Type 0} (js : List (OpenJournal F)) (contents : Contents) (folder name : List ℕ) →
+    list_any (λ (j : OpenJournal F). waits j.pending.items) js ≡ false →
+    noted_at (pendings js) contents folder name ≡ notes_at contents folder name
+noted_idly js contents folder name none =
+    noted_idle (unwritten_of (pendings js) name) (notes_at contents folder name) (none_waits js none name)

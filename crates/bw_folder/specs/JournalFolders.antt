@@ -1,9 +1,11 @@
 -- What is seen of the journals in a folder.
-use Rattle.std.specs.Prelude.{◌≡◌, ℕ, Bool, List, Option, string_bytes}
+use Rattle.std.specs.Prelude.{◌≡◌, ℕ, Bool, List, Option, string_bytes, length}
+use Rattle.std.specs.Option.{option_map_or}
 use Rattle.bw_disk.specs.declared.disk.Disk.{Ghosts}
 use Rattle.bw_journal.specs.JournalHeaders.{Header}
 use Rattle.bw_folder.specs.Folders.{take_path}
 use Rattle.bw_folder.specs.Journals.{journal_path, notes_at, existences, header_at}
+use Rattle.bw_folder.specs.PendingNotes.{UnwrittenNotes, pendings, unwritten_of, waits, noted_with}
 use Rattle.bw_folder.specs.SyncOrders.{IsSyncedAt}
 use Rattle.bw_folder.specs.declared.journal.FolderJournal.{FolderJournal}
 
@@ -42,9 +44,29 @@ module _ {D F : Type 0} {G : Ghosts D F} where
   abbrev pub journals_failures : FolderJournal D F G → ℕ
   journals_failures j = j.failures
 
-  -- what is noted under a name
+  -- what is pending of each open journal, by name
+  abbrev pub unwritten_in : FolderJournal D F G → List (List ℕ × UnwrittenNotes)
+  unwritten_in j = pendings j.journals.items
+
+  -- whether bytes of a name are pending
+  abbrev pub has_pending : FolderJournal D F G → List ℕ → Bool
+  has_pending j name = waits (unwritten_of (unwritten_in j) name).bytes
+
+  -- and whether a number among them wrote to its take's file
+  abbrev pub writes_pending : FolderJournal D F G → List ℕ → Bool
+  writes_pending j name = (unwritten_of (unwritten_in j) name).writes
+
+  -- what the file of a name's journal has
+  abbrev pub journal_on_disk : FolderJournal D F G → List ℕ → Option (List ℕ)
+  journal_on_disk j name = notes_at (G.contents j.disk) (string_bytes j.folder) name
+
+  -- what is noted under a name: that, and what is pending
   abbrev pub noted_in_folder : FolderJournal D F G → List ℕ → Option (List ℕ)
-  noted_in_folder j name = notes_at (G.contents j.disk) (string_bytes j.folder) name
+  noted_in_folder j name = noted_with (unwritten_of (unwritten_in j) name) (journal_on_disk j name)
+
+  -- how many bytes of it a stop leaves: those in the file
+  abbrev pub committed_in : FolderJournal D F G → List ℕ → ℕ
+  committed_in j name = option_map_or length (journal_on_disk j name) 0
 
   -- what the journal of a name begins with
   abbrev pub header_in_folder : FolderJournal D F G → List ℕ → Header

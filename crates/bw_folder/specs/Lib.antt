@@ -2,6 +2,8 @@ pub mod Folders
 pub mod Journals
 pub mod SyncOrders
 pub mod FileNotes
+pub mod PendingNotes
 pub mod TakeFolders
 pub mod JournalFolders
+pub mod Commits
 pub mod RecoveredNames

@@ -12,7 +12,7 @@ use Rattle.bw_recovery.specs.declared.finding.Finding.{Finding}
 use Rattle.bw_folder.specs.Folders.{take_path}
 use Rattle.bw_folder.specs.TakeFolders.{takes_disk, takes_folder, open_takes, takes_calls}
 use Rattle.bw_folder.specs.TakeFolders.{takes_failures, take_in_folder, KeepsSyncs}
-use Rattle.bw_folder.specs.JournalFolders.{journals_disk, journals_folder, open_journals}
+use Rattle.bw_folder.specs.JournalFolders.{journals_disk, journals_folder, open_journals, unwritten_in}
 use Rattle.bw_folder.specs.JournalFolders.{journals_failures, failed_sync_in, noted_in_folder, SameSettings}
 use Rattle.bw_folder.specs.declared.folder.FolderStore.{FolderStore}
 use Rattle.bw_folder.specs.declared.journal.FolderJournal.{FolderJournal}
@@ -43,10 +43,12 @@ module _ {D F : Type 0} {G : Ghosts D F} where
     pub failures : takes_failures new ≡ takes_failures old
     pub syncs : KeepsSyncs old new
 
-  -- The journal has the same settings and open journals, and no call or sync of it has failed.
+  -- The journal has the same settings and open journals, the same is pending, and no call or sync of it
+  -- has failed.
   pub record KeepsFolderJournal (old new : FolderJournal D F G) : Type 0 where
     pub settings : SameSettings old new
     pub journals : open_journals new ≡ open_journals old
+    pub pending : unwritten_in new ≡ unwritten_in old
     pub failures : journals_failures new ≡ journals_failures old
     pub failed_sync : failed_sync_in new ≡ failed_sync_in old
 

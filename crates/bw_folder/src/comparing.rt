@@ -3,8 +3,9 @@ ghost use Rattle.std.specs.Prelude.{◌≡◌, ◌↔◌, IsTrue, IfOk, is_some}
 ghost use Rattle.bw_store.specs.Stores.{Counts};
 ghost use Rattle.bw_disk.specs.DiskSteps.{StaysWhole};
 ghost use Rattle.bw_disk.specs.ReadFaults.{is_disk_fault};
+ghost use Rattle.bw_disk.specs.Volumes.{KeepsEach};
 ghost use Rattle.bw_folder.specs.TakeFolders.{takes_disk};
-ghost use Rattle.bw_folder.specs.JournalFolders.{journals_disk};
+ghost use Rattle.bw_folder.specs.JournalFolders.{journals_disk, noted_in_folder};
 ghost use Rattle.bw_folder.specs.RecoveredNames.{KeepsStore, KeepsFolderJournal, CountsIn, ShowsAlike};
 
 use crate::folder::FolderStore;
@@ -32,6 +33,8 @@ pub fn shows_alike<D: Volume, E: Volume>(
     ensures notes { StaysWhole E.Disk (journals_disk journal.old) (journals_disk journal.new) }
     ensures store { KeepsStore store.old store.new }
     ensures journal { KeepsFolderJournal journal.old journal.new }
+    ensures noted { IsTrue (E.honest (journals_disk journal.old)) →
+        KeepsEach (noted_in_folder journal.old) (noted_in_folder journal.new) }
     // Both have a file of it, or neither has one.
     ensures alike { IsTrue (D.honest (takes_disk store.old)) → IsTrue (E.honest (journals_disk journal.old)) →
         IfOk result (λ alike. IsTrue alike ↔ ShowsAlike name.now store.old journal.old) }

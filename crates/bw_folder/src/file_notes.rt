@@ -14,14 +14,6 @@ const MARK: u8 = 3;
 /// The place of the kind byte: a verdict and a digest come before it.
 const KIND: usize = 33;
 
-/// Bytes that are noted at an offset of a journal, and whether their number wrote to its take's file.
-#[derive(Clone, Copy)]
-pub(crate) struct Note<'a> {
-    pub(crate) offset: u64,
-    pub(crate) bytes: &'a [u8],
-    pub(crate) writes: bool,
-}
-
 /// Whether the number of a note wrote to its take's file: not that of a MARK, nor one whose verdict isn't
 /// Stored. Other bytes than one whole entry count as written. `content` gets what their first line
 /// stands for.

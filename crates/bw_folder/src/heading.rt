@@ -1,11 +1,12 @@
 //! The first bytes of a journal's file.
-ghost use Rattle.std.specs.Prelude.{◌≡◌, IsTrue, IfOk, OnOk, OnErr, is_some, is_err};
+ghost use Rattle.std.specs.Prelude.{◌≡◌, ◌≤◌, IsTrue, IfOk, OnOk, OnErr, is_some, is_err};
 ghost use Rattle.bw_store.specs.Stores.{Written};
 ghost use Rattle.bw_disk.specs.Disks.{IsOneCall};
 ghost use Rattle.bw_disk.specs.DiskSteps.{ChangesAt, StaysWhole};
 ghost use Rattle.bw_disk.specs.Volumes.{WrittenInPart};
 ghost use Rattle.bw_journal.specs.Notes.{Starts, StartsInPart};
 ghost use Rattle.bw_folder.specs.Journals.{IsOpenAt};
+ghost use Rattle.bw_folder.specs.PendingNotes.{length_of};
 
 use bw_disk::{Volume, read_prefix};
 use bw_journal::JournalHeader;
@@ -47,6 +48,8 @@ pub(crate) fn put_header<D: Volume>(
         (D.contents disk.old (D.path_of file.old)) (D.contents disk.new (D.path_of file.old))) }
     ensures failed { IsTrue (D.honest disk.old) → OnErr result (StartsInPart header.now
         (D.contents disk.old (D.path_of file.old)) (D.contents disk.new (D.path_of file.old))) }
+    ensures grows { IsTrue (D.honest disk.old) → length_of (D.contents disk.old (D.path_of file.old))
+        ≤ length_of (D.contents disk.new (D.path_of file.old)) }
     ensures rest { ChangesAt D.Disk (D.path_of file.old) disk.old disk.new }
 {
     let mut room = [0u8; JournalHeader::LEN];
@@ -92,6 +95,8 @@ pub(crate) fn append<D: Volume>(
     ensures failed { IsTrue (D.honest disk.old) → OnErr result (WrittenInPart
         (D.contents disk.old (D.path_of file.old)) offset bytes.now
         (D.contents disk.new (D.path_of file.old))) }
+    ensures grows { IsTrue (D.honest disk.old) → length_of (D.contents disk.old (D.path_of file.old))
+        ≤ length_of (D.contents disk.new (D.path_of file.old)) }
     ensures rest { ChangesAt D.Disk (D.path_of file.old) disk.old disk.new }
 {
     disk.append(file, offset, bytes).map_err(|_| StoreFault)

@@ -1,15 +1,17 @@
 //! Journals in a folder.
-ghost use Rattle.std.specs.Prelude.{◌≡◌, [], None, IsTrue};
-ghost use Rattle.std.specs.Prelude.{IfOk, Ok};
+ghost use Rattle.std.specs.Prelude.{◌≡◌, ℕ, List, [], None, IsTrue, if◌then◌else◌};
+ghost use Rattle.std.specs.Prelude.{IfOk};
 ghost use Rattle.std.specs.Prelude.{OnOk, OnErr, string_bytes, is_err, false};
 ghost use Rattle.std.specs.List.{All};
 ghost use Rattle.bw_store.specs.Stores.{Counts, KeepsOthers};
 ghost use Rattle.bw_journal.specs.Notes.{BeginsNotes, BeginsInPart, Notes, NotesInPart};
-ghost use Rattle.bw_journal.specs.Notes.{KeepsHeaders};
-ghost use Rattle.bw_folder.specs.Folders.{take_path as path_of_take};
-ghost use Rattle.bw_folder.specs.Journals.{journal_path as path_of_journal};
+ghost use Rattle.bw_journal.specs.Notes.{KeepsHeaders, KeepsCommitted};
+ghost use Rattle.bw_folder.specs.Journals.{journal_path as path_of_journal, notes_at};
+ghost use Rattle.bw_folder.specs.PendingNotes.{unwritten_at, no_pending, pendings, unwritten_of, HoldsPending};
+ghost use Rattle.bw_folder.specs.PendingNotes.{IsOnDisk, waits};
 ghost use Rattle.bw_journal.specs.Closings.{notes_close};
 ghost use Rattle.bw_folder.specs.FileNotes.{writes_file};
+ghost use Rattle.bw_disk.specs.Volumes.{KeepsEach};
 ghost use Rattle.bw_folder.specs.SyncOrders.{BeginsJournal, StopsAtSync, SyncsNote};
 
 use bw_disk::{SystemDisk, Volume};
@@ -31,13 +33,20 @@ pub(crate) struct OpenJournal<F: Drop> {
     pub(crate) beside_take: bool,
     /// The folder was synced since the journal was opened and the take's file found.
     pub(crate) listed: bool,
+    /// Notes that the next commit writes.
+    pub(crate) pending: Vec<u8>,
+    /// The place in the file that they are to be written at.
+    pub(crate) place: u64,
+    /// A number among them wrote to the take's file.
+    pub(crate) writes: bool,
 }
 
 impl<F: Drop> OpenJournal<F> {
-    pub(crate) fn new(name: &Name, existed: bool, file: F) -> OpenJournal<F>
+    pub(crate) fn new(alloc: Global, name: &Name, existed: bool, file: F) -> OpenJournal<F>
         ensures name { result.name ≡ name.now }
         ensures existed { result.existed ≡ existed }
         ensures file { result.file ≡ file }
+        ensures pending { unwritten_at result ≡ no_pending }
     {
         OpenJournal {
             name: name.copy(),
@@ -45,7 +54,17 @@ impl<F: Drop> OpenJournal<F> {
             file,
             beside_take: false,
             listed: false,
+            pending: Vec::new(alloc),
+            place: 0,
+            writes: false,
         }
+    }
+
+    /// Whether notes are pending.
+    pub(crate) fn is_waiting(&self) -> bool
+        ensures { result ≡ waits self.now.pending.items }
+    {
+        !self.pending.is_empty()
     }
 }
 
@@ -54,17 +73,18 @@ impl<F: Drop> OpenJournal<F> {
 /// Its disk is its own: it changes no other file, and a store of the same folder changes none of
 /// these. Over an honest disk it is an honest journal. A call fails if a call of the disk does, or
 /// memory is refused; `begin` also if the file begins with other bytes than those of its header,
-/// and `note` for a name that was neither begun nor reopened. A note that fails leaves a prefix of
-/// its bytes, which the next note of the same bytes writes over.
+/// or notes of the name are pending; and `note` for a name that was neither begun nor reopened. A note
+/// that fails leaves a prefix of its bytes, which the next note of the same bytes writes over.
 ///
 /// With `sync` a journal that begins is synced, and the folder, before any file of its take is made.
-/// A note is made in steps: the take's file is synced, then the folder unless it was synced since the
-/// journal was opened and the take's file found, the bytes are appended, and the journal is synced. For
-/// a number that wrote nothing to the file the first two are left out, if the folder was synced since
-/// the journal was opened. So no note of this journal survives a loss of power without its samples, and
-/// none that it reported is lost. After a sync that failed each `begin` and each `note` fails, of any
-/// name: another try could succeed although bytes are lost. Without `sync` only the note of a CLOSE is
-/// synced, and the folder with it.
+/// A note is kept in memory then, and `commit` writes what is pending of a name in steps: the take's
+/// file is synced, then the folder unless it was synced since the journal was opened and the take's file
+/// found, the bytes are appended, and the journal is synced. If no number among them wrote to the file
+/// the first two are left out, if the folder was synced since the journal was opened. So no note of this
+/// journal survives a loss of power without its samples, and none that was committed is lost. After a
+/// sync that failed each `begin` and each `note` fails, of any name, and nothing is committed any more:
+/// another try could succeed although bytes are lost. Without `sync` nothing is ever pending, and only
+/// the note of a CLOSE is synced, and the folder with it.
 #[derive(Drop)]
 pub struct FolderJournal<D: Volume> {
     pub(crate) disk: D,
@@ -81,12 +101,15 @@ pub struct FolderJournal<D: Volume> {
     ghost paths: { IsTrue (D.honest disk) → All
         (λ journal. D.path_of journal.file ≡ path_of_journal (string_bytes folder) journal.name)
         journals.items },
+    ghost pending: { IsTrue (D.honest disk) → (name : List ℕ) → HoldsPending sync
+        (unwritten_of (pendings journals.items) name)
+        (notes_at (D.contents disk) (string_bytes folder) name) },
 }
 
 impl<R: Files + AllocGlobal + Clone + Drop> FolderJournal<SystemDisk<R>> {
     ghost use Rattle.bw_folder.specs.JournalFolders.{journals_disk, journals_folder};
     ghost use Rattle.bw_folder.specs.JournalFolders.{journals_limit, journals_sync, open_journals};
-    ghost use Rattle.bw_folder.specs.JournalFolders.{journals_failures, failed_sync_in};
+    ghost use Rattle.bw_folder.specs.JournalFolders.{journals_failures, failed_sync_in, unwritten_in};
 
     /// The journals of a folder of the system, for a server of this limit. None is open yet.
     ///
@@ -108,6 +131,7 @@ impl<R: Files + AllocGlobal + Clone + Drop> FolderJournal<SystemDisk<R>> {
         ensures limit { IfOk result (λ j. journals_limit j ≡ limit) }
         ensures sync { IfOk result (λ j. journals_sync j ≡ sync) }
         ensures journals { IfOk result (λ j. open_journals j ≡ []) }
+        ensures pending { IfOk result (λ j. unwritten_in j ≡ []) }
         ensures failures { IfOk result (λ j. journals_failures j ≡ 0) }
         ensures failed_sync { IfOk result (λ j. failed_sync_in j ≡ None) }
     {
@@ -118,8 +142,9 @@ impl<R: Files + AllocGlobal + Clone + Drop> FolderJournal<SystemDisk<R>> {
 impl<D: Volume> FolderJournal<D> {
     ghost use Rattle.bw_folder.specs.JournalFolders.{journals_disk, journals_folder};
     ghost use Rattle.bw_folder.specs.JournalFolders.{journals_limit, journals_sync, open_journals};
-    ghost use Rattle.bw_folder.specs.JournalFolders.{journals_failures, failed_sync_in};
-    ghost use Rattle.bw_folder.specs.JournalFolders.{noted_in_folder, header_in_folder, SameSettings};
+    ghost use Rattle.bw_folder.specs.JournalFolders.{journals_failures, failed_sync_in, unwritten_in};
+    ghost use Rattle.bw_folder.specs.JournalFolders.{noted_in_folder, SameSettings, has_pending};
+    ghost use Rattle.bw_folder.specs.JournalFolders.{journal_on_disk, committed_in};
     ghost use Rattle.bw_folder.specs.Journals.{known_but};
 
     /// The journals of a folder of a disk, for a server of this limit. None is open yet.
@@ -141,6 +166,7 @@ impl<D: Volume> FolderJournal<D> {
         ensures limit { IfOk result (λ j. journals_limit j ≡ limit) }
         ensures sync { IfOk result (λ j. journals_sync j ≡ sync) }
         ensures journals { IfOk result (λ j. open_journals j ≡ []) }
+        ensures pending { IfOk result (λ j. unwritten_in j ≡ []) }
         ensures failures { IfOk result (λ j. journals_failures j ≡ 0) }
         ensures failed_sync { IfOk result (λ j. failed_sync_in j ≡ None) }
     {
@@ -161,6 +187,7 @@ impl<D: Volume> FolderJournal<D> {
         ensures limit { journals_limit result ≡ limit }
         ensures sync { journals_sync result ≡ sync }
         ensures journals { open_journals result ≡ [] }
+        ensures pending { unwritten_in result ≡ [] }
         ensures failures { journals_failures result ≡ 0 }
         ensures failed_sync { failed_sync_in result ≡ None }
     {
@@ -208,16 +235,34 @@ impl<D: Volume> FolderJournal<D> {
         }
     }
 
-    /// Closes the journal of a name, if it is open. The disk isn't called.
+    /// Closes the journal of a name, if it is open and none of its notes is pending. The disk isn't
+    /// called.
     pub fn release(&mut self, name: &Name)
         ensures disk { journals_disk self.new ≡ journals_disk self.old }
         ensures settings { SameSettings self.old self.new }
         ensures failures { journals_failures self.new ≡ journals_failures self.old }
         ensures failed_sync { failed_sync_in self.new ≡ failed_sync_in self.old }
-        ensures known { open_journals self.new ≡ known_but name.now (open_journals self.old) }
+        ensures known { open_journals self.new ≡ if has_pending self.old name.now
+            then open_journals self.old else known_but name.now (open_journals self.old) }
+        // Nothing that is noted is lost, nor is anything committed by it.
+        ensures noted { KeepsEach (noted_in_folder self.old) (noted_in_folder self.new) }
+        ensures pending { (other : List ℕ) → has_pending self.new other ≡ has_pending self.old other }
     {
+        if self.has_pending(name) {
+            return;
+        }
         self.close(name);
     }
+
+    /// What a stop leaves of the notes of a name: what its file has. Nothing runs.
+    pub fn law_on_disk(&self)
+        // All of them or a prefix, no shorter than what is committed.
+        ensures left { IsTrue (D.honest (journals_disk self.now)) → (name : List ℕ) → IsOnDisk
+            (committed_in self.now name) (noted_in_folder self.now name) (journal_on_disk self.now name) }
+        // All of them, if none is pending.
+        ensures whole { (name : List ℕ) → has_pending self.now name ≡ false →
+            journal_on_disk self.now name ≡ noted_in_folder self.now name }
+    {}
 
     /// The disk of the folder, by value.
     pub fn into_disk(self) -> D
@@ -243,6 +288,7 @@ impl<D: Volume> Journal for FolderJournal<D> {
     ghost use Rattle.bw_folder.specs.JournalFolders.{journals_limit, journals_sync, open_journals};
     ghost use Rattle.bw_folder.specs.JournalFolders.{failed_sync_in, journals_failures};
     ghost use Rattle.bw_folder.specs.JournalFolders.{noted_in_folder, header_in_folder, SameSettings};
+    ghost use Rattle.bw_folder.specs.JournalFolders.{committed_in, writes_pending};
 
     ghost notes = { noted_in_folder };
 
@@ -254,12 +300,14 @@ impl<D: Volume> Journal for FolderJournal<D> {
 
     ghost folder = { journals_folder };
 
+    ghost committed = { committed_in };
+
     /// Writes the header into the file of the name's journal, which is opened, or made if nothing is
     /// there. With `sync` that file and the folder are synced then.
     ///
     /// # Errors
     /// `StoreFault` if a call of the disk failed, memory was refused before any change, other bytes
-    /// are there, or a sync failed in an earlier call.
+    /// are there, notes of the name are pending, or a sync failed in an earlier call.
     ///
     /// # Not specified
     /// - When memory is refused.
@@ -271,6 +319,8 @@ impl<D: Volume> Journal for FolderJournal<D> {
         ensures honest { D.honest (journals_disk self.new) ≡ D.honest (journals_disk self.old) }
         ensures headers { IsTrue (D.honest (journals_disk self.old)) → KeepsHeaders
             (header_in_folder self.old) (header_in_folder self.new) }
+        ensures committed { IsTrue (D.honest (journals_disk self.old)) → KeepsCommitted
+            (committed_in self.old) (committed_in self.new) }
         // The header says whether a file of the name existed.
         ensures begun { IsTrue (D.honest (journals_disk self.old)) →
             OnOk result (BeginsNotes name.now
@@ -295,15 +345,15 @@ impl<D: Volume> Journal for FolderJournal<D> {
         answer
     }
 
-    /// Writes the bytes into the file of a journal that was begun or reopened. Without `sync` that
-    /// is one call of the disk; with it the take's file is synced before anything is written, unless
-    /// they note a MARK or a request that was refused, and the journal afterwards. If the bytes note
-    /// that the take is closed, journal and folder are synced also without `sync`: whoever has that
-    /// verdict may delete the recording.
+    /// Without `sync`, writes the bytes into the file of a journal that was begun or reopened, by one
+    /// call of the disk. If they note that the take is closed, journal and folder are synced: whoever
+    /// has that verdict may delete the recording. With `sync` the bytes are kept for the next commit,
+    /// and at most the length of the file is asked for.
     ///
     /// # Errors
     /// `StoreFault` if a call of the disk failed, memory was refused before any change, the name's
-    /// journal was neither begun nor reopened, or a sync failed in an earlier call.
+    /// journal was neither begun nor reopened, or a sync failed in an earlier call; with `sync` also if
+    /// the offset isn't where the name's notes end, or lies in the header.
     ///
     /// # Not specified
     /// - When memory is refused.
@@ -316,6 +366,8 @@ impl<D: Volume> Journal for FolderJournal<D> {
         ensures known { open_journals self.new ≡ open_journals self.old }
         ensures headers { IsTrue (D.honest (journals_disk self.old)) → KeepsHeaders
             (header_in_folder self.old) (header_in_folder self.new) }
+        ensures committed { IsTrue (D.honest (journals_disk self.old)) → KeepsCommitted
+            (committed_in self.old) (committed_in self.new) }
         // The bytes follow the first ones, over any prefix of them that is there.
         ensures noted { IsTrue (D.honest (journals_disk self.old)) → OnOk result (Notes offset bytes.now
             (noted_in_folder self.old name.now) (noted_in_folder self.new name.now)) }
@@ -330,12 +382,13 @@ impl<D: Volume> Journal for FolderJournal<D> {
         // After a failed sync each call fails, and the disk isn't called.
         ensures failed_sync { StopsAtSync name.now result (failed_sync_in self.old) (failed_sync_in self.new)
             (journals_disk self.old) (journals_disk self.new) }
-        // Without `sync` nothing is synced but the note of a close; with it the take's file comes first,
-        // unless the number wrote nothing to it.
-        ensures syncs { SyncsNote D.Disk (journals_sync self.old) (notes_close bytes.now)
-            (writes_file bytes.now) name.now result (failed_sync_in self.new) (path_of_take (journals_folder self.old) name.now)
-            (path_of_journal (journals_folder self.old) name.now)
+        // Without `sync` only the note of a close is synced; with it the file waits for a commit.
+        ensures syncs { SyncsNote D.Disk (journals_sync self.old) (notes_close bytes.now) name.now result
+            (failed_sync_in self.new) (path_of_journal (journals_folder self.old) name.now)
             (journals_disk self.old) (journals_disk self.new) }
+        // With `sync` the commit is told if the number wrote to its take's file.
+        ensures writes { IsTrue (journals_sync self.old) → IsTrue (writes_file bytes.now) →
+            OnOk result (IsTrue (writes_pending self.new name.now)) }
     {
         let answer = self.note_and_sync(name, offset, bytes);
         self.count(answer.is_err());

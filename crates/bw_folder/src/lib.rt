@@ -3,6 +3,7 @@
 #![tactic(auto)]
 
 mod closing;
+mod committing;
 mod comparing;
 mod file_notes;
 mod finishing;
@@ -12,6 +13,7 @@ mod journal;
 pub mod laws;
 mod noting;
 mod paths;
+mod pending;
 mod recovering;
 mod reopening;
 mod syncing;

@@ -1,26 +1,27 @@
 //! The files that a folder's journals are noted in: how one is found, begun and written.
 ghost use Rattle.std.specs.Prelude.{◌≡◌, ◌⊎◌, ◌<◌, ◌↔◌, Some, IsTrue, IsSome, IfOk, IfSome};
-ghost use Rattle.std.specs.Prelude.{OnOk, OnErr, string_bytes, length, false};
+ghost use Rattle.std.specs.Prelude.{OnOk, OnErr, IsErr, IfNone, string_bytes, length, false};
 ghost use Rattle.std.specs.List.{HoldsAt, position};
 ghost use Rattle.std.specs.Str.{bytes_eq};
 ghost use Rattle.bw_store.specs.Stores.{KeepsOthers};
-ghost use Rattle.bw_disk.specs.DiskSteps.{ChangesAt};
+ghost use Rattle.bw_disk.specs.DiskSteps.{ChangesAt, StaysWhole};
 ghost use Rattle.bw_journal.specs.Notes.{BeginsNotes, BeginsInPart, Notes, NotesInPart};
-ghost use Rattle.bw_journal.specs.Notes.{KeepsHeaders};
-ghost use Rattle.bw_folder.specs.Folders.{take_path as path_of_take};
+ghost use Rattle.bw_journal.specs.Notes.{KeepsHeaders, KeepsCommitted};
+ghost use Rattle.bw_folder.specs.PendingNotes.{unwritten_at, no_pending, pendings, unwritten_of, waits};
+ghost use Rattle.bw_folder.specs.PendingNotes.{noted_at, length_at, KeepsPending, NotesAt};
 ghost use Rattle.bw_folder.specs.Journals.{journal_path as path_of_journal, notes_at, existences};
 ghost use Rattle.bw_folder.specs.Journals.{existence_of, header_at, IsOpenAt};
 ghost use Rattle.bw_folder.specs.SyncOrders.{BeginsJournal, IsSyncedAt, NotesPlainly, StopsAtSync};
-ghost use Rattle.bw_folder.specs.SyncOrders.{SyncsInOrder, SyncsNote};
+ghost use Rattle.bw_folder.specs.SyncOrders.{SyncsNote};
 ghost use Rattle.bw_disk.specs.Volumes.{KeepsEach};
 ghost use Rattle.bw_journal.specs.Closings.{notes_close};
 ghost use Rattle.bw_folder.specs.FileNotes.{writes_file};
 
-use crate::file_notes::{Note, writes_file};
 use crate::heading::{append, exists, open_or_make, put_header};
 use crate::journal::{FolderJournal, OpenJournal};
 use crate::paths::{journal_path, take_path};
-use crate::syncing::{append_synced, sync_begun};
+use crate::pending::keep_note;
+use crate::syncing::sync_begun;
 use bw_disk::Volume;
 use bw_journal::{JournalHeader, notes_close};
 use bw_model::Name;
@@ -50,10 +51,16 @@ impl<D: Volume> FolderJournal<D> {
             (notes_at (D.contents self.new.disk) (string_bytes self.old.folder) name.now)) }
         ensures failed_sync { StopsAtSync name.now result self.old.failed_sync self.new.failed_sync
             self.old.disk self.new.disk }
+        ensures pending { KeepsPending (pendings self.old.journals.items) (pendings self.new.journals.items) }
+        ensures grows { IsTrue (D.honest self.old.disk) → KeepsCommitted
+            (length_at (D.contents self.old.disk) (string_bytes self.old.folder))
+            (length_at (D.contents self.new.disk) (string_bytes self.old.folder)) }
+        ensures busy { IsTrue (waits (unwritten_of (pendings self.old.journals.items) name.now).bytes) →
+            IsErr result × (self.new ≡ self.old) }
         ensures rest { BeginsJournal D.Disk self.old.sync result
             (path_of_journal (string_bytes self.old.folder) name.now) self.old.disk self.new.disk }
     {
-        if self.failed_sync.is_some() {
+        if self.failed_sync.is_some() || self.has_pending(name) {
             return Err(StoreFault);
         }
         self.write_header(name)?;
@@ -72,6 +79,7 @@ impl<D: Volume> FolderJournal<D> {
         ensures settings { (self.new.limit ≡ self.old.limit) × (self.new.sync ≡ self.old.sync)
             × (self.new.folder ≡ self.old.folder) }
         ensures known { existences self.new.journals.items ≡ existences self.old.journals.items }
+        ensures pending { pendings self.new.journals.items ≡ pendings self.old.journals.items }
         ensures unmarked { OnOk result (self.new.failed_sync ≡ self.old.failed_sync) }
         ensures marked { (self.new.failed_sync ≡ self.old.failed_sync)
             ⊎ (self.new.failed_sync ≡ Some name.now) }
@@ -97,6 +105,7 @@ impl<D: Volume> FolderJournal<D> {
 
     /// Writes the header into the file of a name's journal, which is opened or made.
     fn write_header(&mut self, name: &Name) -> Result<(), StoreFault>
+        requires { waits (unwritten_of (pendings self.old.journals.items) name.now).bytes ≡ false }
         ensures failures { self.new.failures ≡ self.old.failures }
         ensures settings { (self.new.limit ≡ self.old.limit) × (self.new.sync ≡ self.old.sync)
             × (self.new.folder ≡ self.old.folder) }
@@ -115,6 +124,10 @@ impl<D: Volume> FolderJournal<D> {
             (string_bytes self.old.folder) name.now)
             (notes_at (D.contents self.old.disk) (string_bytes self.old.folder) name.now)
             (notes_at (D.contents self.new.disk) (string_bytes self.old.folder) name.now)) }
+        ensures pending { KeepsPending (pendings self.old.journals.items) (pendings self.new.journals.items) }
+        ensures grows { IsTrue (D.honest self.old.disk) → KeepsCommitted
+            (length_at (D.contents self.old.disk) (string_bytes self.old.folder))
+            (length_at (D.contents self.new.disk) (string_bytes self.old.folder)) }
         ensures failed_sync { self.new.failed_sync ≡ self.old.failed_sync }
         ensures rest { ChangesAt D.Disk (path_of_journal (string_bytes self.old.folder) name.now)
             self.old.disk self.new.disk }
@@ -148,6 +161,10 @@ impl<D: Volume> FolderJournal<D> {
         ensures failed { IsTrue (D.honest self.old.disk) → OnErr result
             (notes_at (D.contents self.new.disk) (string_bytes self.old.folder) name.now
             ≡ notes_at (D.contents self.old.disk) (string_bytes self.old.folder) name.now) }
+        ensures pending { KeepsPending (pendings self.old.journals.items) (pendings self.new.journals.items) }
+        ensures grows { IsTrue (D.honest self.old.disk) → KeepsCommitted
+            (length_at (D.contents self.old.disk) (string_bytes self.old.folder))
+            (length_at (D.contents self.new.disk) (string_bytes self.old.folder)) }
         ensures failed_sync { self.new.failed_sync ≡ self.old.failed_sync }
         ensures rest { ChangesAt D.Disk (path_of_journal (string_bytes self.old.folder) name.now)
             self.old.disk self.new.disk }
@@ -162,13 +179,12 @@ impl<D: Volume> FolderJournal<D> {
         let existed = exists(&mut self.disk, &take)?;
         let file = open_or_make(&mut self.disk, &path)?;
         let place = self.journals.len();
-        let journal = OpenJournal::new(name, existed, file);
+        let journal = OpenJournal::new(self.alloc, name, existed, file);
         self.journals.push(journal).map_err(|_| StoreFault)?;
         Ok(place)
     }
 
-    /// Writes bytes into the file of a name's journal, and syncs them as it is to be: without `sync`
-    /// only if they note that the take is closed.
+    /// Notes bytes under a name, and without `sync` syncs them if they note that the take is closed.
     ///
     /// # Errors
     /// `StoreFault` as `note` has it.
@@ -183,41 +199,82 @@ impl<D: Volume> FolderJournal<D> {
             × (self.new.folder ≡ self.old.folder) }
         ensures honest { D.honest self.new.disk ≡ D.honest self.old.disk }
         ensures known { existences self.new.journals.items ≡ existences self.old.journals.items }
-        ensures noted { IsTrue (D.honest self.old.disk) → OnOk result (Notes offset bytes.now
-            (notes_at (D.contents self.old.disk) (string_bytes self.old.folder) name.now)
-            (notes_at (D.contents self.new.disk) (string_bytes self.old.folder) name.now)) }
-        ensures failed { IsTrue (D.honest self.old.disk) → OnErr result (NotesInPart offset bytes.now
-            (notes_at (D.contents self.old.disk) (string_bytes self.old.folder) name.now)
-            (notes_at (D.contents self.new.disk) (string_bytes self.old.folder) name.now)) }
+        ensures notes { IsTrue (D.honest self.old.disk) → NotesAt offset bytes.now result name.now
+            (noted_at (pendings self.old.journals.items) (D.contents self.old.disk)
+            (string_bytes self.old.folder))
+            (noted_at (pendings self.new.journals.items) (D.contents self.new.disk)
+            (string_bytes self.old.folder)) }
+        ensures grows { IsTrue (D.honest self.old.disk) → KeepsCommitted
+            (length_at (D.contents self.old.disk) (string_bytes self.old.folder))
+            (length_at (D.contents self.new.disk) (string_bytes self.old.folder)) }
         ensures files { IsTrue (D.honest self.old.disk) → KeepsOthers (D.contents self.old.disk)
             (D.contents self.new.disk) (path_of_journal (string_bytes self.old.folder) name.now) }
         ensures failed_sync { StopsAtSync name.now result self.old.failed_sync self.new.failed_sync
             self.old.disk self.new.disk }
-        ensures syncs { SyncsNote D.Disk self.old.sync (notes_close bytes.now) (writes_file bytes.now)
-            name.now result self.new.failed_sync (path_of_take (string_bytes self.old.folder) name.now)
-            (path_of_journal (string_bytes self.old.folder) name.now) self.old.disk self.new.disk }
+        ensures syncs { SyncsNote D.Disk self.old.sync (notes_close bytes.now) name.now result
+            self.new.failed_sync (path_of_journal (string_bytes self.old.folder) name.now) self.old.disk
+            self.new.disk }
+        ensures writes { IsTrue self.old.sync → IsTrue (writes_file bytes.now) → OnOk result
+            (IsTrue (unwritten_of (pendings self.new.journals.items) name.now).writes) }
     {
+        if self.sync {
+            return self.note_in_memory(name, offset, bytes);
+        }
         let closes = notes_close(bytes, &mut self.content).map_err(|_| StoreFault)?;
         self.note_in_file(name, offset, bytes)?;
-        if !closes || self.sync {
+        if !closes {
             return Ok(());
         }
         self.sync_journal(name)
     }
 
-    /// Writes bytes into the file of a name's journal; with `sync` the take's file is synced before
-    /// that, if their number wrote to it, and the journal after it.
+    /// Keeps bytes that are noted under a name for the next commit.
+    fn note_in_memory(&mut self, name: &Name, offset: u64, bytes: &[u8]) -> Result<(), StoreFault>
+        requires { IsTrue self.old.sync }
+        ensures rest { (self.new.failures ≡ self.old.failures)
+            × (self.new.failed_sync ≡ self.old.failed_sync) }
+        ensures settings { (self.new.limit ≡ self.old.limit) × (self.new.sync ≡ self.old.sync)
+            × (self.new.folder ≡ self.old.folder) }
+        ensures known { existences self.new.journals.items ≡ existences self.old.journals.items }
+        ensures disk { StaysWhole D.Disk self.old.disk self.new.disk }
+        ensures stopped { IsSome self.old.failed_sync → IsErr result × (self.new.disk ≡ self.old.disk) }
+        ensures notes { IsTrue (D.honest self.old.disk) → NotesAt offset bytes.now result name.now
+            (noted_at (pendings self.old.journals.items) (D.contents self.old.disk)
+            (string_bytes self.old.folder))
+            (noted_at (pendings self.new.journals.items) (D.contents self.new.disk)
+            (string_bytes self.old.folder)) }
+        ensures writes { IsTrue (writes_file bytes.now) → OnOk result
+            (IsTrue (unwritten_of (pendings self.new.journals.items) name.now).writes) }
+    {
+        if self.failed_sync.is_some() {
+            return Err(StoreFault);
+        }
+        let Some(place) = find(&self.journals, name) else {
+            return Err(StoreFault);
+        };
+        keep_note(
+            &mut self.disk,
+            &mut self.journals[place],
+            offset,
+            bytes,
+            &mut self.content,
+        )
+    }
+
+    /// Writes bytes into the file of a name's journal.
     pub(crate) fn note_in_file(
         &mut self,
         name: &Name,
         offset: u64,
         bytes: &[u8],
     ) -> Result<(), StoreFault>
+        requires { self.old.sync ≡ false }
         ensures failures { self.new.failures ≡ self.old.failures }
         ensures settings { (self.new.limit ≡ self.old.limit) × (self.new.sync ≡ self.old.sync)
             × (self.new.folder ≡ self.old.folder) }
         ensures honest { D.honest self.new.disk ≡ D.honest self.old.disk }
         ensures known { existences self.new.journals.items ≡ existences self.old.journals.items }
+        ensures pending { pendings self.new.journals.items ≡ pendings self.old.journals.items }
         ensures open { OnOk result
             (IsSome (existence_of (existences self.old.journals.items) name.now)) }
         ensures noted { IsTrue (D.honest self.old.disk) → OnOk result (Notes offset bytes.now
@@ -226,14 +283,14 @@ impl<D: Volume> FolderJournal<D> {
         ensures failed { IsTrue (D.honest self.old.disk) → OnErr result (NotesInPart offset bytes.now
             (notes_at (D.contents self.old.disk) (string_bytes self.old.folder) name.now)
             (notes_at (D.contents self.new.disk) (string_bytes self.old.folder) name.now)) }
+        ensures grows { IsTrue (D.honest self.old.disk) → KeepsCommitted
+            (length_at (D.contents self.old.disk) (string_bytes self.old.folder))
+            (length_at (D.contents self.new.disk) (string_bytes self.old.folder)) }
         ensures files { IsTrue (D.honest self.old.disk) → KeepsOthers (D.contents self.old.disk)
             (D.contents self.new.disk) (path_of_journal (string_bytes self.old.folder) name.now) }
         ensures failed_sync { StopsAtSync name.now result self.old.failed_sync self.new.failed_sync
             self.old.disk self.new.disk }
-        ensures plain { self.old.sync ≡ false → NotesPlainly D.Disk result self.old.disk self.new.disk }
-        ensures order { IsTrue (D.honest self.old.disk) → IsTrue self.old.sync → SyncsInOrder D.Disk
-            (writes_file bytes.now) result (path_of_take (string_bytes self.old.folder) name.now)
-            (path_of_journal (string_bytes self.old.folder) name.now) self.old.disk self.new.disk }
+        ensures plain { NotesPlainly D.Disk result self.old.disk self.new.disk }
     {
         if self.failed_sync.is_some() {
             return Err(StoreFault);
@@ -241,24 +298,8 @@ impl<D: Volume> FolderJournal<D> {
         let Some(place) = find(&self.journals, name) else {
             return Err(StoreFault);
         };
-        if !self.sync {
-            let journal = &mut self.journals[place];
-            return append(&mut self.disk, &mut journal.file, offset, bytes);
-        }
-        let writes = writes_file(bytes, &mut self.content).map_err(|_| StoreFault)?;
-        let take = take_path(self.alloc, &self.folder, name)?;
-        append_synced(
-            &mut self.disk,
-            &mut self.journals[place],
-            &mut self.failed_sync,
-            &take,
-            &self.folder,
-            &Note {
-                offset,
-                bytes,
-                writes,
-            },
-        )
+        let journal = &mut self.journals[place];
+        append(&mut self.disk, &mut journal.file, offset, bytes)
     }
 }
 
@@ -269,6 +310,11 @@ pub(crate) fn find<F: Drop>(journals: &[OpenJournal<F>], name: &Name) -> Option<
         × HoldsAt (λ journal. (journal.name ≡ name.now)
         × (existence_of (existences journals.now) name.now ≡ Some journal.existed))
         journals.now place) }
+    ensures pending { IfSome result (λ place. HoldsAt
+        (λ journal. unwritten_of (pendings journals.now) name.now ≡ unwritten_at journal)
+        journals.now place) }
+    ensures none { IfNone result (unwritten_of (pendings journals.now) name.now ≡ no_pending) }
+    ensures first { result ≡ position (λ journal. bytes_eq journal.name name.now) journals.now }
 {
     first_of(journals, name)
 }

@@ -1,10 +1,12 @@
 //! What a stop left of a name in a folder, and mending it, on the disks of a store and of a journal.
 ghost use Rattle.std.specs.Prelude.{◌≡◌, ℕ, Some, IsTrue, IfOk, OnOk};
+ghost use Rattle.bw_store.specs.Stores.{KeepsOthers};
 ghost use Rattle.bw_disk.specs.DiskSteps.{StaysWhole};
+ghost use Rattle.bw_disk.specs.Volumes.{KeepsEach};
 ghost use Rattle.bw_disk.specs.ReadFaults.{is_disk_fault};
 ghost use Rattle.bw_recovery.specs.Restorings.{is_refused};
 ghost use Rattle.bw_folder.specs.TakeFolders.{takes_disk};
-ghost use Rattle.bw_folder.specs.JournalFolders.{journals_disk};
+ghost use Rattle.bw_folder.specs.JournalFolders.{journals_disk, noted_in_folder};
 ghost use Rattle.bw_folder.specs.RecoveredNames.{KeepsStore, KeepsFolderJournal, AreOfOneFolder, FindsIn};
 ghost use Rattle.bw_folder.specs.RecoveredNames.{RestoresIn, StaysLeftIn, ChangesName};
 ghost use Rattle.bw_folder.specs.RecoveredNames.{CountsIn, CountsUnlessCrowded};
@@ -21,8 +23,8 @@ use std::alloc::Global;
 /// journal. Nothing is changed. That is no call of the store or of the journal.
 ///
 /// # Errors
-/// `Disk` if a call of a disk failed; `Memory` if memory was refused, or the journal has more than
-/// 2^40 bytes.
+/// `Disk` if a call of a disk failed; `Memory` if memory was refused, the journal has more than 2^40
+/// bytes, or notes of any name are pending.
 ///
 /// # Not specified
 /// When memory is refused, and how many calls of the disks it makes.
@@ -37,12 +39,17 @@ pub fn look_at_name<D: Volume, E: Volume>(
     ensures notes { StaysWhole E.Disk (journals_disk journal.old) (journals_disk journal.new) }
     ensures store { KeepsStore store.old store.new }
     ensures journal { KeepsFolderJournal journal.old journal.new }
+    ensures noted { IsTrue (E.honest (journals_disk journal.old)) →
+        KeepsEach (noted_in_folder journal.old) (noted_in_folder journal.new) }
     // Refused by its fault, not begun, or begun with its story, as the definitions say.
     ensures found { AreOfOneFolder store.old journal.old →
         IfOk result (FindsIn limit name.now store.old journal.old) }
     // `Disk` is a call of one of the disks that failed, and no other call fails.
     ensures failures { CountsIn store.old journal.old store.new journal.new (is_disk_fault result) }
 {
+    if journal.has_any_pending() {
+        return Err(ReadFault::Memory);
+    }
     look(
         alloc,
         &mut store.disk,
@@ -58,7 +65,8 @@ pub fn look_at_name<D: Volume, E: Volume>(
 ///
 /// # Errors
 /// `Disk` if a call of a disk failed, or 256 files of the name were set aside already; `Memory` if
-/// memory was refused. The same name may be looked at and restored again.
+/// memory was refused, or notes of any name are pending. The same name may be looked at and restored
+/// again.
 ///
 /// # Not specified
 /// What an error leaves of the name's own files, but that it is what a stop may leave of the same
@@ -85,6 +93,8 @@ pub fn restore_in_folder<D: Volume, E: Volume>(
     // Each other path has what it had, on errors too.
     ensures others { AreOfOneFolder store.old journal.old →
         ChangesName name.now store.old journal.old store.new journal.new }
+    ensures noted { AreOfOneFolder store.old journal.old →
+        KeepsOthers (noted_in_folder journal.old) (noted_in_folder journal.new) name.now }
     // Nothing changes of a name that is refused.
     ensures refused { IsTrue (is_refused finding.now) → (takes_disk store.new ≡ takes_disk store.old)
         × (journals_disk journal.new ≡ journals_disk journal.old) }
@@ -93,6 +103,9 @@ pub fn restore_in_folder<D: Volume, E: Volume>(
         FindsIn limit name.now store.old journal.old (Some finding.now) → CountsUnlessCrowded
         name.now store.old journal.old store.new journal.new (is_disk_fault result) }
 {
+    if journal.has_any_pending() {
+        return Err(ReadFault::Memory);
+    }
     restore_name(
         alloc,
         &mut store.disk,

@@ -79,7 +79,7 @@ impl<D: Volume> FolderStore<D> {
 
 impl<D: Volume> FolderJournal<D> {
     ghost use Rattle.bw_folder.specs.JournalFolders.{journals_disk, journals_sync, SameSettings};
-    ghost use Rattle.bw_folder.specs.JournalFolders.{IsSyncedName};
+    ghost use Rattle.bw_folder.specs.JournalFolders.{IsSyncedName, has_pending, unwritten_in};
     ghost use Rattle.bw_folder.specs.JournalFolders.{open_journals, journals_failures, failed_sync_in};
     ghost use Rattle.bw_folder.specs.JournalFolders.{noted_in_folder, header_in_folder};
 
@@ -110,6 +110,9 @@ impl<D: Volume> FolderJournal<D> {
         ensures again { IsSome (existence_of (open_journals self.old) name.now) →
             (result ≡ Ok false) × (journals_disk self.new ≡ journals_disk self.old) }
         ensures disk { StaysWhole D.Disk (journals_disk self.old) (journals_disk self.new) }
+        ensures noted { IsTrue (D.honest (journals_disk self.old)) →
+            KeepsEach (noted_in_folder self.old) (noted_in_folder self.new) }
+        ensures pending { (other : List ℕ) → has_pending self.new other ≡ has_pending self.old other }
         ensures disk_failures { Counts (D.failures (journals_disk self.old))
             (D.failures (journals_disk self.new)) (is_disk_fault result) }
     {
@@ -123,7 +126,7 @@ impl<D: Volume> FolderJournal<D> {
         let Some(file) = self.disk.open(path.as_str()).map_err(|_| ReadFault::Disk)? else {
             return Ok(false);
         };
-        let journal = OpenJournal::new(name, existed, file);
+        let journal = OpenJournal::new(self.alloc, name, existed, file);
         self.journals.push(journal).map_err(|_| ReadFault::Memory)?;
         Ok(true)
     }
@@ -144,6 +147,7 @@ impl<D: Volume> FolderJournal<D> {
         ensures failures { journals_failures self.new ≡ journals_failures self.old }
         ensures settings { SameSettings self.old self.new }
         ensures known { open_journals self.new ≡ open_journals self.old }
+        ensures pending { unwritten_in self.new ≡ unwritten_in self.old }
         ensures unmarked { OnOk result (failed_sync_in self.new ≡ failed_sync_in self.old) }
         ensures marked { (failed_sync_in self.new ≡ failed_sync_in self.old)
             ⊎ (failed_sync_in self.new ≡ Some name.now) }
@@ -154,6 +158,8 @@ impl<D: Volume> FolderJournal<D> {
         ensures honest { D.honest (journals_disk self.new) ≡ D.honest (journals_disk self.old) }
         ensures contents { IsTrue (D.honest (journals_disk self.old)) → KeepsEach
             (D.contents (journals_disk self.old)) (D.contents (journals_disk self.new)) }
+        ensures noted { IsTrue (D.honest (journals_disk self.old)) →
+            KeepsEach (noted_in_folder self.old) (noted_in_folder self.new) }
         // With `sync` the file of the take and an open journal are synced.
         ensures synced { IsTrue (D.honest (journals_disk self.old)) → IsTrue (journals_sync self.old) →
             IsSome (existence_of (open_journals self.old) name.now) →

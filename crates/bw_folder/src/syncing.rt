@@ -1,19 +1,20 @@
-//! Notes that survive a loss of power: the samples are synced, then the note is written and synced.
-ghost use Rattle.std.specs.Prelude.{◌≡◌, ◌≢◌, ◌⊎◌, Some, IsTrue, OnOk, OnErr, true};
+//! Notes that survive a loss of power: the samples are synced, then the notes are written and synced.
+ghost use Rattle.std.specs.Prelude.{◌≡◌, ◌≢◌, ◌⊎◌, [], Some, IsTrue, OnOk, OnErr, true};
 ghost use Rattle.std.specs.Prelude.{is_err};
 ghost use Rattle.bw_store.specs.Stores.{Counts, Written, KeepsOthers};
 ghost use Rattle.bw_disk.specs.Disks.{Syncs};
 ghost use Rattle.bw_disk.specs.DiskSteps.{StaysWhole};
 ghost use Rattle.bw_disk.specs.Volumes.{WrittenInPart, KeepsEach};
-ghost use Rattle.bw_folder.specs.SyncOrders.{IsSyncedAt};
+ghost use Rattle.bw_folder.specs.PendingNotes.{unwritten_at};
+ghost use Rattle.bw_folder.specs.SyncOrders.{IsSyncedAt, KeepsSynced, SyncsInOrder};
 
-use crate::file_notes::Note;
 use crate::journal::OpenJournal;
 use bw_disk::Volume;
 use bw_model::Name;
 use bw_store::StoreFault;
 
-/// Syncs what a note speaks of, then appends the note to its name's journal, and syncs that.
+/// Syncs what the pending notes of a name speak of, then appends them to its journal, and syncs that.
+/// They are pending until all of it succeeded.
 ///
 /// # Errors
 /// `StoreFault` if a call of the disk failed. If that was a sync the name is kept, so that nothing is
@@ -24,40 +25,39 @@ pub(crate) fn append_synced<D: Volume>(
     failed_sync: &mut Option<Name>,
     take: &str,
     folder: &str,
-    note: &Note<'_>,
 ) -> Result<(), StoreFault>
     ensures name { journal.new.name ≡ journal.old.name }
     ensures existed { journal.new.existed ≡ journal.old.existed }
     ensures path { D.path_of journal.new.file ≡ D.path_of journal.old.file }
+    ensures emptied { OnOk result (journal.new.pending.items ≡ []) }
+    ensures kept { OnErr result (unwritten_at journal.new ≡ unwritten_at journal.old) }
     ensures unmarked { OnOk result (failed_sync.new ≡ failed_sync.old) }
     ensures marked { (failed_sync.new ≡ failed_sync.old) ⊎ (failed_sync.new ≡ Some journal.old.name) }
+    ensures failures { Counts (D.failures disk.old) (D.failures disk.new) (is_err result) }
     ensures honest { D.honest disk.new ≡ D.honest disk.old }
     ensures written { IsTrue (D.honest disk.old) → OnOk result (Written
-        (D.contents disk.old (D.path_of journal.old.file)) note.now.offset note.now.bytes.now
+        (D.contents disk.old (D.path_of journal.old.file)) journal.old.place journal.old.pending.items
         (D.contents disk.new (D.path_of journal.old.file))) }
     ensures failed { IsTrue (D.honest disk.old) → OnErr result (WrittenInPart
-        (D.contents disk.old (D.path_of journal.old.file)) note.now.offset note.now.bytes.now
+        (D.contents disk.old (D.path_of journal.old.file)) journal.old.place journal.old.pending.items
         (D.contents disk.new (D.path_of journal.old.file))) }
     ensures others { IsTrue (D.honest disk.old) → KeepsOthers
         (D.contents disk.old) (D.contents disk.new) (D.path_of journal.old.file) }
-    ensures first { IsTrue (D.honest disk.old) → take.now ≢ D.path_of journal.old.file →
-        IsTrue note.now.writes → KeepsEach (D.contents disk.old) (D.contents disk.new)
-        ⊎ IsSyncedAt (D.contents disk.new) (D.synced disk.new) take.now }
-    ensures take { IsTrue (D.honest disk.old) → take.now ≢ D.path_of journal.old.file →
-        IsTrue note.now.writes →
-        OnOk result (IsSyncedAt (D.contents disk.new) (D.synced disk.new) take.now) }
-    ensures synced { IsTrue (D.honest disk.old) → OnOk result (IsSyncedAt (D.contents disk.new)
-        (D.synced disk.new) (D.path_of journal.old.file)) }
+    ensures syncs { IsTrue (D.honest disk.old) → take.now ≢ D.path_of journal.old.file →
+        SyncsInOrder D.Disk journal.old.writes result take.now (D.path_of journal.old.file) disk.old disk.new }
 {
-    sync_noted(disk, journal, failed_sync, take, folder, note.writes)?;
-    disk.append(&mut journal.file, note.offset, note.bytes)
+    sync_noted(disk, journal, failed_sync, take, folder)?;
+    disk.append(&mut journal.file, journal.place, &journal.pending)
         .map_err(|_| StoreFault)?;
-    sync_file(disk, &journal.file, &journal.name, failed_sync)
+    sync_file(disk, &journal.file, &journal.name, failed_sync)?;
+    journal.pending.clear();
+    journal.writes = false;
+    Ok(())
 }
 
 /// Syncs a take's file, if there is one, and the folder, unless it was synced since the journal was
-/// opened and the take's file found. If a number that wrote nothing is to be noted, and the folder was
-/// synced since the journal was opened, nothing is left to sync: numbers are done in order, so what an
+/// opened and the take's file found. If no number among the pending ones wrote anything, and the folder
+/// was synced since the journal was opened, nothing is left to sync: numbers are done in order, so what an
 /// earlier number wrote was synced before its note.
 ///
 /// # Errors
@@ -68,19 +68,22 @@ fn sync_noted<D: Volume>(
     failed_sync: &mut Option<Name>,
     take: &str,
     folder: &str,
-    writes: bool,
 ) -> Result<(), StoreFault>
     ensures name { journal.new.name ≡ journal.old.name }
     ensures existed { journal.new.existed ≡ journal.old.existed }
     ensures file { journal.new.file ≡ journal.old.file }
+    ensures pending { unwritten_at journal.new ≡ unwritten_at journal.old }
+    ensures failures { Counts (D.failures disk.old) (D.failures disk.new) (is_err result) }
     ensures unmarked { OnOk result (failed_sync.new ≡ failed_sync.old) }
     ensures marked { (failed_sync.new ≡ failed_sync.old) ⊎ (failed_sync.new ≡ Some journal.old.name) }
     ensures honest { D.honest disk.new ≡ D.honest disk.old }
     ensures contents { IsTrue (D.honest disk.old) → KeepsEach (D.contents disk.old) (D.contents disk.new) }
-    ensures synced { IsTrue (D.honest disk.old) → IsTrue writes → OnOk result
+    ensures synced { IsTrue (D.honest disk.old) → IsTrue journal.old.writes → OnOk result
         (IsSyncedAt (D.contents disk.old) (D.synced disk.new) take.now) }
+    ensures stays { IsTrue (D.honest disk.old) → KeepsSynced
+        (D.contents disk.old) (D.synced disk.old) (D.contents disk.new) (D.synced disk.new) }
 {
-    if !writes && journal.listed {
+    if !journal.writes && journal.listed {
         return Ok(());
     }
     sync_take(disk, journal, failed_sync, take)?;
@@ -101,6 +104,7 @@ pub(crate) fn sync_begun<D: Volume>(
     ensures name { journal.new.name ≡ journal.old.name }
     ensures existed { journal.new.existed ≡ journal.old.existed }
     ensures file { journal.new.file ≡ journal.old.file }
+    ensures pending { unwritten_at journal.new ≡ unwritten_at journal.old }
     ensures marked { OnErr result (failed_sync.new ≡ Some journal.old.name) }
     ensures unmarked { OnOk result (failed_sync.new ≡ failed_sync.old) }
     ensures listed { OnOk result (journal.new.listed ≡ true) }
@@ -132,6 +136,7 @@ pub(crate) fn sync_both<D: Volume>(
     ensures name { journal.new.name ≡ journal.old.name }
     ensures existed { journal.new.existed ≡ journal.old.existed }
     ensures file { journal.new.file ≡ journal.old.file }
+    ensures pending { unwritten_at journal.new ≡ unwritten_at journal.old }
     ensures unmarked { OnOk result (failed_sync.new ≡ failed_sync.old) }
     ensures marked { (failed_sync.new ≡ failed_sync.old) ⊎ (failed_sync.new ≡ Some journal.old.name) }
     ensures failures { Counts (D.failures disk.old) (D.failures disk.new) (is_err result) }
@@ -159,6 +164,7 @@ fn sync_take<D: Volume>(
     ensures name { journal.new.name ≡ journal.old.name }
     ensures existed { journal.new.existed ≡ journal.old.existed }
     ensures file { journal.new.file ≡ journal.old.file }
+    ensures pending { unwritten_at journal.new ≡ unwritten_at journal.old }
     ensures unmarked { OnOk result (failed_sync.new ≡ failed_sync.old) }
     ensures marked { (failed_sync.new ≡ failed_sync.old) ⊎ (failed_sync.new ≡ Some journal.old.name) }
     ensures failures { Counts (D.failures disk.old) (D.failures disk.new) (is_err result) }
@@ -166,6 +172,8 @@ fn sync_take<D: Volume>(
     ensures contents { IsTrue (D.honest disk.old) → KeepsEach (D.contents disk.old) (D.contents disk.new) }
     ensures synced { IsTrue (D.honest disk.old) → OnOk result
         (IsSyncedAt (D.contents disk.old) (D.synced disk.new) take.now) }
+    ensures stays { IsTrue (D.honest disk.old) → KeepsSynced
+        (D.contents disk.old) (D.synced disk.old) (D.contents disk.new) (D.synced disk.new) }
 {
     let Some(file) = disk.open(take).map_err(|_| StoreFault)? else {
         return Ok(());
@@ -216,6 +224,7 @@ fn sync_names<D: Volume>(
     ensures name { journal.new.name ≡ journal.old.name }
     ensures existed { journal.new.existed ≡ journal.old.existed }
     ensures file { journal.new.file ≡ journal.old.file }
+    ensures pending { unwritten_at journal.new ≡ unwritten_at journal.old }
     ensures marked { OnErr result (failed_sync.new ≡ Some journal.old.name) }
     ensures listed { OnOk result (journal.new.listed ≡ true) }
     ensures unmarked { OnOk result (failed_sync.new ≡ failed_sync.old) }

@@ -69,3 +69,7 @@ NotesOver offset bytes before after =
 -- each name's journal begins with what it began with
 abbrev pub KeepsHeaders : (List ℕ → Header) → (List ℕ → Header) → Type 0
 KeepsHeaders before after = (name : List ℕ) → after name ≡ before name
+
+-- of each name's notes no fewer bytes are committed
+abbrev pub KeepsCommitted : (List ℕ → ℕ) → (List ℕ → ℕ) → Type 0
+KeepsCommitted before after = (name : List ℕ) → before name ≤ after name

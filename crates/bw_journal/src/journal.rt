@@ -5,7 +5,7 @@ ghost use Rattle.bw_model.specs.Counts.{Counts};
 ghost use Rattle.bw_store.specs.Stores.{KeepsOthers};
 ghost use Rattle.bw_journal.specs.JournalHeaders.{Header};
 ghost use Rattle.bw_journal.specs.Notes.{BeginsNotes, BeginsInPart, Notes, NotesInPart};
-ghost use Rattle.bw_journal.specs.Notes.{KeepsHeaders};
+ghost use Rattle.bw_journal.specs.Notes.{KeepsHeaders, KeepsCommitted};
 
 use bw_model::Name;
 use bw_store::StoreFault;
@@ -32,6 +32,10 @@ pub trait Journal: Drop {
     /// implementation doesn't define it.
     ghost folder: { Self → List ℕ } = { λ _. [] };
 
+    /// How many bytes of each name's notes a stop leaves at least; 0 where an implementation doesn't
+    /// define it, which says nothing.
+    ghost committed: { Self → List ℕ → ℕ } = { λ _ _. 0 };
+
     /// Writes the header of a name's journal, unless it is there whole.
     ///
     /// Bytes that are no prefix of the header are never written over.
@@ -50,6 +54,8 @@ pub trait Journal: Drop {
         ensures folder { folder self.new ≡ folder self.old }
         ensures headers { IsTrue (honest self.old) →
             KeepsHeaders (header self.old) (header self.new) }
+        ensures committed { IsTrue (honest self.old) →
+            KeepsCommitted (committed self.old) (committed self.new) }
         ensures begun { IsTrue (honest self.old) → OnOk result
             (BeginsNotes name.now (header self.old name.now)
             (notes self.old name.now) (notes self.new name.now)) }
@@ -75,6 +81,8 @@ pub trait Journal: Drop {
         ensures folder { folder self.new ≡ folder self.old }
         ensures headers { IsTrue (honest self.old) →
             KeepsHeaders (header self.old) (header self.new) }
+        ensures committed { IsTrue (honest self.old) →
+            KeepsCommitted (committed self.old) (committed self.new) }
         ensures noted { IsTrue (honest self.old) → OnOk result
             (Notes offset bytes.now (notes self.old name.now) (notes self.new name.now)) }
         ensures failed { IsTrue (honest self.old) → OnErr result

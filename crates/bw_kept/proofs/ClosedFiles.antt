@@ -1,5 +1,5 @@
 -- The files of a name that isn't in a server's table are closed: the folder's book stays.
-use Rattle.std.proofs.Common.{◌≡◌, ◌≢◌, ◌∙◌, ℕ, Bool, true, false, cond, not, List, [], ◌∷◌, Option, Some, None, refl, sym, ap}
+use Rattle.std.proofs.Common.{◌≡◌, ◌≢◌, ◌≤◌, ◌∙◌, ℕ, Bool, true, false, cond, not, List, [], ◌∷◌, Option, Some, None, refl, sym, ap}
 use Rattle.std.specs.Prelude.{option_map, unwrap_or, is_some, IsTrue}
 use Rattle.std.specs.List.{find}
 use Rattle.std.specs.Str.{bytes_eq}
@@ -8,10 +8,11 @@ use Rattle.bw_model.specs.Wire.{is_name}
 use Rattle.bw_model.proofs.BookLemmas.{same_name}
 use Rattle.bw_disk.specs.declared.disk.Disk.{Ghosts}
 use Rattle.bw_folder.specs.Folders.{take_path}
-use Rattle.bw_folder.specs.Journals.{existence_of, known_but}
+use Rattle.bw_folder.specs.Journals.{existence_of, journal_path, known_but}
 use Rattle.bw_folder.specs.TakeFolders.{takes_disk, take_in_folder}
 use Rattle.bw_folder.specs.JournalFolders.{journals_disk, journals_folder, journals_limit, noted_in_folder}
-use Rattle.bw_folder.specs.JournalFolders.{header_in_folder, open_journals}
+use Rattle.bw_folder.specs.JournalFolders.{header_in_folder, open_journals, has_pending, committed_in}
+use Rattle.bw_folder.specs.PendingNotes.{length_of}
 use Rattle.bw_folder.specs.declared.folder.FolderStore.{FolderStore}
 use Rattle.bw_folder.specs.declared.journal.FolderJournal.{FolderJournal}
 use Rattle.bw_session.specs.SeenServers.{session_kept}
@@ -24,6 +25,7 @@ use Rattle.bw_kept.specs.KeptFolders.{HoldsKept}
 use Rattle.bw_kept.specs.Visits.{OnlyCloses}
 use Rattle.bw_kept.proofs.FolderGhosts.{folder_store, folder_journal}
 use Rattle.bw_kept.proofs.KeptChanges.{moved_asleep}
+use Rattle.bw_kept.proofs.DiskForms.{no_less}
 use Rattle.bw_kept.proofs.KeptForms.{never, outside_as}
 use Rattle.bw_kept.proofs.SeenAlike.{SeesSame, same_disks, same_notes, same_take}
 
@@ -65,7 +67,7 @@ module _ {D E F H : Type 0} (G : Ghosts D F) (K : Ghosts E H) (name : List ℕ)
     (sessions : KeepsSessions (session_kept old) (session_kept new)) (limit : new.limit ≡ old.limit) where
   seen : SeesSame old.stores.store old.stores.journal new.stores.store new.stores.journal
   seen = same_disks old.stores.store old.stores.journal new.stores.store new.stores.journal closes.takes
-      closes.settings.folder closes.notes closes.settings.settings.2
+      closes.settings.folder closes.notes closes.settings.settings.2 closes.noted
 
   notes_stay : (n : List ℕ) → noted_in_folder new.stores.journal n ≡ noted_in_folder old.stores.journal n
   notes_stay n = same_notes old.stores.store old.stores.journal new.stores.store new.stores.journal seen n
@@ -84,13 +86,26 @@ module _ {D E F H : Type 0} (G : Ghosts D F) (K : Ghosts E H) (name : List ℕ)
         limit = journals_limit old.stores.journal;
         existed = unwrap_or o
             (is_some (K.contents (journals_disk new.stores.journal) (take_path (journals_folder new.stores.journal) n)));
-      }) (ap (λ (known : List (List ℕ × Bool)). existence_of known n) closes.closed.journals
-      ∙ existence_else name n (open_journals old.stores.journal) apart)
+      }) (ap (λ (known : List (List ℕ × Bool)). existence_of known n) closes.released
+      ∙ existence_if (has_pending old.stores.journal name))
       ∙ ap (λ (o : Option (List ℕ)). record {
         limit = journals_limit old.stores.journal;
         existed = unwrap_or (existence_of (open_journals old.stores.journal) n) (is_some o);
       }) (ap (λ (f : List ℕ). K.contents (journals_disk new.stores.journal) (take_path f n)) closes.settings.settings.2
       ∙ ap (λ (d : E). K.contents d (take_path (journals_folder old.stores.journal) n)) closes.notes)
+    where
+      existence_if : (v : Bool) →
+          existence_of (cond v (open_journals old.stores.journal) (known_but name (open_journals old.stores.journal))) n
+          ≡ existence_of (open_journals old.stores.journal) n
+      existence_if true = refl
+      existence_if false = existence_else name n (open_journals old.stores.journal) apart
+
+  pub committed_stay : (n : List ℕ) → committed_in old.stores.journal n ≤ committed_in new.stores.journal n
+  committed_stay n =
+      no_less (committed_in old.stores.journal n) (committed_in new.stores.journal n)
+      (ap (λ (f : List ℕ). length_of (K.contents (journals_disk new.stores.journal) (journal_path f n)))
+      closes.settings.settings.2
+      ∙ ap (λ (d : E). length_of (K.contents d (journal_path (journals_folder old.stores.journal) n))) closes.notes)
 
   changes : ChangesUnder (folder_store G) (folder_journal K) name old new
   changes = record {
@@ -110,9 +125,12 @@ module _ {D E F H : Type 0} (G : Ghosts D F) (K : Ghosts E H) (name : List ℕ)
       moved_asleep (folder_store G) (folder_journal K) old new first book h honest honest_notes name true changes gone may
       closes.settings.settings.2 closes.settings.folder
       (closes.settings.settings.0 ∙ h.limits name ∙ sym limit) (λ e. never (sym e)) (λ e. never (sym e))
+      (λ n apart. committed_stay n)
       (outside_as old.limit new.limit (first name) name (log_of book name) (log_of book name)
+      (committed_in old.stores.journal name) (committed_in new.stores.journal name)
       (noted_in_folder old.stores.journal name) (noted_in_folder new.stores.journal name)
-      (take_in_folder old.stores.store name) (take_in_folder new.stores.store name) limit refl (notes_stay name)
+      (take_in_folder old.stores.store name) (take_in_folder new.stores.store name) limit refl (committed_stay name)
+      (notes_stay name)
       (files_stay name) (h.outside name named unknown)) refl
     where
       unknown : is_known h.table name ≡ false

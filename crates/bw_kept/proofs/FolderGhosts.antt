@@ -5,7 +5,7 @@ use Rattle.bw_disk.specs.declared.disk.Disk.{Ghosts}
 use Rattle.bw_journal.specs.declared.journal.Journal.{Ghosts as JournalGhosts}
 use Rattle.bw_folder.specs.TakeFolders.{takes_disk, takes_folder, takes_calls, takes_failures, take_in_folder}
 use Rattle.bw_folder.specs.JournalFolders.{journals_disk, journals_folder, journals_failures}
-use Rattle.bw_folder.specs.JournalFolders.{noted_in_folder, header_in_folder}
+use Rattle.bw_folder.specs.JournalFolders.{noted_in_folder, header_in_folder, committed_in}
 use Rattle.bw_folder.specs.declared.folder.FolderStore.{FolderStore}
 use Rattle.bw_folder.specs.declared.journal.FolderJournal.{FolderJournal}
 
@@ -26,4 +26,5 @@ folder_journal K = record {
   failures = journals_failures;
   honest = λ j. K.honest (journals_disk j);
   folder = journals_folder;
+  committed = committed_in;
 }

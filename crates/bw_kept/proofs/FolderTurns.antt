@@ -26,7 +26,7 @@ use Rattle.bw_session.specs.Books.{NotesAwake}
 use Rattle.bw_session.specs.TableChanges.{is_forgettable, forgettable_kept}
 use Rattle.bw_kept.specs.KeptTurns.{HasPlace, NoneMayLeave}
 use Rattle.bw_kept.specs.FolderRuns.{name_of_frame, turn_where, stops_where, ServesFrame, HasNoPlace, ends_with_request, may_leave}
-use Rattle.bw_kept.specs.KeptFolders.{HoldsKept, HoldsReady, IsInTable, IsOutOfTable}
+use Rattle.bw_kept.specs.KeptFolders.{HoldsKept, HoldsReady, IsInTable, StaysOutOfTable}
 use Rattle.bw_session.proofs.TableForms.{forgettable_reported}
 use Rattle.bw_kept.proofs.LogEnds.{change_ends}
 use Rattle.bw_session.proofs.ServerForms.{apart_names}
@@ -179,17 +179,20 @@ module _ {X Y : Type 0} (S : StoreGhosts X) (J : JournalGhosts Y) (ready new : S
               }
 
       abbrev IsOut : Option Log → List ℕ → Type 0
-      IsOut p n = IsOutOfTable new.limit (first n) n (log_of (with_change book name p) n) (J.notes new.stores.journal n)
-          (S.contents new.stores.store n)
+      IsOut p n = StaysOutOfTable new.limit (first n) n (log_of (with_change book name p) n)
+          (J.committed new.stores.journal n) (J.notes new.stores.journal n) (S.contents new.stores.store n)
 
       -- another name
       other_out : (n : List ℕ) (log : Log) → bytes_eq name n ≡ false → log ≡ log_of book n →
-          IsOutOfTable ready.limit (first n) n (log_of book n)
+          StaysOutOfTable ready.limit (first n) n (log_of book n) (J.committed ready.stores.journal n)
           (J.notes ready.stores.journal n) (S.contents ready.stores.store n) →
-          IsOutOfTable new.limit (first n) n log (J.notes new.stores.journal n) (S.contents new.stores.store n)
+          StaysOutOfTable new.limit (first n) n log (J.committed new.stores.journal n) (J.notes new.stores.journal n)
+          (S.contents new.stores.store n)
       other_out n log b e out =
-          outside_as ready.limit new.limit (first n) n (log_of book n) log (J.notes ready.stores.journal n) (J.notes new.stores.journal n)
-          (S.contents ready.stores.store n) (S.contents new.stores.store n) t.limit e (others.notes n b) (others.files n b) out
+          outside_as ready.limit new.limit (first n) n (log_of book n) log (J.committed ready.stores.journal n)
+          (J.committed new.stores.journal n) (J.notes ready.stores.journal n) (J.notes new.stores.journal n)
+          (S.contents ready.stores.store n) (S.contents new.stores.store n) t.limit e (t.committed honest_notes n)
+          (others.notes n b) (others.files n b) out
 
       -- the name itself, which is still unknown
       still_unknown : is_known (with_change h.table name None) name ≡ false → None ≡ o → IsOut None name
@@ -203,10 +206,11 @@ module _ {X Y : Type 0} (S : StoreGhosts X) (J : JournalGhosts Y) (ready new : S
           no_session (session_in new.sessions name) (sym (on.held.holds.names name) ∙ none) in
           let file : S.contents new.stores.store name ≡ h.now name =
           on.held.holds.others (t.honest ∙ honest) name (inr none) in
-          subst (λ (l : Log). IsOutOfTable new.limit (first name) name l (J.notes new.stores.journal name)
-          (S.contents new.stores.store name))
+          subst (λ (l : Log). StaysOutOfTable new.limit (first name) name l (J.committed new.stores.journal name)
+          (J.notes new.stores.journal name) (S.contents new.stores.store name))
           (sym (unknown_log book name (says.known ∙ e)))
-          (unknown_lies new.limit (first name) name (J.header new.stores.journal name) (J.notes new.stores.journal name)
+          (unknown_lies new.limit (first name) name (J.header new.stores.journal name)
+          (J.committed new.stores.journal name) (J.notes new.stores.journal name)
           (S.contents new.stores.store name) (subst (λ (v : ℕ). v < 2 ^ 32) (sym t.limit) h.small) limit
           (noted.existed name awake ∙ ap is_some says.same) (noted.unknown name gone awake) (file ∙ says.same))
 
@@ -281,8 +285,9 @@ module _ {X Y : Type 0} (S : StoreGhosts X) (J : JournalGhosts Y) (ready new : S
           (log_of (with_change book name o) n) (log_of b n) (first n) (h.now n)) changed
           (inside o changed o refl n);
       outside = λ n named.
-          subst (λ (b : Book). is_known b n ≡ false → IsOutOfTable new.limit (first n) n (log_of (with_change book name o) n)
-          (J.notes new.stores.journal n) (S.contents new.stores.store n)) changed
+          subst (λ (b : Book). is_known b n ≡ false → StaysOutOfTable new.limit (first n) n
+          (log_of (with_change book name o) n) (J.committed new.stores.journal n) (J.notes new.stores.journal n)
+          (S.contents new.stores.store n)) changed
           (outside o changed o refl n named);
       ready = λ n unknown is. never is;
     }

@@ -1,6 +1,6 @@
 -- Servers that make room and recover names before a frame is answered.
 use Rattle.std.proofs.Common.{◌≡◌, ◌⊎◌, inl, inr, ℕ, ◌<◌, ◌^◌, Bool, true, false, ◌||◌, not, List, Option, Some, None}
-use Rattle.std.proofs.Common.{refl, sym, ◌∙◌, ap, subst}
+use Rattle.std.proofs.Common.{refl, sym, ◌∙◌, ap, subst, arith}
 use Rattle.std.specs.Prelude.{IsTrue, IsSome, is_some, option_map, nat_le}
 use Rattle.std.specs.List.{Contains}
 use Rattle.std.specs.Option.{option_map_or}
@@ -13,9 +13,11 @@ use Rattle.bw_model.proofs.BookLemmas.{same_name}
 use Rattle.bw_store.specs.declared.store.TakeStore.{Ghosts as StoreGhosts}
 use Rattle.bw_disk.specs.declared.disk.Disk.{Ghosts as DiskGhosts}
 use Rattle.bw_journal.specs.JournalHeaders.{Header}
+use Rattle.bw_journal.specs.Notes.{KeepsCommitted}
 use Rattle.bw_journal.specs.declared.journal.Journal.{Ghosts as JournalGhosts}
 use Rattle.bw_folder.specs.TakeFolders.{takes_disk, takes_folder}
-use Rattle.bw_folder.specs.JournalFolders.{journals_disk}
+use Rattle.bw_folder.specs.Commits.{IsAllCommitted}
+use Rattle.bw_folder.specs.JournalFolders.{journals_disk, has_pending}
 use Rattle.bw_folder.specs.declared.folder.FolderStore.{FolderStore}
 use Rattle.bw_folder.specs.declared.journal.FolderJournal.{FolderJournal}
 use Rattle.bw_session.specs.Books.{HoldsBook}
@@ -30,17 +32,20 @@ use Rattle.bw_session.specs.Tables.{session_in}
 use Rattle.bw_session.specs.declared.session.Session.{Session}
 use Rattle.bw_session.specs.declared.server.Server.{Server}
 use Rattle.bw_session.proofs.JournalForms.{OrderIn}
-use Rattle.bw_kept.specs.FoundNames.{KeepsFolderBooks, KeepsDisks, KeepsSessions, StaysOutside, has_left, is_declined}
+use Rattle.bw_kept.specs.FoundNames.{KeepsFolderBooks, KeepsDisks, KeepsPendingNotes, KeepsSessions, StaysOutside, has_left, is_declined}
 use Rattle.bw_kept.specs.FoundNames.{OnlyForgets}
 use Rattle.bw_kept.specs.KeptFolders.{HoldsKept}
 use Rattle.bw_kept.specs.KeptTurns.{KeepsCounts, NoneMayLeave, HasPlace}
 use Rattle.bw_kept.specs.declared.room.Leaving.{Leaving}
 use Rattle.bw_kept.specs.declared.room.Leaving.TheVariants as leaving
 use Rattle.bw_kept.proofs.KeptChanges.{forgotten}
+use Rattle.bw_recovery.specs.LeftNames.{header_beside}
+use Rattle.bw_kept.specs.DiskNotes.{IsCommittedName, StayCommitted}
+use Rattle.bw_kept.proofs.DiskForms.{less_then, no_less, stays_after, stays_before}
 use Rattle.bw_kept.proofs.KeptForms.{never, outside_as}
 
 -- the same sessions hold the same book
-holds_same : (limit : ℕ) (store : Store) (sessions sessions' : List ℕ → Option Session) (book : Book) →
+pub holds_same : (limit : ℕ) (store : Store) (sessions sessions' : List ℕ → Option Session) (book : Book) →
     ((n : List ℕ) → sessions' n ≡ sessions n) → HoldsIn limit store sessions book → HoldsIn limit store sessions' book
 holds_same limit store sessions sessions' book same h = record {
   holds = record {
@@ -104,8 +109,40 @@ module _ {X Y : Type 0} (S : StoreGhosts X) (J : JournalGhosts Y) where
     journal_folder = ap J.folder journal;
   }
 
+  -- no fewer bytes are committed
+
+  pub committed_then : (old mid new : Y) → KeepsCommitted (J.committed old) (J.committed mid) →
+      KeepsCommitted (J.committed mid) (J.committed new) → KeepsCommitted (J.committed old) (J.committed new)
+  committed_then old mid new a b n = less_then (J.committed old n) (J.committed mid n) (J.committed new n) (a n) (b n)
+
+  pub committed_same : (old new : Y) → new ≡ old → KeepsCommitted (J.committed old) (J.committed new)
+  committed_same old new same n = no_less (J.committed old n) (J.committed new n) (ap (λ (y : Y). J.committed y n) same)
+
+  -- more is committed before what keeps entries, or after it
+
+  pub stay_after : (limit : ℕ) (first : List ℕ → Option (List ℕ)) (book : Book) (old mid new : Y) →
+      StayCommitted J limit first book old mid → KeepsCommitted (J.committed mid) (J.committed new) →
+      StayCommitted J limit first book old new
+  stay_after limit first book old mid new a b n =
+      stays_after (header_beside limit (first n)) n (log_of book n) (J.committed old n) (J.committed mid n) (J.committed new n) (a n) (b n)
+
+  pub stay_before : (limit limit' : ℕ) → limit' ≡ limit → (first : List ℕ → Option (List ℕ)) (book : Book)
+      (old mid new : Y) → KeepsCommitted (J.committed old) (J.committed mid) →
+      StayCommitted J limit' first book mid new → StayCommitted J limit first book old new
+  stay_before limit limit' same first book old mid new a b n =
+      stays_before (header_beside limit (first n)) n (log_of book n) (J.committed old n) (J.committed mid n) (J.committed new n) (a n)
+      (subst (λ (l : ℕ). StayCommitted J l first book mid new) same b n)
+
+  pub stay_keeps : (limit : ℕ) (first : List ℕ → Option (List ℕ)) (book : Book) (old new : Y) →
+      KeepsCommitted (J.committed old) (J.committed new) → StayCommitted J limit first book old new
+  stay_keeps limit first book old new a n = inl (a n)
+
   pub keeps_none : (s : Server X Y S J) → KeepsFolderBooks S J s s
-  keeps_none s = record { counts = counts_none s; books = λ honest honest_notes first book h. h }
+  keeps_none s = record {
+    counts = counts_none s;
+    books = λ honest honest_notes first book h. h;
+    committed = λ honest_notes n. omega arith;
+  }
 
   pub keeps_then : (old mid new : Server X Y S J) → KeepsFolderBooks S J old mid → KeepsFolderBooks S J mid new →
       KeepsFolderBooks S J old new
@@ -114,6 +151,8 @@ module _ {X Y : Type 0} (S : StoreGhosts X) (J : JournalGhosts Y) where
     books = λ honest honest_notes first book h.
         b.books (a.counts.honest ∙ honest) (a.counts.honest_notes ∙ honest_notes) first book
         (a.books honest honest_notes first book h);
+    committed = λ honest_notes. committed_then old.stores.journal mid.stores.journal new.stores.journal
+        (a.committed honest_notes) (b.committed (a.counts.honest_notes ∙ honest_notes));
   }
 
   -- a table that was laid out anew
@@ -141,8 +180,11 @@ module _ {X Y : Type 0} (S : StoreGhosts X) (J : JournalGhosts Y) where
     each = h.each;
     inside = h.inside;
     outside = λ n named e.
-        outside_as old.limit new.limit (first n) n (log_of book n) (log_of book n) (J.notes old.stores.journal n)
+        outside_as old.limit new.limit (first n) n (log_of book n) (log_of book n) (J.committed old.stores.journal n)
+        (J.committed new.stores.journal n) (J.notes old.stores.journal n)
         (J.notes new.stores.journal n) (S.contents old.stores.store n) (S.contents new.stores.store n) k.limit refl
+        (no_less (J.committed old.stores.journal n) (J.committed new.stores.journal n)
+        (ap (λ (y : Y). J.committed y n) k.stores.1))
         (ap (λ (y : Y). J.notes y n) k.stores.1) (ap (λ (x : X). S.contents x n) k.stores.0) (h.outside n named e);
     ready = h.ready;
   }
@@ -152,21 +194,26 @@ module _ {X Y : Type 0} (S : StoreGhosts X) (J : JournalGhosts Y) where
   keeps_table old new k = record {
     counts = counts_same old new k.stores.0 k.stores.1 k.limit;
     books = λ honest honest_notes first book h. table_kept old new k first book h;
+    committed = λ honest_notes. committed_same old.stores.journal new.stores.journal k.stores.1;
   }
 
   -- a name was forgotten, and then its files were closed
   pub keeps_forgotten : (name : List ℕ) (old mid new : Server X Y S J) → ForgetsNow S J name old mid →
-      KeepsCounts S J mid new →
+      IsCommittedName J name old.stores.journal → KeepsCounts S J mid new →
+      (IsTrue (J.honest mid.stores.journal) → KeepsCommitted (J.committed mid.stores.journal)
+      (J.committed new.stores.journal)) →
       (IsTrue (S.honest mid.stores.store) → IsTrue (J.honest mid.stores.journal) →
       (first : List ℕ → Option (List ℕ)) (book : Book) → HoldsKept S J first mid book → session_kept mid name ≡ None →
       HoldsKept S J first new book) → KeepsFolderBooks S J old new
-  keeps_forgotten name old mid new f counts closed =
+  keeps_forgotten name old mid new f all counts more closed =
       let same = counts_same old mid f.others.store f.journal f.others.limit in
       record {
         counts = counts_then old mid new same counts;
         books = λ honest honest_notes first book h.
             closed (same.honest ∙ honest) (same.honest_notes ∙ honest_notes) first book
-            (forgotten S J old mid first book h honest honest_notes name f) f.gone;
+            (forgotten S J old mid first book h honest honest_notes name f all) f.gone;
+        committed = λ honest_notes. committed_then old.stores.journal mid.stores.journal new.stores.journal
+            (committed_same old.stores.journal mid.stores.journal f.journal) (more (same.honest_notes ∙ honest_notes));
       }
 
   pub outside_then : (old mid new : Server X Y S J) → StaysOutside S J old mid → StaysOutside S J mid new →
@@ -227,6 +274,20 @@ module _ {D E F H : Type 0} {G : DiskGhosts D F} {K : DiskGhosts E H} {S : Store
   pub disks_none : (s : Server (FolderStore D F G) (FolderJournal E H K) S J) → KeepsDisks s s
   disks_none s = record { takes = refl; notes = refl; folder = refl }
 
+  -- and notes are pending as before
+
+  pub pending_same : (old new : Server (FolderStore D F G) (FolderJournal E H K) S J) →
+      new.stores.journal ≡ old.stores.journal → KeepsPendingNotes old new
+  pending_same old new journal n = ap (λ (j : FolderJournal E H K). has_pending j n) journal
+
+  pub pending_then : (old mid new : Server (FolderStore D F G) (FolderJournal E H K) S J) → KeepsPendingNotes old mid →
+      KeepsPendingNotes mid new → KeepsPendingNotes old new
+  pending_then old mid new a b n = b n ∙ a n
+
+  pub none_pending : (old new : Server (FolderStore D F G) (FolderJournal E H K) S J) → KeepsPendingNotes old new →
+      IsAllCommitted old.stores.journal → IsAllCommitted new.stores.journal
+  none_pending old new same none n = same n ∙ none n
+
   pub disks_then : (old mid new : Server (FolderStore D F G) (FolderJournal E H K) S J) → KeepsDisks old mid →
       KeepsDisks mid new → KeepsDisks old new
   disks_then old mid new a b = record {
@@ -239,7 +300,7 @@ module _ {D E F H : Type 0} {G : DiskGhosts D F} {K : DiskGhosts E H} {S : Store
       new.stores.store ≡ old.stores.store → new.stores.journal ≡ old.stores.journal → KeepsDisks old new
   disks_same old new store journal = record {
     takes = ap takes_disk store;
-    notes = ap journals_disk journal;
+    notes = ap (λ (j : FolderJournal E H K). K.failures (journals_disk j)) journal;
     folder = ap takes_folder store;
   }
 
@@ -255,6 +316,7 @@ module _ {D E F H : Type 0} {G : DiskGhosts D F} {K : DiskGhosts E H} {S : Store
   forgets_none it old new e = subst (OnlyForgets it old) (sym e) (record {
     kept = keeps_none S J old;
     disks = disks_none old;
+    pending = λ n. refl;
     outside = outside_none S J old;
     same = λ stays name. refl;
   })
@@ -265,6 +327,7 @@ module _ {D E F H : Type 0} {G : DiskGhosts D F} {K : DiskGhosts E H} {S : Store
   forgets_table it old new k = record {
     kept = keeps_table S J old new k;
     disks = disks_same old new k.stores.0 k.stores.1;
+    pending = pending_same old new k.stores.1;
     outside = outside_same S J old new k.sessions;
     same = λ stays. k.sessions;
   }
@@ -275,6 +338,7 @@ module _ {D E F H : Type 0} {G : DiskGhosts D F} {K : DiskGhosts E H} {S : Store
   forgets_still it now old new stays f = record {
     kept = f.kept;
     disks = f.disks;
+    pending = f.pending;
     outside = f.outside;
     same = λ e. f.same stays;
   }
@@ -285,6 +349,7 @@ module _ {D E F H : Type 0} {G : DiskGhosts D F} {K : DiskGhosts E H} {S : Store
   forgets_then it old mid new a b = record {
     kept = keeps_then S J old mid new a.kept b.kept;
     disks = disks_then old mid new a.disks b.disks;
+    pending = pending_then old mid new a.pending b.pending;
     outside = outside_then S J old mid new a.outside b.outside;
     same = λ stays name. b.same stays name ∙ a.same refl name;
   }

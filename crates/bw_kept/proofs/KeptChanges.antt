@@ -1,5 +1,5 @@
 -- A name leaves a server's table, or comes into it, or changes outside it: the folder's book stays.
-use Rattle.std.proofs.Common.{◌≡◌, inl, inr, ℕ, ◌<◌, ◌^◌, Bool, true, false, cond, not, ◌||◌, ◌&&◌, List, ◌∷◌}
+use Rattle.std.proofs.Common.{◌≡◌, inl, inr, ℕ, ◌<◌, ◌≤◌, ◌^◌, Bool, true, false, cond, not, ◌||◌, ◌&&◌, List, ◌∷◌}
 use Rattle.std.proofs.Common.{Option, Some, None, is_some, refl, sym, ◌∙◌, ap, subst}
 use Rattle.std.specs.Prelude.{IsTrue, option_map}
 use Rattle.std.specs.Str.{bytes_eq}
@@ -23,8 +23,10 @@ use Rattle.bw_session.specs.declared.server.Server.{Server}
 use Rattle.bw_session.proofs.ServerForms.{apart_names}
 use Rattle.bw_session.specs.TableChanges.{with_asleep, ForgetsBook, ForgetsNow, InsertsBook, InsertsNow, IsOfLog}
 use Rattle.bw_session.specs.TableChanges.{ChangesUnder, IsUnbegun, KeepsBook, NamesOutsideMayChange}
-use Rattle.bw_kept.specs.KeptFolders.{HoldsBeside, HoldsKept, HoldsReady, IsInTable, IsOutOfTable}
-use Rattle.bw_kept.proofs.KeptForms.{never, notes_less, outside_as, beside_less}
+use Rattle.bw_kept.specs.KeptFolders.{HoldsBeside, HoldsKept, HoldsReady, IsInTable, StaysOutOfTable}
+use Rattle.bw_kept.specs.DiskNotes.{IsCommittedName}
+use Rattle.bw_kept.proofs.DiskForms.{no_less, on_disk_all}
+use Rattle.bw_kept.proofs.KeptForms.{never, notes_less, outside_as, outside_whole, beside_less}
 use Rattle.bw_kept.proofs.ChangeForms.{and_false, asleep_else, asleep_there, done_known, first_else, first_there, known_log, known_not}
 use Rattle.bw_kept.proofs.ChangeForms.{whole_left}
 
@@ -36,15 +38,16 @@ module _ {X Y : Type 0} (S : StoreGhosts X) (J : JournalGhosts Y) (old new : Ser
 
   -- what lies outside the table afterwards
   abbrev IsOut : List ℕ → Type 0
-  IsOut n = IsOutOfTable new.limit (first n) n (log_of book n) (J.notes new.stores.journal n)
-      (S.contents new.stores.store n)
+  IsOut n = StaysOutOfTable new.limit (first n) n (log_of book n) (J.committed new.stores.journal n)
+      (J.notes new.stores.journal n) (S.contents new.stores.store n)
 
   awake_known : (n : List ℕ) → is_known h.table n ≡ true → asleep n ≡ false
   awake_known n e = ap not (ap (λ (b : Bool). b || false) e)
 
   -- a name leaves the table
-  pub forgotten : (name : List ℕ) → ForgetsNow S J name old new → HoldsKept S J first new book
-  forgotten name f = record {
+  pub forgotten : (name : List ℕ) → ForgetsNow S J name old new → IsCommittedName J name old.stores.journal →
+      HoldsKept S J first new book
+  forgotten name f committed = record {
     table = without name h.table;
     now = with_first h.now name content;
     held = b.held;
@@ -105,8 +108,15 @@ module _ {X Y : Type 0} (S : StoreGhosts X) (J : JournalGhosts Y) (old new : Ser
       here : IsOut name
       here =
           outside_as old.limit new.limit (first name) name (log_of book name) (log_of book name)
+          (J.committed old.stores.journal name) (J.committed new.stores.journal name)
           (J.notes old.stores.journal name) (J.notes new.stores.journal name) content (S.contents new.stores.store name)
-          f.others.limit refl (ap (λ (y : Y). J.notes y name) f.journal) (ap (λ (x : X). S.contents x name) f.others.store)
+          f.others.limit refl
+          (no_less (J.committed old.stores.journal name) (J.committed new.stores.journal name)
+          (ap (λ (y : Y). J.committed y name) f.journal))
+          (ap (λ (y : Y). J.notes y name) f.journal) (ap (λ (x : X). S.contents x name) f.others.store)
+          (outside_whole old.limit (first name) name (log_of book name) (J.committed old.stores.journal name)
+          (J.notes old.stores.journal name) content
+          (λ found on. on_disk_all (J.committed old.stores.journal name) (J.notes old.stores.journal name) found committed on)
           (record {
             quiet = ap count_waiting there.same_log ∙ b.quiet;
             lies = inl (whole_left old.limit (first name) name (log_of book name) (J.header old.stores.journal name)
@@ -116,16 +126,18 @@ module _ {X Y : Type 0} (S : StoreGhosts X) (J : JournalGhosts Y) (old new : Ser
                 (b.journal ∙ ap (λ (l : Log). Some (journal_of (J.header old.stores.journal name) name l)) log)
                 (b.file ∙ ap (λ (l : Log). file_due (h.now name) l old.limit) log
                 ∙ ap (λ (o : Option (List ℕ)). file_due o (log_of book name) old.limit) there.same_first));
-          })
+          }))
 
       outside : (n : List ℕ) → IsTrue (is_name n) → is_known (without name h.table) n ≡ false → (v : Bool) →
           bytes_eq name n ≡ v → IsOut n
       outside n named e true same = subst IsOut (same_name name n same) here
       outside n named e false apart =
           outside_as old.limit new.limit (first n) n (log_of book n) (log_of book n)
+          (J.committed old.stores.journal n) (J.committed new.stores.journal n)
           (J.notes old.stores.journal n) (J.notes new.stores.journal n) (S.contents old.stores.store n)
-          (S.contents new.stores.store n) f.others.limit refl (ap (λ (y : Y). J.notes y n) f.journal)
-          (ap (λ (x : X). S.contents x n) f.others.store)
+          (S.contents new.stores.store n) f.others.limit refl (no_less (J.committed old.stores.journal n)
+          (J.committed new.stores.journal n) (ap (λ (y : Y). J.committed y n) f.journal))
+          (ap (λ (y : Y). J.notes y n) f.journal) (ap (λ (x : X). S.contents x n) f.others.store)
           (h.outside n named (sym (known-without_other h.table name n apart) ∙ e))
 
   -- a name comes into the table
@@ -194,12 +206,15 @@ module _ {X Y : Type 0} (S : StoreGhosts X) (J : JournalGhosts Y) (old new : Ser
           }
 
       outside : (n : List ℕ) → IsTrue (is_name n) → is_known table n ≡ false → (v : Bool) → bytes_eq name n ≡ v →
-          IsOutOfTable new.limit (first n) n (log_of book n) (J.notes new.stores.journal n) (S.contents new.stores.store n)
+          IsOut n
       outside n named e true same = never (sym e ∙ ap (λ (v : Bool). v || is_known h.table n) same)
       outside n named e false apart =
           outside_as old.limit new.limit (first n) n (log_of book n) (log_of book n)
+          (J.committed old.stores.journal n) (J.committed new.stores.journal n)
           (J.notes old.stores.journal n) (J.notes new.stores.journal n) (S.contents old.stores.store n)
-          (S.contents new.stores.store n) i.others.limit refl (ap (λ (y : Y). J.notes y n) i.journal)
+          (S.contents new.stores.store n) i.others.limit refl (no_less (J.committed old.stores.journal n)
+          (J.committed new.stores.journal n) (ap (λ (y : Y). J.committed y n) i.journal))
+          (ap (λ (y : Y). J.notes y n) i.journal)
           (ap (λ (x : X). S.contents x n) i.others.store) (h.outside n named (sym (known_else n apart) ∙ e))
 
   -- What lies under a name outside the table changes: it is asleep afterwards, or awake.
@@ -209,8 +224,8 @@ module _ {X Y : Type 0} (S : StoreGhosts X) (J : JournalGhosts Y) (old new : Ser
       (limit : (J.header new.stores.journal name).limit ≡ new.limit)
       (unbegun : value ≡ false → IsUnbegun S J name new)
       (ready : value ≡ false → (is_known book name ≡ false) × (S.contents new.stores.store name ≡ first name))
-      (out : IsOutOfTable new.limit (first name) name (log_of book name) (J.notes new.stores.journal name)
-      (S.contents new.stores.store name)) where
+      (no_fewer : (n : List ℕ) → bytes_eq name n ≡ false → J.committed old.stores.journal n ≤ J.committed new.stores.journal n)
+      (out : IsOut name) where
     abbrev pub content : Option (List ℕ)
     content = S.contents new.stores.store name
 
@@ -227,11 +242,12 @@ module _ {X Y : Type 0} (S : StoreGhosts X) (J : JournalGhosts Y) (old new : Ser
     unknown = h.held.holds.names name ∙ ap (λ (o : Option Session). is_some (option_map kept_by o)) gone
 
     others_stay : (n : List ℕ) → bytes_eq name n ≡ false → IsTrue (is_name n) → is_known h.table n ≡ false →
-        IsOutOfTable new.limit (first n) n (log_of book n) (J.notes new.stores.journal n) (S.contents new.stores.store n)
+        IsOut n
     others_stay n apart named e =
         outside_as old.limit new.limit (first n) n (log_of book n) (log_of book n)
+        (J.committed old.stores.journal n) (J.committed new.stores.journal n)
         (J.notes old.stores.journal n) (J.notes new.stores.journal n) (S.contents old.stores.store n)
-        (S.contents new.stores.store n) moves.limit refl (moves.notes n (apart_names name n apart))
+        (S.contents new.stores.store n) moves.limit refl (no_fewer n apart) (moves.notes n (apart_names name n apart))
         (moves.contents n (apart_names name n apart)) (h.outside n named e)
 
     pub moved : HoldsBeside S J awake' first new book
@@ -286,10 +302,8 @@ module _ {X Y : Type 0} (S : StoreGhosts X) (J : JournalGhosts Y) (old new : Ser
             }
 
         outside : (n : List ℕ) → IsTrue (is_name n) → is_known h.table n ≡ false → (v : Bool) → bytes_eq name n ≡ v →
-            IsOutOfTable new.limit (first n) n (log_of book n) (J.notes new.stores.journal n) (S.contents new.stores.store n)
-        outside n named e true same =
-            subst (λ (x : List ℕ). IsOutOfTable new.limit (first x) x (log_of book x) (J.notes new.stores.journal x)
-            (S.contents new.stores.store x)) (same_name name n same) out
+            IsOut n
+        outside n named e true same = subst IsOut (same_name name n same) out
         outside n named e false apart = others_stay n apart named e
 
         ready_then : (n : List ℕ) → awake' n ≡ true → (v : Bool) → bytes_eq name n ≡ v →

@@ -1,6 +1,6 @@
 -- What lies outside a table, and how much is known of it.
-use Rattle.std.proofs.Common.{◌≡◌, ◌⊎◌, inl, inr, ℕ, ◌<◌, ◌^◌, Bool, true, false, not, ◌||◌, List}
-use Rattle.std.proofs.Common.{Option, Some, None, refl, sym, ◌∙◌, ap, subst}
+use Rattle.std.proofs.Common.{◌≡◌, ◌⊎◌, inl, inr, ℕ, ◌<◌, ◌≤◌, ◌^◌, Bool, true, false, not, ◌||◌, List}
+use Rattle.std.proofs.Common.{Option, Some, None, refl, sym, ◌∙◌, ap, subst, arith}
 use Rattle.std.specs.Prelude.{is_some}
 use Rattle.std.specs.Str.{bytes_eq}
 use Rattle.bw_model.specs.Book.{Log, Book, no_log, is_known, made}
@@ -12,8 +12,11 @@ use Rattle.bw_journal.specs.declared.journal.Journal.{Ghosts as JournalGhosts}
 use Rattle.bw_session.specs.declared.server.Server.{Server}
 use Rattle.bw_recovery.specs.LeftNames.{header_beside}
 use Rattle.bw_session.specs.Books.{NotesAwake}
-use Rattle.bw_kept.specs.KeptFolders.{HoldsBeside, HoldsKept, HoldsReady, IsOutOfTable, LiesInFolder}
+use Rattle.bw_kept.specs.KeptFolders.{HoldsBeside, HoldsKept, HoldsReady, IsOutOfTable, StaysOutOfTable, LiesInFolder}
 use Rattle.bw_kept.specs.LeftNames.{LiesAsEither}
+use Rattle.bw_folder.specs.PendingNotes.{IsOnDisk}
+use Rattle.bw_journal.proofs.Lengths.{length-header_bytes}
+use Rattle.bw_kept.proofs.DiskForms.{on_disk_less, on_disk_short}
 use Rattle.bw_kept.proofs.LeftNames.{Known, name_left, header_is}
 
 pub never : {A : Type 0} → false ≡ true → A
@@ -22,25 +25,45 @@ never e = absurd cc
 pub no_some : {A B : Type 0} {b : B} → None ≡ Some b → A
 no_some e = cc
 
--- what is outside a table, where all of it is the same
-pub outside_as : (limit limit' : ℕ) (first : Option (List ℕ)) (name : List ℕ) (log log' : Log)
-    (journal journal' file file' : Option (List ℕ)) → limit' ≡ limit → log' ≡ log → journal' ≡ journal →
-    file' ≡ file → IsOutOfTable limit first name log journal file → IsOutOfTable limit' first name log' journal' file'
-outside_as limit limit' first name log log' journal journal' file file' l g j f o =
-    subst (λ (v : ℕ). IsOutOfTable v first name log' journal' file') (sym l)
-    (subst (λ (v : Log). IsOutOfTable limit first name v journal' file') (sym g)
-    (subst (λ (v : Option (List ℕ)). IsOutOfTable limit first name log v file') (sym j)
-    (subst (λ (v : Option (List ℕ)). IsOutOfTable limit first name log journal v) (sym f) o)))
+-- what is outside a table, where all of it is the same, and no less is committed
+pub outside_as : (limit limit' : ℕ) (first : Option (List ℕ)) (name : List ℕ) (log log' : Log) (committed committed' : ℕ)
+    (journal journal' file file' : Option (List ℕ)) → limit' ≡ limit → log' ≡ log → committed ≤ committed' →
+    journal' ≡ journal → file' ≡ file → StaysOutOfTable limit first name log committed journal file →
+    StaysOutOfTable limit' first name log' committed' journal' file'
+outside_as limit limit' first name log log' committed committed' journal journal' file file' l g c j f o = λ found on.
+    subst (λ (v : ℕ). IsOutOfTable v first name log' found file') (sym l)
+    (subst (λ (v : Log). IsOutOfTable limit first name v found file') (sym g)
+    (subst (λ (v : Option (List ℕ)). IsOutOfTable limit first name log found v) (sym f)
+    (o found (on_disk_less committed committed' journal journal' found c j on))))
+
+-- what lies outside a table now
+pub outside_now : (limit : ℕ) (first : Option (List ℕ)) (name : List ℕ) (log : Log) (committed : ℕ)
+    (journal file : Option (List ℕ)) → StaysOutOfTable limit first name log committed journal file →
+    IsOutOfTable limit first name log journal file
+outside_now limit first name log committed journal file o = o journal (inl refl)
+
+-- what lies there stays so where the disk has all that is noted
+pub outside_whole : (limit : ℕ) (first : Option (List ℕ)) (name : List ℕ) (log : Log) (committed : ℕ)
+    (journal file : Option (List ℕ)) →
+    ((found : Option (List ℕ)) → IsOnDisk committed journal found → found ≡ journal) →
+    IsOutOfTable limit first name log journal file → StaysOutOfTable limit first name log committed journal file
+outside_whole limit first name log committed journal file whole o = λ found on.
+    subst (λ (v : Option (List ℕ)). IsOutOfTable limit first name log v file) (sym (whole found on)) o
 
 -- a name of which nothing is known lies in the folder, if its journal is no more than a prefix of a header
 pub unknown_lies : (limit : ℕ) (first : Option (List ℕ)) (name : List ℕ) (h : Header)
-    (journal file : Option (List ℕ)) → limit < 2 ^ 32 → h.limit ≡ limit → h.existed ≡ is_some first →
-    IsPrefixOf (header_bytes name h) journal → file ≡ first → IsOutOfTable limit first name no_log journal file
+    (committed : ℕ) (journal file : Option (List ℕ)) → limit < 2 ^ 32 → h.limit ≡ limit → h.existed ≡ is_some first →
+    IsPrefixOf (header_bytes name h) journal → file ≡ first →
+    StaysOutOfTable limit first name no_log committed journal file
 unfolding made
-unknown_lies limit first name h journal file small same existed prefix stays = record {
-  quiet = refl;
-  lies = go (name_left limit first name no_log journal file small known);
-}
+unknown_lies limit first name h committed journal file small same existed prefix stays =
+    outside_whole limit first name no_log committed journal file
+    (λ found on. on_disk_short committed (header_bytes name h) journal found
+    (let long = length-header_bytes name h in omega (arith, long)) prefix on)
+    (record {
+      quiet = refl;
+      lies = go (name_left limit first name no_log journal file small known);
+    })
   where
     head : h ≡ header_beside limit first
     head = header_is h limit first same existed

@@ -94,7 +94,7 @@ module _ {X Y : Type 0} (S : StoreGhosts X) (J : JournalGhosts Y) where
       go true known = table_file first s book h honest name known (inr closed)
       go false unknown =
           closed_lies s.limit (first name) name (log_of book name) (J.notes s.stores.journal name)
-          (S.contents s.stores.store name) closed (h.outside name named unknown).lies
+          (S.contents s.stores.store name) closed (h.outside name named unknown (J.notes s.stores.journal name) (inl refl)).lies
           ∙ file_by_is first s.limit book name
 
   module _ (Fails : List ℕ → Server X Y S J → Server X Y S J → Type 0) (Differs : List ℕ → Server X Y S J → Type 0) where
@@ -118,5 +118,5 @@ module _ {X Y : Type 0} (S : StoreGhosts X) (J : JournalGhosts Y) where
           run = on;
           closed = λ name named closed. closed_there first new on.later on.held (same.0 ∙ honest) name named closed;
           quiet = λ name known quiet. table_file first new on.later on.held (same.0 ∙ honest) name known (inl quiet);
-          left = leave first new on.later (same.0 ∙ honest) (same.1 ∙ honest_notes) on.held;
+          left = λ journals disk. leave first new on.later (same.0 ∙ honest) (same.1 ∙ honest_notes) on.held journals disk;
         }

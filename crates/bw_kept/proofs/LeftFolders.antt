@@ -1,9 +1,11 @@
 -- What lies in a folder wherever a server over it is stopped, and the next server over it.
 use Rattle.std.proofs.Common.{◌≡◌, ◌⊎◌, inl, inr, ℕ, zero, suc, ◌<◌, ◌≤◌, Bool, true, false, not, ◌||◌, List, [], ◌∷◌}
-use Rattle.std.proofs.Common.{◌++◌, take, drop, Option, Some, None, is_some, refl, sym, ◌∙◌, ap, subst, arith}
+use Rattle.std.proofs.Common.{◌++◌, length, take, drop, Option, Some, None, is_some, refl, sym, ◌∙◌, ap, subst, arith}
 use Rattle.std.specs.Prelude.{IsTrue, option_map, fold, count_by}
+use Rattle.std.specs.List.{list_all}
 use Rattle.std.proofs.lemmas.Bool.{ltb-true}
 use Rattle.bw_model.specs.Bytes.{first_free}
+use Rattle.bw_model.specs.ReadBack.{is_admitted}
 use Rattle.bw_model.specs.Take.{Take, Request}
 use Rattle.bw_model.specs.Wire.{is_name}
 use Rattle.bw_model.specs.Book.{Log, Book, log_of, is_known, made}
@@ -12,10 +14,12 @@ use Rattle.bw_model.specs.CountedTurn.{is_pending}
 use Rattle.bw_model.proofs.BookLemmas.{unknown_log}
 use Rattle.bw_store.specs.declared.store.TakeStore.{Ghosts as StoreGhosts}
 use Rattle.bw_journal.specs.JournalHeaders.{Header}
+use Rattle.bw_journal.specs.NotedJournals.{journal_of, up_to}
 use Rattle.bw_journal.specs.Stops.{cut_log, cut_book}
 use Rattle.bw_journal.specs.declared.journal.Journal.{Ghosts as JournalGhosts}
-use Rattle.bw_journal.proofs.CutLaws.{books_are_cut, logs_cut, log_left, made-cut}
+use Rattle.bw_journal.proofs.CutLaws.{books_are_cut, logs_cut, made-cut}
 use Rattle.bw_journal.proofs.RecoveryLaws.{held_files_survive}
+use Rattle.bw_folder.specs.PendingNotes.{IsOnDisk}
 use Rattle.bw_session.specs.Servers.{kept_by}
 use Rattle.bw_session.specs.Tables.{session_in}
 use Rattle.bw_session.specs.WriteOrders.{IsInOrder, file_due}
@@ -25,16 +29,18 @@ use Rattle.bw_session.specs.declared.server.Server.{Server}
 use Rattle.bw_session.proofs.ResumeForms.{book_admits, journal_cut}
 use Rattle.bw_recovery.specs.Left.{IsLeftFile, wanted_file}
 use Rattle.bw_recovery.specs.LeftNames.{header_beside, IsLeftName}
+use Rattle.bw_kept.specs.DiskNotes.{AreOnDisk}
 use Rattle.bw_kept.specs.FolderRuns.{ends_with_request}
 use Rattle.bw_kept.specs.KeptFolders.{HoldsKept, IsOutOfTable, LiesInFolder}
 use Rattle.bw_kept.specs.LeftFolders.{LiesThere, LeavesDone, KeptServersLeaveDone, EmptyServersHold}
-use Rattle.bw_kept.specs.LeftFolders.{LeftBooksLieThere}
-use Rattle.bw_kept.specs.LeftNames.{IsWrittenInOrder, LiesAsEither}
+use Rattle.bw_kept.specs.LeftFolders.{LeftBooksLieThere, CommittedBooksAreCovered}
+use Rattle.bw_kept.specs.LeftNames.{IsWrittenInOrder}
 use Rattle.bw_session.specs.Books.{WaitingNumbersAreInOrder}
-use Rattle.bw_kept.proofs.ChangeForms.{done_known}
-use Rattle.bw_kept.proofs.KeptForms.{never}
-use Rattle.bw_kept.proofs.LeftBooks.{ahead_book, log-chosen, chosen, ahead, ahead_logs}
-use Rattle.bw_kept.proofs.LeftNames.{Known, Stands, name_left, header_is}
+use Rattle.bw_kept.proofs.DiskForms.{on_disk_all}
+use Rattle.bw_kept.proofs.KeptForms.{never, outside_whole}
+use Rattle.bw_kept.proofs.LeftBooks.{IsMost, first_book, leaves_first, log-kept, log_kept, most_free}
+use Rattle.bw_kept.proofs.LeftLengths.{left_long, stands_long}
+use Rattle.bw_kept.proofs.LeftNames.{Known, LiesByFirst, Stands, name_on_disk, header_is}
 
 -- A log cut to its done numbers.
 
@@ -83,38 +89,53 @@ outside_cut limit first name log journal file lies = record {
   lies = lies_cut limit first name log journal file lies;
 }
 
--- so of a book
+-- so of a book, of each of whose names these numbers were admitted
 lies_there : (limit : ℕ) (first : List ℕ → Option (List ℕ)) (book : Book) (journals files : List ℕ → Option (List ℕ)) →
-    ((name : List ℕ) → IsTrue (is_known book name) → IsLog (log_of book name)) →
+    ((name : List ℕ) → (log_of book name).done ≤ first_free (log_of book name).admitted) →
+    ((name : List ℕ) → IsTrue (list_all is_admitted (log_of book name).admitted)) →
     ((name : List ℕ) → IsTrue (is_name name) → LiesInFolder limit (first name) name (log_of book name) (journals name)
     (files name)) → LiesThere limit first (cut_book book) journals files
-lies_there limit first book journals files each lies = record {
+lies_there limit first book journals files free right lies = record {
   each = record { logs = logs; ends = ends };
   names = λ name named.
       subst (λ (l : Log). IsOutOfTable limit (first name) name l (journals name) (files name)) (sym (logs_cut book name))
       (outside_cut limit (first name) name (log_of book name) (journals name) (files name) (lies name named));
 }
   where
-    ends_of : (name : List ℕ) → (v : Bool) → is_known book name ≡ v → IsTrue (ends_with_request (cut_log (log_of book name)))
-    ends_of name true known =
-        ends_cut (log_of book name).done (log_of book name).admitted (each name known).all_done
-    ends_of name false unknown =
-        ap (λ (l : Log). ends_with_request (cut_log l)) (unknown_log book name unknown)
-
     ends : (name : List ℕ) → IsTrue (ends_with_request (log_of (cut_book book) name))
     ends name =
-        subst (λ (l : Log). IsTrue (ends_with_request l)) (sym (logs_cut book name)) (ends_of name (is_known book name) refl)
+        subst (λ (l : Log). IsTrue (ends_with_request l)) (sym (logs_cut book name))
+        (ends_cut (log_of book name).done (log_of book name).admitted (free name))
 
     logs : (name : List ℕ) → IsTrue (is_known (cut_book book) name) → IsLog (log_of (cut_book book) name)
     logs name known =
         let some : 0 < (log_of book name).done =
         ltb-true 0 (log_of book name).done (sym ((books_are_cut book).known name) ∙ known) in
         subst IsLog (sym (logs_cut book name))
-        (log_left (log_of book name) (each name (done_known book name some)) some)
+        (log_kept (log_of book name) (log_of book name).done (right name) (free name) some)
+
+-- each done number of a folder's book was admitted
+module _ (book : Book) (each : (name : List ℕ) → IsTrue (is_known book name) → IsLog (log_of book name)) where
+  pub book_free : (name : List ℕ) → (log_of book name).done ≤ first_free (log_of book name).admitted
+  book_free name = go (is_known book name) refl
+    where
+      go : (v : Bool) → is_known book name ≡ v → (log_of book name).done ≤ first_free (log_of book name).admitted
+      go true known = (each name known).all_done
+      go false unknown =
+          let none = ap (λ (l : Log). l.done) (unknown_log book name unknown) in omega (arith, none)
+
+  book_right : (name : List ℕ) → IsTrue (list_all is_admitted (log_of book name).admitted)
+  book_right name = go (is_known book name) refl
+    where
+      go : (v : Bool) → is_known book name ≡ v → IsTrue (list_all is_admitted (log_of book name).admitted)
+      go true known = (each name known).fits
+      go false unknown =
+          ap (λ (l : Log). list_all is_admitted l.admitted) (unknown_log book name unknown)
 
 pub left_books_lie_there : LeftBooksLieThere
 left_books_lie_there limit first book journals files left =
-    lies_there limit first book journals files left.is_book.logs (λ name named. inl (left.names name))
+    lies_there limit first book journals files (book_free book left.is_book.logs) (book_right book left.is_book.logs)
+    (λ name named. inl (left.names name))
 
 -- A server that knows no name yet.
 
@@ -138,7 +159,11 @@ empty_servers_hold S J first s book e there = record {
   limits = e.limits;
   each = there.each;
   inside = λ name known. never known;
-  outside = λ name named unknown. there.names name named;
+  outside = λ name named unknown.
+      outside_whole s.limit (first name) name (log_of book name) (J.committed s.stores.journal name)
+      (J.notes s.stores.journal name) (S.contents s.stores.store name)
+      (λ found on. on_disk_all (J.committed s.stores.journal name) (J.notes s.stores.journal name) found (e.committed name) on)
+      (there.names name named);
   ready = λ name unknown awake. never awake;
 }
   where
@@ -159,7 +184,8 @@ due_wanted (Some bytes) log limit = refl
 module _ {X Y : Type 0} (S : StoreGhosts X) (J : JournalGhosts Y) (first : List ℕ → Option (List ℕ))
     (s : Server X Y S J) (book : Book) (honest : IsTrue (S.honest s.stores.store))
     (honest_notes : IsTrue (J.honest s.stores.journal)) (h : HoldsKept S J first s book)
-    (waits : WaitingNumbersAreInOrder S J) where
+    (waits : WaitingNumbersAreInOrder S J) (journals : List ℕ → Option (List ℕ))
+    (on : AreOnDisk J s.stores.journal journals) where
   abbrev asleep : List ℕ → Bool
   asleep n = not (is_known h.table n || false)
 
@@ -205,56 +231,102 @@ module _ {X Y : Type 0} (S : StoreGhosts X) (J : JournalGhosts Y) (first : List 
       order = order;
     }
 
-    known_lies : LiesAsEither s.limit (first name) name (log_of book name) (J.notes s.stores.journal name)
-        (S.contents s.stores.store name)
+    known_lies : LiesByFirst s.limit (first name) name (log_of book name) (J.committed s.stores.journal name)
+        (journals name) (S.contents s.stores.store name)
     known_lies =
         let there = h.inside name known in
-        subst (λ (l : Log). LiesAsEither s.limit (first name) name l (J.notes s.stores.journal name)
+        subst (λ (l : Log). LiesByFirst s.limit (first name) name l (J.committed s.stores.journal name) (journals name)
         (S.contents s.stores.store name)) (sym there.same_log)
-        (subst (λ (o : Option (List ℕ)). LiesAsEither s.limit o name log (J.notes s.stores.journal name)
-        (S.contents s.stores.store name)) there.same_first
-        (name_left s.limit (h.now name) name log (J.notes s.stores.journal name) (S.contents s.stores.store name) h.small
-        facts))
+        (subst (λ (o : Option (List ℕ)). LiesByFirst s.limit o name log (J.committed s.stores.journal name)
+        (journals name) (S.contents s.stores.store name)) there.same_first
+        (name_on_disk s.limit (h.now name) name log (J.notes s.stores.journal name) (S.contents s.stores.store name) h.small
+        facts (J.committed s.stores.journal name) (journals name) (on name)))
 
   abbrev LiesAs : List ℕ → Log → Type 0
-  LiesAs name log =
-      LiesInFolder s.limit (first name) name log (J.notes s.stores.journal name) (S.contents s.stores.store name)
+  LiesAs name log = LiesInFolder s.limit (first name) name log (journals name) (S.contents s.stores.store name)
 
-  abbrev Stays : List ℕ → Type 0
-  Stays name = IsTrue (is_name name) → LiesAs name (log_of book name)
+  -- how many numbers of a name lie there
+  record IsKept (name : List ℕ) : Type 0 where
+    kept : ℕ
+    most : IsMost (log_of book name) kept
+    least : (n : ℕ) → n ≤ (log_of book name).done →
+        (IsTrue (is_name name) → length (journal_of (header_beside s.limit (first name)) name (up_to n (log_of book name)))
+        ≤ J.committed s.stores.journal name) → n ≤ kept
+    lies : IsTrue (is_name name) → LiesAs name (up_to kept (log_of book name))
 
-  abbrev Moves : List ℕ → Type 0
-  Moves name = (is_pending (log_of book name) ≡ true) × LiesAs name (with_done (log_of book name))
-
-  each : (name : List ℕ) → Stays name ⊎ Moves name
-  each name = go (is_known h.table name) refl
+  each : (name : List ℕ) → IsKept name
+  each name = go (is_name name) refl (is_known h.table name) refl
     where
-      either : LiesAsEither s.limit (first name) name (log_of book name) (J.notes s.stores.journal name)
-          (S.contents s.stores.store name) → Stays name ⊎ Moves name
-      either (inl lies) = inl (λ named. lies)
-      either (inr (pending, left)) = inr (pending, inl left)
-
-      go : (v : Bool) → is_known h.table name ≡ v → Stays name ⊎ Moves name
-      go true known = either (known_lies name known)
-      go false unknown = inl (λ named. (h.outside name named unknown).lies)
-
-  pub leaves_done : LeavesDone s.limit first book (J.notes s.stores.journal) (S.contents s.stores.store)
-  leaves_done =
-      let later = ahead_book each book in
-      let logs = ahead_logs book each (λ name b. b.0) h.each in
-      record {
-        later = later;
-        ahead = ahead book each (λ name b. b.0);
-        left = lies_there s.limit first later (J.notes s.stores.journal) (S.contents s.stores.store) logs.logs
-            (λ name named. subst (LiesAs name) (sym (log-chosen book each (λ name b. b.0) name)) (go name named (each name)));
+      all : (IsTrue (is_name name) → LiesAs name (log_of book name)) → IsKept name
+      all lies = record {
+        kept = (log_of book name).done;
+        most = inl (omega arith);
+        least = λ n within ends. within;
+        lies = lies;
       }
-    where
-      go : (name : List ℕ) → IsTrue (is_name name) → (c : Stays name ⊎ Moves name) →
-          LiesAs name (chosen c (log_of book name))
-      go name named (inl stays) = stays named
-      go name named (inr (pending, lies)) = lies
+
+      go : (u : Bool) → is_name name ≡ u → (v : Bool) → is_known h.table name ≡ v → IsKept name
+      go true named true known =
+          let x = known_lies name known in
+          record { kept = x.kept; most = x.most; least = λ n within ends. x.least n within (ends named); lies = λ is. x.lies }
+      go true named false unknown = all (λ is. (h.outside name is unknown (journals name) (on name)).lies)
+      go false other v e = all (λ is. never (sym other ∙ is))
+
+  abbrev kept_of : List ℕ → ℕ
+  kept_of name = (each name).kept
+
+  pub leaves_done : LeavesDone s.limit first book (J.committed s.stores.journal) journals (S.contents s.stores.store)
+  leaves_done =
+      let left : Book = first_book kept_of book in
+      let same : (name : List ℕ) → log_of left name ≡ up_to (kept_of name) (log_of book name) =
+      log-kept book kept_of (λ name. (each name).most) in
+      record {
+        left = left;
+        numbers = leaves_first book kept_of (λ name. (each name).most);
+        least = λ name n within ends.
+            subst (λ (l : Log). n ≤ l.done) (sym (same name)) ((each name).least n within ends);
+        lies = lies_there s.limit first left journals (S.contents s.stores.store)
+            (λ name. subst (λ (l : Log). l.done ≤ first_free l.admitted) (sym (same name))
+            (most_free (log_of book name) (kept_of name) (book_free book h.each.logs name) (each name).most))
+            (λ name. subst (λ (l : Log). IsTrue (list_all is_admitted l.admitted)) (sym (same name))
+            (book_right book h.each.logs name))
+            (λ name named. subst (LiesAs name) (sym (same name)) ((each name).lies named));
+      }
 
 pub kept_servers_leave_done : {X Y : Type 0} (S : StoreGhosts X) (J : JournalGhosts Y) →
     WaitingNumbersAreInOrder S J → KeptServersLeaveDone S J
-kept_servers_leave_done S J waits first s book honest honest_notes h =
-    leaves_done S J first s book honest honest_notes h waits
+kept_servers_leave_done S J waits first s book honest honest_notes h journals on =
+    leaves_done S J first s book honest honest_notes h waits journals on
+
+-- Where all notes are committed.
+
+pub committed_books_are_covered : {X Y : Type 0} (S : StoreGhosts X) (J : JournalGhosts Y) →
+    WaitingNumbersAreInOrder S J → CommittedBooksAreCovered S J
+committed_books_are_covered S J waits first s book honest honest_notes h all name named some =
+    go (is_known h.table name) refl
+  where
+    journals : List ℕ → Option (List ℕ)
+    journals = J.notes s.stores.journal
+
+    on : (n : List ℕ) → IsOnDisk (J.committed s.stores.journal n) (J.notes s.stores.journal n) (journals n)
+    on n = inl refl
+
+    fit : (bytes : List ℕ) × (journals name ≡ Some bytes)
+        × (length (journal_of (header_beside s.limit (first name)) name (log_of book name)) ≤ length bytes) →
+        length (journal_of (header_beside s.limit (first name)) name (log_of book name)) ≤ J.committed s.stores.journal name
+    fit (bytes, is, long) = let most = all name bytes is in omega (arith, long, most)
+
+    go : (v : Bool) → is_known h.table name ≡ v →
+        length (journal_of (header_beside s.limit (first name)) name (log_of book name)) ≤ J.committed s.stores.journal name
+    go true known =
+        let there = h.inside name known in
+        fit (subst (λ (l : Log). (bytes : List ℕ) × (journals name ≡ Some bytes)
+        × (length (journal_of (header_beside s.limit (first name)) name l) ≤ length bytes)) (sym there.same_log)
+        (subst (λ (o : Option (List ℕ)). (bytes : List ℕ) × (journals name ≡ Some bytes)
+        × (length (journal_of (header_beside s.limit o) name (log_of h.table name)) ≤ length bytes)) there.same_first
+        (stands_long (header_beside s.limit (h.now name)) name (log_of h.table name) (journals name)
+        (subst (λ (l : Log). 0 < l.done) there.same_log some)
+        (stands S J first s book honest honest_notes h waits journals on name known))))
+    go false unknown =
+        fit (left_long s.limit (first name) name (log_of book name) (journals name) (S.contents s.stores.store name) some
+        (h.outside name named unknown (journals name) (on name)).lies)

@@ -13,11 +13,12 @@ use Rattle.bw_model.specs.Book.{Log, made}
 use Rattle.bw_model.specs.CountedTurn.{is_pending}
 use Rattle.bw_model.specs.ReadBack.{is_admitted}
 use Rattle.std.specs.List.{list_all}
-use Rattle.std.proofs.lemmas.Bool.{and_parts}
+use Rattle.std.proofs.lemmas.Bool.{and_parts, and_from}
+use Rattle.std.proofs.lemmas.List.{length_push}
 use Rattle.bw_model.proofs.MadeTakes.{IsMade, is_made}
 use Rattle.bw_journal.specs.JournalHeaders.{Header, header_bytes, header_len}
 use Rattle.bw_journal.specs.Notes.{IsPrefixOf, IsShortOf}
-use Rattle.bw_journal.specs.NotedJournals.{AdmitsDone, IsCut, journal_of}
+use Rattle.bw_journal.specs.NotedJournals.{AdmitsDone, IsCut, journal_of, up_to, fits}
 use Rattle.bw_journal.specs.Recovery.{IsOnTheWay}
 use Rattle.bw_journal.specs.Replays.{Story, JournalFault, NotBegun, Damaged, replay}
 use Rattle.bw_journal.proofs.HeaderReads.{cut_headers_are_not_begun}
@@ -27,10 +28,14 @@ use Rattle.bw_session.specs.NameNotes.{HasEntries}
 use Rattle.bw_recovery.specs.Left.{IsLeftFile, wanted_file}
 use Rattle.bw_recovery.specs.Names.{OfJournal, begins_take, name_fault, fault_beside}
 use Rattle.bw_recovery.specs.LeftNames.{header_beside, IsLeftBegun}
+use Rattle.bw_recovery.proofs.FewerDone.{cut_names_are_of_fewer}
 use Rattle.bw_recovery.proofs.NameLemmas.{unopened}
+use Rattle.bw_folder.specs.PendingNotes.{IsOnDisk}
+use Rattle.bw_session.proofs.LogSteps.{take_next}
 use Rattle.bw_kept.specs.KeptFolders.{HasNameFault, LiesInFolder}
 use Rattle.bw_kept.specs.LeftNames.{IsWrittenInOrder, LiesAsEither}
 use Rattle.bw_kept.proofs.OpenFiles.{left_file}
+use Rattle.bw_kept.proofs.DiskForms.{on_disk_short}
 use Rattle.bw_kept.proofs.LeftEntries.{journal_begun, nothing_cut, Ends, Cut, Whole, ends}
 
 -- The journal of a name has what its log says, or no more than a prefix of the header where no number
@@ -77,9 +82,9 @@ module _ (limit : ℕ) (first : Option (List ℕ)) (name : List ℕ) (log : Log)
       (at log.admitted log.done) file) (sym none) (k.own none))
 
   -- a journal that is whole up to a cut tail
-  begun : (bytes tail : List ℕ) → IsCut tail → bytes ≡ journal_of h name log ++ tail →
+  begun_left : (bytes tail : List ℕ) → IsCut tail → bytes ≡ journal_of h name log ++ tail →
       IsLeftBegun limit first name log bytes file
-  begun bytes tail cut e = record { tail = tail; cut = cut; notes = e; file = file_left }
+  begun_left bytes tail cut e = record { tail = tail; cut = cut; notes = e; file = file_left }
 
   -- without a done number and a whole header the file is what existed
   untouched : log.done ≡ 0 → IsShortOf (header_bytes name h) journal → file ≡ first
@@ -126,7 +131,7 @@ module _ (limit : ℕ) (first : Option (List ℕ)) (name : List ℕ) (log : Log)
   header_left : (bytes : List ℕ) → log.done ≡ 0 → bytes ≡ header_bytes name h →
       IsLeftBegun limit first name log bytes file
   header_left bytes none e =
-      begun bytes [] nothing_cut
+      begun_left bytes [] nothing_cut
       (e ∙ sym (journal_begun h name log none) ∙ sym (append-nil (journal_of h name log)))
 
   -- a prefix of a header beside a file that begins as a server's is a fault
@@ -207,10 +212,120 @@ module _ (limit : ℕ) (first : Option (List ℕ)) (name : List ℕ) (log : Log)
           by_end (ends h name log bytes k.admits (waits_right log.admitted log.done k.right) entries)
         where
           by_end : Ends h name log bytes → LiesAsEither limit first name log (Some bytes) file
-          by_end (Cut tail cut e) = inl (inl (inl (begun bytes tail cut e)))
+          by_end (Cut tail cut e) = inl (inl (inl (begun_left bytes tail cut e)))
           by_end (Whole r here e) =
               let waits : is_pending log ≡ true = ap (λ (o : Option Request). is_some o) here in
               inr (waits, inl (next_left bytes is e waits))
+
+-- What the disk has of a name lies there by the first numbers of its log, at least those of which the entry is
+-- committed.
+pub record LiesByFirst (limit : ℕ) (first : Option (List ℕ)) (name : List ℕ) (log : Log) (committed : ℕ)
+    (found file : Option (List ℕ)) : Type 0 where
+  pub kept : ℕ
+  pub most : (kept ≤ log.done) ⊎ ((is_pending log ≡ true) × (kept ≡ suc log.done))
+  pub least : (n : ℕ) → n ≤ log.done →
+      length (journal_of (header_beside limit first) name (up_to n log)) ≤ committed → n ≤ kept
+  pub lies : LiesInFolder limit first name (up_to kept log) found file
+
+-- all of it
+whole_lies : (limit : ℕ) (first : Option (List ℕ)) (name : List ℕ) (log : Log) (committed : ℕ)
+    (found file : Option (List ℕ)) → LiesAsEither limit first name log found file →
+    LiesByFirst limit first name log committed found file
+whole_lies limit first name log committed found file (inl lies) = record {
+  kept = log.done;
+  most = inl (omega arith);
+  least = λ n within ends. within;
+  lies = lies;
+}
+whole_lies limit first name log committed found file (inr (waits, left)) = record {
+  kept = suc log.done;
+  most = inr (waits, refl);
+  least = λ n within ends. omega (arith, within);
+  lies = inl left;
+}
+
+-- each number of a log is admitted, also the one that waits
+admits_next : (log : Log) (r : Request) → AdmitsDone log → at log.admitted log.done ≡ Some r → IsTrue (is_request r) →
+    AdmitsDone (with_done log)
+admits_next log r whole here right =
+    let next = take_next log.admitted log.done r here in
+    let l = whole.long in
+    record {
+      long = ap (λ (xs : List (Option Request)). length xs) next
+          ∙ (let more : length (take log.done log.admitted ++ Some r ∷ []) ≡ suc log.done =
+          omega (arith, length_push (take log.done log.admitted) (Some r), l) in more);
+      each = ap (λ (xs : List (Option Request)). list_all fits xs) next
+          ∙ all_push (take log.done log.admitted) whole.each;
+    }
+  where
+    all_push : (xs : List (Option Request)) → list_all fits xs ≡ true → list_all fits (xs ++ Some r ∷ []) ≡ true
+    all_push [] h = and_from (is_request r) true right refl
+    all_push (x ∷ xs) h =
+        let both = and_parts (fits x) (list_all fits xs) h in
+        and_from (fits x) (list_all fits (xs ++ Some r ∷ [])) both.0 (all_push xs both.1)
+
+module _ (limit : ℕ) (first : Option (List ℕ)) (name : List ℕ) (log : Log) (journal file : Option (List ℕ))
+    (small : limit < 2 ^ 32) (k : Known limit first name log journal file) (committed : ℕ) where
+  -- a prefix of a journal that is left of this log, or of it with the number done that waits
+  prefix_lies : (bytes : List ℕ) (count : ℕ) → committed ≤ count → header_len ≤ count → (most : ℕ) →
+      (most ≡ log.done) ⊎ ((is_pending log ≡ true) × (most ≡ suc log.done)) → AdmitsDone (up_to most log) →
+      IsLeftBegun limit first name (up_to most log) bytes file →
+      LiesByFirst limit first name log committed (Some (take count bytes)) file
+  prefix_lies bytes count least begun most which admits left =
+      let c = cut_names_are_of_fewer limit first name (up_to most log) bytes file count admits begun (inl left) in
+      let few : c.kept ≤ most = c.fewer in
+      record {
+        kept = c.kept;
+        most = by_most c.kept few which;
+        least = λ n within ends. c.each n (below n within which) (let e = ends in omega (arith, e, least));
+        lies = inl c.left;
+      }
+    where
+      below : (n : ℕ) → n ≤ log.done → (most ≡ log.done) ⊎ ((is_pending log ≡ true) × (most ≡ suc log.done)) → n ≤ most
+      below n within (inl e) = omega (arith, within, e)
+      below n within (inr x) = let e = x.1 in omega (arith, within, e)
+
+      by_most : (n : ℕ) → n ≤ most → (most ≡ log.done) ⊎ ((is_pending log ≡ true) × (most ≡ suc log.done)) →
+          (n ≤ log.done) ⊎ ((is_pending log ≡ true) × (n ≡ suc log.done))
+      by_most n few (inl e) = inl (omega (arith, few, e))
+      by_most n few (inr (waits, e)) = go (cases_lt log.done n)
+        where
+          go : (log.done < n) ⊎ (n ≤ log.done) → (n ≤ log.done) ⊎ ((is_pending log ≡ true) × (n ≡ suc log.done))
+          go (inl over) = inr (waits, omega (arith, few, e, over))
+          go (inr within) = inl within
+
+  pub name_on_disk : (found : Option (List ℕ)) → IsOnDisk committed journal found →
+      LiesByFirst limit first name log committed found file
+  name_on_disk found on = by_stands k.stands on
+    where
+      h : Header
+      h = header_beside limit first
+
+      same_lies : found ≡ journal → LiesByFirst limit first name log committed found file
+      same_lies same =
+          subst (λ (o : Option (List ℕ)). LiesByFirst limit first name log committed o file) (sym same)
+          (whole_lies limit first name log committed journal file (name_left limit first name log journal file small k))
+
+      by_stands : Stands h name log journal → IsOnDisk committed journal found →
+          LiesByFirst limit first name log committed found file
+      by_stands s (inl same) = same_lies same
+      by_stands (inl (none, p)) (inr x) =
+          same_lies (on_disk_short committed (header_bytes name h) journal found
+          (let long = length-header_bytes name h in omega (arith, long)) p (inr x))
+      by_stands (inr entries) (inr (bytes, count, noted, is, least, begun)) =
+          subst (λ (o : Option (List ℕ)). LiesByFirst limit first name log committed o file) (sym is)
+          (by_end (ends h name log bytes k.admits (waits_right log.admitted log.done k.right)
+          (subst (HasEntries h name log) noted entries)))
+        where
+          by_end : Ends h name log bytes → LiesByFirst limit first name log committed (Some (take count bytes)) file
+          by_end (Cut tail cut e) =
+              prefix_lies bytes count least begun log.done (inl refl) k.admits
+              (begun_left limit first name log journal file small k bytes tail cut e)
+          by_end (Whole r here e) =
+              let waits : is_pending log ≡ true = ap (λ (o : Option Request). is_some o) here in
+              prefix_lies bytes count least begun (suc log.done) (inr (waits, refl))
+              (admits_next log r k.admits here (waits_right log.admitted log.done k.right r here))
+              (next_left limit first name log journal file small k bytes noted e waits)
 
 -- a header with this limit, which says whether something existed
 pub header_is : (h : Header) (limit : ℕ) (first : Option (List ℕ)) → h.limit ≡ limit → h.existed ≡ is_some first →

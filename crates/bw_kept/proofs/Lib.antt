@@ -1,8 +1,10 @@
+pub mod DiskForms
 pub mod LogEnds
 pub mod LeftEntries
 pub mod OpenFiles
 pub mod LeftNames
 pub mod LeftBooks
+pub mod LeftLengths
 pub mod KeptForms
 pub mod KeptChanges
 pub mod FolderTurns
@@ -22,7 +24,10 @@ pub mod RecoveredLogs
 pub mod WhereTurns
 pub mod ChangeForms
 pub mod FoundBooks
+pub mod CommitForms
+pub mod TurnCommits
 pub mod ConfirmForms
+pub mod AlikeForms
 pub mod FolderGhosts
 pub mod ClosedFiles
 pub mod RecoverHeads

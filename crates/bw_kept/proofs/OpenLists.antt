@@ -36,6 +36,15 @@ pub known_twice : (name : List ℕ) (known : List (List ℕ × Bool)) →
     known_but name (known_but name known) ≡ known_but name known
 known_twice name known = twice (λ (it : List ℕ × Bool). not (bytes_eq it.0 name)) known
 
+-- a journal is closed, unless notes of it are pending
+released_but : (name : List ℕ) (v : Bool) (known : List (List ℕ × Bool)) →
+    known_but name (cond v known (known_but name known)) ≡ known_but name known
+released_but name true known = refl
+released_but name false known = known_twice name known
+
+pub released : {X : Type 0} (x a b : X) (v : Bool) → x ≡ cond v a b → v ≡ false → x ≡ b
+released x a b v e none = e ∙ ap (λ (w : Bool). cond w a b) none
+
 own_name : (name : List ℕ) → names_but name (name ∷ []) ≡ []
 own_name name = ap (λ (b : Bool). cond (not b) (name ∷ []) []) (name_refl name)
 
@@ -141,21 +150,23 @@ module _ {D E F H : Type 0} {G : Ghosts D F} {K : Ghosts E H} where
   -- this name was closed
   pub closed_open : (name : List ℕ) (store : FolderStore D F G) (journal : FolderJournal E H K)
       (store' : FolderStore D F G) (journal' : FolderJournal E H K) →
-      open_takes store' ≡ names_but name (open_takes store) →
-      open_journals journal' ≡ known_but name (open_journals journal) → KeepsOthersOpen name store journal store' journal'
-  closed_open name store journal store' journal' t n = record {
+      open_takes store' ≡ names_but name (open_takes store) → (v : Bool) →
+      open_journals journal' ≡ cond v (open_journals journal) (known_but name (open_journals journal)) →
+      KeepsOthersOpen name store journal store' journal'
+  closed_open name store journal store' journal' t v n = record {
     takes = ap (names_but name) t ∙ names_twice name (open_takes store);
-    journals = ap (known_but name) n ∙ known_twice name (open_journals journal);
+    journals = ap (known_but name) n ∙ released_but name v (open_journals journal);
   }
 
   -- it was closed before another step
   pub closed_first : (name : List ℕ) (store : FolderStore D F G) (journal : FolderJournal E H K)
       (store' : FolderStore D F G) (journal' : FolderJournal E H K) (store'' : FolderStore D F G)
-      (journal'' : FolderJournal E H K) → open_takes store' ≡ names_but name (open_takes store) →
-      open_journals journal' ≡ known_but name (open_journals journal) →
+      (journal'' : FolderJournal E H K) → open_takes store' ≡ names_but name (open_takes store) → (v : Bool) →
+      open_journals journal' ≡ cond v (open_journals journal) (known_but name (open_journals journal)) →
       KeepsOthersOpen name store' journal' store'' journal'' → KeepsOthersOpen name store journal store'' journal''
-  closed_first name store journal store' journal' store'' journal'' t n kept =
-      open_then name store journal store' journal' store'' journal'' (closed_open name store journal store' journal' t n) kept
+  closed_first name store journal store' journal' store'' journal'' t v n kept =
+      open_then name store journal store' journal' store'' journal'' (closed_open name store journal store' journal' t v n)
+      kept
 
   -- once more was opened, after what was the same
   pub opens_after : (name : List ℕ) (s s' : Option Story) (store : FolderStore D F G) (journal : FolderJournal E H K)

@@ -3,6 +3,7 @@ use Rattle.std.proofs.Common.{◌≡◌, inl, ℕ, zero, suc, ◌<◌, ◌≤◌
 use Rattle.std.proofs.Common.{Option, Some, None, is_some, option_map, refl, sym, ◌∙◌, ap, subst, arith}
 use Rattle.std.specs.Prelude.{IsTrue}
 use Rattle.std.specs.List.{list_any}
+use Rattle.std.specs.Str.{bytes_eq}
 use Rattle.bw_model.specs.Take.{Request}
 use Rattle.bw_model.specs.Wire.{is_name}
 use Rattle.bw_model.specs.Book.{Log, Book, log_of, is_known}
@@ -22,12 +23,14 @@ use Rattle.bw_session.specs.declared.server.Server.{Server}
 use Rattle.bw_session.proofs.ResumeForms.{all_fit}
 use Rattle.bw_recovery.specs.declared.finding.NameFault.{NameFault}
 use Rattle.bw_session.specs.TableChanges.{ChangesUnder, IsOfLog, NamesOutsideMayChange}
+use Rattle.bw_kept.specs.DiskNotes.{IsCommittedName}
 use Rattle.bw_kept.specs.Recoveries.{Recovers, opened_story}
-use Rattle.bw_kept.specs.KeptFolders.{AreLogs, HasThisFault, HoldsKept, HoldsReady, IsOutOfTable, LiesInFolder}
+use Rattle.bw_kept.specs.KeptFolders.{AreLogs, HasThisFault, HoldsKept, HoldsReady, IsOutOfTable, StaysOutOfTable, LiesInFolder}
 use Rattle.bw_kept.specs.declared.recovery.Recovered.TheVariants.{New, LeftOut, Kept}
 use Rattle.bw_kept.proofs.ChangeForms.{whole_left}
 use Rattle.bw_kept.proofs.KeptChanges.{moved_asleep, moved_awake}
-use Rattle.bw_kept.proofs.KeptForms.{never, unknown_lies}
+use Rattle.bw_kept.proofs.DiskForms.{on_disk_all}
+use Rattle.bw_kept.proofs.KeptForms.{never, outside_now, outside_whole, unknown_lies}
 use Rattle.bw_kept.proofs.LogEnds.{cut_whole}
 use Rattle.bw_kept.proofs.RecoverForms.{IsNewThere, kept_there, left_out_there, new_there}
 
@@ -79,7 +82,9 @@ module _ {X Y : Type 0} (S : StoreGhosts X) (J : JournalGhosts Y) (old new : Ser
     (gone : session_kept old name ≡ None) (may : NamesOutsideMayChange S J)
     (folder : J.folder new.stores.journal ≡ J.folder old.stores.journal)
     (store_folder : S.folder new.stores.store ≡ S.folder old.stores.store)
-    (limit : (J.header new.stores.journal name).limit ≡ new.limit) where
+    (limit : (J.header new.stores.journal name).limit ≡ new.limit)
+    (no_fewer : (n : List ℕ) → bytes_eq name n ≡ false → J.committed old.stores.journal n ≤ J.committed new.stores.journal n)
+    (all : IsCommittedName J name new.stores.journal) where
   abbrev log : Log
   log = log_of book name
 
@@ -105,7 +110,8 @@ module _ {X Y : Type 0} (S : StoreGhosts X) (J : JournalGhosts Y) (old new : Ser
   unknown = h.held.holds.names name ∙ ap (λ (o : Option Session). is_some (option_map kept_by o)) gone
 
   out : IsOutOfTable old.limit (first name) name log journal file
-  out = h.outside name named unknown
+  out = outside_now old.limit (first name) name log (J.committed old.stores.journal name) journal file
+      (h.outside name named unknown)
 
   head_limit : head.limit ≡ old.limit
   head_limit = limit ∙ moves.limit
@@ -113,13 +119,20 @@ module _ {X Y : Type 0} (S : StoreGhosts X) (J : JournalGhosts Y) (old new : Ser
   small : new.limit < 2 ^ 32
   small = subst (λ (v : ℕ). v < 2 ^ 32) (sym moves.limit) h.small
 
+  -- it lies there whatever the disk has of its journal, since all of that is committed
+  stays_out : (log' : Log) → IsOutOfTable new.limit (first name) name log' later_journal later_file →
+      StaysOutOfTable new.limit (first name) name log' (J.committed new.stores.journal name) later_journal later_file
+  stays_out log' o =
+      outside_whole new.limit (first name) name log' (J.committed new.stores.journal name) later_journal later_file
+      (λ found on. on_disk_all (J.committed new.stores.journal name) later_journal found all on) o
+
   -- it lies there asleep
   asleep_then : LiesInFolder old.limit (first name) name log later_journal later_file → HoldsKept S J first new book
   asleep_then lies =
       moved_asleep S J old new first book h honest honest_notes name true moves gone may folder store_folder limit
-      (λ e. never (sym e)) (λ e. never (sym e))
-      (subst (λ (v : ℕ). IsOutOfTable v (first name) name log later_journal later_file) (sym moves.limit)
-      (record { quiet = out.quiet; lies = lies })) refl
+      (λ e. never (sym e)) (λ e. never (sym e)) no_fewer
+      (stays_out log (subst (λ (v : ℕ). IsOutOfTable v (first name) name log later_journal later_file) (sym moves.limit)
+      (record { quiet = out.quiet; lies = lies }))) refl
 
   pub recovered_new : Opened (opened_story old.limit name journal New) →
       (opened_story old.limit name journal New ≡ None → head.existed ≡ is_some later_file) →
@@ -131,10 +144,11 @@ module _ {X Y : Type 0} (S : StoreGhosts X) (J : JournalGhosts Y) (old new : Ser
       let none : is_known book name ≡ false = none_known book name h.each out.quiet n.none in
       moved_awake S J old new first book h honest honest_notes name false moves gone may folder store_folder limit
       (λ e. record { unbegun = n.prefix; existed = n.existed ∙ sym (ap is_some n.file_is) })
-      (λ e. (none, n.file_is))
-      (subst (λ (l : Log). IsOutOfTable new.limit (first name) name l later_journal later_file)
-      (sym (unknown_log book name none))
-      (unknown_lies new.limit (first name) name head later_journal later_file small limit n.existed n.prefix n.file_is)) refl
+      (λ e. (none, n.file_is)) no_fewer
+      (subst (λ (l : Log). StaysOutOfTable new.limit (first name) name l (J.committed new.stores.journal name) later_journal
+      later_file) (sym (unknown_log book name none))
+      (unknown_lies new.limit (first name) name head (J.committed new.stores.journal name) later_journal later_file small
+      limit n.existed n.prefix n.file_is)) refl
 
   pub recovered_kept : (k : KeptTake) → Opened (opened_story old.limit name journal (Kept k)) →
       Recovers old.limit name journal file (Kept k) later_journal later_file →

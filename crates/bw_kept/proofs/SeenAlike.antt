@@ -12,7 +12,6 @@ use Rattle.bw_recovery.specs.Paths.{notes_path}
 use Rattle.bw_recovery.specs.StaysLeft.{StaysLeft}
 use Rattle.bw_recovery.specs.declared.finding.Finding.{Finding}
 use Rattle.bw_folder.specs.Folders.{take_path}
-use Rattle.bw_folder.specs.Journals.{journal_path}
 use Rattle.bw_folder.specs.TakeFolders.{takes_disk, takes_folder, take_in_folder}
 use Rattle.bw_folder.specs.JournalFolders.{journals_disk, journals_folder, noted_in_folder}
 use Rattle.bw_folder.specs.RecoveredNames.{AreOfOneFolder, FindsName, FindsIn, RestoresName, RestoresIn, StaysLeftIn}
@@ -34,34 +33,38 @@ module _ {D E F H : Type 0} {G : Ghosts D F} {K : Ghosts E H} where
     pub other : journals_folder later_journal ≡ journals_folder journal
     pub takes : KeepsEach (G.contents (takes_disk store)) (G.contents (takes_disk later_store))
     pub notes : KeepsEach (K.contents (journals_disk journal)) (K.contents (journals_disk later_journal))
+    pub noted : KeepsEach (noted_in_folder journal) (noted_in_folder later_journal)
 
   -- on the same disks
   pub same_disks : (store : FolderStore D F G) (journal : FolderJournal E H K) (store' : FolderStore D F G)
       (journal' : FolderJournal E H K) → takes_disk store' ≡ takes_disk store → takes_folder store' ≡ takes_folder store →
       journals_disk journal' ≡ journals_disk journal → journals_folder journal' ≡ journals_folder journal →
-      SeesSame store journal store' journal'
-  same_disks store journal store' journal' t f n g = record {
+      KeepsEach (noted_in_folder journal) (noted_in_folder journal') → SeesSame store journal store' journal'
+  same_disks store journal store' journal' t f n g noted = record {
     honest_takes = ap (λ (d : D). G.honest d) t;
     honest_notes = ap (λ (d : E). K.honest d) n;
     folder = f;
     other = g;
     takes = λ path. ap (λ (d : D). G.contents d path) t;
     notes = λ path. ap (λ (d : E). K.contents d path) n;
+    noted = noted;
   }
 
   -- on honest disks that stay as they are
   pub whole_disks : (store : FolderStore D F G) (journal : FolderJournal E H K) (store' : FolderStore D F G)
       (journal' : FolderJournal E H K) → StaysWhole G (takes_disk store) (takes_disk store') →
       StaysWhole K (journals_disk journal) (journals_disk journal') → takes_folder store' ≡ takes_folder store →
-      journals_folder journal' ≡ journals_folder journal → AreOfOneFolder store journal →
-      SeesSame store journal store' journal'
-  whole_disks store journal store' journal' t n f g one = record {
+      journals_folder journal' ≡ journals_folder journal →
+      (IsTrue (K.honest (journals_disk journal)) → KeepsEach (noted_in_folder journal) (noted_in_folder journal')) →
+      AreOfOneFolder store journal → SeesSame store journal store' journal'
+  whole_disks store journal store' journal' t n f g noted one = record {
     honest_takes = t.honest;
     honest_notes = n.honest;
     folder = f;
     other = g;
     takes = t.contents one.takes;
     notes = n.contents one.notes;
+    noted = noted one.notes;
   }
 
   -- whatever was changed there
@@ -86,9 +89,7 @@ module _ {D E F H : Type 0} {G : Ghosts D F} {K : Ghosts E H} where
     }
 
     pub same_notes : (name : List ℕ) → noted_in_folder journal' name ≡ noted_in_folder journal name
-    same_notes name =
-        ap (λ (f : List ℕ). K.contents (journals_disk journal') (journal_path f name)) same.other
-        ∙ same.notes (journal_path (journals_folder journal) name)
+    same_notes name = same.noted name
 
     pub same_take : (name : List ℕ) → take_in_folder store' name ≡ take_in_folder store name
     same_take name =
@@ -118,6 +119,7 @@ module _ {D E F H : Type 0} {G : Ghosts D F} {K : Ghosts E H} where
       left = left_same limit name;
       faulty = λ fault. (same_notes name, same_take name);
       others = record { takes = inl (λ other apart. same.takes other); notes = λ other apart. same.notes other };
+      noted = λ other apart. same.noted other;
     }
 
     pub found_then : (limit : ℕ) (name : List ℕ) (finding : Finding) → AreOfOneFolder store journal →
@@ -183,6 +185,7 @@ module _ {D E F H : Type 0} {G : Ghosts D F} {K : Ghosts E H} where
         left = left_here limit name k.left;
         faulty = faulty_here limit name k.faulty;
         others = changes_here name k.others;
+        noted = λ other apart. k.noted other apart ∙ same.noted other;
       }
 
       pub counts_here : (name : List ℕ) (happens : Bool) →
@@ -239,6 +242,7 @@ module _ {D E F H : Type 0} {G : Ghosts D F} {K : Ghosts E H} where
         left = left_there limit name k.left;
         faulty = faulty_there limit name k.faulty;
         others = changes_there name k.others;
+        noted = λ other apart. same.noted other ∙ k.noted other apart;
       }
 
   -- nothing was done
@@ -249,6 +253,7 @@ module _ {D E F H : Type 0} {G : Ghosts D F} {K : Ghosts E H} where
         (take_in_folder store name) refl refl;
     faulty = λ fault. (refl, refl);
     others = record { takes = inl (λ other apart. refl); notes = λ other apart. refl };
+    noted = λ other apart. refl;
   }
 
   -- nothing more failed

@@ -8,6 +8,7 @@ use Rattle.bw_recovery.proofs.ListForms.{if_ok}
 use Rattle.bw_folder.specs.Journals.{existence_of}
 use Rattle.bw_folder.specs.TakeFolders.{takes_disk, open_takes}
 use Rattle.bw_folder.specs.JournalFolders.{journals_disk, open_journals, noted_in_folder}
+use Rattle.bw_folder.specs.PendingNotes.{UnwrittenNotes, unwritten_of, waits}
 use Rattle.bw_folder.specs.RecoveredNames.{KeepsStore, KeepsFolderJournal}
 use Rattle.bw_folder.specs.declared.folder.FolderStore.{FolderStore}
 use Rattle.bw_folder.specs.declared.journal.FolderJournal.{FolderJournal}
@@ -39,6 +40,7 @@ module _ {D E F H : Type 0} {G : Ghosts D F} {K : Ghosts E H} (store : FolderSto
     calls = s.calls;
     failures = s.failures;
     settings = j.settings;
+    pending = λ name. ap (λ (all : List (List ℕ × UnwrittenNotes)). waits (unwritten_of all name).bytes) j.pending;
     journal_failures = j.failures;
   }
 
@@ -50,6 +52,7 @@ module _ {D E F H : Type 0} {G : Ghosts D F} {K : Ghosts E H} (store : FolderSto
       calls = b.calls ∙ a.calls;
       failures = b.failures ∙ a.failures;
       settings = (b.settings.0 ∙ a.settings.0, b.settings.1 ∙ a.settings.1, b.settings.2 ∙ a.settings.2);
+      pending = λ name. b.pending name ∙ a.pending name;
       journal_failures = b.journal_failures ∙ a.journal_failures;
     }
 

@@ -13,6 +13,7 @@ use Rattle.bw_recovery.specs.Changes.{IsCrowded}
 use Rattle.bw_folder.specs.Journals.{existence_of, known_but}
 use Rattle.bw_folder.specs.TakeFolders.{takes_disk, takes_folder, take_in_folder}
 use Rattle.bw_folder.specs.JournalFolders.{journals_disk, journals_sync, open_journals, noted_in_folder, IsSyncedName}
+use Rattle.bw_folder.specs.PendingNotes.{UnwrittenNotes, unwritten_of, waits}
 use Rattle.bw_folder.specs.RecoveredNames.{AreOfOneFolder}
 use Rattle.bw_folder.specs.declared.folder.FolderStore.{FolderStore}
 use Rattle.bw_folder.specs.declared.journal.FolderJournal.{FolderJournal}
@@ -88,6 +89,7 @@ module _ {D E F H : Type 0} {G : Ghosts D F} {K : Ghosts E H} (limit : ℕ) (nam
     calls = refl;
     failures = refl;
     settings = syncs.settings;
+    pending = λ n. ap (λ (all : List (List ℕ × UnwrittenNotes)). waits (unwritten_of all n).bytes) syncs.pending;
     journal_failures = syncs.failures;
   }
 
@@ -117,6 +119,7 @@ module _ {D E F H : Type 0} {G : Ghosts D F} {K : Ghosts E H} (limit : ℕ) (nam
       other = syncs.settings.2;
       takes = λ path. refl;
       notes = syncs.contents honest;
+      noted = syncs.noted honest;
     }
 
     recovered : RecoversIn limit name store journal mid later (Kept k)

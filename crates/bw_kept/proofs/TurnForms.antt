@@ -23,7 +23,9 @@ use Rattle.bw_kept.specs.KeptTurns.{KeepsCounts, NoneMayLeave, HasPlace, KeptTur
 use Rattle.bw_kept.specs.declared.delay.Delay.{Delay}
 use Rattle.bw_kept.specs.declared.finding.Found.TheVariants as found
 use Rattle.bw_kept.proofs.FolderTurns.{Served, folder_served}
-use Rattle.bw_kept.proofs.FoundForms.{counts_none, full_same, keeps_none}
+use Rattle.bw_kept.specs.DiskNotes.{StayCommitted}
+use Rattle.bw_kept.proofs.CommitForms.{only_none, only_same}
+use Rattle.bw_kept.proofs.FoundForms.{counts_none, full_same, keeps_none, stay_after}
 use Rattle.bw_kept.proofs.KeptForms.{never, known_ready}
 
 -- the name of a frame is awake
@@ -42,7 +44,7 @@ known_some b None e some = never some
 known_some b (Some s) e some = e
 
 -- A table with the same names has no place either.
-no_place_same : {X Y : Type 0} (S : StoreGhosts X) (J : JournalGhosts Y) (first : List ℕ → Option (List ℕ))
+pub no_place_same : {X Y : Type 0} (S : StoreGhosts X) (J : JournalGhosts Y) (first : List ℕ → Option (List ℕ))
     (old new : Server X Y S J) (book : Book) (h : HoldsKept S J first old book) (h' : HoldsKept S J first new book) →
     KeepsSessions (session_kept old) (session_kept new) → HasNoPlace h.table → HasNoPlace h'.table
 no_place_same S J first old new book h h' same none = record {
@@ -68,21 +70,27 @@ module _ {X Y : Type 0} (S : StoreGhosts X) (J : JournalGhosts Y)
       HoldsReady S J name first ready book
 
   -- a frame is served, and then the files of its name are closed if it isn't in the table
+  -- and of what was committed no entry is lost
+  abbrev pub ReadiesCommitted : Server X Y S J → Server X Y S J → Type 0
+  ReadiesCommitted old ready = IsTrue (S.honest old.stores.store) → IsTrue (J.honest old.stores.journal) →
+      (first : List ℕ → Option (List ℕ)) (book : Book) → HoldsKept S J first old book →
+      StayCommitted J old.limit first book old.stores.journal ready.stores.journal
+
   served_turn : (old ready served new : Server X Y S J) (f : Frame) (replies : List Reply) →
       IsTrue (is_name (name_of_frame f)) → KeepsCounts S J old ready →
       (IsSome (session_kept old (name_of_frame f)) → (ready ≡ old) × (new ≡ served)) →
-      ReadiesBooks (name_of_frame f) old ready → ServerTurn S J ready f replies served →
+      ReadiesBooks (name_of_frame f) old ready → ReadiesCommitted old ready → ServerTurn S J ready f replies served →
       ((m : Message) → f ≡ Says m → session_kept ready (name_of_frame f) ≡ None →
       HasPlace S J true ready ⊎ NoneMayLeave S J ready) → KeepsFolderBooks S J served new →
       KeepsSessions (session_kept served) (session_kept new) → KeptTurn S J Fails Differs old f replies new
-  served_turn old ready served new f replies named counts inside books t place kept same = record {
+  served_turn old ready served new f replies named counts inside books stays t place kept same = record {
     named = named;
     ready = ready;
     prepared = counts;
     served = served;
     answered = inl t;
     closed = kept.counts;
-    inside = inside;
+    inside = λ some. ((inside some).0, only_same S J served new (inside some).1);
     turned = turned;
   }
     where
@@ -110,6 +118,10 @@ module _ {X Y : Type 0} (S : StoreGhosts X) (J : JournalGhosts Y)
                 replies s.later) counts.failures
                 (subst (λ (n : ℕ). ServesFrame s.full (λ name. is_some (first name)) (failures_of S J ready) n book f
                 replies s.later) (sym kept.counts.failures) s.turned));
+            committed = stay_after S J old.limit first book old.stores.journal served.stores.journal new.stores.journal
+                (stay_after S J old.limit first book old.stores.journal ready.stores.journal served.stores.journal
+                (stays honest honest_notes first book h) (t.committed honest_notes'))
+                (kept.committed (t.honest_notes ∙ honest_notes'));
           }
 
   known_turn : (old ready new : Server X Y S J) (f : Frame) (replies : List Reply) →
@@ -119,12 +131,13 @@ module _ {X Y : Type 0} (S : StoreGhosts X) (J : JournalGhosts Y)
       FindsBooks S J Fails Differs old ready (name_of_frame f) found.Known → ServerTurn S J ready f replies new →
       KeptTurn S J Fails Differs old f replies new
   known_turn old ready new f replies named counts inside there books t =
-      served_turn old ready new new f replies named counts (λ some. ((inside some).1, refl)) readies t
+      served_turn old ready new new f replies named counts (λ some. ((inside some).1, refl)) readies
+      (λ honest honest_notes first book h. (books honest honest_notes first book h).1) t
       (λ m e none. never (sym (ap is_some none) ∙ there)) (keeps_none S J new) (λ n. refl)
     where
       readies : ReadiesBooks (name_of_frame f) old ready
       readies honest honest_notes first book h =
-          let k : HoldsKept S J first ready book = books honest honest_notes first book h in
+          let k : HoldsKept S J first ready book = (books honest honest_notes first book h).0 in
           known_ready S J first ready book (name_of_frame f) k
           (known_some (is_known k.table (name_of_frame f)) (session_kept ready (name_of_frame f))
           (k.held.holds.names (name_of_frame f)) there)
@@ -136,7 +149,9 @@ module _ {X Y : Type 0} (S : StoreGhosts X) (J : JournalGhosts Y)
       (HasPlace S J true ready ⊎ NoneMayLeave S J ready) → KeepsFolderBooks S J served new →
       KeepsSessions (session_kept served) (session_kept new) → KeptTurn S J Fails Differs old f replies new
   new_turn old ready served new f replies named counts inside books t place kept same =
-      served_turn old ready served new f replies named counts (λ some. new_known (inside some).0) books t (λ m e none. place)
+      served_turn old ready served new f replies named counts (λ some. new_known (inside some).0)
+      (λ honest honest_notes first book h. (books honest honest_notes first book h).0)
+      (λ honest honest_notes first book h. (books honest honest_notes first book h).1) t (λ m e none. place)
       kept same
     where
       new_known : {A : Type 0} → found.New ≡ found.Known → A
@@ -154,7 +169,7 @@ module _ {X Y : Type 0} (S : StoreGhosts X) (J : JournalGhosts Y)
     served = new;
     answered = inr (delayed, refl, none);
     closed = counts_none S J new;
-    inside = λ some. ((inside some).1, refl);
+    inside = λ some. ((inside some).1, only_none S J new);
     turned = turned;
   }
     where
@@ -170,7 +185,8 @@ module _ {X Y : Type 0} (S : StoreGhosts X) (J : JournalGhosts Y)
 
       turned : FolderTurns S J Fails Differs old new f replies
       turned honest honest_notes first book h =
-          let w = books honest honest_notes first book h in
+          let x = books honest honest_notes first book h in
+          let w = x.0 in
           record {
             later = book;
             held = w.0;
@@ -184,6 +200,7 @@ module _ {X Y : Type 0} (S : StoreGhosts X) (J : JournalGhosts Y)
               delay = delay;
               why = w.1;
             });
+            committed = x.1;
           }
 
   -- The same, where the name was read from the frame.

@@ -4,9 +4,10 @@ use Rattle.std.specs.Prelude.{List}
 use Rattle.bw_model.specs.Book.{Book, log_of}
 use Rattle.bw_store.specs.declared.store.TakeStore.{Ghosts as StoreGhosts}
 use Rattle.bw_disk.specs.declared.disk.Disk.{Ghosts as DiskGhosts}
+use Rattle.bw_journal.specs.Notes.{KeepsCommitted}
 use Rattle.bw_journal.specs.declared.journal.Journal.{Ghosts as JournalGhosts}
 use Rattle.bw_folder.specs.TakeFolders.{takes_disk, takes_folder}
-use Rattle.bw_folder.specs.JournalFolders.{journals_disk}
+use Rattle.bw_folder.specs.JournalFolders.{journals_disk, has_pending}
 use Rattle.bw_folder.specs.declared.folder.FolderStore.{FolderStore}
 use Rattle.bw_folder.specs.declared.journal.FolderJournal.{FolderJournal}
 use Rattle.bw_session.specs.TableChanges.{IsOfLog}
@@ -14,6 +15,7 @@ use Rattle.bw_session.specs.declared.kept_take.KeptTake.{KeptTake}
 use Rattle.bw_session.specs.declared.session.Session.{Session}
 use Rattle.bw_session.specs.declared.server.Server.{Server}
 use Rattle.bw_session.specs.SeenServers.{server_store, server_journal, server_limit, session_kept}
+use Rattle.bw_kept.specs.DiskNotes.{StayCommitted}
 use Rattle.bw_kept.specs.KeptFolders.{HasThisFault, HoldsKept, HoldsReady}
 use Rattle.bw_kept.specs.KeptTurns.{KeepsCounts, IsWhy}
 use Rattle.bw_kept.specs.declared.delay.Delay.{Delay}
@@ -40,13 +42,22 @@ is_declined leaving.NoneMay = false
 abbrev pub KeepsSessions : (List ℕ → Option Session) → (List ℕ → Option Session) → Type 0
 KeepsSessions old new = (name : List ℕ) → new name ≡ old name
 
--- no call of a disk is made
+-- No call of a disk failed, and of that of the takes none was made.
 pub record KeepsDisks {D E F H : Type 0} {G : DiskGhosts D F} {K : DiskGhosts E H}
     {S : StoreGhosts (FolderStore D F G)} {J : JournalGhosts (FolderJournal E H K)}
     (old new : Server (FolderStore D F G) (FolderJournal E H K) S J) : Type 0 where
   pub takes : takes_disk (server_store new) ≡ takes_disk (server_store old)
-  pub notes : journals_disk (server_journal new) ≡ journals_disk (server_journal old)
+  pub notes : K.failures (journals_disk (server_journal new))
+      ≡ K.failures (journals_disk (server_journal old))
   pub folder : takes_folder (server_store new) ≡ takes_folder (server_store old)
+
+-- of each name notes are pending as before
+abbrev pub KeepsPendingNotes : {D E F H : Type 0} {G : DiskGhosts D F} {K : DiskGhosts E H}
+    {S : StoreGhosts (FolderStore D F G)} {J : JournalGhosts (FolderJournal E H K)} →
+    Server (FolderStore D F G) (FolderJournal E H K) S J →
+    Server (FolderStore D F G) (FolderJournal E H K) S J → Type 0
+KeepsPendingNotes old new = (name : List ℕ) →
+    has_pending (server_journal new) name ≡ has_pending (server_journal old) name
 
 module _ {X Y : Type 0} (S : StoreGhosts X) (J : JournalGhosts Y) where
   -- a name that isn't in the table stays outside
@@ -54,12 +65,15 @@ module _ {X Y : Type 0} (S : StoreGhosts X) (J : JournalGhosts Y) where
   StaysOutside old new = (name : List ℕ) → session_kept old name ≡ None →
       session_kept new name ≡ None
 
-  -- Each book of the folder that was held still is, over honest store and journal; and the counts stay.
+  -- Each book of the folder that was held still is, over honest store and journal; the counts stay, and no
+  -- fewer bytes of the notes are committed.
   pub record KeepsFolderBooks (old new : Server X Y S J) : Type 0 where
     pub counts : KeepsCounts S J old new
     pub books : IsTrue (S.honest (server_store old)) → IsTrue (J.honest (server_journal old)) →
         (first : List ℕ → Option (List ℕ)) (book : Book) → HoldsKept S J first old book →
         HoldsKept S J first new book
+    pub committed : IsTrue (J.honest (server_journal old)) →
+        KeepsCommitted (J.committed (server_journal old)) (J.committed (server_journal new))
 
   -- a take is that of a name's log in the folder, with its journal and its file
   abbrev pub IsOfFolder : (List ℕ → Option (List ℕ)) → Server X Y S J → Book → List ℕ →
@@ -95,6 +109,7 @@ module _ {X Y : Type 0} (S : StoreGhosts X) (J : JournalGhosts Y) where
         IsTrue (J.honest (server_journal old)) → (first : List ℕ → Option (List ℕ)) (book : Book) →
         HoldsKept S J first old book → session_kept old name ≡ None →
         WasRecovered first old new book name result
+        × StayCommitted J (server_limit old) first book (server_journal old) (server_journal new)
 
     -- A name was found: in the table, or new and awake, or its frame is put off.
     abbrev pub WasFound : (List ℕ → Option (List ℕ)) → Server X Y S J → Server X Y S J → Book →
@@ -108,6 +123,7 @@ module _ {X Y : Type 0} (S : StoreGhosts X) (J : JournalGhosts Y) where
     FindsBooks old new name result = IsTrue (S.honest (server_store old)) →
         IsTrue (J.honest (server_journal old)) → (first : List ℕ → Option (List ℕ)) (book : Book) →
         HoldsKept S J first old book → WasFound first old new book name result
+        × StayCommitted J (server_limit old) first book (server_journal old) (server_journal new)
 
     -- the same of a name that was new, and awake, whatever server there was before
     abbrev pub FindsNewIn : Server X Y S J → Server X Y S J → List ℕ → Found → Type 0
@@ -130,12 +146,13 @@ module _ {X Y : Type 0} (S : StoreGhosts X) (J : JournalGhosts Y) where
   IsWhere name IsNew s = session_kept s name ≡ None
   IsWhere name (PutOff delay) s = session_kept s name ≡ None
 
--- At most a name was forgotten, and this came of it: the books stay, no disk is called, and no name
--- comes into the table.
+-- At most a name was forgotten, and this came of it: the books stay, no disk is called, what is pending
+-- stays so, and no name comes into the table.
 pub record OnlyForgets {D E F H : Type 0} {G : DiskGhosts D F} {K : DiskGhosts E H}
     {S : StoreGhosts (FolderStore D F G)} {J : JournalGhosts (FolderJournal E H K)} (it : Leaving)
     (old new : Server (FolderStore D F G) (FolderJournal E H K) S J) : Type 0 where
   pub kept : KeepsFolderBooks S J old new
   pub disks : KeepsDisks old new
+  pub pending : KeepsPendingNotes old new
   pub outside : StaysOutside S J old new
   pub same : has_left it ≡ false → KeepsSessions (session_kept old) (session_kept new)

@@ -18,6 +18,7 @@ use Rattle.bw_session.specs.declared.server.Server.{Server}
 use Rattle.bw_session.specs.SeenServers.{server_store, server_journal, server_limit}
 use Rattle.bw_session.specs.Books.{NotesAwake}
 use Rattle.bw_kept.specs.FolderRuns.{ends_with_request}
+use Rattle.bw_folder.specs.PendingNotes.{IsOnDisk}
 
 -- Something is wrong with a name, by its journal and its file.
 abbrev pub HasNameFault : ℕ → List ℕ → Option (List ℕ) → Option (List ℕ) → Type 0
@@ -64,6 +65,12 @@ pub record IsOutOfTable (limit : ℕ) (first : Option (List ℕ)) (name : List �
   pub quiet : count_waiting log ≡ 0
   pub lies : LiesInFolder limit first name log journal file
 
+-- so it is whatever the disk has of its journal
+abbrev pub StaysOutOfTable : ℕ → Option (List ℕ) → List ℕ → Log → ℕ → Option (List ℕ) →
+    Option (List ℕ) → Type 0
+StaysOutOfTable limit first name log committed notes file = (found : Option (List ℕ)) →
+    IsOnDisk committed notes found → IsOutOfTable limit first name log found file
+
 -- A name of the table is one of the folder, with the same log; the server began with what was there
 -- at first.
 pub record IsInTable (known : Bool) (log in_table : Log) (first now : Option (List ℕ)) :
@@ -97,8 +104,9 @@ module _ {X Y : Type 0} (S : StoreGhosts X) (J : JournalGhosts Y) where
     pub inside : (name : List ℕ) → is_known table name ≡ true →
         IsInTable (is_known book name) (log_of book name) (log_of table name) (first name) (now name)
     pub outside : (name : List ℕ) → IsTrue (is_name name) → is_known table name ≡ false →
-        IsOutOfTable (server_limit s) (first name) name (log_of book name)
-        (J.notes (server_journal s) name) (S.contents (server_store s) name)
+        StaysOutOfTable (server_limit s) (first name) name (log_of book name)
+        (J.committed (server_journal s) name) (J.notes (server_journal s) name)
+        (S.contents (server_store s) name)
     pub ready : (name : List ℕ) → is_known table name ≡ false → awake name ≡ true →
         (is_known book name ≡ false) × (now name ≡ first name)
 

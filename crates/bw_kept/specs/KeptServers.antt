@@ -1,5 +1,5 @@
 -- What is seen of a server whose table is a cache of its folder.
-use Rattle.std.specs.Prelude.{◌≡◌, ℕ, List}
+use Rattle.std.specs.Prelude.{◌≡◌, ℕ, Bool, List}
 use Rattle.bw_store.specs.declared.store.TakeStore.{Ghosts as StoreGhosts}
 use Rattle.bw_journal.specs.declared.journal.Journal.{Ghosts as JournalGhosts}
 use Rattle.bw_recovery.specs.declared.finding.NameFault.{NameFault}
@@ -20,6 +20,10 @@ module _ {X Y : Type 0} {S : StoreGhosts X} {J : JournalGhosts Y} where
   -- the names with faults that are to be given, with these, the first one first
   abbrev pub names_left_out : KeptServer X Y S J → List (List ℕ × NameFault)
   names_left_out k = k.left_out.waiting.items
+
+  -- whether a frame was answered since the last commit
+  abbrev pub was_answered : KeptServer X Y S J → Bool
+  was_answered k = k.answered
 
   -- the use of a name is noted, if it may leave the table now
   abbrev pub NotesUse : List ℕ → KeptServer X Y S J → KeptServer X Y S J → Type 0

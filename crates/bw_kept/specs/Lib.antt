@@ -1,3 +1,4 @@
+pub mod DiskNotes
 pub mod FolderRuns
 pub mod FoundNames
 pub mod KeptFolders

@@ -4,6 +4,7 @@ use Rattle.std.specs.Prelude.{[], ◌∷◌, ◌++◌, length, Result, Ok, Err, 
 use Rattle.bw_model.specs.Take.{Parts}
 use Rattle.bw_journal.specs.Replays.{Story, JournalFault, replay}
 use Rattle.bw_journal.specs.Stories.{story_of}
+use Rattle.bw_store.specs.Stores.{KeepsOthers}
 use Rattle.bw_disk.specs.declared.disk.Disk.{Ghosts}
 use Rattle.bw_recovery.specs.Names.{name_fault}
 use Rattle.bw_recovery.specs.Findings.{RefusesName, IsRestored}
@@ -12,6 +13,7 @@ use Rattle.bw_folder.specs.Journals.{known_but}
 use Rattle.bw_folder.specs.TakeFolders.{takes_folder, takes_calls, takes_failures, open_takes}
 use Rattle.bw_folder.specs.TakeFolders.{take_in_folder}
 use Rattle.bw_folder.specs.JournalFolders.{journals_failures, open_journals, noted_in_folder, SameSettings}
+use Rattle.bw_folder.specs.JournalFolders.{has_pending}
 use Rattle.bw_folder.specs.RecoveredNames.{ChangesName, StaysLeftIn}
 use Rattle.bw_folder.specs.declared.folder.FolderStore.{FolderStore}
 use Rattle.bw_folder.specs.declared.journal.FolderJournal.{FolderJournal}
@@ -139,13 +141,15 @@ KeepsFaulty limit name journal file later_journal later_file =
     HasNameFault limit name journal file → (later_journal ≡ journal) × (later_file ≡ file)
 
 module _ {D E F H : Type 0} {G : Ghosts D F} {K : Ghosts E H} where
-  -- Folder and settings are the same, and neither store nor journal has got a call.
+  -- Folder and settings are the same, notes are pending as before, and neither store nor journal has got
+  -- a call.
   pub record KeepsBothSettings (store : FolderStore D F G) (journal : FolderJournal E H K)
       (later_store : FolderStore D F G) (later_journal : FolderJournal E H K) : Type 0 where
     pub folder : takes_folder later_store ≡ takes_folder store
     pub calls : takes_calls later_store ≡ takes_calls store
     pub failures : takes_failures later_store ≡ takes_failures store
     pub settings : SameSettings journal later_journal
+    pub pending : (name : List ℕ) → has_pending later_journal name ≡ has_pending journal name
     pub journal_failures : journals_failures later_journal ≡ journals_failures journal
 
   -- Of each other name what was open is open.
@@ -196,3 +200,4 @@ module _ {D E F H : Type 0} {G : Ghosts D F} {K : Ghosts E H} where
     pub left : StaysLeftIn limit name store journal later_store later_journal
     pub faulty : KeepsFaultyIn limit name store journal later_store later_journal
     pub others : ChangesName name store journal later_store later_journal
+    pub noted : KeepsOthers (noted_in_folder journal) (noted_in_folder later_journal) name

@@ -15,7 +15,7 @@ use Rattle.bw_recovery.specs.declared.finding.Finding.TheVariants.{Refused, Unbe
 use Rattle.bw_folder.specs.Journals.{existence_of}
 use Rattle.bw_folder.specs.TakeFolders.{takes_disk, open_takes}
 use Rattle.bw_folder.specs.JournalFolders.{journals_disk, open_journals, noted_in_folder}
-use Rattle.bw_folder.specs.JournalFolders.{journals_failures, SameSettings}
+use Rattle.bw_folder.specs.JournalFolders.{journals_failures, unwritten_in, SameSettings}
 use Rattle.bw_folder.specs.RecoveredNames.{AreOfOneFolder, FindsIn, CountsUnlessCrowded}
 use Rattle.bw_folder.specs.declared.folder.FolderStore.{FolderStore}
 use Rattle.bw_folder.specs.declared.journal.FolderJournal.{FolderJournal}
@@ -60,16 +60,19 @@ abbrev pub HasFiles : Option Story → Option (List ℕ) → Option (List ℕ) �
 HasFiles None notes file = Unit {0}
 HasFiles (Some s) notes file = IsSome notes × (IsTrue (is_written_on s.parts) → IsSome file)
 
--- A journal was synced: its settings, what is open, and what its disk holds stay, and a call of the disk
--- is counted as failed if this happened.
+-- A journal was synced: its settings, what is open, noted and pending, and what its disk holds stay, and a
+-- call of the disk is counted as failed if this happened.
 pub record SyncsJournal {E H : Type 0} (K : Ghosts E H) (happens : Bool)
     (journal later_journal : FolderJournal E H K) : Type 0 where
   pub settings : SameSettings journal later_journal
   pub failures : journals_failures later_journal ≡ journals_failures journal
   pub journals : open_journals later_journal ≡ open_journals journal
+  pub pending : unwritten_in later_journal ≡ unwritten_in journal
   pub honest : K.honest (journals_disk later_journal) ≡ K.honest (journals_disk journal)
   pub contents : IsTrue (K.honest (journals_disk journal)) →
       KeepsEach (K.contents (journals_disk journal)) (K.contents (journals_disk later_journal))
+  pub noted : IsTrue (K.honest (journals_disk journal)) →
+      KeepsEach (noted_in_folder journal) (noted_in_folder later_journal)
   pub counts : Counts (K.failures (journals_disk journal)) (K.failures (journals_disk later_journal)) happens
 
 module _ {D E F H : Type 0} {G : Ghosts D F} {K : Ghosts E H} where

@@ -9,6 +9,7 @@ use Rattle.bw_store.specs.declared.store.TakeStore.{Ghosts as StoreGhosts}
 use Rattle.bw_journal.specs.declared.journal.Journal.{Ghosts as JournalGhosts}
 use Rattle.bw_session.specs.declared.server.Server.{Server}
 use Rattle.bw_session.specs.SeenServers.{server_store, server_journal, server_limit}
+use Rattle.bw_kept.specs.DiskNotes.{AreOnDisk}
 use Rattle.bw_kept.specs.KeptFolders.{HoldsKept}
 use Rattle.bw_kept.specs.KeptTurns.{KeptTurn}
 use Rattle.bw_kept.specs.LeftFolders.{LeavesDone}
@@ -27,7 +28,8 @@ module _ {X Y : Type 0} (S : StoreGhosts X) (J : JournalGhosts Y) where
     pub quiet : (name : List ℕ) → is_known run.held.table name ≡ true →
         is_pending (log_of run.later name) ≡ false →
         S.contents (server_store new) name ≡ content_in first (server_limit new) run.later name
-    pub left : LeavesDone (server_limit new) first run.later (J.notes (server_journal new))
+    pub left : (journals : List ℕ → Option (List ℕ)) → AreOnDisk J (server_journal new) journals →
+        LeavesDone (server_limit new) first run.later (J.committed (server_journal new)) journals
         (S.contents (server_store new))
 
 -- so it is after any frames, over honest store and journal

@@ -7,7 +7,7 @@ use bw_recovery::NameFault;
 pub enum Delay {
     /// A call of a disk failed, or 256 files of the name were set aside already.
     CallFailed,
-    /// Memory was refused.
+    /// Memory was refused; or notes are pending, and a sync has failed, at which the server ends.
     NoMemory,
     /// The name is left out: this is wrong with its journal or its file.
     LeftOut(NameFault),

@@ -1,16 +1,20 @@
 //! Finding a name: in the table, or in the folder.
-ghost use Rattle.std.specs.Prelude.{◌≡◌, ◌≢◌, ◌<◌, ◌⊎◌, true, false, None, IsSome};
+ghost use Rattle.std.specs.Prelude.{◌≡◌, ◌≢◌, ◌<◌, ◌⊎◌, true, false, None, IsSome, IsTrue};
 ghost use Rattle.bw_model.specs.Turn.{most_takes};
-ghost use Rattle.bw_session.specs.SeenServers.{session_kept, names_kept};
+ghost use Rattle.bw_journal.specs.Notes.{KeepsCommitted};
+ghost use Rattle.bw_folder.specs.Commits.{IsAllCommitted};
+ghost use Rattle.bw_session.specs.SeenServers.{session_kept, names_kept, server_journal};
 ghost use Rattle.bw_kept.specs.FoundNames.{KeepsFolderBooks, OnlyForgets, KeepsSessions, FindsBooks, FindsNewIn};
+ghost use Rattle.bw_kept.specs.RecoverySteps.{fault_of_read};
+ghost use Rattle.bw_kept.specs.Visits.{delay_by};
 ghost use Rattle.bw_kept.specs.FoundNames.{PutsInBooks, IsWhere};
 ghost use Rattle.bw_kept.specs.KeptTurns.{KeepsCounts, NoneMayLeave, HasPlace, DiskFails, DisksDiffer};
 
 use crate::delay::Delay;
-use crate::recovering::{close_files, recover_name};
+use crate::recovering::{close_files, commit_notes, recover_name};
 use crate::recovery::Recovered;
 use crate::room::{Leaving, Room, drop_any, drop_oldest, room_after};
-use bw_disk::Volume;
+use bw_disk::{ReadFault, Volume};
 use bw_folder::{FolderJournal, FolderStore};
 use bw_journal::Journal;
 use bw_model::Name;
@@ -36,6 +40,7 @@ fn drop_one<D: Volume, E: Volume>(
     server: &mut Server<FolderStore<D>, FolderJournal<E>>,
     used: &[Name],
 ) -> Leaving
+    requires committed { IsAllCommitted (server_journal server.old) }
     ensures forgets { OnlyForgets result server.old server.new }
     ensures none { result ≡ Leaving.NoneMay → NoneMayLeave ⟦<FolderStore<D> as TakeStore>⟧
         ⟦<FolderJournal<E> as Journal>⟧ server.new }
@@ -50,7 +55,8 @@ fn drop_one<D: Volume, E: Volume>(
     }
 }
 
-/// Finds a name: if it isn't in the table, room is made, and it is recovered from its folder.
+/// Finds a name: if it isn't in the table, all notes are committed, room is made, and the name is
+/// recovered from its folder.
 pub(crate) fn find<D: Volume, E: Volume>(
     alloc: Global,
     server: &mut Server<FolderStore<D>, FolderJournal<E>>,
@@ -72,12 +78,47 @@ pub(crate) fn find<D: Volume, E: Volume>(
     if server.is_known(name) {
         return Found::Known;
     }
+    match commit_notes(server) {
+        Ok(()) => find_outside(alloc, server, used, name),
+        Err(fault) => Found::PutOff(delay_of_read(fault)),
+    }
+}
+
+/// The same of a name that isn't in the table, when nothing is pending.
+fn find_outside<D: Volume, E: Volume>(
+    alloc: Global,
+    server: &mut Server<FolderStore<D>, FolderJournal<E>>,
+    used: &[Name],
+    name: &Name,
+) -> Found
+    requires committed { IsAllCommitted (server_journal server.old) }
+    requires fresh { session_kept server.old name.now ≡ None }
+    ensures counts { KeepsCounts ⟦<FolderStore<D> as TakeStore>⟧ ⟦<FolderJournal<E> as Journal>⟧
+        server.old server.new }
+    ensures found { IsWhere ⟦<FolderStore<D> as TakeStore>⟧ ⟦<FolderJournal<E> as Journal>⟧
+        name.now result server.new }
+    ensures books { FindsBooks ⟦<FolderStore<D> as TakeStore>⟧ ⟦<FolderJournal<E> as Journal>⟧
+        (DiskFails D.Disk E.Disk) (DisksDiffer D.Disk E.Disk) server.old server.new name.now result }
+    ensures place { result ≡ Found.New →
+        HasPlace ⟦<FolderStore<D> as TakeStore>⟧ ⟦<FolderJournal<E> as Journal>⟧ true server.new
+        ⊎ NoneMayLeave ⟦<FolderStore<D> as TakeStore>⟧ ⟦<FolderJournal<E> as Journal>⟧ server.new }
+{
     let leaving = drop_one(alloc, server, used);
     match recover_name(alloc, server, name) {
         Ok(Recovered::New) => found_new(server, leaving, name),
         Ok(Recovered::LeftOut(fault)) => Found::PutOff(Delay::LeftOut(fault)),
         Ok(Recovered::Kept(take)) => put_in(server, leaving, name, take),
         Err(delay) => Found::PutOff(delay),
+    }
+}
+
+/// Why a frame is put off, if what is noted can't be committed.
+fn delay_of_read(fault: ReadFault) -> Delay
+    ensures { result ≡ delay_by (fault_of_read fault) }
+{
+    match fault {
+        ReadFault::Disk => Delay::CallFailed,
+        ReadFault::Memory => Delay::NoMemory,
     }
 }
 
@@ -92,6 +133,9 @@ fn found_new<D: Volume, E: Volume>(
     ensures counts { KeepsCounts ⟦<FolderStore<D> as TakeStore>⟧ ⟦<FolderJournal<E> as Journal>⟧
         server.old server.new }
     ensures sessions { KeepsSessions (session_kept server.old) (session_kept server.new) }
+    ensures committed { IsTrue (⟦<FolderJournal<E> as Journal>⟧.honest (server_journal server.old)) →
+        KeepsCommitted (⟦<FolderJournal<E> as Journal>⟧.committed (server_journal server.old))
+        (⟦<FolderJournal<E> as Journal>⟧.committed (server_journal server.new)) }
     ensures found { IsWhere ⟦<FolderStore<D> as TakeStore>⟧ ⟦<FolderJournal<E> as Journal>⟧
         name.now result server.new }
     ensures place { result ≡ Found.New → HasPlace ⟦<FolderStore<D> as TakeStore>⟧
@@ -125,6 +169,9 @@ fn put_in<D: Volume, E: Volume>(
     ensures found { IsWhere ⟦<FolderStore<D> as TakeStore>⟧ ⟦<FolderJournal<E> as Journal>⟧
         name.now result server.new }
     ensures other { result ≢ Found.New }
+    ensures committed { IsTrue (⟦<FolderJournal<E> as Journal>⟧.honest (server_journal server.old)) →
+        KeepsCommitted (⟦<FolderJournal<E> as Journal>⟧.committed (server_journal server.old))
+        (⟦<FolderJournal<E> as Journal>⟧.committed (server_journal server.new)) }
     ensures books { PutsInBooks ⟦<FolderStore<D> as TakeStore>⟧ ⟦<FolderJournal<E> as Journal>⟧
         (DiskFails D.Disk E.Disk) (DisksDiffer D.Disk E.Disk) server.old server.new name.now take result }
 {
@@ -155,6 +202,9 @@ fn insert_take<D: Volume, E: Volume>(
     ensures found { IsWhere ⟦<FolderStore<D> as TakeStore>⟧ ⟦<FolderJournal<E> as Journal>⟧
         name.now result server.new }
     ensures other { result ≢ Found.New }
+    ensures committed { IsTrue (⟦<FolderJournal<E> as Journal>⟧.honest (server_journal server.old)) →
+        KeepsCommitted (⟦<FolderJournal<E> as Journal>⟧.committed (server_journal server.old))
+        (⟦<FolderJournal<E> as Journal>⟧.committed (server_journal server.new)) }
     ensures books { PutsInBooks ⟦<FolderStore<D> as TakeStore>⟧ ⟦<FolderJournal<E> as Journal>⟧
         (DiskFails D.Disk E.Disk) (DisksDiffer D.Disk E.Disk) server.old server.new name.now take result }
 {

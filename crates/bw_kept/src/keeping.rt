@@ -1,5 +1,5 @@
 //! A server whose table is a cache of its folder.
-ghost use Rattle.std.specs.Prelude.{◌≡◌, ◌≤◌, [], ◌∷◌, map, IfOk, IfErr, MatchOption};
+ghost use Rattle.std.specs.Prelude.{◌≡◌, ◌≤◌, true, false, [], ◌∷◌, map, IfOk, IfErr, MatchOption};
 ghost use Rattle.std.specs.List.{All};
 ghost use Rattle.bw_model.specs.Replies.{Noticed, DelayedStore};
 ghost use Rattle.bw_model.specs.Wire.{Says, Asks, Second, last_number};
@@ -15,6 +15,7 @@ ghost use Rattle.bw_kept.specs.UseOrder.{with_use_if};
 use crate::delay::Delay;
 use crate::finding::{Found, close_unknown, find};
 use crate::left_out::LeftOut;
+use crate::recovering::commit_notes;
 use crate::uses::Uses;
 use arrayvec::ArrayVec;
 use bw_disk::Volume;
@@ -42,6 +43,9 @@ use std::alloc::{AllocError, Global};
 /// - the disks of store and journal don't show alike whether a new name has a file;
 /// - the name lies in the folder, and nothing can leave the table.
 ///
+/// Notes that a journal keeps for a commit are committed first, of all names: so a name that leaves the
+/// table, or comes into it, has none. What a commit couldn't write is kept for the next one.
+///
 /// Names with faults are left out one by one; all others go on. A name in the table is answered as by
 /// the server alone.
 ///
@@ -54,10 +58,12 @@ pub struct KeptServer<S: TakeStore, J: Journal> {
     pub(crate) uses: Uses,
     pub(crate) left_out: LeftOut,
     pub(crate) alloc: Global,
+    /// A frame was answered since the last commit.
+    pub(crate) answered: bool,
 }
 
 impl<S: TakeStore, J: Journal> KeptServer<S, J> {
-    ghost use Rattle.bw_kept.specs.KeptServers.{table_server, names_used, names_left_out, NotesUse};
+    ghost use Rattle.bw_kept.specs.KeptServers.{table_server, names_used, names_left_out, was_answered, NotesUse};
 
     /// A server over a folder. Names that are in its table count as used before all others, in any
     /// order.
@@ -74,6 +80,7 @@ impl<S: TakeStore, J: Journal> KeptServer<S, J> {
         ensures server { IfOk result (λ k. table_server k ≡ server) }
         ensures used { IfOk result (λ k. ListsNames (known_kept server) (names_used k)) }
         ensures none { IfOk result (λ k. names_left_out k ≡ []) }
+        ensures answered { IfOk result (λ k. was_answered k ≡ false) }
         ensures back { IfErr result (λ e. e.1 ≡ server) }
     {
         match (first_uses(alloc, &server), LeftOut::new(alloc)) {
@@ -82,6 +89,7 @@ impl<S: TakeStore, J: Journal> KeptServer<S, J> {
                 uses,
                 left_out,
                 alloc,
+                answered: false,
             }),
             (Err(error), _) => Err((error, server)),
             (_, Err(error)) => Err((error, server)),
@@ -104,6 +112,7 @@ impl<S: TakeStore, J: Journal> KeptServer<S, J> {
             uses: _,
             left_out: _,
             alloc: _,
+            answered: _,
         } = self;
         server
     }
@@ -116,6 +125,7 @@ impl<S: TakeStore, J: Journal> KeptServer<S, J> {
     pub fn take_left_out(&mut self) -> Option<(Name, NameFault)>
         ensures server { table_server self.new ≡ table_server self.old }
         ensures used { names_used self.new ≡ names_used self.old }
+        ensures answered { was_answered self.new ≡ was_answered self.old }
         ensures given { MatchOption result ((self.new ≡ self.old) × (names_left_out self.old ≡ []))
             (λ next. names_left_out self.old ≡ next ∷ names_left_out self.new) }
     {
@@ -185,8 +195,9 @@ impl<S: TakeStore, J: Journal> HasTable for KeptServer<S, J> {
 }
 
 impl<D: Volume, E: Volume> KeptServer<FolderStore<D>, FolderJournal<E>> {
-    ghost use Rattle.bw_kept.specs.KeptCommits.{failed_sync_of};
-    ghost use Rattle.bw_kept.specs.KeptServers.{table_server};
+    ghost use Rattle.bw_kept.specs.KeptCommits.{failed_sync_of, TriesCommit};
+    ghost use Rattle.bw_kept.specs.KeptServers.{table_server, was_answered};
+    ghost use Rattle.bw_kept.specs.KeptTurns.{OnlyCommits};
 
     /// The name of which a sync failed, if one has: that of a take's file at its CLOSE, or else of a
     /// journal.
@@ -198,24 +209,40 @@ impl<D: Volume, E: Volume> KeptServer<FolderStore<D>, FolderJournal<E>> {
             None => self.server.journal().failed_sync(),
         }
     }
+
+    /// Commits what is noted, if a frame was answered since the last commit.
+    fn commit_answered(&mut self)
+        ensures only { OnlyCommits ⟦<FolderStore<D> as TakeStore>⟧ ⟦<FolderJournal<E> as Journal>⟧
+            (table_server self.old) (table_server self.new) }
+        ensures tried { was_answered self.old ≡ true →
+            TriesCommit (table_server self.old) (table_server self.new) }
+        ensures idle { was_answered self.old ≡ false → self.new ≡ self.old }
+        ensures answered { was_answered self.new ≡ false }
+    {
+        if self.answered {
+            self.answered = false;
+            let _tried = commit_notes(&mut self.server);
+        }
+    }
 }
 
 impl<D: Volume, E: Volume> Turns for KeptServer<FolderStore<D>, FolderJournal<E>> {
-    ghost use Rattle.bw_kept.specs.KeptCommits.{CommitsSynced};
+    ghost use Rattle.bw_kept.specs.KeptCommits.{CommitsKept};
     ghost use Rattle.bw_kept.specs.KeptTurns.{KeptTurn, DiskFails, DisksDiffer};
-    ghost use Rattle.bw_kept.specs.KeptServers.{table_server};
+    ghost use Rattle.bw_kept.specs.KeptServers.{table_server, was_answered};
 
     ghost answers = { λ old frame replies new.
         KeptTurn ⟦<FolderStore<D> as TakeStore>⟧ ⟦<FolderJournal<E> as Journal>⟧
         (DiskFails D.Disk E.Disk) (DisksDiffer D.Disk E.Disk)
         (table_server old) frame replies (table_server new) };
 
-    /// Nothing is ever uncommitted.
-    ghost committed = { λ _. Unit {0} };
+    /// No frame was answered since the last commit: another one would change nothing.
+    ghost committed = { λ k. was_answered k ≡ false };
 
-    ghost commits = { CommitsSynced };
+    ghost commits = { CommitsKept };
 
     fn turn(&mut self, message: &Message<'_>, replies: &mut ArrayVec<Reply, 17>) {
+        self.answered = true;
         let name = message.name();
         match find(self.alloc, &mut self.server, self.uses.names(), &name) {
             Found::Known => self.serve(&name, message, replies),
@@ -231,6 +258,7 @@ impl<D: Volume, E: Volume> Turns for KeptServer<FolderStore<D>, FolderJournal<E>
     }
 
     fn ask(&mut self, ask: &Ask<'_>) -> Reply {
+        self.answered = true;
         let name = ask.name();
         match find(self.alloc, &mut self.server, self.uses.names(), &name) {
             Found::Known => self.answer(&name, ask),
@@ -246,11 +274,20 @@ impl<D: Volume, E: Volume> Turns for KeptServer<FolderStore<D>, FolderJournal<E>
         }
     }
 
-    /// Each turn keeps what it answers, unless a sync failed.
+    /// Commits what is noted, if a frame was answered since the last commit. What couldn't be written is
+    /// still noted: the commit after the next frame tries it again, and none succeeds before it is
+    /// written.
     fn commit(&mut self) -> Result<(), NotKept> {
+        self.commit_answered();
         match self.failed_sync() {
             Some(_name) => Err(NotKept::SyncFault),
-            None => Ok(()),
+            None => {
+                if self.server.journal().awaits_commit() {
+                    Err(NotKept::WriteFault)
+                } else {
+                    Ok(())
+                }
+            }
         }
     }
 }

@@ -1,7 +1,8 @@
 //! Laws of servers whose table is a cache of their folder. Each function's contract is one; nothing
 //! runs.
 ghost use Rattle.bw_kept.specs.KeptTurns.{DiskFails, DisksDiffer};
-ghost use Rattle.bw_kept.specs.LeftFolders.{EmptyServersHold, KeptServersLeaveDone, LeftBooksLieThere};
+ghost use Rattle.bw_kept.specs.LeftFolders.{CommittedBooksAreCovered, EmptyServersHold};
+ghost use Rattle.bw_kept.specs.LeftFolders.{KeptServersLeaveDone, LeftBooksLieThere};
 ghost use Rattle.bw_kept.specs.OwnRuns.{NamesRunAlone};
 ghost use Rattle.bw_kept.specs.RunLeavings.{RunsLeaveFiles};
 ghost use Rattle.bw_kept.specs.Runs.{RunsKeepOn};
@@ -16,11 +17,14 @@ pub fn law_begins<S: TakeStore, J: Journal>()
     ensures held { EmptyServersHold S.TakeStore J.Journal }
     // What a stopped server left by the words of a start lies there.
     ensures left { LeftBooksLieThere }
+    // Where all notes are committed, so is the entry of each done number.
+    ensures covered { CommittedBooksAreCovered S.TakeStore J.Journal }
 {}
 
-/// Wherever a server is stopped, whichever calls failed: its folder has what a stop leaves of each name,
-/// from its book, or from one in which numbers that waited are done. Dropping a name from the table
-/// leaves the same.
+/// Wherever a server is stopped, whichever calls failed, and whatever its disk has of the notes that aren't
+/// committed: its folder has what a stop leaves of each name, from a book of which the first numbers are
+/// done, among them each whose entry is committed, or also the number that waited. Dropping a name from
+/// the table leaves the same.
 pub fn law_stops<S: TakeStore, J: Journal>()
     ensures { KeptServersLeaveDone S.TakeStore J.Journal }
 {}

@@ -1,16 +1,19 @@
-//! A server's names and their folder: recovering one, and closing its files.
+//! A server's names and their folder: committing notes, recovering a name, and closing its files.
 ghost use Rattle.std.specs.Prelude.{◌≡◌, None, Some, IfOk, List, Option, ℕ, IsTrue};
 ghost use Rattle.bw_model.specs.Book.{Book};
 ghost use Rattle.bw_session.specs.SeenServers.{session_kept, names_kept, server_store, server_journal};
-ghost use Rattle.bw_kept.specs.FoundNames.{KeepsSessions, KeepsDisks, RecoversBooks};
+ghost use Rattle.bw_journal.specs.Notes.{KeepsCommitted};
+ghost use Rattle.bw_folder.specs.Commits.{IsAllCommitted};
+ghost use Rattle.bw_kept.specs.FoundNames.{KeepsSessions, KeepsDisks, KeepsPendingNotes, RecoversBooks};
 ghost use Rattle.bw_kept.specs.Recoveries.{IsKeptUnder};
 ghost use Rattle.bw_kept.specs.KeptFolders.{HoldsKept};
-ghost use Rattle.bw_kept.specs.KeptTurns.{KeepsCounts, DiskFails, DisksDiffer};
+ghost use Rattle.bw_kept.specs.KeptTurns.{KeepsCounts, OnlyCommits, DiskFails, DisksDiffer};
+ghost use Rattle.bw_kept.specs.Visits.{CommitsJournals};
 
 use crate::delay::Delay;
 use crate::recovery::Recovered;
-use crate::visiting::{Closing, Recovering};
-use bw_disk::Volume;
+use crate::visiting::{Closing, Committing, Recovering};
+use bw_disk::{ReadFault, Volume};
 use bw_folder::{FolderJournal, FolderStore};
 use bw_journal::Journal;
 use bw_model::Name;
@@ -19,7 +22,25 @@ use bw_session::laws::law_outside;
 use bw_store::TakeStore;
 use std::alloc::Global;
 
-/// Closes the files of a name that isn't in the table, if they are open. No disk is called.
+/// Commits what is noted of all names.
+///
+/// # Errors
+/// As `FolderJournal::commit` has them.
+pub(crate) fn commit_notes<D: Volume, E: Volume>(
+    server: &mut Server<FolderStore<D>, FolderJournal<E>>,
+) -> Result<(), ReadFault>
+    ensures only { OnlyCommits ⟦<FolderStore<D> as TakeStore>⟧ ⟦<FolderJournal<E> as Journal>⟧
+        server.old server.new }
+    ensures commits { CommitsJournals result (server_store server.old) (server_journal server.old)
+        (server_store server.new) (server_journal server.new) }
+{
+    let mut visitor = Committing { result: Ok(()) };
+    server.lend_stores(&mut visitor);
+    visitor.result
+}
+
+/// Closes the files of a name that isn't in the table, if they are open, but for a journal of which notes
+/// are pending. No disk is called.
 pub(crate) fn close_files<D: Volume, E: Volume>(
     server: &mut Server<FolderStore<D>, FolderJournal<E>>,
     name: &Name,
@@ -27,6 +48,10 @@ pub(crate) fn close_files<D: Volume, E: Volume>(
     ensures counts { KeepsCounts ⟦<FolderStore<D> as TakeStore>⟧ ⟦<FolderJournal<E> as Journal>⟧
         server.old server.new }
     ensures disks { KeepsDisks server.old server.new }
+    ensures pending { KeepsPendingNotes server.old server.new }
+    ensures committed { IsTrue (⟦<FolderJournal<E> as Journal>⟧.honest (server_journal server.old)) →
+        KeepsCommitted (⟦<FolderJournal<E> as Journal>⟧.committed (server_journal server.old))
+        (⟦<FolderJournal<E> as Journal>⟧.committed (server_journal server.new)) }
     ensures sessions { KeepsSessions (session_kept server.old) (session_kept server.new) }
     ensures names { names_kept server.new ≡ names_kept server.old }
     ensures notes { (other : List ℕ) → ⟦<FolderJournal<E> as Journal>⟧.notes (server_journal server.new) other
@@ -45,7 +70,7 @@ pub(crate) fn close_files<D: Volume, E: Volume>(
     server.lend_stores(&mut visitor);
 }
 
-/// Recovers a name that isn't in the table from its folder. A new name is put off if the disks of
+/// Recovers a name that isn't in the table from its folder, when nothing is pending. A new name is put off if the disks of
 /// store and journal don't show alike whether it has a file: what its journal would say of that
 /// isn't known then.
 ///
@@ -60,6 +85,7 @@ pub(crate) fn recover_name<D: Volume, E: Volume>(
     server: &mut Server<FolderStore<D>, FolderJournal<E>>,
     name: &Name,
 ) -> Result<Recovered, Delay>
+    requires committed { IsAllCommitted (server_journal server.old) }
     ensures counts { KeepsCounts ⟦<FolderStore<D> as TakeStore>⟧ ⟦<FolderJournal<E> as Journal>⟧
         server.old server.new }
     ensures sessions { KeepsSessions (session_kept server.old) (session_kept server.new) }

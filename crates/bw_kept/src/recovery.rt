@@ -1,5 +1,5 @@
 //! Recovering one name from its folder: what a start makes of each name, made of one that isn't open.
-ghost use Rattle.std.specs.Prelude.{◌≡◌, ℕ, None, Ok, Some, IsTrue, IsSome, IfOk, OnOk, OnErr};
+ghost use Rattle.std.specs.Prelude.{◌≡◌, ℕ, List, None, Ok, Some, IsTrue, IsSome, IfOk, OnOk, OnErr};
 ghost use Rattle.std.specs.Prelude.{◌++◌, ◌∷◌, [], ◌≤◌, ◌+◌, ◌*◌, length, false};
 ghost use Rattle.bw_model.specs.Wire.{Second, last_number};
 ghost use Rattle.bw_disk.specs.DiskSteps.{StaysWhole};
@@ -11,7 +11,9 @@ ghost use Rattle.bw_folder.specs.TakeFolders.{takes_disk, takes_folder, takes_ca
 ghost use Rattle.bw_folder.specs.TakeFolders.{take_in_folder, open_takes};
 ghost use Rattle.bw_folder.specs.JournalFolders.{journals_disk, journals_failures, open_journals};
 ghost use Rattle.bw_folder.specs.JournalFolders.{noted_in_folder, SameSettings};
-ghost use Rattle.bw_folder.specs.JournalFolders.{journals_sync, IsSyncedName};
+ghost use Rattle.bw_folder.specs.JournalFolders.{journals_sync, has_pending, IsSyncedName};
+ghost use Rattle.bw_disk.specs.Volumes.{KeepsEach};
+ghost use Rattle.bw_folder.specs.Commits.{IsAllCommitted};
 ghost use Rattle.bw_folder.specs.RecoveredNames.{AreOfOneFolder};
 ghost use Rattle.bw_folder.specs.RecoveredNames.{CountsIn, CountsUnlessCrowded};
 ghost use Rattle.bw_kept.specs.Recoveries.{makes_file, is_written_on, MadeOfStory};
@@ -74,8 +76,9 @@ impl RecoverFault {
 ///
 /// # Errors
 /// `Disk` if a call of a disk failed, or 256 files of the name were set aside already; `Memory` if
-/// memory was refused, or the journal has more than 2^40 bytes; `Numbers`. Nothing of the name is
-/// open then, and it may be recovered again.
+/// memory was refused, the journal has more than 2^40 bytes, or notes of any name are pending, which a
+/// commit writes first; `Numbers`. Nothing of the name is open then but a journal of which notes are
+/// pending, and it may be recovered again.
 ///
 /// # Not specified
 /// When memory is refused, and how many calls of the disks it makes.
@@ -93,9 +96,10 @@ pub fn recover<D: Volume, E: Volume>(
     ensures recovered { AreOfOneFolder store.old journal.old → IfOk result
         (RecoversIn limit name.now store.old journal.old store.new journal.new) }
     // The journal is open if it is begun, and the file if the take is; of other names what was.
-    ensures opened { AreOfOneFolder store.old journal.old → IfOk result
+    ensures opened { AreOfOneFolder store.old journal.old → IsAllCommitted journal.old → IfOk result
         (OpensIn limit name.now store.old journal.old store.new journal.new) }
-    ensures closed { OnErr result (OpensStory name.now None store.old journal.old store.new journal.new) }
+    ensures closed { IsAllCommitted journal.old →
+        OnErr result (OpensStory name.now None store.old journal.old store.new journal.new) }
     // What was left of the name is left still, after a failed call too; a fault keeps all of it.
     ensures kept { AreOfOneFolder store.old journal.old →
         KeepsInFolder limit name.now store.old journal.old store.new journal.new }
@@ -103,8 +107,8 @@ pub fn recover<D: Volume, E: Volume>(
     ensures many { AreOfOneFolder store.old journal.old →
         IfNumbers result (HasTooManyIn limit name.now store.old journal.old) }
     // `Disk` is a call that failed, unless each path for a file that is set aside is taken.
-    ensures failures { AreOfOneFolder store.old journal.old → CountsUnlessCrowded name.now
-        store.old journal.old store.new journal.new (is_failed_call result) }
+    ensures failures { AreOfOneFolder store.old journal.old → IsAllCommitted journal.old → CountsUnlessCrowded
+        name.now store.old journal.old store.new journal.new (is_failed_call result) }
     // If notes are synced, so are journal and file of a name of which numbers are done.
     ensures synced { AreOfOneFolder store.old journal.old → IsTrue (journals_sync journal.old) →
         IfOk result (λ r. IfKept r (IsSyncedName name.now journal.new)) }
@@ -228,6 +232,8 @@ fn reopen_found<D: Volume, E: Volume>(
     requires few { IsFewDone (story_found finding) }
     ensures takes { StaysWhole D.Disk (takes_disk store.old) (takes_disk store.new) }
     ensures notes { StaysWhole E.Disk (journals_disk journal.old) (journals_disk journal.new) }
+    ensures noted { IsTrue (E.honest (journals_disk journal.old)) →
+        KeepsEach (noted_in_folder journal.old) (noted_in_folder journal.new) }
     ensures settings { KeepsBothSettings store.old journal.old store.new journal.new }
     ensures made { IfOk result (MadeOfFinding name.now finding) }
     ensures most { IfNumbers result ⊥ }
@@ -258,6 +264,8 @@ fn reopen_begun<D: Volume, E: Volume>(
     requires few { length replayed.table.items ≤ 33 * (last_number Second + 1) }
     ensures takes { StaysWhole D.Disk (takes_disk store.old) (takes_disk store.new) }
     ensures notes { StaysWhole E.Disk (journals_disk journal.old) (journals_disk journal.new) }
+    ensures noted { IsTrue (E.honest (journals_disk journal.old)) →
+        KeepsEach (noted_in_folder journal.old) (noted_in_folder journal.new) }
     ensures settings { KeepsBothSettings store.old journal.old store.new journal.new }
     ensures made { IfOk result (MadeOfStory name.now (story_of replayed)) }
     ensures most { IfNumbers result ⊥ }
@@ -284,6 +292,9 @@ fn open_journal<E: Volume>(
     existed: bool,
 ) -> Result<(), RecoverFault>
     ensures notes { StaysWhole E.Disk (journals_disk journal.old) (journals_disk journal.new) }
+    ensures noted { IsTrue (E.honest (journals_disk journal.old)) →
+        KeepsEach (noted_in_folder journal.old) (noted_in_folder journal.new) }
+    ensures pending { (other : List ℕ) → has_pending journal.new other ≡ has_pending journal.old other }
     ensures settings { SameSettings journal.old journal.new
         × (journals_failures journal.new ≡ journals_failures journal.old) }
     ensures opened { OnOk result (open_journals journal.new

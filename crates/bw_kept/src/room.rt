@@ -2,7 +2,8 @@
 ghost use Rattle.std.specs.Prelude.{◌≡◌, ◌<◌, ◌||◌, false, true, None, IfSome, length, position};
 ghost use Rattle.std.specs.List.{All};
 ghost use Rattle.bw_model.specs.Turn.{most_takes};
-ghost use Rattle.bw_session.specs.SeenServers.{session_kept, names_kept};
+ghost use Rattle.bw_folder.specs.Commits.{IsAllCommitted};
+ghost use Rattle.bw_session.specs.SeenServers.{session_kept, names_kept, server_journal};
 ghost use Rattle.bw_session.specs.TableChanges.{forgettable_kept};
 ghost use Rattle.bw_kept.specs.FoundNames.{OnlyForgets, has_left, is_declined};
 ghost use Rattle.bw_kept.specs.KeptTurns.{NoneMayLeave, HasPlace};
@@ -39,11 +40,13 @@ pub(crate) enum Room {
     Refused,
 }
 
-/// Has a name leave the table, if it may. Its files are closed, and no disk is called.
+/// Has a name leave the table, if it may, when nothing is pending. Its files are closed, and no disk is
+/// called.
 fn drop_name<D: Volume, E: Volume>(
     server: &mut Server<FolderStore<D>, FolderJournal<E>>,
     name: &Name,
 ) -> Leaving
+    requires committed { IsAllCommitted (server_journal server.old) }
     ensures forgets { OnlyForgets result server.old server.new }
     ensures unable { result ≡ Leaving.NoneMay → forgettable_kept server.old name.now ≡ false }
     ensures gone { result ≡ Leaving.Left → session_kept server.new name.now ≡ None }
@@ -63,6 +66,7 @@ pub(crate) fn drop_oldest<D: Volume, E: Volume>(
     server: &mut Server<FolderStore<D>, FolderJournal<E>>,
     names: &[Name],
 ) -> Leaving
+    requires committed { IsAllCommitted (server_journal server.old) }
     ensures forgets { OnlyForgets result server.old server.new }
     ensures first { result ≡ Leaving.Left →
         FirstHasLeft (forgettable_kept server.old) names.now (session_kept server.new) }
@@ -89,6 +93,7 @@ fn drop_first<D: Volume, E: Volume>(
     server: &mut Server<FolderStore<D>, FolderJournal<E>>,
     names: &[Name],
 ) -> Leaving
+    requires committed { IsAllCommitted (server_journal server.old) }
     ensures forgets { OnlyForgets result server.old server.new }
     ensures unable { result ≡ Leaving.NoneMay →
         All (λ name. forgettable_kept server.old name ≡ false) names.now }
@@ -127,6 +132,7 @@ pub(crate) fn drop_any<D: Volume, E: Volume>(
     alloc: Global,
     server: &mut Server<FolderStore<D>, FolderJournal<E>>,
 ) -> Leaving
+    requires committed { IsAllCommitted (server_journal server.old) }
     ensures forgets { OnlyForgets result server.old server.new }
     ensures none { result ≡ Leaving.NoneMay → NoneMayLeave ⟦<FolderStore<D> as TakeStore>⟧
         ⟦<FolderJournal<E> as Journal>⟧ server.new }

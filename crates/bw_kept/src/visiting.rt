@@ -2,10 +2,12 @@
 ghost use Rattle.std.specs.Prelude.{◌≡◌, IsTrue, IfOk, IfErr, IfNone, IfSome, OnOk, OnErr};
 ghost use Rattle.bw_disk.specs.DiskSteps.{StaysWhole};
 ghost use Rattle.bw_folder.specs.TakeFolders.{takes_disk, open_takes};
-ghost use Rattle.bw_folder.specs.JournalFolders.{journals_disk, open_journals};
+ghost use Rattle.bw_disk.specs.Volumes.{KeepsEach};
+ghost use Rattle.bw_folder.specs.JournalFolders.{journals_disk, open_journals, noted_in_folder};
+ghost use Rattle.bw_folder.specs.Commits.{IsAllCommitted};
 ghost use Rattle.bw_folder.specs.RecoveredNames.{AreOfOneFolder, KeepsStore, KeepsFolderJournal, ShowsAlike};
 ghost use Rattle.bw_kept.specs.Recoveries.{KeepsBothSettings};
-ghost use Rattle.bw_kept.specs.Visits.{ClosesFiles, OnlyCloses, IsDifference, RecoversName, delay_by};
+ghost use Rattle.bw_kept.specs.Visits.{ClosesFiles, CommitsJournals, OnlyCloses, IsDifference, RecoversName, delay_by};
 
 use crate::delay::Delay;
 use crate::recovery::{RecoverFault, Recovered, recover};
@@ -15,7 +17,7 @@ use bw_model::Name;
 use bw_session::StoresVisitor;
 use std::alloc::Global;
 
-/// Closes the files of a name.
+/// Closes the files of a name, but for a journal of which notes are pending.
 #[derive(Drop)]
 pub(crate) struct Closing {
     pub(crate) name: Name,
@@ -28,6 +30,21 @@ impl<D: Volume, E: Volume> StoresVisitor<FolderStore<D>, FolderJournal<E>> for C
     fn visit(&mut self, store: &mut FolderStore<D>, journal: &mut FolderJournal<E>) {
         store.release(&self.name);
         journal.release(&self.name);
+    }
+}
+
+/// Commits the notes of all names, and has what came of it.
+#[derive(Drop)]
+pub(crate) struct Committing {
+    pub(crate) result: Result<(), ReadFault>,
+}
+
+impl<D: Volume, E: Volume> StoresVisitor<FolderStore<D>, FolderJournal<E>> for Committing {
+    ghost visits = { λ visitor store journal later later_store later_journal.
+        CommitsJournals later.result store journal later_store later_journal };
+
+    fn visit(&mut self, _store: &mut FolderStore<D>, journal: &mut FolderJournal<E>) {
+        self.result = journal.commit();
     }
 }
 
@@ -92,10 +109,12 @@ fn confirm_new<D: Volume, E: Volume>(
     ensures takes { StaysWhole D.Disk (takes_disk store.old) (takes_disk store.new) }
     ensures notes { StaysWhole E.Disk (journals_disk journal.old) (journals_disk journal.new) }
     ensures settings { KeepsBothSettings store.old journal.old store.new journal.new }
+    ensures noted { IsTrue (E.honest (journals_disk journal.old)) →
+        KeepsEach (noted_in_folder journal.old) (noted_in_folder journal.new) }
     ensures made { IfOk result (λ r. r ≡ Recovered.New) }
     ensures opened { OnOk result (open_takes store.new ≡ open_takes store.old) }
     ensures known { OnOk result (open_journals journal.new ≡ open_journals journal.old) }
-    ensures closed { OnErr result (ClosesFiles name.now store.old journal.old store.new journal.new) }
+    ensures closed { IsAllCommitted journal.old → OnErr result (ClosesFiles name.now store.old journal.old store.new journal.new) }
     ensures alike { AreOfOneFolder store.old journal.old →
         OnOk result (ShowsAlike name.now store.new journal.new) }
     ensures why { AreOfOneFolder store.old journal.old →
@@ -122,6 +141,8 @@ fn difference<D: Volume, E: Volume>(
     ensures notes { StaysWhole E.Disk (journals_disk journal.old) (journals_disk journal.new) }
     ensures store { KeepsStore store.old store.new }
     ensures journal { KeepsFolderJournal journal.old journal.new }
+    ensures noted { IsTrue (E.honest (journals_disk journal.old)) →
+        KeepsEach (noted_in_folder journal.old) (noted_in_folder journal.new) }
     ensures alike { AreOfOneFolder store.old journal.old →
         IfNone result (ShowsAlike name.now store.old journal.old) }
     ensures why { AreOfOneFolder store.old journal.old →

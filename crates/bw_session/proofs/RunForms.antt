@@ -1,5 +1,5 @@
 -- Numbers that are drained in a row, one by one.
-use Rattle.std.proofs.Common.{◌≡◌, ℕ, zero, suc, ◌+◌, Bool, false, List, [], ◌∷◌, ◌++◌, length, map}
+use Rattle.std.proofs.Common.{◌≡◌, ◌≤◌, ℕ, zero, suc, ◌+◌, Bool, false, List, [], ◌∷◌, ◌++◌, length, map}
 use Rattle.std.proofs.Common.{Option, None, refl, sym, ◌∙◌, ap, subst, arith}
 use Rattle.std.specs.Prelude.{is_some}
 use Rattle.std.proofs.lemmas.List.{length_push, map_push}
@@ -27,6 +27,9 @@ use Rattle.bw_session.specs.Runs.{with_more_done, HasDrained, EndsDraining}
 count_then : (a b c : ℕ) (fails : Bool) → Counts a b false → Counts b c fails → Counts a c fails
 count_then a b c fails quiet more = subst (λ (n : ℕ). Counts n c fails) (quiet.quiet refl) more
 
+no_fewer_then : (a b c : ℕ) → a ≤ b → b ≤ c → a ≤ c
+no_fewer_then a b c more most = omega (arith, more, most)
+
 module _ {X Y : Type 0} (S : StoreGhosts X) (J : JournalGhosts Y) where
   -- where both are
   pub places_then : (s s' s'' : X) (j j' j'' : Y) → StaysInPlace S J s s' j j' →
@@ -49,6 +52,7 @@ module _ {X Y : Type 0} (S : StoreGhosts X) (J : JournalGhosts Y) where
         honest_notes = b.honest_notes ∙ a.honest_notes;
         places = places_then s s' s'' j j' j'' a.places b.places;
         headers = λ h n. b.headers (a.honest_notes ∙ h) n ∙ a.headers h n;
+        committed = λ h n. no_fewer_then _ _ _ (a.committed h n) (b.committed (a.honest_notes ∙ h) n);
         other_notes = λ h n apart. b.other_notes (a.honest_notes ∙ h) n apart ∙ a.other_notes h n apart;
       }
 

@@ -63,6 +63,7 @@ uses_none {X} {Y} S J name s s' j j' done later rs store journal same none =
         honest_notes = refl;
         places = record { of_store = refl; of_journal = refl };
         headers = λ honest other. refl;
+        committed = λ honest other. omega arith;
         other_notes = λ honest other apart. refl;
       },
       omega (arith, same),

@@ -17,7 +17,7 @@ use Rattle.bw_store.specs.declared.store.StoreFault.{StoreFault}
 use Rattle.bw_store.specs.declared.store.TakeStore.{Ghosts as StoreGhosts}
 use Rattle.bw_journal.specs.Entries.{sealed_entry, longest_entry}
 use Rattle.bw_journal.specs.JournalHeaders.{header_len}
-use Rattle.bw_journal.specs.Notes.{KeepsHeaders}
+use Rattle.bw_journal.specs.Notes.{KeepsHeaders, KeepsCommitted}
 use Rattle.bw_journal.specs.declared.journal.Journal.{Ghosts as JournalGhosts}
 use Rattle.bw_session.specs.RequestWrites.{is_mark}
 use Rattle.bw_session.specs.DoneNumbers.{KeepsDone}
@@ -34,17 +34,18 @@ pub record StaysInPlace {X Y : Type 0} (S : StoreGhosts X) (J : JournalGhosts Y)
   pub of_journal : J.folder journal' ≡ J.folder journal
 
 -- A failure of the journal is counted, it is as honest as it was and of the same folder, each name's
--- notes begin as they began, and each other name has what it had.
+-- notes begin as they began, no fewer bytes of them are committed, and each other name has what it had.
 pub record KeepsJournal {Y : Type 0} (J : JournalGhosts Y) (fails : Bool) (name : List ℕ)
     (old new : Y) : Type 0 where
   pub failures : Counts (J.failures old) (J.failures new) fails
   pub honest : J.honest new ≡ J.honest old
   pub folder : J.folder new ≡ J.folder old
   pub headers : IsTrue (J.honest old) → KeepsHeaders (J.header old) (J.header new)
+  pub committed : IsTrue (J.honest old) → KeepsCommitted (J.committed old) (J.committed new)
   pub others : IsTrue (J.honest old) → KeepsOthers (J.notes old) (J.notes new) name
 
 -- A failure of either is counted; both are as honest as they were and where they were, each name's
--- notes begin as they began, and each other name has what it had.
+-- notes begin as they began, no fewer bytes of them are committed, and each other name has what it had.
 pub record KeepsBoth {X Y : Type 0} (S : StoreGhosts X) (J : JournalGhosts Y) (fails : Bool)
     (name : List ℕ) (store store' : X) (journal journal' : Y) : Type 0 where
   pub failures : Counts (failed_calls (S.failures store) (J.failures journal))
@@ -54,6 +55,7 @@ pub record KeepsBoth {X Y : Type 0} (S : StoreGhosts X) (J : JournalGhosts Y) (f
   pub honest_notes : J.honest journal' ≡ J.honest journal
   pub places : StaysInPlace S J store store' journal journal'
   pub headers : IsTrue (J.honest journal) → KeepsHeaders (J.header journal) (J.header journal')
+  pub committed : IsTrue (J.honest journal) → KeepsCommitted (J.committed journal) (J.committed journal')
   pub other_notes : IsTrue (J.honest journal) →
       KeepsOthers (J.notes journal) (J.notes journal') name
 

@@ -8,7 +8,7 @@ use Rattle.bw_model.specs.Book.{Book}
 use Rattle.bw_model.specs.CountedTurn.{IsTurn, is_delayed}
 use Rattle.bw_store.specs.declared.store.TakeStore.{Ghosts as StoreGhosts}
 use Rattle.bw_model.specs.Turn.{is_turned_away}
-use Rattle.bw_journal.specs.Notes.{KeepsHeaders}
+use Rattle.bw_journal.specs.Notes.{KeepsHeaders, KeepsCommitted}
 use Rattle.bw_journal.specs.declared.journal.Journal.{Ghosts as JournalGhosts}
 use Rattle.bw_session.specs.Books.{failures_of, HoldsBook, NotesAwake, SameStores, AsksTurn, OrdersBooks}
 use Rattle.bw_session.specs.NotedNames.{IsAwakeFor}
@@ -64,6 +64,9 @@ module _ {X Y : Type 0} (S : StoreGhosts X) (J : JournalGhosts Y) where
     -- an honest journal begins each name's notes as before
     pub headers : IsTrue (J.honest old.stores.journal) →
         KeepsHeaders (J.header old.stores.journal) (J.header new.stores.journal)
+    -- and commits no fewer bytes of them
+    pub committed : IsTrue (J.honest old.stores.journal) →
+        KeepsCommitted (J.committed old.stores.journal) (J.committed new.stores.journal)
     pub few : length replies ≤ most_replies
     -- whether a call of store or journal failed: then the count of failures rises by one, else it
     -- stays

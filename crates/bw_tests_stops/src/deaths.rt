@@ -11,16 +11,16 @@ const CALLS: u64 = 24;
 
 type Mortal = FolderJournal<MortalDisk<MemoryDisk>>;
 
-/// Begins and notes until a call fails; how many of the three calls succeeded.
+/// Begins and notes until a call fails; how many of the three succeeded, each note once it is committed.
 fn noted(journal: &mut Mortal) -> Result<usize, Fail> {
     let name = a1()?;
     if journal.begin(&name).is_err() {
         return Ok(0);
     }
-    if journal.note(&name, 47, NOTES[0]).is_err() {
+    if journal.note(&name, 47, NOTES[0]).is_err() || journal.commit().is_err() {
         return Ok(1);
     }
-    if journal.note(&name, 61, NOTES[1]).is_err() {
+    if journal.note(&name, 61, NOTES[1]).is_err() || journal.commit().is_err() {
         return Ok(2);
     }
     Ok(3)

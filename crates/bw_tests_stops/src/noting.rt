@@ -63,6 +63,9 @@ fn notes_follow_the_header(rt: HostRuntime) -> Result<(), Fail> {
         journal.begin(&name)?;
         journal.note(&name, 47, NOTES[0])?;
         journal.note(&name, 61, NOTES[1])?;
+        let begun = with_header(alloc, &[])?;
+        assert!(rt; !sync || journal.disk().content(PATH) == Some(begun.as_slice()));
+        assert!(rt; journal.commit().is_ok());
         let wanted = with_header(alloc, &NOTES)?;
         assert!(rt; journal.disk().content(PATH) == Some(wanted.as_slice()));
     }

@@ -19,9 +19,10 @@ longest_stream = 2 ^ 62
 abbrev pub longest_piece : ℕ
 longest_piece = 65536
 
--- a piece of messages: eight of the longest frames, so that their digests can be computed at once
+-- a piece of messages: sixteen of the longest frames, which a sender may have on the way, so that their
+-- digests are computed at once and one commit is for all of them
 abbrev pub longest_message_piece : ℕ
-longest_message_piece = 8 * (4 + longest_body)
+longest_message_piece = 16 * (4 + longest_body)
 
 -- a larger block isn't kept once the whole frames are taken
 abbrev pub largest_kept : ℕ

@@ -65,8 +65,8 @@ impl Framer {
     /// Adds a piece of the stream, which has at most 2^62 bytes in all. After the end of the
     /// exchange or a fault the piece is dropped.
     ///
-    /// If at most 32,809 bytes are held, as between two pieces, a piece of at most 262,480 bytes
-    /// makes no block larger than 295,289.
+    /// If at most 32,809 bytes are held, as between two pieces, a piece of at most 524,960 bytes
+    /// makes no block larger than 557,769.
     ///
     /// # Errors
     /// `AllocError` if memory was refused: nothing changed. It is never refused if there is room,

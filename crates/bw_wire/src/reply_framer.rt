@@ -58,7 +58,7 @@ impl ReplyFramer {
     /// dropped.
     ///
     /// If at most 46 bytes are held, as between two pieces, a piece of at most 65,536 bytes
-    /// makes no block larger than 295,289.
+    /// makes no block larger than 557,769.
     ///
     /// # Errors
     /// `AllocError` if memory was refused: nothing changed. It is never refused if there is room,

@@ -39,7 +39,7 @@ pub(crate) fn server_over<D: Volume>(
     Ok(kept)
 }
 
-/// The replies to a message.
+/// The replies to a message that leave: none if what was answered can't be committed.
 pub(crate) fn replies_to<D: Volume>(
     server: &mut Kept<D>,
     body: &[u8],
@@ -49,15 +49,22 @@ pub(crate) fn replies_to<D: Volume>(
     };
     let mut replies = ArrayVec::new();
     server.turn(&message, &mut replies);
+    if server.commit().is_err() {
+        replies.clear();
+    }
     Ok(replies)
 }
 
-/// How many numbers of a name are done; none if the ask is put off.
+/// How many numbers of a name are done; none if the ask is put off, or its reply doesn't leave.
 pub(crate) fn done_by<D: Volume>(server: &mut Kept<D>, body: &[u8]) -> Result<Option<u32>, Fail> {
     let Ok(Frame::Ask(ask)) = decode(body) else {
         return Err("no ask")?;
     };
-    match server.ask(&ask) {
+    let reply = server.ask(&ask);
+    if server.commit().is_err() {
+        return Ok(None);
+    }
+    match reply {
         Reply::Notice {
             name: _,
             number: _,

@@ -1,4 +1,4 @@
-use Rattle.std.proofs.Common.{ap, []}
+use Rattle.std.proofs.Common.{ap, [], refl}
 use Rattle.bw_disk.specs.MemoryDisks.{content_at}
 use Rattle.bw_disk.specs.declared.memory_disk.MemoryDisk.{MemoryDisk}
 use Rattle.bw_journal.specs.Stops.{cut_book}
@@ -14,9 +14,11 @@ use Rattle.bw_delivery.proofs.machine.stop.Goals as goal
 pub returns-in_ok-folder-in-Runs : goal.returns-in_ok-folder-in-Runs
 returns-in_ok-folder-in-Runs c = λ limit w is.
     let r = running_in limit w [] _ _ c.in-Runs.is is in
-    let s = stops_are_steps _ _ (kept_servers_leave_done _ _ (waiting_in_order _ _)) no_contents w _ r.holds in
     let t = c.in_ok-folder-in-Runs.ensures in
-    stopped_now limit w _ _ _ s.left c.in-Runs.is s.next
+    let s = stops_are_steps _ _ (λ name old new. ⊥) (λ name s. ⊥) (kept_servers_leave_done _ _ (waiting_in_order _ _))
+    no_contents w _ _ [] _ r.holds tt
+    refl t.on_disk in
+    stopped_now limit w _ _ _ s.later s.left c.in-Runs.is s.next
     (left_at limit _ (cut_book s.left) _ _ _ _ _ _ r.limited t.journal t.store
     (ap (λ (d : MemoryDisk). content_at d.files.items) t.notes)
     (ap (λ (d : MemoryDisk). content_at d.files.items) t.takes) s.stands)

@@ -7,4 +7,5 @@ returns-then-not-is_known-clause-kept g c = record {
   books = λ honest honest_notes first book h.
       c.close_files.ensures.books honest honest_notes first book h
       (absent _ _ c.is_known.ensures.kept c.if-not-is_known.true);
+  committed = c.close_files.ensures.committed;
 }

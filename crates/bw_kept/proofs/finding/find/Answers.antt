@@ -1,91 +1,41 @@
-use Rattle.std.proofs.Common.{◌∙◌}
-use Rattle.bw_kept.specs.KeptTurns.{DiskFails, DisksDiffer}
-use Rattle.bw_kept.proofs.FoundBooks.{finds_kept, finds_new, finds_not, finds_out}
-use Rattle.bw_kept.proofs.FoundForms.{absent, counts_then}
-use Rattle.bw_kept.proofs.FoundForms.{not_known, place_then}
+use Rattle.std.proofs.Common.{refl, ◌∙◌}
+use Rattle.bw_kept.proofs.CommitForms.{counts_only, finds_since, finds_unkept}
+use Rattle.bw_kept.proofs.FoundForms.{absent, counts_then, not_known}
 use Rattle.bw_kept.proofs.finding.find.Goals as goal
 
-pub returns-in-Ok-New-clause-counts : goal.returns-in-Ok-New-clause-counts
-returns-in-Ok-New-clause-counts g c =
-    counts_then _ _ _ _ _ c.drop_one-leaving.ensures.forgets.kept.counts
-    (counts_then _ _ _ _ _ c.recover_name.ensures.counts c.found_new.ensures.counts)
-
-pub returns-in-Ok-New-clause-inside : goal.returns-in-Ok-New-clause-inside
-returns-in-Ok-New-clause-inside g c = not_known _ _ c.is_known.ensures.kept c.if-is_known.false
-
-pub found_new-requires : goal.found_new-requires
-found_new-requires g c = record {
-  fresh = c.recover_name.ensures.sessions c.args.name.now ∙ c.drop_one-leaving.ensures.forgets.outside c.args.name.now
-      (absent _ _ c.is_known.ensures.kept c.if-is_known.false);
+pub find_outside-requires : goal.find_outside-requires
+find_outside-requires g c = record {
+  committed = c.in-Ok.ensures.commits.whole;
+  fresh = c.commit_notes.ensures.only.sessions c.args.name.now
+      ∙ absent _ _ c.is_known.ensures.kept c.if-is_known.false;
 }
 
-pub returns-in-Ok-New-clause-books : goal.returns-in-Ok-New-clause-books
-returns-in-Ok-New-clause-books g c =
-    finds_new _ _ (DiskFails g.D.Disk g.E.Disk) (DisksDiffer g.D.Disk g.E.Disk) c.args.name.now c.args.server.now
-    c.drop_one-leaving.new.server c.recover_name.new.server c.found_new.new.server c.in-Ok-New.field-0
-    c.found_new.result c.in-Ok-New.field-0-is c.drop_one-leaving.ensures.forgets.kept
-    (c.drop_one-leaving.ensures.forgets.outside c.args.name.now
-    (absent _ _ c.is_known.ensures.kept c.if-is_known.false))
-    c.recover_name.ensures.counts c.in-Ok-New.ensures.recovered c.found_new.ensures.books
+pub returns-in-Ok-clause-counts : goal.returns-in-Ok-clause-counts
+returns-in-Ok-clause-counts g c =
+    counts_then _ _ c.args.server.now c.commit_notes.new.server c.find_outside.new.server
+    (counts_only _ _ c.args.server.now c.commit_notes.new.server c.commit_notes.ensures.only) c.find_outside.ensures.counts
 
-pub returns-in-Ok-New-clause-place : goal.returns-in-Ok-New-clause-place
-returns-in-Ok-New-clause-place g c = λ new.
-    place_then _ _ c.drop_one-leaving.new.server c.found_new.new.server c.drop_one-leaving.result
-    c.drop_one-leaving.ensures.none
-    (λ n. c.found_new.ensures.sessions n ∙ c.recover_name.ensures.sessions n) (c.found_new.ensures.place new)
+pub returns-in-Ok-clause-inside : goal.returns-in-Ok-clause-inside
+returns-in-Ok-clause-inside g c = not_known _ _ c.is_known.ensures.kept c.if-is_known.false
 
-pub returns-in-Ok-LeftOut-clause-counts : goal.returns-in-Ok-LeftOut-clause-counts
-returns-in-Ok-LeftOut-clause-counts g c =
-    counts_then _ _ _ _ _ c.drop_one-leaving.ensures.forgets.kept.counts c.recover_name.ensures.counts
-
-pub returns-in-Ok-LeftOut-clause-inside : goal.returns-in-Ok-LeftOut-clause-inside
-returns-in-Ok-LeftOut-clause-inside g c = not_known _ _ c.is_known.ensures.kept c.if-is_known.false
-
-pub returns-in-Ok-LeftOut-clause-found : goal.returns-in-Ok-LeftOut-clause-found
-returns-in-Ok-LeftOut-clause-found g c =
-    c.recover_name.ensures.sessions c.args.name.now ∙ c.drop_one-leaving.ensures.forgets.outside c.args.name.now
-    (absent _ _ c.is_known.ensures.kept c.if-is_known.false)
-
-pub returns-in-Ok-LeftOut-clause-books : goal.returns-in-Ok-LeftOut-clause-books
-returns-in-Ok-LeftOut-clause-books g c =
-    finds_out _ _ (DiskFails g.D.Disk g.E.Disk) (DisksDiffer g.D.Disk g.E.Disk) c.args.name.now c.args.server.now
-    c.drop_one-leaving.new.server c.recover_name.new.server c.in-Ok-LeftOut.field-0 _ c.in-Ok-LeftOut.field-0-is
-    c.drop_one-leaving.ensures.forgets.kept
-    (c.drop_one-leaving.ensures.forgets.outside c.args.name.now
-    (absent _ _ c.is_known.ensures.kept c.if-is_known.false)) c.in-Ok-LeftOut.ensures.recovered
-
-pub returns-in-Ok-Kept-clause-counts : goal.returns-in-Ok-Kept-clause-counts
-returns-in-Ok-Kept-clause-counts g c =
-    counts_then _ _ _ _ _ c.drop_one-leaving.ensures.forgets.kept.counts
-    (counts_then _ _ _ _ _ c.recover_name.ensures.counts c.put_in.ensures.counts)
-
-pub returns-in-Ok-Kept-clause-inside : goal.returns-in-Ok-Kept-clause-inside
-returns-in-Ok-Kept-clause-inside g c = not_known _ _ c.is_known.ensures.kept c.if-is_known.false
-
-pub returns-in-Ok-Kept-clause-books : goal.returns-in-Ok-Kept-clause-books
-returns-in-Ok-Kept-clause-books g c =
-    finds_kept _ _ (DiskFails g.D.Disk g.E.Disk) (DisksDiffer g.D.Disk g.E.Disk) c.args.name.now c.args.server.now
-    c.drop_one-leaving.new.server c.recover_name.new.server c.put_in.new.server c.in-Ok-Kept.field-0 _ c.put_in.result
-    c.in-Ok-Kept.field-0-is c.drop_one-leaving.ensures.forgets.kept
-    (c.drop_one-leaving.ensures.forgets.outside c.args.name.now
-    (absent _ _ c.is_known.ensures.kept c.if-is_known.false))
-    c.recover_name.ensures.counts c.in-Ok-Kept.ensures.recovered c.put_in.ensures.books
+pub returns-in-Ok-clause-books : goal.returns-in-Ok-clause-books
+returns-in-Ok-clause-books g c =
+    finds_since g.D.Disk g.E.Disk c.args.name.now _ c.find_outside.result c.args.server.now c.commit_notes.new.server
+    c.find_outside.new.server refl c.commit_notes.ensures.only c.in-Ok.ensures.commits c.find_outside.ensures.books
 
 pub returns-in-Err-clause-counts : goal.returns-in-Err-clause-counts
 returns-in-Err-clause-counts g c =
-    counts_then _ _ _ _ _ c.drop_one-leaving.ensures.forgets.kept.counts c.recover_name.ensures.counts
+    counts_only _ _ c.args.server.now c.commit_notes.new.server c.commit_notes.ensures.only
 
 pub returns-in-Err-clause-inside : goal.returns-in-Err-clause-inside
 returns-in-Err-clause-inside g c = not_known _ _ c.is_known.ensures.kept c.if-is_known.false
 
 pub returns-in-Err-clause-found : goal.returns-in-Err-clause-found
 returns-in-Err-clause-found g c =
-    c.recover_name.ensures.sessions c.args.name.now ∙ c.drop_one-leaving.ensures.forgets.outside c.args.name.now
-    (absent _ _ c.is_known.ensures.kept c.if-is_known.false)
+    c.commit_notes.ensures.only.sessions c.args.name.now
+    ∙ absent _ _ c.is_known.ensures.kept c.if-is_known.false
 
 pub returns-in-Err-clause-books : goal.returns-in-Err-clause-books
 returns-in-Err-clause-books g c =
-    finds_not g.D.Disk g.E.Disk _ _ c.args.name.now c.args.server.now c.drop_one-leaving.new.server
-    c.recover_name.new.server _ c.drop_one-leaving.ensures.forgets.kept c.drop_one-leaving.ensures.forgets.disks
-    (c.drop_one-leaving.ensures.forgets.outside c.args.name.now
-    (absent _ _ c.is_known.ensures.kept c.if-is_known.false)) c.in-Err.ensures.recovered
+    finds_unkept g.D.Disk g.E.Disk c.args.name.now c.in-Err.fault c.delay_of_read.result c.args.server.now
+    c.commit_notes.new.server c.delay_of_read.ensures c.commit_notes.ensures.only c.in-Err.ensures.commits

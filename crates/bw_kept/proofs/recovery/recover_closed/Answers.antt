@@ -39,7 +39,7 @@ returns-in-Ok-None-clause-recovered g c = λ one.
     let file = take_in_folder store name in
     let looked = c.look_at_name.ensures in
     let seen = whole_disks store journal later_store later_journal looked.takes looked.notes looked.store.folder
-    looked.journal.settings.2 one in
+    looked.journal.settings.2 looked.noted one in
     let none = subst (λ (o : Option Finding). FindsIn limit name store journal o) c.in-Ok-None.field-0-is
     (c.in-Ok-None.ensures.found one) in
     record {
@@ -70,7 +70,7 @@ returns-in-Ok-Some-clause-recovered g c = λ one.
     let name = c.args.name.now in
     let looked = c.look_at_name.ensures in
     let seen = whole_disks store journal later_store later_journal looked.takes looked.notes looked.store.folder
-    looked.journal.settings.2 one in
+    looked.journal.settings.2 looked.noted one in
     let found = subst (λ (o : Option Finding). FindsIn limit name store journal o) c.in-Ok-Some.field-0-is
     (c.in-Ok-Some.ensures.found one) in
     recovers_after store journal later_store later_journal c.recover_found.new.store c.recover_found.new.journal seen
@@ -104,7 +104,7 @@ returns-in-Err-clause-recovered g c = λ one.
       recovered = tt;
       opened = tt;
       kept = kept_same store journal later_store later_journal (whole_disks store journal later_store later_journal
-          looked.takes looked.notes looked.store.folder looked.journal.settings.2 one) c.args.limit c.args.name.now;
+          looked.takes looked.notes looked.store.folder looked.journal.settings.2 looked.noted one) c.args.limit c.args.name.now;
       many = read_else (HasTooManyIn c.args.limit c.args.name.now store journal) c.in-Err.fault c.of_read.result
           c.of_read.ensures;
       failures = λ closed. failed_read Recovered (Option Finding) _ _ _ _ _ c.in-Err.fault c.of_read.result c.of_read.ensures

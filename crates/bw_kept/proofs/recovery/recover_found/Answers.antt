@@ -95,7 +95,7 @@ returns-in-Ok-clause-recovered g c = λ limit f.
     let one' = still_folder store journal mid_store mid_journal restored.takes restored.notes restored.store.folder
     restored.journal.settings.2 f.one in
     let seen = whole_disks mid_store mid_journal later_store later_journal reopened.takes reopened.notes
-    reopened.settings.folder reopened.settings.settings.2 one' in
+    reopened.settings.folder reopened.settings.settings.2 reopened.noted one' in
     record {
       recovered = if_ok result (MadeOfFinding name finding)
           (RecoversIn limit name store journal later_store later_journal)
@@ -114,6 +114,7 @@ returns-in-Ok-clause-recovered g c = λ limit f.
         left = restored.left f.one limit f.found;
         faulty = λ fault. going_sound limit name notes file finding goes f.found fault;
         others = restored.others f.one;
+        noted = restored.noted f.one;
       });
       many = numbers_then ⊥ (HasTooManyIn limit name store journal) result (λ none. absurd none) reopened.most;
       failures = λ closed.
@@ -153,6 +154,7 @@ returns-in-Err-clause-recovered g c = λ limit f.
         faulty = λ fault. going_sound limit name (noted_in_folder journal name) (take_in_folder store name)
             c.args.finding c.in_default.not-Refused f.found fault;
         others = restored.others f.one;
+        noted = restored.noted f.one;
       };
       many = read_else (HasTooManyIn limit name store journal) c.in-Err.fault c.of_read.result c.of_read.ensures;
       failures = λ closed. failed_read Recovered (Unit {0}) _ _ _ _ _ c.in-Err.fault c.of_read.result c.of_read.ensures

@@ -4,7 +4,7 @@ use Rattle.std.proofs.lemmas.List.Elements.{All-more}
 use Rattle.bw_session.specs.TableChanges.{forgettable_kept}
 use Rattle.bw_kept.specs.FoundNames.{has_left}
 use Rattle.bw_kept.specs.declared.room.Leaving.TheVariants as leaving
-use Rattle.bw_kept.proofs.FoundForms.{forgets_none, forgets_still, forgets_then, forgettable_same, none_may}
+use Rattle.bw_kept.proofs.FoundForms.{forgets_none, forgets_still, forgets_then, forgettable_same, none_may, none_pending}
 use Rattle.bw_kept.proofs.room.drop_first.Goals as goal
 
 pub loop-name-preserved : goal.loop-name-preserved
@@ -25,6 +25,11 @@ loop-name-preserved g c =
           (sym (forgettable_same _ _ c.args.server.now c.loop-name.server c.name-item.result
           (i.forgets.same refl c.name-item.result)) ∙ dropped.unable both.1));
     }
+
+pub drop_name-leaving-requires : goal.drop_name-leaving-requires
+drop_name-leaving-requires g c = record {
+  committed = none_pending c.args.server.now c.loop-name.server c.loop-name.invariant.forgets.pending c.requires.committed;
+}
 
 pub loop-name-init : goal.loop-name-init
 loop-name-init g c = record {

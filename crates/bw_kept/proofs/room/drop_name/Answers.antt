@@ -1,6 +1,9 @@
 use Rattle.std.proofs.Common.{rules, ◌∙◌, sym}
 use Rattle.bw_kept.proofs.FoundForms.{disks_forgotten, forgets_none, forgets_table, forgot_not, forgot_now}
 use Rattle.bw_kept.proofs.FoundForms.{keeps_forgotten, outside_forgotten, outside_same, outside_then}
+use Rattle.bw_session.specs.SeenServers.{server_journal}
+use Rattle.bw_kept.proofs.DiskForms.{committed_name}
+use Rattle.bw_kept.proofs.FoundForms.{pending_same, pending_then}
 use Rattle.bw_kept.proofs.KeptForms.{never}
 use Rattle.bw_kept.proofs.room.drop_name.Goals as goal
 
@@ -13,8 +16,11 @@ returns-in-Ok-true-clause-forgets g c =
     let closed = c.close_files.ensures in
     let forgot = forgot_now _ _ c.in-Ok-true.field-0 name old mid (search rules) c.in-Ok-true.ensures.forgotten in
     record {
-      kept = keeps_forgotten _ _ name old mid new forgot closed.counts closed.books;
+      kept = keeps_forgotten _ _ name old mid new forgot
+          (committed_name g.E.Disk (server_journal old) name (c.requires.committed name)) closed.counts closed.committed
+          closed.books;
       disks = disks_forgotten old mid new c.forget.ensures.store c.forget.ensures.journal closed.disks;
+      pending = pending_then old mid new (pending_same old mid c.forget.ensures.journal) closed.pending;
       outside = outside_then _ _ old mid new (outside_forgotten _ _ name old mid forgot)
           (outside_same _ _ mid new closed.sessions);
       same = λ stays. never (sym stays);

@@ -2,10 +2,12 @@ use Rattle.std.proofs.Common.{refl, rules, arith, sym, ap, subst, ◌∙◌, ◌
 use Rattle.std.specs.Prelude.{◌^◌}
 use Rattle.bw_disk.specs.MemoryVolumes.{disk_content}
 use Rattle.bw_journal.specs.Stops.{cut_book}
-use Rattle.bw_kept.proofs.LeftFolders.{empty_servers_hold}
+use Rattle.bw_session.proofs.OrderLaws.{waiting_in_order}
+use Rattle.bw_kept.proofs.DiskForms.{empty_committed}
+use Rattle.bw_kept.proofs.LeftFolders.{committed_books_are_covered, empty_servers_hold}
 use Rattle.bw_delivery.specs.ServedWorlds.{ServesBook}
 use Rattle.bw_commands.specs.RehearsedWorlds.{no_contents}
-use Rattle.bw_delivery.proofs.MachineForms.{begun, lies_by}
+use Rattle.bw_delivery.proofs.MachineForms.{begun, lies_by, lies_noted}
 use Rattle.bw_delivery.proofs.machine.Life.begin.Goals as goal
 
 pub returns-in-Ok-new-clause-running : goal.returns-in-Ok-new-clause-running
@@ -23,10 +25,11 @@ returns-in-Ok-new-clause-running c = λ book lies.
     record {
       limited = ap (λ z. z.limit) c.in-Ok-new.ensures.server ∙ s.limit;
       holds = subst (λ z. ServesBook _ _ no_contents z (cut_book book)) (sym c.in-Ok-new.ensures.server)
-          (begun _ _ (empty_servers_hold _ _) no_contents c.args.limit (cut_book book) c.in_folder-store.result
+          (begun _ _ (empty_servers_hold _ _) (committed_books_are_covered _ _ (waiting_in_order _ _)) no_contents c.args.limit (cut_book book) c.in_folder-store.result
           c.in_folder-journal.result c.in-Ok.server s.store s.journal s.limit s.book small
           (j.folder ∙ c.in_ok-of_takes.ensures.two ∙ sym c.in_ok-of_takes.ensures.one ∙ sym t.folder) (λ name. j.limit)
-          refl refl there);
+          refl refl (empty_committed _ c.in_folder-journal.result j.pending)
+          (lies_noted c.in_folder-journal.result c.args.limit (cut_book book) _ j.pending there));
       takes_live = search rules;
       notes_live = search rules;
     }

@@ -15,6 +15,7 @@ returns-clause-answered g c = record {
   honest = refl;
   honest_notes = refl;
   headers = λ honest_notes name. refl;
+  committed = λ honest_notes name. omega arith;
   few = omega arith;
   failed = false;
   counted = quiet_count _;

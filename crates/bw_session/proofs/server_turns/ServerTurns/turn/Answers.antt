@@ -20,6 +20,7 @@ returns-clause-answered g c =
       honest = both.honest;
       honest_notes = both.honest_notes;
       headers = both.headers;
+      committed = both.committed;
       few = subst (λ (n : ℕ). n ≤ 17) (sym (length-map c.turn.new.out.items reply_of)) c.turn.ensures.few;
       failed = c.turn.ensures.both.0;
       counted = both.failures;
