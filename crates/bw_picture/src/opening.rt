@@ -15,7 +15,7 @@ ghost use Rattle.bw_stream.specs.Readers.{Of};
 use crate::fault::too_long;
 use crate::{Shape, fit, picture};
 use bw_inspect::{InspectFault, InspectKind, Report, skip_at};
-use bw_plan::{Options, outline_of};
+use bw_plan::{Options, Strictness, outline_of};
 use bw_ports::RecordingFiles;
 use bw_recorder::{OpenFault, extension_at_path, read_again, read_report};
 use bw_stream::Source;
@@ -57,7 +57,7 @@ fn check_recording<F: RecordingFiles>(
         ≡ failures_if (is_system_well result) (F.failures files.old) }
 {
     let extension = extension_at_path(alloc, files, path, report)?;
-    let options = Options::new(Vec::new(alloc), false, None);
+    let options = Options::new(Vec::new(alloc), Strictness::Lenient, None);
     match outline_of(alloc, report, extension.as_slice(), b"", &options) {
         Ok(_outline) => Ok(()),
         Err(fault) => Err(OpenFault::Refused(fault)),

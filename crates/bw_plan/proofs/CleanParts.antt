@@ -9,12 +9,14 @@ use Rattle.std.specs.Str.{bytes_eq}
 use Rattle.std.proofs.lemmas.Bool.{and_parts, and_from, le-leb, eq-eqb, false≢true}
 use Rattle.std.proofs.lemmas.List.{length-map}
 use Rattle.bw_model.specs.Limits.{longest_history}
-use Rattle.bw_model.specs.Take.{Shape, Text, Digits, Whole, Maybe, Level, not_given, shape_fault, is_printable}
+use Rattle.bw_model.specs.Take.{Shape, Text, Digits, Whole, Maybe, Level, not_given, shape_fault}
 use Rattle.bw_model.specs.Take.{is_history_byte, is_length_allowed, are_bytes_allowed, matches, FieldFault, BadLength, BadText}
 use Rattle.bw_model.specs.Report.{RawCue}
-use Rattle.bw_plan.specs.CleanedContents.{text_cleaned_of, printable_byte, history_of, is_like, is_like_at, with_separators}
+use Rattle.bw_plan.specs.CleanedContents.{text_cleaned_of, history_of, is_like, is_like_at, with_separators}
 use Rattle.bw_plan.specs.CleanedContents.{placed, are_zero, value_of, values_of, is_marker_kept, with_cue, markers_of}
+use Rattle.bw_plan.specs.CleanedTexts.{cleaned_text}
 use Rattle.bw_plan.specs.PlanLaws.{are_values, are_markers}
+use Rattle.bw_plan.proofs.CleanTexts.{cleaned_short, text_printable}
 
 -- texts
 
@@ -29,9 +31,6 @@ all_cleaned test mark (c ∷ cs) =
     go : (v : Bool) → test c ≡ v → test (cond v c 63) ≡ true
     go true e = e
     go false e = mark
-
-all_printable : (cs : List ℕ) → list_all is_printable (map printable_byte cs) ≡ true
-all_printable cs = all_cleaned is_printable refl cs
 
 -- a cleaned history may be stored
 pub history_clean : (bytes : List ℕ) → list_all is_history_byte (history_of bytes) ≡ true
@@ -114,11 +113,10 @@ right_side false y h = h
 value_clean : (s : Shape) (bytes : List ℕ) → Fills s bytes → is_value s (value_of s bytes) ≡ true
 value_clean (Text w) bytes h =
     let short = text_short bytes in
-    let same : length (map printable_byte (text_cleaned_of bytes)) ≡ length (text_cleaned_of bytes) =
-    length-map (text_cleaned_of bytes) printable_byte in
-    allowed (Text w) (map printable_byte (text_cleaned_of bytes))
-    (le-leb (length (map printable_byte (text_cleaned_of bytes))) w (omega (arith, short, same, h)))
-    (all_printable (text_cleaned_of bytes))
+    let cleaned = cleaned_short (text_cleaned_of bytes) in
+    allowed (Text w) (cleaned_text (text_cleaned_of bytes))
+    (le-leb (length (cleaned_text (text_cleaned_of bytes))) w (omega (arith, short, cleaned, h)))
+    (text_printable (text_cleaned_of bytes))
 value_clean (Digits form) bytes h = go (is_like form (text_cleaned_of bytes)) refl
   where
     go : (v : Bool) → is_like form (text_cleaned_of bytes) ≡ v →

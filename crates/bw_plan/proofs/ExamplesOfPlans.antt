@@ -2,7 +2,7 @@
 use Rattle.std.proofs.Common.{refl}
 use Rattle.bw_plan.proofs.Computing.{computing}
 use Rattle.bw_plan.specs.ExamplesOfPlans.{SmallPlanExample, LargeBlockPlanExample, CuePlanExample}
-use Rattle.bw_plan.specs.ExamplesOfPlans.{ExtensiblePlanExample, TextPlanExample, DatePlanExample}
+use Rattle.bw_plan.specs.ExamplesOfPlans.{ExtensiblePlanExample, TextPlanExample, DatePlanExample, CleanedTextExample}
 use Rattle.bw_plan.specs.ExamplesOfPlans.{TimePlanExample}
 use Rattle.bw_plan.specs.ExamplesOfPlans.{SettingsPlanExample, RefusedPlanExample, SettingTextPlanExample}
 use Rattle.bw_plan.specs.ExamplesOfPlans.{BadSettingPlanExample, PcmPlanExample, RefusedPcmExample}
@@ -26,6 +26,10 @@ extensible = refl
 pub text : TextPlanExample
 unfolding computing
 text = (refl, refl)
+
+pub cleaned : CleanedTextExample
+unfolding computing
+cleaned = (refl, refl, refl, refl, refl)
 
 pub date : DatePlanExample
 unfolding computing
@@ -66,6 +70,7 @@ pub ruleset rows = (
   cue,
   extensible,
   text,
+  cleaned,
   date,
   time,
   settings,

@@ -10,6 +10,7 @@ pub mod PlanCounts
 pub mod NextRequests
 pub mod NextFields
 pub mod PlanStarts
+pub mod CleanTexts
 pub mod CleanParts
 pub mod WholeRecordings
 pub mod PlanRuns

@@ -9,12 +9,13 @@ use Rattle.bw_model.specs.Limits.{longest_history, most_markers}
 use Rattle.bw_model.specs.Take.{Shape, Text, Digits, Whole, Maybe, Level, not_given, is_printable}
 use Rattle.bw_model.specs.Take.{is_history_byte, field_fault}
 use Rattle.bw_model.specs.Report.{RawCue}
+use Rattle.bw_plan.specs.CleanedTexts.{cleaned_text}
 
 -- a text ends at its first zero byte
 abbrev pub text_cleaned_of : List ℕ → List ℕ
 text_cleaned_of bytes = take_while (λ c. not (c == 0)) bytes
 
--- a byte that a text may not have becomes a question mark
+-- a byte that isn't printable becomes a question mark
 abbrev pub printable_byte : ℕ → ℕ
 printable_byte c = if is_printable c then c else 63
 
@@ -60,7 +61,7 @@ are_zero bytes = list_all (λ c. c == 0) bytes
 -- The value that a message carries for a field's bytes: nothing where the field isn't given, and
 -- where a date or a time has another form.
 abbrev pub value_of : Shape → List ℕ → List ℕ
-value_of (Text w) bytes = map printable_byte (text_cleaned_of bytes)
+value_of (Text w) bytes = cleaned_text (text_cleaned_of bytes)
 value_of (Digits form) bytes =
     if is_like form (text_cleaned_of bytes) then with_separators form (text_cleaned_of bytes) else []
 value_of (Whole w) bytes = if are_zero bytes then [] else bytes

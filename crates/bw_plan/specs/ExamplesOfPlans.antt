@@ -4,12 +4,14 @@ use Rattle.std.specs.Prelude.{codes, take, drop, length, ◌+◌, true}
 use Rattle.bw_model.specs.Take.{Request, Open, Block, Mark, SetField, Close}
 use Rattle.bw_model.specs.ExampleWords.{hex, mono, small_file, cue_file, two_frames}
 use Rattle.bw_model.specs.Reading.{NotWave}
+use Rattle.bw_plan.specs.CleanedTexts.{cleaned_text}
 use Rattle.bw_plan.specs.Recordings.{Options, no_options, Field, History, Recording, recording_of}
 use Rattle.bw_plan.specs.Recordings.{FaultAt, RecordingFault, Unread, Foreign, Float, NotPcm, Bits}
 use Rattle.bw_plan.specs.Recordings.{ValidBits, Align, Rate, Channels, PartFrame, Short, Unclean}
 use Rattle.bw_plan.specs.Plans.{plan}
 use Rattle.bw_plan.specs.SettingTexts.{setting_of}
 use Rattle.bw_plan.specs.PcmRecordings.{pcm_recording_of}
+use Rattle.bw_plan.specs.declared.options.Strictness.TheVariants.{Texts}
 use Rattle.bw_plan.specs.declared.pcm.Pcm.{Pcm}
 use Rattle.bw_plan.specs.declared.unclean.UncleanPart.TheVariants.{Byte}
 use Rattle.bw_inspect.specs.declared.other.OtherFormat.TheVariants.{Flac, Aiff, Wave64}
@@ -91,13 +93,23 @@ CuePlanExample = Plans 2 cue_file (Open mono [] ∷ Block two_frames ∷ Mark 7 
 abbrev pub ExtensiblePlanExample : Type 0
 ExtensiblePlanExample = Plans 2 extensible_file (Open mono [] ∷ Block two_frames ∷ Close 2 ∷ [])
 
--- a UTF-8 letter in the Description becomes two question marks, which is refused where nothing may
--- be cleaned
+-- Texts: Mür and Ấ in UTF-8, an accent of its own after e, é in ISO 8859-1, ends of lines of three kinds,
+-- and what isn't a letter of ASCII with accents: ß, a quotation mark of three bytes, a tab, and ≠, which
+-- decomposes into = and an accent
+abbrev pub CleanedTextExample : Type 0
+CleanedTextExample =
+    (cleaned_text (hex "4dc3bc72e1baa4") ≡ codes "MurA")
+    × (cleaned_text (hex "65cc81") ≡ codes "e")
+    × (cleaned_text (hex "63616665e9") ≡ codes "cafee")
+    × (cleaned_text (hex "610d0a620a630d64") ≡ codes "a b c d")
+    × (cleaned_text (hex "c39fe2809909e289a0") ≡ codes "????")
+
+-- Mür in UTF-8 as the Description loses its accent, which is refused where no text may be cleaned
 abbrev pub TextPlanExample : Type 0
 TextPlanExample =
     Plans 2 (changed 80 (hex "4dc3bc72"))
-    (Open mono [] ∷ SetField 1 (codes "M??r") ∷ Block two_frames ∷ Close 2 ∷ [])
-    × RefusesFile (changed 80 (hex "4dc3bc72")) (record no_options { strict = true })
+    (Open mono [] ∷ SetField 1 (codes "Mur") ∷ Block two_frames ∷ Close 2 ∷ [])
+    × RefusesFile (changed 80 (hex "4dc3bc72")) (record no_options { strict = Texts })
     (Unclean (Byte 1 1 0xC3)) 72
 
 -- a date gets its own separators, and one of another form is left out

@@ -1,5 +1,7 @@
+pub mod CleanedTexts
 pub mod CleanedContents
 pub mod UncleanParts
+pub mod Strictness
 pub mod Recordings
 pub mod Plans
 pub mod PlanLaws

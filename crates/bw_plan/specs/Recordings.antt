@@ -15,7 +15,10 @@ use Rattle.bw_model.specs.Report.{RawFmt, RawBext, Report, report_of, content_of
 use Rattle.bw_model.specs.Wire.{Second, last_number}
 use Rattle.bw_plan.specs.CleanedContents.{history_of, values_of, are_texts_kept, is_history_kept}
 use Rattle.bw_plan.specs.CleanedContents.{markers_of}
+use Rattle.bw_plan.specs.Strictness.{refuses_texts}
 use Rattle.bw_plan.specs.UncleanParts.{unclean_texts, unclean_history}
+use Rattle.bw_plan.specs.declared.options.Strictness.{Strictness}
+use Rattle.bw_plan.specs.declared.options.Strictness.TheVariants.{Lenient}
 use Rattle.bw_plan.specs.declared.unclean.UncleanPart.{UncleanPart}
 use Rattle.bw_plan.specs.declared.unclean.UncleanPart.TheVariants.{Cues}
 use Rattle.bw_inspect.specs.OtherFormats.{other_format_of}
@@ -32,14 +35,14 @@ pub data Setting : Type 0 where
 pub record Options : Type 0 where
   -- in their order, so that a later one takes the place of an earlier one
   pub settings : List Setting
-  -- what would be cleaned is refused
-  pub strict : Bool
+  -- what it may not lose of the file
+  pub strict : Strictness
   -- how many frames a block has, if that is given
   pub frames : Option ℕ
 
 -- nothing is asked for
 abbrev pub no_options : Options
-no_options = record { settings = []; strict = false; frames = None }
+no_options = record { settings = []; strict = Lenient; frames = None }
 
 -- a recording but for its samples
 pub record Outline : Type 0 where
@@ -257,10 +260,10 @@ faults_of_content o n r =
     let chunks = n.report.chunks in
     let data_head = head_place (codes "data") chunks in
     chain_line (not (n.report.data_size % block_align r.format == 0)) PartFrame data_head
-    ∷ chain_line (o.strict && not (is_bext_kept n)) (Unclean (unclean_bext n))
+    ∷ chain_line (refuses_texts o.strict && not (is_bext_kept n)) (Unclean (unclean_bext n))
     (head_place (codes "bext") chunks)
-    ∷ chain_line (o.strict && nat_lt (length r.markers) (length n.report.cues)) (Unclean Cues)
-    (head_place (codes "cue ") chunks)
+    ∷ chain_line (refuses_texts o.strict && nat_lt (length r.markers) (length n.report.cues))
+    (Unclean Cues) (head_place (codes "cue ") chunks)
     ∷ chain_line (nat_lt (last_number Second + 1) (request_count (block_frames o r.format) r)) TooLong
     data_head
     ∷ []

@@ -7,9 +7,9 @@ use Rattle.bw_plan.specs.declared.warning.Warning.TheVariants.{CuesLeftOut, Mask
 
 -- what a warning says
 abbrev pub warning_meaning : Warning → warnings.Warning
-warning_meaning (FieldCleaned tag) = warnings.FieldCleaned tag
+warning_meaning (FieldCleaned tag before after) = warnings.FieldCleaned tag before.items after.items
 warning_meaning (FieldLeftOut tag) = warnings.FieldLeftOut tag
-warning_meaning HistoryCleaned = warnings.HistoryCleaned
+warning_meaning (HistoryCleaned before after) = warnings.HistoryCleaned before.items after.items
 warning_meaning (CuesLeftOut count) = warnings.CuesLeftOut count
 warning_meaning MaskLeftOut = warnings.MaskLeftOut
 warning_meaning (ChunkLeftOut chunk) = warnings.ChunkLeftOut chunk

@@ -3,18 +3,19 @@ use Rattle.std.specs.Prelude.{ℕ, suc, ◌-◌, Bool, not, ◌&&◌, ◌||◌, 
 use Rattle.std.specs.Prelude.{codes, is_none, nat_le, nat_lt, if◌then◌else◌}
 use Rattle.std.specs.Str.{bytes_eq}
 use Rattle.bw_model.specs.Bytes.{u32_at}
-use Rattle.bw_model.specs.Take.{field_fault}
+use Rattle.bw_model.specs.Take.{Digits, field_fault}
 use Rattle.bw_model.specs.Reading.{Entry}
-use Rattle.bw_plan.specs.CleanedContents.{text_cleaned_of, is_like, is_history_kept}
+use Rattle.bw_plan.specs.CleanedContents.{text_cleaned_of, history_of, value_of, is_like, is_history_kept}
+use Rattle.bw_plan.specs.CleanedTexts.{cleaned_text}
 use Rattle.bw_plan.specs.Recordings.{FileNotes, Outline, bext_texts, extensible}
 
 pub data Warning : Type 0 where
-  -- bytes of the field with this tag became others
-  FieldCleaned : ℕ → Warning
+  -- the text of the field with this tag became this other one
+  FieldCleaned : ℕ → List ℕ → List ℕ → Warning
   -- the field with this tag is left out: a date or a time of another form
   FieldLeftOut : ℕ → Warning
-  -- bytes of the coding history became others, or it was cut
-  HistoryCleaned : Warning
+  -- the coding history became this other one
+  HistoryCleaned : List ℕ → List ℕ → Warning
   -- so many cue points are left out
   CuesLeftOut : ℕ → Warning
   -- the channel mask of an extensible format is left out
@@ -32,25 +33,39 @@ is_other_form tag text =
     ((tag == 4) && not (is_like (codes "dddd-dd-dd") text))
     || ((tag == 5) && not (is_like (codes "dd:dd:dd") text))
 
--- the warning of a text that may not stay as it is
+-- the text that is carried for that of a field's bytes
+abbrev pub carried_text : ℕ → List ℕ → List ℕ
+carried_text tag bytes =
+    if tag == 4 then value_of (Digits (codes "dddd-dd-dd")) bytes
+    else if tag == 5 then value_of (Digits (codes "dd:dd:dd")) bytes
+    else cleaned_text (text_cleaned_of bytes)
+
+-- the warning of a field whose text may not stay as it is
 abbrev pub loss : ℕ → List ℕ → Warning
-loss tag text = if is_other_form tag text then FieldLeftOut tag else FieldCleaned tag
+loss tag bytes =
+    if is_other_form tag (text_cleaned_of bytes) then FieldLeftOut tag
+    else FieldCleaned tag (text_cleaned_of bytes) (carried_text tag bytes)
 
 -- the warnings with that of a field
 abbrev pub field_warned : List Warning → ℕ → List ℕ → List Warning
 field_warned ws tag bytes =
-    warned ws (not (is_none (field_fault tag (text_cleaned_of bytes)))) (loss tag (text_cleaned_of bytes))
+    warned ws (not (is_none (field_fault tag (text_cleaned_of bytes)))) (loss tag bytes)
 
 -- .. of each of these fields, from a tag on
 abbrev pub texts_warned : List Warning → ℕ → List (List ℕ) → List Warning
 texts_warned ws tag [] = ws
 texts_warned ws tag (bytes ∷ fields) = texts_warned (field_warned ws tag bytes) (suc tag) fields
 
--- the chunk is carried, or holds only sizes
+-- the warnings with that of a coding history: of as much of it as shows whether it is too long
+abbrev pub history_warned : List Warning → List ℕ → List Warning
+history_warned ws bytes =
+    warned ws (not (is_history_kept bytes)) (HistoryCleaned (text_cleaned_of bytes) (history_of bytes))
+
+-- the chunk is carried, or holds only sizes, or nothing (RIFF: JUNK is a filler)
 abbrev pub is_carried : List ℕ → Bool
 is_carried id =
     bytes_eq id (codes "fmt ") || bytes_eq id (codes "bext") || bytes_eq id (codes "data")
-    || bytes_eq id (codes "cue ") || bytes_eq id (codes "ds64")
+    || bytes_eq id (codes "cue ") || bytes_eq id (codes "ds64") || bytes_eq id (codes "JUNK")
 
 -- the warnings with that of a chunk
 abbrev pub chunk_warned : List Warning → Entry → List Warning
@@ -66,7 +81,7 @@ has_mask n =
 abbrev pub content_warnings : FileNotes → Outline → List Warning
 content_warnings n r =
     let texts = texts_warned [] 1 (bext_texts n.report.bext) in
-    let history = warned texts (not (is_history_kept n.history)) HistoryCleaned in
+    let history = history_warned texts n.history in
     let lost = length n.report.cues - length r.markers in
     let cues = warned history (nat_lt 0 lost) (CuesLeftOut lost) in
     warned cues (has_mask n) MaskLeftOut

@@ -1,13 +1,16 @@
 //! What a message carries of a field's bytes, and of a coding history.
-ghost use Rattle.std.specs.Prelude.{◌≡◌, ◌≤◌, ◌==◌, not, map, length, IsTrue, IfOk};
+ghost use Rattle.std.specs.Prelude.{◌≡◌, ◌≤◌, ◌==◌, not, length, IsTrue, IfOk};
 ghost use Rattle.std.specs.List.{prefix_len};
 ghost use Rattle.bw_model.specs.Bytes.{le16};
 ghost use Rattle.bw_model.specs.Take.{Digits, Maybe, Level};
 ghost use Rattle.bw_plan.specs.CleanedContents.{text_cleaned_of, history_of, value_of, are_zero as are_bytes_zero};
-ghost use Rattle.bw_plan.specs.CleanedContents.{printable_byte as printable_byte_of, history_byte as history_byte_of};
+ghost use Rattle.bw_plan.specs.CleanedContents.{history_byte as history_byte_of};
+ghost use Rattle.bw_plan.specs.CleanedTexts.{cleaned_text};
 ghost use Rattle.bw_plan.specs.CleanedContents.{is_like as is_text_like, with_separators as separated};
 ghost use Rattle.bw_plan.specs.CleanedContents.{is_separator as is_separator_byte, is_like_at, placed};
 
+use crate::kept::is_history_byte;
+use crate::line_of_text::line_of_text;
 use bw_model::LONGEST_HISTORY;
 use std::alloc::{AllocError, Global};
 
@@ -25,15 +28,14 @@ fn text_len(bytes: &[u8]) -> usize
     bytes.iter().take_while(|c| **c != 0).count()
 }
 
-/// The text of a field, with a question mark for each byte that isn't printable.
+/// The text of a field, as one line of ASCII.
 ///
 /// # Errors
 /// `AllocError` where memory was refused.
 pub(crate) fn clean_text(alloc: Global, bytes: &[u8]) -> Result<Vec<u8>, AllocError>
-    ensures { IfOk result (λ v. v.items ≡ map printable_byte_of (text_cleaned_of bytes.now)) }
+    ensures { IfOk result (λ v. v.items ≡ cleaned_text (text_cleaned_of bytes.now)) }
 {
-    let text = text_before_zero(bytes);
-    text.iter().map(|c| printable_byte(*c)).collect(alloc)
+    line_of_text(alloc, text_before_zero(bytes))
 }
 
 /// A coding history of at most 4,096 bytes, with a question mark for each byte that it may not
@@ -51,20 +53,10 @@ pub(crate) fn clean_history(alloc: Global, bytes: &[u8]) -> Result<Vec<u8>, Allo
         .collect(alloc)
 }
 
-fn printable_byte(c: u8) -> u8
-    ensures { result ≡ printable_byte_of c }
-{
-    if (32..=126).contains(&c) { c } else { b'?' }
-}
-
 fn history_byte(c: u8) -> u8
     ensures { result ≡ history_byte_of c }
 {
-    if c == b'\r' || c == b'\n' {
-        c
-    } else {
-        printable_byte(c)
-    }
+    if is_history_byte(c) { c } else { b'?' }
 }
 
 /// The text of a date or a time with the separators of this form, where `d` is a digit;

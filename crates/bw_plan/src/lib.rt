@@ -8,6 +8,7 @@ mod cleaning;
 mod fault;
 mod format;
 mod kept;
+mod line_of_text;
 mod markers;
 mod options;
 mod outline;
@@ -25,12 +26,13 @@ ghost use Rattle.bw_plan.specs.PlanLaws.{PlansHaveTheirCount, PlansMakeTakes, Re
 ghost use Rattle.bw_plan.specs.Progress.{RunsGivePlans};
 ghost use Rattle.bw_plan.specs.PcmRecordings.{PcmRecordingsAreWhole};
 ghost use Rattle.bw_plan.specs.ExamplesOfPlans.{SmallPlanExample, LargeBlockPlanExample, CuePlanExample, ExtensiblePlanExample};
+ghost use Rattle.bw_plan.specs.ExamplesOfPlans.{CleanedTextExample};
 ghost use Rattle.bw_plan.specs.ExamplesOfPlans.{TextPlanExample, DatePlanExample, TimePlanExample, SettingsPlanExample, RefusedPlanExample};
 ghost use Rattle.bw_plan.specs.ExamplesOfPlans.{SettingTextPlanExample, BadSettingPlanExample};
 ghost use Rattle.bw_plan.specs.ExamplesOfPlans.{PcmPlanExample, RefusedPcmExample};
 
 pub use fault::{RecordingFault, RecordingKind};
-pub use options::Options;
+pub use options::{Options, Strictness};
 pub use outline::Outline;
 pub use pcm::Pcm;
 pub use plan::{Plan, given_after};
@@ -61,6 +63,7 @@ pub fn examples_of_plans()
     ensures cue { CuePlanExample }
     ensures extensible { ExtensiblePlanExample }
     ensures text { TextPlanExample }
+    ensures cleaned { CleanedTextExample }
     ensures date { DatePlanExample }
     ensures time { TimePlanExample }
     ensures settings { SettingsPlanExample }

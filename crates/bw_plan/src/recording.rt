@@ -119,12 +119,12 @@ fn content_fault(
     if !has_whole_frames(report.data_size, outline.format()) {
         return Some(fault_at(RecordingKind::PartFrame, data_head));
     }
-    if options.is_strict() && !is_bext_kept(&report.bext, history) {
+    if options.refuses_texts() && !is_bext_kept(&report.bext, history) {
         let place = head_place(chunks, ChunkId(*b"bext"));
         let part = unclean_bext(&report.bext, history);
         return Some(fault_at(RecordingKind::Unclean(part), place));
     }
-    if options.is_strict() && outline.markers().len() < report.cues.as_slice().len() {
+    if options.refuses_texts() && outline.markers().len() < report.cues.as_slice().len() {
         let place = head_place(chunks, ChunkId(*b"cue "));
         return Some(fault_at(RecordingKind::Unclean(UncleanPart::Cues), place));
     }

@@ -4,12 +4,13 @@ ghost use Rattle.bw_model.specs.Bytes.{u32_at};
 ghost use Rattle.bw_inspect.specs.Reports.{bext_by};
 ghost use Rattle.bw_plan.specs.Notes.{notes_by};
 ghost use Rattle.bw_plan.specs.Recordings.{bext_texts, extensible};
-ghost use Rattle.bw_plan.specs.Warnings.{warned, loss, field_warned, texts_warned, chunk_warned};
+ghost use Rattle.bw_plan.specs.Warnings.{history_warned, warned, loss, field_warned, texts_warned, chunk_warned};
+ghost use Rattle.bw_plan.specs.Warnings.{carried_text as text_carried};
 ghost use Rattle.bw_plan.specs.Warnings.{is_carried as is_carried_id, is_other_form as has_other_form};
 ghost use Rattle.bw_plan.specs.Warnings.{content_warnings, warnings_of};
 ghost use Rattle.bw_plan.specs.ReportedWarnings.{warning_meanings, warning_meaning};
 
-use crate::cleaning::{is_like, text_before_zero};
+use crate::cleaning::{clean_digits, clean_history, clean_text, is_like, text_before_zero, to_vec};
 use crate::format::EXTENSIBLE;
 use crate::kept::{can_set, is_history};
 use crate::outline::Outline;
@@ -18,20 +19,34 @@ use bw_layout::{ChunkId, RawBext, read_u32};
 use std::alloc::{AllocError, Global};
 
 /// What a recording loses of its file.
-#[derive(Clone, Copy, Debug, PartialEq, Eq)]
+#[derive(Debug, Drop)]
 pub enum Warning {
-    /// Bytes of the field with this tag became others.
-    FieldCleaned { tag: u8 },
+    /// The text of the field with this tag became another one: what it was, and what is carried.
+    FieldCleaned {
+        tag: u8,
+        before: Vec<u8>,
+        after: Vec<u8>,
+    },
     /// The field with this tag is left out: a date or a time of another form.
-    FieldLeftOut { tag: u8 },
-    /// Bytes of the coding history became others, or it was cut.
-    HistoryCleaned,
+    FieldLeftOut {
+        tag: u8,
+    },
+    /// The coding history became another one: what it was, as far as it is read, and what is
+    /// carried.
+    HistoryCleaned {
+        before: Vec<u8>,
+        after: Vec<u8>,
+    },
     /// So many cue points are left out.
-    CuesLeftOut { count: usize },
+    CuesLeftOut {
+        count: usize,
+    },
     /// The channel mask of an extensible format is left out; one of 0 says nothing.
     MaskLeftOut,
     /// A chunk that isn't carried.
-    ChunkLeftOut { chunk: ListedChunk },
+    ChunkLeftOut {
+        chunk: ListedChunk,
+    },
 }
 
 /// What a recording with this outline loses of the file with this report, this extension of its
@@ -70,8 +85,8 @@ fn content_losses(
         ≡ content_warnings (notes_by report.now extension.now history.now) outline.now) }
 {
     let mut out = Vec::new(alloc);
-    warn_of_bext(&mut out, &report.bext)?;
-    warn_if(&mut out, !is_history(history), Warning::HistoryCleaned)?;
+    warn_of_bext(alloc, &mut out, &report.bext)?;
+    warn_of_history(alloc, &mut out, history)?;
     let count = report
         .cues
         .as_slice()
@@ -84,6 +99,19 @@ fn content_losses(
         Warning::MaskLeftOut,
     )?;
     Ok(out)
+}
+
+fn warn_of_history(alloc: Global, out: &mut Vec<Warning>, bytes: &[u8]) -> Result<(), AllocError>
+    ensures { OnOk result (warning_meanings out.new.items
+        ≡ history_warned (warning_meanings out.old.items) bytes.now) }
+{
+    if is_history(bytes) {
+        return Ok(());
+    }
+    let before = to_vec(alloc, text_before_zero(bytes))?;
+    let after = clean_history(alloc, bytes)?;
+    out.push(Warning::HistoryCleaned { before, after })?;
+    Ok(())
 }
 
 /// Whether an extensible format says which speakers its channels are for.
@@ -109,44 +137,78 @@ fn warn_if(out: &mut Vec<Warning>, holds: bool, warning: Warning) -> Result<(), 
     Ok(())
 }
 
-fn warn_of_bext(out: &mut Vec<Warning>, bext: &Option<BextChunk>) -> Result<(), AllocError>
+fn warn_of_bext(
+    alloc: Global,
+    out: &mut Vec<Warning>,
+    bext: &Option<BextChunk>,
+) -> Result<(), AllocError>
     ensures { OnOk result (warning_meanings out.new.items
         ≡ texts_warned (warning_meanings out.old.items) 1
         (bext_texts (option_map bext_by bext.now))) }
 {
     match bext {
-        Some(chunk) => warn_of_texts(out, &chunk.fields),
+        Some(chunk) => warn_of_texts(alloc, out, &chunk.fields),
         None => Ok(()),
     }
 }
 
-fn warn_of_texts(out: &mut Vec<Warning>, bext: &RawBext) -> Result<(), AllocError>
+fn warn_of_texts(alloc: Global, out: &mut Vec<Warning>, bext: &RawBext) -> Result<(), AllocError>
     ensures { OnOk result (warning_meanings out.new.items
         ≡ texts_warned (warning_meanings out.old.items) 1 bext.now.0.texts) }
 {
-    warn_of_field(out, 1, &bext.description)?;
-    warn_of_field(out, 2, &bext.originator)?;
-    warn_of_field(out, 3, &bext.originator_reference)?;
-    warn_of_field(out, 4, &bext.origination_date)?;
-    warn_of_field(out, 5, &bext.origination_time)
+    warn_of_field(alloc, out, 1, &bext.description)?;
+    warn_of_field(alloc, out, 2, &bext.originator)?;
+    warn_of_field(alloc, out, 3, &bext.originator_reference)?;
+    warn_of_field(alloc, out, 4, &bext.origination_date)?;
+    warn_of_field(alloc, out, 5, &bext.origination_time)
 }
 
-fn warn_of_field(out: &mut Vec<Warning>, tag: u8, bytes: &[u8]) -> Result<(), AllocError>
+fn warn_of_field(
+    alloc: Global,
+    out: &mut Vec<Warning>,
+    tag: u8,
+    bytes: &[u8],
+) -> Result<(), AllocError>
     ensures { OnOk result (warning_meanings out.new.items
         ≡ field_warned (warning_meanings out.old.items) tag bytes.now) }
 {
-    let text = text_before_zero(bytes);
-    warn_if(out, !can_set(tag, text), loss_of(tag, text))
+    if can_set(tag, text_before_zero(bytes)) {
+        return Ok(());
+    }
+    let warning = loss_of(alloc, tag, bytes)?;
+    out.push(warning)?;
+    Ok(())
 }
 
-/// The warning of a text that may not stay as it is.
-fn loss_of(tag: u8, text: &[u8]) -> Warning
-    ensures { warning_meaning result ≡ loss tag text.now }
+/// The warning of a field whose text may not stay as it is.
+///
+/// # Errors
+/// `AllocError` where memory was refused.
+fn loss_of(alloc: Global, tag: u8, bytes: &[u8]) -> Result<Warning, AllocError>
+    ensures { IfOk result (λ w. warning_meaning w ≡ loss tag bytes.now) }
 {
+    let text = text_before_zero(bytes);
     if is_other_form(tag, text) {
-        Warning::FieldLeftOut { tag }
+        return Ok(Warning::FieldLeftOut { tag });
+    }
+    let before = to_vec(alloc, text)?;
+    let after = carried_text(alloc, tag, bytes)?;
+    Ok(Warning::FieldCleaned { tag, before, after })
+}
+
+/// The text that is carried for that of a field's bytes.
+///
+/// # Errors
+/// `AllocError` where memory was refused.
+fn carried_text(alloc: Global, tag: u8, bytes: &[u8]) -> Result<Vec<u8>, AllocError>
+    ensures { IfOk result (λ v. v.items ≡ text_carried tag bytes.now) }
+{
+    if tag == 4 {
+        clean_digits(alloc, b"dddd-dd-dd", bytes)
+    } else if tag == 5 {
+        clean_digits(alloc, b"dd:dd:dd", bytes)
     } else {
-        Warning::FieldCleaned { tag }
+        clean_text(alloc, bytes)
     }
 }
 
@@ -171,9 +233,14 @@ fn warn_of_chunks(out: &mut Vec<Warning>, chunks: &[ListedChunk]) -> Result<(), 
     Ok(())
 }
 
-/// Whether a chunk is carried, or holds only sizes.
+/// Whether a chunk is carried, or holds only sizes, or nothing.
 fn is_carried(id: ChunkId) -> bool
     ensures { result ≡ is_carried_id id }
 {
-    id.0 == *b"fmt " || id.0 == *b"bext" || id.0 == *b"data" || id.0 == *b"cue " || id.0 == *b"ds64"
+    id.0 == *b"fmt "
+        || id.0 == *b"bext"
+        || id.0 == *b"data"
+        || id.0 == *b"cue "
+        || id.0 == *b"ds64"
+        || id.0 == *b"JUNK"
 }

@@ -12,4 +12,4 @@ HasOutline b o outline = (recording : Recording) × (recording_of b o ≡ Ok rec
 -- what is asked for beside the file can be read, and this holds of it
 abbrev pub HoldsOfOptions : RecordingFile → (Options → Type 0) → Type 0
 HoldsOfOptions file holds = (o : Options)
-    × (options_of (map string_bytes file.settings.now) file.is_strict file.frames ≡ Some o) × holds o
+    × (options_of (map string_bytes file.settings.now) file.strict file.frames ≡ Some o) × holds o

@@ -1,7 +1,7 @@
 -- What is known of a file after a part of it is read.
 use Rattle.std.proofs.Common.{◌≡◌, ℕ, ◌+◌, ◌<◌, ◌≤◌, ◌⊎◌, inl, inr, arith, Bool, true, false, cond, List, [], Option, Some, None}
 use Rattle.std.proofs.Common.{Result, Ok, Err, refl, sym, ◌∙◌, ap, subst}
-use Rattle.std.specs.Prelude.{◌^◌, is_some, option_map, codes, length, drop, slice_range}
+use Rattle.std.specs.Prelude.{◌^◌, ◌++◌, IsTrue, is_some, option_map, codes, length, drop, slice_range}
 use Rattle.bw_stream.specs.Readers.{Of}
 use Rattle.bw_model.specs.Reading as reading
 use Rattle.bw_model.specs.Reading.{Form, Entry, IsFault, entry_of, read}
@@ -22,6 +22,7 @@ use Rattle.bw_plan.specs.Recordings.{extension_at, history_at, samples_of, block
 use Rattle.bw_plan.specs.Faults.{kind_meaning}
 use Rattle.bw_plan.specs.Notes.{notes_by, FaultOf}
 use Rattle.bw_plan.specs.Plans.{plan}
+use Rattle.bw_plan.specs.Strictness.{refuses_losses}
 use Rattle.bw_plan.specs.Progress.{Progress, remaining}
 use Rattle.bw_plan.specs.Warnings.{Warning, warnings_of}
 use Rattle.bw_plan.specs.declared.fault.RecordingFault.{RecordingFault}
@@ -33,8 +34,8 @@ use Rattle.bw_recorder.specs.declared.opening.Extras.{Extras}
 use Rattle.bw_recorder.specs.WarningTexts.{warning_lines}
 use Rattle.bw_recorder.specs.declared.fault.OpenFault.TheVariants.{Refused, Changed}
 use Rattle.bw_recorder.specs.FaultHints.{unread_kind}
-use Rattle.bw_recorder.specs.FileReports.{HasReport, HasExtras}
-use Rattle.bw_recorder.specs.Openings.{IsFaultOf, IsOpenedAt, IsOutlined, RefusesAs, fault_again}
+use Rattle.bw_recorder.specs.FileReports.{HasReport, HasExtras, warnings_in}
+use Rattle.bw_recorder.specs.Openings.{IsFaultOf, IsLossy, IsOpenedAt, IsOutlined, RefusesAs, fault_again, lossy_line}
 
 -- notes of these parts
 abbrev notes_with : List ℕ → List ℕ → report.Report → FileNotes
@@ -169,6 +170,13 @@ outline_fault b o r x f h extras right = λ g same.
 abbrev warnings_by : List ℕ → Outline → Result (Form × List Entry) reading.Fault → List Warning
 warnings_by b outline z = elim z [ Err fault ↦ [] | Ok y ↦ warnings_of (notes_of b y.0 y.1) outline ]
 
+-- what is lost by the report is what is lost of the bytes
+warnings_are : (b : List ℕ) (o : Options) (r : Report) (x : Extras) (outline : Outline) → IsOutlined b o r x outline →
+    warnings_of (notes_by r x.extension.items x.history.items) outline ≡ warnings_in b outline
+warnings_are b o r x outline h =
+    ap (λ (n : FileNotes). warnings_of n outline) (notes_are b r x h.report h.extras)
+    ∙ ap (λ (z : Result (Form × List Entry) reading.Fault). warnings_by b outline z) (sym (reads_so b r h.report))
+
 data_at_is : (b : List ℕ) (r : Report) (h : HasReport b r) →
     (report_of b h.1.reading_is.form h.1.reading_is.entries).data_at ≡ r.data_at
 data_at_is b r h = sym (ap (λ (z : report.Report). z.data_at) h.1.reports)
@@ -204,8 +212,8 @@ pub opened : (b : List ℕ) (o : Options) (r : Report) (x : Extras) (outline : O
     p.samples.place ≡ r.data_at → left ≡ Some (drop r.data_at b) →
     p.samples.place + p.samples.left ≡ r.data_at + outline.samples_len →
     text ≡ warning_lines (warnings_of (notes_by r x.extension.items x.history.items) outline) →
-    IsOpenedAt b o p text left
-opened b o r x outline p text left frames h many requests place stands end says =
+    (IsTrue (refuses_losses o.strict) → text ≡ []) → IsOpenedAt b o p text left
+opened b o r x outline p text left frames h many requests place stands end says whole =
     let form = h.report.1.reading_is.form in
     let es : List Entry = h.report.1.reading_is.entries in
     let q = reads_so b r h.report in
@@ -226,7 +234,23 @@ opened b o r x outline p text left frames h many requests place stands end says 
           ∙ ap (λ (n : ℕ). plan n recording) many;
       stands = stands ∙ ap (λ (n : ℕ). Some (drop n b)) (sym place);
       there = omega (arith, end, bytes);
-      says = says
-          ∙ ap (λ (n : FileNotes). warning_lines (warnings_of n outline)) (notes_are b r x h.report h.extras)
-          ∙ ap (λ (z : Result (Form × List Entry) reading.Fault). warning_lines (warnings_by b outline z)) (sym q);
+      says = says ∙ ap warning_lines (warnings_are b o r x outline h);
+      whole = whole;
+    }
+
+-- a recording that loses something, and may not
+pub lossy : (b : List ℕ) (o : Options) (r : Report) (x : Extras) (outline : Outline) (lines text : List ℕ) →
+    IsOutlined b o r x outline → IsTrue (refuses_losses o.strict) → (lines ≡ [] → ⊥) →
+    lines ≡ warning_lines (warnings_of (notes_by r x.extension.items x.history.items) outline) →
+    text ≡ lines ++ lossy_line → IsLossy b o text
+lossy b o r x outline lines text h asked some are says =
+    let form = h.report.1.reading_is.form in
+    let es : List Entry = h.report.1.reading_is.entries in
+    let listed : lines ≡ warning_lines (warnings_in b outline) = are ∙ ap warning_lines (warnings_are b o r x outline h) in
+    record {
+      recording = record { outline = outline; samples = samples_of b (report_of b form es) };
+      is = recorded_as b o form es outline (reads_so b r h.report) (outlined_so b o r x outline h);
+      asked = asked;
+      some = λ none. some (listed ∙ ap warning_lines none);
+      says = says ∙ ap (λ (z : List ℕ). z ++ lossy_line) listed;
     }

@@ -1,11 +1,12 @@
 -- What the command did, from what its steps did.
-use Rattle.std.proofs.Common.{◌≡◌, ◌⊎◌, ℕ, Bool, true, List, Option, Some, Result, inl, inr, refl, subst}
+use Rattle.std.proofs.Common.{◌≡◌, ◌⊎◌, ℕ, true, List, Option, Some, Result, inl, inr, refl, subst}
 use Rattle.bw_stream.specs.Readers.{Of}
 use Rattle.bw_model.specs.Take.{Request}
 use Rattle.bw_console.specs.Prints.{IsOf, Nothing, Print}
 use Rattle.bw_console.specs.declared.exit.Exit.{Exit}
 use Rattle.bw_plan.specs.Recordings.{Options}
 use Rattle.bw_plan.specs.Progress.{Progress, IsSoundPlan, remaining}
+use Rattle.bw_plan.specs.declared.options.Strictness.{Strictness}
 use Rattle.std.specs.Prelude.{codes}
 use Rattle.bw_recorder.specs.declared.fault.OpenFault.{OpenFault}
 use Rattle.bw_recorder.specs.declared.packing.PackFault.{PackFault}
@@ -35,7 +36,7 @@ not_opened command file path o fault exit print right reports =
     record { fault = fault; right = right; well = refl; warned = refl; prints = refl; reports = reports }
 
 -- what is set can't be used
-pub refused : (texts : List (List ℕ)) (strict : Bool) (frames : Option ℕ) (fault : OptionsFault) (exit : Exit)
+pub refused : (texts : List (List ℕ)) (strict : Strictness) (frames : Option ℕ) (fault : OptionsFault) (exit : Exit)
     (print : Print) → LacksOptions texts strict frames fault → IsOptionsReport fault exit print →
     RefusesAtOnce texts strict frames (refusal exit print)
 refused texts strict frames (lacks.NotASetting text) exit print bad r = inl (record {
@@ -54,7 +55,7 @@ at_once (inl p) = inl p
 at_once (inr q) = inr (inl q)
 
 -- the file is opened
-pub packs : (file : Option (List ℕ)) (path : List ℕ) (texts : List (List ℕ)) (strict : Bool) (frames : Option ℕ)
+pub packs : (file : Option (List ℕ)) (path : List ℕ) (texts : List (List ℕ)) (strict : Strictness) (frames : Option ℕ)
     (o : Options) → options_of texts strict frames ≡ Some o → (p : Progress) (text : List ℕ) (left : Option (List ℕ))
     (outcome : Result (Unit {0}) PackFault) (given : List Request) (warned printed reported : Print) (exit : Exit) →
     Of file (λ b. IsOpenedAt b o p text left) → IsSoundPlan p.stage →
@@ -84,6 +85,7 @@ packs file path texts strict frames o asked p text left outcome given warned pri
                 gives = subst (λ (rs : List Request). GivesRequests rs given outcome) x.requests
                     (gives b (record { sound = sound; at = x.stands; there = x.there }));
                 says = x.says;
+                whole = x.whole;
               };
           warns = warns;
           prints = prints;
@@ -95,7 +97,7 @@ packs file path texts strict frames o asked p text left outcome given warned pri
     ))
 
 -- it isn't
-pub opens_nothing : (file : Option (List ℕ)) (path : List ℕ) (texts : List (List ℕ)) (strict : Bool) (frames : Option ℕ)
+pub opens_nothing : (file : Option (List ℕ)) (path : List ℕ) (texts : List (List ℕ)) (strict : Strictness) (frames : Option ℕ)
     (o : Options) → options_of texts strict frames ≡ Some o → (fault : OpenFault) (reported : Print) (exit : Exit) →
     Of file (λ b. RefusesAs b o fault) → IsOpenReport (codes "pack") path fault exit reported →
     IsPack file path texts strict frames (unopened fault exit reported)

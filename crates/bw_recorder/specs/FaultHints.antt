@@ -42,21 +42,21 @@ abbrev pub byte_line : List ℕ → ℕ → ℕ → List ℕ
 byte_line key offset byte =
     codes "hint: "
     ++ (key ++ (codes " has byte " ++ (decimal byte ++ (codes " at " ++ (decimal offset
-    ++ codes ": without --strict it is cleaned\n")))))
+    ++ codes ": without --strict-texts it is cleaned\n")))))
 
 -- a date or a time
 abbrev pub other_form_line : List ℕ → List ℕ
 other_form_line key =
-    codes "hint: " ++ key ++ codes " has another form: without --strict it is cleaned or left out\n"
+    codes "hint: " ++ key ++ codes " has another form: without --strict-texts it is cleaned or left out\n"
 
--- what would be cleaned, which `--strict` forbids
+-- what would be cleaned, which `--strict-texts` forbids
 abbrev pub unclean_line : UncleanPart → List ℕ
 unclean_line (Byte tag offset byte) = byte_line (key_of tag) offset byte
 unclean_line (Form tag) = other_form_line (key_of tag)
 unclean_line (HistoryByte offset byte) = byte_line (codes "history") offset byte
-unclean_line LongHistory = codes "hint: history has more than 4096 bytes: without --strict it is cut\n"
+unclean_line LongHistory = codes "hint: history has more than 4096 bytes: without --strict-texts it is cut\n"
 unclean_line Cues =
-    codes "hint: not all cue points are kept: without --strict the others are left out\n"
+    codes "hint: not all cue points are kept: without --strict-texts the others are left out\n"
 
 -- by the kind of the fault, and its place; nothing where it isn't known
 abbrev pub kind_hint : RecordingKind → ℕ → List ℕ

@@ -1,5 +1,6 @@
 pub mod FileReports
 pub mod RequestLines
+pub mod QuotedTexts
 pub mod WarningTexts
 pub mod FaultHints
 pub mod Openings

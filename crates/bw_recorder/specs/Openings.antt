@@ -1,6 +1,6 @@
 -- What opening a recording's file results in.
 use Rattle.std.specs.Prelude.{◌≡◌, ℕ, ◌+◌, ◌≤◌, if◌then◌else◌, Bool, true, false, List, ◌++◌, Option, Some}
-use Rattle.std.specs.Prelude.{Result, Ok, Err, codes, drop, length}
+use Rattle.std.specs.Prelude.{Result, Ok, Err, [], ◌≢◌, IsTrue, codes, drop, length}
 use Rattle.bw_inspect.specs.Faults.{is_of_bytes}
 use Rattle.bw_inspect.specs.declared.fault.InspectFault.{InspectFault}
 use Rattle.bw_inspect.specs.declared.report.Report.{Report}
@@ -12,6 +12,7 @@ use Rattle.bw_console.specs.declared.exit.Exit.TheVariants as exits
 use Rattle.bw_plan.specs.Recordings.{Options, Outline, Recording, FaultAt}
 use Rattle.bw_plan.specs.Recordings.{recording_of, block_frames, outline_of}
 use Rattle.bw_plan.specs.Notes.{notes_by}
+use Rattle.bw_plan.specs.Strictness.{refuses_losses}
 use Rattle.bw_plan.specs.Plans.{plan}
 use Rattle.bw_plan.specs.Progress.{Progress, remaining}
 use Rattle.bw_plan.specs.Faults.{recording_fault_text, recording_fault_meaning}
@@ -23,7 +24,7 @@ use Rattle.bw_recorder.specs.FileReports.{HasReport, HasExtras, warnings_in}
 use Rattle.bw_recorder.specs.declared.opening.Extras.{Extras}
 use Rattle.bw_recorder.specs.WarningTexts.{warning_lines}
 use Rattle.bw_recorder.specs.declared.fault.OpenFault.{OpenFault}
-use Rattle.bw_recorder.specs.declared.fault.OpenFault.TheVariants.{Unopened, Refused, Changed}
+use Rattle.bw_recorder.specs.declared.fault.OpenFault.TheVariants.{Unopened, Refused, Lossy, Changed}
 
 -- the line of a recording's fault, which begins with the command's name, and the hint below it
 abbrev pub recording_line : List ℕ → RecordingFault → List ℕ
@@ -47,10 +48,24 @@ exit_on_kind _ = exits.Refused
 abbrev pub IsFaultOf : List ℕ → Options → RecordingFault → Type 0
 IsFaultOf b o f = (g : FaultAt) → recording_fault_meaning f ≡ Some g → recording_of b o ≡ Err g
 
+-- what follows the list of what a recording loses, where it may lose nothing
+abbrev pub lossy_line : List ℕ
+lossy_line = codes
+    "Lossy: no message carries what is listed above\nhint: without --strict the rest is taken; --strict-texts refuses only cleaned texts and lost cue points\n"
+
+-- the bytes have a recording that loses something of them and may not, and this lists all of that
+pub record IsLossy (b : List ℕ) (o : Options) (text : List ℕ) : Type 0 where
+  pub recording : Recording
+  pub is : recording_of b o ≡ Ok recording
+  pub asked : IsTrue (refuses_losses o.strict)
+  pub some : warnings_in b recording.outline ≢ []
+  pub says : text ≡ warning_lines (warnings_in b recording.outline) ++ lossy_line
+
 -- why a file of these bytes isn't opened: they don't change
 abbrev pub RefusesAs : List ℕ → Options → OpenFault → Type 0
 RefusesAs b o (Unopened error) = Unit {0}
 RefusesAs b o (Refused f) = IsFaultOf b o f
+RefusesAs b o (Lossy text) = IsLossy b o text.items
 RefusesAs b o Changed = ⊥
 
 -- what a fault means in a file that was read already
@@ -69,6 +84,7 @@ pub record IsOutlined (b : List ℕ) (o : Options) (r : Report) (x : Extras)
 abbrev pub is_well_at : OpenFault → Bool
 is_well_at (Unopened error) = false
 is_well_at (Refused f) = true
+is_well_at (Lossy text) = true
 is_well_at Changed = true
 
 abbrev pub is_system_well : {X : Type 0} → Result X OpenFault → Bool
@@ -86,3 +102,4 @@ pub record IsOpenedAt (b : List ℕ) (o : Options) (p : Progress) (text : List �
     pub stands : left ≡ Some (drop p.samples.place b)
     pub there : p.samples.place + p.samples.left ≤ length b
     pub says : text ≡ warning_lines (warnings_in b recording.outline)
+    pub whole : IsTrue (refuses_losses o.strict) → text ≡ []

@@ -1,6 +1,6 @@
 -- What the command `pack` prints and reports, and how it ends.
 use Rattle.std.specs.Prelude.{◌≡◌, ◌⊎◌, ℕ, Bool, true, false, List, [], Option, Some, None}
-use Rattle.std.specs.Prelude.{Result, Ok, Err, codes}
+use Rattle.std.specs.Prelude.{Result, Ok, Err, IsTrue, codes}
 use Rattle.bw_stream.specs.Readers.{Of}
 use Rattle.bw_stream.specs.declared.sink.Sink.{Ghosts as Writer}
 use Rattle.bw_model.specs.Take.{Request}
@@ -15,7 +15,9 @@ use Rattle.bw_console.specs.declared.fault.Fault.TheVariants as faults
 use Rattle.std.specs.IoError.{error_kind}
 use Rattle.bw_plan.specs.Recordings.{Options, Recording, recording_of, block_frames}
 use Rattle.bw_plan.specs.Plans.{plan}
+use Rattle.bw_plan.specs.Strictness.{refuses_losses}
 use Rattle.bw_plan.specs.declared.fault.RecordingKind.TheVariants as kinds
+use Rattle.bw_plan.specs.declared.options.Strictness.{Strictness}
 use Rattle.bw_recorder.specs.FileReports.{warnings_in}
 use Rattle.bw_recorder.specs.Openings.{RefusesAs, is_well_at, recording_line, changed_line, exit_on_kind}
 use Rattle.bw_recorder.specs.Puts.{GivesRequests}
@@ -23,7 +25,7 @@ use Rattle.bw_recorder.specs.RequestLines.{request_lines}
 use Rattle.bw_recorder.specs.SettingLists.{bad_setting_line, options_of}
 use Rattle.bw_recorder.specs.WarningTexts.{warning_lines}
 use Rattle.bw_recorder.specs.declared.fault.OpenFault.{OpenFault}
-use Rattle.bw_recorder.specs.declared.fault.OpenFault.TheVariants.{Unopened, Refused, Changed}
+use Rattle.bw_recorder.specs.declared.fault.OpenFault.TheVariants.{Unopened, Refused, Lossy, Changed}
 use Rattle.bw_recorder.specs.declared.fault.OptionsFault.{OptionsFault}
 use Rattle.bw_recorder.specs.declared.fault.OptionsFault.TheVariants as lacks
 use Rattle.bw_recorder.specs.declared.packing.PackFault.{PackFault}
@@ -43,6 +45,7 @@ IsOpenReport command path (Unopened error) exit print =
     × (IsUnopened path (error_kind error) did ⊎ IsOutOfMemory did)
 IsOpenReport command path (Refused f) exit print =
     (exit ≡ exit_on_kind f.kind) × IsOf (recording_line command f) print
+IsOpenReport command path (Lossy text) exit print = (exit ≡ exits.Refused) × IsOf text.items print
 IsOpenReport command path Changed exit print =
     (exit ≡ exits.Refused) × IsOf (changed_line command) print
 
@@ -122,7 +125,7 @@ ReportsPack (Ok x) print = print ≡ Nothing
 ReportsPack (Err fault) print = IsOf (pack_line fault) print
 
 -- what is set can't be read: nothing else is done
-pub record RefusesSettings (texts : List (List ℕ)) (strict : Bool) (frames : Option ℕ) (did : Packing)
+pub record RefusesSettings (texts : List (List ℕ)) (strict : Strictness) (frames : Option ℕ) (did : Packing)
     : Type 0 where
   pub bad : options_of texts strict frames ≡ None
   pub exit_is : did.exit ≡ exits.Usage
@@ -140,7 +143,7 @@ pub record RunsOutOfMemory (did : Packing) : Type 0 where
   pub reports : IsOf (as_line (input_fault_text faults.Memory)) did.faults
 
 -- what is set can't be used, or memory was refused
-abbrev pub RefusesAtOnce : List (List ℕ) → Bool → Option ℕ → Packing → Type 0
+abbrev pub RefusesAtOnce : List (List ℕ) → Strictness → Option ℕ → Packing → Type 0
 RefusesAtOnce texts strict frames did = RefusesSettings texts strict frames did ⊎ RunsOutOfMemory did
 
 -- the file isn't opened by the command of this name
@@ -159,6 +162,7 @@ pub record PacksRecording (b : List ℕ) (o : Options) (given : List Request)
   pub recording : Recording
   pub is : recording_of b o ≡ Ok recording
   pub says : text ≡ warning_lines (warnings_in b recording.outline)
+  pub whole : IsTrue (refuses_losses o.strict) → text ≡ []
   pub gives : GivesRequests (plan (block_frames o recording.outline.format) recording) given outcome
 
 -- the file is opened
@@ -174,7 +178,7 @@ pub record PacksFile (file : Option (List ℕ)) (o : Options) (did : Packing) : 
   pub reports : ReportsPack outcome did.faults
 
 -- the command did this with the file at a path
-abbrev pub IsPack : Option (List ℕ) → List ℕ → List (List ℕ) → Bool → Option ℕ → Packing →
+abbrev pub IsPack : Option (List ℕ) → List ℕ → List (List ℕ) → Strictness → Option ℕ → Packing →
     Type 0
 IsPack file path texts strict frames did =
     RefusesSettings texts strict frames did ⊎ RunsOutOfMemory did

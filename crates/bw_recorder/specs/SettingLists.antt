@@ -1,10 +1,11 @@
 -- What is set, from the texts of a command line.
-use Rattle.std.specs.Prelude.{◌≡◌, ◌==◌, ℕ, Bool, not, Option, Some, None, List, [], ◌∷◌, ◌++◌, map, take}
+use Rattle.std.specs.Prelude.{◌≡◌, ◌==◌, ℕ, not, Option, Some, None, List, [], ◌∷◌, ◌++◌, map, take}
 use Rattle.std.specs.Prelude.{codes}
 use Rattle.std.specs.List.{prefix_len}
 use Rattle.bw_plan.specs.CleanedContents.{printable_byte}
 use Rattle.bw_plan.specs.Recordings.{Setting, Options}
 use Rattle.bw_plan.specs.SettingTexts.{setting_of}
+use Rattle.bw_plan.specs.declared.options.Strictness.{Strictness}
 use Rattle.bw_recorder.specs.declared.fault.OptionsFault.{OptionsFault}
 use Rattle.bw_recorder.specs.declared.fault.OptionsFault.TheVariants.{NotASetting, Memory}
 
@@ -17,7 +18,7 @@ settings_after kept (text ∷ texts) = elim (setting_of text) [
 ]
 
 -- what is asked for beside a file, if the texts spell settings
-abbrev pub options_of : List (List ℕ) → Bool → Option ℕ → Option Options
+abbrev pub options_of : List (List ℕ) → Strictness → Option ℕ → Option Options
 options_of texts strict frames = elim (settings_after [] texts) [
   | None ↦ None
   | Some settings ↦ Some (record { settings = settings; strict = strict; frames = frames })
@@ -49,7 +50,7 @@ SaysBadSetting texts (NotASetting text) = text.items ≡ bad_setting_line texts
 SaysBadSetting texts Memory = Unit {0}
 
 -- why there is nothing: a text spells no setting, which is reported so, or memory was refused
-abbrev pub LacksOptions : List (List ℕ) → Bool → Option ℕ → OptionsFault → Type 0
+abbrev pub LacksOptions : List (List ℕ) → Strictness → Option ℕ → OptionsFault → Type 0
 LacksOptions texts strict frames (NotASetting text) =
     (options_of texts strict frames ≡ None) × (text.items ≡ bad_setting_line texts)
 LacksOptions texts strict frames Memory = Unit {0}

@@ -28,6 +28,9 @@ pub enum OpenFault {
     Unopened(io::Error),
     /// It has this fault, or it isn't read to its end.
     Refused(RecordingFault),
+    /// Its recording would lose something of it, and may not: a line for each such thing, and a line
+    /// that says so, with a hint below it.
+    Lossy(Vec<u8>),
     /// It has changed since it was first read.
     Changed,
 }

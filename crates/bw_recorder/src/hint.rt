@@ -13,9 +13,11 @@ const NOT_PCM: &str =
 
 const SHORT: &str = "hint: --skip passes over more bytes than the file has\n";
 
-const LONG_HISTORY: &str = "hint: history has more than 4096 bytes: without --strict it is cut\n";
+const LONG_HISTORY: &str =
+    "hint: history has more than 4096 bytes: without --strict-texts it is cut\n";
 
-const CUES: &str = "hint: not all cue points are kept: without --strict the others are left out\n";
+const CUES: &str =
+    "hint: not all cue points are kept: without --strict-texts the others are left out\n";
 
 /// Appends the line that says what to do about a fault, where that is known.
 pub(crate) fn push_hint(line: &mut ArrayString<256>, fault: &RecordingFault)
@@ -71,7 +73,7 @@ fn push_byte(line: &mut ArrayString<256>, key: &str, offset: usize, byte: u8)
     line.push_str(digits.format(u64::from(byte)));
     line.push_str(" at ");
     line.push_str(digits.format(offset as u64));
-    line.push_str(": without --strict it is cleaned\n");
+    line.push_str(": without --strict-texts it is cleaned\n");
 }
 
 /// Appends the line about a date or a time.
@@ -82,5 +84,5 @@ fn push_form(line: &mut ArrayString<256>, key: &str)
 {
     line.push_str("hint: ");
     line.push_str(key);
-    line.push_str(" has another form: without --strict it is cleaned or left out\n");
+    line.push_str(" has another form: without --strict-texts it is cleaned or left out\n");
 }

@@ -1,4 +1,5 @@
 //! What a command line asks for beside a recording.
+use bw_plan::Strictness;
 
 /// A recording's file, and what is asked for beside it.
 #[derive(Clone, Copy)]
@@ -7,8 +8,8 @@ pub struct RecordingFile<'a> {
     pub path: &'a str,
     /// What is set in place of what the file has, each as `KEY=VALUE`.
     pub settings: &'a [String],
-    /// Whether what would be cleaned is refused: texts, and cue points that can't be markers.
-    pub is_strict: bool,
+    /// What of the file the recording may not lose.
+    pub strict: Strictness,
     /// How many frames a block has, where that is given.
     pub frames: Option<u32>,
 }

@@ -8,6 +8,7 @@ mod hint;
 mod job;
 mod opening;
 mod packing;
+mod quoted;
 mod request_line;
 mod settings;
 mod warning_text;

@@ -1,15 +1,17 @@
 //! A recording's file is read, up to where its samples begin.
-ghost use Rattle.std.specs.Prelude.{◌≡◌, codes, IfOk, IfErr};
+ghost use Rattle.std.specs.Prelude.{◌≡◌, ◌++◌, ℕ, List, [], true, codes, IfOk, IfErr, IsTrue};
 ghost use Rattle.bw_console.specs.Prints.{failures_if};
 ghost use Rattle.bw_plan.specs.Progress.{IsSoundPlan};
 ghost use Rattle.bw_model.specs.Reading.{entry_of};
 ghost use Rattle.bw_plan.specs.Notes.{notes_by};
 ghost use Rattle.bw_plan.specs.Recordings.{Options as OptionsOf, extension_at, history_at};
+ghost use Rattle.bw_plan.specs.Strictness.{refuses_losses as are_losses_refused};
 ghost use Rattle.bw_plan.specs.Warnings.{warnings_of};
 ghost use Rattle.bw_recorder.specs.WarningTexts.{warning_lines};
 ghost use Rattle.bw_stream.specs.Readers.{Of};
 ghost use Rattle.bw_recorder.specs.FileReports.{HasExtras, HasReport};
 ghost use Rattle.bw_recorder.specs.Openings.{IsOpenedAt, IsOutlined, RefusesAs, is_system_well};
+ghost use Rattle.bw_recorder.specs.Openings.{is_well_at, lossy_line};
 
 use crate::fault::{NO_MEMORY, OpenFault, read_again, unread_as};
 use crate::warning_text::warning_text;
@@ -27,9 +29,13 @@ pub struct Opened<R> {
     pub plan: Plan,
     /// Is at the place of the next block.
     pub reader: R,
-    /// A line for each thing that the recording loses of its file.
+    /// A line for each thing that the recording loses of its file: none where it may lose nothing.
     pub warnings: Vec<u8>,
 }
+
+/// What follows the list of what a recording loses, where it may lose nothing.
+const LOSSY: &str =
+    "Lossy: no message carries what is listed above\nhint: without --strict the rest is taken; --strict-texts refuses only cleaned texts and lost cue points\n";
 
 /// What a report doesn't keep of a file.
 #[derive(Drop)]
@@ -204,8 +210,9 @@ fn begin<F: RecordingFiles>(
     ensures stamps { F.stamp_at files.new ≡ F.stamp_at files.old }
     ensures count { F.failures files.new ≡ failures_if (is_system_well result) (F.failures files.old) }
 {
-    let Ok(text) = lines_of_losses(alloc, report, extras, &outline) else {
-        return Err(OpenFault::Refused(NO_MEMORY));
+    let text = match allowed_losses(alloc, options, report, extras, &outline) {
+        Ok(text) => text,
+        Err(fault) => return Err(fault),
     };
     let frames = block_frames(options, outline.format());
     let mut reader = match files.open(path) {
@@ -220,6 +227,48 @@ fn begin<F: RecordingFiles>(
         }),
         Err(fault) => Err(read_again(fault)),
     }
+}
+
+/// A line for each thing that a recording with this outline loses of its file.
+///
+/// # Errors
+/// Lossy where it may lose nothing; Refused where memory was refused.
+fn allowed_losses(
+    alloc: Global,
+    options: &Options,
+    report: &Report,
+    extras: &Extras,
+    outline: &Outline,
+) -> Result<Vec<u8>, OpenFault>
+    ensures ok { IfOk result (λ v. v.items ≡ warning_lines (warnings_of
+        (notes_by report.now extras.now.extension.items extras.now.history.items) outline.now)) }
+    ensures whole { IfOk result (λ v. IsTrue (are_losses_refused options.now.strict) → v.items ≡ []) }
+    ensures err { IfErr result (λ e. (b : List ℕ) →
+        IsOutlined b options.now report.now extras.now outline.now → RefusesAs b options.now e) }
+    ensures well { IfErr result (λ e. is_well_at e ≡ true) }
+{
+    let Ok(lines) = lines_of_losses(alloc, report, extras, outline) else {
+        return Err(OpenFault::Refused(NO_MEMORY));
+    };
+    if !options.refuses_losses() || lines.is_empty() {
+        return Ok(lines);
+    }
+    match lossy_text(lines) {
+        Ok(text) => Err(OpenFault::Lossy(text)),
+        Err(_) => Err(OpenFault::Refused(NO_MEMORY)),
+    }
+}
+
+/// What is reported of these losses, where there may be none.
+///
+/// # Errors
+/// `AllocError` where memory was refused.
+fn lossy_text(lines: Vec<u8>) -> Result<Vec<u8>, AllocError>
+    ensures { IfOk result (λ v. v.items ≡ lines.items ++ lossy_line) }
+{
+    let mut text = lines;
+    text.extend_from_slice(LOSSY.as_bytes())?;
+    Ok(text)
 }
 
 /// A line for each thing that a recording loses of its file.

@@ -66,7 +66,7 @@ pub fn pack<F: RecordingFiles, W: Sink, E: Sink>(
     // A failed read or write leaves a prefix of the lines of the plan's requests.
     ensures { (did : Packing) × (did.exit ≡ result)
         × IsPack (F.file_at files.old file.now.path.now) file.now.path.now
-        (map string_bytes file.now.settings.now) file.now.is_strict file.now.frames did
+        (map string_bytes file.now.settings.now) file.now.strict file.now.frames did
         × (F.failures files.new ≡ failures_if did.is_system_well (F.failures files.old))
         × HasPacked W.Sink E.Sink did out.old out.new faults.old faults.new }
 {
@@ -131,6 +131,10 @@ pub fn report_open_fault<E: Sink>(
         OpenFault::Refused(fault) => {
             print_diagnostic(faults, line_of(command, fault).as_str().as_bytes());
             exit_on(fault.kind)
+        }
+        OpenFault::Lossy(text) => {
+            print_diagnostic(faults, text.as_slice());
+            Exit::Refused
         }
         OpenFault::Changed => {
             print_diagnostic(faults, changed(command).as_str().as_bytes());

@@ -26,10 +26,10 @@ const KEYS: &str =
 /// When memory is refused.
 pub fn read_options(alloc: Global, file: &RecordingFile<'_>) -> Result<Options, OptionsFault>
     ensures ok { IfOk result (λ o. options_by (map string_bytes file.now.settings.now)
-        file.now.is_strict file.now.frames ≡ Some o) }
+        file.now.strict file.now.frames ≡ Some o) }
     ensures allowed { IfOk result (λ o. IsTrue (are_settings o.settings)) }
     ensures err { IfErr result (λ f. LacksOptions (map string_bytes file.now.settings.now)
-        file.now.is_strict file.now.frames f) }
+        file.now.strict file.now.frames f) }
 {
     match options_of(alloc, file) {
         Ok(Some(options)) => Ok(options),
@@ -110,11 +110,11 @@ fn printable(c: u8) -> u8
 /// `AllocError` where memory was refused.
 pub fn options_of(alloc: Global, file: &RecordingFile<'_>) -> Result<Option<Options>, AllocError>
     ensures value { IfOk result (λ o. o
-        ≡ options_by (map string_bytes file.now.settings.now) file.now.is_strict file.now.frames) }
+        ≡ options_by (map string_bytes file.now.settings.now) file.now.strict file.now.frames) }
     ensures allowed { IfOk result (λ o. IfSome o (λ x. IsTrue (are_settings x.settings))) }
 {
     match settings_of(alloc, file.settings)? {
-        Some(settings) => Ok(Some(Options::new(settings, file.is_strict, file.frames))),
+        Some(settings) => Ok(Some(Options::new(settings, file.strict, file.frames))),
         None => Ok(None),
     }
 }

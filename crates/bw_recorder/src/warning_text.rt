@@ -4,8 +4,9 @@ ghost use Rattle.bw_console.specs.Text.{as_line};
 ghost use Rattle.bw_model.specs.Report.{id_byte};
 ghost use Rattle.bw_plan.specs.ReportedWarnings.{warning_meanings, warning_meaning};
 ghost use Rattle.bw_plan.specs.Warnings.{CuesLeftOut, ChunkLeftOut};
-ghost use Rattle.bw_recorder.specs.WarningTexts.{key_of, warning_line, warning_lines};
+ghost use Rattle.bw_recorder.specs.WarningTexts.{cleaning_text, key_of, warning_line, warning_lines};
 
+use crate::quoted::put_quoted;
 use bw_inspect::ListedChunk;
 use bw_layout::ChunkId;
 use bw_plan::Warning;
@@ -21,7 +22,7 @@ pub(crate) fn warning_text(alloc: Global, warnings: &[Warning]) -> Result<Vec<u8
 {
     let mut text = Vec::new(alloc);
     for (_i, warning) in warnings.iter().enumerate() {
-        put_warning(&mut text, *warning)?;
+        put_warning(alloc, &mut text, warning)?;
     }
     Ok(text)
 }
@@ -30,18 +31,45 @@ pub(crate) fn warning_text(alloc: Global, warnings: &[Warning]) -> Result<Vec<u8
 ///
 /// # Errors
 /// `AllocError` where memory was refused.
-fn put_warning(text: &mut Vec<u8>, warning: Warning) -> Result<(), AllocError>
+fn put_warning(alloc: Global, text: &mut Vec<u8>, warning: &Warning) -> Result<(), AllocError>
     ensures { OnOk result (text.new.items
-        ≡ text.old.items ++ warning_line (warning_meaning warning)) }
+        ≡ text.old.items ++ warning_line (warning_meaning warning.now)) }
 {
     match warning {
-        Warning::FieldCleaned { tag } => put_words(text, b"cleaned: ", key(tag).as_bytes()),
-        Warning::FieldLeftOut { tag } => put_words(text, b"left out: ", key(tag).as_bytes()),
-        Warning::HistoryCleaned => put_words(text, b"cleaned: history", b""),
-        Warning::CuesLeftOut { count } => put_count(text, count as u64),
+        Warning::FieldCleaned { tag, before, after } => {
+            put_cleaned(alloc, text, key(*tag), before.as_slice(), after.as_slice())
+        }
+        Warning::FieldLeftOut { tag } => put_words(text, b"left out: ", key(*tag).as_bytes()),
+        Warning::HistoryCleaned { before, after } => {
+            put_cleaned(alloc, text, "history", before.as_slice(), after.as_slice())
+        }
+        Warning::CuesLeftOut { count } => put_count(text, *count as u64),
         Warning::MaskLeftOut => put_words(text, b"left out: channel mask", b""),
-        Warning::ChunkLeftOut { chunk } => put_chunk(text, chunk),
+        Warning::ChunkLeftOut { chunk } => put_chunk(text, *chunk),
     }
+}
+
+/// Appends the line of a text, under this key, that became another one.
+///
+/// # Errors
+/// `AllocError` where memory was refused.
+fn put_cleaned(
+    alloc: Global,
+    text: &mut Vec<u8>,
+    key: &str,
+    before: &[u8],
+    after: &[u8],
+) -> Result<(), AllocError>
+    ensures { OnOk result (text.new.items
+        ≡ text.old.items ++ as_line (cleaning_text key.now before.now after.now)) }
+{
+    text.extend_from_slice(b"cleaned: ")?;
+    text.extend_from_slice(key.as_bytes())?;
+    text.extend_from_slice(b" ")?;
+    put_quoted(alloc, text, before)?;
+    text.extend_from_slice(b" -> ")?;
+    put_quoted(alloc, text, after)?;
+    text.extend_from_slice(b"\n")
 }
 
 fn put_words(text: &mut Vec<u8>, first: &[u8], second: &[u8]) -> Result<(), AllocError>

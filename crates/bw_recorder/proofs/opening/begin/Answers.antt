@@ -10,7 +10,8 @@ returns-in-Ok-begin-clause-ok g c = λ b e h.
     c.block_frames-frames.result h
     (c.block_frames-frames.ensures.value ∙ ap (block_frames c.args.options.now) c.format.ensures)
     c.in-Ok-begin.ensures.plan c.in-Ok-begin.ensures.place
-    (c.in-Ok-begin.ensures.stands b (c.in-Ok-open.ensures.ok b e)) c.in-Ok-begin.ensures.end c.in-Ok.ensures
+    (c.in-Ok-begin.ensures.stands b (c.in-Ok-open.ensures.ok b e)) c.in-Ok-begin.ensures.end c.in-Ok.ensures.ok
+    c.in-Ok.ensures.whole
 
 pub returns-in-Err-begin-clause-err : goal.returns-in-Err-begin-clause-err
 returns-in-Err-begin-clause-err g c = λ b e h.
