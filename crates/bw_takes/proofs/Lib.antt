@@ -8,3 +8,5 @@ pub mod RoundLemmas
 pub mod WatchLemmas
 pub mod EndLemmas
 pub mod ReadCountLemmas
+pub mod VerifyingLemmas
+pub mod ReceiptLemmas

@@ -13,3 +13,7 @@ pub mod GiveUpShowings
 pub mod FolderProgress
 pub mod Screens
 pub mod Watches
+pub mod Verifications
+pub mod VerifiedTakes
+pub mod ReceiptChecks
+pub mod ReceiptReads

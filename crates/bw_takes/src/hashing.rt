@@ -6,6 +6,7 @@ ghost use Rattle.bw_disk.specs.ReadFaults.{is_disk_fault};
 ghost use Rattle.bw_recovery.specs.Paths.{wave_path};
 ghost use Rattle.bw_takes.specs.TakeDigests.{closed_judged, closed_story, digest_said};
 ghost use Rattle.bw_takes.specs.TakeReports.{digest_in, finding_summary, judged_finding, summary_in};
+ghost use Rattle.bw_takes.specs.TakeReports.{take_judged_in};
 
 use crate::comparing::examine_take;
 use crate::finding::TakeFinding;
@@ -52,6 +53,8 @@ pub(crate) fn examine_in_form<D: Volume>(
     ensures disk { StaysWhole D.Disk disk.old disk.new }
     ensures found { IsTrue (D.honest disk.old) → IfOk result (λ take. finding_summary take.finding
         ≡ summary_in form.depth folder.now (D.contents disk.old) name.now) }
+    ensures judged { IsTrue (D.honest disk.old) → IfOk result (λ take. judged_finding take.finding
+        ≡ take_judged_in form.depth folder.now (D.contents disk.old) name.now) }
     ensures digest { IsTrue (D.honest disk.old) → IfOk result (λ take. take.digest
         ≡ digest_in form folder.now (D.contents disk.old) name.now) }
 {

@@ -153,6 +153,25 @@ impl Named<'_> {
     }
 }
 
+/// Appends the line of the take of this name that is one word.
+///
+/// # Errors
+/// `AllocError` if memory was refused.
+pub(crate) fn put_word_line(
+    alloc: Global,
+    name: &Name,
+    word: &str,
+    lines: &mut Vec<u8>,
+) -> Result<(), AllocError>
+    ensures { OnOk result (lines.new.items ≡ lines.old.items ++ word_line name.now word.now) }
+{
+    let Ok(name) = std::str::from_utf8(name.as_bytes()) else {
+        return Err(AllocError);
+    };
+    let named = Named { alloc, name };
+    named.put_word(word, lines)
+}
+
 /// Appends a line's thousandths of a second.
 #[tactic(auto, unfolding(crate::specs::TakeLines::timed_part))]
 fn put_part(alloc: Global, part: u64, lines: &mut Vec<u8>) -> Result<(), AllocError>

@@ -131,7 +131,7 @@ fn put_found(
 }
 
 /// Adds the line on the file of a take that can't be read.
-fn put_unread<D: Volume>(
+pub(crate) fn put_unread<D: Volume>(
     alloc: Global,
     disk: &mut D,
     folder: &str,

@@ -48,7 +48,11 @@ pub fn show_takes<D: Volume, W: Sink, E: Sink>(
 }
 
 /// Prints what is reported of takes.
-fn print_report<W: Sink, E: Sink>(report: &TakesReport, out: &mut W, faults: &mut E) -> Exit
+pub(crate) fn print_report<W: Sink, E: Sink>(
+    report: &TakesReport,
+    out: &mut W,
+    faults: &mut E,
+) -> Exit
     ensures { (did : Outcome) × (did.exit ≡ result) × (did.reads_all ≡ true)
         × PrintsTold (told_by report.now) did
         × HasWritten W.Sink E.Sink did out.old out.new faults.old faults.new }
