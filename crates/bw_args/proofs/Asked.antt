@@ -15,6 +15,7 @@ use Rattle.bw_args.specs.Given.{GivesNoFuse, GivesRecorders, IsAddressGiven, IsE
 use Rattle.bw_args.specs.Given.{IsJournaling, IsJournalingGiven, IsRecorders, IsRecordersGiven, given_on_line, is_set}
 use Rattle.bw_args.specs.Given.{GivesStatus, GivesWork, IsWork, IsWorkGiven, is_watch_mixed}
 use Rattle.bw_args.specs.Sources.{GivesSource, PlainSource, is_mixed, path_given, settings_on_line}
+use Rattle.bw_args.specs.ReceiptOptions.{is_receipt_mixed, receipt_given}
 use Rattle.bw_args.specs.InspectedFiles.{GivesInspection, PlainInspection, is_possible, one_file}
 use Rattle.bw_args.specs.Lines.{GivesRest, IsRestGiven}
 use Rattle.bw_args.specs.declared.bad_value.BadValue.TheVariants.{Rest}
@@ -22,7 +23,7 @@ use Rattle.bw_args.specs.Lines.{AsksForPath, AsksNothing, GivesSender, GivesServ
 use Rattle.bw_args.specs.Lines.{IsEndWithin, HasPort, IsFirstBad, IsGood, IsLineFor, IsWayWithin, IsWishOf, IsWithin, Service}
 use Rattle.bw_args.specs.Lines.{FileUpload, Wish, looked_at, looked_at_trying, looked_at_waiting}
 use Rattle.bw_args.specs.Lines.{Replaying, Rehearsing, Inspecting, Packing, Sending, SendingPcm, Serving}
-use Rattle.bw_args.specs.Lines.{Uploading, PcmUpload, looked_at_samples, InspectingFiles, Repairing, Listing, Picturing}
+use Rattle.bw_args.specs.Lines.{Uploading, PcmUpload, looked_at_samples, InspectingFiles, Repairing, Listing, Verifying, Picturing}
 use Rattle.bw_args.specs.PcmSources.{GivesFormat, GivesSamples, PlainPcm, fruitless_of, is_live, is_unpaired}
 use Rattle.bw_args.specs.PcmSources.{samples_with}
 use Rattle.bw_args.specs.declared.commands.samples.WrittenFormat.{WrittenFormat}
@@ -34,12 +35,15 @@ use Rattle.bw_args.specs.declared.CommandLine.TheVariants.{Run, BadValue as Bad,
 use Rattle.bw_args.specs.declared.Task.TheVariants.{Replay, Rehearse, Serve, Send, SendFile, SendPcm}
 use Rattle.bw_args.proofs.WishLemmas.{one_count, other_name, same_way}
 use Rattle.bw_args.specs.declared.folders.FolderWork.{FolderWork}
+use Rattle.bw_args.specs.declared.folders.FolderWork.TheVariants.{Report as Reported}
+use Rattle.bw_args.specs.Forms.{RunsFor}
+use Rattle.bw_args.specs.VerifyOptions.{IsVerifyGiven, is_verify_given_mixed, is_verify_mixed}
 use Rattle.bw_args.specs.declared.peers.End.{End}
 use Rattle.bw_args.specs.declared.peers.Journaling.{Journaling}
 use Rattle.bw_args.specs.declared.peers.Recorders.{Recorders as Way}
 use Rattle.bw_args.specs.declared.peers.Send.{Send as Sender}
 use Rattle.bw_args.specs.declared.bad_value.BadValue.{BadValue}
-use Rattle.bw_args.specs.declared.bad_value.BadValue.TheVariants.{Name, Limit, Fuse, UntilStopped, Sync, Status, Wait, GiveUp}
+use Rattle.bw_args.specs.declared.bad_value.BadValue.TheVariants.{Name, Limit, Fuse, UntilStopped, Sync, Status, Wait, GiveUp, Watch}
 use Rattle.bw_args.specs.declared.bad_value.BadValue.TheVariants.{Inspection}
 
 -- the value that is looked at first is good, and one after it is bad
@@ -72,9 +76,17 @@ abbrev pub AllGood : List BadValue → (Text → Option Text) → Type 0
 AllGood [] given = ⊤
 AllGood (value ∷ values) given = IsGood value given × AllGood values given
 
--- without a recording's file nothing is said of fruitless links, nor of a rate
+-- if neither a receipt nor its form is given, they go together
+no_receipt : (given : Text → Option Text) (receipt : Option Text) (json others : Bool)
+    → (is_some receipt || (json || others)) ≡ false
+    → (if is_some receipt then is_some (given (codes "pcm")) || is_some (given (codes "spool")) else json) ≡ false
+no_receipt given (Some text) json others none = let bad : true ≡ false = none in cc
+no_receipt given None true others none = none
+no_receipt given None false others none = refl
+
+-- without a recording's file nothing is said of fruitless links, nor of a rate, nor of a receipt
 no_pace : (given : Text → Option Text) → path_given given ≡ None → is_mixed given ≡ false
-    → (given (codes "fruitless") ≡ None) × (given (codes "rate") ≡ None)
+    → (given (codes "fruitless") ≡ None) × ((given (codes "rate") ≡ None) × (is_receipt_mixed given ≡ false))
 no_pace given none unmixed =
     go (path_given given) (given (codes "set")) (given (codes "fruitless")) (given (codes "state"))
     (given (codes "rate")) none unmixed
@@ -82,14 +94,17 @@ no_pace given none unmixed =
     go : (file set fruitless state rate : Option Text) → file ≡ None
         → (if is_some file then is_some (given (codes "rounds"))
         else (is_some set || (is_some fruitless || (is_some state || (is_some rate
-        || (is_set (given (codes "strict")) || is_set (given (codes "log")))))))) ≡ false
-        → (fruitless ≡ None) × (rate ≡ None)
+        || (is_some (given (codes "receipt")) || (is_set (given (codes "json"))
+        || (is_set (given (codes "strict"))
+        || (is_set (given (codes "strict-texts")) || is_set (given (codes "log"))))))))))) ≡ false
+        → (fruitless ≡ None) × ((rate ≡ None) × (is_receipt_mixed given ≡ false))
     go (Some text) set fruitless state rate is unmixed = let bad : Some text ≡ None = is in cc
     go None (Some text) fruitless state rate is unmixed = let bad : true ≡ false = unmixed in cc
     go None None (Some text) state rate is unmixed = let bad : true ≡ false = unmixed in cc
     go None None None (Some text) rate is unmixed = let bad : true ≡ false = unmixed in cc
     go None None None None (Some text) is unmixed = let bad : true ≡ false = unmixed in cc
-    go None None None None None is unmixed = (refl, refl)
+    go None None None None None is unmixed =
+        (refl, (refl, no_receipt given (given (codes "receipt")) (is_set (given (codes "json"))) _ unmixed))
 
 -- with it nothing of rounds
 no_rounds : (given : Text → Option Text) (path : Text) → path_given given ≡ Some path → is_mixed given ≡ false
@@ -100,7 +115,9 @@ no_rounds given path has unmixed = go (path_given given) (given (codes "rounds")
         → (if is_some file then is_some rounds
         else (is_some (given (codes "set")) || (is_some (given (codes "fruitless"))
         || (is_some (given (codes "state")) || (is_some (given (codes "rate"))
-        || (is_set (given (codes "strict")) || is_set (given (codes "log")))))))) ≡ false
+        || (is_some (given (codes "receipt")) || (is_set (given (codes "json"))
+        || (is_set (given (codes "strict"))
+        || (is_set (given (codes "strict-texts")) || is_set (given (codes "log"))))))))))) ≡ false
         → rounds ≡ None
     go None rounds is unmixed = let bad : None ≡ Some path = is in cc
     go (Some text) None is unmixed = refl
@@ -146,6 +163,27 @@ watch_good : (watch check json digest : Bool) (name : Option Text) (work : Folde
 watch_good true check json digest name work is = is.0
 watch_good false check json digest name work is = refl
 
+-- takes that aren't compared with receipts
+unverified_good : (given : Text → Option Text) → given (codes "verify") ≡ None
+    → is_verify_given_mixed given ≡ false
+unverified_good given none = rw none refl
+
+-- what is asked for beside receipts is nothing, so that a report would be good
+verified_alone : (w c j d : Bool) (n r : Option Text) (receipts : Text) → r ≡ Some receipts
+    → is_verify_mixed w c j d n r ≡ false
+    → (is_watch_mixed w c j d n ≡ false) × ((work : FolderWork) × IsWork w c j d n work)
+verified_alone true c j d n (Some r) receipts is alone = absurd (is_not alone)
+verified_alone false true j d n (Some r) receipts is alone = absurd (is_not alone)
+verified_alone false false true d n (Some r) receipts is alone = absurd (is_not alone)
+verified_alone false false false true n (Some r) receipts is alone = absurd (is_not alone)
+verified_alone false false false false (Some n) (Some r) receipts is alone = absurd (is_not alone)
+verified_alone false false false false None (Some r) receipts is alone = (refl, (Reported false false false, refl))
+verified_alone w c j d n None receipts is alone = let bad : None ≡ Some receipts = is in cc
+
+verified_good : (given : Text → Option Text) (receipts : Text) → IsVerifyGiven given receipts
+    → IsGood Watch given × IsGood GiveUp given
+verified_good given receipts v = verified_alone _ _ _ _ _ _ receipts v.is v.alone
+
 -- what is asked for has good values alone
 pub wished_good : (name : Text) (options : List Row) (wish : Wish) → IsWishOf (Some (name, options)) wish
     → AllGood (looked_at name) (given_on_line options)
@@ -158,8 +196,13 @@ wished_good name options wish asked = go wish asked
     go : (w : Wish) → IsWishOf (Some (name, options)) w → AllGood (looked_at name) (given_on_line options)
     go (Replaying limit fuse) a = at (codes "replay") a.0 ((limit, a.1), ((fuse, a.2), tt))
     go (Rehearsing take_name limit) a = at (codes "rehearse") a.0 ((take_name, a.1), ((limit, a.2), tt))
-    go (Listing folder work) a =
-        at (codes "takes") a.0 ((folder, a.1), (watch_good _ _ _ _ _ work a.2, ((work, a.2), tt)))
+    go (Listing folder work) a = at (codes "takes") a.0 (
+      (folder, a.1),
+      (unverified_good (given_on_line options) a.2, (watch_good _ _ _ _ _ work a.3, ((work, a.3), tt))),
+    )
+    go (Verifying folder receipts) a =
+        let alone = verified_good (given_on_line options) receipts a.2 in
+        at (codes "takes") a.0 ((folder, a.1), (a.2.alone, (alone.0, (alone.1, tt))))
     go (Serving server) a = at (codes "serve") a.0 (
         (server.listen, a.1.listens) also (server.folder, a.1.keeps) also (a.1.ends.0, a.1.ends.1)
         also (server.limit, a.1.limited) also (a.1.serves.timeout, a.1.serves.waits)
@@ -171,18 +214,19 @@ wished_good name options wish asked = go wish asked
         at (codes "send") a.0 (
         (sender.connect, a.1.connects) also (sender.name, a.1.named) also (a.1.tries.0, a.1.tries.1)
         also (sender.timeout, a.1.waits) also (None, no_count most_fruitless _ paceless.0)
-        also (None, no_count most_rate _ paceless.1) also a.1.unmixed
+        also (None, no_count most_rate _ paceless.1.0) also a.1.unmixed also paceless.1.1
         also samples_good (given_on_line options) None a.1.unsampled)
     go (Uploading sender) a = at (codes "send") a.0 (
         (sender.connect, a.1.connects) also (sender.name, a.1.named)
         also (None, no_count most_rounds _ (no_rounds (given_on_line options) sender.source.path a.1.takes.from a.1.unmixed))
         also (a.1.waits.0, a.1.waits.1) also (a.1.ends.0, a.1.ends.1) also (sender.rate, a.1.paced)
-        also a.1.unmixed also samples_good (given_on_line options) None a.1.unsampled)
+        also a.1.unmixed also a.1.receipted also samples_good (given_on_line options) None a.1.unsampled)
     go (SendingPcm sender) a = at (codes "send") a.0 (
         (sender.connect, a.1.connects) also (sender.name, a.1.named)
         also (None, no_count most_rounds _ (no_rounds (given_on_line options) sender.source.path a.1.takes.from a.1.unmixed))
         also (a.1.waits.0, a.1.waits.1) also (a.1.count, a.1.counts) also (sender.rate, a.1.paced)
-        also a.1.unmixed also samples_good (given_on_line options) (Some sender.pcm) a.1.samples)
+        also a.1.unmixed also a.1.unreceipted
+        also samples_good (given_on_line options) (Some sender.pcm) a.1.samples)
     go w a = at _ a.0 tt
 
 -- if all are good none is the first that is bad
@@ -351,11 +395,13 @@ pub source_asked : (found : Found) (path_in : (Text → Option Text) → Option 
     → Some path ≡ path_in (first_value found)
     → source.path ≡ path → source.settings ≡ settings_on_line (rows_of found)
     → source.strict ≡ is_set (first_value found (codes "strict"))
+    → source.strict_texts ≡ is_set (first_value found (codes "strict-texts"))
     → GivesSource (path_in (given_on_line (rows_of found))) (rows_of found) source
-source_asked found path_in path source given at sets strict = record {
+source_asked found path_in path source given at sets strict texts = record {
   from = sym (ap Some at ∙ by_rows found (λ g. Some path ≡ path_in g) given);
   sets = sets;
   refuses = by_rows found (λ g. source.strict ≡ is_set (g (codes "strict"))) strict;
+  refuses_texts = by_rows found (λ g. source.strict_texts ≡ is_set (g (codes "strict-texts"))) texts;
 }
 
 -- the file of this path, with what else is given
@@ -364,6 +410,7 @@ found_source found path = record {
   path = path;
   settings = settings_on_line (rows_of found);
   strict = is_set (first_value found (codes "strict"));
+  strict_texts = is_set (first_value found (codes "strict-texts"));
 }
 
 -- no file's path is given, and one
@@ -416,11 +463,13 @@ no_repaired_line found given = (nothing, inr (refl, refl))
 
 -- the folder of takes that is given is the one that is asked for, and so is what is done there
 pub listing_asked : (found : Found) (folder : Text) (work : FolderWork)
-    → GivesFolder (first_value found (codes "folder")) folder → GivesWork (first_value found) work
+    → GivesFolder (first_value found (codes "folder")) folder → first_value found (codes "verify") ≡ None
+    → GivesWork (first_value found) work
     → IsWishOf (Some (codes "takes", rows_of found)) (Listing folder work)
-listing_asked found folder work given done = (
+listing_asked found folder work given alone done = (
   refl,
   by_rows found (λ g. GivesFolder (g (codes "folder")) folder) given,
+  by_rows found (λ g. g (codes "verify") ≡ None) alone,
   by_rows found (λ g. GivesWork g work) done,
 )
 
@@ -442,9 +491,10 @@ pub upload_asked : (found : Found) (sender : FileUpload)
     → GivesCountOr default_timeout most_seconds (first_value found (codes "timeout")) sender.timeout
     → GivesCountOr default_fruitless most_fruitless (first_value found (codes "fruitless")) sender.fruitless
     → sender.log ≡ is_set (first_value found (codes "log")) → sender.state ≡ first_value found (codes "state")
+    → sender.receipt ≡ receipt_given (first_value found) → is_receipt_mixed (first_value found) ≡ false
     → GivesCount most_rate (first_value found (codes "rate")) sender.rate → is_mixed (first_value found) ≡ false
     → GivesSamples (first_value found) None → IsWishOf (Some (codes "send", rows_of found)) (Uploading sender)
-upload_asked found sender connects named takes waits ends reports states paced unmixed unsampled = (
+upload_asked found sender connects named takes waits ends reports states receipts receipted paced unmixed unsampled = (
   refl,
   record {
     connects = address_by_rows found (codes "connect") sender.connect connects;
@@ -455,6 +505,8 @@ upload_asked found sender connects named takes waits ends reports states paced u
         ends;
     reports = by_rows found (λ g. sender.log ≡ is_set (g (codes "log"))) reports;
     states = by_rows found (λ g. sender.state ≡ g (codes "state")) states;
+    receipts = by_rows found (λ g. sender.receipt ≡ receipt_given g) receipts;
+    receipted = by_rows found (λ g. is_receipt_mixed g ≡ false) receipted;
     paced = by_rows found (λ g. GivesCount most_rate (g (codes "rate")) sender.rate) paced;
     unmixed = by_rows found (λ g. is_mixed g ≡ false) unmixed;
     unsampled = by_rows found (λ g. GivesSamples g None) unsampled;
@@ -472,8 +524,9 @@ pub pcm_asked : (found : Found) (sender : PcmUpload) (count : Option ℕ)
     → sender.fruitless ≡ fruitless_of (is_live sender.pcm) count
     → sender.log ≡ is_set (first_value found (codes "log"))
     → GivesCount most_rate (first_value found (codes "rate")) sender.rate → is_mixed (first_value found) ≡ false
+    → is_receipt_mixed (first_value found) ≡ false
     → IsWishOf (Some (codes "send", rows_of found)) (SendingPcm sender)
-pcm_asked found sender count connects named takes samples waits counts ends reports paced unmixed = (
+pcm_asked found sender count connects named takes samples waits counts ends reports paced unmixed unreceipted = (
   refl,
   record {
     connects = address_by_rows found (codes "connect") sender.connect connects;
@@ -487,6 +540,7 @@ pcm_asked found sender count connects named takes samples waits counts ends repo
     reports = by_rows found (λ g. sender.log ≡ is_set (g (codes "log"))) reports;
     paced = by_rows found (λ g. GivesCount most_rate (g (codes "rate")) sender.rate) paced;
     unmixed = by_rows found (λ g. is_mixed g ≡ false) unmixed;
+    unreceipted = by_rows found (λ g. is_receipt_mixed g ≡ false) unreceipted;
   },
 )
 
@@ -495,9 +549,9 @@ pub upload_kept : (found : Found) (path name : Text) (connect : SocketAddr) (tri
     → GivesAddress (is_set (first_value found (codes "network"))) (first_value found (codes "connect")) connect
     → GivesName (first_value found (codes "name")) name → Some path ≡ path_given (first_value found)
     → GivesTries (first_value found) tries → is_mixed (first_value found) ≡ false
-    → GivesSamples (first_value found) None
+    → is_receipt_mixed (first_value found) ≡ false → GivesSamples (first_value found) None
     → AsksForPath (Some (codes "send", rows_of found))
-upload_kept found path name connect tries connects named at given unmixed unsampled = (
+upload_kept found path name connect tries connects named at given unmixed receipted unsampled = (
   Uploading (record {
     connect = connect;
     name = name;
@@ -506,11 +560,13 @@ upload_kept found path name connect tries connects named at given unmixed unsamp
     fruitless = unwrap_or tries.fruitless default_fruitless;
     log = is_set (first_value found (codes "log"));
     state = first_value found (codes "state");
+    receipt = receipt_given (first_value found);
     rate = tries.rate;
   }),
   tt,
-  upload_asked found _ connects named (source_asked found path_given path (found_source found path) at refl refl refl)
-      (tries.timeout, given.waits, refl) (tries.fruitless, given.ends, refl) refl refl given.paced
+  upload_asked found _ connects named (source_asked found path_given path (found_source found path) at refl refl refl
+      refl)
+      (tries.timeout, given.waits, refl) (tries.fruitless, given.ends, refl) refl refl refl receipted given.paced
       unmixed unsampled,
 )
 
@@ -518,8 +574,9 @@ pub samples_kept : (found : Found) (path name : Text) (connect : SocketAddr) (tr
     → GivesAddress (is_set (first_value found (codes "network"))) (first_value found (codes "connect")) connect
     → GivesName (first_value found (codes "name")) name → Some path ≡ path_given (first_value found)
     → GivesTries (first_value found) tries → is_mixed (first_value found) ≡ false
+    → is_receipt_mixed (first_value found) ≡ false
     → GivesSamples (first_value found) (Some pcm) → AsksForPath (Some (codes "send", rows_of found))
-samples_kept found path name connect tries pcm connects named at given unmixed samples = (
+samples_kept found path name connect tries pcm connects named at given unmixed unreceipted samples = (
   SendingPcm (record {
     connect = connect;
     name = name;
@@ -532,8 +589,8 @@ samples_kept found path name connect tries pcm connects named at given unmixed s
   }),
   tt,
   pcm_asked found _ tries.fruitless connects named (source_asked found path_given path (found_source found path) at refl refl
-      refl)
-      samples (tries.timeout, given.waits, refl) given.ends refl refl given.paced unmixed,
+      refl refl)
+      samples (tries.timeout, given.waits, refl) given.ends refl refl given.paced unmixed unreceipted,
 )
 
 -- addresses and ends, where a flag was read before
@@ -655,6 +712,43 @@ pub no_work : (found : Found) (watch check json digest : Bool) (name : Option Te
 no_work found watch check json digest name watches checks prints hashes names none good =
     none good.0 (works_at _ _ _ _ _ watch check json digest name good.0 (sym watches) (sym checks) (sym prints)
     (sym hashes) (sym names) good.1)
+
+-- whether something is asked for beside receipts, where the options were read before
+pub verify_mixed : (found : Found) (watch check json digest : Bool) (name receipts : Option Text) (mixed : Bool)
+    → watch ≡ is_set (first_value found (codes "watch")) → check ≡ is_set (first_value found (codes "check"))
+    → json ≡ is_set (first_value found (codes "json")) → digest ≡ is_set (first_value found (codes "digest"))
+    → name ≡ first_value found (codes "give-up") → receipts ≡ first_value found (codes "verify")
+    → mixed ≡ is_verify_mixed watch check json digest name receipts → mixed ≡ is_verify_given_mixed (first_value found)
+verify_mixed found watch check json digest name receipts mixed watches checks prints hashes names verifies is =
+    let w = is_set (first_value found (codes "watch")) in
+    let c = is_set (first_value found (codes "check")) in
+    let j = is_set (first_value found (codes "json")) in
+    let d = is_set (first_value found (codes "digest")) in
+    let n = first_value found (codes "give-up") in
+    is
+    ∙ ap (λ x. is_verify_mixed x check json digest name receipts) watches
+    ∙ ap (λ x. is_verify_mixed w x json digest name receipts) checks
+    ∙ ap (λ x. is_verify_mixed w c x digest name receipts) prints
+    ∙ ap (λ x. is_verify_mixed w c j x name receipts) hashes
+    ∙ ap (λ x. is_verify_mixed w c j d x receipts) names ∙ ap (is_verify_mixed w c j d n) verifies
+
+-- the folder and the file of receipts that are given are those that are asked for
+pub verify_asked : (found : Found) (folder receipts : Text) → GivesFolder (first_value found (codes "folder")) folder
+    → IsVerifyGiven (first_value found) receipts
+    → IsWishOf (Some (codes "takes", rows_of found)) (Verifying folder receipts)
+verify_asked found folder receipts given alone = (
+  refl,
+  by_rows found (λ g. GivesFolder (g (codes "folder")) folder) given,
+  by_rows found (λ g. IsVerifyGiven g receipts) alone,
+)
+
+pub verify_runs : (found : Found) (folder receipts : Text) → GivesFolder (first_value found (codes "folder")) folder
+    → IsVerifyGiven (first_value found) receipts → (line : CommandLine) → RunsFor (Verifying folder receipts) line
+    → IsLineFor (Some (codes "takes", rows_of found)) line
+verify_runs found folder receipts given alone (Run task) runs =
+    subst (IsWishOf (Some (codes "takes", rows_of found))) (sym runs) (verify_asked found folder receipts given alone)
+verify_runs found folder receipts given alone (Bad value) runs = absurd runs
+verify_runs found folder receipts given alone (Report error) runs = absurd runs
 
 -- whether something is asked for beside the watch, where the options were read before
 pub watch_mixed : (found : Found) (watch check json digest : Bool) (name : Option Text) (mixed : Bool)

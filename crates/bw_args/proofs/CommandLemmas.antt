@@ -6,7 +6,7 @@ use Rattle.std.proofs.lemmas.Slice.Eq.{bytes_eq-Decides}
 use Rattle.clap.specs.Words.{Row, Text}
 use Rattle.bw_args.specs.Lines.{AsksNothing, IsLineFor, looked_at}
 use Rattle.bw_args.specs.Lines.{Replaying, Rehearsing, Inspecting, InspectingFiles, Serving, Sending, Uploading}
-use Rattle.bw_args.specs.Lines.{SendingPcm, Packing, Picturing, Repairing, Converting, Listing}
+use Rattle.bw_args.specs.Lines.{SendingPcm, Packing, Picturing, Repairing, Converting, Listing, Verifying}
 use Rattle.bw_args.specs.declared.CommandLine.TheVariants.{BadValue as Bad}
 use Rattle.bw_args.specs.declared.bad_value.BadValue.{BadValue}
 use Rattle.bw_args.specs.declared.bad_value.BadValue.TheVariants.{Limit, Inspection, Form}
@@ -56,3 +56,4 @@ unknown_line command name options same replay rehearse inspect serve send pack p
     nothing (Repairing path write) asked = not_named name (codes "repair") repair asked.0
     nothing (Converting path to form) asked = not_named name (codes "convert") convert asked.0
     nothing (Listing folder work) asked = not_named name (codes "takes") takes asked.0
+    nothing (Verifying folder receipts) asked = not_named name (codes "takes") takes asked.0

@@ -9,13 +9,14 @@ use Rattle.bw_args.specs.Numbers.{most_rate, number_written}
 use Rattle.bw_args.specs.Commands.{command_line, pack_command}
 use Rattle.bw_args.specs.ReadWords.{as_read}
 use Rattle.bw_args.specs.Sources.{GivesSource, PlainSource, is_mixed, path_given}
+use Rattle.bw_args.specs.ReceiptOptions.{is_receipt_mixed, receipt_given, target}
 use Rattle.bw_args.specs.PcmSources.{GivesSamples}
 use Rattle.bw_args.specs.Lines.{AsksFor, GivesAddress, GivesCount, GivesCountOr, GivesName, GivesUpload, IsLineOf, Packing}
 use Rattle.bw_args.specs.Lines.{FileUpload, Uploading, given_on_line, is_set}
 use Rattle.bw_args.specs.Forms.{IsPlain}
 use Rattle.bw_args.specs.FileForms.{RefusesFiles, RunsFileSender, RunsPack, plain_upload, source_at, with_file}
 use Rattle.bw_args.specs.declared.CommandLine.{CommandLine}
-use Rattle.bw_args.specs.declared.bad_value.BadValue.TheVariants.{Fruitless, Mixed, Rate}
+use Rattle.bw_args.specs.declared.bad_value.BadValue.TheVariants.{Fruitless, Mixed, Rate, Receipt}
 use Rattle.bw_args.proofs.FormLemmas.{asked_reports, asked_runs, asks}
 use Rattle.bw_args.proofs.PlainWords.{Enters, literal, unknown, values_ask}
 use Rattle.bw_args.proofs.SenderLemmas.{AsksSender, samples_by}
@@ -33,14 +34,21 @@ is_entered = record { walks = refl; takes = refl; finds = refl }
 pack_asks : (path : Text) → IsPlain path → AsksPack (path ∷ []) (source_at path)
 unfolding clap_on_literals
 pack_asks path is program = values_ask is_entered program (unknown path ∷ []) (is, tt) refl
-    (refl, record { from = refl; sets = refl; refuses = refl })
+    (refl, record { from = refl; sets = refl; refuses = refl; refuses_texts = refl })
 
 strict_asks : (path : Text) → IsPlain path
     → AsksPack (codes "--strict" ∷ path ∷ []) (record (source_at path) { strict = true })
 unfolding clap_on_literals
 strict_asks path is program =
     values_ask is_entered program (literal (codes "--strict") ∷ unknown path ∷ []) (tt, (is, tt)) refl
-    (refl, record { from = refl; sets = refl; refuses = refl })
+    (refl, record { from = refl; sets = refl; refuses = refl; refuses_texts = refl })
+
+strict_texts_asks : (path : Text) → IsPlain path
+    → AsksPack (codes "--strict-texts" ∷ path ∷ []) (record (source_at path) { strict_texts = true })
+unfolding clap_on_literals
+strict_texts_asks path is program =
+    values_ask is_entered program (literal (codes "--strict-texts") ∷ unknown path ∷ []) (tt, (is, tt)) refl
+    (refl, record { from = refl; sets = refl; refuses = refl; refuses_texts = refl })
 
 sets_asks : (path a b : Text) → IsPlain path
     → AsksPack ((codes "--set=" ++ a) ∷ (codes "--set=" ++ b) ∷ path ∷ [])
@@ -48,13 +56,14 @@ sets_asks : (path a b : Text) → IsPlain path
 unfolding clap_on_literals
 sets_asks path a b is program = values_ask is_entered program
     (literal (codes "--set=" ++ a) ∷ literal (codes "--set=" ++ b) ∷ unknown path ∷ []) (tt, (tt, (is, tt))) refl
-    (refl, record { from = refl; sets = refl; refuses = refl })
+    (refl, record { from = refl; sets = refl; refuses = refl; refuses_texts = refl })
 
 pub runs_pack : (words : List Text) (line : CommandLine) → IsLineOf words line → RunsPack words line
 unfolding clap_on_literals
 runs_pack words line is = record {
   alone = λ p f plain e. asked_runs words _ line _ is e (pack_asks f plain p);
   strict = λ p f plain e. asked_runs words _ line _ is e (strict_asks f plain p);
+  strict_texts = λ p f plain e. asked_runs words _ line _ is e (strict_texts_asks f plain p);
   sets = λ p f a b plain e. asked_runs words _ line _ is e (sets_asks f a b plain p);
   none = λ p e. asked_reports MissingRequiredArgument words _ line is e refl;
 }
@@ -68,9 +77,10 @@ upload_by : {options : List Row} {sender : FileUpload}
     → GivesName (given_on_line options (codes "name")) sender.name
     → GivesSource (path_given (given_on_line options)) options sender.source
     → sender.log ≡ is_set (given_on_line options (codes "log")) → sender.state ≡ given_on_line options (codes "state")
+    → sender.receipt ≡ receipt_given (given_on_line options) → is_receipt_mixed (given_on_line options) ≡ false
     → GivesCount most_rate (given_on_line options (codes "rate")) sender.rate
     → is_mixed (given_on_line options) ≡ false → GivesSamples (given_on_line options) None → GivesUpload options sender
-upload_by waits ends connects named takes reports states paced unmixed unsampled = record {
+upload_by waits ends connects named takes reports states receipts receipted paced unmixed unsampled = record {
   connects = connects;
   named = named;
   takes = takes;
@@ -78,6 +88,8 @@ upload_by waits ends connects named takes reports states paced unmixed unsampled
   ends = ends;
   reports = reports;
   states = states;
+  receipts = receipts;
+  receipted = receipted;
   paced = paced;
   unmixed = unmixed;
   unsampled = unsampled;
@@ -90,7 +102,7 @@ alone_sends path program connect name address at named =
     asks refl (
       refl,
       upload_by (None, refl, refl) (None, refl, refl) at (named, refl)
-          (record { from = refl; sets = refl; refuses = refl }) refl refl refl refl
+          (record { from = refl; sets = refl; refuses = refl; refuses_texts = refl }) refl refl refl refl refl refl
           (samples_by None None None refl refl refl refl refl),
     )
 
@@ -102,7 +114,7 @@ sets_sends path x y program connect name address at named =
     asks refl (
       refl,
       upload_by (None, refl, refl) (None, refl, refl) at (named, refl)
-          (record { from = refl; sets = refl; refuses = refl }) refl refl refl refl
+          (record { from = refl; sets = refl; refuses = refl; refuses_texts = refl }) refl refl refl refl refl refl
           (samples_by None None None refl refl refl refl refl),
     )
 
@@ -113,7 +125,18 @@ strict_sends path program connect name address at named =
     asks refl (
       refl,
       upload_by (None, refl, refl) (None, refl, refl) at (named, refl)
-          (record { from = refl; sets = refl; refuses = refl }) refl refl refl refl
+          (record { from = refl; sets = refl; refuses = refl; refuses_texts = refl }) refl refl refl refl refl refl
+          (samples_by None None None refl refl refl refl refl),
+    )
+
+strict_texts_sends : (path : Text) → AsksSender false (with_file path (codes "--strict-texts" ∷ []))
+    (λ a n. Uploading (record (plain_upload a n path) { source = record (source_at path) { strict_texts = true } }))
+unfolding clap_on_literals
+strict_texts_sends path program connect name address at named =
+    asks refl (
+      refl,
+      upload_by (None, refl, refl) (None, refl, refl) at (named, refl)
+          (record { from = refl; sets = refl; refuses = refl; refuses_texts = refl }) refl refl refl refl refl refl
           (samples_by None None None refl refl refl refl refl),
     )
 
@@ -125,7 +148,7 @@ fruitless_sends path count is program connect name address at named =
     asks refl (
       refl,
       upload_by (None, refl, refl) (Some (number_written count), (is, refl), refl) at (named, refl)
-          (record { from = refl; sets = refl; refuses = refl }) refl refl refl refl
+          (record { from = refl; sets = refl; refuses = refl; refuses_texts = refl }) refl refl refl refl refl refl
           (samples_by None None None refl refl refl refl refl),
     )
 
@@ -137,7 +160,7 @@ timeout_sends path seconds is program connect name address at named =
     asks refl (
       refl,
       upload_by (Some (number_written seconds), (is, refl), refl) (None, refl, refl) at (named, refl)
-          (record { from = refl; sets = refl; refuses = refl }) refl refl refl refl
+          (record { from = refl; sets = refl; refuses = refl; refuses_texts = refl }) refl refl refl refl refl refl
           (samples_by None None None refl refl refl refl refl),
     )
 
@@ -148,7 +171,7 @@ log_sends path program connect name address at named =
     asks refl (
       refl,
       upload_by (None, refl, refl) (None, refl, refl) at (named, refl)
-          (record { from = refl; sets = refl; refuses = refl }) refl refl refl refl
+          (record { from = refl; sets = refl; refuses = refl; refuses_texts = refl }) refl refl refl refl refl refl
           (samples_by None None None refl refl refl refl refl),
     )
 
@@ -159,7 +182,7 @@ state_sends path state program connect name address at named =
     asks refl (
       refl,
       upload_by (None, refl, refl) (None, refl, refl) at (named, refl)
-          (record { from = refl; sets = refl; refuses = refl }) refl refl refl refl
+          (record { from = refl; sets = refl; refuses = refl; refuses_texts = refl }) refl refl refl refl refl refl
           (samples_by None None None refl refl refl refl refl),
     )
 
@@ -171,7 +194,30 @@ rate_sends path bytes is program connect name address at named =
     asks refl (
       refl,
       upload_by (None, refl, refl) (None, refl, refl) at (named, refl)
-          (record { from = refl; sets = refl; refuses = refl }) refl refl (is, refl) refl
+          (record { from = refl; sets = refl; refuses = refl; refuses_texts = refl }) refl refl refl refl (is, refl) refl
+          (samples_by None None None refl refl refl refl refl),
+    )
+
+receipt_sends : (path receipts : Text) → AsksSender false (with_file path ((codes "--receipt=" ++ receipts) ∷ []))
+    (λ a n. Uploading (record (plain_upload a n path) { receipt = Some (target false receipts) }))
+unfolding clap_on_literals
+receipt_sends path receipts program connect name address at named =
+    asks refl (
+      refl,
+      upload_by (None, refl, refl) (None, refl, refl) at (named, refl)
+          (record { from = refl; sets = refl; refuses = refl; refuses_texts = refl }) refl refl refl refl refl refl
+          (samples_by None None None refl refl refl refl refl),
+    )
+
+receipt_json_sends : (path receipts : Text)
+    → AsksSender false (with_file path ((codes "--receipt=" ++ receipts) ∷ codes "--json" ∷ []))
+    (λ a n. Uploading (record (plain_upload a n path) { receipt = Some (target true receipts) }))
+unfolding clap_on_literals
+receipt_json_sends path receipts program connect name address at named =
+    asks refl (
+      refl,
+      upload_by (None, refl, refl) (None, refl, refl) at (named, refl)
+          (record { from = refl; sets = refl; refuses = refl; refuses_texts = refl }) refl refl refl refl refl refl
           (samples_by None None None refl refl refl refl refl),
     )
 
@@ -182,7 +228,7 @@ network_sends path program connect name address at named =
     asks refl (
       refl,
       upload_by (None, refl, refl) (None, refl, refl) at (named, refl)
-          (record { from = refl; sets = refl; refuses = refl }) refl refl refl refl
+          (record { from = refl; sets = refl; refuses = refl; refuses_texts = refl }) refl refl refl refl refl refl
           (samples_by None None None refl refl refl refl refl),
     )
 
@@ -191,12 +237,15 @@ runs_file_sender words line is = record {
   alone = λ f p c n a at named e. asked_runs words _ line _ is e (alone_sends f p c n a at named);
   sets = λ f x y p c n a at named e. asked_runs words _ line _ is e (sets_sends f x y p c n a at named);
   strict = λ f p c n a at named e. asked_runs words _ line _ is e (strict_sends f p c n a at named);
+  strict_texts = λ f p c n a at named e. asked_runs words _ line _ is e (strict_texts_sends f p c n a at named);
   fruitless = λ f t given p c n a at named e. asked_runs words _ line _ is e
       (fruitless_sends f t given p c n a at named);
   timeout = λ f t given p c n a at named e. asked_runs words _ line _ is e (timeout_sends f t given p c n a at named);
   log = λ f p c n a at named e. asked_runs words _ line _ is e (log_sends f p c n a at named);
   state = λ f t p c n a at named e. asked_runs words _ line _ is e (state_sends f t p c n a at named);
   rate = λ f t given p c n a at named e. asked_runs words _ line _ is e (rate_sends f t given p c n a at named);
+  receipt = λ f r p c n a at named e. asked_runs words _ line _ is e (receipt_sends f r p c n a at named);
+  receipt_json = λ f r p c n a at named e. asked_runs words _ line _ is e (receipt_json_sends f r p c n a at named);
   network = λ f p c n a at named e. asked_runs words _ line _ is e (network_sends f p c n a at named);
 }
 
@@ -225,6 +274,14 @@ mixed_strict program connect name address at named = (
       and_then nothing and_then bad not_mixed,
 )
 
+mixed_strict_texts : LacksSender (codes "--strict-texts" ∷ []) Mixed
+unfolding clap_on_literals
+mixed_strict_texts program connect name address at named = (
+  refl,
+  (address, at) and_then (name, (named, refl)) and_then nothing and_then nothing and_then nothing
+      and_then nothing and_then bad not_mixed,
+)
+
 mixed_log : LacksSender (codes "--log" ∷ []) Mixed
 unfolding clap_on_literals
 mixed_log program connect name address at named = (
@@ -248,6 +305,30 @@ mixed_state state program connect name address at named = (
   refl,
   (address, at) and_then (name, (named, refl)) and_then nothing and_then nothing and_then nothing
       and_then nothing and_then bad not_mixed,
+)
+
+mixed_receipt : (receipts : Text) → LacksSender ((codes "--receipt=" ++ receipts) ∷ []) Mixed
+unfolding clap_on_literals
+mixed_receipt receipts program connect name address at named = (
+  refl,
+  (address, at) and_then (name, (named, refl)) and_then nothing and_then nothing and_then nothing
+      and_then nothing and_then bad not_mixed,
+)
+
+mixed_json : LacksSender (codes "--json" ∷ []) Mixed
+unfolding clap_on_literals
+mixed_json program connect name address at named = (
+  refl,
+  (address, at) and_then (name, (named, refl)) and_then nothing and_then nothing and_then nothing
+      and_then nothing and_then bad not_mixed,
+)
+
+json_alone : (path : Text) → LacksSender (with_file path (codes "--json" ∷ [])) Receipt
+unfolding clap_on_literals
+json_alone path program connect name address at named = (
+  refl,
+  (address, at) and_then (name, (named, refl)) and_then nothing and_then nothing and_then nothing
+      and_then nothing and_then refl and_then bad not_mixed,
 )
 
 mixed_rate : (bytes : Text) → IsCountText most_rate bytes → LacksSender ((codes "--rate=" ++ bytes) ∷ []) Mixed
@@ -281,10 +362,14 @@ refuses_files words line is = record {
   rounds = λ f t given p c n a at named e. reported words _ line Mixed is e (mixed_rounds f t given p c n a at named);
   sets = λ x p c n a at named e. reported words _ line Mixed is e (mixed_sets x p c n a at named);
   strict = λ p c n a at named e. reported words _ line Mixed is e (mixed_strict p c n a at named);
+  strict_texts = λ p c n a at named e. reported words _ line Mixed is e (mixed_strict_texts p c n a at named);
   log = λ p c n a at named e. reported words _ line Mixed is e (mixed_log p c n a at named);
   fruitless = λ t given p c n a at named e. reported words _ line Mixed is e
       (mixed_fruitless t given p c n a at named);
   state = λ t p c n a at named e. reported words _ line Mixed is e (mixed_state t p c n a at named);
+  receipt = λ r p c n a at named e. reported words _ line Mixed is e (mixed_receipt r p c n a at named);
+  json = λ p c n a at named e. reported words _ line Mixed is e (mixed_json p c n a at named);
+  json_alone = λ f p c n a at named e. reported words _ line Receipt is e (json_alone f p c n a at named);
   rate = λ t given p c n a at named e. reported words _ line Mixed is e (mixed_rate t given p c n a at named);
   bad_rate = λ f t none p c n a at named e. reported words _ line Rate is e (bad_rate f t none p c n a at named);
   bad_fruitless = λ f t none p c n a at named e.

@@ -5,13 +5,14 @@ use Rattle.clap.proofs.OnLiterals.{clap_on_literals}
 use Rattle.bw_args.specs.Numbers.{IsCountText, IsNumber, default_timeout, most_block, most_fruitless, most_seconds}
 use Rattle.bw_args.specs.Numbers.{most_rate, number_written}
 use Rattle.bw_args.specs.Sources.{GivesSource, is_mixed, path_given}
+use Rattle.bw_args.specs.ReceiptOptions.{is_receipt_mixed}
 use Rattle.bw_args.specs.PcmSources.{GivesFormat, GivesSamples, IsFormatText, fruitless_of, is_live}
 use Rattle.bw_args.specs.Lines.{GivesAddress, GivesCount, GivesCountOr, GivesName, GivesPcmUpload, IsLineOf, PcmUpload}
 use Rattle.bw_args.specs.Lines.{SendingPcm, given_on_line, is_set}
 use Rattle.bw_args.specs.FileForms.{with_file}
 use Rattle.bw_args.specs.PcmForms.{RefusesSamples, RunsPcmSender, plain_pcm_upload, with_pcm, with_spool}
 use Rattle.bw_args.specs.declared.CommandLine.{CommandLine}
-use Rattle.bw_args.specs.declared.bad_value.BadValue.TheVariants.{Pcm, Skip, Block, MixedSamples}
+use Rattle.bw_args.specs.declared.bad_value.BadValue.TheVariants.{Pcm, Receipt, Skip, Block, MixedSamples}
 use Rattle.bw_args.specs.declared.commands.samples.WrittenFormat.{WrittenFormat}
 use Rattle.bw_args.proofs.FormLemmas.{asked_runs, asks}
 use Rattle.bw_args.proofs.SenderLemmas.{AsksSender, samples_by}
@@ -29,8 +30,9 @@ pcm_by : {options : List Row} {sender : PcmUpload} (count : Option ℕ)
     → GivesCountOr default_timeout most_seconds (given_on_line options (codes "timeout")) sender.timeout
     → sender.log ≡ is_set (given_on_line options (codes "log"))
     → GivesCount most_rate (given_on_line options (codes "rate")) sender.rate
-    → is_mixed (given_on_line options) ≡ false → GivesPcmUpload options sender
-pcm_by count counts ends samples connects named takes waits reports paced unmixed = record {
+    → is_mixed (given_on_line options) ≡ false → is_receipt_mixed (given_on_line options) ≡ false
+    → GivesPcmUpload options sender
+pcm_by count counts ends samples connects named takes waits reports paced unmixed unreceipted = record {
   connects = connects;
   named = named;
   takes = takes;
@@ -42,6 +44,7 @@ pcm_by count counts ends samples connects named takes waits reports paced unmixe
   reports = reports;
   paced = paced;
   unmixed = unmixed;
+  unreceipted = unreceipted;
 }
 
 alone_sends : (path text : Text) (format : WrittenFormat) → IsFormatText text format
@@ -52,7 +55,7 @@ alone_sends path text format given program connect name address at named =
     asks refl (
       refl,
       pcm_by None refl refl (samples_by (Some format) None None given refl refl refl refl) at (named, refl)
-          (record { from = refl; sets = refl; refuses = refl }) (None, refl, refl) refl refl refl,
+          (record { from = refl; sets = refl; refuses = refl; refuses_texts = refl }) (None, refl, refl) refl refl refl refl,
     )
 
 skip_sends : (path text bytes : Text) (format : WrittenFormat) → IsFormatText text format → IsNumber bytes
@@ -65,7 +68,7 @@ skip_sends path text bytes format given number program connect name address at n
       refl,
       pcm_by None refl refl (samples_by (Some format) (Some (number_written bytes)) None given (number, refl) refl
           refl refl) at (named, refl)
-          (record { from = refl; sets = refl; refuses = refl }) (None, refl, refl) refl refl refl,
+          (record { from = refl; sets = refl; refuses = refl; refuses_texts = refl }) (None, refl, refl) refl refl refl refl,
     )
 
 block_sends : (path text frames : Text) (format : WrittenFormat) → IsFormatText text format
@@ -79,7 +82,7 @@ block_sends path text frames format given number program connect name address at
       refl,
       pcm_by None refl refl (samples_by (Some format) None (Some (number_written frames)) given refl (number, refl)
           refl refl) at (named, refl)
-          (record { from = refl; sets = refl; refuses = refl }) (None, refl, refl) refl refl refl,
+          (record { from = refl; sets = refl; refuses = refl; refuses_texts = refl }) (None, refl, refl) refl refl refl refl,
     )
 
 follow_sends : (path text end : Text) (format : WrittenFormat) → IsFormatText text format
@@ -91,7 +94,7 @@ follow_sends path text end format given program connect name address at named =
     asks refl (
       refl,
       pcm_by None refl refl (samples_by (Some format) None None given refl refl refl refl) at (named, refl)
-          (record { from = refl; sets = refl; refuses = refl }) (None, refl, refl) refl refl refl,
+          (record { from = refl; sets = refl; refuses = refl; refuses_texts = refl }) (None, refl, refl) refl refl refl refl,
     )
 
 fruitless_sends : (path text end count : Text) (format : WrittenFormat) → IsFormatText text format
@@ -109,7 +112,7 @@ fruitless_sends path text end count format given number program connect name add
       refl,
       pcm_by (Some (number_written count)) (number, refl) refl
           (samples_by (Some format) None None given refl refl refl refl) at (named, refl)
-          (record { from = refl; sets = refl; refuses = refl }) (None, refl, refl) refl refl refl,
+          (record { from = refl; sets = refl; refuses = refl; refuses_texts = refl }) (None, refl, refl) refl refl refl refl,
     )
 
 spool_sends : (path text : Text) (format : WrittenFormat) → IsFormatText text format
@@ -121,7 +124,7 @@ spool_sends path text format given program connect name address at named =
     asks refl (
       refl,
       pcm_by None refl refl (samples_by (Some format) None None given refl refl refl refl) at (named, refl)
-          (record { from = refl; sets = refl; refuses = refl }) (None, refl, refl) refl refl refl,
+          (record { from = refl; sets = refl; refuses = refl; refuses_texts = refl }) (None, refl, refl) refl refl refl refl,
     )
 
 rate_sends : (path text bytes : Text) (format : WrittenFormat) → IsFormatText text format
@@ -132,7 +135,7 @@ rate_sends path text bytes format given number program connect name address at n
     asks refl (
       refl,
       pcm_by None refl refl (samples_by (Some format) None None given refl refl refl refl) at (named, refl)
-          (record { from = refl; sets = refl; refuses = refl }) (None, refl, refl) refl (number, refl) refl,
+          (record { from = refl; sets = refl; refuses = refl; refuses_texts = refl }) (None, refl, refl) refl (number, refl) refl refl,
     )
 
 pub runs_pcm_sender : (words : List Text) (line : CommandLine) → IsLineOf words line → RunsPcmSender words line
@@ -164,7 +167,7 @@ unfolding clap_on_literals
 bad_format path text none program connect name address at named = (
   refl,
   (address, at) and_then (name, (named, refl)) and_then nothing and_then nothing and_then nothing
-      and_then nothing and_then refl
+      and_then nothing and_then refl and_then refl
       and_then bad (λ good. no_format text good.0 none good.1),
 )
 
@@ -174,7 +177,7 @@ unfolding clap_on_literals
 bad_skip path text bytes format given none program connect name address at named = (
   refl,
   (address, at) and_then (name, (named, refl)) and_then nothing and_then nothing and_then nothing
-      and_then nothing and_then refl
+      and_then nothing and_then refl and_then refl
       and_then (Some format, given) and_then bad (λ good. none good.1.0),
 )
 
@@ -185,7 +188,7 @@ unfolding clap_on_literals
 bad_block path text frames format given none program connect name address at named = (
   refl,
   (address, at) and_then (name, (named, refl)) and_then nothing and_then nothing and_then nothing
-      and_then nothing and_then refl
+      and_then nothing and_then refl and_then refl
       and_then (Some format, given) and_then nothing and_then bad (λ good. none good.1.0),
 )
 
@@ -195,7 +198,7 @@ unfolding clap_on_literals
 mixed_fileless text format given program connect name address at named = (
   refl,
   (address, at) and_then (name, (named, refl)) and_then nothing and_then nothing and_then nothing
-      and_then nothing and_then refl
+      and_then nothing and_then refl and_then refl
       and_then (Some format, given) and_then nothing and_then nothing and_then bad not_mixed,
 )
 
@@ -205,7 +208,7 @@ unfolding clap_on_literals
 mixed_follow path text format given program connect name address at named = (
   refl,
   (address, at) and_then (name, (named, refl)) and_then nothing and_then nothing and_then nothing
-      and_then nothing and_then refl
+      and_then nothing and_then refl and_then refl
       and_then (Some format, given) and_then nothing and_then nothing and_then bad not_mixed,
 )
 
@@ -215,7 +218,7 @@ unfolding clap_on_literals
 mixed_until path text end format given program connect name address at named = (
   refl,
   (address, at) and_then (name, (named, refl)) and_then nothing and_then nothing and_then nothing
-      and_then nothing and_then refl
+      and_then nothing and_then refl and_then refl
       and_then (Some format, given) and_then nothing and_then nothing and_then bad not_mixed,
 )
 
@@ -225,8 +228,26 @@ unfolding clap_on_literals
 mixed_state path text state format given program connect name address at named = (
   refl,
   (address, at) and_then (name, (named, refl)) and_then nothing and_then nothing and_then nothing
-      and_then nothing and_then refl
+      and_then nothing and_then refl and_then refl
       and_then (Some format, given) and_then nothing and_then nothing and_then bad not_mixed,
+)
+
+samples_receipt : (path text receipts : Text) (format : WrittenFormat) → IsFormatText text format
+    → LacksSender (with_pcm path text ((codes "--receipt=" ++ receipts) ∷ [])) Receipt
+unfolding clap_on_literals
+samples_receipt path text receipts format given program connect name address at named = (
+  refl,
+  (address, at) and_then (name, (named, refl)) and_then nothing and_then nothing and_then nothing
+      and_then nothing and_then refl and_then bad not_mixed,
+)
+
+spool_receipt : (path text receipts : Text) (format : WrittenFormat) → IsFormatText text format
+    → LacksSender (with_spool path text ((codes "--receipt=" ++ receipts) ∷ [])) Receipt
+unfolding clap_on_literals
+spool_receipt path text receipts format given program connect name address at named = (
+  refl,
+  (address, at) and_then (name, (named, refl)) and_then nothing and_then nothing and_then nothing
+      and_then nothing and_then refl and_then bad not_mixed,
 )
 
 mixed_files : (path text spool : Text) (format : WrittenFormat) → IsFormatText text format
@@ -235,7 +256,7 @@ unfolding clap_on_literals
 mixed_files path text spool format given program connect name address at named = (
   refl,
   (address, at) and_then (name, (named, refl)) and_then nothing and_then nothing and_then nothing
-      and_then nothing and_then refl
+      and_then nothing and_then refl and_then refl
       and_then (Some format, given) and_then nothing and_then nothing and_then bad not_mixed,
 )
 
@@ -245,7 +266,7 @@ unfolding clap_on_literals
 mixed_ends path text end format given program connect name address at named = (
   refl,
   (address, at) and_then (name, (named, refl)) and_then nothing and_then nothing and_then nothing
-      and_then nothing and_then refl
+      and_then nothing and_then refl and_then refl
       and_then (Some format, given) and_then nothing and_then nothing and_then bad not_mixed,
 )
 
@@ -254,7 +275,7 @@ unfolding clap_on_literals
 mixed_spool path program connect name address at named = (
   refl,
   (address, at) and_then (name, (named, refl)) and_then nothing and_then nothing and_then nothing
-      and_then nothing and_then refl
+      and_then nothing and_then refl and_then refl
       and_then nothing and_then nothing and_then nothing and_then bad not_mixed,
 )
 
@@ -264,7 +285,7 @@ unfolding clap_on_literals
 mixed_skip path bytes number program connect name address at named = (
   refl,
   (address, at) and_then (name, (named, refl)) and_then nothing and_then nothing and_then nothing
-      and_then nothing and_then refl
+      and_then nothing and_then refl and_then refl
       and_then nothing and_then (Some (number_written bytes), (number, refl)) and_then nothing
       and_then bad not_mixed,
 )
@@ -284,6 +305,10 @@ refuses_samples words line is = record {
       (mixed_until f t u m given p c n a at named);
   state = λ f t s m given p c n a at named e. reported words _ line MixedSamples is e
       (mixed_state f t s m given p c n a at named);
+  receipt = λ f t r m given p c n a at named e. reported words _ line Receipt is e
+      (samples_receipt f t r m given p c n a at named);
+  spool_receipt = λ f t r m given p c n a at named e. reported words _ line Receipt is e
+      (spool_receipt f t r m given p c n a at named);
   two_files = λ f t s m given p c n a at named e. reported words _ line MixedSamples is e
       (mixed_files f t s m given p c n a at named);
   two_ends = λ f t u m given p c n a at named e. reported words _ line MixedSamples is e

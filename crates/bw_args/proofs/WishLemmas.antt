@@ -18,7 +18,7 @@ use Rattle.bw_args.specs.PcmSources.{fruitless_of, is_live, samples_with}
 use Rattle.bw_args.specs.declared.commands.samples.WrittenFormat.{WrittenFormat}
 use Rattle.bw_args.specs.Lines.{GivesPcmUpload, GivesSender, GivesServer, GivesUpload, IsWishOf, Service}
 use Rattle.bw_args.specs.Lines.{FileUpload, PcmUpload, Wish, Inspecting, Packing, Rehearsing, Replaying}
-use Rattle.bw_args.specs.Lines.{Sending, SendingPcm, Serving, Uploading, InspectingFiles, Repairing, Converting, Listing, Picturing}
+use Rattle.bw_args.specs.Lines.{Sending, SendingPcm, Serving, Uploading, InspectingFiles, Repairing, Converting, Listing, Verifying, Picturing}
 use Rattle.bw_args.specs.Numbers.{most_block, most_exchanges, most_fruitless, most_rate, most_recorders, most_seconds}
 use Rattle.bw_args.specs.Numbers.{number_written}
 use Rattle.bw_args.specs.InspectedFiles.{GivesInspection, PlainInspection, has_option, is_alone, one_file}
@@ -174,7 +174,12 @@ one_source : (given : Option Text) (options : List Row) (a b : PlainSource) → 
 one_source given options a b x y =
     let from : Some a.path ≡ Some b.path = sym x.from ∙ y.from in
     let path : a.path ≡ b.path = cc in
-    λ i. record { path = path i; settings = (x.sets ∙ sym y.sets) i; strict = (x.refuses ∙ sym y.refuses) i }
+    λ i. record {
+      path = path i;
+      settings = (x.sets ∙ sym y.sets) i;
+      strict = (x.refuses ∙ sym y.refuses) i;
+      strict_texts = (x.refuses_texts ∙ sym y.refuses_texts) i;
+    }
 
 one_upload : (options : List Row) (a b : FileUpload) → GivesUpload options a → GivesUpload options b → a ≡ b
 one_upload options a b x y = λ i. record {
@@ -185,6 +190,7 @@ one_upload options a b x y = λ i. record {
   fruitless = one_count_or _ _ _ a.fruitless b.fruitless x.ends y.ends i;
   log = (x.reports ∙ sym y.reports) i;
   state = (x.states ∙ sym y.states) i;
+  receipt = (x.receipts ∙ sym y.receipts) i;
   rate = one_count most_rate _ a.rate b.rate x.paced y.paced i;
 }
 
@@ -333,5 +339,12 @@ one_wish (Some command) (Sending a) (Uploading b) x y = absurd (no_lines command
 one_wish (Some command) (Uploading a) (Sending b) x y = absurd (no_lines command.1 b a y.1 x.1)
 one_wish (Some command) (Listing a v) (Listing b w) x y =
     let folders : a ≡ b = one_folder _ a b x.1 y.1 in
-    let works : v ≡ w = one_work _ _ _ _ _ v w x.2 y.2 in cc
+    let works : v ≡ w = one_work _ _ _ _ _ v w x.3 y.3 in cc
+one_wish (Some command) (Verifying a v) (Verifying b w) x y =
+    let folders : a ≡ b = one_folder _ a b x.1 y.1 in
+    let receipts : Some v ≡ Some w = sym x.2.is ∙ y.2.is in cc
+one_wish (Some command) (Listing a v) (Verifying b w) x y =
+    let none : None ≡ Some w = sym x.2 ∙ y.2.is in cc
+one_wish (Some command) (Verifying a v) (Listing b w) x y =
+    let none : None ≡ Some v = sym y.2 ∙ x.2.is in cc
 one_wish (Some command) a b x y = other_name x.0 y.0 refl

@@ -6,9 +6,9 @@ use Rattle.bw_args.specs.declared.bad_value.BadValue.TheVariants.{Name, Limit, F
 use Rattle.bw_args.specs.declared.bad_value.BadValue.TheVariants.{Folder, Exchanges, Timeout}
 use Rattle.bw_args.specs.declared.bad_value.BadValue.TheVariants.{Recorders, Idle, Wait}
 use Rattle.bw_args.specs.declared.bad_value.BadValue.TheVariants.{UntilStopped, Sync, Rest, GiveUp, Connect}
-use Rattle.bw_args.specs.declared.bad_value.BadValue.TheVariants.{Watch, Status, Log}
+use Rattle.bw_args.specs.declared.bad_value.BadValue.TheVariants.{Watch, Verify, Status, Log}
 use Rattle.bw_args.specs.declared.bad_value.BadValue.TheVariants.{Rounds, Fruitless, Mixed, Pcm, Skip}
-use Rattle.bw_args.specs.declared.bad_value.BadValue.TheVariants.{Block}
+use Rattle.bw_args.specs.declared.bad_value.BadValue.TheVariants.{Block, Receipt}
 use Rattle.bw_args.specs.declared.bad_value.BadValue.TheVariants.{Rate, MixedSamples, Inspection, Form}
 
 -- what an address is
@@ -41,6 +41,7 @@ fault_said Status = codes "'--status <ADDR>' is for '--recorders <N>', and takes
 fault_said Log = codes "'--log [<FORM>]' takes 'lines' or 'json', and may stand alone"
 fault_said Watch =
     codes "'--watch' can't be given beside '--check', '--json', '--digest' and '--give-up <NAME>'"
+fault_said Verify = codes "'--verify <RECEIPTS>' goes with '--folder <DIR>' alone"
 fault_said GiveUp = codes "'--give-up <NAME>' takes 1 to 32 bytes of a-z, 0-9, '-' and '_', "
     ++ codes "without '--check', '--json' and '--digest'"
 fault_said Connect =
@@ -51,8 +52,11 @@ fault_said Fruitless =
     codes "'--fruitless <N>' takes a number from 1 to 1000000, in at most ten digits"
 fault_said Rate =
     codes "'--rate <BYTES>' takes a number from 1 to 4294967295, in at most ten digits"
-fault_said Mixed = codes "'--set', '--strict', '--fruitless', '--log', '--state' and '--rate' are "
-    ++ codes "for '--file <FILE>' or '--spool <SPOOL>', and '--rounds <N>' for a sender without these"
+fault_said Mixed = codes "'--set', '--strict', '--strict-texts', '--fruitless', '--log', '--state', "
+    ++ codes "'--rate', '--receipt' and '--json' are for '--file <FILE>' or '--spool <SPOOL>', and "
+    ++ codes "'--rounds <N>' for a sender without them"
+fault_said Receipt = codes "'--receipt <RECEIPTS>' is for '--file <FILE>' of a RIFF WAVE, BW64 or RF64 file, "
+    ++ codes "and '--json' for '--receipt <RECEIPTS>'"
 fault_said Pcm = codes "'--pcm <RATE,CHANNELS,BITS>' takes three numbers with commas between them, "
     ++ codes "each from 0 to 4294967295, in at most ten digits"
 fault_said Skip =

@@ -23,11 +23,11 @@ pub record RunsCommands (words : List Text) (line : CommandLine) : Type 0 where
   pub serve : RunsServer words line
   -- each option of `send` alone, beside an address and a name
   pub send : RunsSender words line
-  -- each option of `send --file` alone; unless set, 30 seconds and 10 fruitless links
+  -- each option of `send --file` alone, and a receipt in JSON; unless set, 30 seconds and 10 fruitless links
   pub send_file : RunsFileSender words line
   -- `--pcm` with each option; `--follow` and `--spool` never give up unless `--fruitless` is there
   pub send_pcm : RunsPcmSender words line
-  -- one file that doesn't begin with `-`; `--strict`, or settings in their order, unread here
+  -- one file that doesn't begin with `-`; `--strict`, `--strict-texts`, or settings in their order, unread here
   pub pack : RunsPack words line
   -- one file that doesn't begin with `-`, or `-` itself
   pub picture : RunsPicture words line
@@ -46,7 +46,7 @@ pub record RefusesLines (words : List Text) (line : CommandLine) : Type 0 where
   pub peers : RefusesPeers words line
   -- a missing address, folder or name is a missing argument
   pub wanted : WantsPeers words line
-  -- options of `--file` without it, `--rounds` beside it, and bad numbers of it
+  -- options of `--file` without it, `--rounds` or `--json` alone beside it, and bad numbers of it
   pub files : RefusesFiles words line
-  -- bad values of `--pcm`, `--skip` and `--block`, and options that don't go together
+  -- bad values of `--pcm`, `--skip` and `--block`, a receipt, and options that don't go together
   pub samples : RefusesSamples words line

@@ -65,7 +65,8 @@ inspect_command = command (codes "inspect") (
 
 abbrev pub pack_command : App
 pack_command = command (codes "pack") (
-    word (codes "file") ∷ repeated (codes "set") ∷ flag (codes "strict") ∷ [])
+    word (codes "file") ∷ repeated (codes "set") ∷ flag (codes "strict") ∷
+    flag (codes "strict-texts") ∷ [])
 
 abbrev pub picture_command : App
 picture_command = command (codes "picture") (
@@ -82,7 +83,7 @@ convert_command = command (codes "convert") (
 abbrev pub takes_command : App
 takes_command = command (codes "takes") (
     required (codes "folder") ∷ flag (codes "check") ∷ flag (codes "json") ∷ flag (codes "digest") ∷
-    flag (codes "watch") ∷ option (codes "give-up") ∷ [])
+    flag (codes "watch") ∷ option (codes "give-up") ∷ option (codes "verify") ∷ [])
 
 abbrev pub serve_command : App
 serve_command = command (codes "serve") (
@@ -97,10 +98,11 @@ abbrev pub send_command : App
 send_command = command (codes "send") (
     required (codes "connect") ∷ required (codes "name") ∷ option (codes "rounds") ∷
     option (codes "timeout") ∷ flag (codes "network") ∷ option (codes "file") ∷
-    repeated (codes "set") ∷ flag (codes "strict") ∷ option (codes "pcm") ∷ option (codes "skip") ∷
-    option (codes "block") ∷ flag (codes "follow") ∷ option (codes "until") ∷
-    option (codes "spool") ∷ option (codes "fruitless") ∷ flag (codes "log") ∷
-    option (codes "state") ∷ option (codes "rate") ∷ [])
+    repeated (codes "set") ∷ flag (codes "strict") ∷ flag (codes "strict-texts") ∷
+    option (codes "pcm") ∷ option (codes "skip") ∷ option (codes "block") ∷ flag (codes "follow") ∷
+    option (codes "until") ∷ option (codes "spool") ∷ option (codes "fruitless") ∷
+    flag (codes "log") ∷ option (codes "state") ∷ option (codes "rate") ∷
+    option (codes "receipt") ∷ flag (codes "json") ∷ [])
 
 -- the program, which has a version and requires a command
 abbrev pub program : App

@@ -5,16 +5,17 @@ use Rattle.clap.specs.Walk.{Text}
 use Rattle.clap.specs.declared.error.ErrorKind.TheVariants.{MissingRequiredArgument}
 use Rattle.bw_args.specs.Numbers.{IsCountText, default_fruitless, default_timeout, most_fruitless}
 use Rattle.bw_args.specs.Numbers.{most_rate, most_rounds, most_seconds, number_written}
+use Rattle.bw_args.specs.ReceiptOptions.{target}
 use Rattle.bw_args.specs.Sources.{PlainSource}
 use Rattle.bw_args.specs.Lines.{Packing, FileUpload, Uploading}
 use Rattle.bw_args.specs.Forms.{IsPlain, IsReportedAs, RunsFor}
 use Rattle.bw_args.specs.PeerForms.{ForSender, ReportsBad}
 use Rattle.bw_args.specs.declared.CommandLine.{CommandLine}
-use Rattle.bw_args.specs.declared.bad_value.BadValue.TheVariants.{Fruitless, Mixed, Rate}
+use Rattle.bw_args.specs.declared.bad_value.BadValue.TheVariants.{Fruitless, Mixed, Rate, Receipt}
 
 -- a file of which nothing else is said
 abbrev pub source_at : Text → PlainSource
-source_at path = record { path = path; settings = []; strict = false }
+source_at path = record { path = path; settings = []; strict = false; strict_texts = false }
 
 -- `pack FILE` runs, with each of its options, whatever the program's name
 pub record RunsPack (words : List Text) (line : CommandLine) : Type 0 where
@@ -25,6 +26,10 @@ pub record RunsPack (words : List Text) (line : CommandLine) : Type 0 where
   pub strict : (program path : Text) → IsPlain path
       → words ≡ program ∷ codes "pack" ∷ codes "--strict" ∷ path ∷ []
       → RunsFor (Packing (record (source_at path) { strict = true })) line
+  -- `pack --strict-texts FILE`
+  pub strict_texts : (program path : Text) → IsPlain path
+      → words ≡ program ∷ codes "pack" ∷ codes "--strict-texts" ∷ path ∷ []
+      → RunsFor (Packing (record (source_at path) { strict_texts = true })) line
   -- `pack --set=A --set=B FILE`
   pub sets : (program path a b : Text) → IsPlain path
       → words ≡ program ∷ codes "pack" ∷ (codes "--set=" ++ a) ∷ (codes "--set="
@@ -44,6 +49,7 @@ plain_upload address name path = record {
   fruitless = default_fruitless;
   log = false;
   state = None;
+  receipt = None;
   rate = None;
 }
 
@@ -69,6 +75,9 @@ pub record RunsFileSender (words : List Text) (line : CommandLine) : Type 0 wher
   -- with `--strict`
   pub strict : (path : Text) → ForSender false words (with_file path (codes "--strict" ∷ []))
       (AsksToUpload line path (λ s. record s { source = record s.source { strict = true } }))
+  -- with `--strict-texts`
+  pub strict_texts : (path : Text) → ForSender false words (with_file path (codes "--strict-texts" ∷ []))
+      (AsksToUpload line path (λ s. record s { source = record s.source { strict_texts = true } }))
   -- with `--fruitless=N`
   pub fruitless : (path count : Text) → IsCountText most_fruitless count
       → ForSender false words (with_file path ((codes "--fruitless=" ++ count) ∷ []))
@@ -88,6 +97,14 @@ pub record RunsFileSender (words : List Text) (line : CommandLine) : Type 0 wher
   pub rate : (path bytes : Text) → IsCountText most_rate bytes
       → ForSender false words (with_file path ((codes "--rate=" ++ bytes) ∷ []))
       (AsksToUpload line path (λ s. record s { rate = Some (number_written bytes) }))
+  -- with `--receipt=RECEIPTS`
+  pub receipt : (path receipts : Text)
+      → ForSender false words (with_file path ((codes "--receipt=" ++ receipts) ∷ []))
+      (AsksToUpload line path (λ s. record s { receipt = Some (target false receipts) }))
+  -- with `--receipt=RECEIPTS --json`
+  pub receipt_json : (path receipts : Text)
+      → ForSender false words (with_file path ((codes "--receipt=" ++ receipts) ∷ codes "--json" ∷ []))
+      (AsksToUpload line path (λ s. record s { receipt = Some (target true receipts) }))
   -- with `--network`
   pub network : (path : Text) → ForSender true words (with_file path (codes "--network" ∷ []))
       (AsksToUpload line path (λ s. s))
@@ -102,17 +119,27 @@ pub record RefusesFiles (words : List Text) (line : CommandLine) : Type 0 where
   pub sets : (a : Text) → ForSender false words ((codes "--set=" ++ a) ∷ []) (ReportsBad line Mixed)
   -- `--strict`
   pub strict : ForSender false words (codes "--strict" ∷ []) (ReportsBad line Mixed)
+  -- `--strict-texts`
+  pub strict_texts : ForSender false words (codes "--strict-texts" ∷ []) (ReportsBad line Mixed)
   -- `--log`
   pub log : ForSender false words (codes "--log" ∷ []) (ReportsBad line Mixed)
   -- `--state=STATE`
   pub state : (state : Text) → ForSender false words ((codes "--state=" ++ state) ∷ [])
       (ReportsBad line Mixed)
+  -- `--receipt=RECEIPTS`
+  pub receipt : (receipts : Text) → ForSender false words ((codes "--receipt=" ++ receipts) ∷ [])
+      (ReportsBad line Mixed)
+  -- `--json`
+  pub json : ForSender false words (codes "--json" ∷ []) (ReportsBad line Mixed)
   -- `--rate=BYTES`
   pub rate : (bytes : Text) → IsCountText most_rate bytes
       → ForSender false words ((codes "--rate=" ++ bytes) ∷ []) (ReportsBad line Mixed)
   -- `--fruitless=N`
   pub fruitless : (count : Text) → IsCountText most_fruitless count
       → ForSender false words ((codes "--fruitless=" ++ count) ∷ []) (ReportsBad line Mixed)
+  -- with `--file=FILE --json` alone
+  pub json_alone : (path : Text) → ForSender false words (with_file path (codes "--json" ∷ []))
+      (ReportsBad line Receipt)
   -- with `--file=FILE --fruitless=N`, where N is no such number
   pub bad_fruitless : (path count : Text) → ¬ IsCountText most_fruitless count
       → ForSender false words (with_file path ((codes "--fruitless=" ++ count) ∷ []))

@@ -2,12 +2,13 @@
 use Rattle.std.specs.Prelude.{◌≡◌, ◌≢◌, true, false, List, [], ◌∷◌, ◌++◌, codes}
 use Rattle.clap.specs.Walk.{Text}
 use Rattle.clap.specs.declared.error.ErrorKind.TheVariants.{MissingRequiredArgument}
-use Rattle.bw_args.specs.Lines.{IsName, Listing}
+use Rattle.bw_args.specs.Lines.{IsName, Listing, Verifying}
 use Rattle.bw_args.specs.Forms.{IsReportedAs, RunsFor}
 use Rattle.bw_args.specs.declared.CommandLine.{CommandLine}
 use Rattle.bw_args.specs.declared.CommandLine.TheVariants.{BadValue as Bad}
 use Rattle.bw_args.specs.declared.bad_value.BadValue.TheVariants.{Folder}
-use Rattle.bw_args.specs.declared.bad_value.BadValue.TheVariants.{GiveUp as BadGiveUp, Watch as BadWatch}
+use Rattle.bw_args.specs.declared.bad_value.BadValue.TheVariants.{GiveUp as BadGiveUp, Verify as BadVerify}
+use Rattle.bw_args.specs.declared.bad_value.BadValue.TheVariants.{Watch as BadWatch}
 use Rattle.bw_args.specs.declared.folders.FolderWork.TheVariants.{Report, Watch, GiveUp}
 
 -- `takes --folder DIR` runs, with its options, whatever the program's name; a DIR may begin with a
@@ -69,6 +70,16 @@ pub record RunsTakes (words : List Text) (line : CommandLine) : Type 0 where
       → words ≡ program ∷ codes "takes" ∷ codes "--folder" ∷ folder ∷ codes "--digest"
       ∷ (codes "--give-up=" ++ name) ∷ []
       → line ≡ Bad BadGiveUp
+  -- `takes --folder DIR --verify=RECEIPTS`
+  pub verified : (program folder receipts : Text) → folder ≢ []
+      → words ≡ program ∷ codes "takes" ∷ codes "--folder" ∷ folder
+      ∷ (codes "--verify=" ++ receipts) ∷ []
+      → RunsFor (Verifying folder receipts) line
+  -- `takes --folder DIR --json --verify=RECEIPTS`
+  pub verified_json : (program folder receipts : Text) → folder ≢ []
+      → words ≡ program ∷ codes "takes" ∷ codes "--folder" ∷ folder ∷ codes "--json"
+      ∷ (codes "--verify=" ++ receipts) ∷ []
+      → line ≡ Bad BadVerify
   -- `takes --folder=`
   pub empty : (program : Text) → words ≡ program ∷ codes "takes" ∷ codes "--folder=" ∷ []
       → line ≡ Bad Folder

@@ -8,6 +8,8 @@ pub mod Given
 pub mod Sources
 pub mod PcmSources
 pub mod AskedForms
+pub mod VerifyOptions
+pub mod ReceiptOptions
 pub mod Ranges
 pub mod Lines
 pub mod Forms

@@ -32,7 +32,9 @@ use Rattle.bw_args.specs.Sources.{GivesSource, PlainSource, in_plain, is_mixed, 
 use Rattle.bw_args.specs.PcmSources.{GivesFormat, GivesNumber, GivesSamples, PlainPcm}
 use Rattle.bw_args.specs.PcmSources.{are_samples_mixed, fruitless_of, is_live, plain_pcm}
 use Rattle.bw_args.specs.ReadWords.{as_read}
+use Rattle.bw_args.specs.ReceiptOptions.{PlainTarget, is_receipt_mixed, receipt_given, target_in_plain}
 use Rattle.bw_args.specs.AskedForms.{GivesConversion}
+use Rattle.bw_args.specs.VerifyOptions.{IsVerifyGiven, is_verify_given_mixed}
 use Rattle.bw_args.specs.declared.CommandLine.{CommandLine}
 use Rattle.bw_args.specs.declared.CommandLine.TheVariants.{Run, BadValue as Bad, Report}
 use Rattle.bw_args.specs.declared.bad_value.BadValue.{BadValue}
@@ -40,7 +42,7 @@ use Rattle.bw_args.specs.declared.bad_value.BadValue.TheVariants.{Name, Limit, F
 use Rattle.bw_args.specs.declared.bad_value.BadValue.TheVariants.{Folder, Exchanges, Timeout}
 use Rattle.bw_args.specs.declared.bad_value.BadValue.TheVariants.{Recorders, Idle, Wait}
 use Rattle.bw_args.specs.declared.bad_value.BadValue.TheVariants.{UntilStopped, Sync, Rest, GiveUp, Connect}
-use Rattle.bw_args.specs.declared.bad_value.BadValue.TheVariants.{Watch, Status, Log}
+use Rattle.bw_args.specs.declared.bad_value.BadValue.TheVariants.{Watch, Verify, Receipt, Status, Log}
 use Rattle.bw_args.specs.declared.bad_value.BadValue.TheVariants.{Rounds, Fruitless, Rate, Mixed, Pcm, Skip}
 use Rattle.bw_args.specs.declared.bad_value.BadValue.TheVariants.{Block, MixedSamples, Inspection, Form}
 use Rattle.bw_args.specs.declared.folders.FolderWork.{FolderWork}
@@ -56,6 +58,7 @@ use Rattle.bw_args.specs.declared.commands.sending.Tries.{Tries}
 use Rattle.bw_args.specs.declared.Task.TheVariants.{Replay, Rehearse, Inspect, Serve, Send, SendFile}
 use Rattle.bw_args.specs.declared.Task.TheVariants.{SendPcm}
 use Rattle.bw_args.specs.declared.Task.TheVariants.{Pack, InspectFiles, Picture, Repair, Convert, Takes}
+use Rattle.bw_args.specs.declared.Task.TheVariants.{Verify as Verifies}
 
 -- the server that a command line asks for
 pub record Service : Type 0 where
@@ -87,6 +90,7 @@ pub record FileUpload : Type 0 where
   pub fruitless : ℕ
   pub log : Bool
   pub state : Option Text
+  pub receipt : Option PlainTarget
   pub rate : Option ℕ
 
 -- the sender of headerless samples that a command line asks for
@@ -105,7 +109,7 @@ pub record PcmUpload : Type 0 where
 -- a server or a sender; the sender of a recording, of headerless samples, or a recording's requests;
 -- the waveform of the file of this path; the sizes that it lacks, to be written or not; the
 -- file of the second path, made of that of the first in this form; what is done with the takes of a
--- folder
+-- folder, or the file of receipts that they are compared with
 pub data Wish : Type 0 where
   Replaying : ℕ → Option ℕ → Wish
   Rehearsing : Text → ℕ → Wish
@@ -120,6 +124,7 @@ pub data Wish : Type 0 where
   Repairing : Text → Bool → Wish
   Converting : Text → Text → AskedForm → Wish
   Listing : Text → FolderWork → Wish
+  Verifying : Text → Text → Wish
 
 -- what a task is about
 abbrev pub wish_of : Task → Wish
@@ -149,6 +154,7 @@ wish_of (SendFile sender) = Uploading (record {
   fruitless = sender.fruitless;
   log = sender.log;
   state = option_map string_bytes sender.state;
+  receipt = option_map target_in_plain sender.receipt;
   rate = sender.rate;
 })
 wish_of (SendPcm sender) = SendingPcm (record {
@@ -166,6 +172,7 @@ wish_of (Picture file) = Picturing (string_bytes file)
 wish_of (Repair file write) = Repairing (string_bytes file) write
 wish_of (Convert file out form) = Converting (string_bytes file) (string_bytes out) form
 wish_of (Takes listing) = Listing (string_bytes listing.folder) listing.work
+wish_of (Verifies folder receipts) = Verifying (string_bytes folder) (string_bytes receipts)
 
 -- what is given is this server
 pub record GivesServer (given : Text → Option Text) (server : Service) : Type 0 where
@@ -209,6 +216,8 @@ pub record GivesUpload (options : List Row) (sender : FileUpload) : Type 0 where
       (given_on_line options (codes "fruitless")) sender.fruitless
   pub reports : sender.log ≡ is_set (given_on_line options (codes "log"))
   pub states : sender.state ≡ given_on_line options (codes "state")
+  pub receipts : sender.receipt ≡ receipt_given (given_on_line options)
+  pub receipted : is_receipt_mixed (given_on_line options) ≡ false
   pub paced : GivesCount most_rate (given_on_line options (codes "rate")) sender.rate
   pub unmixed : is_mixed (given_on_line options) ≡ false
   pub unsampled : GivesSamples (given_on_line options) None
@@ -228,6 +237,7 @@ pub record GivesPcmUpload (options : List Row) (sender : PcmUpload) : Type 0 whe
   pub reports : sender.log ≡ is_set (given_on_line options (codes "log"))
   pub paced : GivesCount most_rate (given_on_line options (codes "rate")) sender.rate
   pub unmixed : is_mixed (given_on_line options) ≡ false
+  pub unreceipted : is_receipt_mixed (given_on_line options) ≡ false
 
 -- the command and its options ask for this
 abbrev pub IsWishOf : Option (Text × List Row) → Wish → Type 0
@@ -264,7 +274,10 @@ IsWishOf (Some command) (Converting path to form) =
     (command.0 ≡ codes "convert") × GivesConversion (given_on_line command.1) path to form
 IsWishOf (Some command) (Listing folder work) =
     (command.0 ≡ codes "takes") × GivesFolder (given_on_line command.1 (codes "folder")) folder
-    × GivesWork (given_on_line command.1) work
+    × (given_on_line command.1 (codes "verify") ≡ None) × GivesWork (given_on_line command.1) work
+IsWishOf (Some command) (Verifying folder receipts) =
+    (command.0 ≡ codes "takes") × GivesFolder (given_on_line command.1 (codes "folder")) folder
+    × IsVerifyGiven (given_on_line command.1) receipts
 
 -- they ask for nothing
 abbrev pub AsksNothing : Option (Text × List Row) → Type 0
@@ -285,6 +298,7 @@ HasPath (Picturing path) = ⊤
 HasPath (Repairing path write) = ⊤
 HasPath (Converting path to form) = ⊤
 HasPath (Listing folder work) = ⊤
+HasPath (Verifying folder receipts) = ⊤
 
 -- they ask for something of which a path is kept
 abbrev pub AsksForPath : Option (Text × List Row) → Type 0
@@ -317,6 +331,7 @@ IsGood Log given = (form : Option Logging) × GivesLog (given (codes "log")) for
 IsGood Watch given = is_watch_mixed (is_set (given (codes "watch")))
     (is_set (given (codes "check"))) (is_set (given (codes "json")))
     (is_set (given (codes "digest"))) (given (codes "give-up")) ≡ false
+IsGood Verify given = is_verify_given_mixed given ≡ false
 IsGood GiveUp given = (work : FolderWork) × GivesWork given work
 IsGood Connect given = (address : SocketAddr)
     × GivesAddress (is_set (given (codes "network"))) (given (codes "connect")) address
@@ -325,6 +340,7 @@ IsGood Fruitless given = (count : Option ℕ)
     × GivesCount most_fruitless (given (codes "fruitless")) count
 IsGood Rate given = (count : Option ℕ) × GivesCount most_rate (given (codes "rate")) count
 IsGood Mixed given = is_mixed given ≡ false
+IsGood Receipt given = is_receipt_mixed given ≡ false
 IsGood Pcm given = (format : Option WrittenFormat) × GivesFormat (given (codes "pcm")) format
 IsGood Skip given = (bytes : Option ℕ) × GivesNumber (given (codes "skip")) bytes
 IsGood Block given = (frames : Option ℕ) × GivesCount most_block (given (codes "block")) frames
@@ -356,8 +372,8 @@ looked_at command = if bytes_eq command (codes "replay") then Limit ∷ Fuse ∷
     else (if bytes_eq command (codes "serve")
     then Listen ∷ Folder ∷ Exchanges ∷ Limit ∷ (looked_at_waiting ++ looked_at_serving)
     else (if bytes_eq command (codes "send")
-    then Connect ∷ Name ∷ (looked_at_trying ++ Mixed ∷ looked_at_samples)
-    else (if bytes_eq command (codes "takes") then Folder ∷ Watch ∷ GiveUp ∷ [] else []))))
+    then Connect ∷ Name ∷ (looked_at_trying ++ Mixed ∷ Receipt ∷ looked_at_samples)
+    else (if bytes_eq command (codes "takes") then Folder ∷ Verify ∷ Watch ∷ GiveUp ∷ [] else []))))
 
 -- of these values, in this order, it is the first that is bad
 abbrev pub IsFirstBad : List BadValue → (Text → Option Text) → BadValue → Type 0

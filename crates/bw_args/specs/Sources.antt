@@ -10,6 +10,7 @@ pub record PlainSource : Type 0 where
   pub path : Text
   pub settings : List Text
   pub strict : Bool
+  pub strict_texts : Bool
 
 -- the same in plain bytes
 abbrev pub in_plain : SourceFile → PlainSource
@@ -17,6 +18,7 @@ in_plain s = record {
   path = string_bytes s.path;
   settings = map string_bytes s.settings.items;
   strict = s.strict;
+  strict_texts = s.strict_texts;
 }
 
 -- what is set, in order
@@ -37,6 +39,7 @@ pub record GivesSource (path : Option Text) (options : List Row) (source : Plain
   pub from : path ≡ Some source.path
   pub sets : source.settings ≡ settings_on_line options
   pub refuses : source.strict ≡ is_set (given_on_line options (codes "strict"))
+  pub refuses_texts : source.strict_texts ≡ is_set (given_on_line options (codes "strict-texts"))
 
 -- options that aren't for one sender: a number of rounds beside the file of a recording or a spool, or
 -- what is said about a recording without its file
@@ -44,5 +47,7 @@ abbrev pub is_mixed : (Text → Option Text) → Bool
 is_mixed given = if is_some (path_given given) then is_some (given (codes "rounds"))
     else is_some (given (codes "set"))
     || (is_some (given (codes "fruitless")) || (is_some (given (codes "state"))
-    || (is_some (given (codes "rate"))
-    || (is_set (given (codes "strict")) || is_set (given (codes "log"))))))
+    || (is_some (given (codes "rate")) || (is_some (given (codes "receipt"))
+    || (is_set (given (codes "json"))
+    || (is_set (given (codes "strict"))
+    || (is_set (given (codes "strict-texts")) || is_set (given (codes "log")))))))))

@@ -37,6 +37,8 @@ pub enum BadValue {
     Log,
     /// Other options of `takes` beside `--watch`.
     Watch,
+    /// Other options of `takes` beside `--verify`.
+    Verify,
     /// The name of a take that is given up, or other options of `takes` beside it.
     GiveUp,
     /// The address of the server that requests are sent to.
@@ -49,6 +51,8 @@ pub enum BadValue {
     Rate,
     /// An option for a recording without `--file` or `--spool`, or `--rounds` with one.
     Mixed,
+    /// `--receipt` with headerless samples, or `--json` without `--receipt`.
+    Receipt,
     /// The format of headerless samples.
     Pcm,
     /// How many bytes come before headerless samples.
@@ -98,12 +102,14 @@ impl BadValue {
             BadValue::Status => BAD_STATUS,
             BadValue::Log => BAD_LOG,
             BadValue::Watch => BAD_WATCH,
+            BadValue::Verify => BAD_VERIFY,
             BadValue::GiveUp => BAD_GIVE_UP,
             BadValue::Connect => BAD_CONNECT,
             BadValue::Rounds => BAD_ROUNDS,
             BadValue::Fruitless => BAD_FRUITLESS,
             BadValue::Rate => BAD_RATE,
             BadValue::Mixed => BAD_MIXED,
+            BadValue::Receipt => BAD_RECEIPT,
             BadValue::Pcm => BAD_PCM,
             BadValue::Skip => BAD_SKIP,
             BadValue::Block => BAD_BLOCK,
@@ -171,6 +177,8 @@ const BAD_WATCH: &str = report!(
     "'--watch' can't be given beside '--check', '--json', '--digest' and '--give-up <NAME>'"
 );
 
+const BAD_VERIFY: &str = report!("'--verify <RECEIPTS>' goes with '--folder <DIR>' alone");
+
 const BAD_GIVE_UP: &str = report!(
     "'--give-up <NAME>' takes 1 to 32 bytes of a-z, 0-9, '-' and '_', without '--check', ",
     "'--json' and '--digest'"
@@ -194,8 +202,14 @@ const BAD_RATE: &str = report!(
 );
 
 const BAD_MIXED: &str = report!(
-    "'--set', '--strict', '--fruitless', '--log', '--state' and '--rate' are for '--file ",
-    "<FILE>' or '--spool <SPOOL>', and '--rounds <N>' for a sender without these"
+    "'--set', '--strict', '--strict-texts', '--fruitless', '--log', '--state', '--rate', ",
+    "'--receipt' and '--json' are for '--file <FILE>' or '--spool <SPOOL>', and '--rounds ",
+    "<N>' for a sender without them"
+);
+
+const BAD_RECEIPT: &str = report!(
+    "'--receipt <RECEIPTS>' is for '--file <FILE>' of a RIFF WAVE, BW64 or RF64 file, and ",
+    "'--json' for '--receipt <RECEIPTS>'"
 );
 
 const BAD_PCM: &str = report!(

@@ -11,6 +11,7 @@ mod listing;
 mod network;
 mod one_file;
 mod options;
+mod receipts;
 mod row;
 mod samples;
 mod sending;

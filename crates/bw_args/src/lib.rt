@@ -27,7 +27,7 @@ use clap::error::ErrorKind;
 pub use folders::{FolderWork, TakesFolder};
 pub use inspection::Inspection;
 pub use peers::{End, Journaling, Logging, Recorders, Send, Serve};
-pub use recordings::{FileSender, PcmSender, PcmSource, SourceFile};
+pub use recordings::{FileSender, PcmSender, PcmSource, ReceiptTarget, SourceFile};
 use std::alloc::{AllocError, Global};
 
 /// What a command line asks the program to do.
@@ -79,6 +79,11 @@ pub enum Task {
     },
     /// Report the takes of a folder, or give one of them up.
     Takes(TakesFolder),
+    /// Compare the takes of a folder with the receipts in a file.
+    Verify {
+        folder: String,
+        receipts: String,
+    },
 }
 
 /// What a command line results in.
@@ -95,7 +100,7 @@ pub enum CommandLine {
 /// Parses a command line, whose first word is the program's own name.
 ///
 /// Which words run a task, and of what kind an error is, follows from `clap`'s own contract
-/// (`line`). In plain terms the contract says of seventy-nine forms that they run, of fifty-seven
+/// (`line`). In plain terms the contract says of eighty-nine forms that they run, of sixty-six
 /// which value is a fault and of nineteen what they print (`runs`, `refuses`, `help`). Examples
 /// test that options may be given in all their forms and orders, and that all else is refused,
 /// except `--` at the end or before a file.

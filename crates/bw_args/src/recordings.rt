@@ -10,8 +10,10 @@ pub struct SourceFile {
     /// What is set in place of what the file has, each as it was given, in this order. Whether they
     /// are settings isn't checked here.
     pub settings: Vec<String>,
-    /// Whether a recording that would be cleaned is refused.
+    /// Whether a recording is refused that loses anything of the file.
     pub strict: bool,
+    /// Whether a recording is refused whose texts would be cleaned, or that loses cue points.
+    pub strict_texts: bool,
 }
 
 /// Headerless samples, as a command line describes them. Whether there is such a format isn't
@@ -58,6 +60,15 @@ pub struct PcmSender {
     pub rate: Option<u32>,
 }
 
+/// Where a receipt goes, and how.
+#[derive(Debug, PartialEq, Eq, Drop)]
+pub struct ReceiptTarget {
+    /// The path of the file that it is added to, as it was given; `-` for standard output.
+    pub path: String,
+    /// Whether it is a line of JSON, or of words.
+    pub json: bool,
+}
+
 /// The sender of a recording that a command line asks for.
 #[derive(Debug, PartialEq, Eq, Drop)]
 pub struct FileSender {
@@ -75,6 +86,8 @@ pub struct FileSender {
     pub log: bool,
     /// The path of the file of its state, if it keeps one, as it was given.
     pub state: Option<String>,
+    /// Where its receipt goes, if it writes one.
+    pub receipt: Option<ReceiptTarget>,
     /// How many bytes a second it sends at most, at least 1; None for any number.
     pub rate: Option<u32>,
 }

@@ -2,5 +2,5 @@
 
 /// The toolchain, and the SHA-256 digest of the sources, a line each.
 pub const BUILD: &str = "toolchain: rattle-kit-13f logic dac8208d650f15bf
-sources: a6a785f605f61fc5bdf97f98db53dd4ec3a03fc6df1cdd32786a2809e7315103
+sources: 4144a984cdc505e20f8e101732c3772a778684eb28c9e2f00576f446dbc5354b
 ";

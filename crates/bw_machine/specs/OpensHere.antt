@@ -1,10 +1,10 @@
 -- What the opening of a kept server over a folder of this machine results in.
-use Rattle.std.specs.Prelude.{◌≡◌, ℕ, Bool, List, Some, Result, Ok, Err, MatchResult}
+use Rattle.std.specs.Prelude.{◌≡◌, ℕ, Bool, false, List, Some, Result, Ok, Err, MatchResult}
 use Rattle.bw_disk.specs.declared.disk.Disk.{Ghosts as DiskGhosts}
 use Rattle.bw_folder.specs.declared.folder.FolderStore.{FolderStore}
 use Rattle.bw_folder.specs.declared.journal.FolderJournal.{FolderJournal}
 use Rattle.bw_journal.specs.declared.journal.Journal.{Ghosts as JournalGhosts}
-use Rattle.bw_kept.specs.KeptServers.{table_server}
+use Rattle.bw_kept.specs.KeptServers.{table_server, was_answered}
 use Rattle.bw_kept.specs.declared.keeping.KeptServer.{KeptServer}
 use Rattle.bw_ports.specs.declared.folder_locks.LockRefusal.{LockRefusal}
 use Rattle.bw_machine.specs.KeptOpenings.{BeginsOver, CountsJournals, IsServerOver, IsRefusedUnder}
@@ -42,11 +42,12 @@ opened_in result = opened_part server_in result
 module _ {D E F H : Type 0} {G : DiskGhosts D F} {K : DiskGhosts E H}
     {S : StoreGhosts (FolderStore D F G)} {J : JournalGhosts (FolderJournal E H K)} where
   -- A kept server was opened over a folder as these disks show it, with this limit and this choice of
-  -- syncs; it is said how many names have a journal there.
+  -- syncs, and has answered nothing; it is said how many names have a journal there.
   pub record OpensOver (limit : ℕ) (folder : List ℕ) (sync : Bool) (takes : D) (notes : E)
       (opened : OpenedServer (KeptServer (FolderStore D F G) (FolderJournal E H K) S J)) : Type 0 where
     pub over : IsServerOver limit folder sync (table_server opened.server)
     pub begins : BeginsOver takes notes (table_server opened.server)
+    pub committed : was_answered opened.server ≡ false
     pub count : ℕ
     pub takes_are : opened.takes ≡ Some count
     pub counted : CountsJournals K folder notes count

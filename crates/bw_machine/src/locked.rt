@@ -1,7 +1,7 @@
 //! The opening of a kept server over a folder, under the folder's lock.
-ghost use Rattle.std.specs.Prelude.{◌≡◌, Ok, IfOk, IfErr, MatchResult, Result};
+ghost use Rattle.std.specs.Prelude.{◌≡◌, false, Ok, IfOk, IfErr, MatchResult, Result};
 ghost use Rattle.bw_disk.specs.DiskSteps.{StaysWhole};
-ghost use Rattle.bw_kept.specs.KeptServers.{table_server};
+ghost use Rattle.bw_kept.specs.KeptServers.{table_server, was_answered};
 ghost use Rattle.bw_kept.specs.LeftFolders.{KnowsNone};
 ghost use Rattle.bw_ports.specs.declared.folder_locks.LockRefusal.{LockRefusal as Refusal};
 ghost use Rattle.bw_machine.specs.KeptOpenings.{CountsJournals, HasDisks, IsServerOver};
@@ -121,6 +121,7 @@ fn server_over<D: Volume, E: Volume>(
     ensures none { IfOk result (λ k. KnowsNone ⟦<FolderStore<D> as TakeStore>⟧
         ⟦<FolderJournal<E> as Journal>⟧ (table_server k)) }
     ensures disks { IfOk result (λ k. HasDisks takes notes (table_server k)) }
+    ensures answered { IfOk result (λ k. was_answered k ≡ false) }
     ensures back { IfErr result (λ e. (e.0 ≡ takes) × (e.1 ≡ notes)) }
 {
     let Ok(path) = String::from_str(alloc, folder) else {
@@ -148,6 +149,7 @@ fn kept_over<D: Volume, E: Volume>(
     server: Server<FolderStore<D>, FolderJournal<E>>,
 ) -> Result<KeptOver<D, E>, (D, E)>
     ensures server { IfOk result (λ k. table_server k ≡ server) }
+    ensures answered { IfOk result (λ k. was_answered k ≡ false) }
     ensures back { IfErr result (λ e. HasDisks e.0 e.1 server) }
 {
     match KeptServer::new(alloc, server) {

@@ -5,6 +5,7 @@ use Rattle.bw_net.specs.declared.recordings.HostRecordings.{HostRecordings}
 use Rattle.bw_net.specs.declared.recordings.StampedFile.{StampedFile}
 use Rattle.bw_net.specs.declared.followed.FollowedFile.{FollowedFile}
 use Rattle.bw_net.specs.declared.spool_file.SpoolFile.{SpoolFile}
+use Rattle.bw_net.specs.declared.receipts.HostReceipts.{HostReceipts}
 use Rattle.bw_net.specs.declared.states.HostStates.{HostStates}
 use Rattle.bw_net.specs.declared.states.StateFile.{StateFile}
 use Rattle.bw_net.specs.declared.pause.ClockPause.{ClockPause}
@@ -49,6 +50,10 @@ states_failures s = s.failures
 -- as one of them did
 abbrev pub state_failures : StateFile → ℕ
 state_failures f = f.failures
+
+-- as the files of receipts did
+abbrev pub receipts_failures : HostReceipts → ℕ
+receipts_failures s = s.failures
 
 -- the runtime by whose clock is waited
 abbrev pub pausing_runtime : {R : Type 0} → ClockPause R → R

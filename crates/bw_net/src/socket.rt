@@ -10,6 +10,10 @@ use std::net::Shutdown;
 /// once, so the call can't wait for another report.
 const MOST_TRIES: u32 = 16;
 
+/// The most bytes that are read at once: eight of the longest frames, half of what a sender may have on
+/// the way, so that the other half comes while these are hashed.
+const MOST_READ: usize = 262_480;
+
 /// The link over a recorder's stream. No clause says which bytes it gives and takes.
 ///
 /// Only this is proved: it reports no more bytes than there is room for, no more than it was given,
@@ -48,7 +52,8 @@ impl Link for Socket {
             return Received::Nothing;
         }
         for _try in 0..MOST_TRIES {
-            match self.stream.read(buffer) {
+            let most = buffer.len().min(MOST_READ);
+            match self.stream.read(&mut buffer[..most]) {
                 Ok(0) => return Received::Ended,
                 Ok(count) => return Received::Bytes(count),
                 Err(error) => match error.kind() {

@@ -106,7 +106,7 @@ pub(crate) fn begin_file(rt: &HostRuntime, path: &str, bytes: &[u8]) -> io::Resu
 }
 
 /// Syncs the folder of the file at a path, so that the file's name is in it after a loss of power.
-fn sync_folder_of(rt: &HostRuntime, path: &str) -> io::Result<()> {
+pub(crate) fn sync_folder_of(rt: &HostRuntime, path: &str) -> io::Result<()> {
     let folder = match Path::new(path).parent() {
         Some(folder) if !folder.as_os_str().is_empty() => folder,
         _ => Path::new("."),

@@ -12,3 +12,4 @@ pub mod Spools
 pub mod Purposes
 pub mod Kinds
 pub mod Keeping
+pub mod ReceiptLines

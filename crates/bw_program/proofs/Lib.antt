@@ -3,4 +3,5 @@ mod ConversionLemmas
 mod FolderLemmas
 mod InspectionLemmas
 mod RequestLemmas
+mod ReceiptLemmas
 mod ServingLemmas

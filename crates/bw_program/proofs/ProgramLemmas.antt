@@ -17,6 +17,7 @@ use Rattle.bw_args.specs.declared.CommandLine.{CommandLine}
 use Rattle.bw_args.specs.declared.CommandLine.TheVariants.{Run, BadValue as Bad, Report}
 use Rattle.bw_args.specs.declared.Task.TheVariants.{Replay, Inspect, Rehearse, Serve, Send, SendFile, SendPcm}
 use Rattle.bw_args.specs.declared.Task.TheVariants.{Pack, Picture, InspectFiles, Repair, Convert, Takes}
+use Rattle.bw_args.specs.declared.Task.TheVariants.{Verify}
 use Rattle.bw_program.specs.Programs.{DoesAlone, IsDoneFor, IsProgram, IsReporting, IsUnread, build_lines}
 use Rattle.bw_console.specs.declared.exit.Exit.{Exit}
 use Rattle.bw_console.specs.declared.exit.Exit.TheVariants as exits
@@ -57,8 +58,8 @@ reported-help build texts.DisplayVersion outcome text out reported n p t =
     record { outcome = outcome; exit_is = refl; reads = refl; text = text; prints = p; reports = t }
 reported-help build _ outcome text out reported n p t = absurd (n ((λ e. cc), (λ e. cc)))
 
-module _ {S T F H G M SB SL KP Ed LK DK DF N X Z P R W L K SP SK D A B U J Q I O E T' : Type 0}
-    (host : HostSide S T F H G M SB SL KP Ed LK DK DF I O E)
+module _ {S T F H G M SB SL KP RC Ed LK DK DF N X Z P R W L K SP SK D A B U J Q I O E T' : Type 0}
+    (host : HostSide S T F H G M SB SL KP RC Ed LK DK DF I O E)
     (server_side : ServerSide X Z P R W L K N SP SK) (sender_side : SenderSide D A B)
     (upload_side : UploadSide U J Q) (network : NetworkGhosts N X P D R W A B)
     (listener_setup : ListenerSetupGhosts N L K)
@@ -138,6 +139,7 @@ module _ {S T F H G M SB SL KP Ed LK DK DF N X Z P R W L K SP SK D A B U J Q I O
       done_for (Run (Repair file write)) done = done
       done_for (Run (Convert file out form)) done = done
       done_for (Run (Takes listing)) done = done
+      done_for (Run (Verify folder receipts)) done = done
       done_for (Bad value) done = alone done
       done_for (Report error) done = alone done
   reported-words build words found exit system x x' same files counts (inr w) =

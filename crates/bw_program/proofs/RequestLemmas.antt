@@ -4,19 +4,23 @@ use Rattle.std.specs.Prelude.{option_map, string_bytes}
 use Rattle.bw_args.specs.declared.CommandLine.{CommandLine}
 use Rattle.bw_args.specs.declared.Task.{Task}
 use Rattle.bw_args.specs.declared.recordings.FileSender.{FileSender}
+use Rattle.bw_args.specs.declared.Task.TheVariants.{SendFile}
 use Rattle.bw_args.specs.declared.recordings.PcmSender.{PcmSender}
+use Rattle.bw_args.specs.declared.recordings.ReceiptTarget.{ReceiptTarget}
 use Rattle.bw_console.specs.declared.exit.Exit.{Exit}
 use Rattle.bw_ports.specs.declared.listener_setup.ListenerSetup.{Ghosts as ListenerSetupGhosts}
 use Rattle.bw_ports.specs.declared.network.Network.{Ghosts as NetworkGhosts}
 use Rattle.bw_program.specs.PcmCommands.{SendsBySpool}
-use Rattle.bw_program.specs.Programs.{DoesRequest, IsSentAlone}
+use Rattle.bw_program.specs.Programs.{DoesRequest, IsSentAlone, SendsFound}
+use Rattle.bw_program.specs.ReceiptCommands.{SendsAsAsked, sender_world}
+use Rattle.bw_program.specs.Requests.{FoundRecording, RecordingWithReceipt}
 use Rattle.bw_program.specs.Requests.{ByLine, ByTask, AnyRecording, AnySamples}
 use Rattle.bw_program.specs.Requests.{FileSamples, KeptRecording, NewRecording, SpooledSamples}
 use Rattle.bw_program.specs.Uploads.{SendsByPath}
 use Rattle.bw_program.specs.Sides.{HostSide, KeptSide, SenderSide, ServerSide, UploadSide, ProgramWorld}
 
-module _ {S T F H G M SB SL KP Ed LK DK DF N X Z P R W L K SP SK D A B U J Q I O E T' : Type 0}
-    (host : HostSide S T F H G M SB SL KP Ed LK DK DF I O E)
+module _ {S T F H G M SB SL KP RC Ed LK DK DF N X Z P R W L K SP SK D A B U J Q I O E T' : Type 0}
+    (host : HostSide S T F H G M SB SL KP RC Ed LK DK DF I O E)
     (server_side : ServerSide X Z P R W L K N SP SK) (sender_side : SenderSide D A B)
     (upload_side : UploadSide U J Q) (network : NetworkGhosts N X P D R W A B)
     (listener_setup : ListenerSetupGhosts N L K) (kept_servers : KeptSide N T') where
@@ -53,6 +57,42 @@ module _ {S T F H G M SB SL KP Ed LK DK DF N X Z P R W L K SP SK D A B U J Q I O
     unread = done.unread;
     kept = done.kept;
   }
+
+  -- without a receipt, as the command line names none
+  pub asked_without : {sender : FileSender} {exit : Exit}
+      {x x' : ProgramWorld S F DK N Q I O E} → sender.receipt ≡ None →
+      IsSentAlone host server_side sender_side upload_side network listener_setup kept_servers
+      (FoundRecording sender) exit x x' →
+      DoesRequest host server_side sender_side upload_side network listener_setup kept_servers
+      (ByTask (SendFile sender)) exit x x'
+  asked_without {sender} {exit} {x} {x'} is done = (
+    subst (λ (target : Option ReceiptTarget). SendsAsAsked host.files host.receipts host.out host.reported
+        (SendsFound host server_side sender_side upload_side network listener_setup kept_servers
+        sender x.network) sender target exit (sender_world x.files x.pause x.out x.faults)
+        (sender_world x'.files x'.pause x'.out x'.faults)) (sym is) done.sent,
+    done.well,
+    done.unused,
+    done.unread,
+    done.kept,
+  )
+
+  -- with the receipt that the command line asks for
+  pub asked_with : {sender : FileSender} {target : ReceiptTarget} {exit : Exit}
+      {x x' : ProgramWorld S F DK N Q I O E} → sender.receipt ≡ Some target →
+      IsSentAlone host server_side sender_side upload_side network listener_setup kept_servers
+      (RecordingWithReceipt target sender) exit x x' →
+      DoesRequest host server_side sender_side upload_side network listener_setup kept_servers
+      (ByTask (SendFile sender)) exit x x'
+  asked_with {sender} {target} {exit} {x} {x'} is done = (
+    subst (λ (target : Option ReceiptTarget). SendsAsAsked host.files host.receipts host.out host.reported
+        (SendsFound host server_side sender_side upload_side network listener_setup kept_servers
+        sender x.network) sender target exit (sender_world x.files x.pause x.out x.faults)
+        (sender_world x'.files x'.pause x'.out x'.faults)) (sym is) done.sent,
+    done.well,
+    done.unused,
+    done.unread,
+    done.kept,
+  )
 
   -- from a spool
   pub any_spooled : {sender : PcmSender} {exit : Exit}

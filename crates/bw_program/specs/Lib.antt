@@ -12,3 +12,4 @@ pub mod PcmUploads
 pub mod PcmCommands
 pub mod RepairCommands
 pub mod ConvertCommands
+pub mod ReceiptCommands

@@ -12,6 +12,7 @@ use Rattle.bw_send_file.specs.Sendings.{Ways}
 use Rattle.bw_send_file.specs.declared.job.Recorder.{Recorder}
 use Rattle.bw_send_file.specs.PcmSendings.{FollowsFile, IsPcmSent, OpensSamples}
 use Rattle.bw_send_file.specs.declared.pcm_job.PcmFile.{PcmFile}
+use Rattle.bw_program.specs.RecordingCommands.{strictness_of}
 use Rattle.bw_program.specs.declared.samples.Ending.{Ending}
 use Rattle.bw_program.specs.declared.samples.Ending.TheVariants as endings
 use Rattle.bw_program.specs.Sides.{SenderSide, UploadSide}
@@ -30,7 +31,7 @@ most_in_field = 65_535
 pub record IsPcmFileOf (sender : PcmSender) (file : PcmFile) : Type 0 where
   pub path : file.file.path.now ≡ string_bytes sender.source.path
   pub settings : map string_bytes file.file.settings.now ≡ map string_bytes sender.source.settings.items
-  pub strict : file.file.is_strict ≡ sender.source.strict
+  pub strict : file.file.strict ≡ strictness_of sender.source
   pub blocks : file.file.frames ≡ sender.pcm.block
   pub rate : file.pcm.rate ≡ sender.pcm.rate
   pub channels : file.pcm.channels ≡ min sender.pcm.channels most_in_field

@@ -13,9 +13,11 @@ use Rattle.bw_args.specs.declared.bad_value.BadValue.{BadValue}
 use Rattle.bw_args.specs.declared.CommandLine.{CommandLine}
 use Rattle.bw_args.specs.declared.CommandLine.TheVariants.{Run, BadValue as Bad, Report}
 use Rattle.bw_args.specs.declared.Task.{Task}
+use Rattle.bw_args.specs.declared.recordings.FileSender.{FileSender}
 use Rattle.bw_args.specs.declared.Task.TheVariants.{Replay, Inspect, Rehearse, Serve, Send, SendFile}
 use Rattle.bw_args.specs.declared.Task.TheVariants.{SendPcm}
 use Rattle.bw_args.specs.declared.Task.TheVariants.{Pack, Picture, InspectFiles, Repair, Convert, Takes}
+use Rattle.bw_args.specs.declared.Task.TheVariants.{Verify}
 use Rattle.bw_console.specs.Outcomes.{Outcome, Does, IsOutOfMemory}
 use Rattle.bw_commands.specs.Replays.{IsReplay}
 use Rattle.bw_console.specs.Faults.{IsReportedBy, exit_of}
@@ -30,7 +32,7 @@ use Rattle.bw_ports.specs.declared.network.Network.{Ghosts as NetworkGhosts}
 use Rattle.bw_ports.specs.declared.listener_setup.ListenerSetup.{Ghosts as ListenerSetupGhosts}
 use Rattle.bw_program.specs.ConvertCommands.{ConvertsFile, conversion_side, conversion_world}
 use Rattle.bw_program.specs.FileCommands.{InspectsFiles, IsInspectedAt}
-use Rattle.bw_program.specs.TakesCommands.{WorksOnTakes, folder_side, folder_world}
+use Rattle.bw_program.specs.TakesCommands.{VerifiesByKind, WorksOnTakes, folder_side, folder_world}
 use Rattle.bw_program.specs.PictureCommands.{DrawsFile}
 use Rattle.bw_program.specs.RecordingCommands.{Packs}
 use Rattle.bw_program.specs.RepairCommands.{RepairsFile}
@@ -39,7 +41,9 @@ use Rattle.bw_program.specs.Sources.{IfFile}
 use Rattle.bw_program.specs.PcmCommands.{SendsBySpool, SendsPcmCommand}
 use Rattle.bw_program.specs.PcmUploads.{SendsPcm}
 use Rattle.bw_program.specs.Requests.{ProgramRequest, ByWords, ByLine, ByTask, ByUpload, Upload}
+use Rattle.bw_program.specs.ReceiptCommands.{SendsAsAsked, SendsWithReceipt, SenderWorld, sender_world}
 use Rattle.bw_program.specs.Requests.{NewRecording, KeptRecording, AnyRecording}
+use Rattle.bw_program.specs.Requests.{FoundRecording, RecordingWithReceipt}
 use Rattle.bw_program.specs.Requests.{SpooledSamples, FileSamples, AnySamples}
 use Rattle.bw_program.specs.Uploads.{SendsByState, SendsOrGivesUp, SendsRecording}
 use Rattle.bw_program.specs.Sides.{HostSide, KeptSide, SenderSide, ServerSide, UploadSide, ProgramWorld}
@@ -99,6 +103,7 @@ IsTaskDone file_at input (Picture file) gives_all did = ⊥
 IsTaskDone file_at input (Repair file write) gives_all did = ⊥
 IsTaskDone file_at input (Convert file out form) gives_all did = ⊥
 IsTaskDone file_at input (Takes listing) gives_all did = ⊥
+IsTaskDone file_at input (Verify folder receipts) gives_all did = ⊥
 
 -- the bad value is reported
 abbrev pub IsValueReported : BadValue → Bool → Outcome → Type 0
@@ -113,8 +118,8 @@ abbrev pub IsUnread : Bool → Outcome → Type 0
 IsUnread true did = IsOutOfMemory did
 IsUnread false did = (kind : ErrorKind) × IsBadArgv kind did
 
-module _ {S T F H G M SB SL KP Ed LK DK DF N X Z P R W L K SP SK D A B U J Q I O E T' : Type 0}
-    (host : HostSide S T F H G M SB SL KP Ed LK DK DF I O E)
+module _ {S T F H G M SB SL KP RC Ed LK DK DF N X Z P R W L K SP SK D A B U J Q I O E T' : Type 0}
+    (host : HostSide S T F H G M SB SL KP RC Ed LK DK DF I O E)
     (server_side : ServerSide X Z P R W L K N SP SK) (sender_side : SenderSide D A B)
     (upload_side : UploadSide U J Q) (network : NetworkGhosts N X P D R W A B)
     (listener_setup : ListenerSetupGhosts N L K)
@@ -134,6 +139,14 @@ module _ {S T F H G M SB SL KP Ed LK DK DF N X Z P R W L K SP SK D A B U J Q I O
   abbrev pub IsHostWell : ℕ → ProgramWorld S F DK N Q I O E → Type 0
   IsHostWell failed x' = host.system.failures x'.system ≡ failed
 
+  -- the recording was sent, if a file is at its path
+  abbrev pub SendsFound : FileSender → N → Exit → SenderWorld F Q O E → SenderWorld F Q O E → Type 0
+  SendsFound sender n exit w w' =
+      IfFile host.kinds host.reported (string_bytes sender.source.path) false exit
+      w.files w'.files w.pause w'.pause w.out w'.out w.faults w'.faults
+      (SendsByState upload_side sender_side network host.files host.states host.out host.reported
+      sender exit w.files w'.files n w.pause w'.pause w.out w'.out w.faults w'.faults)
+
   -- what is done for a task, and how the program ends, where the system has these files and so many
   -- calls of it had failed
   abbrev pub IsTaskFor : (Text → Option (List ℕ)) → ℕ → Task → Exit →
@@ -149,10 +162,9 @@ module _ {S T F H G M SB SL KP Ed LK DK DF N X Z P R W L K SP SK D A B U J Q I O
       × IsHostWell failed x' × (x'.files ≡ x.files) × (x'.network ≡ x.network)
       × (x'.pause ≡ x.pause) × (x'.disk ≡ x.disk)
   IsTaskFor file_at failed (SendFile sender) exit x x' =
-      IfFile host.kinds host.reported (string_bytes sender.source.path) false exit
-      x.files x'.files x.pause x'.pause x.out x'.out x.faults x'.faults
-      (SendsByState upload_side sender_side network host.files host.states host.out host.reported
-      sender exit x.files x'.files x.network x.pause x'.pause x.out x'.out x.faults x'.faults)
+      SendsAsAsked host.files host.receipts host.out host.reported (SendsFound sender x.network) sender
+      sender.receipt exit (sender_world x.files x.pause x.out x.faults)
+      (sender_world x'.files x'.pause x'.out x'.faults)
       × IsHostWell failed x' × (x'.network ≡ x.network) × (x'.input ≡ x.input) × (x'.disk ≡ x.disk)
   IsTaskFor file_at failed (SendPcm sender) exit x x' =
       IfFile host.kinds host.reported (string_bytes sender.source.path) sender.pcm.is_spooled exit
@@ -188,6 +200,12 @@ module _ {S T F H G M SB SL KP Ed LK DK DF N X Z P R W L K SP SK D A B U J Q I O
   IsTaskFor file_at failed (Takes listing) exit x x' =
       WorksOnTakes (folder_side host.disk host.locks upload_side.pause host.out host.reported)
       x.screens listing exit (folder_world x.disk x.files x.pause x.out x.faults)
+      (folder_world x'.disk x'.files x'.pause x'.out x'.faults)
+      × IsHostWell failed x' × (x'.network ≡ x.network) × (x'.input ≡ x.input)
+  IsTaskFor file_at failed (Verify folder receipts) exit x x' =
+      VerifiesByKind host.kinds (folder_side host.disk host.locks upload_side.pause host.out host.reported)
+      (string_bytes folder) (string_bytes receipts) exit
+      (folder_world x.disk x.files x.pause x.out x.faults)
       (folder_world x'.disk x'.files x'.pause x'.out x'.faults)
       × IsHostWell failed x' × (x'.network ≡ x.network) × (x'.input ≡ x.input)
   IsTaskFor file_at failed task exit x x' =
@@ -227,6 +245,13 @@ module _ {S T F H G M SB SL KP Ed LK DK DF N X Z P R W L K SP SK D A B U J Q I O
   IsSentOver (AnyRecording sender) exit x x' =
       SendsByState upload_side sender_side network host.files host.states host.out host.reported
       sender exit x.files x'.files x.network x.pause x'.pause x.out x'.out x.faults x'.faults
+  IsSentOver (FoundRecording sender) exit x x' =
+      SendsFound sender x.network exit (sender_world x.files x.pause x.out x.faults)
+      (sender_world x'.files x'.pause x'.out x'.faults)
+  IsSentOver (RecordingWithReceipt target sender) exit x x' =
+      SendsWithReceipt host.files host.receipts host.out host.reported (SendsFound sender x.network) sender
+      target exit (sender_world x.files x.pause x.out x.faults)
+      (sender_world x'.files x'.pause x'.out x'.faults)
   IsSentOver (SpooledSamples sender) exit x x' =
       SendsBySpool upload_side sender_side network host.files host.spools host.out host.reported true
       sender exit x.files x'.files x.network x.pause x'.pause x.out x'.out x.faults x'.faults

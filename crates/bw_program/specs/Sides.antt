@@ -14,6 +14,7 @@ use Rattle.bw_ports.specs.declared.recording_files.RecordingFiles.{Ghosts as Fil
 use Rattle.bw_ports.specs.declared.edited_files.EditedFiles.{Ghosts as EditGhosts}
 use Rattle.bw_ports.specs.declared.folder_locks.FolderLocks.{Ghosts as LockGhosts}
 use Rattle.bw_ports.specs.declared.file_kind.FileKinds.{Ghosts as KindGhosts}
+use Rattle.bw_ports.specs.declared.receipt_files.ReceiptFiles.{Ghosts as ReceiptGhosts}
 use Rattle.bw_ports.specs.declared.starts.StartRefusal.{StartRefusal}
 use Rattle.bw_model.specs.Book.{Book}
 use Rattle.bw_model.specs.Wire.{Frame}
@@ -54,14 +55,23 @@ pub record SpoolSide (F K : Type 0) : Type 1 where
 abbrev pub spool_side : {F K : Type 0} → (F → K → Type 0) → KeeperGhosts K → SpoolSide F K
 spool_side lends keeper = record { lends = lends; keeper = keeper }
 
--- the system, the files of recordings, the states and the spools of their senders, how files are
--- changed in place, the locks of servers' folders, what is at each path, the disk of these folders,
--- and the process's streams
-pub record HostSide (S T F H G M SB SL KP J LK DK DF I O E : Type 0) : Type 1 where
+-- the texts of receipts, and the files that they are appended to
+pub record ReceiptSide (F R : Type 0) : Type 1 where
+  pub noted_at : F → List ℕ → Option (List ℕ)
+  pub files : ReceiptGhosts R
+
+abbrev pub receipt_side : {F R : Type 0} → (F → List ℕ → Option (List ℕ)) → ReceiptGhosts R → ReceiptSide F R
+receipt_side noted_at files = record { noted_at = noted_at; files = files }
+
+-- the system, the files of recordings, the states, the spools and the receipts of their senders, how
+-- files are changed in place, the locks of servers' folders, what is at each path, the disk of these
+-- folders, and the process's streams
+pub record HostSide (S T F H G M SB SL KP RC J LK DK DF I O E : Type 0) : Type 1 where
   pub system : SystemGhosts S T
   pub files : FileGhosts F H G M
   pub states : StateSide F SB SL
   pub spools : SpoolSide F KP
+  pub receipts : ReceiptSide F RC
   pub edits : EditGhosts F J
   pub locks : LockGhosts F LK
   pub kinds : KindGhosts F
@@ -70,15 +80,16 @@ pub record HostSide (S T F H G M SB SL KP J LK DK DF I O E : Type 0) : Type 1 wh
   pub out : Writer O
   pub reported : Writer E
 
-abbrev pub host_side : {S T F H G M SB SL KP J LK DK DF I O E : Type 0} → SystemGhosts S T →
-    FileGhosts F H G M → StateSide F SB SL → SpoolSide F KP → EditGhosts F J → LockGhosts F LK →
-    KindGhosts F → DiskGhosts DK DF → Reader I → Writer O → Writer E →
-    HostSide S T F H G M SB SL KP J LK DK DF I O E
-host_side system files states spools edits locks kinds disk input out reported = record {
+abbrev pub host_side : {S T F H G M SB SL KP RC J LK DK DF I O E : Type 0} → SystemGhosts S T →
+    FileGhosts F H G M → StateSide F SB SL → SpoolSide F KP → ReceiptSide F RC → EditGhosts F J →
+    LockGhosts F LK → KindGhosts F → DiskGhosts DK DF → Reader I → Writer O → Writer E →
+    HostSide S T F H G M SB SL KP RC J LK DK DF I O E
+host_side system files states spools receipts edits locks kinds disk input out reported = record {
   system = system;
   files = files;
   states = states;
   spools = spools;
+  receipts = receipts;
   edits = edits;
   locks = locks;
   kinds = kinds;

@@ -1,6 +1,6 @@
 -- What is done where a command line names what to send, by what is there; and what is reported to a
 -- user who types it.
-use Rattle.std.specs.Prelude.{◌≡◌, ◌⊎◌, ℕ, [], ◌∷◌, ◌++◌, Bool, true, false, List, codes}
+use Rattle.std.specs.Prelude.{◌≡◌, ◌⊎◌, ℕ, Bool, true, false, List, codes}
 use Rattle.bw_stream.specs.declared.sink.Sink.{Ghosts as Writer}
 use Rattle.bw_console.specs.Prints.{Print, IsOf, IsPrint}
 use Rattle.bw_console.specs.declared.exit.Exit.{Exit}

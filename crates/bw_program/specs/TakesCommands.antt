@@ -1,13 +1,17 @@
 -- What is done for the command line about a folder's takes.
-use Rattle.std.specs.Prelude.{◌≡◌, ℕ, Bool, List, Result, string_bytes, if◌then◌else◌}
+use Rattle.std.specs.Prelude.{◌≡◌, ◌⊎◌, ℕ, Bool, true, false, List, Result, string_bytes, if◌then◌else◌}
 use Rattle.bw_stream.specs.declared.sink.Sink.{Ghosts as Writer}
 use Rattle.bw_args.specs.declared.folders.FolderWork.{FolderWork}
 use Rattle.bw_args.specs.declared.folders.FolderWork.TheVariants.{Report, Watch, GiveUp}
 use Rattle.bw_args.specs.declared.folders.TakesFolder.{TakesFolder}
 use Rattle.bw_console.specs.Outcomes.{Outcome, HasWritten}
+use Rattle.bw_console.specs.Prints.{IsPrint, Print}
 use Rattle.bw_console.specs.declared.exit.Exit.{Exit}
 use Rattle.bw_disk.specs.DiskSteps.{StaysWhole}
 use Rattle.bw_disk.specs.declared.disk.Disk.{Ghosts as DiskGhosts}
+use Rattle.bw_ports.specs.Kinds.{IsKindReport, is_odd_kind}
+use Rattle.bw_ports.specs.declared.file_kind.FileKind.{FileKind}
+use Rattle.bw_ports.specs.declared.file_kind.FileKinds.{Ghosts as KindGhosts}
 use Rattle.bw_ports.specs.declared.folder_locks.FolderLocks.{Ghosts as LockGhosts}
 use Rattle.bw_ports.specs.declared.folder_locks.LockRefusal.{LockRefusal}
 use Rattle.bw_ports.specs.declared.pause.Pause.{Ghosts as PauseGhosts}
@@ -16,6 +20,7 @@ use Rattle.bw_takes.specs.declared.listing.LineStyle.TheVariants.{Words, Json}
 use Rattle.bw_takes.specs.declared.listing.ReportForm.{ReportForm}
 use Rattle.bw_takes.specs.FolderProgress.{fails_folder, reads_folder}
 use Rattle.bw_takes.specs.GiveUpShowings.{IsGivingUp}
+use Rattle.bw_takes.specs.ReceiptChecks.{IsVerifying}
 use Rattle.bw_takes.specs.Showings.{IsShowing}
 use Rattle.bw_takes.specs.Watches.{Watches, watch_side, watch_world}
 use Rattle.bw_takes.specs.declared.comparing.Depth.{Depth}
@@ -101,3 +106,34 @@ abbrev pub WorksOnTakes : {D DF F L P O E : Type 0} → FolderSide D DF F L P O 
     TakesFolder → Exit → FolderWorld D F P O E → FolderWorld D F P O E → Type 0
 WorksOnTakes side style listing exit w w' =
     WorksOnFolder side style listing.work (string_bytes listing.folder) exit w w'
+
+-- the takes of a folder were compared with the receipts at a path, and nothing has changed
+pub record VerifiesFolder {D DF F L P O E : Type 0} (side : FolderSide D DF F L P O E)
+    (folder path : List ℕ) (exit : Exit) (w w' : FolderWorld D F P O E) : Type 0 where
+  pub did : Outcome
+  pub ends : did.exit ≡ exit
+  pub is : IsVerifying (side.disk.honest w.disk) folder path (side.disk.contents w.disk)
+      (side.disk.failures w.disk) (side.disk.failures w'.disk) did
+  pub disk : StaysWhole side.disk w.disk w'.disk
+  pub writes : HasWritten side.out side.reported did w.out w'.out w.faults w'.faults
+  pub unlocked : w'.locks ≡ w.locks
+  pub unpaused : w'.pause ≡ w.pause
+
+-- something is at the path of the receipts that can't be read again, a pipe or a device: that is
+-- reported, and nothing else is done
+pub record RefusesReceipts {D DF F L P O E : Type 0} (side : FolderSide D DF F L P O E) (path : List ℕ)
+    (kind : FileKind) (exit : Exit) (w w' : FolderWorld D F P O E) : Type 0 where
+  pub odd : is_odd_kind kind true ≡ true
+  pub print : Print
+  pub says : IsKindReport path kind true exit print
+  pub faults : E
+  pub alone : w' ≡ record w { faults = faults }
+  pub reports : IsPrint side.reported print w.faults faults
+
+-- the takes of a folder were compared with the receipts at a path, as far as a file is known to be there
+pub record VerifiesByKind {D DF F L P O E : Type 0} (kinds : KindGhosts F) (side : FolderSide D DF F L P O E)
+    (folder path : List ℕ) (exit : Exit) (w w' : FolderWorld D F P O E) : Type 0 where
+  pub kind : FileKind
+  pub found : kinds.kinds w.locks path kind
+  pub verifies : RefusesReceipts side path kind exit w w'
+      ⊎ ((is_odd_kind kind true ≡ false) × VerifiesFolder side folder path exit w w')

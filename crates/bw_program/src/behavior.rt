@@ -18,13 +18,14 @@ impl<X: Environment> Behavior for Outside<X> {
     ghost use Rattle.bw_send_file.specs.FileLooks.{LooksAt};
     ghost use Rattle.bw_serve_status.specs.Shown.{status_side};
     ghost use Rattle.bw_program.specs.Programs.{DoesRequest};
-    ghost use Rattle.bw_program.specs.Sides.{host_side, kept_side, sender_side, server_side, spool_side, state_side, turns_side, upload_side, program_world};
+    ghost use Rattle.bw_program.specs.Sides.{host_side, kept_side, receipt_side, sender_side, server_side, spool_side, state_side, turns_side, upload_side, program_world};
 
     // Each text goes to its stream, and commands without the network leave it alone.
     ghost does = { λ request exit x x'. DoesRequest
         (host_side X.System.System X.Files.RecordingFiles
         (state_side X.Files.kept_at X.Files.States.StateFiles X.Files.States.Log.StateLog)
-        (spool_side X.Files.lends X.Files.Keeper.SpoolKeeper) X.Files.EditedFiles X.Files.FolderLocks
+        (spool_side X.Files.lends X.Files.Keeper.SpoolKeeper)
+        (receipt_side X.Files.noted_at X.Files.Receipts.ReceiptFiles) X.Files.EditedFiles X.Files.FolderLocks
         X.Files.FileKinds X.Disk.Disk X.Input.Source X.Output.Sink X.Diagnostics.Sink)
         (server_side X.Network.Store.TakeStore ⟦<NoJournal as Journal>⟧ X.Network.Peers.Peers
         X.Network.Peers.Reader.Source X.Network.Peers.Writer.Sink X.Network.Reactor.Reactor

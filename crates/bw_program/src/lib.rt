@@ -8,6 +8,7 @@ mod folders;
 mod inspections;
 mod outside;
 mod program;
+mod receipts;
 mod recordings;
 mod remote;
 mod samples;

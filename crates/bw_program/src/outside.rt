@@ -2,8 +2,8 @@
 use bw_disk::Volume;
 use bw_operators::StatusSetup;
 use bw_ports::{
-    EditedFiles, FileKinds, FolderLocks, ListenerSetup, PacedNetwork, Pause, RecordingFiles,
-    SpoolKeeping, StateKeeping, System, Watch,
+    EditedFiles, FileKinds, FolderLocks, ListenerSetup, PacedNetwork, Pause, ReceiptKeeping,
+    RecordingFiles, SpoolKeeping, StateKeeping, System, Watch,
 };
 use bw_progress::UploadWatch;
 use bw_serve::{Opens, ServeRules};
@@ -21,6 +21,7 @@ pub trait Environment {
     type Files: RecordingFiles
         + StateKeeping
         + SpoolKeeping
+        + ReceiptKeeping
         + EditedFiles
         + FolderLocks
         + FileKinds;

@@ -1,8 +1,11 @@
 //! The commands on recordings, as a command line asks for them.
+ghost use Rattle.std.specs.Prelude.{◌≡◌};
 ghost use Rattle.bw_program.specs.RecordingCommands.{IsRecordingFile, Packs};
+ghost use Rattle.bw_program.specs.RecordingCommands.{strictness_of as strictness_asked};
 
 use bw_args::SourceFile;
 use bw_console::Exit;
+use bw_plan::Strictness;
 use bw_ports::RecordingFiles;
 use bw_recorder::{RecordingFile, pack};
 use bw_stream::Sink;
@@ -29,7 +32,20 @@ pub(crate) fn recording_of(source: &SourceFile) -> RecordingFile<'_>
     RecordingFile {
         path: source.path.as_str(),
         settings: source.settings.as_slice(),
-        is_strict: source.strict,
+        strict: strictness_of(source),
         frames: None,
+    }
+}
+
+/// What the recording may not lose: nothing at all, if both is asked for.
+pub(crate) fn strictness_of(source: &SourceFile) -> Strictness
+    ensures { result ≡ strictness_asked source.now }
+{
+    if source.strict {
+        Strictness::Full
+    } else if source.strict_texts {
+        Strictness::Texts
+    } else {
+        Strictness::Lenient
     }
 }

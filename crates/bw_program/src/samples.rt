@@ -7,6 +7,7 @@ ghost use Rattle.bw_program.specs.Requests.{AnySamples, ByUpload, FileSamples, S
 
 use crate::behavior::Behavior;
 use crate::outside::{Environment, Outside};
+use crate::recordings::strictness_of;
 use bw_args::PcmSender;
 use bw_console::Exit;
 use bw_plan::Pcm;
@@ -167,7 +168,7 @@ fn pcm_file_of(sender: &PcmSender) -> PcmFile<'_>
         file: RecordingFile {
             path: sender.source.path.as_str(),
             settings: sender.source.settings.as_slice(),
-            is_strict: sender.source.strict,
+            strict: strictness_of(&sender.source),
             frames: sender.pcm.block,
         },
         pcm: Pcm {

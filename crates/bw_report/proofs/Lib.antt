@@ -3,3 +3,4 @@ pub mod JsonShapes
 pub mod LookLemmas
 pub mod Hashed
 pub mod EntryLemmas
+pub mod ReceiptLemmas

@@ -10,3 +10,4 @@ pub mod FileFindings
 pub mod Entries
 pub mod FileLooks
 pub mod Inputs
+pub mod Receipts

@@ -81,7 +81,7 @@ fn look<F: RecordingFiles, E: Sink>(
 }
 
 /// Looks at the file at a path, and reports why it can't be opened.
-fn look_over<F: RecordingFiles, E: Sink>(
+pub(crate) fn look_over<F: RecordingFiles, E: Sink>(
     alloc: Global,
     files: &mut F,
     path: &str,

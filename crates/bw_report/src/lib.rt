@@ -1,4 +1,5 @@
-//! Reports of files, one after another: plain, for people, or as lines of JSON (RFC 8259).
+//! Reports of files, one after another: plain, for people, or as lines of JSON (RFC 8259). And the
+//! receipts of recordings that are stored.
 //! Not stated: which bytes the process's own files have; the reason in the line of one that isn't
 //! opened.
 #![tactic(auto)]
@@ -14,6 +15,7 @@ mod human;
 mod input;
 mod json;
 mod parts;
+mod receipt;
 mod shown;
 mod time;
 mod units;
@@ -25,5 +27,6 @@ pub use files::inspect_files;
 pub use found::Found;
 pub use input::inspect_input;
 pub use json::json_line;
+pub use receipt::{ReceiptJob, begin_receipts, put_receipt};
 pub use time::milliseconds;
 pub use units::{put_number, put_time};

@@ -1,8 +1,9 @@
 -- What is reported where a command ends before anything is sent.
-use Rattle.std.proofs.Common.{◌≡◌, ℕ, Bool, List, Option, refl}
+use Rattle.std.proofs.Common.{◌≡◌, ℕ, List, Option, refl}
 use Rattle.bw_stream.specs.declared.sink.Sink.{Ghosts as Writer}
 use Rattle.bw_console.specs.Prints.{Print, IsPrint, failures_if}
 use Rattle.bw_console.specs.declared.exit.Exit.{Exit}
+use Rattle.bw_plan.specs.declared.options.Strictness.{Strictness}
 use Rattle.bw_recorder.specs.Openings.{is_well_at}
 use Rattle.bw_recorder.specs.Packs.{HasPacked, IsOpenReport, IsOptionsReport, Packing, RefusesAtOnce}
 use Rattle.bw_recorder.specs.SettingLists.{LacksOptions}
@@ -11,7 +12,7 @@ use Rattle.bw_recorder.specs.declared.fault.OptionsFault.{OptionsFault}
 use Rattle.bw_recorder.proofs.PackSteps.{refusal, refused, unopened}
 
 -- what is set can't be used: that is reported, and nothing else is done
-pub refuses : {S T : Type 0} (w : Writer S) (e : Writer T) (P : Packing → Type 0) (texts : List (List ℕ)) (strict : Bool)
+pub refuses : {S T : Type 0} (w : Writer S) (e : Writer T) (P : Packing → Type 0) (texts : List (List ℕ)) (strict : Strictness)
     (frames : Option ℕ) (fault : OptionsFault) (exit : Exit) (out : S) (faults faults' : T) (failures : ℕ) →
     ((did : Packing) → RefusesAtOnce texts strict frames did → P did) → LacksOptions texts strict frames fault →
     ((print : Print) × IsOptionsReport fault exit print × IsPrint e print faults faults') →

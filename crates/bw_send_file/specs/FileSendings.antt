@@ -1,5 +1,5 @@
 -- What the command `send --file` does.
-use Rattle.std.specs.Prelude.{◌≡◌, ◌⊎◌, ℕ, Bool, true, List, Option, Some, Ok, codes}
+use Rattle.std.specs.Prelude.{◌≡◌, ◌⊎◌, ℕ, true, List, [], Option, Some, Ok, IsTrue, codes}
 use Rattle.std.specs.Prelude.{map, string_bytes}
 use Rattle.bw_model.specs.Take.{Request}
 use Rattle.bw_stream.specs.Readers.{Of}
@@ -10,6 +10,8 @@ use Rattle.bw_ports.specs.declared.pause.Pause.{Ghosts as PauseGhosts}
 use Rattle.bw_console.specs.Outcomes.{Outcome as Did}
 use Rattle.bw_plan.specs.Plans.{plan}
 use Rattle.bw_plan.specs.Recordings.{Options, Recording, recording_of, block_frames}
+use Rattle.bw_plan.specs.Strictness.{refuses_losses}
+use Rattle.bw_plan.specs.declared.options.Strictness.{Strictness}
 use Rattle.bw_recorder.specs.FileReports.{warnings_in}
 use Rattle.bw_recorder.specs.Packs.{IsNotOpened, IsReportedText, Packing, RefusesSettings, RunsOutOfMemory}
 use Rattle.bw_recorder.specs.SettingLists.{options_of}
@@ -31,6 +33,7 @@ pub record FeedsRecording (b : List ℕ) (o : Options) (to_come : List Request �
   pub recording : Recording
   pub is : recording_of b o ≡ Ok recording
   pub says : text ≡ warning_lines (warnings_in b recording.outline)
+  pub whole : IsTrue (refuses_losses o.strict) → text ≡ []
   pub gives : to_come (plan (block_frames o recording.outline.format) recording)
 
 module _ {F P D R W : Type 0} (feed : FeedGhosts F FeedFault) (pause : PauseGhosts P)
@@ -52,7 +55,7 @@ module _ {F P D R W : Type 0} (feed : FeedGhosts F FeedFault) (pause : PauseGhos
     pub exit_is : did.exit ≡ sent.exit
 
   -- nothing was sent: what is set can't be read, memory was refused, or the file isn't opened
-  abbrev pub RefusesToSend : List ℕ → Option (List ℕ) → List (List ℕ) → Bool → Option ℕ →
+  abbrev pub RefusesToSend : List ℕ → Option (List ℕ) → List (List ℕ) → Strictness → Option ℕ →
       Packing → Type 0
   RefusesToSend path file texts strict frames did =
       RefusesSettings texts strict frames did ⊎ RunsOutOfMemory did
@@ -63,7 +66,7 @@ module _ {F P D R W : Type 0} (feed : FeedGhosts F FeedFault) (pause : PauseGhos
   abbrev pub IsFileSent : Recorder → RecordingFile → Option (List ℕ) → (F → Type 0) → Ways P D →
       Ways P D → Packing → Type 0
   IsFileSent recorder f file is_looked_at old new did =
-      (RefusesToSend f.path.now file (map string_bytes f.settings.now) f.is_strict f.frames did
+      (RefusesToSend f.path.now file (map string_bytes f.settings.now) f.strict f.frames did
       × (new ≡ old))
-      ⊎ ((o : Options) × (options_of (map string_bytes f.settings.now) f.is_strict f.frames ≡ Some o)
+      ⊎ ((o : Options) × (options_of (map string_bytes f.settings.now) f.strict f.frames ≡ Some o)
       × SendsFile o (errand_of recorder f) file is_looked_at old new did)

@@ -140,7 +140,7 @@ EndsKept path sent exit print = ((exit ≡ sent) × (print ≡ Nothing))
 -- what is asked for beside the recording
 abbrev pub IsAskedFor : Job → Options → Type 0
 IsAskedFor job o =
-    options_of (map string_bytes job.file.settings.now) job.file.is_strict job.file.frames ≡ Some o
+    options_of (map string_bytes job.file.settings.now) job.file.strict job.file.frames ≡ Some o
 
 -- the header of the recording's state, and what the file at the state's path says for it
 pub record KnowsState (job : Job) (o : Options) (outside : Outside) (header : List ℕ) (found : Found)
@@ -324,7 +324,7 @@ module _ {F P D R W : Type 0} (side : SendingSide F P D R W) (job : Job) where
   -- what is set can't be read, or memory was refused
   abbrev pub RefusesJob : Packing → Type 0
   RefusesJob =
-      RefusesAtOnce (map string_bytes job.file.settings.now) job.file.is_strict job.file.frames
+      RefusesAtOnce (map string_bytes job.file.settings.now) job.file.strict job.file.frames
 
   -- the command did this
   abbrev pub IsFileSentOn : {L : Type 0} → LogGhosts L → Outside → Ways P D → Ways P D →

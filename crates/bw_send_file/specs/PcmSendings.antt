@@ -20,7 +20,7 @@ use Rattle.bw_plan.specs.declared.pcm.Pcm.{Pcm}
 use Rattle.bw_recorder.specs.Packs.{IsOpenReport, Packing, RefusesSettings, RunsOutOfMemory}
 use Rattle.bw_recorder.specs.SettingLists.{options_of}
 use Rattle.bw_recorder.specs.declared.fault.OpenFault.{OpenFault}
-use Rattle.bw_recorder.specs.declared.fault.OpenFault.TheVariants.{Unopened, Refused, Changed}
+use Rattle.bw_recorder.specs.declared.fault.OpenFault.TheVariants.{Unopened, Refused, Lossy, Changed}
 use Rattle.bw_send_file.specs.FileSendings.{errand_of}
 use Rattle.bw_send_file.specs.Sendings.{Errand, Ways, IsFeedSent}
 use Rattle.bw_send_file.specs.declared.fault.FeedFault.{FeedFault}
@@ -51,6 +51,7 @@ FollowsSamples b o p to_come =
 abbrev pub RefusesPcm : Options → Pcm → ℕ → OpenFault → Type 0
 RefusesPcm o p len (Unopened error) = Unit {0}
 RefusesPcm o p len (Refused fault) = PcmFaultOf o p len fault
+RefusesPcm o p len (Lossy text) = ⊥
 RefusesPcm o p len Changed = ⊥
 
 -- the fault of samples that have no frame: at the place of the first one
@@ -114,7 +115,7 @@ module _ {F P D R W : Type 0} (feed : FeedGhosts F FeedFault) (pause : PauseGhos
   -- what is set can't be read, or memory was refused: nothing was opened
   abbrev pub RefusesOptions : PcmFile → Ways P D → Ways P D → Packing → Type 0
   RefusesOptions f old new did =
-      (RefusesSettings (map string_bytes f.file.settings.now) f.file.is_strict f.file.frames did
+      (RefusesSettings (map string_bytes f.file.settings.now) f.file.strict f.file.frames did
       ⊎ RunsOutOfMemory did) × (new ≡ old)
 
   -- the command did this for a recorder with a file whose samples were opened so
@@ -123,5 +124,5 @@ module _ {F P D R W : Type 0} (feed : FeedGhosts F FeedFault) (pause : PauseGhos
   IsPcmSent recorder f opens old new did =
       RefusesOptions f old new did
       ⊎ ((o : Options) × (opened : Result F OpenFault)
-      × (options_of (map string_bytes f.file.settings.now) f.file.is_strict f.file.frames ≡ Some o)
+      × (options_of (map string_bytes f.file.settings.now) f.file.strict f.file.frames ≡ Some o)
       × opens o opened × SendsOpened (errand_of recorder f.file) opened old new did)

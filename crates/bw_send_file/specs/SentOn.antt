@@ -89,7 +89,7 @@ module _ {F P D R W : Type 0} (feed : FeedGhosts F FeedFault) (pause : PauseGhos
   pub record StoresRecording (state : Option (List ℕ)) (stamp : Option FileStamp) (job : Job) (count : ℕ)
       (b : List ℕ) (old new : Ways P D) : Type 0 where
     pub o : Options
-    pub asked : options_of (map string_bytes job.file.settings.now) job.file.is_strict
+    pub asked : options_of (map string_bytes job.file.settings.now) job.file.strict
         job.file.frames ≡ Some o
     pub header : List ℕ
     pub of_take : IsHeaderFor job.recorder.name.now job.place.address.now stamp o b header

@@ -1,8 +1,10 @@
 //! The command `takes`.
 ghost use Rattle.std.specs.Prelude.{◌≡◌, false, codes, option_map, Some, IfOk, OnErr};
 ghost use Rattle.clap.specs.Words.{found_of, rows_of};
-ghost use Rattle.bw_args.specs.Lines.{AsksForPath, IsLineFor, IsWorkGiven};
+ghost use Rattle.bw_args.specs.Forms.{RunsFor};
+ghost use Rattle.bw_args.specs.Lines.{AsksForPath, IsLineFor, IsWorkGiven, Verifying};
 ghost use Rattle.bw_args.specs.Lines.{is_watch_mixed};
+ghost use Rattle.bw_args.specs.VerifyOptions.{is_verify_mixed};
 
 use super::network::flag_given;
 use super::serving::folder_given;
@@ -25,6 +27,13 @@ pub(crate) fn takes_line(alloc: Global, options: &ArgMatches<'_>) -> Result<Comm
     let json = flag_given(options, "json");
     let digest = flag_given(options, "digest");
     let name = options.get_str("give-up");
+    let receipts = options.get_str("verify");
+    if is_verify_mixed(watch, check, json, digest, name, receipts) {
+        return Ok(CommandLine::BadValue(BadValue::Verify));
+    }
+    if let Some(receipts) = receipts {
+        return verification(alloc, path, receipts);
+    }
     if is_watch_mixed(watch, check, json, digest, name) {
         return Ok(CommandLine::BadValue(BadValue::Watch));
     }
@@ -33,6 +42,30 @@ pub(crate) fn takes_line(alloc: Global, options: &ArgMatches<'_>) -> Result<Comm
     };
     let folder = String::from_str(alloc, path)?;
     Ok(CommandLine::Run(Task::Takes(TakesFolder { folder, work })))
+}
+
+/// Runs the comparison of a folder's takes with the receipts in a file.
+fn verification(alloc: Global, folder: &str, receipts: &str) -> Result<CommandLine, AllocError>
+    ensures { IfOk result (RunsFor (Verifying folder.now receipts.now)) }
+{
+    let folder = String::from_str(alloc, folder)?;
+    let receipts = String::from_str(alloc, receipts)?;
+    Ok(CommandLine::Run(Task::Verify { folder, receipts }))
+}
+
+/// Whether takes are to be compared with receipts, and something else is asked for beside it.
+fn is_verify_mixed(
+    watch: bool,
+    check: bool,
+    json: bool,
+    digest: bool,
+    name: Option<&str>,
+    receipts: Option<&str>,
+) -> bool
+    ensures { result ≡ is_verify_mixed watch check json digest
+        (option_map (λ text. text.now) name.entry) (option_map (λ text. text.now) receipts.entry) }
+{
+    receipts.is_some() && (watch || check || json || digest || name.is_some())
 }
 
 /// Whether takes are to be watched, and something else is asked for beside it.

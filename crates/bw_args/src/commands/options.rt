@@ -29,7 +29,13 @@ const SET: Row = Row {
 const STRICT: Row = Row {
     name: "strict",
     kind: Flag,
-    help: "Refuses a recording whose fields would have to be cleaned",
+    help: "Refuses a recording that would lose anything of the file",
+};
+
+const STRICT_TEXTS: Row = Row {
+    name: "strict-texts",
+    kind: Flag,
+    help: "Refuses a recording whose texts or cue points would change",
 };
 
 const FOLDER: Row = Row {
@@ -83,7 +89,7 @@ pub(crate) const INSPECT: [Row; 4] = [
 ];
 
 /// The options of `pack`.
-pub(crate) const PACK: [Row; 3] = [FILE, SET, STRICT];
+pub(crate) const PACK: [Row; 4] = [FILE, SET, STRICT, STRICT_TEXTS];
 
 /// The options of `picture`.
 pub(crate) const PICTURE: [Row; 1] = [Row {
@@ -123,7 +129,7 @@ pub(crate) const CONVERT: [Row; 4] = [
 ];
 
 /// The options of `takes`.
-pub(crate) const TAKES: [Row; 6] = [
+pub(crate) const TAKES: [Row; 7] = [
     FOLDER,
     Row {
         name: "check",
@@ -149,6 +155,11 @@ pub(crate) const TAKES: [Row; 6] = [
         name: "give-up",
         kind: Value("NAME"),
         help: "Renames the journal and the file of this take, so that its name is free again",
+    },
+    Row {
+        name: "verify",
+        kind: Value("RECEIPTS"),
+        help: "Compares the takes with the receipts in this file, and prints which differ",
     },
 ];
 
@@ -225,7 +236,7 @@ pub(crate) const SERVE: [Row; 16] = [
 ];
 
 /// The options of `send`.
-pub(crate) const SEND: [Row; 18] = [
+pub(crate) const SEND: [Row; 21] = [
     Row {
         name: "connect",
         kind: Required("ADDR"),
@@ -250,6 +261,7 @@ pub(crate) const SEND: [Row; 18] = [
     },
     SET,
     STRICT,
+    STRICT_TEXTS,
     Row {
         name: "pcm",
         kind: Value("RATE,CHANNELS,BITS"),
@@ -299,5 +311,15 @@ pub(crate) const SEND: [Row; 18] = [
         name: "rate",
         kind: Value("BYTES"),
         help: "With --file or --spool: sends at most BYTES a second, 1 to 4294967295 [default: no limit]",
+    },
+    Row {
+        name: "receipt",
+        kind: Value("RECEIPTS"),
+        help: "With --file: once all is stored, adds a receipt to RECEIPTS (name, frames, SHA-256 of the samples); --receipt=- prints it",
+    },
+    Row {
+        name: "json",
+        kind: Flag,
+        help: "With --receipt: writes the receipt as a line of JSON",
     },
 ];

@@ -7,6 +7,7 @@ ghost use Rattle.bw_args.specs.Lines.{looked_at_samples};
 ghost use Rattle.bw_args.specs.PcmSources.{GivesSamples, IsFormatGiven, IsFormatText, IsNumberGiven};
 ghost use Rattle.bw_args.specs.PcmSources.{are_samples_mixed, at_comma, fruitless_of, is_unpaired, plain_pcm};
 ghost use Rattle.bw_args.specs.PcmSources.{is_live, plain_samples};
+ghost use Rattle.bw_args.specs.ReceiptOptions.{is_receipt_mixed};
 ghost use Rattle.bw_args.specs.Sources.{is_mixed, path_given};
 ghost use Rattle.bw_args.specs.declared.commands.samples.WrittenFormat.{WrittenFormat};
 
@@ -175,6 +176,7 @@ pub(crate) fn samples_line(
     requires takes { Some path.now ≡ path_given (first_value (found_of options.now)) }
     requires tries { GivesTries (first_value (found_of options.now)) tries }
     requires unmixed { is_mixed (first_value (found_of options.now)) ≡ false }
+    requires unreceipted { is_receipt_mixed (first_value (found_of options.now)) ≡ false }
     requires samples { GivesSamples (first_value (found_of options.now))
         (Some (plain_samples samples)) }
     ensures ok { IfOk result (IsLineFor (Some (codes "send", rows_of (found_of options.now)))) }

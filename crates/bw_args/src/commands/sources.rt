@@ -1,5 +1,5 @@
 //! The file of a recording, as `send` and `pack` take it.
-ghost use Rattle.std.specs.Prelude.{◌≡◌, codes, map, option_map, string_bytes, IfOk};
+ghost use Rattle.std.specs.Prelude.{◌≡◌, ◌||◌, codes, map, option_map, string_bytes, IfOk};
 ghost use Rattle.clap.specs.Words.{first_value, found_of, rows_of};
 ghost use Rattle.bw_args.specs.Given.{is_set};
 ghost use Rattle.bw_args.specs.Sources.{is_mixed, path_given, settings_on_line};
@@ -18,12 +18,14 @@ pub(crate) fn source_given(
     ensures { IfOk result (λ source.
         (string_bytes source.path ≡ path.now)
         × (map string_bytes source.settings.items ≡ settings_on_line (rows_of (found_of options.now)))
-        × (source.strict ≡ is_set (first_value (found_of options.now) (codes "strict")))) }
+        × (source.strict ≡ is_set (first_value (found_of options.now) (codes "strict")))
+        × (source.strict_texts ≡ is_set (first_value (found_of options.now) (codes "strict-texts")))) }
 {
     Ok(SourceFile {
         path: String::from_str(alloc, path)?,
         settings: settings_given(alloc, options)?,
         strict: flag_given(options, "strict"),
+        strict_texts: flag_given(options, "strict-texts"),
     })
 }
 
@@ -87,6 +89,19 @@ pub(crate) fn is_mixed(options: &ArgMatches<'_>) -> bool
         || options.get_str("fruitless").is_some()
         || options.get_str("state").is_some()
         || options.get_str("rate").is_some()
+        || options.get_str("receipt").is_some()
+        || has_flag(options)
+}
+
+/// Whether a flag is given that is for a recording's sender alone.
+fn has_flag(options: &ArgMatches<'_>) -> bool
+    ensures { result ≡ (is_set (first_value (found_of options.now) (codes "json"))
+        || (is_set (first_value (found_of options.now) (codes "strict"))
+        || (is_set (first_value (found_of options.now) (codes "strict-texts"))
+        || is_set (first_value (found_of options.now) (codes "log"))))) }
+{
+    flag_given(options, "json")
         || flag_given(options, "strict")
+        || flag_given(options, "strict-texts")
         || flag_given(options, "log")
 }

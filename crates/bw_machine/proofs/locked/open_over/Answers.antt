@@ -11,6 +11,7 @@ returns-in-Ok-server_over-clause-opened g c =
       over = made.over;
       begins = begins_over c.args.takes c.args.notes c.count_names.new.notes
           (table_server c.in-Ok-server_over.server) made.none made.disks ready.notes;
+      committed = made.answered;
       count = c.in-Ok.count;
       takes_are = refl;
       counted = ready.counted;

@@ -3,8 +3,8 @@ use Rattle.bw_program.proofs.sources.send_file_there.Goals as goal
 
 pub returns-then-is_odd : goal.returns-then-is_odd
 returns-then-is_odd g c =
-    let l = c.refuse_kind.ensures in (
-      (
+    let l = c.refuse_kind.ensures in record {
+      sent = (
         c.kind_at-kind.result,
         rw c.as_str-path.ensures.value at c.kind_at-kind.ensures,
         inl (record {
@@ -16,37 +16,37 @@ returns-then-is_odd g c =
           unprinted = refl;
           reports = l.2;
         }),
-      ),
-      refl,
-      refl,
-      refl,
-      refl,
-    )
+      );
+      well = refl;
+      unused = refl;
+      unread = refl;
+      kept = refl;
+    }
 
 pub returns-then-sender : goal.returns-then-sender
 returns-then-sender g c =
-    let sent = c.send_file_as.ensures in (
-      (
+    let sent = c.send_file_as.ensures in record {
+      sent = (
         c.kind_at-kind.result,
         rw c.as_str-path.ensures.value at c.kind_at-kind.ensures,
         inr (sym c.is_odd.ensures ∙ c.if-is_odd.false, sent.sent),
-      ),
-      sent.well,
-      sent.unused,
-      sent.unread,
-      sent.kept,
-    )
+      );
+      well = sent.well;
+      unused = sent.unused;
+      unread = sent.unread;
+      kept = sent.kept;
+    }
 
 pub returns : goal.returns
 returns g c =
-    let sent = c.send_file_watched.ensures in (
-      (
+    let sent = c.send_file_watched.ensures in record {
+      sent = (
         c.kind_at-kind.result,
         rw c.as_str-path.ensures.value at c.kind_at-kind.ensures,
         inr (sym c.is_odd.ensures ∙ c.if-is_odd.false, sent.sent),
-      ),
-      sent.well,
-      sent.unused,
-      sent.unread,
-      sent.kept,
-    )
+      );
+      well = sent.well;
+      unused = sent.unused;
+      unread = sent.unread;
+      kept = sent.kept;
+    }

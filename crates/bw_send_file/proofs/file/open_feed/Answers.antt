@@ -11,6 +11,7 @@ returns-in-Ok-open_recording-clause-ok g c = λ b e.
       recording = x.recording;
       is = x.is;
       says = x.says;
+      whole = x.whole;
       gives = record {
         bytes = b;
         stands = record { sound = c.in-Ok-open_recording.ensures.sound; at = x.stands; there = x.there };

@@ -12,7 +12,7 @@ pub returns-clause-ok : goal.returns-clause-ok
 returns-clause-ok c = (
   refl,
   source_asked (found_of c.args.options.now) (λ g. g (codes "file")) c.in-Some.path.now (in_plain c.in_ok-source.source) c.in-Some.ensures
-      c.in_ok-source.ensures.0 c.in_ok-source.ensures.1 c.in_ok-source.ensures.2,
+      c.in_ok-source.ensures.0 c.in_ok-source.ensures.1 c.in_ok-source.ensures.2 c.in_ok-source.ensures.3,
 )
 
 pub returns-in_err-source-clause-err : goal.returns-in_err-source-clause-err
@@ -22,6 +22,6 @@ returns-in_err-source-clause-err c = on_err c.from_residual.result (
   (
     refl,
     source_asked (found_of c.args.options.now) (λ g. g (codes "file")) c.in-Some.path.now
-        (found_source (found_of c.args.options.now) c.in-Some.path.now) c.in-Some.ensures refl refl refl,
+        (found_source (found_of c.args.options.now) c.in-Some.path.now) c.in-Some.ensures refl refl refl refl,
   ),
 )
