@@ -312,7 +312,8 @@ Options:
       --network                   Allows any address; nothing on the wire is encrypted or signed
       --file <FILE>               The recording to send, instead of standard input: a RIFF WAVE, BW64 or RF64 file
       --set <KEY=VALUE>           Sets a field of the recording, whatever the file has; may be repeated
-      --strict                    Refuses a recording whose fields would have to be cleaned
+      --strict                    Refuses a recording that would lose anything of the file
+      --strict-texts              Refuses a recording whose texts or cue points would change
       --pcm <RATE,CHANNELS,BITS>  With --file or --spool: the input is samples without a header, in this format, as in 48000,2,24
       --skip <BYTES>              With --pcm: the offset of the samples in the file, in bytes [default: 0]
       --block <FRAMES>            With --pcm: sends FRAMES in a block [default: as many as fit in 32768 bytes]
@@ -323,6 +324,8 @@ Options:
       --log                       With --file or --spool: reports each change of the connection on standard error
       --state <STATE>             With --file: keeps its progress in STATE, and continues from there when run again
       --rate <BYTES>              With --file or --spool: sends at most BYTES a second, 1 to 4294967295 [default: no limit]
+      --receipt <RECEIPTS>        With --file: once all is stored, adds a receipt to RECEIPTS (name, frames, SHA-256 of the samples); --receipt=- prints it
+      --json                      With --receipt: writes the receipt as a line of JSON
   -h, --help                      Print help
 
 Example: bwingest send --connect 127.0.0.1:4100 --name a1 --file take.wav

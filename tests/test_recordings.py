@@ -12,7 +12,7 @@ import sys
 
 sys.dont_write_bytecode = True  # nothing is left beside this script
 from cases.recordings import FIELDS, HISTORY, REFUSED, SECOND, SENT, TONE_FILE
-from kit.hints import bad_setting, hinted
+from kit.hints import bad_setting, hinted, LOSSY
 from kit.network import finish, LOCAL, reason, run, run_cases, Server, start, TALLY
 from kit.recordings import cue, data, fmt, Recording, riff
 from kit.repository import ROOT
@@ -69,6 +69,14 @@ def case_refusals(folder):
     for case in REFUSED:
         path = written(folder, case.file)
         TALLY.same(f"pack, {case.of}", run("pack", str(path), *case.options), (1, "", hinted("pack", case.said, case.hint)))
+
+
+def case_strict(folder):
+    """With --strict a file that loses anything is refused after the list of it; any other is as without."""
+    for case in SENT:
+        wanted = (1, "", case.lost + LOSSY) if case.lost else (0, case.recording.lines().decode(), "")
+        found = run("pack", str(written(folder, case.file)), "--strict", *case.options)
+        TALLY.same(f"pack --strict, {case.of}", found, wanted)
 
 
 def case_settings(folder):
@@ -145,7 +153,7 @@ def case_arrives(folder):
     server.process.wait()
 
 
-CASES = [case_requests, case_example, case_refusals, case_settings, case_no_file, case_cut, case_pipe, case_arrives]
+CASES = [case_requests, case_example, case_refusals, case_strict, case_settings, case_no_file, case_cut, case_pipe, case_arrives]
 
 
 sys.exit(run_cases(CASES, LONGEST_RUN))

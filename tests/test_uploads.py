@@ -18,7 +18,7 @@ import time
 
 sys.dont_write_bytecode = True  # nothing is left beside this script
 from cases.recordings import CUT, FIELDS, HISTORY, PLAIN, REFUSED, SECOND, SENT, TONE, TONE_FILE
-from kit.hints import bad_setting, CHANGED, FRUITLESS, hinted, LOST_TAKE, OTHER_NAME
+from kit.hints import bad_setting, CHANGED, FRUITLESS, hinted, LOSSY, LOST_TAKE, OTHER_NAME
 from kit.network import connect, finish, free_port, hear, hear_batch, hear_until_it_breaks, LOCAL, LONGEST_WAIT
 from kit.network import pass_both_ways, reason, run, run_cases, Server, start, start_with_pipes, TALLY
 from kit.network import wait_until, WINDOW
@@ -51,6 +51,16 @@ def case_arrives(folder):
             TALLY.holds(f"the file, {case.of}", arrived.read_bytes() == by_lines, "it differs from that of hex lines")
             again = upload(server.port, f"file-{number}", path, *case.options)
             TALLY.same(f"sent again, {case.of}", again, (0, settled(count), case.lost))
+
+
+def case_strict(folder):
+    """With --strict nothing of a file that loses anything is sent; all of it is listed."""
+    with serving(folder) as server:
+        for number, case in enumerate(SENT):
+            if case.lost:
+                found = upload(server.port, f"strict-{number}", written(folder, case.file), "--strict", *case.options)
+                TALLY.same(f"send --file --strict, {case.of}", found, (1, "", case.lost + LOSSY))
+        TALLY.same("send --file --strict: no take", [*(folder / "takes").glob("*.wav")], [])
 
 
 def case_fields(folder):
@@ -338,6 +348,7 @@ def case_killed(folder):
 
 CASES = [
     case_arrives,
+    case_strict,
     case_fields,
     case_refusals,
     case_garbage,

@@ -5,8 +5,8 @@ Headers and entries are worked out from docs/FORMATS.md, with Python's SHA-256.
 import errno
 import hashlib
 
-from kit.network import CANT_GO_ON, hear_all, TALLY
-from kit.takes import BLOCK as BLOCK_KIND, CLOSE as CLOSE_KIND, DELAYED_STORE, LARGEST_LIMIT, little
+from kit.network import CANT_GO_ON, hear, hear_all, TALLY
+from kit.takes import BLOCK as BLOCK_KIND, BYE_FRAME, CLOSE as CLOSE_KIND, DELAYED_STORE, LARGEST_LIMIT, little
 from kit.takes import MARK as MARK_KIND, message, notice, STORED, verdict
 from kit.watched import accepted_in_turn, BLOCK, CLOSE, CLOSE_EMPTY, CLOSE_MARKED, IN_TURN, LISTED, MARK, OPEN
 from kit.watched import said_to_a_file, store_fails, Watched, written
@@ -66,11 +66,11 @@ def left_synced(name):
 class Journaled(Watched):
     """A server with journals, and with syncs if `--sync` is among the options; these names have journals."""
 
-    def __init__(self, folder, *options, faults=(), found=()):
+    def __init__(self, folder, *options, faults=(), found=(), exchanges=1):
         locked = ["open FOLDER/.bwingest-lock to-read-and-write create", "stat .bwingest-lock", "lock .bwingest-lock"]
         super().__init__(
             folder,
-            *("--exchanges", "1", *IN_TURN, "--journal", *options),
+            *("--exchanges", str(exchanges), *IN_TURN, "--journal", *options),
             faults=faults,
             opening=[f"resumed {len(found)} takes"],
             starting=[*locked, *LISTED],
@@ -81,18 +81,20 @@ class Journaled(Watched):
         self.listed = {}  # names with a synced entry in the folder, and whether their files have one too
 
     def note_calls(self, name, content, closes=False, writes=True):
-        """The calls that note this. The note of a stored CLOSE is synced without `--sync` too; a number that wrote nothing
-        to the take's file needs no sync of it.
+        """The calls that note this. The note of a stored CLOSE is synced without `--sync` too. With it the note waits for a
+        commit: the length of the journal is its place, and a number that wrote nothing to the take's file needs no sync of
+        it.
         """
         place = self.noted.setdefault(name, len(header(name)))
         calls = [f"seek {name}.journal {place}", f"write {name}.journal {content.hex()}"]
         if not self.is_synced:
             return [*calls, f"sync-data {name}.journal", *self.folder_calls(name)] if closes else calls
+        place = f"stat {name}.journal"
         if not writes:
-            return [*calls, f"sync-data {name}.journal"]
+            return [place, *calls, f"sync-data {name}.journal"]
         take = opened(f"{name}.wav", *[MISSING] * (name not in self.made))
         samples = [f"sync-data {name}.wav"] * (name in self.made)
-        return [take, *samples, *self.folder_calls(name), *calls, f"sync-data {name}.journal"]
+        return [place, take, *samples, *self.folder_calls(name), *calls, f"sync-data {name}.journal"]
 
     def begin_calls(self, name):
         """The calls that begin the journal of a new name: with `--sync` it is on the disk before its take's file is made."""
@@ -158,6 +160,49 @@ def case_noted_and_synced(folder):
     it = Journaled(folder, "--sync")
     takes_of_two(it)
     it.ends("notes and syncs", [0])
+
+
+def asked_at_once(it, name, *requests):
+    """The next messages of a name, in one piece: their bytes, the calls on the take's file, the notes, and the replies."""
+    numbers = range(it.numbers[name], it.numbers[name] + len(requests))
+    it.numbers[name] += len(requests)
+    contents = [(number, bytes.fromhex(request[0])) for number, request in zip(numbers, requests)]
+    said = b"".join(message(name, number, content) for number, content in contents)
+    noted = b"".join(entry(name, number, content) for number, content in contents)
+    calls = [call for request in requests for call in request[1](name)]
+    return said, calls, noted, b"".join(verdict(name, number, STORED) for number in numbers)
+
+
+def case_noted_at_once(folder):
+    """With syncs what is noted of the messages that come together is written by one call, after one sync of the file."""
+    it = Journaled(folder, "--sync")
+    peer = it.comes(accepted_in_turn(7))
+    it.asks(peer, "a1", OPEN)
+    said, calls, noted, replies = asked_at_once(it, "a1", BLOCK, MARK)
+    it.says(peer, said, [*calls, *it.note_calls("a1", noted)], replies)
+    it.noted["a1"] += len(noted)
+    it.asks(peer, "a1", CLOSE_MARKED)
+    it.goes(peer, 0)
+    it.ends("notes of a round", [0])
+
+
+def case_committed_again(folder):
+    """With syncs no reply leaves while a note can't be written. The next commit writes it with what came since."""
+    noted = entry("a1", 1, bytes.fromhex(BLOCK[0]))
+    it = Journaled(folder, "--sync", faults=[Fault(f"write a1.journal {noted.hex()}")], exchanges=2)
+    peer = it.comes(accepted_in_turn(7))
+    it.asks(peer, "a1", OPEN)
+    it.peers[peer].sendall(message("a1", 1, bytes.fromhex(BLOCK[0])))
+    TALLY.same("no reply", hear_all(it.peers[peer]), b"")
+    again = it.comes(accepted_in_turn(7))
+    said = message("a1", 1, bytes.fromhex(BLOCK[0]))
+    it.numbers["a1"] = 2
+    it.peers[again].sendall(said)
+    TALLY.same("the reply", hear(it.peers[again], len(verdict("a1", 1, STORED))), verdict("a1", 1, STORED))
+    TALLY.same("the journal", (it.folder / "a1.journal").read_bytes().endswith(noted), True)
+    it.peers[again].sendall(BYE_FRAME)
+    TALLY.same("a reply after BYE", hear_all(it.peers[again]), b"")
+    it.ended("a note that is written later", (0, ["exchange 0 NotKept", "exchange 1 Bye"], store_fails(it.folder / "a1.journal")))
 
 
 def case_noted_again(folder):
@@ -278,6 +323,7 @@ def case_set_aside(folder):
 
 
 CASES = [
-    *(case_noted, case_noted_and_synced, case_noted_again, case_stopped_at_its_header, case_stopped_at_its_samples),
-    *(case_stopped_at_its_close, case_resumed, case_resumed_and_synced, case_set_aside),
+    *(case_noted, case_noted_and_synced, case_noted_at_once, case_noted_again, case_committed_again),
+    *(case_stopped_at_its_header, case_stopped_at_its_samples, case_stopped_at_its_close),
+    *(case_resumed, case_resumed_and_synced, case_set_aside),
 ]

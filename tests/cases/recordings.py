@@ -121,20 +121,40 @@ SENT = [
     Sent(
         "UTF-8 in the description and in the history",
         riff(fmt(PLAIN), bext(("Bäche".encode(),), history="é\r\n".encode()), data(PLAIN.samples)),
-        of(PLAIN, fields={rec.DESCRIPTION: b"B??che"}, history=b"??\r\n"),
-        lost="cleaned: description\ncleaned: history\n",
+        of(PLAIN, fields={rec.DESCRIPTION: b"Bache"}, history=b"??\r\n"),
+        lost='cleaned: description "B\\xc3\\xa4che" -> "Bache"\ncleaned: history "\\xc3\\xa9\\x0d\\x0a" -> "??\\x0d\\x0a"\n',
     ),
     Sent(
         "other separators, and a time that is none",
         riff(fmt(PLAIN), bext((b"", b"", b"", b"2024_05_17", b"noon")), data(PLAIN.samples)),
         of(PLAIN, fields={rec.DATE: b"2024-05-17"}),
-        lost="cleaned: date\nleft out: clock\n",
+        lost='cleaned: date "2024_05_17" -> "2024-05-17"\nleft out: clock\n',
+    ),
+    Sent(
+        "ends of lines in a text, as recorders write them",
+        riff(fmt(PLAIN), bext((b"sSCENE=12A\r\nsTAKE=1\nsNOTE=a\rb", b"1\n\r2")), data(PLAIN.samples)),
+        of(PLAIN, fields={rec.DESCRIPTION: b"sSCENE=12A sTAKE=1 sNOTE=a b", rec.ORIGINATOR: b"1  2"}),
+        lost='cleaned: description "sSCENE=12A\\x0d\\x0asTAKE=1\\x0asNOTE=a\\x0db" -> "sSCENE=12A sTAKE=1 sNOTE=a b"\n'
+        'cleaned: originator "1\\x0a\\x0d2" -> "1  2"\n',
+    ),
+    Sent(
+        "a text that isn't UTF-8 is ISO 8859-1",
+        riff(fmt(PLAIN), bext(("Göteborg, Ærø ß".encode("latin-1"),)), data(PLAIN.samples)),
+        of(PLAIN, fields={rec.DESCRIPTION: b"Goteborg, ?r? ?"}),
+        lost='cleaned: description "G\\xf6teborg, \\xc6r\\xf8 \\xdf" -> "Goteborg, ?r? ?"\n',
+    ),
+    Sent(
+        "letters of other alphabets and with accents of their own, and what must be escaped",
+        riff(fmt(PLAIN), bext(("Ấ ǎ e\u0301 Ж ’ \"\\".encode(),)), data(PLAIN.samples)),
+        of(PLAIN, fields={rec.DESCRIPTION: b'A a e ? ? "\\'}),
+        lost='cleaned: description "\\xe1\\xba\\xa4 \\xc7\\x8e e\\xcc\\x81 \\xd0\\x96 \\xe2\\x80\\x99 \\x22\\x5c" -> '
+        '"A a e ? ? \\x22\\x5c"\n',
     ),
     Sent(
         "a history that is cut",
         riff(fmt(PLAIN), bext(history=b"x" * 4_097), data(PLAIN.samples)),
         of(PLAIN, history=b"x" * 4_096),
-        lost="cleaned: history\n",
+        lost=f'cleaned: history "{"x" * 4_097}" -> "{"x" * 4_096}"\n',
     ),
     Sent(
         "cue points of one identifier, and after the end",
@@ -143,10 +163,10 @@ SENT = [
         lost="left out: cue points 2\n",
     ),
     Sent(
-        "chunks that aren't carried",
+        "a filler, and a chunk that isn't carried",
         riff(chunk(b"JUNK", bytes(28)), fmt(PLAIN), data(PLAIN.samples), chunk(b"iXML", b"<a/>" * 10)),
         PLAIN,
-        lost="left out: JUNK 28\nleft out: iXML 40\n",
+        lost="left out: iXML 40\n",
     ),
     Sent(
         "settings in place of what the file has",
@@ -160,7 +180,13 @@ SENT = [
         of(PLAIN, fields={rec.DESCRIPTION: b"a=b"}),
         ("--set=description=a=b", "--set=originator=", "--set=reference=", "--set=date=", "--set=clock="),
     ),
-    Sent("strict, and nothing is lost", riff(fmt(PLAIN), SECOND, data(PLAIN.samples)), of(PLAIN, fields=FIELDS, history=HISTORY), ("--strict",)),
+    Sent(
+        "only texts are refused, and chunks are lost",
+        riff(extensible(STEREO), data(STEREO.samples), chunk(b"LIST", b"INFOINAM" + bytes([2, 0, 0, 0]) + b"a\0")),
+        STEREO,
+        ("--strict-texts",),
+        "left out: channel mask\nleft out: LIST 14\n",
+    ),
 ]
 
 FLOATS = riff(fmt(Recording(bits=32), tag=rec.FLOAT), data(bytes(8)))
@@ -176,8 +202,8 @@ def with_bext(texts=(), history=b""):
 
 
 def strict(of, file, chunk_id, hint):
-    """A file that isn't taken with --strict, at the chunk with this id."""
-    return Refused(f"{of}, strict", file, f"Unclean at {place_of(file, chunk_id)}", ("--strict",), hint)
+    """A file that isn't taken with --strict-texts, at the chunk with this id."""
+    return Refused(f"{of}, strict", file, f"Unclean at {place_of(file, chunk_id)}", ("--strict-texts",), hint)
 
 
 

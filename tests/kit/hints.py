@@ -6,8 +6,12 @@ NO_BYTES = "hint: nothing of it can be read: it may be a directory\n"
 MEND = "hint: its sizes are wrong, as where a recorder was cut off: see bwingest repair FILE\n"
 NOT_PCM = "hint: samples that are no PCM aren't taken: ffmpeg -i OLD -c:a pcm_s24le NEW.wav\n"
 SHORT = "hint: --skip passes over more bytes than the file has\n"
-LONG_HISTORY = "hint: history has more than 4096 bytes: without --strict it is cut\n"
-CUES_LEFT = "hint: not all cue points are kept: without --strict the others are left out\n"
+LONG_HISTORY = "hint: history has more than 4096 bytes: without --strict-texts it is cut\n"
+CUES_LEFT = "hint: not all cue points are kept: without --strict-texts the others are left out\n"
+LOSSY = (
+    "Lossy: no message carries what is listed above\n"
+    "hint: without --strict the rest is taken; --strict-texts refuses only cleaned texts and lost cue points\n"
+)
 KEYS = (
     "': KEY is description, originator, reference, date, clock, time, umid, history, value, range, peak, momentary"
     " or short\n"
@@ -58,11 +62,11 @@ def floats(bits):
 
 
 def unclean_byte(key, offset, byte):
-    return f"hint: {key} has byte {byte} at {offset}: without --strict it is cleaned\n"
+    return f"hint: {key} has byte {byte} at {offset}: without --strict-texts it is cleaned\n"
 
 
 def unclean_form(key):
-    return f"hint: {key} has another form: without --strict it is cleaned or left out\n"
+    return f"hint: {key} has another form: without --strict-texts it is cleaned or left out\n"
 
 
 def bad_setting(key):

@@ -129,5 +129,26 @@ def try_file_senders(runs, program):
 
         for kind in kinds:
             runs.each(f"send {name}", kind, run, what_an_upload_breaks)
+    try_receipts(runs, [program, "send", "--connect", f"{LOCAL}:{server.port}", "--name", "a1", "--file", sound])
     server.stop(signal.SIGKILL)
     shutil.rmtree(folder, ignore_errors=True)
+
+
+def try_receipts(runs, words):
+    """A sender that ends with 0 has added its receipt; another has added a part of it, or all."""
+    path = runs.work / "receipts"
+
+    def run(kind, number):
+        path.unlink(missing_ok=True)
+        found = runs.one([*words, "--timeout", "1", "--receipt", path], b"", kind, number)
+        return *found, path.read_bytes() if path.exists() else b""
+
+    def wrong(kind, found, wanted):
+        if broken := what_an_upload_breaks(kind, found[:-1], wanted[:-1]):
+            return broken
+        if found[0] == 0:
+            return None if found[-1] == wanted[-1] else "no receipt"
+        return None if is_prefix(found[-1], wanted[-1]) else "another receipt"
+
+    for kind in ("growth", "read", "write", "open", "seek", "stat", "sync"):
+        runs.each("send --receipt", kind, run, wrong)

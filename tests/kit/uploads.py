@@ -32,9 +32,9 @@ def folder_in(folder, name="takes"):
 
 
 @contextlib.contextmanager
-def serving(folder, *options):
-    """A server over a new folder, which is stopped at the end."""
-    server = Server(folder_in(folder), "--until-stopped", *options)
+def serving(folder, *options, opening=()):
+    """A server over a new folder, which prints these lines before it listens, and is stopped at the end."""
+    server = Server(folder_in(folder), "--until-stopped", *options, opening=opening)
     try:
         yield server
     finally:

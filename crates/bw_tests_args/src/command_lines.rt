@@ -159,7 +159,7 @@ fn each_line_runs_or_reports(rt: HostRuntime) -> Result<(), AllocError> {
     lines_come_to(&rt, rt.alloc(), &[], &LINES)
 }
 
-static TAKES: [Line; 23] = [
+static TAKES: [Line; 30] = [
     (&["--folder", "-d"], Outcome::Lists([false, false, false])),
     (&["--folder=-d"], Outcome::Lists([false, false, false])),
     (
@@ -181,6 +181,8 @@ static TAKES: [Line; 23] = [
     (&["--watch", "--folder", "-d"], Outcome::Watches),
     (&["--folder", "-d", "--give-up=-a"], Outcome::GivesUp),
     (&["--give-up=-a", "--folder=-d"], Outcome::GivesUp),
+    (&["--folder", "-d", "--verify=-r"], Outcome::Verifies),
+    (&["--verify=-r", "--folder=-d"], Outcome::Verifies),
     (&["--help"], Outcome::Shows),
     (&[], Outcome::Refuses),
     (&["-d"], Outcome::Refuses),
@@ -198,6 +200,14 @@ static TAKES: [Line; 23] = [
         Outcome::Refuses,
     ),
     (&["--folder=-d", "--give-up=A"], Outcome::Refuses),
+    (&["--folder=-d", "--verify"], Outcome::Refuses),
+    (&["--verify", "-r", "--folder=-d"], Outcome::Refuses),
+    (&["--folder=-d", "--verify=-r", "--json"], Outcome::Refuses),
+    (&["--folder=-d", "--verify=-r", "--watch"], Outcome::Refuses),
+    (
+        &["--folder=-d", "--verify=-r", "--give-up=-a"],
+        Outcome::Refuses,
+    ),
     (&["--folder=-d", "--give-up="], Outcome::Refuses),
     (
         &["--folder=-d", "--check", "--give-up=-a"],
@@ -566,6 +576,72 @@ static FILE_SENDERS: [Line; 30] = [
     (&["--fruitless", "10"], Outcome::Refuses),
 ];
 
+const ADDED: Outcome = Outcome::GivesReceipt {
+    is_printed: false,
+    json: false,
+};
+
+static RECEIPTS: [Line; 19] = [
+    (&["--receipt=-r", "--file=-f"], ADDED),
+    (&["--file=-f", "--state=-s", "--receipt=-r", "--log"], ADDED),
+    (
+        &["--json", "--file=-f", "--receipt=-r"],
+        Outcome::GivesReceipt {
+            is_printed: false,
+            json: true,
+        },
+    ),
+    (
+        &["--file=-f", "--receipt=-"],
+        Outcome::GivesReceipt {
+            is_printed: true,
+            json: false,
+        },
+    ),
+    (
+        &["--receipt=-", "--json", "--strict", "--file=-f"],
+        Outcome::GivesReceipt {
+            is_printed: true,
+            json: true,
+        },
+    ),
+    (&["--receipt=-r"], Outcome::Refuses),
+    (&["--json"], Outcome::Refuses),
+    (&["--receipt=-r", "--json"], Outcome::Refuses),
+    (&["--file=-f", "--json"], Outcome::Refuses),
+    (&["--file=-f", "--receipt"], Outcome::Refuses),
+    (&["--file=-f", "--receipt", "-r"], Outcome::Refuses),
+    (
+        &["--file=-f", "--receipt=-r", "--receipt=-r"],
+        Outcome::Refuses,
+    ),
+    (
+        &["--file=-f", "--receipt=-r", "--json", "--json"],
+        Outcome::Refuses,
+    ),
+    (
+        &["--file=-f", "--receipt=-r", "--json=true"],
+        Outcome::Refuses,
+    ),
+    (
+        &["--file=-f", "--receipt=-r", "--rounds=2"],
+        Outcome::Refuses,
+    ),
+    (
+        &["--file=-f", "--pcm=48000,2,24", "--receipt=-r"],
+        Outcome::Refuses,
+    ),
+    (
+        &["--file=-f", "--pcm=48000,2,24", "--json"],
+        Outcome::Refuses,
+    ),
+    (
+        &["--spool=-f", "--pcm=48000,2,24", "--receipt=-r"],
+        Outcome::Refuses,
+    ),
+    (&["--spool=-f", "--receipt=-r"], Outcome::Refuses),
+];
+
 static PCM_SENDERS: [Line; 30] = [
     (
         &["--pcm=48000,2,24", "--file=-f"],
@@ -690,6 +766,11 @@ fn a_sender_of_a_recording_takes_its_options_in_any_order(
     rt: HostRuntime,
 ) -> Result<(), AllocError> {
     lines_come_to(&rt, rt.alloc(), &SEND, &FILE_SENDERS)
+}
+
+#[test]
+fn a_receipt_is_one_of_a_recording(rt: HostRuntime) -> Result<(), AllocError> {
+    lines_come_to(&rt, rt.alloc(), &SEND, &RECEIPTS)
 }
 
 #[test]

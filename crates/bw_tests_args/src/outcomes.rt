@@ -1,7 +1,7 @@
 //! The outcomes of command lines, in small values, and how tests compare them.
 use bw_args::{
-    AskedForm, CommandLine, End, FileSender, FolderWork, Journaling, PcmSender, Recorders, Send,
-    Serve, SourceFile, Task, parse,
+    AskedForm, CommandLine, End, FileSender, FolderWork, Journaling, PcmSender, ReceiptTarget,
+    Recorders, Send, Serve, SourceFile, Task, parse,
 };
 use bw_model::Name;
 use clap::Error;
@@ -44,6 +44,8 @@ pub(crate) enum Outcome {
     SendsFile(u32, u32, Said),
     /// The same with the state `-s`.
     SendsWithState(u32, u32, Said),
+    /// Sends a recording, and adds its receipt to the file `-r` or prints it, in JSON or not.
+    GivesReceipt { is_printed: bool, json: bool },
     /// Sends so many bytes a second of a recording or of samples.
     SendsAtMost(u32),
     /// Sends the samples of two channels and 24 bits at 48 kHz in the file `-f`, after so many bytes,
@@ -69,6 +71,8 @@ pub(crate) enum Outcome {
     Watches,
     /// Gives up the take `-a` of the folder `-d`.
     GivesUp,
+    /// Compares the takes of the folder `-d` with the receipts in the file `-r`.
+    Verifies,
     /// Text on standard output, status 0.
     Shows,
     /// Text on standard error, status 2.
@@ -139,6 +143,9 @@ fn run_outcome(task: &Task, words: &[&str]) -> Outcome {
         Task::Convert { .. } => Outcome::Confuses,
         Task::Takes(asked) if asked.folder.as_str() == "-d" => work_outcome(&asked.work),
         Task::Takes(_) => Outcome::Confuses,
+        Task::Verify { folder, receipts } if folder.as_str() == "-d" && receipts.as_str() == "-r" =>
+            { Outcome::Verifies }
+        Task::Verify { .. } => Outcome::Confuses,
     }
 }
 
@@ -186,6 +193,9 @@ fn file_sender_outcome(sender: &FileSender) -> Outcome {
     let Some(said) = said_of(&sender.source) else {
         return Outcome::Confuses;
     };
+    if let Some(receipt) = &sender.receipt {
+        return receipt_outcome(receipt);
+    }
     if let Some(rate) = sender.rate {
         return Outcome::SendsAtMost(rate);
     }
@@ -195,6 +205,21 @@ fn file_sender_outcome(sender: &FileSender) -> Outcome {
             Outcome::SendsWithState(sender.timeout, sender.fruitless, said)
         }
         Some(_) => Outcome::Confuses,
+    }
+}
+
+fn receipt_outcome(receipt: &ReceiptTarget) -> Outcome {
+    let json = receipt.json;
+    match receipt.path.as_str() {
+        "-" => Outcome::GivesReceipt {
+            is_printed: true,
+            json,
+        },
+        "-r" => Outcome::GivesReceipt {
+            is_printed: false,
+            json,
+        },
+        _ => Outcome::Confuses,
     }
 }
 
