@@ -11,13 +11,13 @@ _bwingest() {
     esac
     case ${COMP_WORDS[1]} in
     serve) options='--listen --folder --exchanges --limit --timeout --network --recorders --idle --until-stopped --log --journal --sync --rest --one-name --allow --status --help' ;;
-    send) options='--connect --name --rounds --timeout --network --file --set --strict --fruitless --log --state --rate --pcm --skip --block --follow --until --spool --help' ;;
+    send) options='--connect --name --rounds --timeout --network --file --set --strict --strict-texts --fruitless --log --state --rate --receipt --json --pcm --skip --block --follow --until --spool --help' ;;
     inspect) options='--json --human --digest --help' ;;
-    pack) options='--set --strict --help' ;;
+    pack) options='--set --strict --strict-texts --help' ;;
     picture) options='--help' ;;
     repair) options='--write --help' ;;
     convert) options='--rf64 --bw64 --help' ;;
-    takes) options='--folder --check --json --digest --watch --give-up --help' ;;
+    takes) options='--folder --check --json --digest --watch --give-up --verify --help' ;;
     replay) options='--limit --fuse --help' ;;
     rehearse) options='--name --limit --help' ;;
     esac
