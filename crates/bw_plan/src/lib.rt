@@ -42,7 +42,7 @@ pub use setting::{Setting, SettingRef};
 pub use setting_text::read_setting;
 pub use unclean::UncleanPart;
 pub use values::Values;
-pub use warning::{Warning, warnings};
+pub use warning::{Warning, is_carried, warnings};
 
 /// Whatever the size of the blocks, each request of a recording's plan is stored, and together they
 /// make the recording's take. A plan has as many requests as `outline_of` counts. This holds of

@@ -233,8 +233,8 @@ fn warn_of_chunks(out: &mut Vec<Warning>, chunks: &[ListedChunk]) -> Result<(), 
     Ok(())
 }
 
-/// Whether a chunk is carried, or holds only sizes, or nothing.
-fn is_carried(id: ChunkId) -> bool
+/// Whether a chunk with this id is carried, or holds only sizes, or nothing: any other is left out.
+pub fn is_carried(id: ChunkId) -> bool
     ensures { result ≡ is_carried_id id }
 {
     id.0 == *b"fmt "
