@@ -13,7 +13,7 @@ use Rattle.bw_repair.specs.declared.conversions.fault.ConvertKind.TheVariants.{U
 use Rattle.bw_repair.specs.declared.conversions.form.WideForm.{WideForm}
 
 -- it is that of the reading
-reported_id : (b : List ℕ) (r : Report) (left : Option (List ℕ)) (gives : GivesReport b r left) →
+pub reported_id : (b : List ℕ) (r : Report) (left : Option (List ℕ)) (gives : GivesReport b r left) →
     r.form ≡ gives.reading_is.form.id
 unfolding report_of
 reported_id b r left gives = ap (λ (x : report.Report). x.form) gives.reports

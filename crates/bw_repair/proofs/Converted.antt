@@ -1,15 +1,17 @@
 -- A conversion by what was made of the file without its id.
 use Rattle.std.proofs.Common.{◌≡◌, ◌∙◌, ◌⊎◌, ℕ, ◌≤◌, ◌<◌, Bool, false, List, Option, Some, length}
-use Rattle.std.proofs.Common.{refl, sym, subst, arith, inl, inr}
+use Rattle.std.proofs.Common.{refl, sym, ap, subst, arith, inl, inr}
+use Rattle.std.specs.Prelude.{IsTrue}
 use Rattle.bw_stream.specs.Readers.{Of}
 use Rattle.bw_disk.specs.declared.disk.Disk.{Ghosts}
 use Rattle.bw_inspect.specs.declared.fault.InspectKind.{InspectKind}
 use Rattle.bw_inspect.specs.declared.fault.InspectKind.TheVariants as kinds
 use Rattle.bw_repair.specs.Checks.{RefusesBefore, RefusesConvertKind}
-use Rattle.bw_repair.specs.Conversions.{Converts, LeavesError}
+use Rattle.bw_repair.specs.Conversions.{Converts, LeavesError, LeavesFault}
 use Rattle.bw_repair.specs.Copies.{IsCopyFault}
 use Rattle.bw_repair.specs.ConvertFaults.{IsFaultOfFile, IsConvertRefusal, IsConvertRefusalAt, RefusesConvert, is_disk_cause}
-use Rattle.bw_repair.specs.Forms.{IsConvertible, unnamed}
+use Rattle.bw_store.specs.Stores.{overwritten}
+use Rattle.bw_repair.specs.Forms.{IsConvertible, id_of, unnamed}
 use Rattle.bw_repair.specs.Makings.{IsMade, IsMadeOf, IsMakeFault, LeavesOut, LeavesUnread}
 use Rattle.bw_repair.specs.DiskSteps.{IsStep}
 use Rattle.bw_repair.specs.declared.conversions.fault.ConvertError.{ConvertError}
@@ -26,14 +28,15 @@ use Rattle.bw_repair.proofs.StepLaws.{no_step}
 pub four : (form : WideForm) (b : List ℕ) → IsConvertible form b → 4 ≤ length b
 four form b is = let long : 12 ≤ length b = long_enough b is.reading_is in omega (arith, long)
 
-pub made_whole : {D F : Type 0} (G : Ghosts D F) (b to : List ℕ) (form : WideForm) (n : ℕ) (old new : D)
-    (left : Option (List ℕ)) → IsConvertible form b → left ≡ Some (unnamed b) →
-    Of left (λ w. IsMadeOf G to w form n old new) → Converts G b to form n old new
-made_whole G b to form n old new left is e made =
+pub made_whole : {D F : Type 0} (G : Ghosts D F) (b to : List ℕ) (form : WideForm) (id : List ℕ) (n : ℕ)
+    (old new : D) (left : Option (List ℕ)) → IsConvertible form b → id ≡ id_of form → left ≡ Some (unnamed b) →
+    Of left (λ w. IsMadeOf G to w id n old new) → Converts G b to form n old new
+made_whole G b to form id n old new left is same e made =
     let m = made (unnamed b) e in record {
       right = is;
       counts = m.counts ∙ unnamed_length b (four form b is);
-      makes = λ h. subst (λ (z : List ℕ). IsMade G to z old new) (named_whole form b) (m.makes h);
+      makes = λ h. subst (λ (z : List ℕ). IsMade G to z old new)
+          (ap (λ (i : List ℕ). overwritten (unnamed b) 0 i) same ∙ named_whole form b) (m.makes h);
     }
 
 -- why it wasn't made is why the file is refused
@@ -73,26 +76,26 @@ before_refuses b form (Unopened error) is = tt
 before_refuses b form (Refused f) is = before_kind b form f.kind f.offset is
 
 -- what isn't touched is left
-unread_leaves : (form : WideForm) (w : List ℕ) (kind : InspectKind) (x : Option (List ℕ)) → LeavesUnread form w kind x x
-unread_leaves form w kinds.NotWave x = refl
-unread_leaves form w kinds.Truncated x = refl
-unread_leaves form w kinds.NoDs64 x = refl
-unread_leaves form w kinds.BadDs64 x = refl
-unread_leaves form w kinds.NoSize x = refl
-unread_leaves form w kinds.Twice x = refl
-unread_leaves form w kinds.NoFmt x = refl
-unread_leaves form w kinds.NoData x = refl
-unread_leaves form w kinds.BadFmt x = refl
-unread_leaves form w kinds.BadBext x = refl
-unread_leaves form w kinds.BadCue x = refl
-unread_leaves form w kinds.TooMany x = refl
-unread_leaves form w kinds.TooLarge x = refl
-unread_leaves form w kinds.Read x = inl refl
-unread_leaves form w kinds.Memory x = refl
+pub unread_leaves : (id w : List ℕ) (kind : InspectKind) (x : Option (List ℕ)) → LeavesUnread id w kind x x
+unread_leaves id w kinds.NotWave x = refl
+unread_leaves id w kinds.Truncated x = refl
+unread_leaves id w kinds.NoDs64 x = refl
+unread_leaves id w kinds.BadDs64 x = refl
+unread_leaves id w kinds.NoSize x = refl
+unread_leaves id w kinds.Twice x = refl
+unread_leaves id w kinds.NoFmt x = refl
+unread_leaves id w kinds.NoData x = refl
+unread_leaves id w kinds.BadFmt x = refl
+unread_leaves id w kinds.BadBext x = refl
+unread_leaves id w kinds.BadCue x = refl
+unread_leaves id w kinds.TooMany x = refl
+unread_leaves id w kinds.TooLarge x = refl
+unread_leaves id w kinds.Read x = inl refl
+unread_leaves id w kinds.Memory x = refl
 
 kind_leaves : (b : List ℕ) (form : WideForm) (kind : ConvertKind) (offset : ℕ) (x : Option (List ℕ)) →
-    RefusesConvertKind b form kind offset → LeavesOut form (unnamed b) kind x x
-kind_leaves b form (Unread kind) offset x is = unread_leaves form (unnamed b) kind x
+    RefusesConvertKind b form kind offset → LeavesOut (id_of form) (unnamed b) kind x x
+kind_leaves b form (Unread kind) offset x is = unread_leaves (id_of form) (unnamed b) kind x
 kind_leaves b form Riff offset x is = refl
 kind_leaves b form SameForm offset x is = refl
 kind_leaves b form TooLong offset x is = absurd is
@@ -109,3 +112,11 @@ before_leaves G file to form (Refused f) d is = λ b e h.
 pub no_call : {D F : Type 0} (G : Ghosts D F) (to : List ℕ) (e : ConvertError) (d : D) → is_disk_cause e ≡ false →
     IsStep G to (is_disk_cause e) d d
 no_call G to e d is = subst (λ (fails : Bool). IsStep G to fails d d) (sym is) (no_step G to d)
+
+-- what is left under this id
+pub left_named : {D F : Type 0} (G : Ghosts D F) (b to : List ℕ) (form : WideForm) (id : List ℕ) (kind : ConvertKind)
+    (old new : D) → id ≡ id_of form →
+    (IsTrue (G.honest old) → LeavesOut id (unnamed b) kind (G.contents old to) (G.contents new to)) →
+    LeavesFault G b to form kind old new
+left_named G b to form id kind old new same leaves h =
+    subst (λ (i : List ℕ). LeavesOut i (unnamed b) kind (G.contents old to) (G.contents new to)) same (leaves h)

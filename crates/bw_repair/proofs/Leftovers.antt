@@ -33,6 +33,14 @@ second_line : (short other : Bool) (rest : Option Fault) (good form : Form) (f g
 second_line true other rest good form f g e = absurd (no_fault f form e)
 second_line false other rest good form f g e = first_line other rest good form g e
 
+-- .. and a third one
+pub third_line : (short other bad : Bool) (rest : Option Fault) (good form : Form) (f g h : Fault) →
+    ◌≡◌ {A = Result Form Fault}
+    (judged good (if short then Some f else (if other then Some g else (if bad then Some h else rest)))) (Ok form) →
+    bad ≡ false
+third_line true other bad rest good form f g h e = absurd (no_fault f form e)
+third_line false other bad rest good form f g h e = second_line other bad rest good form g h e
+
 -- bytes that are read are at least a header
 pub long_enough : (b : List ℕ) → HasReading b → 12 ≤ length b
 unfolding outer
@@ -73,7 +81,7 @@ named_whole Bw64 b = written_first (unnamed b) 66 (87 ∷ 54 ∷ 52 ∷ [])
 
 -- a part of it
 named_part : (form : WideForm) (n : ℕ) (rest : List ℕ) → n < 4 →
-    named_in_part form n (0 ∷ 0 ∷ 0 ∷ 0 ∷ rest) ≡ take n (id_of form) ++ drop n (0 ∷ 0 ∷ 0 ∷ 0 ∷ rest)
+    named_in_part (id_of form) n (0 ∷ 0 ∷ 0 ∷ 0 ∷ rest) ≡ take n (id_of form) ++ drop n (0 ∷ 0 ∷ 0 ∷ 0 ∷ rest)
 named_part form zero rest few = refl
 named_part Rf64 (suc zero) rest few = written_first (0 ∷ 0 ∷ 0 ∷ 0 ∷ rest) 82 []
 named_part Bw64 (suc zero) rest few = written_first (0 ∷ 0 ∷ 0 ∷ 0 ∷ rest) 66 []
@@ -96,12 +104,12 @@ prefix_unread zero b r =
 prefix_unread (suc n) b r = zero_first (take n (0 ∷ 0 ∷ 0 ∷ drop 4 b)) r
 
 -- a part of an id
-few_unread : (form : WideForm) (n : ℕ) (b : List ℕ) → n < 4 → HasReading (named_in_part form n (unnamed b)) → ⊥
+few_unread : (form : WideForm) (n : ℕ) (b : List ℕ) → n < 4 → HasReading (named_in_part (id_of form) n (unnamed b)) → ⊥
 few_unread form n b few r =
     part_first form n (drop 4 b) few (subst HasReading (named_part form n (drop 4 b) few) r)
 
-name_unread : (form : WideForm) (n : ℕ) (b : List ℕ) → HasReading (named_in_part form n (unnamed b)) →
-    named_in_part form n (unnamed b) ≡ renamed form b
+name_unread : (form : WideForm) (n : ℕ) (b : List ℕ) → HasReading (named_in_part (id_of form) n (unnamed b)) →
+    named_in_part (id_of form) n (unnamed b) ≡ renamed form b
 name_unread form zero b r = absurd (few_unread form zero b (omega arith) r)
 name_unread form (suc zero) b r = absurd (few_unread form (suc zero) b (omega arith) r)
 name_unread form (suc (suc zero)) b r = absurd (few_unread form (suc (suc zero)) b (omega arith) r)
@@ -109,7 +117,7 @@ name_unread form (suc (suc (suc zero))) b r = absurd (few_unread form (suc (suc 
 name_unread form (suc (suc (suc (suc n)))) b r =
     ap (λ (z : List ℕ). overwritten (unnamed b) 0 z) (all_taken form n) ∙ named_whole form b
 
-pub leftovers_unread : (form : WideForm) (b x : List ℕ) → Leftover form (unnamed b) (Some x) → HasReading x →
+pub leftovers_unread : (form : WideForm) (b x : List ℕ) → Leftover (id_of form) (unnamed b) (Some x) → HasReading x →
     x ≡ renamed form b
 leftovers_unread form b x (Part n is) r = absurd (prefix_unread n b (subst HasReading (some_inj is) r))
 leftovers_unread form b x (Named n is) r =

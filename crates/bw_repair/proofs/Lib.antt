@@ -12,4 +12,15 @@ pub mod Fills
 pub mod Checked
 pub mod Leftovers
 pub mod Overlaid
+pub mod SectionLaws
+pub mod LeftLaws
+pub mod LeftFiles
+pub mod KeptChunks
+pub mod PrintLaws
+pub mod TurnPrints
+pub mod JoinLaws
+pub mod JoinedFiles
 pub mod Converted
+pub mod RangeReads
+pub mod PieceCompares
+pub mod PutFiles

@@ -10,7 +10,7 @@ use Rattle.bw_console.specs.declared.exit.Exit.{Exit}
 use Rattle.bw_console.specs.declared.exit.Exit.TheVariants as exits
 use Rattle.bw_repair.specs.Repairs.{exit_on_unread}
 use Rattle.bw_repair.specs.ConvertFaults.{IsConvertRefusal, is_write_fault}
-use Rattle.bw_repair.specs.Forms.{IsConvertible, renamed, unnamed}
+use Rattle.bw_repair.specs.Forms.{IsConvertible, id_of, renamed, unnamed}
 use Rattle.bw_repair.specs.Makings.{IsMade, LeavesOut}
 use Rattle.bw_repair.specs.DiskSteps.{IsStep}
 use Rattle.bw_repair.specs.ConvertTexts.{conversion_line, made_text}
@@ -33,7 +33,7 @@ pub record Converts {D F : Type 0} (G : Ghosts D F) (b to : List ℕ) (form : Wi
 abbrev pub LeavesFault : {D F : Type 0} → Ghosts D F → List ℕ → List ℕ → WideForm →
     ConvertKind → D → D → Type 0
 LeavesFault G b to form kind old new =
-    IsTrue (G.honest old) → LeavesOut form (unnamed b) kind (G.contents old to) (G.contents new to)
+    IsTrue (G.honest old) → LeavesOut (id_of form) (unnamed b) kind (G.contents old to) (G.contents new to)
 
 -- .. or what an error leaves of the disk, where FILE has these bytes, if they are reported
 abbrev pub LeavesError : {D F : Type 0} → Ghosts D F → Option (List ℕ) → List ℕ → WideForm →

@@ -19,3 +19,16 @@ pub mod Makings
 pub mod ConvertTexts
 pub mod Conversions
 pub mod ConvertLaws
+pub mod LeftOut
+pub mod SectionBytes
+pub mod ChunkSections
+pub mod ReadReports
+pub mod Joined
+pub mod JoinSections
+pub mod JoinedPrints
+pub mod LeftTexts
+pub mod Keepings
+pub mod Joinings
+pub mod JoinFaults
+pub mod Comparisons
+pub mod Puttings

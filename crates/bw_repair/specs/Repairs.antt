@@ -4,7 +4,7 @@ use Rattle.std.specs.declared.io.ErrorKind.{ErrorKind}
 use Rattle.bw_stream.specs.Readers.{Of}
 use Rattle.bw_console.specs.FailedOpenings.{IsUnopened, ReportsFailure}
 use Rattle.bw_console.specs.Outcomes.{Outcome, IsOutOfMemory, PrintsText}
-use Rattle.bw_console.specs.Prints.{Nothing, Whole, Part, IsOf}
+use Rattle.bw_console.specs.Prints.{Nothing, IsOf}
 use Rattle.bw_console.specs.declared.exit.Exit.{Exit}
 use Rattle.bw_console.specs.declared.exit.Exit.TheVariants as exits
 use Rattle.bw_ports.specs.Rewrites.{KeepsOtherPaths}

@@ -12,6 +12,9 @@ mod making;
 mod text;
 
 pub use command::convert_file;
+pub(crate) use command::exit_on;
 pub use conversion::convert;
+pub(crate) use fault::{fault_at, refused_at};
 pub use fault::{ConvertError, ConvertFault, ConvertKind};
 pub use form::WideForm;
+pub(crate) use making::make_file;

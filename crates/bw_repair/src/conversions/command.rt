@@ -60,7 +60,7 @@ fn refuse<E: Sink>(fault: &ConvertFault, faults: &mut E) -> Exit
 }
 
 /// How the command ends after a fault of this kind.
-fn exit_on(kind: ConvertKind) -> Exit
+pub(crate) fn exit_on(kind: ConvertKind) -> Exit
     ensures { result ≡ exit_on_conversion kind }
 {
     match kind {

@@ -75,7 +75,7 @@ fn copy_file<F: RecordingFiles, D: Volume>(
     };
     let no_id = [0; 4];
     let mut reader = without_id(file, &no_id);
-    match make_file(&mut reader, disk, to, form) {
+    match make_file(&mut reader, disk, to, form.id()) {
         Ok(len) => Ok(len),
         Err(fault) => Err(ConvertError::Refused(fault)),
     }
