@@ -314,6 +314,7 @@ Options:
       --set <KEY=VALUE>           Sets a field of the recording, whatever the file has; may be repeated
       --strict                    Refuses a recording that would lose anything of the file
       --strict-texts              Refuses a recording whose texts or cue points would change
+      --keep-left-out <LEFT>      Keeps the chunks that a take doesn't carry in LEFT, a new file
       --pcm <RATE,CHANNELS,BITS>  With --file or --spool: the input is samples without a header, in this format, as in 48000,2,24
       --skip <BYTES>              With --pcm: the offset of the samples in the file, in bytes [default: 0]
       --block <FRAMES>            With --pcm: sends FRAMES in a block [default: as many as fit in 32768 bytes]

@@ -22,7 +22,8 @@ import threading
 sys.dont_write_bytecode = True  # nothing is left beside this script
 from kit.hints import hinted
 from kit.network import connect, free_port, hear_batch, hear_until_it_breaks, LOCAL, PROGRAM
-from kit.refused_commands import STEREO_FILE, try_conversions, try_file_senders, try_pictures, try_repairs, try_takes
+from kit.refused_commands import STEREO_FILE, try_conversions, try_file_senders, try_left_outs, try_pictures, try_repairs
+from kit.refused_commands import try_takes
 from kit.refused_runs import is_prefix, KINDS, LONGEST_RUN, PIPES, Runs, what_a_pack_breaks, what_a_run_breaks
 from kit.refuser import Refused
 from kit.repository import ROOT
@@ -354,6 +355,7 @@ def main():
         try_pictures(runs, PROGRAM)
         try_repairs(runs, PROGRAM)
         try_conversions(runs, PROGRAM)
+        try_left_outs(runs, PROGRAM)
         try_takes(runs, PROGRAM)
         try_senders(runs, PROGRAM, take)
         try_file_senders(runs, PROGRAM)

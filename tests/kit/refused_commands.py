@@ -1,4 +1,6 @@
-"""The commands over files and folders, with calls refused in turn: pictures, repairs, conversions, takes, senders."""
+"""The commands over files and folders, with calls refused in turn: pictures, repairs, conversions, chunks that are left
+out, takes, senders.
+"""
 import shutil
 import signal
 import subprocess
@@ -7,8 +9,10 @@ from cases.inspections import TABLED
 from cases.recordings import SENT, STEREO
 from kit.folders import folder_in, left_by, small_take
 from kit.network import LOCAL, Server
+from kit.recordings import data, fmt, Recording, riff
 from kit.refused_runs import is_prefix, KINDS, what_a_pack_breaks, what_a_run_breaks, what_an_upload_breaks
 from kit.repository import ROOT
+from kit.takes import chunk
 
 STEREO_FILE = next(case.file for case in SENT if case.recording is STEREO)
 
@@ -76,6 +80,41 @@ def try_conversions(runs, program):
     for kind in (*KINDS, "sync"):
         run = lambda kind, number: converted(runs, program, kind, number)
         runs.each("convert", kind, run, wrong)
+
+
+def try_left_outs(runs, program):
+    """What is kept has no id until all else is written; what is packed or joined is a part of it, or all."""
+    recording = Recording(samples=bytes(range(200)) * 30)
+    samples, lost = data(recording.samples), chunk(b"iXML", b"<BWFXML/>") + chunk(b"long", bytes(range(250)) * 300)
+    path, take, left = (runs.work / name for name in ("kept.wav", "taken.wav", "left.wav"))
+    path.write_bytes(riff(fmt(recording), samples, lost))
+    take.write_bytes(riff(fmt(recording), samples))
+    whole = riff(fmt(recording), lost, data(b""))
+    without = bytes(4) + whole[4:]
+
+    def packed(kind, number):
+        left.unlink(missing_ok=True)
+        found = runs.one([program, "pack", path, "--keep-left-out", left], b"", kind, number)
+        return *found, left.read_bytes() if left.exists() else b""
+
+    def wrong_pack(kind, found, wanted):
+        made = found[-1]
+        if made != whole and made != without[: len(made)]:
+            return "another file"
+        if found[1] and made != whole:
+            return "printed before it is kept"
+        return what_a_pack_breaks(kind, found[:-1], wanted[:-1])
+
+    def wrong_join(kind, found, wanted):
+        if wanted[1] != riff(fmt(recording), samples, lost):
+            return "another file"
+        return what_a_pack_breaks(kind, found, wanted)
+
+    for kind in (*KINDS, "sync"):
+        runs.each("pack --keep-left-out", kind, packed, wrong_pack)
+    for kind in KINDS:
+        run = lambda kind, number: runs.one([program, "join", take, path], b"", kind, number)
+        runs.each("join", kind, run, wrong_join)
 
 
 def try_takes(runs, program):

@@ -9,6 +9,7 @@ use Rattle.bw_args.proofs.FileLemmas.{refuses_files, runs_file_sender, runs_pack
 use Rattle.bw_args.proofs.FolderLemmas.{runs_takes}
 use Rattle.bw_args.proofs.FormLemmas.{runs_replay}
 use Rattle.bw_args.proofs.InspectLemmas.{runs_inspect}
+use Rattle.bw_args.proofs.JoinLemmas.{runs_join}
 use Rattle.bw_args.proofs.PcmLemmas.{refuses_samples, runs_pcm_sender}
 use Rattle.bw_args.proofs.PeerValueLemmas.{refuses_peers, wants_peers}
 use Rattle.bw_args.proofs.PictureLemmas.{runs_picture}
@@ -31,6 +32,7 @@ runs_commands words line is = record {
   picture = runs_picture words line is;
   repair = runs_repair words line is;
   convert = runs_convert words line is;
+  join = runs_join words line is;
   takes = runs_takes words line is;
 }
 

@@ -2,7 +2,7 @@
 use Rattle.std.proofs.Common.{◌≡◌, ℕ, ◌<◌, ◌≤◌, Bool, true, false, List, [], ◌∷◌, ◌++◌, Option, Some, None, Result, Ok, Err}
 use Rattle.std.proofs.Common.{OnErr, ap, codes, refl, subst, sym, ◌∙◌, arith, inl, inr, unwrap_or}
 use Rattle.std.proofs.Math.Path.{fun_ext}
-use Rattle.std.specs.Prelude.{⊤, ◌⊎◌, ◌||◌, if◌then◌else◌, is_some, not, option_map}
+use Rattle.std.specs.Prelude.{⊤, ◌⊎◌, ◌&&◌, ◌||◌, if◌then◌else◌, is_some, not, option_map}
 use Rattle.std.specs.declared.net.socket_addr.SocketAddr.{SocketAddr}
 use Rattle.std.specs.Net.Socket.{socket_port}
 use Rattle.clap.specs.Words.{Row, Text, first_of, first_value, rows_of}
@@ -15,6 +15,7 @@ use Rattle.bw_args.specs.Given.{GivesNoFuse, GivesRecorders, IsAddressGiven, IsE
 use Rattle.bw_args.specs.Given.{IsJournaling, IsJournalingGiven, IsRecorders, IsRecordersGiven, given_on_line, is_set}
 use Rattle.bw_args.specs.Given.{GivesStatus, GivesWork, IsWork, IsWorkGiven, is_watch_mixed}
 use Rattle.bw_args.specs.Sources.{GivesSource, PlainSource, is_mixed, path_given, settings_on_line}
+use Rattle.bw_args.specs.LeftOutOptions.{is_left_out_mixed}
 use Rattle.bw_args.specs.ReceiptOptions.{is_receipt_mixed, receipt_given}
 use Rattle.bw_args.specs.InspectedFiles.{GivesInspection, PlainInspection, is_possible, one_file}
 use Rattle.bw_args.specs.Lines.{GivesRest, IsRestGiven}
@@ -44,7 +45,7 @@ use Rattle.bw_args.specs.declared.peers.Recorders.{Recorders as Way}
 use Rattle.bw_args.specs.declared.peers.Send.{Send as Sender}
 use Rattle.bw_args.specs.declared.bad_value.BadValue.{BadValue}
 use Rattle.bw_args.specs.declared.bad_value.BadValue.TheVariants.{Name, Limit, Fuse, UntilStopped, Sync, Status, Wait, GiveUp, Watch}
-use Rattle.bw_args.specs.declared.bad_value.BadValue.TheVariants.{Inspection}
+use Rattle.bw_args.specs.declared.bad_value.BadValue.TheVariants.{Inspection, LeftOut}
 
 -- the value that is looked at first is good, and one after it is bad
 infixr 20 ◌and_then◌
@@ -77,16 +78,26 @@ AllGood [] given = ⊤
 AllGood (value ∷ values) given = IsGood value given × AllGood values given
 
 -- if neither a receipt nor its form is given, they go together
-no_receipt : (given : Text → Option Text) (receipt : Option Text) (json others : Bool)
-    → (is_some receipt || (json || others)) ≡ false
+no_receipt : (given : Text → Option Text) (receipt : Option Text) (left json others : Bool)
+    → (is_some receipt || (left || (json || others))) ≡ false
     → (if is_some receipt then is_some (given (codes "pcm")) || is_some (given (codes "spool")) else json) ≡ false
-no_receipt given (Some text) json others none = let bad : true ≡ false = none in cc
-no_receipt given None true others none = none
-no_receipt given None false others none = refl
+no_receipt given (Some text) left json others none = let bad : true ≡ false = none in cc
+no_receipt given None true json others none = let bad : true ≡ false = none in cc
+no_receipt given None false true others none = none
+no_receipt given None false false others none = refl
 
--- without a recording's file nothing is said of fruitless links, nor of a rate, nor of a receipt
+-- if no chunks are to be kept, nothing stands against it
+none_kept : (receipt left : Option Text) (others mixed : Bool)
+    → (is_some receipt || (is_some left || others)) ≡ false → (is_some left && mixed) ≡ false
+none_kept (Some text) left others mixed none = let bad : true ≡ false = none in cc
+none_kept None (Some text) others mixed none = let bad : true ≡ false = none in cc
+none_kept None None others mixed none = refl
+
+-- without a recording's file nothing is said of fruitless links, nor of a rate, nor of a receipt, nor of
+-- what is kept
 no_pace : (given : Text → Option Text) → path_given given ≡ None → is_mixed given ≡ false
-    → (given (codes "fruitless") ≡ None) × ((given (codes "rate") ≡ None) × (is_receipt_mixed given ≡ false))
+    → (given (codes "fruitless") ≡ None) × ((given (codes "rate") ≡ None)
+    × ((is_receipt_mixed given ≡ false) × (is_left_out_mixed given ≡ false)))
 no_pace given none unmixed =
     go (path_given given) (given (codes "set")) (given (codes "fruitless")) (given (codes "state"))
     (given (codes "rate")) none unmixed
@@ -94,17 +105,27 @@ no_pace given none unmixed =
     go : (file set fruitless state rate : Option Text) → file ≡ None
         → (if is_some file then is_some (given (codes "rounds"))
         else (is_some set || (is_some fruitless || (is_some state || (is_some rate
-        || (is_some (given (codes "receipt")) || (is_set (given (codes "json"))
-        || (is_set (given (codes "strict"))
-        || (is_set (given (codes "strict-texts")) || is_set (given (codes "log"))))))))))) ≡ false
-        → (fruitless ≡ None) × ((rate ≡ None) × (is_receipt_mixed given ≡ false))
+        || (is_some (given (codes "receipt")) || (is_some (given (codes "keep-left-out"))
+        || (is_set (given (codes "json")) || (is_set (given (codes "strict"))
+        || (is_set (given (codes "strict-texts")) || is_set (given (codes "log")))))))))))) ≡ false
+        → (fruitless ≡ None) × ((rate ≡ None)
+        × ((is_receipt_mixed given ≡ false) × (is_left_out_mixed given ≡ false)))
     go (Some text) set fruitless state rate is unmixed = let bad : Some text ≡ None = is in cc
     go None (Some text) fruitless state rate is unmixed = let bad : true ≡ false = unmixed in cc
     go None None (Some text) state rate is unmixed = let bad : true ≡ false = unmixed in cc
     go None None None (Some text) rate is unmixed = let bad : true ≡ false = unmixed in cc
     go None None None None (Some text) is unmixed = let bad : true ≡ false = unmixed in cc
-    go None None None None None is unmixed =
-        (refl, (refl, no_receipt given (given (codes "receipt")) (is_set (given (codes "json"))) _ unmixed))
+    go None None None None None is unmixed = (
+      refl,
+      (
+        refl,
+        (
+          no_receipt given (given (codes "receipt")) (is_some (given (codes "keep-left-out")))
+              (is_set (given (codes "json"))) _ unmixed,
+          none_kept (given (codes "receipt")) (given (codes "keep-left-out")) _ _ unmixed,
+        ),
+      ),
+    )
 
 -- with it nothing of rounds
 no_rounds : (given : Text → Option Text) (path : Text) → path_given given ≡ Some path → is_mixed given ≡ false
@@ -115,9 +136,9 @@ no_rounds given path has unmixed = go (path_given given) (given (codes "rounds")
         → (if is_some file then is_some rounds
         else (is_some (given (codes "set")) || (is_some (given (codes "fruitless"))
         || (is_some (given (codes "state")) || (is_some (given (codes "rate"))
-        || (is_some (given (codes "receipt")) || (is_set (given (codes "json"))
-        || (is_set (given (codes "strict"))
-        || (is_set (given (codes "strict-texts")) || is_set (given (codes "log"))))))))))) ≡ false
+        || (is_some (given (codes "receipt")) || (is_some (given (codes "keep-left-out"))
+        || (is_set (given (codes "json")) || (is_set (given (codes "strict"))
+        || (is_set (given (codes "strict-texts")) || is_set (given (codes "log")))))))))))) ≡ false
         → rounds ≡ None
     go None rounds is unmixed = let bad : None ≡ Some path = is in cc
     go (Some text) None is unmixed = refl
@@ -214,18 +235,18 @@ wished_good name options wish asked = go wish asked
         at (codes "send") a.0 (
         (sender.connect, a.1.connects) also (sender.name, a.1.named) also (a.1.tries.0, a.1.tries.1)
         also (sender.timeout, a.1.waits) also (None, no_count most_fruitless _ paceless.0)
-        also (None, no_count most_rate _ paceless.1.0) also a.1.unmixed also paceless.1.1
-        also samples_good (given_on_line options) None a.1.unsampled)
+        also (None, no_count most_rate _ paceless.1.0) also a.1.unmixed also paceless.1.1.0
+        also paceless.1.1.1 also samples_good (given_on_line options) None a.1.unsampled)
     go (Uploading sender) a = at (codes "send") a.0 (
         (sender.connect, a.1.connects) also (sender.name, a.1.named)
         also (None, no_count most_rounds _ (no_rounds (given_on_line options) sender.source.path a.1.takes.from a.1.unmixed))
         also (a.1.waits.0, a.1.waits.1) also (a.1.ends.0, a.1.ends.1) also (sender.rate, a.1.paced)
-        also a.1.unmixed also a.1.receipted also samples_good (given_on_line options) None a.1.unsampled)
+        also a.1.unmixed also a.1.receipted also a.1.takes.kept also samples_good (given_on_line options) None a.1.unsampled)
     go (SendingPcm sender) a = at (codes "send") a.0 (
         (sender.connect, a.1.connects) also (sender.name, a.1.named)
         also (None, no_count most_rounds _ (no_rounds (given_on_line options) sender.source.path a.1.takes.from a.1.unmixed))
         also (a.1.waits.0, a.1.waits.1) also (a.1.count, a.1.counts) also (sender.rate, a.1.paced)
-        also a.1.unmixed also a.1.unreceipted
+        also a.1.unmixed also a.1.unreceipted also a.1.takes.kept
         also samples_good (given_on_line options) (Some sender.pcm) a.1.samples)
     go w a = at _ a.0 tt
 
@@ -396,12 +417,15 @@ pub source_asked : (found : Found) (path_in : (Text → Option Text) → Option 
     → source.path ≡ path → source.settings ≡ settings_on_line (rows_of found)
     → source.strict ≡ is_set (first_value found (codes "strict"))
     → source.strict_texts ≡ is_set (first_value found (codes "strict-texts"))
+    → source.left_out ≡ first_value found (codes "keep-left-out") → is_left_out_mixed (first_value found) ≡ false
     → GivesSource (path_in (given_on_line (rows_of found))) (rows_of found) source
-source_asked found path_in path source given at sets strict texts = record {
+source_asked found path_in path source given at sets strict texts keeps kept = record {
   from = sym (ap Some at ∙ by_rows found (λ g. Some path ≡ path_in g) given);
   sets = sets;
   refuses = by_rows found (λ g. source.strict ≡ is_set (g (codes "strict"))) strict;
   refuses_texts = by_rows found (λ g. source.strict_texts ≡ is_set (g (codes "strict-texts"))) texts;
+  keeps = by_rows found (λ g. source.left_out ≡ g (codes "keep-left-out")) keeps;
+  kept = by_rows found (λ g. is_left_out_mixed g ≡ false) kept;
 }
 
 -- the file of this path, with what else is given
@@ -411,20 +435,31 @@ found_source found path = record {
   settings = settings_on_line (rows_of found);
   strict = is_set (first_value found (codes "strict"));
   strict_texts = is_set (first_value found (codes "strict-texts"));
+  left_out = first_value found (codes "keep-left-out");
 }
 
 -- no file's path is given, and one
-no_path : {P : Type 0} (path : Text) → None ≡ Some path → P
+pub no_path : {P : Type 0} (path : Text) → None ≡ Some path → P
 no_path path none = let bad : None ≡ Some path = none in cc
 
 -- without one, nothing is asked for, and no value is looked at
 pub no_packed_line : (found : Found) → None ≡ first_value found (codes "file")
-    → IsLineFor (Some (codes "pack", rows_of found)) (Bad Limit)
+    → IsLineFor (Some (codes "pack", rows_of found)) (Bad LeftOut)
 no_packed_line found given = (nothing, inr (refl, refl))
   where
     nothing : AsksNothing (Some (codes "pack", rows_of found))
     nothing (Packing source) asked =
         no_path source.path (given ∙ first_value-rows found (codes "file") ∙ asked.1.from)
+    nothing wish asked = other_name (refl {a = codes "pack"}) asked.0 refl
+
+-- nor where chunks are to be kept that may not be left out
+pub unkept_line : (found : Found) → is_left_out_mixed (first_value found) ≡ true
+    → IsLineFor (Some (codes "pack", rows_of found)) (Bad LeftOut)
+unkept_line found mixed = (nothing, inr (refl, refl))
+  where
+    nothing : AsksNothing (Some (codes "pack", rows_of found))
+    nothing (Packing source) asked =
+        let bad : true ≡ false = sym (by_rows found (λ g. is_left_out_mixed g ≡ true) mixed) ∙ asked.1.kept in cc
     nothing wish asked = other_name (refl {a = codes "pack"}) asked.0 refl
 
 -- the file to draw that is given is the one that is asked for
@@ -549,9 +584,10 @@ pub upload_kept : (found : Found) (path name : Text) (connect : SocketAddr) (tri
     → GivesAddress (is_set (first_value found (codes "network"))) (first_value found (codes "connect")) connect
     → GivesName (first_value found (codes "name")) name → Some path ≡ path_given (first_value found)
     → GivesTries (first_value found) tries → is_mixed (first_value found) ≡ false
-    → is_receipt_mixed (first_value found) ≡ false → GivesSamples (first_value found) None
+    → is_receipt_mixed (first_value found) ≡ false → is_left_out_mixed (first_value found) ≡ false
+    → GivesSamples (first_value found) None
     → AsksForPath (Some (codes "send", rows_of found))
-upload_kept found path name connect tries connects named at given unmixed receipted unsampled = (
+upload_kept found path name connect tries connects named at given unmixed receipted kept unsampled = (
   Uploading (record {
     connect = connect;
     name = name;
@@ -565,7 +601,7 @@ upload_kept found path name connect tries connects named at given unmixed receip
   }),
   tt,
   upload_asked found _ connects named (source_asked found path_given path (found_source found path) at refl refl refl
-      refl)
+      refl refl kept)
       (tries.timeout, given.waits, refl) (tries.fruitless, given.ends, refl) refl refl refl receipted given.paced
       unmixed unsampled,
 )
@@ -574,9 +610,9 @@ pub samples_kept : (found : Found) (path name : Text) (connect : SocketAddr) (tr
     → GivesAddress (is_set (first_value found (codes "network"))) (first_value found (codes "connect")) connect
     → GivesName (first_value found (codes "name")) name → Some path ≡ path_given (first_value found)
     → GivesTries (first_value found) tries → is_mixed (first_value found) ≡ false
-    → is_receipt_mixed (first_value found) ≡ false
+    → is_receipt_mixed (first_value found) ≡ false → is_left_out_mixed (first_value found) ≡ false
     → GivesSamples (first_value found) (Some pcm) → AsksForPath (Some (codes "send", rows_of found))
-samples_kept found path name connect tries pcm connects named at given unmixed unreceipted samples = (
+samples_kept found path name connect tries pcm connects named at given unmixed unreceipted kept samples = (
   SendingPcm (record {
     connect = connect;
     name = name;
@@ -589,7 +625,7 @@ samples_kept found path name connect tries pcm connects named at given unmixed u
   }),
   tt,
   pcm_asked found _ tries.fruitless connects named (source_asked found path_given path (found_source found path) at refl refl
-      refl refl)
+      refl refl refl kept)
       samples (tries.timeout, given.waits, refl) given.ends refl refl given.paced unmixed unreceipted,
 )
 

@@ -6,10 +6,10 @@ use Rattle.std.proofs.lemmas.Slice.Eq.{bytes_eq-Decides}
 use Rattle.clap.specs.Words.{Row, Text}
 use Rattle.bw_args.specs.Lines.{AsksNothing, IsLineFor, looked_at}
 use Rattle.bw_args.specs.Lines.{Replaying, Rehearsing, Inspecting, InspectingFiles, Serving, Sending, Uploading}
-use Rattle.bw_args.specs.Lines.{SendingPcm, Packing, Picturing, Repairing, Converting, Listing, Verifying}
+use Rattle.bw_args.specs.Lines.{SendingPcm, Packing, Picturing, Repairing, Converting, Joining, Listing, Verifying}
 use Rattle.bw_args.specs.declared.CommandLine.TheVariants.{BadValue as Bad}
 use Rattle.bw_args.specs.declared.bad_value.BadValue.{BadValue}
-use Rattle.bw_args.specs.declared.bad_value.BadValue.TheVariants.{Limit, Inspection, Form}
+use Rattle.bw_args.specs.declared.bad_value.BadValue.TheVariants.{Limit, Inspection, Form, LeftOut}
 
 -- a name that isn't this one
 not_named : {P : Type 0} (name command : Text) → bytes_eq name command ≡ false → name ≡ command → P
@@ -22,8 +22,9 @@ none_of : (a b c d e : List BadValue) (p q r s t : Bool) → p ≡ false → q �
     → (if p then a else (if q then b else (if r then c else (if s then d else (if t then e else []))))) ≡ []
 none_of a b c d e p q r s t is_p is_q is_r is_s is_t = rw (is_p, is_q, is_r, is_s, is_t) refl
 
-a_limit : (p q : Bool) → p ≡ false → q ≡ false → Limit ≡ (if p then Inspection else (if q then Form else Limit))
-a_limit p q is also = rw (is, also) refl
+a_limit : (p q r : Bool) → p ≡ false → q ≡ false → r ≡ false
+    → Limit ≡ (if p then Inspection else (if q then Form else (if r then LeftOut else Limit)))
+a_limit p q r is also then_too = rw (is, also, then_too) refl
 
 -- with a command of another name nothing is asked for
 pub unknown_line : (command : Option (Text × List Row)) (name : Text) (options : List Row)
@@ -32,10 +33,10 @@ pub unknown_line : (command : Option (Text × List Row)) (name : Text) (options 
     → bytes_eq name (codes "serve") ≡ false → bytes_eq name (codes "send") ≡ false
     → bytes_eq name (codes "pack") ≡ false → bytes_eq name (codes "picture") ≡ false
     → bytes_eq name (codes "repair") ≡ false → bytes_eq name (codes "convert") ≡ false
-    → bytes_eq name (codes "takes") ≡ false
+    → bytes_eq name (codes "join") ≡ false → bytes_eq name (codes "takes") ≡ false
     → IsLineFor command (Bad Limit)
-unknown_line command name options same replay rehearse inspect serve send pack picture repair convert takes =
-    subst (λ c. IsLineFor c (Bad Limit)) same (nothing, inr (unlooked, a_limit _ _ inspect convert))
+unknown_line command name options same replay rehearse inspect serve send pack picture repair convert join takes =
+    subst (λ c. IsLineFor c (Bad Limit)) same (nothing, inr (unlooked, a_limit _ _ _ inspect convert pack))
   where
     unlooked : looked_at name ≡ []
     unlooked = none_of _ _ _ _ _ (bytes_eq name (codes "replay")) (bytes_eq name (codes "rehearse"))
@@ -55,5 +56,6 @@ unknown_line command name options same replay rehearse inspect serve send pack p
     nothing (Picturing path) asked = not_named name (codes "picture") picture asked.0
     nothing (Repairing path write) asked = not_named name (codes "repair") repair asked.0
     nothing (Converting path to form) asked = not_named name (codes "convert") convert asked.0
+    nothing (Joining take left) asked = not_named name (codes "join") join asked.0
     nothing (Listing folder work) asked = not_named name (codes "takes") takes asked.0
     nothing (Verifying folder receipts) asked = not_named name (codes "takes") takes asked.0

@@ -1,54 +1,44 @@
 -- The forms of `pack` and of `send` with a recording, at values that are not known.
-use Rattle.std.proofs.Common.{◌≡◌, List, [], ◌∷◌, ◌++◌, true, false, Some, None, codes, refl}
+use Rattle.std.proofs.Common.{List, [], ◌∷◌, ◌++◌, true, false, Some, None, codes, refl}
 use Rattle.clap.specs.declared.error.ErrorKind.TheVariants.{MissingRequiredArgument}
-use Rattle.clap.specs.Simple.{built, built_leaf}
-use Rattle.clap.specs.Words.{Row, Text}
+use Rattle.clap.specs.Words.{Text}
 use Rattle.clap.proofs.OnLiterals.{clap_on_literals}
-use Rattle.bw_args.specs.Numbers.{IsCountText, default_fruitless, default_timeout, most_fruitless, most_rounds, most_seconds}
+use Rattle.bw_args.specs.Numbers.{IsCountText, most_fruitless, most_rounds, most_seconds}
 use Rattle.bw_args.specs.Numbers.{most_rate, number_written}
-use Rattle.bw_args.specs.Commands.{command_line, pack_command}
-use Rattle.bw_args.specs.ReadWords.{as_read}
-use Rattle.bw_args.specs.Sources.{GivesSource, PlainSource, is_mixed, path_given}
-use Rattle.bw_args.specs.ReceiptOptions.{is_receipt_mixed, receipt_given, target}
-use Rattle.bw_args.specs.PcmSources.{GivesSamples}
-use Rattle.bw_args.specs.Lines.{AsksFor, GivesAddress, GivesCount, GivesCountOr, GivesName, GivesUpload, IsLineOf, Packing}
-use Rattle.bw_args.specs.Lines.{FileUpload, Uploading, given_on_line, is_set}
+use Rattle.bw_args.specs.ReceiptOptions.{target}
+use Rattle.bw_args.specs.Lines.{IsLineOf}
+use Rattle.bw_args.specs.Lines.{Uploading}
 use Rattle.bw_args.specs.Forms.{IsPlain}
 use Rattle.bw_args.specs.FileForms.{RefusesFiles, RunsFileSender, RunsPack, plain_upload, source_at, with_file}
 use Rattle.bw_args.specs.declared.CommandLine.{CommandLine}
-use Rattle.bw_args.specs.declared.bad_value.BadValue.TheVariants.{Fruitless, Mixed, Rate, Receipt}
+use Rattle.bw_args.specs.declared.bad_value.BadValue.TheVariants.{Fruitless, LeftOut, Mixed, Rate, Receipt}
 use Rattle.bw_args.proofs.FormLemmas.{asked_reports, asked_runs, asks}
-use Rattle.bw_args.proofs.PlainWords.{Enters, literal, unknown, values_ask}
+use Rattle.bw_args.proofs.LeftOutLemmas.{AsksPack, is_entered, left_out_asks, left_out_sends, left_out_strict}
+use Rattle.bw_args.proofs.LeftOutLemmas.{left_out_texts_asks, mixed_left_out, strict_left_out, unkept_reported}
+use Rattle.bw_args.proofs.UploadLemmas.{upload_by}
+use Rattle.bw_args.proofs.PlainWords.{literal, unknown, values_ask}
 use Rattle.bw_args.proofs.SenderLemmas.{AsksSender, samples_by}
 use Rattle.bw_args.proofs.Asked.{bad, ◌and_then◌}
 use Rattle.bw_args.proofs.ValueLemmas.{LacksSender, not_mixed, nothing, reported}
 
--- the words that follow `pack` ask for this
-abbrev AsksPack : List Text → PlainSource → Type 0
-AsksPack words source = (program : Text) → AsksFor (as_read (program ∷ codes "pack" ∷ words)) (Packing source)
-
-is_entered : Enters (built command_line) (codes "pack") (built_leaf pack_command.top)
-unfolding clap_on_literals
-is_entered = record { walks = refl; takes = refl; finds = refl }
-
 pack_asks : (path : Text) → IsPlain path → AsksPack (path ∷ []) (source_at path)
 unfolding clap_on_literals
 pack_asks path is program = values_ask is_entered program (unknown path ∷ []) (is, tt) refl
-    (refl, record { from = refl; sets = refl; refuses = refl; refuses_texts = refl })
+    (refl, record { from = refl; sets = refl; refuses = refl; refuses_texts = refl; keeps = refl; kept = refl })
 
 strict_asks : (path : Text) → IsPlain path
     → AsksPack (codes "--strict" ∷ path ∷ []) (record (source_at path) { strict = true })
 unfolding clap_on_literals
 strict_asks path is program =
     values_ask is_entered program (literal (codes "--strict") ∷ unknown path ∷ []) (tt, (is, tt)) refl
-    (refl, record { from = refl; sets = refl; refuses = refl; refuses_texts = refl })
+    (refl, record { from = refl; sets = refl; refuses = refl; refuses_texts = refl; keeps = refl; kept = refl })
 
 strict_texts_asks : (path : Text) → IsPlain path
     → AsksPack (codes "--strict-texts" ∷ path ∷ []) (record (source_at path) { strict_texts = true })
 unfolding clap_on_literals
 strict_texts_asks path is program =
     values_ask is_entered program (literal (codes "--strict-texts") ∷ unknown path ∷ []) (tt, (is, tt)) refl
-    (refl, record { from = refl; sets = refl; refuses = refl; refuses_texts = refl })
+    (refl, record { from = refl; sets = refl; refuses = refl; refuses_texts = refl; keeps = refl; kept = refl })
 
 sets_asks : (path a b : Text) → IsPlain path
     → AsksPack ((codes "--set=" ++ a) ∷ (codes "--set=" ++ b) ∷ path ∷ [])
@@ -56,7 +46,7 @@ sets_asks : (path a b : Text) → IsPlain path
 unfolding clap_on_literals
 sets_asks path a b is program = values_ask is_entered program
     (literal (codes "--set=" ++ a) ∷ literal (codes "--set=" ++ b) ∷ unknown path ∷ []) (tt, (tt, (is, tt))) refl
-    (refl, record { from = refl; sets = refl; refuses = refl; refuses_texts = refl })
+    (refl, record { from = refl; sets = refl; refuses = refl; refuses_texts = refl; keeps = refl; kept = refl })
 
 pub runs_pack : (words : List Text) (line : CommandLine) → IsLineOf words line → RunsPack words line
 unfolding clap_on_literals
@@ -65,34 +55,10 @@ runs_pack words line is = record {
   strict = λ p f plain e. asked_runs words _ line _ is e (strict_asks f plain p);
   strict_texts = λ p f plain e. asked_runs words _ line _ is e (strict_texts_asks f plain p);
   sets = λ p f a b plain e. asked_runs words _ line _ is e (sets_asks f a b plain p);
+  left_out = λ p f t plain e. asked_runs words _ line _ is e (left_out_asks f t plain p);
+  left_out_texts = λ p f t plain e. asked_runs words _ line _ is e (left_out_texts_asks f t plain p);
+  left_out_strict = λ p f t plain e. unkept_reported words _ line is e (strict_left_out p f t plain);
   none = λ p e. asked_reports MissingRequiredArgument words _ line is e refl;
-}
-
--- what of a recording's sender is given says it
-upload_by : {options : List Row} {sender : FileUpload}
-    → GivesCountOr default_timeout most_seconds (given_on_line options (codes "timeout")) sender.timeout
-    → GivesCountOr default_fruitless most_fruitless (given_on_line options (codes "fruitless")) sender.fruitless
-    → GivesAddress (is_set (given_on_line options (codes "network"))) (given_on_line options (codes "connect"))
-    sender.connect
-    → GivesName (given_on_line options (codes "name")) sender.name
-    → GivesSource (path_given (given_on_line options)) options sender.source
-    → sender.log ≡ is_set (given_on_line options (codes "log")) → sender.state ≡ given_on_line options (codes "state")
-    → sender.receipt ≡ receipt_given (given_on_line options) → is_receipt_mixed (given_on_line options) ≡ false
-    → GivesCount most_rate (given_on_line options (codes "rate")) sender.rate
-    → is_mixed (given_on_line options) ≡ false → GivesSamples (given_on_line options) None → GivesUpload options sender
-upload_by waits ends connects named takes reports states receipts receipted paced unmixed unsampled = record {
-  connects = connects;
-  named = named;
-  takes = takes;
-  waits = waits;
-  ends = ends;
-  reports = reports;
-  states = states;
-  receipts = receipts;
-  receipted = receipted;
-  paced = paced;
-  unmixed = unmixed;
-  unsampled = unsampled;
 }
 
 alone_sends : (path : Text) → AsksSender false (with_file path [])
@@ -102,7 +68,8 @@ alone_sends path program connect name address at named =
     asks refl (
       refl,
       upload_by (None, refl, refl) (None, refl, refl) at (named, refl)
-          (record { from = refl; sets = refl; refuses = refl; refuses_texts = refl }) refl refl refl refl refl refl
+          (record { from = refl; sets = refl; refuses = refl; refuses_texts = refl; keeps = refl; kept = refl })
+          refl refl refl refl refl refl
           (samples_by None None None refl refl refl refl refl),
     )
 
@@ -114,7 +81,8 @@ sets_sends path x y program connect name address at named =
     asks refl (
       refl,
       upload_by (None, refl, refl) (None, refl, refl) at (named, refl)
-          (record { from = refl; sets = refl; refuses = refl; refuses_texts = refl }) refl refl refl refl refl refl
+          (record { from = refl; sets = refl; refuses = refl; refuses_texts = refl; keeps = refl; kept = refl })
+          refl refl refl refl refl refl
           (samples_by None None None refl refl refl refl refl),
     )
 
@@ -125,7 +93,8 @@ strict_sends path program connect name address at named =
     asks refl (
       refl,
       upload_by (None, refl, refl) (None, refl, refl) at (named, refl)
-          (record { from = refl; sets = refl; refuses = refl; refuses_texts = refl }) refl refl refl refl refl refl
+          (record { from = refl; sets = refl; refuses = refl; refuses_texts = refl; keeps = refl; kept = refl })
+          refl refl refl refl refl refl
           (samples_by None None None refl refl refl refl refl),
     )
 
@@ -136,7 +105,8 @@ strict_texts_sends path program connect name address at named =
     asks refl (
       refl,
       upload_by (None, refl, refl) (None, refl, refl) at (named, refl)
-          (record { from = refl; sets = refl; refuses = refl; refuses_texts = refl }) refl refl refl refl refl refl
+          (record { from = refl; sets = refl; refuses = refl; refuses_texts = refl; keeps = refl; kept = refl })
+          refl refl refl refl refl refl
           (samples_by None None None refl refl refl refl refl),
     )
 
@@ -148,7 +118,8 @@ fruitless_sends path count is program connect name address at named =
     asks refl (
       refl,
       upload_by (None, refl, refl) (Some (number_written count), (is, refl), refl) at (named, refl)
-          (record { from = refl; sets = refl; refuses = refl; refuses_texts = refl }) refl refl refl refl refl refl
+          (record { from = refl; sets = refl; refuses = refl; refuses_texts = refl; keeps = refl; kept = refl })
+          refl refl refl refl refl refl
           (samples_by None None None refl refl refl refl refl),
     )
 
@@ -160,7 +131,8 @@ timeout_sends path seconds is program connect name address at named =
     asks refl (
       refl,
       upload_by (Some (number_written seconds), (is, refl), refl) (None, refl, refl) at (named, refl)
-          (record { from = refl; sets = refl; refuses = refl; refuses_texts = refl }) refl refl refl refl refl refl
+          (record { from = refl; sets = refl; refuses = refl; refuses_texts = refl; keeps = refl; kept = refl })
+          refl refl refl refl refl refl
           (samples_by None None None refl refl refl refl refl),
     )
 
@@ -171,7 +143,8 @@ log_sends path program connect name address at named =
     asks refl (
       refl,
       upload_by (None, refl, refl) (None, refl, refl) at (named, refl)
-          (record { from = refl; sets = refl; refuses = refl; refuses_texts = refl }) refl refl refl refl refl refl
+          (record { from = refl; sets = refl; refuses = refl; refuses_texts = refl; keeps = refl; kept = refl })
+          refl refl refl refl refl refl
           (samples_by None None None refl refl refl refl refl),
     )
 
@@ -182,7 +155,8 @@ state_sends path state program connect name address at named =
     asks refl (
       refl,
       upload_by (None, refl, refl) (None, refl, refl) at (named, refl)
-          (record { from = refl; sets = refl; refuses = refl; refuses_texts = refl }) refl refl refl refl refl refl
+          (record { from = refl; sets = refl; refuses = refl; refuses_texts = refl; keeps = refl; kept = refl })
+          refl refl refl refl refl refl
           (samples_by None None None refl refl refl refl refl),
     )
 
@@ -194,7 +168,8 @@ rate_sends path bytes is program connect name address at named =
     asks refl (
       refl,
       upload_by (None, refl, refl) (None, refl, refl) at (named, refl)
-          (record { from = refl; sets = refl; refuses = refl; refuses_texts = refl }) refl refl refl refl (is, refl) refl
+          (record { from = refl; sets = refl; refuses = refl; refuses_texts = refl; keeps = refl; kept = refl })
+          refl refl refl refl (is, refl) refl
           (samples_by None None None refl refl refl refl refl),
     )
 
@@ -205,7 +180,8 @@ receipt_sends path receipts program connect name address at named =
     asks refl (
       refl,
       upload_by (None, refl, refl) (None, refl, refl) at (named, refl)
-          (record { from = refl; sets = refl; refuses = refl; refuses_texts = refl }) refl refl refl refl refl refl
+          (record { from = refl; sets = refl; refuses = refl; refuses_texts = refl; keeps = refl; kept = refl })
+          refl refl refl refl refl refl
           (samples_by None None None refl refl refl refl refl),
     )
 
@@ -217,7 +193,8 @@ receipt_json_sends path receipts program connect name address at named =
     asks refl (
       refl,
       upload_by (None, refl, refl) (None, refl, refl) at (named, refl)
-          (record { from = refl; sets = refl; refuses = refl; refuses_texts = refl }) refl refl refl refl refl refl
+          (record { from = refl; sets = refl; refuses = refl; refuses_texts = refl; keeps = refl; kept = refl })
+          refl refl refl refl refl refl
           (samples_by None None None refl refl refl refl refl),
     )
 
@@ -228,7 +205,8 @@ network_sends path program connect name address at named =
     asks refl (
       refl,
       upload_by (None, refl, refl) (None, refl, refl) at (named, refl)
-          (record { from = refl; sets = refl; refuses = refl; refuses_texts = refl }) refl refl refl refl refl refl
+          (record { from = refl; sets = refl; refuses = refl; refuses_texts = refl; keeps = refl; kept = refl })
+          refl refl refl refl refl refl
           (samples_by None None None refl refl refl refl refl),
     )
 
@@ -238,6 +216,7 @@ runs_file_sender words line is = record {
   sets = λ f x y p c n a at named e. asked_runs words _ line _ is e (sets_sends f x y p c n a at named);
   strict = λ f p c n a at named e. asked_runs words _ line _ is e (strict_sends f p c n a at named);
   strict_texts = λ f p c n a at named e. asked_runs words _ line _ is e (strict_texts_sends f p c n a at named);
+  left_out = λ f t p c n a at named e. asked_runs words _ line _ is e (left_out_sends f t p c n a at named);
   fruitless = λ f t given p c n a at named e. asked_runs words _ line _ is e
       (fruitless_sends f t given p c n a at named);
   timeout = λ f t given p c n a at named e. asked_runs words _ line _ is e (timeout_sends f t given p c n a at named);
@@ -368,6 +347,9 @@ refuses_files words line is = record {
       (mixed_fruitless t given p c n a at named);
   state = λ t p c n a at named e. reported words _ line Mixed is e (mixed_state t p c n a at named);
   receipt = λ r p c n a at named e. reported words _ line Mixed is e (mixed_receipt r p c n a at named);
+  left_out = λ t p c n a at named e. reported words _ line Mixed is e (mixed_left_out t p c n a at named);
+  left_out_strict = λ f t p c n a at named e.
+      reported words _ line LeftOut is e (left_out_strict f t p c n a at named);
   json = λ p c n a at named e. reported words _ line Mixed is e (mixed_json p c n a at named);
   json_alone = λ f p c n a at named e. reported words _ line Receipt is e (json_alone f p c n a at named);
   rate = λ t given p c n a at named e. reported words _ line Mixed is e (mixed_rate t given p c n a at named);

@@ -12,11 +12,14 @@ pub mod RehearsalLemmas
 pub mod ServerLemmas
 pub mod SenderLemmas
 pub mod PeerValueLemmas
+pub mod UploadLemmas
+pub mod LeftOutLemmas
 pub mod FileLemmas
 pub mod PcmLemmas
 pub mod PictureLemmas
 pub mod RepairLemmas
 pub mod ConvertAsked
 pub mod ConvertLemmas
+pub mod JoinLemmas
 pub mod FolderLemmas
 pub mod AllCommandLemmas

@@ -12,7 +12,7 @@ use Rattle.bw_args.specs.Lines.{SendingPcm, given_on_line, is_set}
 use Rattle.bw_args.specs.FileForms.{with_file}
 use Rattle.bw_args.specs.PcmForms.{RefusesSamples, RunsPcmSender, plain_pcm_upload, with_pcm, with_spool}
 use Rattle.bw_args.specs.declared.CommandLine.{CommandLine}
-use Rattle.bw_args.specs.declared.bad_value.BadValue.TheVariants.{Pcm, Receipt, Skip, Block, MixedSamples}
+use Rattle.bw_args.specs.declared.bad_value.BadValue.TheVariants.{LeftOut, Pcm, Receipt, Skip, Block, MixedSamples}
 use Rattle.bw_args.specs.declared.commands.samples.WrittenFormat.{WrittenFormat}
 use Rattle.bw_args.proofs.FormLemmas.{asked_runs, asks}
 use Rattle.bw_args.proofs.SenderLemmas.{AsksSender, samples_by}
@@ -55,7 +55,8 @@ alone_sends path text format given program connect name address at named =
     asks refl (
       refl,
       pcm_by None refl refl (samples_by (Some format) None None given refl refl refl refl) at (named, refl)
-          (record { from = refl; sets = refl; refuses = refl; refuses_texts = refl }) (None, refl, refl) refl refl refl refl,
+          (record { from = refl; sets = refl; refuses = refl; refuses_texts = refl; keeps = refl; kept = refl })
+          (None, refl, refl) refl refl refl refl,
     )
 
 skip_sends : (path text bytes : Text) (format : WrittenFormat) → IsFormatText text format → IsNumber bytes
@@ -68,7 +69,8 @@ skip_sends path text bytes format given number program connect name address at n
       refl,
       pcm_by None refl refl (samples_by (Some format) (Some (number_written bytes)) None given (number, refl) refl
           refl refl) at (named, refl)
-          (record { from = refl; sets = refl; refuses = refl; refuses_texts = refl }) (None, refl, refl) refl refl refl refl,
+          (record { from = refl; sets = refl; refuses = refl; refuses_texts = refl; keeps = refl; kept = refl })
+          (None, refl, refl) refl refl refl refl,
     )
 
 block_sends : (path text frames : Text) (format : WrittenFormat) → IsFormatText text format
@@ -82,7 +84,8 @@ block_sends path text frames format given number program connect name address at
       refl,
       pcm_by None refl refl (samples_by (Some format) None (Some (number_written frames)) given refl (number, refl)
           refl refl) at (named, refl)
-          (record { from = refl; sets = refl; refuses = refl; refuses_texts = refl }) (None, refl, refl) refl refl refl refl,
+          (record { from = refl; sets = refl; refuses = refl; refuses_texts = refl; keeps = refl; kept = refl })
+          (None, refl, refl) refl refl refl refl,
     )
 
 follow_sends : (path text end : Text) (format : WrittenFormat) → IsFormatText text format
@@ -94,7 +97,8 @@ follow_sends path text end format given program connect name address at named =
     asks refl (
       refl,
       pcm_by None refl refl (samples_by (Some format) None None given refl refl refl refl) at (named, refl)
-          (record { from = refl; sets = refl; refuses = refl; refuses_texts = refl }) (None, refl, refl) refl refl refl refl,
+          (record { from = refl; sets = refl; refuses = refl; refuses_texts = refl; keeps = refl; kept = refl })
+          (None, refl, refl) refl refl refl refl,
     )
 
 fruitless_sends : (path text end count : Text) (format : WrittenFormat) → IsFormatText text format
@@ -112,7 +116,8 @@ fruitless_sends path text end count format given number program connect name add
       refl,
       pcm_by (Some (number_written count)) (number, refl) refl
           (samples_by (Some format) None None given refl refl refl refl) at (named, refl)
-          (record { from = refl; sets = refl; refuses = refl; refuses_texts = refl }) (None, refl, refl) refl refl refl refl,
+          (record { from = refl; sets = refl; refuses = refl; refuses_texts = refl; keeps = refl; kept = refl })
+          (None, refl, refl) refl refl refl refl,
     )
 
 spool_sends : (path text : Text) (format : WrittenFormat) → IsFormatText text format
@@ -124,7 +129,8 @@ spool_sends path text format given program connect name address at named =
     asks refl (
       refl,
       pcm_by None refl refl (samples_by (Some format) None None given refl refl refl refl) at (named, refl)
-          (record { from = refl; sets = refl; refuses = refl; refuses_texts = refl }) (None, refl, refl) refl refl refl refl,
+          (record { from = refl; sets = refl; refuses = refl; refuses_texts = refl; keeps = refl; kept = refl })
+          (None, refl, refl) refl refl refl refl,
     )
 
 rate_sends : (path text bytes : Text) (format : WrittenFormat) → IsFormatText text format
@@ -135,7 +141,8 @@ rate_sends path text bytes format given number program connect name address at n
     asks refl (
       refl,
       pcm_by None refl refl (samples_by (Some format) None None given refl refl refl refl) at (named, refl)
-          (record { from = refl; sets = refl; refuses = refl; refuses_texts = refl }) (None, refl, refl) refl (number, refl) refl refl,
+          (record { from = refl; sets = refl; refuses = refl; refuses_texts = refl; keeps = refl; kept = refl })
+          (None, refl, refl) refl (number, refl) refl refl,
     )
 
 pub runs_pcm_sender : (words : List Text) (line : CommandLine) → IsLineOf words line → RunsPcmSender words line
@@ -167,7 +174,7 @@ unfolding clap_on_literals
 bad_format path text none program connect name address at named = (
   refl,
   (address, at) and_then (name, (named, refl)) and_then nothing and_then nothing and_then nothing
-      and_then nothing and_then refl and_then refl
+      and_then nothing and_then refl and_then refl and_then refl
       and_then bad (λ good. no_format text good.0 none good.1),
 )
 
@@ -177,7 +184,7 @@ unfolding clap_on_literals
 bad_skip path text bytes format given none program connect name address at named = (
   refl,
   (address, at) and_then (name, (named, refl)) and_then nothing and_then nothing and_then nothing
-      and_then nothing and_then refl and_then refl
+      and_then nothing and_then refl and_then refl and_then refl
       and_then (Some format, given) and_then bad (λ good. none good.1.0),
 )
 
@@ -188,7 +195,7 @@ unfolding clap_on_literals
 bad_block path text frames format given none program connect name address at named = (
   refl,
   (address, at) and_then (name, (named, refl)) and_then nothing and_then nothing and_then nothing
-      and_then nothing and_then refl and_then refl
+      and_then nothing and_then refl and_then refl and_then refl
       and_then (Some format, given) and_then nothing and_then bad (λ good. none good.1.0),
 )
 
@@ -198,7 +205,7 @@ unfolding clap_on_literals
 mixed_fileless text format given program connect name address at named = (
   refl,
   (address, at) and_then (name, (named, refl)) and_then nothing and_then nothing and_then nothing
-      and_then nothing and_then refl and_then refl
+      and_then nothing and_then refl and_then refl and_then refl
       and_then (Some format, given) and_then nothing and_then nothing and_then bad not_mixed,
 )
 
@@ -208,7 +215,7 @@ unfolding clap_on_literals
 mixed_follow path text format given program connect name address at named = (
   refl,
   (address, at) and_then (name, (named, refl)) and_then nothing and_then nothing and_then nothing
-      and_then nothing and_then refl and_then refl
+      and_then nothing and_then refl and_then refl and_then refl
       and_then (Some format, given) and_then nothing and_then nothing and_then bad not_mixed,
 )
 
@@ -218,7 +225,7 @@ unfolding clap_on_literals
 mixed_until path text end format given program connect name address at named = (
   refl,
   (address, at) and_then (name, (named, refl)) and_then nothing and_then nothing and_then nothing
-      and_then nothing and_then refl and_then refl
+      and_then nothing and_then refl and_then refl and_then refl
       and_then (Some format, given) and_then nothing and_then nothing and_then bad not_mixed,
 )
 
@@ -228,7 +235,7 @@ unfolding clap_on_literals
 mixed_state path text state format given program connect name address at named = (
   refl,
   (address, at) and_then (name, (named, refl)) and_then nothing and_then nothing and_then nothing
-      and_then nothing and_then refl and_then refl
+      and_then nothing and_then refl and_then refl and_then refl
       and_then (Some format, given) and_then nothing and_then nothing and_then bad not_mixed,
 )
 
@@ -250,13 +257,31 @@ spool_receipt path text receipts format given program connect name address at na
       and_then nothing and_then refl and_then bad not_mixed,
 )
 
+samples_left_out : (path text left : Text) (format : WrittenFormat) → IsFormatText text format
+    → LacksSender (with_pcm path text ((codes "--keep-left-out=" ++ left) ∷ [])) LeftOut
+unfolding clap_on_literals
+samples_left_out path text left format given program connect name address at named = (
+  refl,
+  (address, at) and_then (name, (named, refl)) and_then nothing and_then nothing and_then nothing
+      and_then nothing and_then refl and_then refl and_then bad not_mixed,
+)
+
+spool_left_out : (path text left : Text) (format : WrittenFormat) → IsFormatText text format
+    → LacksSender (with_spool path text ((codes "--keep-left-out=" ++ left) ∷ [])) LeftOut
+unfolding clap_on_literals
+spool_left_out path text left format given program connect name address at named = (
+  refl,
+  (address, at) and_then (name, (named, refl)) and_then nothing and_then nothing and_then nothing
+      and_then nothing and_then refl and_then refl and_then bad not_mixed,
+)
+
 mixed_files : (path text spool : Text) (format : WrittenFormat) → IsFormatText text format
     → LacksSender (with_pcm path text ((codes "--spool=" ++ spool) ∷ [])) MixedSamples
 unfolding clap_on_literals
 mixed_files path text spool format given program connect name address at named = (
   refl,
   (address, at) and_then (name, (named, refl)) and_then nothing and_then nothing and_then nothing
-      and_then nothing and_then refl and_then refl
+      and_then nothing and_then refl and_then refl and_then refl
       and_then (Some format, given) and_then nothing and_then nothing and_then bad not_mixed,
 )
 
@@ -266,7 +291,7 @@ unfolding clap_on_literals
 mixed_ends path text end format given program connect name address at named = (
   refl,
   (address, at) and_then (name, (named, refl)) and_then nothing and_then nothing and_then nothing
-      and_then nothing and_then refl and_then refl
+      and_then nothing and_then refl and_then refl and_then refl
       and_then (Some format, given) and_then nothing and_then nothing and_then bad not_mixed,
 )
 
@@ -275,7 +300,7 @@ unfolding clap_on_literals
 mixed_spool path program connect name address at named = (
   refl,
   (address, at) and_then (name, (named, refl)) and_then nothing and_then nothing and_then nothing
-      and_then nothing and_then refl and_then refl
+      and_then nothing and_then refl and_then refl and_then refl
       and_then nothing and_then nothing and_then nothing and_then bad not_mixed,
 )
 
@@ -285,7 +310,7 @@ unfolding clap_on_literals
 mixed_skip path bytes number program connect name address at named = (
   refl,
   (address, at) and_then (name, (named, refl)) and_then nothing and_then nothing and_then nothing
-      and_then nothing and_then refl and_then refl
+      and_then nothing and_then refl and_then refl and_then refl
       and_then nothing and_then (Some (number_written bytes), (number, refl)) and_then nothing
       and_then bad not_mixed,
 )
@@ -309,6 +334,10 @@ refuses_samples words line is = record {
       (samples_receipt f t r m given p c n a at named);
   spool_receipt = λ f t r m given p c n a at named e. reported words _ line Receipt is e
       (spool_receipt f t r m given p c n a at named);
+  left_out = λ f t l m given p c n a at named e. reported words _ line LeftOut is e
+      (samples_left_out f t l m given p c n a at named);
+  spool_left_out = λ f t l m given p c n a at named e. reported words _ line LeftOut is e
+      (spool_left_out f t l m given p c n a at named);
   two_files = λ f t s m given p c n a at named e. reported words _ line MixedSamples is e
       (mixed_files f t s m given p c n a at named);
   two_ends = λ f t u m given p c n a at named e. reported words _ line MixedSamples is e

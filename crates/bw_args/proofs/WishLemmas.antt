@@ -18,7 +18,7 @@ use Rattle.bw_args.specs.PcmSources.{fruitless_of, is_live, samples_with}
 use Rattle.bw_args.specs.declared.commands.samples.WrittenFormat.{WrittenFormat}
 use Rattle.bw_args.specs.Lines.{GivesPcmUpload, GivesSender, GivesServer, GivesUpload, IsWishOf, Service}
 use Rattle.bw_args.specs.Lines.{FileUpload, PcmUpload, Wish, Inspecting, Packing, Rehearsing, Replaying}
-use Rattle.bw_args.specs.Lines.{Sending, SendingPcm, Serving, Uploading, InspectingFiles, Repairing, Converting, Listing, Verifying, Picturing}
+use Rattle.bw_args.specs.Lines.{Sending, SendingPcm, Serving, Uploading, InspectingFiles, Repairing, Converting, Joining, Listing, Verifying, Picturing}
 use Rattle.bw_args.specs.Numbers.{most_block, most_exchanges, most_fruitless, most_rate, most_recorders, most_seconds}
 use Rattle.bw_args.specs.Numbers.{number_written}
 use Rattle.bw_args.specs.InspectedFiles.{GivesInspection, PlainInspection, has_option, is_alone, one_file}
@@ -179,6 +179,7 @@ one_source given options a b x y =
       settings = (x.sets ∙ sym y.sets) i;
       strict = (x.refuses ∙ sym y.refuses) i;
       strict_texts = (x.refuses_texts ∙ sym y.refuses_texts) i;
+      left_out = (x.keeps ∙ sym y.keeps) i;
     }
 
 one_upload : (options : List Row) (a b : FileUpload) → GivesUpload options a → GivesUpload options b → a ≡ b
@@ -335,6 +336,9 @@ one_wish (Some command) (Converting a v f) (Converting b w g) x y =
     let paths : Some a ≡ Some b = sym x.1.reads ∙ y.1.reads in
     let outs : Some v ≡ Some w = sym x.1.makes ∙ y.1.makes in
     let forms : Some f ≡ Some g = sym x.1.formed ∙ y.1.formed in cc
+one_wish (Some command) (Joining a v) (Joining b w) x y =
+    let takes : Some a ≡ Some b = sym x.1 ∙ y.1 in
+    let lefts : Some v ≡ Some w = sym x.2 ∙ y.2 in cc
 one_wish (Some command) (Sending a) (Uploading b) x y = absurd (no_lines command.1 a b x.1 y.1)
 one_wish (Some command) (Uploading a) (Sending b) x y = absurd (no_lines command.1 b a y.1 x.1)
 one_wish (Some command) (Listing a v) (Listing b w) x y =

@@ -8,7 +8,7 @@ use Rattle.bw_args.specs.declared.bad_value.BadValue.TheVariants.{Recorders, Idl
 use Rattle.bw_args.specs.declared.bad_value.BadValue.TheVariants.{UntilStopped, Sync, Rest, GiveUp, Connect}
 use Rattle.bw_args.specs.declared.bad_value.BadValue.TheVariants.{Watch, Verify, Status, Log}
 use Rattle.bw_args.specs.declared.bad_value.BadValue.TheVariants.{Rounds, Fruitless, Mixed, Pcm, Skip}
-use Rattle.bw_args.specs.declared.bad_value.BadValue.TheVariants.{Block, Receipt}
+use Rattle.bw_args.specs.declared.bad_value.BadValue.TheVariants.{Block, Receipt, LeftOut}
 use Rattle.bw_args.specs.declared.bad_value.BadValue.TheVariants.{Rate, MixedSamples, Inspection, Form}
 
 -- what an address is
@@ -52,11 +52,14 @@ fault_said Fruitless =
     codes "'--fruitless <N>' takes a number from 1 to 1000000, in at most ten digits"
 fault_said Rate =
     codes "'--rate <BYTES>' takes a number from 1 to 4294967295, in at most ten digits"
-fault_said Mixed = codes "'--set', '--strict', '--strict-texts', '--fruitless', '--log', '--state', "
-    ++ codes "'--rate', '--receipt' and '--json' are for '--file <FILE>' or '--spool <SPOOL>', and "
-    ++ codes "'--rounds <N>' for a sender without them"
+fault_said Mixed =
+    codes "'--set', '--strict', '--strict-texts', '--fruitless', '--log', '--state', '--rate', "
+    ++ codes "'--receipt', '--keep-left-out' and '--json' are for '--file <FILE>' or '--spool "
+    ++ codes "<SPOOL>', and '--rounds <N>' for a sender without them"
 fault_said Receipt = codes "'--receipt <RECEIPTS>' is for '--file <FILE>' of a RIFF WAVE, BW64 or RF64 file, "
     ++ codes "and '--json' for '--receipt <RECEIPTS>'"
+fault_said LeftOut =
+    codes "'--keep-left-out <LEFT>' can't be given beside '--strict', '--pcm' and '--spool <SPOOL>'"
 fault_said Pcm = codes "'--pcm <RATE,CHANNELS,BITS>' takes three numbers with commas between them, "
     ++ codes "each from 0 to 4294967295, in at most ten digits"
 fault_said Skip =

@@ -5,6 +5,7 @@ use Rattle.bw_args.specs.ConvertForms.{RunsConvert}
 use Rattle.bw_args.specs.FileForms.{RefusesFiles, RunsFileSender, RunsPack}
 use Rattle.bw_args.specs.FolderForms.{RunsTakes}
 use Rattle.bw_args.specs.Forms.{RefusesValues, RunsInspect, RunsRehearsal, RunsReplay}
+use Rattle.bw_args.specs.JoinForms.{RunsJoin}
 use Rattle.bw_args.specs.PcmForms.{RefusesSamples, RunsPcmSender}
 use Rattle.bw_args.specs.PeerForms.{RefusesPeers, RunsSender, RunsServer, WantsPeers}
 use Rattle.bw_args.specs.PictureForms.{RunsPicture}
@@ -27,7 +28,8 @@ pub record RunsCommands (words : List Text) (line : CommandLine) : Type 0 where
   pub send_file : RunsFileSender words line
   -- `--pcm` with each option; `--follow` and `--spool` never give up unless `--fruitless` is there
   pub send_pcm : RunsPcmSender words line
-  -- one file that doesn't begin with `-`; `--strict`, `--strict-texts`, or settings in their order, unread here
+  -- one file that doesn't begin with `-`; `--strict`, `--strict-texts`, `--keep-left-out`, which doesn't go with
+  -- `--strict`, or settings in their order, unread here
   pub pack : RunsPack words line
   -- one file that doesn't begin with `-`, or `-` itself
   pub picture : RunsPicture words line
@@ -35,6 +37,8 @@ pub record RunsCommands (words : List Text) (line : CommandLine) : Type 0 where
   pub repair : RunsRepair words line
   -- two files that don't begin with `-`, and one of `--rf64` and `--bw64`, before or after them
   pub convert : RunsConvert words line
+  -- two files that don't begin with `-`
+  pub join : RunsJoin words line
   -- a folder that isn't empty, each flag of `takes`, and which of them can't be combined
   pub takes : RunsTakes words line
 
@@ -46,7 +50,8 @@ pub record RefusesLines (words : List Text) (line : CommandLine) : Type 0 where
   pub peers : RefusesPeers words line
   -- a missing address, folder or name is a missing argument
   pub wanted : WantsPeers words line
-  -- options of `--file` without it, `--rounds` or `--json` alone beside it, and bad numbers of it
+  -- options of `--file` without it, `--rounds` or `--json` alone beside it, what is kept of it beside
+  -- `--strict`, and bad numbers of it
   pub files : RefusesFiles words line
-  -- bad values of `--pcm`, `--skip` and `--block`, a receipt, and options that don't go together
+  -- bad values of `--pcm`, `--skip` and `--block`, a receipt, chunks to keep, and options that don't go together
   pub samples : RefusesSamples words line

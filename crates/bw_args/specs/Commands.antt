@@ -66,7 +66,7 @@ inspect_command = command (codes "inspect") (
 abbrev pub pack_command : App
 pack_command = command (codes "pack") (
     word (codes "file") ∷ repeated (codes "set") ∷ flag (codes "strict") ∷
-    flag (codes "strict-texts") ∷ [])
+    flag (codes "strict-texts") ∷ option (codes "keep-left-out") ∷ [])
 
 abbrev pub picture_command : App
 picture_command = command (codes "picture") (
@@ -79,6 +79,10 @@ repair_command = command (codes "repair") (
 abbrev pub convert_command : App
 convert_command = command (codes "convert") (
     word (codes "file") ∷ word (codes "out") ∷ flag (codes "rf64") ∷ flag (codes "bw64") ∷ [])
+
+abbrev pub join_command : App
+join_command = command (codes "join") (
+    word (codes "take") ∷ word (codes "left") ∷ [])
 
 abbrev pub takes_command : App
 takes_command = command (codes "takes") (
@@ -99,10 +103,11 @@ send_command = command (codes "send") (
     required (codes "connect") ∷ required (codes "name") ∷ option (codes "rounds") ∷
     option (codes "timeout") ∷ flag (codes "network") ∷ option (codes "file") ∷
     repeated (codes "set") ∷ flag (codes "strict") ∷ flag (codes "strict-texts") ∷
-    option (codes "pcm") ∷ option (codes "skip") ∷ option (codes "block") ∷ flag (codes "follow") ∷
-    option (codes "until") ∷ option (codes "spool") ∷ option (codes "fruitless") ∷
-    flag (codes "log") ∷ option (codes "state") ∷ option (codes "rate") ∷
-    option (codes "receipt") ∷ flag (codes "json") ∷ [])
+    option (codes "keep-left-out") ∷ option (codes "pcm") ∷ option (codes "skip") ∷
+    option (codes "block") ∷ flag (codes "follow") ∷ option (codes "until") ∷
+    option (codes "spool") ∷ option (codes "fruitless") ∷ flag (codes "log") ∷
+    option (codes "state") ∷ option (codes "rate") ∷ option (codes "receipt") ∷
+    flag (codes "json") ∷ [])
 
 -- the program, which has a version and requires a command
 abbrev pub program : App
@@ -118,11 +123,13 @@ offline =
     inspect_command.top)
     pack_command.top
 
--- .. and those that draw a file, change it in place or make another of it
+-- .. and those that draw a file, change it in place, make another of it or join another to it
 abbrev pub on_files : App
 on_files = with_subcommand
+    (with_subcommand
     (with_subcommand (with_subcommand offline picture_command.top) repair_command.top)
-    convert_command.top
+    convert_command.top)
+    join_command.top
 
 -- .. and the one on a folder of takes
 abbrev pub on_folders : App

@@ -11,11 +11,18 @@ use Rattle.bw_args.specs.Lines.{Packing, FileUpload, Uploading}
 use Rattle.bw_args.specs.Forms.{IsPlain, IsReportedAs, RunsFor}
 use Rattle.bw_args.specs.PeerForms.{ForSender, ReportsBad}
 use Rattle.bw_args.specs.declared.CommandLine.{CommandLine}
-use Rattle.bw_args.specs.declared.bad_value.BadValue.TheVariants.{Fruitless, Mixed, Rate, Receipt}
+use Rattle.bw_args.specs.declared.CommandLine.TheVariants.{BadValue as Bad}
+use Rattle.bw_args.specs.declared.bad_value.BadValue.TheVariants.{Fruitless, LeftOut, Mixed, Rate, Receipt}
 
 -- a file of which nothing else is said
 abbrev pub source_at : Text → PlainSource
-source_at path = record { path = path; settings = []; strict = false; strict_texts = false }
+source_at path = record {
+  path = path;
+  settings = [];
+  strict = false;
+  strict_texts = false;
+  left_out = None;
+}
 
 -- `pack FILE` runs, with each of its options, whatever the program's name
 pub record RunsPack (words : List Text) (line : CommandLine) : Type 0 where
@@ -35,6 +42,20 @@ pub record RunsPack (words : List Text) (line : CommandLine) : Type 0 where
       → words ≡ program ∷ codes "pack" ∷ (codes "--set=" ++ a) ∷ (codes "--set="
       ++ b) ∷ path ∷ []
       → RunsFor (Packing (record (source_at path) { settings = a ∷ b ∷ [] })) line
+  -- `pack --keep-left-out=LEFT FILE`
+  pub left_out : (program path left : Text) → IsPlain path
+      → words ≡ program ∷ codes "pack" ∷ (codes "--keep-left-out=" ++ left) ∷ path ∷ []
+      → RunsFor (Packing (record (source_at path) { left_out = Some left })) line
+  -- `pack --strict-texts --keep-left-out=LEFT FILE`
+  pub left_out_texts : (program path left : Text) → IsPlain path
+      → words ≡ program ∷ codes "pack" ∷ codes "--strict-texts"
+      ∷ (codes "--keep-left-out=" ++ left) ∷ path ∷ []
+      → RunsFor (Packing (record (source_at path) { strict_texts = true; left_out = Some left })) line
+  -- `pack --strict --keep-left-out=LEFT FILE`
+  pub left_out_strict : (program path left : Text) → IsPlain path
+      → words ≡ program ∷ codes "pack" ∷ codes "--strict"
+      ∷ (codes "--keep-left-out=" ++ left) ∷ path ∷ []
+      → line ≡ Bad LeftOut
   -- `pack`
   pub none : (program : Text) → words ≡ program ∷ codes "pack" ∷ []
       → IsReportedAs MissingRequiredArgument line
@@ -78,6 +99,10 @@ pub record RunsFileSender (words : List Text) (line : CommandLine) : Type 0 wher
   -- with `--strict-texts`
   pub strict_texts : (path : Text) → ForSender false words (with_file path (codes "--strict-texts" ∷ []))
       (AsksToUpload line path (λ s. record s { source = record s.source { strict_texts = true } }))
+  -- with `--keep-left-out=LEFT`
+  pub left_out : (path left : Text)
+      → ForSender false words (with_file path ((codes "--keep-left-out=" ++ left) ∷ []))
+      (AsksToUpload line path (λ s. record s { source = record s.source { left_out = Some left } }))
   -- with `--fruitless=N`
   pub fruitless : (path count : Text) → IsCountText most_fruitless count
       → ForSender false words (with_file path ((codes "--fruitless=" ++ count) ∷ []))
@@ -129,6 +154,9 @@ pub record RefusesFiles (words : List Text) (line : CommandLine) : Type 0 where
   -- `--receipt=RECEIPTS`
   pub receipt : (receipts : Text) → ForSender false words ((codes "--receipt=" ++ receipts) ∷ [])
       (ReportsBad line Mixed)
+  -- `--keep-left-out=LEFT`
+  pub left_out : (left : Text) → ForSender false words ((codes "--keep-left-out=" ++ left) ∷ [])
+      (ReportsBad line Mixed)
   -- `--json`
   pub json : ForSender false words (codes "--json" ∷ []) (ReportsBad line Mixed)
   -- `--rate=BYTES`
@@ -140,6 +168,10 @@ pub record RefusesFiles (words : List Text) (line : CommandLine) : Type 0 where
   -- with `--file=FILE --json` alone
   pub json_alone : (path : Text) → ForSender false words (with_file path (codes "--json" ∷ []))
       (ReportsBad line Receipt)
+  -- with `--file=FILE --strict --keep-left-out=LEFT`
+  pub left_out_strict : (path left : Text) → ForSender false words
+      (with_file path (codes "--strict" ∷ (codes "--keep-left-out=" ++ left) ∷ []))
+      (ReportsBad line LeftOut)
   -- with `--file=FILE --fruitless=N`, where N is no such number
   pub bad_fruitless : (path count : Text) → ¬ IsCountText most_fruitless count
       → ForSender false words (with_file path ((codes "--fruitless=" ++ count) ∷ []))

@@ -5,6 +5,7 @@ pub mod Rows
 pub mod ReadWords
 pub mod BadValues
 pub mod Given
+pub mod LeftOutOptions
 pub mod Sources
 pub mod PcmSources
 pub mod AskedForms
@@ -20,5 +21,6 @@ pub mod InspectedFiles
 pub mod PictureForms
 pub mod RepairForms
 pub mod ConvertForms
+pub mod JoinForms
 pub mod FolderForms
 pub mod CommandForms

@@ -32,6 +32,7 @@ use Rattle.bw_args.specs.Sources.{GivesSource, PlainSource, in_plain, is_mixed, 
 use Rattle.bw_args.specs.PcmSources.{GivesFormat, GivesNumber, GivesSamples, PlainPcm}
 use Rattle.bw_args.specs.PcmSources.{are_samples_mixed, fruitless_of, is_live, plain_pcm}
 use Rattle.bw_args.specs.ReadWords.{as_read}
+use Rattle.bw_args.specs.LeftOutOptions.{is_left_out_mixed}
 use Rattle.bw_args.specs.ReceiptOptions.{PlainTarget, is_receipt_mixed, receipt_given, target_in_plain}
 use Rattle.bw_args.specs.AskedForms.{GivesConversion}
 use Rattle.bw_args.specs.VerifyOptions.{IsVerifyGiven, is_verify_given_mixed}
@@ -44,7 +45,7 @@ use Rattle.bw_args.specs.declared.bad_value.BadValue.TheVariants.{Recorders, Idl
 use Rattle.bw_args.specs.declared.bad_value.BadValue.TheVariants.{UntilStopped, Sync, Rest, GiveUp, Connect}
 use Rattle.bw_args.specs.declared.bad_value.BadValue.TheVariants.{Watch, Verify, Receipt, Status, Log}
 use Rattle.bw_args.specs.declared.bad_value.BadValue.TheVariants.{Rounds, Fruitless, Rate, Mixed, Pcm, Skip}
-use Rattle.bw_args.specs.declared.bad_value.BadValue.TheVariants.{Block, MixedSamples, Inspection, Form}
+use Rattle.bw_args.specs.declared.bad_value.BadValue.TheVariants.{Block, LeftOut, MixedSamples, Inspection, Form}
 use Rattle.bw_args.specs.declared.folders.FolderWork.{FolderWork}
 use Rattle.bw_args.specs.declared.peers.End.{End}
 use Rattle.bw_args.specs.declared.peers.Journaling.{Journaling}
@@ -58,7 +59,7 @@ use Rattle.bw_args.specs.declared.commands.sending.Tries.{Tries}
 use Rattle.bw_args.specs.declared.Task.TheVariants.{Replay, Rehearse, Inspect, Serve, Send, SendFile}
 use Rattle.bw_args.specs.declared.Task.TheVariants.{SendPcm}
 use Rattle.bw_args.specs.declared.Task.TheVariants.{Pack, InspectFiles, Picture, Repair, Convert, Takes}
-use Rattle.bw_args.specs.declared.Task.TheVariants.{Verify as Verifies}
+use Rattle.bw_args.specs.declared.Task.TheVariants.{Join, Verify as Verifies}
 
 -- the server that a command line asks for
 pub record Service : Type 0 where
@@ -108,8 +109,9 @@ pub record PcmUpload : Type 0 where
 -- a rehearsal of the take of this name, with this limit; to inspect the file of this path, or files;
 -- a server or a sender; the sender of a recording, of headerless samples, or a recording's requests;
 -- the waveform of the file of this path; the sizes that it lacks, to be written or not; the
--- file of the second path, made of that of the first in this form; what is done with the takes of a
--- folder, or the file of receipts that they are compared with
+-- file of the second path, made of that of the first in this form; the take of the first path, with the
+-- chunks of the file of the second; what is done with the takes of a folder, or the file of receipts that
+-- they are compared with
 pub data Wish : Type 0 where
   Replaying : ℕ → Option ℕ → Wish
   Rehearsing : Text → ℕ → Wish
@@ -123,6 +125,7 @@ pub data Wish : Type 0 where
   Picturing : Text → Wish
   Repairing : Text → Bool → Wish
   Converting : Text → Text → AskedForm → Wish
+  Joining : Text → Text → Wish
   Listing : Text → FolderWork → Wish
   Verifying : Text → Text → Wish
 
@@ -171,6 +174,7 @@ wish_of (Pack source) = Packing (in_plain source)
 wish_of (Picture file) = Picturing (string_bytes file)
 wish_of (Repair file write) = Repairing (string_bytes file) write
 wish_of (Convert file out form) = Converting (string_bytes file) (string_bytes out) form
+wish_of (Join take left) = Joining (string_bytes take) (string_bytes left)
 wish_of (Takes listing) = Listing (string_bytes listing.folder) listing.work
 wish_of (Verifies folder receipts) = Verifying (string_bytes folder) (string_bytes receipts)
 
@@ -272,6 +276,9 @@ IsWishOf (Some command) (Repairing path write) =
     × (write ≡ is_set (first_of (codes "write") command.1))
 IsWishOf (Some command) (Converting path to form) =
     (command.0 ≡ codes "convert") × GivesConversion (given_on_line command.1) path to form
+IsWishOf (Some command) (Joining take left) =
+    (command.0 ≡ codes "join") × (first_of (codes "take") command.1 ≡ Some take)
+    × (first_of (codes "left") command.1 ≡ Some left)
 IsWishOf (Some command) (Listing folder work) =
     (command.0 ≡ codes "takes") × GivesFolder (given_on_line command.1 (codes "folder")) folder
     × (given_on_line command.1 (codes "verify") ≡ None) × GivesWork (given_on_line command.1) work
@@ -297,6 +304,7 @@ HasPath (Packing source) = ⊤
 HasPath (Picturing path) = ⊤
 HasPath (Repairing path write) = ⊤
 HasPath (Converting path to form) = ⊤
+HasPath (Joining take left) = ⊤
 HasPath (Listing folder work) = ⊤
 HasPath (Verifying folder receipts) = ⊤
 
@@ -341,6 +349,7 @@ IsGood Fruitless given = (count : Option ℕ)
 IsGood Rate given = (count : Option ℕ) × GivesCount most_rate (given (codes "rate")) count
 IsGood Mixed given = is_mixed given ≡ false
 IsGood Receipt given = is_receipt_mixed given ≡ false
+IsGood LeftOut given = is_left_out_mixed given ≡ false
 IsGood Pcm given = (format : Option WrittenFormat) × GivesFormat (given (codes "pcm")) format
 IsGood Skip given = (bytes : Option ℕ) × GivesNumber (given (codes "skip")) bytes
 IsGood Block given = (frames : Option ℕ) × GivesCount most_block (given (codes "block")) frames
@@ -372,7 +381,7 @@ looked_at command = if bytes_eq command (codes "replay") then Limit ∷ Fuse ∷
     else (if bytes_eq command (codes "serve")
     then Listen ∷ Folder ∷ Exchanges ∷ Limit ∷ (looked_at_waiting ++ looked_at_serving)
     else (if bytes_eq command (codes "send")
-    then Connect ∷ Name ∷ (looked_at_trying ++ Mixed ∷ Receipt ∷ looked_at_samples)
+    then Connect ∷ Name ∷ (looked_at_trying ++ Mixed ∷ Receipt ∷ LeftOut ∷ looked_at_samples)
     else (if bytes_eq command (codes "takes") then Folder ∷ Verify ∷ Watch ∷ GiveUp ∷ [] else []))))
 
 -- of these values, in this order, it is the first that is bad
@@ -382,10 +391,12 @@ IsFirstBad (first ∷ later) given value = (¬ IsGood first given × (value ≡ 
     ⊎ (IsGood first given × IsFirstBad later given value)
 
 -- what is bad of a command of which no value is looked at: of `inspect`, what is asked for
--- together; of `convert`, the form; elsewhere a limit is there for what `clap` doesn't let through
+-- together; of `convert`, the form; of `pack`, what is to be kept; elsewhere a limit is there for what
+-- `clap` doesn't let through
 abbrev pub bad_unlooked : Text → BadValue
 bad_unlooked command = if bytes_eq command (codes "inspect") then Inspection
-    else (if bytes_eq command (codes "convert") then Form else Limit)
+    else (if bytes_eq command (codes "convert") then Form
+    else (if bytes_eq command (codes "pack") then LeftOut else Limit))
 
 -- the value for which they ask for nothing
 abbrev pub Lacks : Option (Text × List Row) → BadValue → Type 0

@@ -10,7 +10,7 @@ use Rattle.bw_args.specs.Forms.{RunsFor}
 use Rattle.bw_args.specs.PeerForms.{ForSender, ReportsBad}
 use Rattle.bw_args.specs.FileForms.{source_at, with_file}
 use Rattle.bw_args.specs.declared.CommandLine.{CommandLine}
-use Rattle.bw_args.specs.declared.bad_value.BadValue.TheVariants.{Pcm, Receipt, Skip, Block, MixedSamples}
+use Rattle.bw_args.specs.declared.bad_value.BadValue.TheVariants.{LeftOut, Pcm, Receipt, Skip, Block, MixedSamples}
 use Rattle.bw_args.specs.declared.commands.samples.WrittenFormat.{WrittenFormat}
 
 -- the sender of headerless samples of which only address, name, file and format are said
@@ -115,6 +115,14 @@ pub record RefusesSamples (words : List Text) (line : CommandLine) : Type 0 wher
   pub spool_receipt : (path text receipts : Text) (format : WrittenFormat) → IsFormatText text format
       → ForSender false words (with_spool path text ((codes "--receipt=" ++ receipts) ∷ []))
       (ReportsBad line Receipt)
+  -- with `--keep-left-out=LEFT`
+  pub left_out : (path text left : Text) (format : WrittenFormat) → IsFormatText text format
+      → ForSender false words (with_pcm path text ((codes "--keep-left-out=" ++ left) ∷ []))
+      (ReportsBad line LeftOut)
+  -- `--spool=SPOOL --pcm=RATE,CHANNELS,BITS` with `--keep-left-out=LEFT`
+  pub spool_left_out : (path text left : Text) (format : WrittenFormat) → IsFormatText text format
+      → ForSender false words (with_spool path text ((codes "--keep-left-out=" ++ left) ∷ []))
+      (ReportsBad line LeftOut)
   -- with `--spool=SPOOL` beside the file
   pub two_files : (path text spool : Text) (format : WrittenFormat) → IsFormatText text format
       → ForSender false words (with_pcm path text ((codes "--spool=" ++ spool) ∷ []))

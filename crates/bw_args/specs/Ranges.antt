@@ -12,7 +12,7 @@ use Rattle.bw_args.specs.declared.peers.Recorders.{Recorders as Way}
 use Rattle.bw_args.specs.declared.peers.Recorders.TheVariants.{InTurn, AtOnce}
 use Rattle.bw_args.specs.declared.Task.TheVariants.{Replay, Rehearse, Inspect, Serve, Send, SendFile}
 use Rattle.bw_args.specs.declared.Task.TheVariants.{SendPcm, Pack, InspectFiles, Picture, Repair}
-use Rattle.bw_args.specs.declared.Task.TheVariants.{Takes, Verify, Convert}
+use Rattle.bw_args.specs.declared.Task.TheVariants.{Takes, Verify, Convert, Join}
 
 -- no number, or one from 1 to the most
 abbrev pub IsWithin : ℕ → Option ℕ → Type 0
@@ -58,6 +58,7 @@ HasNumbersInRange (Run (Pack source)) = ⊤
 HasNumbersInRange (Run (Picture file)) = ⊤
 HasNumbersInRange (Run (Repair file write)) = ⊤
 HasNumbersInRange (Run (Convert file out form)) = ⊤
+HasNumbersInRange (Run (Join take left)) = ⊤
 HasNumbersInRange (Run (Takes listing)) = ⊤
 HasNumbersInRange (Run (Verify folder receipts)) = ⊤
 HasNumbersInRange (Bad value) = ⊤

@@ -1,8 +1,9 @@
 -- The file of a recording, as the options of a command line give it.
-use Rattle.std.specs.Prelude.{◌≡◌, ◌||◌, Bool, List, [], Option, Some, None, codes, is_some, unwrap_or}
-use Rattle.std.specs.Prelude.{map, string_bytes, if◌then◌else◌}
+use Rattle.std.specs.Prelude.{◌≡◌, ◌||◌, Bool, false, List, [], Option, Some, None, codes, is_some, unwrap_or}
+use Rattle.std.specs.Prelude.{map, option_map, string_bytes, if◌then◌else◌}
 use Rattle.clap.specs.Walk.{Row, Text, all_of}
 use Rattle.bw_args.specs.Given.{given_on_line, is_set}
+use Rattle.bw_args.specs.LeftOutOptions.{is_left_out_mixed}
 use Rattle.bw_args.specs.declared.recordings.SourceFile.{SourceFile}
 
 -- the file of a recording, and what is said about it
@@ -11,6 +12,7 @@ pub record PlainSource : Type 0 where
   pub settings : List Text
   pub strict : Bool
   pub strict_texts : Bool
+  pub left_out : Option Text
 
 -- the same in plain bytes
 abbrev pub in_plain : SourceFile → PlainSource
@@ -19,6 +21,7 @@ in_plain s = record {
   settings = map string_bytes s.settings.items;
   strict = s.strict;
   strict_texts = s.strict_texts;
+  left_out = option_map string_bytes s.left_out;
 }
 
 -- what is set, in order
@@ -40,6 +43,8 @@ pub record GivesSource (path : Option Text) (options : List Row) (source : Plain
   pub sets : source.settings ≡ settings_on_line options
   pub refuses : source.strict ≡ is_set (given_on_line options (codes "strict"))
   pub refuses_texts : source.strict_texts ≡ is_set (given_on_line options (codes "strict-texts"))
+  pub keeps : source.left_out ≡ given_on_line options (codes "keep-left-out")
+  pub kept : is_left_out_mixed (given_on_line options) ≡ false
 
 -- options that aren't for one sender: a number of rounds beside the file of a recording or a spool, or
 -- what is said about a recording without its file
@@ -48,6 +53,6 @@ is_mixed given = if is_some (path_given given) then is_some (given (codes "round
     else is_some (given (codes "set"))
     || (is_some (given (codes "fruitless")) || (is_some (given (codes "state"))
     || (is_some (given (codes "rate")) || (is_some (given (codes "receipt"))
-    || (is_set (given (codes "json"))
+    || (is_some (given (codes "keep-left-out")) || (is_set (given (codes "json"))
     || (is_set (given (codes "strict"))
-    || (is_set (given (codes "strict-texts")) || is_set (given (codes "log")))))))))
+    || (is_set (given (codes "strict-texts")) || is_set (given (codes "log"))))))))))

@@ -53,6 +53,8 @@ pub enum BadValue {
     Mixed,
     /// `--receipt` with headerless samples, or `--json` without `--receipt`.
     Receipt,
+    /// `--keep-left-out` beside `--strict`, or with headerless samples.
+    LeftOut,
     /// The format of headerless samples.
     Pcm,
     /// How many bytes come before headerless samples.
@@ -110,6 +112,7 @@ impl BadValue {
             BadValue::Rate => BAD_RATE,
             BadValue::Mixed => BAD_MIXED,
             BadValue::Receipt => BAD_RECEIPT,
+            BadValue::LeftOut => BAD_LEFT_OUT,
             BadValue::Pcm => BAD_PCM,
             BadValue::Skip => BAD_SKIP,
             BadValue::Block => BAD_BLOCK,
@@ -203,13 +206,17 @@ const BAD_RATE: &str = report!(
 
 const BAD_MIXED: &str = report!(
     "'--set', '--strict', '--strict-texts', '--fruitless', '--log', '--state', '--rate', ",
-    "'--receipt' and '--json' are for '--file <FILE>' or '--spool <SPOOL>', and '--rounds ",
-    "<N>' for a sender without them"
+    "'--receipt', '--keep-left-out' and '--json' are for '--file <FILE>' or '--spool ",
+    "<SPOOL>', and '--rounds <N>' for a sender without them"
 );
 
 const BAD_RECEIPT: &str = report!(
     "'--receipt <RECEIPTS>' is for '--file <FILE>' of a RIFF WAVE, BW64 or RF64 file, and ",
     "'--json' for '--receipt <RECEIPTS>'"
+);
+
+const BAD_LEFT_OUT: &str = report!(
+    "'--keep-left-out <LEFT>' can't be given beside '--strict', '--pcm' and '--spool <SPOOL>'"
 );
 
 const BAD_PCM: &str = report!(

@@ -7,6 +7,8 @@ ghost use Rattle.bw_args.specs.Lines.{IsNameGiven};
 mod converting;
 mod grammar;
 mod inspecting;
+mod joining;
+mod left_out;
 mod listing;
 mod network;
 mod one_file;
@@ -59,6 +61,7 @@ pub fn line_of(
         "picture" => one_file::picture_line(alloc, options),
         "repair" => one_file::repair_line(alloc, options),
         "convert" => converting::convert_line(alloc, options),
+        "join" => joining::join_line(alloc, options),
         "takes" => listing::takes_line(alloc, options),
         // `clap` refuses words without a command of ours.
         _ => Ok(CommandLine::BadValue(BadValue::Limit)),

@@ -77,6 +77,11 @@ pub enum Task {
         out: String,
         form: AskedForm,
     },
+    /// Print the take at one path with the chunks of the file at another that a take doesn't carry.
+    Join {
+        take: String,
+        left: String,
+    },
     /// Report the takes of a folder, or give one of them up.
     Takes(TakesFolder),
     /// Compare the takes of a folder with the receipts in a file.
@@ -100,8 +105,8 @@ pub enum CommandLine {
 /// Parses a command line, whose first word is the program's own name.
 ///
 /// Which words run a task, and of what kind an error is, follows from `clap`'s own contract
-/// (`line`). In plain terms the contract says of eighty-nine forms that they run, of sixty-six
-/// which value is a fault and of nineteen what they print (`runs`, `refuses`, `help`). Examples
+/// (`line`). In plain terms the contract says of ninety-three forms that they run, of seventy-one
+/// which value is a fault and of twenty-one what they print (`runs`, `refuses`, `help`). Examples
 /// test that options may be given in all their forms and orders, and that all else is refused,
 /// except `--` at the end or before a file.
 ///

@@ -14,6 +14,8 @@ pub struct SourceFile {
     pub strict: bool,
     /// Whether a recording is refused whose texts would be cleaned, or that loses cue points.
     pub strict_texts: bool,
+    /// The path of the file that keeps the chunks that a take doesn't carry, as it was given, if one does.
+    pub left_out: Option<String>,
 }
 
 /// Headerless samples, as a command line describes them. Whether there is such a format isn't

@@ -4,4 +4,6 @@
 #[cfg(test)]
 mod command_lines;
 #[cfg(test)]
+mod left_outs;
+#[cfg(test)]
 mod outcomes;

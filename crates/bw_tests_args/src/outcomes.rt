@@ -46,6 +46,9 @@ pub(crate) enum Outcome {
     SendsWithState(u32, u32, Said),
     /// Sends a recording, and adds its receipt to the file `-r` or prints it, in JSON or not.
     GivesReceipt { is_printed: bool, json: bool },
+    /// Sends or packs a recording, and keeps the chunks that a take doesn't carry in `-l`: whether its
+    /// texts and cue points may not change.
+    KeepsLeftOut { is_strict_in_texts: bool },
     /// Sends so many bytes a second of a recording or of samples.
     SendsAtMost(u32),
     /// Sends the samples of two channels and 24 bits at 48 kHz in the file `-f`, after so many bytes,
@@ -64,6 +67,8 @@ pub(crate) enum Outcome {
     Repairs { is_written: bool },
     /// Converts the file `-f` to `-o`, in this form.
     Converts(AskedForm),
+    /// Joins the chunks in `-l` to the take `-f`.
+    Joins,
     /// Reports the takes of the folder `-d`: whether their samples are compared, in JSON,
     /// and with their digests.
     Lists([bool; 3]),
@@ -127,10 +132,7 @@ fn run_outcome(task: &Task, words: &[&str]) -> Outcome {
         Task::Send(sender) => sender_outcome(sender),
         Task::SendFile(sender) => file_sender_outcome(sender),
         Task::SendPcm(sender) => pcm_sender_outcome(sender),
-        Task::Pack(source) => match said_of(source) {
-            Some(said) => Outcome::Packs(said),
-            None => Outcome::Confuses,
-        },
+        Task::Pack(source) => pack_outcome(source),
         Task::Picture { file } if file.as_str() == "-f" => Outcome::Draws,
         Task::Picture { .. } => Outcome::Confuses,
         Task::Repair { file, write } if file.as_str() == "-f" => Outcome::Repairs {
@@ -141,11 +143,34 @@ fn run_outcome(task: &Task, words: &[&str]) -> Outcome {
             Outcome::Converts(*form)
         }
         Task::Convert { .. } => Outcome::Confuses,
+        Task::Join { take, left } if take.as_str() == "-f" && left.as_str() == "-l" => {
+            Outcome::Joins
+        }
+        Task::Join { .. } => Outcome::Confuses,
         Task::Takes(asked) if asked.folder.as_str() == "-d" => work_outcome(&asked.work),
         Task::Takes(_) => Outcome::Confuses,
         Task::Verify { folder, receipts } if folder.as_str() == "-d" && receipts.as_str() == "-r" =>
             { Outcome::Verifies }
         Task::Verify { .. } => Outcome::Confuses,
+    }
+}
+
+fn pack_outcome(source: &SourceFile) -> Outcome {
+    let Some(said) = said_of(source) else {
+        return Outcome::Confuses;
+    };
+    match &source.left_out {
+        Some(left) => left_out_outcome(source, left),
+        None => Outcome::Packs(said),
+    }
+}
+
+fn left_out_outcome(source: &SourceFile, left: &String) -> Outcome {
+    if source.strict || left.as_str() != "-l" {
+        return Outcome::Confuses;
+    }
+    Outcome::KeepsLeftOut {
+        is_strict_in_texts: source.strict_texts,
     }
 }
 
@@ -193,6 +218,9 @@ fn file_sender_outcome(sender: &FileSender) -> Outcome {
     let Some(said) = said_of(&sender.source) else {
         return Outcome::Confuses;
     };
+    if let Some(left) = &sender.source.left_out {
+        return left_out_outcome(&sender.source, left);
+    }
     if let Some(receipt) = &sender.receipt {
         return receipt_outcome(receipt);
     }

@@ -3,14 +3,14 @@ ghost use Rattle.std.specs.Prelude.{◌≡◌, IfOk};
 ghost use Rattle.clap.specs.Simple.{App, new_app, with_subcommand};
 ghost use Rattle.clap.specs.Words.{app_of};
 ghost use Rattle.bw_args.specs.Commands.{IsCommand, command_line, convert_command};
-ghost use Rattle.bw_args.specs.Commands.{inspect_command};
+ghost use Rattle.bw_args.specs.Commands.{inspect_command, join_command};
 ghost use Rattle.bw_args.specs.Commands.{offline, on_files, on_folders, pack_command};
 ghost use Rattle.bw_args.specs.Commands.{picture_command, program, rehearse_command};
 ghost use Rattle.bw_args.specs.Commands.{repair_command, replay_command, send_command};
 ghost use Rattle.bw_args.specs.Commands.{serve_command, takes_command};
 
 use super::options::{
-    CONVERT, INSPECT, PACK, PICTURE, REHEARSE, REPAIR, REPLAY, SEND, SERVE, TAKES,
+    CONVERT, INSPECT, JOIN, PACK, PICTURE, REHEARSE, REPAIR, REPLAY, SEND, SERVE, TAKES,
 };
 use super::row::with_rows;
 use clap::Command;
@@ -31,13 +31,15 @@ fn on_folders<'a>(alloc: Global) -> Result<Command<'a>, AllocError>
     with_command(on_files(alloc), takes(alloc))
 }
 
-/// The program of `offline` with the commands that draw a file, change it in place or make another of it.
+/// The program of `offline` with the commands that draw a file, change it in place, make another of it, or
+/// join another to it.
 fn on_files<'a>(alloc: Global) -> Result<Command<'a>, AllocError>
     ensures { IfOk result (λ c. app_of c ≡ on_files) }
 {
     let program = with_command(offline(alloc), picture(alloc));
     let program = with_command(program, repair(alloc));
-    with_command(program, convert(alloc))
+    let program = with_command(program, convert(alloc));
+    with_command(program, join(alloc))
 }
 
 /// The program with the commands that use no network.
@@ -163,6 +165,18 @@ fn convert<'a>(alloc: Global) -> Result<Command<'a>, AllocError>
         "Example: bwingest convert --rf64 take.wav take-rf64.wav",
     );
     with_rows(alloc, command, &CONVERT)
+}
+
+fn join<'a>(alloc: Global) -> Result<Command<'a>, AllocError>
+    ensures { IfOk result (IsCommand join_command) }
+{
+    let command = named(
+        alloc,
+        "join",
+        "Prints a take with the chunks that --keep-left-out kept after its own",
+        "Example: bwingest join take.wav left.wav > whole.wav",
+    );
+    with_rows(alloc, command, &JOIN)
 }
 
 fn takes<'a>(alloc: Global) -> Result<Command<'a>, AllocError>

@@ -3,6 +3,7 @@ ghost use Rattle.std.specs.Prelude.{codes, Some, IfOk, OnErr};
 ghost use Rattle.clap.specs.Words.{found_of, rows_of};
 ghost use Rattle.bw_args.specs.Lines.{AsksForPath, IsLineFor};
 
+use super::left_out::is_left_out_mixed;
 use super::network::flag_given;
 use super::sources::source_given;
 use crate::{BadValue, CommandLine, Task};
@@ -16,8 +17,11 @@ pub(crate) fn pack_line(alloc: Global, options: &ArgMatches<'_>) -> Result<Comma
 {
     // `clap` refuses words without the file.
     let Some(path) = options.get_str("file") else {
-        return Ok(CommandLine::BadValue(BadValue::Limit));
+        return Ok(CommandLine::BadValue(BadValue::LeftOut));
     };
+    if is_left_out_mixed(options) {
+        return Ok(CommandLine::BadValue(BadValue::LeftOut));
+    }
     let source = source_given(alloc, options, path)?;
     Ok(CommandLine::Run(Task::Pack(source)))
 }

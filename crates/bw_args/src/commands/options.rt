@@ -38,6 +38,12 @@ const STRICT_TEXTS: Row = Row {
     help: "Refuses a recording whose texts or cue points would change",
 };
 
+const LEFT_OUT: Row = Row {
+    name: "keep-left-out",
+    kind: Value("LEFT"),
+    help: "Keeps the chunks that a take doesn't carry in LEFT, a new file",
+};
+
 const FOLDER: Row = Row {
     name: "folder",
     kind: Required("DIR"),
@@ -89,7 +95,7 @@ pub(crate) const INSPECT: [Row; 4] = [
 ];
 
 /// The options of `pack`.
-pub(crate) const PACK: [Row; 4] = [FILE, SET, STRICT, STRICT_TEXTS];
+pub(crate) const PACK: [Row; 5] = [FILE, SET, STRICT, STRICT_TEXTS, LEFT_OUT];
 
 /// The options of `picture`.
 pub(crate) const PICTURE: [Row; 1] = [Row {
@@ -125,6 +131,20 @@ pub(crate) const CONVERT: [Row; 4] = [
         name: "bw64",
         kind: Flag,
         help: "Makes a BW64 file (ITU-R BS.2088) of an RF64 file",
+    },
+];
+
+/// The options of `join`.
+pub(crate) const JOIN: [Row; 2] = [
+    Row {
+        name: "take",
+        kind: Word("TAKE"),
+        help: "The file of a take: a RIFF WAVE, BW64 or RF64 file",
+    },
+    Row {
+        name: "left",
+        kind: Word("LEFT"),
+        help: "The file that --keep-left-out made, or the recording itself",
     },
 ];
 
@@ -236,7 +256,7 @@ pub(crate) const SERVE: [Row; 16] = [
 ];
 
 /// The options of `send`.
-pub(crate) const SEND: [Row; 21] = [
+pub(crate) const SEND: [Row; 22] = [
     Row {
         name: "connect",
         kind: Required("ADDR"),
@@ -262,6 +282,7 @@ pub(crate) const SEND: [Row; 21] = [
     SET,
     STRICT,
     STRICT_TEXTS,
+    LEFT_OUT,
     Row {
         name: "pcm",
         kind: Value("RATE,CHANNELS,BITS"),

@@ -3,6 +3,7 @@ ghost use Rattle.std.specs.Prelude.{◌≡◌, codes, false, option_map, Some, I
 ghost use Rattle.clap.specs.Words.{first_value, found_of, rows_of};
 ghost use Rattle.bw_args.specs.Given.{GivesAddress, GivesName, is_set};
 ghost use Rattle.bw_args.specs.Lines.{AsksForPath, GivesTries, IsFirstBad, IsLineFor};
+ghost use Rattle.bw_args.specs.LeftOutOptions.{is_left_out_mixed};
 ghost use Rattle.bw_args.specs.Lines.{looked_at_samples};
 ghost use Rattle.bw_args.specs.PcmSources.{GivesSamples, IsFormatGiven, IsFormatText, IsNumberGiven};
 ghost use Rattle.bw_args.specs.PcmSources.{are_samples_mixed, at_comma, fruitless_of, is_unpaired, plain_pcm};
@@ -177,6 +178,7 @@ pub(crate) fn samples_line(
     requires tries { GivesTries (first_value (found_of options.now)) tries }
     requires unmixed { is_mixed (first_value (found_of options.now)) ≡ false }
     requires unreceipted { is_receipt_mixed (first_value (found_of options.now)) ≡ false }
+    requires kept { is_left_out_mixed (first_value (found_of options.now)) ≡ false }
     requires samples { GivesSamples (first_value (found_of options.now))
         (Some (plain_samples samples)) }
     ensures ok { IfOk result (IsLineFor (Some (codes "send", rows_of (found_of options.now)))) }

@@ -3,16 +3,18 @@ ghost use Rattle.std.specs.Prelude.{◌≡◌, codes, false, Some, None, IfOk, I
 ghost use Rattle.clap.specs.Words.{first_value, found_of, rows_of};
 ghost use Rattle.bw_args.specs.Given.{GivesAddress, GivesName, is_set};
 ghost use Rattle.bw_args.specs.Lines.{AsksForPath, GivesTries, IsFirstBad, IsLineFor};
+ghost use Rattle.bw_args.specs.LeftOutOptions.{is_left_out_mixed};
 ghost use Rattle.bw_args.specs.Lines.{looked_at_trying};
 ghost use Rattle.bw_args.specs.PcmSources.{GivesSamples};
 ghost use Rattle.bw_args.specs.ReceiptOptions.{is_receipt_mixed};
 ghost use Rattle.bw_args.specs.Sources.{is_mixed, path_given};
 
+use super::left_out::is_left_out_mixed;
 use super::name_given;
 use super::network::{address_given, count_given, flag_given};
 use super::receipts::{is_receipt_mixed, receipt_given};
 use super::samples::{samples_given, samples_line};
-use super::sources::{is_mixed, path_given, source_given, state_given};
+use super::sources::{is_mixed, path_given, source_given, text_given};
 use crate::{BadValue, CommandLine, FileSender, Send, Task, numbers};
 use bw_model::Name;
 use clap::ArgMatches;
@@ -20,7 +22,7 @@ use std::alloc::{AllocError, Global};
 use std::net::SocketAddr;
 
 /// Bad values are reported in this order: the address, the name, those of `tries_given`, options
-/// that don't belong together, those of a receipt, and those of `samples_given`.
+/// that don't belong together, those of a receipt, those of what is kept, and those of `samples_given`.
 pub(crate) fn send_line(alloc: Global, options: &ArgMatches<'_>) -> Result<CommandLine, AllocError>
     ensures ok { IfOk result (IsLineFor (Some (codes "send", rows_of (found_of options.now)))) }
     ensures err { OnErr result
@@ -42,6 +44,9 @@ pub(crate) fn send_line(alloc: Global, options: &ArgMatches<'_>) -> Result<Comma
     }
     if is_receipt_mixed(options) {
         return Ok(CommandLine::BadValue(BadValue::Receipt));
+    }
+    if is_left_out_mixed(options) {
+        return Ok(CommandLine::BadValue(BadValue::LeftOut));
     }
     let samples = match samples_given(options) {
         Ok(samples) => samples,
@@ -77,6 +82,7 @@ fn file_line(
     requires tries { GivesTries (first_value (found_of options.now)) tries }
     requires unmixed { is_mixed (first_value (found_of options.now)) ≡ false }
     requires receipted { is_receipt_mixed (first_value (found_of options.now)) ≡ false }
+    requires kept { is_left_out_mixed (first_value (found_of options.now)) ≡ false }
     requires unsampled { GivesSamples (first_value (found_of options.now)) None }
     ensures ok { IfOk result (IsLineFor (Some (codes "send", rows_of (found_of options.now)))) }
     ensures err { OnErr result
@@ -84,7 +90,7 @@ fn file_line(
 {
     let log = flag_given(options, "log");
     let source = source_given(alloc, options, path)?;
-    let state = state_given(alloc, options)?;
+    let state = text_given(alloc, options, "state")?;
     let receipt = receipt_given(alloc, options)?;
     Ok(CommandLine::Run(Task::SendFile(FileSender {
         connect,

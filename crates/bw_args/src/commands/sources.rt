@@ -1,5 +1,5 @@
 //! The file of a recording, as `send` and `pack` take it.
-ghost use Rattle.std.specs.Prelude.{◌≡◌, ◌||◌, codes, map, option_map, string_bytes, IfOk};
+ghost use Rattle.std.specs.Prelude.{◌≡◌, ◌||◌, codes, is_some, map, option_map, string_bytes, IfOk};
 ghost use Rattle.clap.specs.Words.{first_value, found_of, rows_of};
 ghost use Rattle.bw_args.specs.Given.{is_set};
 ghost use Rattle.bw_args.specs.Sources.{is_mixed, path_given, settings_on_line};
@@ -19,13 +19,16 @@ pub(crate) fn source_given(
         (string_bytes source.path ≡ path.now)
         × (map string_bytes source.settings.items ≡ settings_on_line (rows_of (found_of options.now)))
         × (source.strict ≡ is_set (first_value (found_of options.now) (codes "strict")))
-        × (source.strict_texts ≡ is_set (first_value (found_of options.now) (codes "strict-texts")))) }
+        × (source.strict_texts ≡ is_set (first_value (found_of options.now) (codes "strict-texts")))
+        × (option_map string_bytes source.left_out
+        ≡ first_value (found_of options.now) (codes "keep-left-out"))) }
 {
     Ok(SourceFile {
         path: String::from_str(alloc, path)?,
         settings: settings_given(alloc, options)?,
         strict: flag_given(options, "strict"),
         strict_texts: flag_given(options, "strict-texts"),
+        left_out: text_given(alloc, options, "keep-left-out")?,
     })
 }
 
@@ -40,15 +43,16 @@ pub(crate) fn path_given<'a>(options: &ArgMatches<'a>) -> Option<&'a str>
     }
 }
 
-/// The path of the file of a sender's state, if the options give one.
-pub(crate) fn state_given(
+/// A copy of the text that the option of this name gives, if it gives one.
+pub(crate) fn text_given(
     alloc: Global,
     options: &ArgMatches<'_>,
+    option: &str,
 ) -> Result<Option<String>, AllocError>
-    ensures { IfOk result (λ state.
-        option_map string_bytes state ≡ first_value (found_of options.now) (codes "state")) }
+    ensures { IfOk result (λ text.
+        option_map string_bytes text ≡ first_value (found_of options.now) option.now) }
 {
-    match options.get_str("state") {
+    match options.get_str(option) {
         Some(path) => Ok(Some(String::from_str(alloc, path)?)),
         None => Ok(None),
     }
@@ -90,7 +94,18 @@ pub(crate) fn is_mixed(options: &ArgMatches<'_>) -> bool
         || options.get_str("state").is_some()
         || options.get_str("rate").is_some()
         || options.get_str("receipt").is_some()
-        || has_flag(options)
+        || is_kept_or_has_flag(options)
+}
+
+/// Whether chunks are to be kept, or a flag is given that is for a recording's sender alone.
+fn is_kept_or_has_flag(options: &ArgMatches<'_>) -> bool
+    ensures { result ≡ (is_some (first_value (found_of options.now) (codes "keep-left-out"))
+        || (is_set (first_value (found_of options.now) (codes "json"))
+        || (is_set (first_value (found_of options.now) (codes "strict"))
+        || (is_set (first_value (found_of options.now) (codes "strict-texts"))
+        || is_set (first_value (found_of options.now) (codes "log")))))) }
+{
+    options.get_str("keep-left-out").is_some() || has_flag(options)
 }
 
 /// Whether a flag is given that is for a recording's sender alone.

@@ -9,13 +9,13 @@ pub returns-in_err-source-clause-err : goal.returns-in_err-source-clause-err
 returns-in_err-source-clause-err c = on_err c.from_residual.result
     (samples_kept (found_of c.args.options.now) c.args.path.now c.args.name c.args.connect c.args.tries _
     c.requires.connects c.requires.named c.requires.takes c.requires.tries c.requires.unmixed c.requires.unreceipted
-    c.requires.samples)
+    c.requires.kept c.requires.samples)
 
 pub returns-in_err-pcm-clause-err : goal.returns-in_err-pcm-clause-err
 returns-in_err-pcm-clause-err c = on_err c.from_residual-in_err-pcm.result
     (samples_kept (found_of c.args.options.now) c.args.path.now c.args.name c.args.connect c.args.tries _
     c.requires.connects c.requires.named c.requires.takes c.requires.tries c.requires.unmixed c.requires.unreceipted
-    c.requires.samples)
+    c.requires.kept c.requires.samples)
 
 pub returns-clause-ok : goal.returns-clause-ok
 returns-clause-ok c =
@@ -23,7 +23,7 @@ returns-clause-ok c =
     pcm_asked (found_of c.args.options.now) _ c.args.tries.fruitless c.requires.connects c.requires.named
     (source_asked (found_of c.args.options.now) path_given c.args.path.now (in_plain c.in_ok-source.source)
     c.requires.takes c.in_ok-source.ensures.0 c.in_ok-source.ensures.1 c.in_ok-source.ensures.2
-    c.in_ok-source.ensures.3)
+    c.in_ok-source.ensures.3 c.in_ok-source.ensures.4 c.requires.kept)
     (subst (λ (p : PlainPcm). GivesSamples (first_value (found_of c.args.options.now)) (Some p)) (sym same)
     c.requires.samples)
     (c.args.tries.timeout, c.requires.tries.waits, c.unwrap_or.ensures)
