@@ -29,7 +29,7 @@ PLAIN = Recording(samples=bytes(range(250)) * 40)
 ODD = Recording(channels=1, bits=24, samples=bytes(range(255)) * 5)
 F = fmt(PLAIN)
 S = data(PLAIN.samples)
-KEEP_EXISTS = "hint: something is at LEFT: give a path where nothing is\n"
+KEEP_EXISTS = "hint: something else is at LEFT: give a path where nothing is\n"
 KEEP_UNWRITTEN = "hint: LEFT can't be written: remove what is there of it\n"
 CARRIED = {b"fmt ", b"bext", b"data", b"cue ", b"ds64", b"JUNK"}
 

@@ -14,7 +14,7 @@ keep_hint (Unread kind) place = file_hint kind place
 keep_hint Riff place = []
 keep_hint SameForm place = []
 keep_hint TooLong place = codes "hint: a RIFF file can't hold these chunks\n"
-keep_hint Exists place = codes "hint: something is at LEFT: give a path where nothing is\n"
+keep_hint Exists place = codes "hint: something else is at LEFT: give a path where nothing is\n"
 keep_hint Unwritten place = codes "hint: LEFT can't be written: remove what is there of it\n"
 
 -- the line of a fault, and the hint below it

@@ -17,11 +17,12 @@ use std::alloc::Global;
 
 /// Makes a file at `to` with the chunks of the recording at a path that a take doesn't carry: a RIFF
 /// WAVE with the recording's format, without samples. What is made has four zero bytes in the place
-/// of its id until all else is synced.
+/// of its id until all else is synced. A file that has exactly these bytes already is synced, as if it
+/// had been made: so a sender can be run again.
 ///
 /// # Errors
 /// How the command ends, after it was reported why nothing is kept: `Refused` if the recording isn't
-/// read, its chunks are too long for a RIFF file, or something is at `to`; `Device` if the recording
+/// read, its chunks are too long for a RIFF file, or something else is at `to`; `Device` if the recording
 /// can't be opened, or a read or a write failed; `Memory` if memory was refused. A failure to write
 /// to `faults` is ignored.
 ///
@@ -37,7 +38,7 @@ pub fn keep_left_out<F: RecordingFiles, D: Volume, E: Sink>(
     to: &str,
     faults: &mut E,
 ) -> Result<(), Exit>
-    // What is made is new, and has each chunk that a take doesn't carry; no other file is changed.
+    // The file has each chunk that a take doesn't carry; no other file is changed.
     ensures keeps { (gives_all : Bool)
         × IsKeeping D.Disk (F.file_at files.old path.now) path.now to.now E.Sink result
         disk.old disk.new gives_all faults.old faults.new

@@ -17,8 +17,8 @@ use bw_disk::Volume;
 use bw_ports::RecordingFiles;
 use std::alloc::Global;
 
-/// Makes a file at `to` with the chunks of the recording at a path that a take doesn't carry. The
-/// recording is opened twice.
+/// Makes a file at `to` with the chunks of the recording at a path that a take doesn't carry, unless it
+/// is there already. The recording is opened twice.
 ///
 /// # Errors
 /// Why there is none: Unopened; Unread; TooLong; Exists; Unwritten.
@@ -49,7 +49,7 @@ pub(crate) fn keep<F: RecordingFiles, D: Volume>(
     }
 }
 
-/// Makes a file of these sections of the recording, with the id that they lack.
+/// Makes a file of these sections of the recording, with the id that they lack, unless it is there.
 ///
 /// # Errors
 /// Unopened; Unread, where a read failed; Exists; Unwritten.

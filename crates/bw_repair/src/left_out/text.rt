@@ -33,7 +33,7 @@ fn hint_of_keep(kind: ConvertKind, offset: u64) -> &'static str
         ConvertKind::Riff => "",
         ConvertKind::SameForm => "",
         ConvertKind::TooLong => "hint: a RIFF file can't hold these chunks\n",
-        ConvertKind::Exists => "hint: something is at LEFT: give a path where nothing is\n",
+        ConvertKind::Exists => "hint: something else is at LEFT: give a path where nothing is\n",
         ConvertKind::Unwritten => "hint: LEFT can't be written: remove what is there of it\n",
     }
 }
