@@ -1,5 +1,6 @@
 -- The sections of a file that are its chunks, and what keeping and joining them put together.
-use Rattle.std.specs.Prelude.{◌≡◌, ℕ, ◌+◌, ◌-◌, ◌^◌, ◌≤◌, ◌||◌, ◌&&◌, Bool, true, List, [], ◌∷◌, ◌++◌, Option, Some, None}
+use Rattle.std.specs.Prelude.{◌≡◌, ℕ, ◌+◌, ◌-◌, ◌^◌, ◌≤◌, ◌||◌, ◌&&◌}
+use Rattle.std.specs.Prelude.{Bool, true, List, [], ◌∷◌, ◌++◌, Option, Some, None}
 use Rattle.std.specs.Prelude.{codes, min, if◌then◌else◌}
 use Rattle.bw_model.specs.Limits.{largest}
 use Rattle.bw_model.specs.Bytes.{even_up, le32, zeros}

@@ -27,6 +27,7 @@ use std::alloc::Global;
 /// # Not specified
 /// - When memory is refused, and when the system fails, and the reason in its line.
 /// - Of files whose bytes aren't reported, which bytes are printed.
+/// - After a part was printed, at which offset a failed read is reported.
 /// - Whether the readers, which are dropped, counted failed reads.
 pub fn join_files<F: RecordingFiles, W: Sink, E: Sink>(
     alloc: Global,
