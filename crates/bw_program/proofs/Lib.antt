@@ -3,5 +3,6 @@ mod ConversionLemmas
 mod FolderLemmas
 mod InspectionLemmas
 mod RequestLemmas
+mod LeftOutLemmas
 mod ReceiptLemmas
 mod ServingLemmas

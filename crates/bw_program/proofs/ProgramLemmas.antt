@@ -1,5 +1,5 @@
 -- What the program does, from what its parts do.
-use Rattle.std.proofs.Common.{◌≡◌, ◌≢◌, ◌++◌, ℕ, Bool, List, [], true, Option, Some, Result, Err, inl}
+use Rattle.std.proofs.Common.{◌≡◌, ◌≢◌, ◌++◌, ℕ, Bool, List, [], true, Option, Some, Result, Ok, Err, inl}
 use Rattle.std.proofs.Common.{inr, refl}
 use Rattle.std.proofs.Common.{subst}
 use Rattle.clap.specs.Walk.{Text}
@@ -17,8 +17,11 @@ use Rattle.bw_args.specs.declared.CommandLine.{CommandLine}
 use Rattle.bw_args.specs.declared.CommandLine.TheVariants.{Run, BadValue as Bad, Report}
 use Rattle.bw_args.specs.declared.Task.TheVariants.{Replay, Inspect, Rehearse, Serve, Send, SendFile, SendPcm}
 use Rattle.bw_args.specs.declared.Task.TheVariants.{Pack, Picture, InspectFiles, Repair, Convert, Takes}
-use Rattle.bw_args.specs.declared.Task.TheVariants.{Verify}
-use Rattle.bw_program.specs.Programs.{DoesAlone, IsDoneFor, IsProgram, IsReporting, IsUnread, build_lines}
+use Rattle.bw_args.specs.declared.Task.TheVariants.{Join, Verify}
+use Rattle.bw_args.specs.declared.recordings.SourceFile.{SourceFile}
+use Rattle.bw_program.specs.LeftOutCommands.{KeepWorld}
+use Rattle.bw_program.specs.Programs.{DoesAlone, DoneIfKept, IsDoneFor, IsProgram, IsReporting, IsUnread, KeepsFirst}
+use Rattle.bw_program.specs.Programs.{build_lines}
 use Rattle.bw_console.specs.declared.exit.Exit.{Exit}
 use Rattle.bw_console.specs.declared.exit.Exit.TheVariants as exits
 use Rattle.bw_console.specs.declared.fault.Fault.{Fault}
@@ -87,6 +90,43 @@ module _ {S T F H G M SB SL KP RC Ed LK DK DF N X Z P R W L K SP SK D A B U J Q 
     kept = refl;
   }
 
+  -- what was done after chunks were kept doesn't depend on what the system was asked before
+  kept_first : {source : SourceFile} (failed : ℕ) (done : Exit → ProgramWorld S F DK N Q I O E →
+      ProgramWorld S F DK N Q I O E → Type 0) (exit : Exit) (system : S) (x x' : ProgramWorld S F DK N Q I O E) →
+      ((w : KeepWorld F DK E) →
+      done exit (record x { system = system; files = w.files; disk = w.disk; faults = w.faults }) x' →
+      done exit (record x { files = w.files; disk = w.disk; faults = w.faults }) x') →
+      KeepsFirst host server_side sender_side upload_side network listener_setup kept_servers failed source
+      done exit (record x { system = system }) x' →
+      KeepsFirst host server_side sender_side upload_side network listener_setup kept_servers failed source
+      done exit x x'
+  kept_first failed done exit system x x' same k = record {
+    result = k.result;
+    kept = k.kept;
+    keeps = k.keeps;
+    ends = ended k.result k.kept k.ends;
+  }
+    where
+      ended : (r : Result (Unit {0}) Exit) (w : KeepWorld F DK E) →
+          DoneIfKept host server_side sender_side upload_side network listener_setup kept_servers failed r
+          done exit (record x { system = system; files = w.files; disk = w.disk; faults = w.faults }) x' →
+          DoneIfKept host server_side sender_side upload_side network listener_setup kept_servers failed r
+          done exit (record x { files = w.files; disk = w.disk; faults = w.faults }) x'
+      ended (Ok u) w is = same w is
+      ended (Err e) w is = (
+        is.0,
+        record {
+          well = is.1.well;
+          unread = is.1.unread;
+          kept = is.1.kept;
+          unused = is.1.unused;
+          unpaused = is.1.unpaused;
+          untaken = is.1.untaken;
+          unprinted = is.1.unprinted;
+          unreported = is.1.unreported;
+        },
+      )
+
   -- what is done for the words that were found is done for those that the system reported before
   pub reported-words : (build : List ℕ) (words : Option (List Text)) (found : List Text) (exit : Exit) (system : S)
       (x x' : ProgramWorld S F DK N Q I O E) →
@@ -132,12 +172,13 @@ module _ {S T F H G M SB SL KP RC Ed LK DK DF N X Z P R W L K SP SK D A B U J Q 
       done_for (Run (InspectFiles inspection)) done = done
       done_for (Run (Serve server)) done = done
       done_for (Run (Send sender)) done = done
-      done_for (Run (SendFile sender)) done = done
+      done_for (Run (SendFile sender)) done = kept_first _ _ exit system x x' (λ w is. is) done
       done_for (Run (SendPcm sender)) done = done
-      done_for (Run (Pack source)) done = done
+      done_for (Run (Pack source)) done = kept_first _ _ exit system x x' (λ w is. is) done
       done_for (Run (Picture file)) done = done
       done_for (Run (Repair file write)) done = done
       done_for (Run (Convert file out form)) done = done
+      done_for (Run (Join take left)) done = done
       done_for (Run (Takes listing)) done = done
       done_for (Run (Verify folder receipts)) done = done
       done_for (Bad value) done = alone done

@@ -4,7 +4,6 @@ use Rattle.std.specs.Prelude.{option_map, string_bytes}
 use Rattle.bw_args.specs.declared.CommandLine.{CommandLine}
 use Rattle.bw_args.specs.declared.Task.{Task}
 use Rattle.bw_args.specs.declared.recordings.FileSender.{FileSender}
-use Rattle.bw_args.specs.declared.Task.TheVariants.{SendFile}
 use Rattle.bw_args.specs.declared.recordings.PcmSender.{PcmSender}
 use Rattle.bw_args.specs.declared.recordings.ReceiptTarget.{ReceiptTarget}
 use Rattle.bw_console.specs.declared.exit.Exit.{Exit}
@@ -13,7 +12,7 @@ use Rattle.bw_ports.specs.declared.network.Network.{Ghosts as NetworkGhosts}
 use Rattle.bw_program.specs.PcmCommands.{SendsBySpool}
 use Rattle.bw_program.specs.Programs.{DoesRequest, IsSentAlone, SendsFound}
 use Rattle.bw_program.specs.ReceiptCommands.{SendsAsAsked, sender_world}
-use Rattle.bw_program.specs.Requests.{FoundRecording, RecordingWithReceipt}
+use Rattle.bw_program.specs.Requests.{FoundRecording, RecordingAsAsked, RecordingWithReceipt}
 use Rattle.bw_program.specs.Requests.{ByLine, ByTask, AnyRecording, AnySamples}
 use Rattle.bw_program.specs.Requests.{FileSamples, KeptRecording, NewRecording, SpooledSamples}
 use Rattle.bw_program.specs.Uploads.{SendsByPath}
@@ -63,36 +62,36 @@ module _ {S T F H G M SB SL KP RC Ed LK DK DF N X Z P R W L K SP SK D A B U J Q 
       {x x' : ProgramWorld S F DK N Q I O E} → sender.receipt ≡ None →
       IsSentAlone host server_side sender_side upload_side network listener_setup kept_servers
       (FoundRecording sender) exit x x' →
-      DoesRequest host server_side sender_side upload_side network listener_setup kept_servers
-      (ByTask (SendFile sender)) exit x x'
-  asked_without {sender} {exit} {x} {x'} is done = (
-    subst (λ (target : Option ReceiptTarget). SendsAsAsked host.files host.receipts host.out host.reported
+      IsSentAlone host server_side sender_side upload_side network listener_setup kept_servers
+      (RecordingAsAsked sender) exit x x'
+  asked_without {sender} {exit} {x} {x'} is done = record {
+    sent = subst (λ (target : Option ReceiptTarget). SendsAsAsked host.files host.receipts host.out host.reported
         (SendsFound host server_side sender_side upload_side network listener_setup kept_servers
         sender x.network) sender target exit (sender_world x.files x.pause x.out x.faults)
-        (sender_world x'.files x'.pause x'.out x'.faults)) (sym is) done.sent,
-    done.well,
-    done.unused,
-    done.unread,
-    done.kept,
-  )
+        (sender_world x'.files x'.pause x'.out x'.faults)) (sym is) done.sent;
+    well = done.well;
+    unused = done.unused;
+    unread = done.unread;
+    kept = done.kept;
+  }
 
   -- with the receipt that the command line asks for
   pub asked_with : {sender : FileSender} {target : ReceiptTarget} {exit : Exit}
       {x x' : ProgramWorld S F DK N Q I O E} → sender.receipt ≡ Some target →
       IsSentAlone host server_side sender_side upload_side network listener_setup kept_servers
       (RecordingWithReceipt target sender) exit x x' →
-      DoesRequest host server_side sender_side upload_side network listener_setup kept_servers
-      (ByTask (SendFile sender)) exit x x'
-  asked_with {sender} {target} {exit} {x} {x'} is done = (
-    subst (λ (target : Option ReceiptTarget). SendsAsAsked host.files host.receipts host.out host.reported
+      IsSentAlone host server_side sender_side upload_side network listener_setup kept_servers
+      (RecordingAsAsked sender) exit x x'
+  asked_with {sender} {target} {exit} {x} {x'} is done = record {
+    sent = subst (λ (target : Option ReceiptTarget). SendsAsAsked host.files host.receipts host.out host.reported
         (SendsFound host server_side sender_side upload_side network listener_setup kept_servers
         sender x.network) sender target exit (sender_world x.files x.pause x.out x.faults)
-        (sender_world x'.files x'.pause x'.out x'.faults)) (sym is) done.sent,
-    done.well,
-    done.unused,
-    done.unread,
-    done.kept,
-  )
+        (sender_world x'.files x'.pause x'.out x'.faults)) (sym is) done.sent;
+    well = done.well;
+    unused = done.unused;
+    unread = done.unread;
+    kept = done.kept;
+  }
 
   -- from a spool
   pub any_spooled : {sender : PcmSender} {exit : Exit}

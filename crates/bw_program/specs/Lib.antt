@@ -1,4 +1,5 @@
 pub mod FileCommands
+pub mod LeftOutCommands
 pub mod Programs
 pub mod Remote
 pub mod Requests

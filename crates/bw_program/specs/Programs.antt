@@ -1,5 +1,5 @@
 -- What the program does for a command line.
-use Rattle.std.specs.Prelude.{◌≡◌, ◌⊎◌, ◌++◌, ℕ, Bool, true, false, Option, Some, List, [], Result}
+use Rattle.std.specs.Prelude.{◌≡◌, ◌⊎◌, ◌++◌, ℕ, Bool, true, false, Option, Some, List, [], Result, Ok, Err}
 use Rattle.std.specs.Prelude.{string_bytes}
 use Rattle.std.specs.declared.io.ErrorKind.{ErrorKind}
 use Rattle.clap.specs.Walk.{Text}
@@ -17,7 +17,8 @@ use Rattle.bw_args.specs.declared.recordings.FileSender.{FileSender}
 use Rattle.bw_args.specs.declared.Task.TheVariants.{Replay, Inspect, Rehearse, Serve, Send, SendFile}
 use Rattle.bw_args.specs.declared.Task.TheVariants.{SendPcm}
 use Rattle.bw_args.specs.declared.Task.TheVariants.{Pack, Picture, InspectFiles, Repair, Convert, Takes}
-use Rattle.bw_args.specs.declared.Task.TheVariants.{Verify}
+use Rattle.bw_args.specs.declared.Task.TheVariants.{Join, Verify}
+use Rattle.bw_args.specs.declared.recordings.SourceFile.{SourceFile}
 use Rattle.bw_console.specs.Outcomes.{Outcome, Does, IsOutOfMemory}
 use Rattle.bw_commands.specs.Replays.{IsReplay}
 use Rattle.bw_console.specs.Faults.{IsReportedBy, exit_of}
@@ -33,6 +34,7 @@ use Rattle.bw_ports.specs.declared.listener_setup.ListenerSetup.{Ghosts as Liste
 use Rattle.bw_program.specs.ConvertCommands.{ConvertsFile, conversion_side, conversion_world}
 use Rattle.bw_program.specs.FileCommands.{InspectsFiles, IsInspectedAt}
 use Rattle.bw_program.specs.TakesCommands.{VerifiesByKind, WorksOnTakes, folder_side, folder_world}
+use Rattle.bw_program.specs.LeftOutCommands.{JoinsFiles, KeepWorld, KeepsAsAsked, keep_world}
 use Rattle.bw_program.specs.PictureCommands.{DrawsFile}
 use Rattle.bw_program.specs.RecordingCommands.{Packs}
 use Rattle.bw_program.specs.RepairCommands.{RepairsFile}
@@ -43,7 +45,7 @@ use Rattle.bw_program.specs.PcmUploads.{SendsPcm}
 use Rattle.bw_program.specs.Requests.{ProgramRequest, ByWords, ByLine, ByTask, ByUpload, Upload}
 use Rattle.bw_program.specs.ReceiptCommands.{SendsAsAsked, SendsWithReceipt, SenderWorld, sender_world}
 use Rattle.bw_program.specs.Requests.{NewRecording, KeptRecording, AnyRecording}
-use Rattle.bw_program.specs.Requests.{FoundRecording, RecordingWithReceipt}
+use Rattle.bw_program.specs.Requests.{FoundRecording, RecordingWithReceipt, RecordingAsAsked}
 use Rattle.bw_program.specs.Requests.{SpooledSamples, FileSamples, AnySamples}
 use Rattle.bw_program.specs.Uploads.{SendsByState, SendsOrGivesUp, SendsRecording}
 use Rattle.bw_program.specs.Sides.{HostSide, KeptSide, SenderSide, ServerSide, UploadSide, ProgramWorld}
@@ -102,6 +104,7 @@ IsTaskDone file_at input (Pack source) gives_all did = ⊥
 IsTaskDone file_at input (Picture file) gives_all did = ⊥
 IsTaskDone file_at input (Repair file write) gives_all did = ⊥
 IsTaskDone file_at input (Convert file out form) gives_all did = ⊥
+IsTaskDone file_at input (Join take left) gives_all did = ⊥
 IsTaskDone file_at input (Takes listing) gives_all did = ⊥
 IsTaskDone file_at input (Verify folder receipts) gives_all did = ⊥
 
@@ -147,6 +150,59 @@ module _ {S T F H G M SB SL KP RC Ed LK DK DF N X Z P R W L K SP SK D A B U J Q 
       (SendsByState upload_side sender_side network host.files host.states host.out host.reported
       sender exit w.files w'.files n w.pause w'.pause w.out w'.out w.faults w'.faults)
 
+  -- .. with a receipt or without, as the command line says
+  abbrev pub SendsFileAsAsked : FileSender → Exit → ProgramWorld S F DK N Q I O E →
+      ProgramWorld S F DK N Q I O E → Type 0
+  SendsFileAsAsked sender exit x x' =
+      SendsAsAsked host.files host.receipts host.out host.reported (SendsFound sender x.network) sender
+      sender.receipt exit (sender_world x.files x.pause x.out x.faults)
+      (sender_world x'.files x'.pause x'.out x'.faults)
+
+  -- .. and nothing else is used
+  abbrev pub SendsFile : ℕ → FileSender → Exit → ProgramWorld S F DK N Q I O E →
+      ProgramWorld S F DK N Q I O E → Type 0
+  SendsFile failed sender exit x x' =
+      SendsFileAsAsked sender exit x x'
+      × IsHostWell failed x' × (x'.network ≡ x.network) × (x'.input ≡ x.input) × (x'.disk ≡ x.disk)
+
+  -- the requests of a recording were printed, and nothing else is used
+  abbrev pub PacksFile : ℕ → SourceFile → Exit → ProgramWorld S F DK N Q I O E →
+      ProgramWorld S F DK N Q I O E → Type 0
+  PacksFile failed source exit x x' =
+      Packs host.out host.reported (host.files.file_at x.files) source exit
+      (host.files.failures x.files) (host.files.failures x'.files) x.out x'.out x.faults x'.faults
+      × IsHostWell failed x' × (x'.network ≡ x.network) × (x'.input ≡ x.input)
+      × (x'.pause ≡ x.pause) × (x'.disk ≡ x.disk)
+
+  -- nothing is done
+  pub record DoesNothing (failed : ℕ) (x x' : ProgramWorld S F DK N Q I O E) : Type 0 where
+    pub well : IsHostWell failed x'
+    pub unread : x'.files ≡ x.files
+    pub kept : x'.disk ≡ x.disk
+    pub unused : x'.network ≡ x.network
+    pub unpaused : x'.pause ≡ x.pause
+    pub untaken : x'.input ≡ x.input
+    pub unprinted : x'.out ≡ x.out
+    pub unreported : x'.faults ≡ x.faults
+
+  -- this was done after what is asked for was kept; else keeping it ended the command, and nothing more is done
+  abbrev pub DoneIfKept : ℕ → Result (Unit {0}) Exit →
+      (Exit → ProgramWorld S F DK N Q I O E → ProgramWorld S F DK N Q I O E → Type 0) → Exit →
+      ProgramWorld S F DK N Q I O E → ProgramWorld S F DK N Q I O E → Type 0
+  DoneIfKept failed (Ok x) done exit y x' = done exit y x'
+  DoneIfKept failed (Err ended) done exit y x' = (exit ≡ ended) × DoesNothing failed y x'
+
+  -- first the chunks of a recording that a take doesn't carry were kept, if that is asked for
+  pub record KeepsFirst (failed : ℕ) (source : SourceFile)
+      (done : Exit → ProgramWorld S F DK N Q I O E → ProgramWorld S F DK N Q I O E → Type 0)
+      (exit : Exit) (x x' : ProgramWorld S F DK N Q I O E) : Type 0 where
+    pub result : Result (Unit {0}) Exit
+    pub kept : KeepWorld F DK E
+    pub keeps : KeepsAsAsked host.files host.kinds host.disk host.reported source result
+        (keep_world x.files x.disk x.faults) kept
+    pub ends : DoneIfKept failed result done exit
+        (record x { files = kept.files; disk = kept.disk; faults = kept.faults }) x'
+
   -- what is done for a task, and how the program ends, where the system has these files and so many
   -- calls of it had failed
   abbrev pub IsTaskFor : (Text → Option (List ℕ)) → ℕ → Task → Exit →
@@ -162,10 +218,7 @@ module _ {S T F H G M SB SL KP RC Ed LK DK DF N X Z P R W L K SP SK D A B U J Q 
       × IsHostWell failed x' × (x'.files ≡ x.files) × (x'.network ≡ x.network)
       × (x'.pause ≡ x.pause) × (x'.disk ≡ x.disk)
   IsTaskFor file_at failed (SendFile sender) exit x x' =
-      SendsAsAsked host.files host.receipts host.out host.reported (SendsFound sender x.network) sender
-      sender.receipt exit (sender_world x.files x.pause x.out x.faults)
-      (sender_world x'.files x'.pause x'.out x'.faults)
-      × IsHostWell failed x' × (x'.network ≡ x.network) × (x'.input ≡ x.input) × (x'.disk ≡ x.disk)
+      KeepsFirst failed sender.source (SendsFile failed sender) exit x x'
   IsTaskFor file_at failed (SendPcm sender) exit x x' =
       IfFile host.kinds host.reported (string_bytes sender.source.path) sender.pcm.is_spooled exit
       x.files x'.files x.pause x'.pause x.out x'.out x.faults x'.faults
@@ -173,10 +226,7 @@ module _ {S T F H G M SB SL KP RC Ed LK DK DF N X Z P R W L K SP SK D A B U J Q 
       sender exit x.files x'.files x.network x.pause x'.pause x.out x'.out x.faults x'.faults)
       × IsHostWell failed x' × (x'.network ≡ x.network) × (x'.input ≡ x.input) × (x'.disk ≡ x.disk)
   IsTaskFor file_at failed (Pack source) exit x x' =
-      Packs host.out host.reported (host.files.file_at x.files) source exit
-      (host.files.failures x.files) (host.files.failures x'.files) x.out x'.out x.faults x'.faults
-      × IsHostWell failed x' × (x'.network ≡ x.network) × (x'.input ≡ x.input)
-      × (x'.pause ≡ x.pause) × (x'.disk ≡ x.disk)
+      KeepsFirst failed source (PacksFile failed source) exit x x'
   IsTaskFor file_at failed (InspectFiles inspection) exit x x' =
       InspectsFiles host.files host.input host.out host.reported inspection exit
       x.files x'.files x.input x'.input x.out x'.out x.faults x'.faults
@@ -197,6 +247,11 @@ module _ {S T F H G M SB SL KP RC Ed LK DK DF N X Z P R W L K SP SK D A B U J Q 
       (conversion_world x'.files x'.disk x'.out x'.faults)
       × IsHostWell failed x' × (x'.network ≡ x.network) × (x'.input ≡ x.input)
       × (x'.pause ≡ x.pause)
+  IsTaskFor file_at failed (Join take left) exit x x' =
+      JoinsFiles host.files host.out host.reported (string_bytes take) (string_bytes left) exit
+      x.files x'.files x.out x'.out x.faults x'.faults
+      × IsHostWell failed x' × (x'.network ≡ x.network) × (x'.input ≡ x.input)
+      × (x'.pause ≡ x.pause) × (x'.disk ≡ x.disk)
   IsTaskFor file_at failed (Takes listing) exit x x' =
       WorksOnTakes (folder_side host.disk host.locks upload_side.pause host.out host.reported)
       x.screens listing exit (folder_world x.disk x.files x.pause x.out x.faults)
@@ -252,6 +307,7 @@ module _ {S T F H G M SB SL KP RC Ed LK DK DF N X Z P R W L K SP SK D A B U J Q 
       SendsWithReceipt host.files host.receipts host.out host.reported (SendsFound sender x.network) sender
       target exit (sender_world x.files x.pause x.out x.faults)
       (sender_world x'.files x'.pause x'.out x'.faults)
+  IsSentOver (RecordingAsAsked sender) exit x x' = SendsFileAsAsked sender exit x x'
   IsSentOver (SpooledSamples sender) exit x x' =
       SendsBySpool upload_side sender_side network host.files host.spools host.out host.reported true
       sender exit x.files x'.files x.network x.pause x'.pause x.out x'.out x.faults x'.faults

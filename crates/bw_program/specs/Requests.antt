@@ -8,14 +8,15 @@ use Rattle.bw_args.specs.declared.recordings.PcmSender.{PcmSender}
 use Rattle.bw_args.specs.declared.recordings.ReceiptTarget.{ReceiptTarget}
 
 -- what is sent: a recording, without a state, with the state at a path, or as the command line says,
--- also only if a file is there, and so with a receipt; headerless samples, of a spool, of a file, or as
--- the command line says
+-- also only if a file is there, and so with a receipt, or as the command line says; headerless samples, of
+-- a spool, of a file, or as the command line says
 pub data Upload : Type 0 where
   NewRecording : FileSender → Upload
   KeptRecording : List ℕ → FileSender → Upload
   AnyRecording : FileSender → Upload
   FoundRecording : FileSender → Upload
   RecordingWithReceipt : ReceiptTarget → FileSender → Upload
+  RecordingAsAsked : FileSender → Upload
   SpooledSamples : PcmSender → Upload
   FileSamples : PcmSender → Upload
   AnySamples : PcmSender → Upload

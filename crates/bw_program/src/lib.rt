@@ -6,6 +6,7 @@ mod behavior;
 mod conversions;
 mod folders;
 mod inspections;
+mod left_out;
 mod outside;
 mod program;
 mod receipts;

@@ -12,12 +12,13 @@ ghost use Rattle.bw_program.specs.Requests.{ByLine, ByTask, ByWords};
 use crate::behavior::Behavior;
 use crate::conversions::convert_recording;
 use crate::folders::{verify_folder, work_on_takes};
+use crate::left_out::{join_recordings, pack_recording, send_file_kept};
 use crate::outside::{Environment, Outside, ProgressObservers};
 use crate::remote::send_typed;
-use crate::sources::{send_file_asked, send_pcm_there};
+use crate::sources::send_pcm_there;
 use crate::tasks::{
-    draw_recording, inspect_each, inspect_file, pack_recording, rehearse_input, repair_recording,
-    replay_input, serve_folder,
+    draw_recording, inspect_each, inspect_file, rehearse_input, repair_recording, replay_input,
+    serve_folder,
 };
 use bw_args::{CommandLine, Task, parse};
 use bw_console::print::{give_up, print, print_diagnostic};
@@ -127,12 +128,13 @@ fn run<X: Environment>(
         Task::Rehearse { name, limit } => rehearse_input(alloc, name, *limit, outside),
         Task::Serve(server) => serve_folder(alloc, server, outside),
         Task::Send(sender) => send_typed(alloc, sender, outside, &mut observers.watch),
-        Task::SendFile(sender) => send_file_asked(alloc, sender, outside, observers),
+        Task::SendFile(sender) => send_file_kept(alloc, sender, outside, observers),
         Task::SendPcm(sender) => send_pcm_there(alloc, sender, outside, observers),
         Task::Pack(source) => pack_recording(alloc, source, outside),
         Task::Picture { file } => draw_recording(alloc, file, outside),
         Task::Repair { file, write } => repair_recording(alloc, file, *write, outside),
         Task::Convert { file, out, form } => { convert_recording(alloc, file, out, *form, outside) }
+        Task::Join { take, left } => join_recordings(alloc, take, left, outside),
         Task::Takes(listing) => work_on_takes(alloc, listing, outside),
         Task::Verify { folder, receipts } => verify_folder(alloc, folder, receipts, outside),
     }

@@ -1,6 +1,6 @@
 //! The commands that send what a path names, once it is known that no pipe, folder or device is there.
-ghost use Rattle.bw_args.specs.declared.Task.TheVariants.{SendFile, SendPcm};
-ghost use Rattle.bw_program.specs.Requests.{ByTask, ByUpload, FoundRecording};
+ghost use Rattle.bw_args.specs.declared.Task.TheVariants.{SendPcm};
+ghost use Rattle.bw_program.specs.Requests.{ByTask, ByUpload, FoundRecording, RecordingAsAsked};
 
 use crate::behavior::Behavior;
 use crate::outside::{Environment, Outside, ProgressObservers};
@@ -20,7 +20,7 @@ pub(crate) fn send_file_asked<X: Environment>(
     outside: &mut Outside<X>,
     observers: &mut ProgressObservers<X>,
 ) -> Exit
-    ensures { ⟦<Outside<X> as Behavior>⟧.does (ByTask (SendFile sender.now)) result
+    ensures { ⟦<Outside<X> as Behavior>⟧.does (ByUpload (RecordingAsAsked sender.now)) result
         outside.old outside.new }
 {
     match &sender.receipt {

@@ -1,15 +1,14 @@
 //! The tasks that need few parts of the outside: each is given these alone.
 ghost use Rattle.bw_layout.specs.Limits.{IsLimit};
-ghost use Rattle.bw_args.specs.declared.Task.TheVariants.{Inspect, InspectFiles, Pack, Picture, Rehearse, Repair, Replay};
+ghost use Rattle.bw_args.specs.declared.Task.TheVariants.{Inspect, InspectFiles, Picture, Rehearse, Repair, Replay};
 ghost use Rattle.bw_args.specs.declared.Task.TheVariants.{Serve as Serving};
 ghost use Rattle.bw_program.specs.Requests.{ByTask};
 
 use crate::behavior::Behavior;
 use crate::inspections::{inspect_as, inspect_one};
 use crate::outside::{Environment, Outside};
-use crate::recordings::pack_as;
 use crate::remote::serve_as;
-use bw_args::{Inspection, Serve, SourceFile};
+use bw_args::{Inspection, Serve};
 use bw_commands::replay::replay;
 use bw_console::Exit;
 use bw_delivery::rehearse_with_stops_run;
@@ -115,23 +114,6 @@ pub(crate) fn serve_folder<X: Environment>(
         ..
     } = outside;
     serve_as(alloc, server, network, out, faults)
-}
-
-/// Prints the requests of a recording.
-pub(crate) fn pack_recording<X: Environment>(
-    alloc: Global,
-    source: &SourceFile,
-    outside: &mut Outside<X>,
-) -> Exit
-    ensures { ⟦<Outside<X> as Behavior>⟧.does (ByTask (Pack source.now)) result outside.old outside.new }
-{
-    let Outside {
-        files,
-        out,
-        faults,
-        ..
-    } = outside;
-    pack_as(alloc, source, files, out, faults)
 }
 
 /// Draws the waveform of a recording.

@@ -20,7 +20,7 @@ pub returns-in-Send : goal.returns-in-Send
 returns-in-Send g c = task_is _ _ _ _ _ _ _ _ _ _ c.in-Send.is c.send_typed.ensures
 
 pub returns-in-SendFile : goal.returns-in-SendFile
-returns-in-SendFile g c = task_is _ _ _ _ _ _ _ _ _ _ c.in-SendFile.is c.send_file_asked.ensures
+returns-in-SendFile g c = task_is _ _ _ _ _ _ _ _ _ _ c.in-SendFile.is c.send_file_kept.ensures
 
 pub returns-in-SendPcm : goal.returns-in-SendPcm
 returns-in-SendPcm g c = task_is _ _ _ _ _ _ _ _ _ _ c.in-SendPcm.is c.send_pcm_there.ensures
@@ -39,6 +39,9 @@ returns-in-Takes g c = task_is _ _ _ _ _ _ _ _ _ _ c.in-Takes.is c.work_on_takes
 
 pub returns-in-Convert : goal.returns-in-Convert
 returns-in-Convert g c = task_is _ _ _ _ _ _ _ _ _ _ c.in-Convert.is c.convert_recording.ensures
+
+pub returns-in-Join : goal.returns-in-Join
+returns-in-Join g c = task_is _ _ _ _ _ _ _ _ _ _ c.in-Join.is c.join_recordings.ensures
 
 pub returns-in-Verify : goal.returns-in-Verify
 returns-in-Verify g c = task_is _ _ _ _ _ _ _ _ _ _ c.in-Verify.is c.verify_folder.ensures
