@@ -14,7 +14,7 @@ use Rattle.bw_repair.specs.Joinings.{Joins}
 use Rattle.bw_repair.specs.JoinSections.{AreSections, end_of, take_sections}
 use Rattle.bw_repair.specs.LeftOut.{chunk_whole, fits, is_left_out, left_chunks, whole_lens}
 use Rattle.bw_repair.specs.ReadReports.{HasReport}
-use Rattle.bw_repair.specs.SectionBytes.{assembled, range_of}
+use Rattle.bw_repair.specs.SectionBytes.{assembled, padded_range}
 use Rattle.bw_repair.specs.declared.left_out.section.Section.{Section}
 use Rattle.bw_repair.proofs.LeftFiles.{apart}
 use Rattle.bw_repair.proofs.LeftLaws.{Apart, chunks_are, earlier, filtered}
@@ -55,8 +55,8 @@ take_are id size end t = go (is_narrow id)
     go false =
         let head = id ++ le32 unsaid in
         let mid = slice_range (t ++ 0 ∷ []) 8 20 in
-        let last : range_of 8 (end - 28) (drop 20 t) ++ [] ≡ slice_range (t ++ 0 ∷ []) 28 end =
-        append-nil (range_of 8 (end - 28) (drop 20 t)) ∙ ap (take (end - 28)) (drop_pad 20 8 t (omega arith)) in
+        let last : padded_range 8 (end - 28) (drop 20 t) ++ [] ≡ slice_range (t ++ 0 ∷ []) 28 end =
+        append-nil (padded_range 8 (end - 28) (drop 20 t)) ∙ ap (take (end - 28)) (drop_pad 20 8 t (omega arith)) in
         ap (λ (z : List ℕ). head ++ (mid ++ (le64 size ++ z))) last
         ∙ sym (append_assoc head mid (le64 size ++ slice_range (t ++ 0 ∷ []) 28 end))
         ∙ sym (append_assoc (head ++ mid) (le64 size) (slice_range (t ++ 0 ∷ []) 28 end))

@@ -13,7 +13,7 @@ use Rattle.bw_inspect.specs.Readings.{HasReading}
 use Rattle.bw_repair.specs.ChunkSections.{AreLeft, chunk_sections, left_sections}
 use Rattle.bw_repair.specs.Forms.{unnamed}
 use Rattle.bw_repair.specs.LeftOut.{chunk_whole, fits_left, is_kept, is_too_large, left_file, left_size, whole_lens}
-use Rattle.bw_repair.specs.SectionBytes.{assembled, range_of}
+use Rattle.bw_repair.specs.SectionBytes.{assembled, padded_range}
 use Rattle.bw_repair.specs.declared.left_out.section.Section.{Section}
 use Rattle.bw_repair.proofs.LeftLaws.{Apart, apart_of, chunks_are, chunks_length, filtered}
 use Rattle.bw_repair.proofs.Leftovers.{long_enough, third_line}
@@ -23,7 +23,7 @@ pub apart : (b : List ℕ) (r : HasReading b) → form_end r.form ≤ 8 + 2 ^ 62
 apart b r near = apart_of b r.form 12 r.entries near ((readings b r.form r.entries).0 r.reads).0.chunks
 
 -- the type that follows the size
-wave : (b : List ℕ) (r : HasReading b) → range_of 8 4 b ≡ codes "WAVE"
+wave : (b : List ℕ) (r : HasReading b) → padded_range 8 4 b ≡ codes "WAVE"
 unfolding outer
 wave b r =
     let named : not (is_id (id_at b 8) (codes "WAVE")) ≡ false =

@@ -10,7 +10,7 @@ use Rattle.bw_model.specs.Prefix.{StandFrom}
 use Rattle.bw_model.specs.Reading.{Entry, Form, form_end}
 use Rattle.bw_repair.specs.ChunkSections.{capped, chunk_sections}
 use Rattle.bw_repair.specs.LeftOut.{chunk_whole, whole_len, whole_lens}
-use Rattle.bw_repair.specs.SectionBytes.{assembled, range_of}
+use Rattle.bw_repair.specs.SectionBytes.{assembled, padded_range}
 use Rattle.bw_repair.specs.declared.left_out.section.Section.{Section}
 
 -- chunks that are whole, each after the one before
@@ -55,7 +55,7 @@ filtered t b p (e ∷ es) a = go (t e) (filtered t b (e.place + 8 + even_up e.si
 
 -- a range of what is left after a place
 range_after : (b : List ℕ) (p q gap size : ℕ) → p ≤ length b → p + gap ≡ q →
-    range_of gap size (drop p b) ≡ take size (drop q (b ++ 0 ∷ []))
+    padded_range gap size (drop p b) ≡ take size (drop q (b ++ 0 ∷ []))
 range_after b p q gap size there is =
     ap (λ (z : List ℕ). take size (drop gap z)) (sym (drop-append-le p b (0 ∷ []) there))
     ∙ ap (take size) (drop-drop gap p (b ++ 0 ∷ [])) ∙ ap (λ (k : ℕ). take size (drop k (b ++ 0 ∷ []))) is

@@ -6,7 +6,7 @@ use Rattle.std.proofs.lemmas.List.{append_assoc, drop-append-le, drop-drop, leng
 use Rattle.std.proofs.Math.Seq.{take-add, take-append_seam, drop-append_seam}
 use Rattle.bw_stream.specs.Moves.{IsRead, Keeps, Reads, Skips}
 use Rattle.bw_model.proofs.Elements.{some_inj}
-use Rattle.bw_repair.specs.SectionBytes.{assembled, assembled_from, range_of}
+use Rattle.bw_repair.specs.SectionBytes.{assembled, assembled_from, padded_range}
 use Rattle.bw_repair.specs.declared.left_out.section.Section.{Section}
 
 -- what is still to come of a reader that has this left
@@ -47,13 +47,13 @@ passed_over : (front : List ℕ) (gap size n : ℕ) (rest : List Section) (b : L
 passed_over front gap size n rest b small there =
     let first : n + (gap - n) ≡ gap = omega (arith, small) in
     let last : n + (gap - n + size) ≡ gap + size = omega (arith, small) in
-    let range : range_of (gap - n) size (drop n b) ≡ range_of gap size b =
+    let range : padded_range (gap - n) size (drop n b) ≡ padded_range gap size b =
     ap (λ (z : List ℕ). take size (drop (gap - n) z)) (sym (drop-append-le n b (0 ∷ []) there))
     ∙ ap (take size) (drop-drop (gap - n) n (b ++ 0 ∷ [])) ∙ ap (λ (k : ℕ). take size (drop k (b ++ 0 ∷ []))) first in
     let tail : drop (gap - n + size) (drop n b) ≡ drop (gap + size) b =
     drop-drop (gap - n + size) n b ∙ ap (λ (k : ℕ). drop k b) last in
     ap (λ (z : List ℕ). front ++ (z ++ assembled rest (drop (gap - n + size) (drop n b)))) range
-    ∙ ap (λ (z : List ℕ). front ++ (range_of gap size b ++ assembled rest z)) tail
+    ∙ ap (λ (z : List ℕ). front ++ (padded_range gap size b ++ assembled rest z)) tail
 
 pub skipped : (front : List ℕ) (gap size n : ℕ) (rest : List Section) (left left' : Option (List ℕ)) → n ≤ gap →
     Skips left gap n left' → Keeps (coming front gap size rest left) (coming front (gap - n) size rest left')
@@ -83,8 +83,8 @@ pub at_end : (front : List ℕ) (gap size : ℕ) (rest : List Section) (left : O
 at_end front gap size (s ∷ rest) left f0 s0 r0 xs h = absurd (omega (arith, r0))
 at_end front gap size [] None f0 s0 r0 xs h = absurd (cc)
 at_end front gap size [] (Some b) f0 s0 r0 xs h =
-    let is : front ++ (range_of gap size b ++ []) ≡ [] =
-    ap (λ (z : List ℕ). z ++ (range_of gap size b ++ [])) f0 ∙ ap (λ (n : ℕ). range_of gap n b ++ []) s0 in
+    let is : front ++ (padded_range gap size b ++ []) ≡ [] =
+    ap (λ (z : List ℕ). z ++ (padded_range gap size b ++ [])) f0 ∙ ap (λ (n : ℕ). padded_range gap n b ++ []) s0 in
     sym (ap (λ (z : List ℕ). Some z) is) ∙ h
 
 pub read_none : (a b : Option (List ℕ)) (most : ℕ) (buf : List ℕ) → Keeps a b → Keeps b (Some []) →

@@ -24,8 +24,8 @@ abbrev pub joined_size : List Entry → List Entry → ℕ
 joined_size entries others = next_place entries - 8 + whole_lens (filter is_left_out others)
 
 -- the take in t up to the end of the last of its chunks, and the chunks of l that no take carries
-abbrev pub joined : (t l : List ℕ) → HasReading t → HasReading l → List ℕ
-joined t l take_reading left_reading =
+abbrev pub joined_take : (t l : List ℕ) → HasReading t → HasReading l → List ℕ
+joined_take t l take_reading left_reading =
     resized take_reading.form.id (joined_size take_reading.entries left_reading.entries)
     (next_place take_reading.entries) t
     ++ left_chunks l left_reading.entries

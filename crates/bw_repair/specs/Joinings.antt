@@ -9,7 +9,7 @@ use Rattle.bw_inspect.specs.Readings.{HasReading}
 use Rattle.bw_inspect.specs.declared.fault.InspectKind.TheVariants.{Read}
 use Rattle.bw_repair.specs.Conversions.{exit_on_conversion}
 use Rattle.bw_repair.specs.ConvertFaults.{IsFaultOfFile}
-use Rattle.bw_repair.specs.Joined.{fits_take, joined}
+use Rattle.bw_repair.specs.Joined.{fits_take, joined_take}
 use Rattle.bw_repair.specs.LeftTexts.{join_line}
 use Rattle.bw_repair.specs.declared.conversions.fault.ConvertKind.{ConvertKind}
 use Rattle.bw_repair.specs.declared.conversions.fault.ConvertKind.TheVariants.{Unread, Riff, SameForm, TooLong}
@@ -21,7 +21,7 @@ pub record Joins (t l text : List ℕ) : Type 0 where
   pub take_reading : HasReading t
   pub left_reading : HasReading l
   pub fits : fits_take take_reading.form.id take_reading.entries left_reading.entries ≡ true
-  pub is : text ≡ joined t l take_reading left_reading
+  pub is : text ≡ joined_take t l take_reading left_reading
 
 -- .. or a prefix of it
 pub record JoinsInPart (t l part : List ℕ) : Type 0 where

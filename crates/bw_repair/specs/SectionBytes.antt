@@ -5,17 +5,17 @@ use Rattle.bw_repair.specs.declared.left_out.sections.Sections.{Sections}
 use Rattle.bw_repair.specs.declared.left_out.section_reader.SectionReader.{SectionReader}
 
 -- so many of the bytes after these, of which one more is zero
-abbrev pub range_of : ℕ → ℕ → List ℕ → List ℕ
-range_of gap size b = take size (drop gap (b ++ 0 ∷ []))
+abbrev pub padded_range : ℕ → ℕ → List ℕ → List ℕ
+padded_range gap size b = take size (drop gap (b ++ 0 ∷ []))
 
 -- what these sections of b are one after the other, each with its front before it
 abbrev pub assembled : List Section → List ℕ → List ℕ
 assembled [] b = []
-assembled (s ∷ rest) b = s.front ++ (range_of s.gap s.size b ++ assembled rest (drop (s.gap + s.size) b))
+assembled (s ∷ rest) b = s.front ++ (padded_range s.gap s.size b ++ assembled rest (drop (s.gap + s.size) b))
 
 -- the same with these bytes as the first one's front
 abbrev pub assembled_from : List ℕ → ℕ → ℕ → List Section → List ℕ → List ℕ
-assembled_from front gap size rest b = front ++ (range_of gap size b ++ assembled rest (drop (gap + size) b))
+assembled_from front gap size rest b = front ++ (padded_range gap size b ++ assembled rest (drop (gap + size) b))
 
 -- what is still to come of sections, of which the file's reader has this left
 abbrev pub sections_left : {R : Type 0} → Sections R → Option (List ℕ) → Option (List ℕ)
