@@ -159,23 +159,23 @@ module _ {S T F H G M SB SL KP RC Ed LK DK DF N X Z P R W L K SP SK D A B U J Q 
       (sender_world x'.files x'.pause x'.out x'.faults)
 
   -- .. and nothing else is used
-  abbrev pub SendsFile : ℕ → FileSender → Exit → ProgramWorld S F DK N Q I O E →
+  abbrev pub SendsFileAlone : ℕ → FileSender → Exit → ProgramWorld S F DK N Q I O E →
       ProgramWorld S F DK N Q I O E → Type 0
-  SendsFile failed sender exit x x' =
+  SendsFileAlone failed sender exit x x' =
       SendsFileAsAsked sender exit x x'
       × IsHostWell failed x' × (x'.network ≡ x.network) × (x'.input ≡ x.input) × (x'.disk ≡ x.disk)
 
   -- the requests of a recording were printed, and nothing else is used
-  abbrev pub PacksFile : ℕ → SourceFile → Exit → ProgramWorld S F DK N Q I O E →
+  abbrev pub PacksSource : ℕ → SourceFile → Exit → ProgramWorld S F DK N Q I O E →
       ProgramWorld S F DK N Q I O E → Type 0
-  PacksFile failed source exit x x' =
+  PacksSource failed source exit x x' =
       Packs host.out host.reported (host.files.file_at x.files) source exit
       (host.files.failures x.files) (host.files.failures x'.files) x.out x'.out x.faults x'.faults
       × IsHostWell failed x' × (x'.network ≡ x.network) × (x'.input ≡ x.input)
       × (x'.pause ≡ x.pause) × (x'.disk ≡ x.disk)
 
   -- nothing is done
-  pub record DoesNothing (failed : ℕ) (x x' : ProgramWorld S F DK N Q I O E) : Type 0 where
+  pub record LeavesAll (failed : ℕ) (x x' : ProgramWorld S F DK N Q I O E) : Type 0 where
     pub well : IsHostWell failed x'
     pub unread : x'.files ≡ x.files
     pub kept : x'.disk ≡ x.disk
@@ -190,7 +190,7 @@ module _ {S T F H G M SB SL KP RC Ed LK DK DF N X Z P R W L K SP SK D A B U J Q 
       (Exit → ProgramWorld S F DK N Q I O E → ProgramWorld S F DK N Q I O E → Type 0) → Exit →
       ProgramWorld S F DK N Q I O E → ProgramWorld S F DK N Q I O E → Type 0
   DoneIfKept failed (Ok x) done exit y x' = done exit y x'
-  DoneIfKept failed (Err ended) done exit y x' = (exit ≡ ended) × DoesNothing failed y x'
+  DoneIfKept failed (Err ended) done exit y x' = (exit ≡ ended) × LeavesAll failed y x'
 
   -- first the chunks of a recording that a take doesn't carry were kept, if that is asked for
   pub record KeepsFirst (failed : ℕ) (source : SourceFile)
@@ -218,7 +218,7 @@ module _ {S T F H G M SB SL KP RC Ed LK DK DF N X Z P R W L K SP SK D A B U J Q 
       × IsHostWell failed x' × (x'.files ≡ x.files) × (x'.network ≡ x.network)
       × (x'.pause ≡ x.pause) × (x'.disk ≡ x.disk)
   IsTaskFor file_at failed (SendFile sender) exit x x' =
-      KeepsFirst failed sender.source (SendsFile failed sender) exit x x'
+      KeepsFirst failed sender.source (SendsFileAlone failed sender) exit x x'
   IsTaskFor file_at failed (SendPcm sender) exit x x' =
       IfFile host.kinds host.reported (string_bytes sender.source.path) sender.pcm.is_spooled exit
       x.files x'.files x.pause x'.pause x.out x'.out x.faults x'.faults
@@ -226,7 +226,7 @@ module _ {S T F H G M SB SL KP RC Ed LK DK DF N X Z P R W L K SP SK D A B U J Q 
       sender exit x.files x'.files x.network x.pause x'.pause x.out x'.out x.faults x'.faults)
       × IsHostWell failed x' × (x'.network ≡ x.network) × (x'.input ≡ x.input) × (x'.disk ≡ x.disk)
   IsTaskFor file_at failed (Pack source) exit x x' =
-      KeepsFirst failed source (PacksFile failed source) exit x x'
+      KeepsFirst failed source (PacksSource failed source) exit x x'
   IsTaskFor file_at failed (InspectFiles inspection) exit x x' =
       InspectsFiles host.files host.input host.out host.reported inspection exit
       x.files x'.files x.input x'.input x.out x'.out x.faults x'.faults

@@ -9,11 +9,11 @@ use Rattle.bw_model.specs.Bytes.{even_up, le32, le64, unsaid}
 use Rattle.bw_model.specs.Reading.{Entry, form_end, next_place}
 use Rattle.bw_inspect.specs.declared.report.Report.{Report}
 use Rattle.bw_repair.specs.ChunkSections.{capped, chunk_sections, total_of}
-use Rattle.bw_repair.specs.Joined.{fits_take, is_narrow, joined_size, largest_of, resized}
+use Rattle.bw_repair.specs.Joined.{fits_take, is_riff_id, joined_size, largest_of, resized}
 use Rattle.bw_repair.specs.Joinings.{Joins}
-use Rattle.bw_repair.specs.JoinSections.{AreSections, end_of, take_sections}
-use Rattle.bw_repair.specs.LeftOut.{chunk_whole, fits, is_left_out, left_chunks, whole_lens}
-use Rattle.bw_repair.specs.ReadReports.{HasReport}
+use Rattle.bw_repair.specs.JoinSections.{AreSections, take_end, take_sections}
+use Rattle.bw_repair.specs.LeftOut.{chunk_whole, chunks_fit, is_left_chunk, left_chunks, whole_lens}
+use Rattle.bw_repair.specs.ReadReports.{HasChunkReport}
 use Rattle.bw_repair.specs.SectionBytes.{assembled, padded_range}
 use Rattle.bw_repair.specs.declared.left_out.section.Section.{Section}
 use Rattle.bw_repair.proofs.LeftFiles.{apart}
@@ -21,10 +21,10 @@ use Rattle.bw_repair.proofs.LeftLaws.{Apart, chunks_are, earlier, filtered}
 
 -- no total: they don't fit
 pub unfit_by : (most most' others others' : ℕ) (es es' : List Entry) → most ≡ most' → others ≡ others' → es ≡ es' →
-    None ≡ total_of most others es → fits most' others' es' ≡ false
+    None ≡ total_of most others es → chunks_fit most' others' es' ≡ false
 unfit_by most most' others others' es es' m o e none =
-    sym (ap (λ (x : ℕ). fits x others es) m ∙ ap (λ (x : ℕ). fits most' x es) o ∙ ap (fits most' others') e)
-    ∙ go (fits most others es) none
+    sym (ap (λ (x : ℕ). chunks_fit x others es) m ∙ ap (λ (x : ℕ). chunks_fit most' x es) o ∙ ap (chunks_fit most' others') e)
+    ∙ go (chunks_fit most others es) none
   where
     go : (v : Bool) → None ≡ (if v then Some (others + whole_lens es) else None) → v ≡ false
     go true h = absurd (cc)
@@ -43,7 +43,7 @@ drop_pad (suc k) (suc m) (x ∷ t) h =
 
 -- the take's sections are the take with this size
 take_are : (id : List ℕ) (size end : ℕ) (t : List ℕ) → assembled (take_sections id size end) t ≡ resized id size end t
-take_are id size end t = go (is_narrow id)
+take_are id size end t = go (is_riff_id id)
   where
     go : (v : Bool) →
         assembled (if v then record { front = id ++ le32 size; gap = 8; size = end - 8 } ∷ []
@@ -69,7 +69,7 @@ ends_near b p (e ∷ es) h a =
     let near : e.place + 8 + e.size ≤ 8 + 2 ^ 62 = a.2 in
     ends_near b (e.place + 8 + even_up e.size) es (omega (arith, near)) a.4
 
-end_is : (b : List ℕ) (r : Report) (has : HasReport b r) → end_of r ≡ next_place has.reading_is.entries
+end_is : (b : List ℕ) (r : Report) (has : HasChunkReport b r) → take_end r ≡ next_place has.reading_is.entries
 end_is b r has =
     let x = has.reading_is in
     let small : x.form.size ≤ 2 ^ 62 = has.small in
@@ -79,27 +79,27 @@ end_is b r has =
     ap (λ (es : List Entry). capped (next_place es)) has.chunks_are ∙ omega (arith, within)
 
 -- the sections of both files are the take with the chunks
-pub joins : (t l : List ℕ) (first second : Report) (ss ts : List Section) → HasReport t first → HasReport l second →
+pub joins : (t l : List ℕ) (first second : Report) (ss ts : List Section) → HasChunkReport t first → HasChunkReport l second →
     AreSections first second ss ts → Joins t l (assembled ss t ++ assembled ts l)
 joins t l first second ss ts a b are =
     let x = a.reading_is in
     let y = b.reading_is in
     let small : y.form.size ≤ 2 ^ 62 = b.small in
     let near : form_end y.form ≤ 8 + 2 ^ 62 = omega (arith, small) in
-    let es = filter is_left_out y.entries in
-    let left : filter is_left_out second.chunks ≡ es = ap (filter is_left_out) b.chunks_are in
+    let es = filter is_left_chunk y.entries in
+    let left : filter is_left_chunk second.chunks ≡ es = ap (filter is_left_chunk) b.chunks_are in
     let end = end_is t first a in
-    let sized : end_of first - 8 + whole_lens (filter is_left_out second.chunks) ≡ joined_size x.entries y.entries =
-    ap (λ (n : ℕ). n - 8 + whole_lens (filter is_left_out second.chunks)) end
+    let sized : take_end first - 8 + whole_lens (filter is_left_chunk second.chunks) ≡ joined_size x.entries y.entries =
+    ap (λ (n : ℕ). n - 8 + whole_lens (filter is_left_chunk second.chunks)) end
     ∙ ap (λ (ds : List Entry). next_place x.entries - 8 + whole_lens ds) left in
     let head : assembled ss t ≡ resized x.form.id (joined_size x.entries y.entries) (next_place x.entries) t =
     ap (λ (z : List Section). assembled z t) are.first_is
-    ∙ take_are first.form _ (end_of first) t
-    ∙ ap (λ (n : ℕ). resized first.form n (end_of first) t) sized
+    ∙ take_are first.form _ (take_end first) t
+    ∙ ap (λ (n : ℕ). resized first.form n (take_end first) t) sized
     ∙ ap (λ (n : ℕ). resized first.form (joined_size x.entries y.entries) n t) end
     ∙ ap (λ (i : List ℕ). resized i (joined_size x.entries y.entries) (next_place x.entries) t) a.form_is in
     let whole : assembled (chunk_sections 0 es ++ []) l ≡ flat_map (chunk_whole l) es ++ [] =
-    chunks_are l 0 es [] [] (earlier l 0 12 es (omega arith) (filtered is_left_out l 12 y.entries (apart l y near)))
+    chunks_are l 0 es [] [] (earlier l 0 12 es (omega arith) (filtered is_left_chunk l 12 y.entries (apart l y near)))
     (λ z. refl) in
     let tail : assembled ts l ≡ left_chunks l y.entries =
     ap (λ (z : List Section). assembled z l) (are.second_is ∙ ap (chunk_sections 0) left)
@@ -108,21 +108,21 @@ joins t l first second ss ts a b are =
     record {
       take_reading = x;
       left_reading = y;
-      fits = sym (ap (λ (i : List ℕ). fits (largest_of i) (end_of first - 8) (filter is_left_out second.chunks)) a.form_is
-          ∙ ap (λ (n : ℕ). fits (largest_of x.form.id) (n - 8) (filter is_left_out second.chunks)) end
-          ∙ ap (fits (largest_of x.form.id) (next_place x.entries - 8)) left) ∙ are.fit;
+      fits = sym (ap (λ (i : List ℕ). chunks_fit (largest_of i) (take_end first - 8) (filter is_left_chunk second.chunks)) a.form_is
+          ∙ ap (λ (n : ℕ). chunks_fit (largest_of x.form.id) (n - 8) (filter is_left_chunk second.chunks)) end
+          ∙ ap (chunks_fit (largest_of x.form.id) (next_place x.entries - 8)) left) ∙ are.fit;
       is = ap (λ (z : List ℕ). z ++ assembled ts l) head
           ∙ ap (λ (z : List ℕ). resized x.form.id (joined_size x.entries y.entries) (next_place x.entries) t ++ z) tail;
     }
 
 -- .. or don't fit
-pub unfit_to_join : (t l : List ℕ) (first second : Report) (a : HasReport t first) (b : HasReport l second) →
-    fits (largest_of first.form) (end_of first - 8) (filter is_left_out second.chunks) ≡ false →
+pub unfit_to_join : (t l : List ℕ) (first second : Report) (a : HasChunkReport t first) (b : HasChunkReport l second) →
+    chunks_fit (largest_of first.form) (take_end first - 8) (filter is_left_chunk second.chunks) ≡ false →
     fits_take a.reading_is.form.id a.reading_is.entries b.reading_is.entries ≡ false
 unfit_to_join t l first second a b h =
     let x = a.reading_is in
     let end = end_is t first a in
-    sym (ap (λ (i : List ℕ). fits (largest_of i) (end_of first - 8) (filter is_left_out second.chunks)) a.form_is
-    ∙ ap (λ (n : ℕ). fits (largest_of x.form.id) (n - 8) (filter is_left_out second.chunks)) end
-    ∙ ap (λ (ds : List Entry). fits (largest_of x.form.id) (next_place x.entries - 8) (filter is_left_out ds)) b.chunks_are)
+    sym (ap (λ (i : List ℕ). chunks_fit (largest_of i) (take_end first - 8) (filter is_left_chunk second.chunks)) a.form_is
+    ∙ ap (λ (n : ℕ). chunks_fit (largest_of x.form.id) (n - 8) (filter is_left_chunk second.chunks)) end
+    ∙ ap (λ (ds : List Entry). chunks_fit (largest_of x.form.id) (next_place x.entries - 8) (filter is_left_chunk ds)) b.chunks_are)
     ∙ h

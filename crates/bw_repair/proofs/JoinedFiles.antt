@@ -9,10 +9,10 @@ use Rattle.bw_console.specs.Prints.{HasPrinted, HasStopped, IsOf, IsPrint, Print
 use Rattle.bw_inspect.specs.Readings.{HasReading}
 use Rattle.bw_inspect.specs.declared.report.Report.{Report}
 use Rattle.bw_repair.specs.JoinedPrints.{PrintsAPart, PrintsIt, StopsIt, both_left}
-use Rattle.bw_repair.specs.JoinFaults.{AreJoined, JoinsAll, JoinsAPart, RefusesFiles, StopsJoining}
+use Rattle.bw_repair.specs.JoinFaults.{AreJoined, JoinsAll, JoinsAPart, RefusesToJoin, StopsJoining}
 use Rattle.bw_repair.specs.Joinings.{IsJoinRefusal, Joins}
 use Rattle.bw_repair.specs.JoinSections.{AreSections, IsUnfitToJoin}
-use Rattle.bw_repair.specs.ReadReports.{HasReport, IsUnfit, IsUnread, IsUnreadAt}
+use Rattle.bw_repair.specs.ReadReports.{HasChunkReport, IsUnfit, IsNotRead, IsUnreadAt}
 use Rattle.bw_repair.specs.SectionBytes.{assembled}
 use Rattle.bw_repair.specs.declared.left_out.section.Section.{Section}
 use Rattle.bw_repair.specs.declared.conversions.fault.ConvertError.TheVariants.{Refused}
@@ -69,8 +69,8 @@ joining_stopped w take left x y first second old new f s are p = record {
 }
 
 -- the sections are those of both reports
-pub are_joined : (t l : List ℕ) (first second : Report) (ss ts ss' ts' : List Section) → HasReport t first →
-    HasReport l second → ss' ≡ ss → ts' ≡ ts → AreSections first second ss ts → AreJoined ss' ts' t l
+pub are_joined : (t l : List ℕ) (first second : Report) (ss ts ss' ts' : List Section) → HasChunkReport t first →
+    HasChunkReport l second → ss' ≡ ss → ts' ≡ ts → AreSections first second ss ts → AreJoined ss' ts' t l
 are_joined t l first second ss ts ss' ts' a b e f are =
     joins t l first second ss' ts' a b
     (record { fit = are.fit; first_is = e ∙ are.first_is; second_is = f ∙ are.second_is })
@@ -86,13 +86,13 @@ left_at t l Exists offset has is = absurd is
 left_at t l Unwritten offset has is = absurd is
 
 pub left_refused : {W : Type 0} (w : Writer W) (take left : Option (List ℕ)) (f : ConvertFault) (old : W) →
-    Of take (λ t. HasReading t) → Of left (λ l. IsUnread l (Refused f)) → RefusesFiles w take left f old old
+    Of take (λ t. HasReading t) → Of left (λ l. IsNotRead l (Refused f)) → RefusesToJoin w take left f old old
 left_refused w take left f old has is =
     record { right = λ t e l e'. left_at t l f.kind f.offset (has t e) (is l e'); kept = refl }
 
 -- the chunks don't fit, or there is no memory
-pub unfit_refused : (t l : List ℕ) (first second : Report) (f : ConvertFault) → HasReport t first →
-    HasReport l second → IsUnfit (IsUnfitToJoin first second) f → IsJoinRefusal t l f.kind f.offset
+pub unfit_refused : (t l : List ℕ) (first second : Report) (f : ConvertFault) → HasChunkReport t first →
+    HasChunkReport l second → IsUnfit (IsUnfitToJoin first second) f → IsJoinRefusal t l f.kind f.offset
 unfit_refused t l first second f a b (inl e) =
     subst (λ (x : ConvertFault). IsJoinRefusal t l x.kind x.offset) (sym e) (inl (λ g none. absurd (cc)))
 unfit_refused t l first second f a b (inr e) =

@@ -18,11 +18,11 @@ use Rattle.bw_repair.specs.ChunkSections.{AreLeft, left_sections}
 use Rattle.bw_repair.specs.ConvertFaults.{IsFaultOfFile, is_write_fault}
 use Rattle.bw_repair.specs.Copies.{IsCopyFault}
 use Rattle.bw_repair.specs.Forms.{unnamed}
-use Rattle.bw_repair.specs.Keepings.{IsKeepRefusal, Keeps, LeavesKeep, LeavesOfLeft, RefusesKeep}
-use Rattle.bw_repair.specs.LeftOut.{fits_left, is_kept, left_file, left_size}
+use Rattle.bw_repair.specs.Keepings.{IsKeepRefusal, HasLeftFile, LeavesKeep, LeavesOfLeft, RefusesKeep}
+use Rattle.bw_repair.specs.LeftOut.{fits_left, is_kept_chunk, left_file, left_size}
 use Rattle.bw_repair.specs.Makings.{IsMakeFault, LeavesOut}
 use Rattle.bw_repair.specs.Puttings.{IsPut, IsThere}
-use Rattle.bw_repair.specs.ReadReports.{HasReport, IsUnfit, IsUnread, IsUnreadAt}
+use Rattle.bw_repair.specs.ReadReports.{HasChunkReport, IsUnfit, IsNotRead, IsUnreadAt}
 use Rattle.bw_repair.specs.SectionBytes.{assembled}
 use Rattle.bw_repair.specs.declared.left_out.section.Section.{Section}
 use Rattle.bw_repair.specs.declared.conversions.fault.ConvertError.{ConvertError}
@@ -36,7 +36,7 @@ use Rattle.bw_repair.proofs.LeftFiles.{left_are, left_length}
 use Rattle.bw_repair.proofs.OutWrites.{written_first}
 
 -- a report is that of a reading
-pub has_report : (b : List ℕ) (r : Report) (left : Option (List ℕ)) → GivesReport b r left → HasReport b r
+pub has_report : (b : List ℕ) (r : Report) (left : Option (List ℕ)) → GivesReport b r left → HasChunkReport b r
 unfolding report_of
 has_report b r left gives = record {
   reading_is = gives.reading_is;
@@ -46,12 +46,12 @@ has_report b r left gives = record {
 }
 
 -- its chunks are LEFT
-pub report_left : (b : List ℕ) (r : Report) (sections : List Section) → HasReport b r → fits_left r.chunks ≡ true →
-    sections ≡ left_sections (filter is_kept r.chunks) (left_size r.chunks) → AreLeft b sections
+pub report_left : (b : List ℕ) (r : Report) (sections : List Section) → HasChunkReport b r → fits_left r.chunks ≡ true →
+    sections ≡ left_sections (filter is_kept_chunk r.chunks) (left_size r.chunks) → AreLeft b sections
 report_left b r sections has fit is =
     subst (AreLeft b) (sym is)
-    (left_are b has.reading_is (filter is_kept r.chunks) (left_size r.chunks) has.small
-    (ap (filter is_kept) has.chunks_are) (ap left_size has.chunks_are) (ap fits_left (sym has.chunks_are) ∙ fit))
+    (left_are b has.reading_is (filter is_kept_chunk r.chunks) (left_size r.chunks) has.small
+    (ap (filter is_kept_chunk) has.chunks_are) (ap left_size has.chunks_are) (ap fits_left (sym has.chunks_are) ∙ fit))
 
 -- the id over LEFT without one
 named_left : (b : List ℕ) (es : List Entry) → overwritten (unnamed (left_file b es)) 0 (codes "RIFF") ≡ left_file b es
@@ -73,7 +73,7 @@ has_room b sections is =
 -- LEFT is made, or was there
 pub kept_whole : {D F : Type 0} (G : Ghosts D F) (b to : List ℕ) (sections : List Section) (old new : D)
     (left : Option (List ℕ)) → AreLeft b sections → left ≡ Some (assembled sections b) →
-    Of left (λ w. 4 ≤ length w → IsPut G to w (codes "RIFF") old new) → Keeps G b to old new
+    Of left (λ w. 4 ≤ length w → IsPut G to w (codes "RIFF") old new) → HasLeftFile G b to old new
 kept_whole G b to sections old new left is e put = record {
   reading_is = is.reading_is;
   fits = is.fits;
@@ -132,7 +132,7 @@ unread_at b TooLong offset is = absurd is
 unread_at b Exists offset is = absurd is
 unread_at b Unwritten offset is = absurd is
 
-pub unread_refuses : (b : List ℕ) (e : ConvertError) → IsUnread b e → RefusesKeep b e
+pub unread_refuses : (b : List ℕ) (e : ConvertError) → IsNotRead b e → RefusesKeep b e
 unread_refuses b (Unopened error) is = tt
 unread_refuses b (Refused f) is = unread_at b f.kind f.offset is
 
@@ -146,7 +146,7 @@ unread_keeps w b Exists offset x is = absurd is
 unread_keeps w b Unwritten offset x is = absurd is
 
 pub unread_leaves_it : {D F : Type 0} (G : Ghosts D F) (file : Option (List ℕ)) (to : List ℕ) (e : ConvertError)
-    (d : D) → Of file (λ b. IsUnread b e) → LeavesKeep G file to e d d
+    (d : D) → Of file (λ b. IsNotRead b e) → LeavesKeep G file to e d d
 unread_leaves_it G file to (Unopened error) d is = refl
 unread_leaves_it G file to (Refused f) d is = λ b e r h. (
   unread_keeps (unnamed (left_file b r.entries)) b f.kind f.offset (G.contents d to) (is b e),
@@ -154,7 +154,7 @@ unread_leaves_it G file to (Refused f) d is = λ b e r h. (
 )
 
 -- its chunks don't fit, or there is no memory for them
-pub unfit_refuses : (b : List ℕ) (r : Report) (f : ConvertFault) → HasReport b r →
+pub unfit_refuses : (b : List ℕ) (r : Report) (f : ConvertFault) → HasChunkReport b r →
     IsUnfit (fits_left r.chunks ≡ false) f → RefusesKeep b (Refused f)
 unfit_refuses b r f has (inl e) =
     subst (λ (x : ConvertFault). IsKeepRefusal b x.kind x.offset) (sym e) (λ g none. absurd (cc))

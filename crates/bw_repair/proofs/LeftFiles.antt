@@ -12,7 +12,7 @@ use Rattle.bw_model.proofs.EndLaws.{readings}
 use Rattle.bw_inspect.specs.Readings.{HasReading}
 use Rattle.bw_repair.specs.ChunkSections.{AreLeft, chunk_sections, left_sections}
 use Rattle.bw_repair.specs.Forms.{unnamed}
-use Rattle.bw_repair.specs.LeftOut.{chunk_whole, fits_left, is_kept, is_too_large, left_file, left_size, whole_lens}
+use Rattle.bw_repair.specs.LeftOut.{chunk_whole, fits_left, is_kept_chunk, is_too_large, left_file, left_size, whole_lens}
 use Rattle.bw_repair.specs.SectionBytes.{assembled, padded_range}
 use Rattle.bw_repair.specs.declared.left_out.section.Section.{Section}
 use Rattle.bw_repair.proofs.LeftLaws.{Apart, apart_of, chunks_are, chunks_length, filtered}
@@ -47,17 +47,17 @@ last_chunk x = refl
 
 -- LEFT's sections are LEFT but for its id
 pub left_are : (b : List ℕ) (r : HasReading b) (es : List Entry) (size : ℕ) → r.form.size ≤ 2 ^ 62 →
-    es ≡ filter is_kept r.entries → size ≡ left_size r.entries → fits_left r.entries ≡ true →
+    es ≡ filter is_kept_chunk r.entries → size ≡ left_size r.entries → fits_left r.entries ≡ true →
     AreLeft b (left_sections es size)
 left_are b r es size small same sized fit =
     let near : form_end r.form ≤ 8 + 2 ^ 62 = omega (arith, small) in
-    let kept = filter is_kept r.entries in
+    let kept = filter is_kept_chunk r.entries in
     let s = left_size r.entries in
     let chunks = flat_map (chunk_whole b) kept in
     let tail = codes "data" ++ le32 0 in
     let ts : List Section = record { front = tail; gap = 0; size = 0 } ∷ [] in
     let body : assembled (chunk_sections 12 kept ++ ts) (drop 12 b) ≡ chunks ++ tail =
-    chunks_are b 12 kept ts tail (filtered is_kept b 12 r.entries (apart b r near)) last_chunk in
+    chunks_are b 12 kept ts tail (filtered is_kept_chunk b 12 r.entries (apart b r near)) last_chunk in
     let built : assembled (left_sections kept s) b ≡
     (zeros 4 ++ le32 s) ++ (codes "WAVE" ++ (chunks ++ tail)) =
     ap (λ (z : List ℕ). (zeros 4 ++ le32 s) ++ (z ++ assembled (chunk_sections 12 kept ++ ts) (drop 12 b))) (wave b r)
@@ -84,7 +84,7 @@ both false w e = e
 pub left_length : (b : List ℕ) (r : HasReading b) → r.form.size ≤ 2 ^ 62 → fits_left r.entries ≡ true →
     length (unnamed (left_file b r.entries)) ≤ 2 ^ 62
 left_length b r small fit =
-    let kept = filter is_kept r.entries in
+    let kept = filter is_kept_chunk r.entries in
     let near : form_end r.form ≤ 8 + 2 ^ 62 = omega (arith, small) in
     let short : 12 + whole_lens kept ≤ 4294967294 =
     leb-true (12 + whole_lens kept) 4294967294
@@ -92,7 +92,7 @@ left_length b r small fit =
     let chunks = flat_map (chunk_whole b) kept in
     let head = (codes "RIFF" ++ le32 (left_size r.entries)) ++ codes "WAVE" in
     let bytes : length chunks ≤ whole_lens kept =
-    chunks_length b 12 kept (filtered is_kept b 12 r.entries (apart b r near)) in
+    chunks_length b 12 kept (filtered is_kept_chunk b 12 r.entries (apart b r near)) in
     let first : length head ≡ 12 = refl in
     let second : length (head ++ chunks) ≡ length head + length chunks = length-append head chunks in
     let third : length ((head ++ chunks) ++ codes "data") ≡ length (head ++ chunks) + 4 =

@@ -7,7 +7,7 @@ use Rattle.std.proofs.Math.Seq.{take-add}
 use Rattle.bw_stream.specs.Moves.{Begins, Reads, Writes, one_more}
 use Rattle.bw_stream.specs.Readers.{Of}
 use Rattle.bw_stream.specs.declared.sink.Sink.{Ghosts as Writer}
-use Rattle.bw_repair.specs.JoinedPrints.{FailsToPrint, PrintsPart, PrintsPiece, PrintsWhole, StopsPrint}
+use Rattle.bw_repair.specs.JoinedPrints.{FailsToPrint, PrintsPrefix, PrintsPiece, PrintsWhole, StopsPrint}
 use Rattle.bw_repair.specs.declared.left_out.printing.PrintFault.{PrintFault}
 use Rattle.bw_repair.specs.declared.left_out.printing.PrintFault.TheVariants.{Unread, Unwritable}
 
@@ -63,7 +63,7 @@ piece_failed w left most n buf left' old new r begun counted = record {
   counted = counted;
 }
 
-pub nothing_read : {W : Type 0} (w : Writer W) (left : Option (List ℕ)) (old : W) → PrintsPart w left old old
+pub nothing_read : {W : Type 0} (w : Writer W) (left : Option (List ℕ)) (old : W) → PrintsPrefix w left old old
 nothing_read w left old = record {
   text = [];
   rest = unwrap_or left [];
@@ -121,7 +121,7 @@ all_printed w left place n now later old mid new none far piece = record {
 }
 
 part_on : {W : Type 0} (w : Writer W) (left : Option (List ℕ)) (place : ℕ) (now : Option (List ℕ))
-    (old mid new : W) → SoFar w left place now old mid → PrintsPart w now mid new → PrintsPart w left old new
+    (old mid new : W) → SoFar w left place now old mid → PrintsPrefix w now mid new → PrintsPrefix w left old new
 part_on w left place now old mid new far stops = record {
   text = far.text ++ stops.text;
   rest = stops.rest;
@@ -151,7 +151,7 @@ stopped_on w left place now (Unread at) old mid new far stops = part_on w left p
 stopped_on w left place now Unwritable old mid new far stops = fails_on w left place now old mid new far stops
 
 pub too_many : {W : Type 0} (w : Writer W) (left : Option (List ℕ)) (place : ℕ) (now : Option (List ℕ)) (old new : W) →
-    SoFar w left place now old new → PrintsPart w left old new
+    SoFar w left place now old new → PrintsPrefix w left old new
 too_many w left place now old new far = record {
   text = far.text;
   rest = unwrap_or now [];

@@ -5,7 +5,7 @@ use Rattle.std.proofs.lemmas.List.{append_assoc}
 use Rattle.bw_stream.specs.Moves.{one_more}
 use Rattle.bw_stream.specs.declared.sink.Sink.{Ghosts as Writer}
 use Rattle.bw_model.proofs.Elements.{some_inj}
-use Rattle.bw_repair.specs.JoinedPrints.{FailsToPrint, PrintsAll, PrintsPart, PrintsWhole}
+use Rattle.bw_repair.specs.JoinedPrints.{FailsToPrint, PrintsBytes, PrintsPrefix, PrintsWhole}
 use Rattle.bw_repair.specs.JoinedPrints.{StopsPrint, both_left}
 use Rattle.bw_repair.specs.declared.left_out.printing.PrintFault.{PrintFault}
 use Rattle.bw_repair.specs.declared.left_out.printing.PrintFault.TheVariants.{Unread, Unwritable}
@@ -32,7 +32,7 @@ whole_whole w x y old mid new f s = record {
 }
 
 whole_part : {W : Type 0} (w : Writer W) (x y : Option (List ℕ)) (old mid new : W) → PrintsWhole w x old mid →
-    PrintsPart w y mid new → PrintsPart w (both_left x y) old new
+    PrintsPrefix w y mid new → PrintsPrefix w (both_left x y) old new
 whole_part w x y old mid new f s = record {
   text = f.text ++ s.text;
   rest = s.rest;
@@ -57,14 +57,14 @@ whole_fails w x y old mid new f s = record {
 }
 
 pub second_printed : {W : Type 0} (w : Writer W) (x y : Option (List ℕ)) (r : Result (Unit {0}) PrintFault)
-    (old mid new : W) → PrintsWhole w x old mid → PrintsAll w y r mid new → PrintsAll w (both_left x y) r old new
+    (old mid new : W) → PrintsWhole w x old mid → PrintsBytes w y r mid new → PrintsBytes w (both_left x y) r old new
 second_printed w x y (Ok z) old mid new f s = whole_whole w x y old mid new f s
 second_printed w x y (Err (Unread at)) old mid new f s = whole_part w x y old mid new f s
 second_printed w x y (Err Unwritable) old mid new f s = whole_fails w x y old mid new f s
 
 -- the first stops
-first_part : {W : Type 0} (w : Writer W) (x y : Option (List ℕ)) (old new : W) → PrintsPart w x old new →
-    PrintsPart w (both_left x y) old new
+first_part : {W : Type 0} (w : Writer W) (x y : Option (List ℕ)) (old new : W) → PrintsPrefix w x old new →
+    PrintsPrefix w (both_left x y) old new
 first_part w x y old new f = record {
   text = f.text;
   rest = f.rest ++ unwrap_or y [];

@@ -7,17 +7,17 @@ use Rattle.bw_model.specs.Bytes.{even_up, le32, zeros}
 use Rattle.bw_model.specs.Reading.{Entry, is_id}
 use Rattle.bw_inspect.specs.Readings.{HasReading}
 use Rattle.bw_repair.specs.Forms.{unnamed}
-use Rattle.bw_repair.specs.LeftOut.{fits, fits_left, is_left_out, left_file, whole_lens}
+use Rattle.bw_repair.specs.LeftOut.{chunks_fit, fits_left, is_left_chunk, left_file, whole_lens}
 use Rattle.bw_repair.specs.SectionBytes.{assembled}
 use Rattle.bw_repair.specs.declared.left_out.section.Section.{Section}
 
 -- a chunk that a take doesn't carry, or the format where that is wanted
 abbrev pub is_chosen : Bool → Entry → Bool
-is_chosen with_format e = (with_format && is_id e.id (codes "fmt ")) || is_left_out e
+is_chosen with_format e = (with_format && is_id e.id (codes "fmt ")) || is_left_chunk e
 
 -- how long these chunks are together with others, if they fit
 abbrev pub total_of : ℕ → ℕ → List Entry → Option ℕ
-total_of most others es = if fits most others es then Some (others + whole_lens es) else None
+total_of most others es = if chunks_fit most others es then Some (others + whole_lens es) else None
 
 -- a place, as far as 64 bits give it
 abbrev pub capped : ℕ → ℕ

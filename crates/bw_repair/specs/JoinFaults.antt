@@ -47,7 +47,7 @@ module _ {W : Type 0} (w : Writer W) (take left : Option (List ℕ)) where
     pub stops : HasStopped w text old new
 
   -- nothing is printed, for this fault
-  pub record RefusesFiles (f : ConvertFault) (old new : W) : Type 0 where
+  pub record RefusesToJoin (f : ConvertFault) (old new : W) : Type 0 where
     pub right : Of take (λ t. Of left (λ l. IsJoinRefusal t l f.kind f.offset))
     pub kept : new ≡ old
 
@@ -55,7 +55,7 @@ module _ {W : Type 0} (w : Writer W) (take left : Option (List ℕ)) where
   abbrev pub FailsJoin : JoinError → W → W → Type 0
   FailsJoin (TakeUnopened error) old new = new ≡ old
   FailsJoin (LeftUnopened error) old new = new ≡ old
-  FailsJoin (Refused f) old new = RefusesFiles f old new
+  FailsJoin (Refused f) old new = RefusesToJoin f old new
   FailsJoin (Stopped at) old new = JoinsAPart old new
   FailsJoin Unwritable old new = StopsJoining old new
 

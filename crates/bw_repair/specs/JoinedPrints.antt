@@ -25,7 +25,7 @@ module _ {W : Type 0} (w : Writer W) (left : Option (List ℕ)) where
     pub counted : w.failures new ≡ w.failures old
 
   -- a read failed, and these are written of them
-  pub record PrintsPart (old new : W) : Type 0 where
+  pub record PrintsPrefix (old new : W) : Type 0 where
     pub text : List ℕ
     pub rest : List ℕ
     pub is : Of left (λ b. text ++ rest ≡ b)
@@ -41,12 +41,12 @@ module _ {W : Type 0} (w : Writer W) (left : Option (List ℕ)) where
 
   -- which of these a fault is
   abbrev pub StopsPrint : PrintFault → W → W → Type 0
-  StopsPrint (Unread at) old new = PrintsPart old new
+  StopsPrint (Unread at) old new = PrintsPrefix old new
   StopsPrint Unwritable old new = FailsToPrint old new
 
-  abbrev pub PrintsAll : Result (Unit {0}) PrintFault → W → W → Type 0
-  PrintsAll (Ok x) old new = PrintsWhole old new
-  PrintsAll (Err fault) old new = StopsPrint fault old new
+  abbrev pub PrintsBytes : Result (Unit {0}) PrintFault → W → W → Type 0
+  PrintsBytes (Ok x) old new = PrintsWhole old new
+  PrintsBytes (Err fault) old new = StopsPrint fault old new
 
 -- what two readers have left, one after the other
 abbrev pub both_left : Option (List ℕ) → Option (List ℕ) → Option (List ℕ)

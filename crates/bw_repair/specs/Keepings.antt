@@ -26,7 +26,7 @@ use Rattle.bw_repair.specs.declared.conversions.fault.ConvertError.{ConvertError
 use Rattle.bw_repair.specs.declared.conversions.fault.ConvertError.TheVariants.{Unopened, Refused}
 
 -- the recording has these bytes, and LEFT has its chunks that a take doesn't carry: it is new, or had them
-pub record Keeps {D F : Type 0} (G : Ghosts D F) (b to : List ℕ) (old new : D) : Type 0 where
+pub record HasLeftFile {D F : Type 0} (G : Ghosts D F) (b to : List ℕ) (old new : D) : Type 0 where
   pub reading_is : HasReading b
   pub fits : fits_left reading_is.entries ≡ true
   pub makes : IsTrue (G.honest old) → IsThere G to (left_file b reading_is.entries) old new
@@ -72,7 +72,7 @@ LeavesKeep G file to (Refused f) old new = Of file (λ b. LeavesOfLeft G b to f.
 module _ {D F : Type 0} (G : Ghosts D F) (file : Option (List ℕ)) (path to : List ℕ) where
   -- the chunks are kept
   pub record KeepsLeftOut (old new : D) (gives_all : Bool) : Type 0 where
-    pub right : Of file (λ b. Keeps G b to old new)
+    pub right : Of file (λ b. HasLeftFile G b to old new)
     pub step : IsStep G to false old new
     pub gives : gives_all ≡ true
 

@@ -7,12 +7,12 @@ use Rattle.bw_model.specs.Reading.{Entry, is_id}
 use Rattle.bw_plan.specs.Warnings.{is_carried}
 
 -- a chunk that a take doesn't carry
-abbrev pub is_left_out : Entry → Bool
-is_left_out e = not (is_carried e.id)
+abbrev pub is_left_chunk : Entry → Bool
+is_left_chunk e = not (is_carried e.id)
 
 -- a chunk that LEFT has of the recording: its format too, without which no program reads it
-abbrev pub is_kept : Entry → Bool
-is_kept e = is_id e.id (codes "fmt ") || is_left_out e
+abbrev pub is_kept_chunk : Entry → Bool
+is_kept_chunk e = is_id e.id (codes "fmt ") || is_left_chunk e
 
 -- how long a chunk is, with its head and its pad byte
 abbrev pub whole_len : Entry → ℕ
@@ -28,26 +28,26 @@ chunk_whole b e = e.id ++ le32 e.size ++ take (even_up e.size) (drop (e.place + 
 
 -- the chunks of b that a take doesn't carry, whole, in their order
 abbrev pub left_chunks : List ℕ → List Entry → List ℕ
-left_chunks b entries = flat_map (chunk_whole b) (filter is_left_out entries)
+left_chunks b entries = flat_map (chunk_whole b) (filter is_left_chunk entries)
 
 -- the size of LEFT's form: its type, the chunks that it has of the recording, and an empty one
 abbrev pub left_size : List Entry → ℕ
-left_size entries = 12 + whole_lens (filter is_kept entries)
+left_size entries = 12 + whole_lens (filter is_kept_chunk entries)
 
 -- LEFT is a RIFF WAVE without samples. `data` is its last chunk, since some programs take all that
 -- follows an empty one for samples.
 abbrev pub left_file : List ℕ → List Entry → List ℕ
 left_file b entries =
     codes "RIFF" ++ le32 (left_size entries) ++ codes "WAVE"
-    ++ flat_map (chunk_whole b) (filter is_kept entries) ++ codes "data" ++ le32 0
+    ++ flat_map (chunk_whole b) (filter is_kept_chunk entries) ++ codes "data" ++ le32 0
 
 -- no chunk's head can give this chunk's size
 abbrev pub is_too_large : Entry → Bool
 is_too_large e = nat_le unsaid e.size
 
 -- these chunks fit into a form of at most this size, so many bytes of which others have
-abbrev pub fits : ℕ → ℕ → List Entry → Bool
-fits most others es = nat_le (others + whole_lens es) most && not (list_any is_too_large es)
+abbrev pub chunks_fit : ℕ → ℕ → List Entry → Bool
+chunks_fit most others es = nat_le (others + whole_lens es) most && not (list_any is_too_large es)
 
 -- the largest size that a RIFF form has (RIFF WAVE)
 abbrev pub largest_riff : ℕ
@@ -55,4 +55,4 @@ largest_riff = 0xFFFF_FFFE
 
 -- a recording's chunks fit into LEFT
 abbrev pub fits_left : List Entry → Bool
-fits_left entries = fits largest_riff 12 (filter is_kept entries)
+fits_left entries = chunks_fit largest_riff 12 (filter is_kept_chunk entries)

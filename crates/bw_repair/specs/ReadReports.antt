@@ -13,7 +13,7 @@ use Rattle.bw_repair.specs.declared.conversions.fault.ConvertError.{ConvertError
 use Rattle.bw_repair.specs.declared.conversions.fault.ConvertError.TheVariants.{Unopened, Refused}
 
 -- the bytes have a reading, and these are its id and its chunks
-pub record HasReport (b : List ℕ) (r : Report) : Type 0 where
+pub record HasChunkReport (b : List ℕ) (r : Report) : Type 0 where
   pub reading_is : HasReading b
   pub form_is : r.form ≡ reading_is.form.id
   pub chunks_are : r.chunks ≡ reading_is.entries
@@ -29,9 +29,9 @@ IsUnreadAt b Exists offset = ⊥
 IsUnreadAt b Unwritten offset = ⊥
 
 -- .. or the file isn't opened
-abbrev pub IsUnread : List ℕ → ConvertError → Type 0
-IsUnread b (Unopened error) = Unit {0}
-IsUnread b (Refused f) = IsUnreadAt b f.kind f.offset
+abbrev pub IsNotRead : List ℕ → ConvertError → Type 0
+IsNotRead b (Unopened error) = Unit {0}
+IsNotRead b (Refused f) = IsUnreadAt b f.kind f.offset
 
 -- there is no memory for them, or these chunks don't fit
 abbrev pub IsUnfit : Type 0 → ConvertFault → Type 0

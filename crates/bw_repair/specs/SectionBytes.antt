@@ -38,5 +38,5 @@ abbrev pub calls_of : {R : Type 0} → SectionReader R → ℕ
 calls_of s = s.calls
 
 -- and how many of them failed
-abbrev pub failures_of : {R : Type 0} → SectionReader R → ℕ
-failures_of s = s.failures
+abbrev pub section_failures : {R : Type 0} → SectionReader R → ℕ
+section_failures s = s.failures

@@ -2,7 +2,7 @@
 ghost use Rattle.std.specs.Prelude.{◌≡◌, true, false, IfErr, IfOk};
 ghost use Rattle.std.specs.List.{filter, list_any};
 ghost use Rattle.bw_repair.specs.ChunkSections.{left_sections};
-ghost use Rattle.bw_repair.specs.LeftOut.{fits_left, is_kept, is_too_large, left_size};
+ghost use Rattle.bw_repair.specs.LeftOut.{fits_left, is_kept_chunk, is_too_large, left_size};
 ghost use Rattle.bw_repair.specs.ReadReports.{IsUnfit};
 
 use crate::conversions::fault_at;
@@ -24,7 +24,7 @@ pub(crate) fn file_sections(
     chunks: &[ListedChunk],
 ) -> Result<Vec<Section>, ConvertFault>
     ensures fit { IfOk result (λ v. fits_left chunks.now ≡ true) }
-    ensures ok { IfOk result (λ v. v.items ≡ left_sections (filter is_kept chunks.now) (left_size chunks.now)) }
+    ensures ok { IfOk result (λ v. v.items ≡ left_sections (filter is_kept_chunk chunks.now) (left_size chunks.now)) }
     ensures err { IfErr result (λ f. IsUnfit (fits_left chunks.now ≡ false) f) }
 {
     let Some(size) = total_len(chunks, true, 12, LARGEST_RIFF) else {
@@ -45,8 +45,8 @@ fn put_sections(
     chunks: &[ListedChunk],
     size: u32,
 ) -> Result<Vec<Section>, AllocError>
-    requires { list_any is_too_large (filter is_kept chunks.now) ≡ false }
-    ensures { IfOk result (λ v. v.items ≡ left_sections (filter is_kept chunks.now) size) }
+    requires { list_any is_too_large (filter is_kept_chunk chunks.now) ≡ false }
+    ensures { IfOk result (λ v. v.items ≡ left_sections (filter is_kept_chunk chunks.now) size) }
 {
     let mut sections = Vec::new(alloc);
     sections.push(Section {

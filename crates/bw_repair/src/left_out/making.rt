@@ -5,7 +5,7 @@ ghost use Rattle.bw_stream.specs.Readers.{Of};
 ghost use Rattle.bw_repair.specs.ChunkSections.{AreLeft};
 ghost use Rattle.bw_repair.specs.ConvertFaults.{is_disk_error, is_opened};
 ghost use Rattle.bw_repair.specs.DiskSteps.{IsStep};
-ghost use Rattle.bw_repair.specs.Keepings.{Keeps, LeavesKeep, RefusesKeep};
+ghost use Rattle.bw_repair.specs.Keepings.{HasLeftFile, LeavesKeep, RefusesKeep};
 
 use crate::ConvertError;
 use crate::left_out::file::file_sections;
@@ -30,7 +30,7 @@ pub(crate) fn keep<F: RecordingFiles, D: Volume>(
     to: &str,
 ) -> Result<(), ConvertError>
     ensures ok { OnOk result (Of (F.file_at files.old path.now) (λ b.
-        Keeps D.Disk b to.now disk.old disk.new)) }
+        HasLeftFile D.Disk b to.now disk.old disk.new)) }
     ensures err { IfErr result (λ e. Of (F.file_at files.old path.now) (λ b. RefusesKeep b e)) }
     ensures left { IfErr result (λ e. LeavesKeep D.Disk (F.file_at files.old path.now) to.now e
         disk.old disk.new) }
@@ -62,7 +62,7 @@ fn make_left<F: RecordingFiles, D: Volume>(
 ) -> Result<(), ConvertError>
     requires { Of (F.file_at files.old path.now) (λ b. AreLeft b sections.now) }
     ensures ok { OnOk result (Of (F.file_at files.old path.now) (λ b.
-        Keeps D.Disk b to.now disk.old disk.new)) }
+        HasLeftFile D.Disk b to.now disk.old disk.new)) }
     ensures err { IfErr result (λ e. Of (F.file_at files.old path.now) (λ b. RefusesKeep b e)) }
     ensures left { IfErr result (λ e. LeavesKeep D.Disk (F.file_at files.old path.now) to.now e
         disk.old disk.new) }

@@ -1,6 +1,6 @@
 //! All bytes of a reader are printed, in pieces.
 ghost use Rattle.std.specs.Prelude.{◌≡◌, ◌≤◌, ◌<◌, length, IfErr, IfOk};
-ghost use Rattle.bw_repair.specs.JoinedPrints.{PrintsAll, PrintsAndFlushes, PrintsPiece, StopsPrint, both_left};
+ghost use Rattle.bw_repair.specs.JoinedPrints.{PrintsBytes, PrintsAndFlushes, PrintsPiece, StopsPrint, both_left};
 
 use bw_stream::{Sink, Source, write_all};
 
@@ -20,7 +20,7 @@ pub(crate) enum PrintFault {
 /// # Errors
 /// `PrintFault`: a prefix of them is printed.
 pub(crate) fn print_all<R: Source, W: Sink>(reader: &mut R, out: &mut W) -> Result<(), PrintFault>
-    ensures { PrintsAll W.Sink (R.left reader.old) result out.old out.new }
+    ensures { PrintsBytes W.Sink (R.left reader.old) result out.old out.new }
 {
     let mut piece = [0; 65_536];
     let mut place = 0;
@@ -93,7 +93,7 @@ fn print_in_turn<R: Source, S: Source, W: Sink>(
     second: &mut S,
     out: &mut W,
 ) -> Result<(), PrintFault>
-    ensures { PrintsAll W.Sink (both_left (R.left first.old) (S.left second.old)) result out.old out.new }
+    ensures { PrintsBytes W.Sink (both_left (R.left first.old) (S.left second.old)) result out.old out.new }
 {
     match print_all(first, out) {
         Ok(()) => print_all(second, out),

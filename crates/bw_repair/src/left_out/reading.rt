@@ -3,7 +3,7 @@ ghost use Rattle.std.specs.Prelude.{◌≡◌, false, IfErr, IfOk};
 ghost use Rattle.bw_console.specs.Prints.{failures_if};
 ghost use Rattle.bw_stream.specs.Readers.{Of};
 ghost use Rattle.bw_repair.specs.ConvertFaults.{is_disk_cause, is_opened};
-ghost use Rattle.bw_repair.specs.ReadReports.{HasReport, IsUnread};
+ghost use Rattle.bw_repair.specs.ReadReports.{HasChunkReport, IsNotRead};
 
 use crate::conversions::refused_at;
 use crate::{ConvertError, ConvertKind};
@@ -20,8 +20,8 @@ pub(crate) fn read_report<F: RecordingFiles>(
     files: &mut F,
     path: &str,
 ) -> Result<Report, ConvertError>
-    ensures ok { IfOk result (λ r. Of (F.file_at files.old path.now) (λ b. HasReport b r)) }
-    ensures err { IfErr result (λ e. Of (F.file_at files.old path.now) (λ b. IsUnread b e)) }
+    ensures ok { IfOk result (λ r. Of (F.file_at files.old path.now) (λ b. HasChunkReport b r)) }
+    ensures err { IfErr result (λ e. Of (F.file_at files.old path.now) (λ b. IsNotRead b e)) }
     ensures disk { IfErr result (λ e. is_disk_cause e ≡ false) }
     ensures files { F.file_at files.new ≡ F.file_at files.old }
     ensures stamps { F.stamp_at files.new ≡ F.stamp_at files.old }

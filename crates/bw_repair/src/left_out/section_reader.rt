@@ -35,7 +35,7 @@ impl<'a, R: Source> SectionReader<'a, R> {
 }
 
 impl<R: Source> Source for SectionReader<'_, R> {
-    ghost use Rattle.bw_repair.specs.SectionBytes.{calls_of, failures_of, moved_of, reader_of, to_come};
+    ghost use Rattle.bw_repair.specs.SectionBytes.{calls_of, section_failures, moved_of, reader_of, to_come};
 
     ghost left = { λ s. to_come s (R.left (reader_of s)) };
 
@@ -43,7 +43,7 @@ impl<R: Source> Source for SectionReader<'_, R> {
 
     ghost calls = { calls_of };
 
-    ghost failures = { failures_of };
+    ghost failures = { section_failures };
 
     fn read(&mut self, buf: &mut [u8]) -> Result<usize, IoFailed> {
         self.calls = self.calls.saturating_add(1);

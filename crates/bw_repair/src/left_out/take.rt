@@ -3,9 +3,9 @@ ghost use Rattle.std.specs.Prelude.{◌≡◌, ◌≤◌, ◌^◌, ◌++◌, tru
 ghost use Rattle.std.specs.List.{filter, list_any};
 ghost use Rattle.bw_model.specs.Reading.{next_place};
 ghost use Rattle.bw_repair.specs.ChunkSections.{capped, chunk_sections};
-ghost use Rattle.bw_repair.specs.Joined.{is_narrow as is_narrow_id, largest_of};
+ghost use Rattle.bw_repair.specs.Joined.{is_riff_id as is_narrow_id, largest_of};
 ghost use Rattle.bw_repair.specs.JoinSections.{AreSections, IsUnfitToJoin, take_sections};
-ghost use Rattle.bw_repair.specs.LeftOut.{is_left_out, is_too_large, largest_riff};
+ghost use Rattle.bw_repair.specs.LeftOut.{is_left_chunk, is_too_large, largest_riff};
 ghost use Rattle.bw_repair.specs.ReadReports.{IsUnfit};
 
 use crate::conversions::fault_at;
@@ -64,10 +64,10 @@ fn put_both(
     size: u64,
     chunks: &[ListedChunk],
 ) -> Result<JoinedSections, AllocError>
-    requires small { list_any is_too_large (filter is_left_out chunks.now) ≡ false }
+    requires small { list_any is_too_large (filter is_left_chunk chunks.now) ≡ false }
     requires narrow { is_narrow_id id ≡ true → size ≤ largest_riff }
     ensures take { IfOk result (λ s. s.take.items ≡ take_sections id size end) }
-    ensures left { IfOk result (λ s. s.left.items ≡ chunk_sections 0 (filter is_left_out chunks.now)) }
+    ensures left { IfOk result (λ s. s.left.items ≡ chunk_sections 0 (filter is_left_chunk chunks.now)) }
 {
     let mut take = Vec::new(alloc);
     push_take(&mut take, id, end, size)?;

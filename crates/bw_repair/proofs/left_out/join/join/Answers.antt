@@ -1,5 +1,5 @@
 use Rattle.std.proofs.Common.{◌∙◌, ap, sym, subst, refl, ℕ, List, Option}
-use Rattle.bw_repair.specs.JoinFaults.{RefusesFiles}
+use Rattle.bw_repair.specs.JoinFaults.{RefusesToJoin}
 use Rattle.bw_repair.specs.declared.conversions.fault.ConvertFault.{ConvertFault}
 use Rattle.bw_repair.proofs.JoinedFiles.{are_joined, left_refused, unfit_refused}
 use Rattle.bw_repair.proofs.left_out.join.join.Goals as goal
@@ -7,7 +7,7 @@ use Rattle.bw_repair.proofs.left_out.join.join.Goals as goal
 pub returns-in-Err-Refused-read_report-clause-ends : goal.returns-in-Err-Refused-read_report-clause-ends
 returns-in-Err-Refused-read_report-clause-ends g c =
     let refused = rw c.in-Err-Refused-read_report.field-0-is at c.in-Err-Refused-read_report.ensures.err in
-    subst (λ (f : ConvertFault). RefusesFiles g.W.Sink (g.F.RecordingFiles.file_at c.args.files.now c.args.take.now)
+    subst (λ (f : ConvertFault). RefusesToJoin g.W.Sink (g.F.RecordingFiles.file_at c.args.files.now c.args.take.now)
     (g.F.RecordingFiles.file_at c.args.files.now c.args.left.now) f c.args.out.now c.args.out.now)
     (sym c.in-Err-Refused-read_report.fault-is)
     (left_refused g.W.Sink _ _ c.in-Err-Refused-read_report.fault c.args.out.now

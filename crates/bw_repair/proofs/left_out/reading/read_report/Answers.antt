@@ -1,5 +1,5 @@
 use Rattle.std.proofs.Common.{subst, sym}
-use Rattle.bw_repair.specs.ReadReports.{IsUnread}
+use Rattle.bw_repair.specs.ReadReports.{IsNotRead}
 use Rattle.bw_repair.proofs.KeptChunks.{has_report}
 use Rattle.bw_repair.proofs.left_out.reading.read_report.Goals as goal
 
@@ -9,4 +9,4 @@ returns-in-Ok-inspect-clause-ok g c = λ b e.
 
 pub returns-clause-err : goal.returns-clause-err
 returns-clause-err g c = λ b e.
-    subst (IsUnread b) (sym c.refused_at.ensures) (c.in-Err-inspect.ensures.err b (c.in-Ok.ensures.ok b e)).fault
+    subst (IsNotRead b) (sym c.refused_at.ensures) (c.in-Err-inspect.ensures.err b (c.in-Ok.ensures.ok b e)).fault
