@@ -2,5 +2,5 @@
 
 /// The toolchain, and the SHA-256 digest of the sources, a line each.
 pub const BUILD: &str = "toolchain: rattle-kit-13f logic dac8208d650f15bf
-sources: e4af9157c1763b5ebf395eea2e20c284e814cc665f61282242150a0a9477c110
+sources: 23fd7e84faca07905d12d323d7367849f19f2f43fb114f305e2c78f5a44a59f2
 ";
