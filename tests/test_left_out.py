@@ -204,7 +204,9 @@ def case_standing(folder):
     (folder / "link").symlink_to(folder / "nothing")
     left.write_bytes(b"something else")
     told = 1, "", hinted("keep", "Exists at 0", KEEP_EXISTS)
-    for about, at in (("a file", left), ("the recording", path), ("a folder", folder), ("a link", folder / "link")):
+    no_file = 3, "", hinted("keep", "Unwritten at 0", KEEP_UNWRITTEN)
+    TALLY.same("a folder: packed", run("pack", str(path), "--keep-left-out", str(folder)), no_file)
+    for about, at in (("a file", left), ("the recording", path), ("a link", folder / "link")):
         TALLY.same(f"{about}: packed", run("pack", str(path), "--keep-left-out", str(at)), told)
         with unseen(about) as port:
             TALLY.same(f"{about}: sent", run(*words_of(port, "a1", path, "--keep-left-out", str(at))), told)
