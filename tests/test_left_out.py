@@ -244,7 +244,7 @@ def case_unkept(folder):
     os.mkfifo(folder / "pipe")
     with unseen("a pipe") as port:
         told = run(*words_of(port, "a1", folder / "pipe", "--keep-left-out", str(left)))
-        TALLY.same("a pipe: sent", told, (3, "", f"{folder / 'pipe'} is a pipe\n"))
+        TALLY.same("a pipe: sent", told, (3, "", f"{folder / 'pipe'} is a pipe: use --spool\n"))
     TALLY.same("LEFT", left.exists(), False)
 
 
