@@ -1,6 +1,7 @@
 """The commands over files and folders, with calls refused in turn: pictures, repairs, conversions, chunks that are left
 out, takes, senders.
 """
+import re
 import shutil
 import signal
 import subprocess
@@ -108,6 +109,9 @@ def try_left_outs(runs, program):
     def wrong_join(kind, found, wanted):
         if wanted[1] != riff(fmt(recording), samples, lost):
             return "another file"
+        printed, told = len(found[1]), re.match(rb"join: Read at (\d+)\n", found[2])
+        if printed and told and int(told[1]) not in (printed, printed - take.stat().st_size):
+            return "a read failed elsewhere, in the take or after it"
         return what_a_pack_breaks(kind, found, wanted)
 
     for kind in (*KINDS, "sync"):
