@@ -167,7 +167,7 @@ module _ {R F : Type 0} (receipts : Keeper R F) (file : F) (asked text line : Li
   -- .. or in part
   pub appended_in_part : (kind : ErrorKind) (did : Outcome) → receipts.failures new ≡ one_more (receipts.failures old)
       → AddsLineInPart (receipts.receipts_at old (receipts.path_of file)) text
-        (receipts.receipts_at new (receipts.path_of file))
+      (receipts.receipts_at new (receipts.path_of file))
       → ReportsFailure (unwritten_receipt_text asked) kind did ⊎ IsOutOfMemory did
       → PutsLine receipts (Some file) asked line old new did
   appended_in_part kind did failures adds reports = inr (record {

@@ -6,4 +6,3 @@ use Rattle.bw_report.proofs.receipt.put_receipt.Goals as goal
 pub returns-in-Err-clause-puts : goal.returns-in-Err-clause-puts
 returns-in-Err-clause-puts g c =
     none_put g.R.ReceiptFiles g.W.Sink g.E.Sink _ c.args.job.now _ _ _ _ _ _ _ _ c.in-Err.ensures.err
-
