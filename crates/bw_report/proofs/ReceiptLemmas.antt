@@ -1,5 +1,5 @@
 -- What is known of a receipt by what was found at its recording's path.
-use Rattle.std.proofs.Common.{◌≡◌, ◌≢◌, ◌∙◌, ◌⊎◌, inl, inr, Bool, true, false, ℕ, List, Option, Some}
+use Rattle.std.proofs.Common.{◌≡◌, ◌∙◌, ◌⊎◌, inl, inr, Bool, true, false, ℕ, List, Option, Some}
 use Rattle.std.proofs.Common.{Result, Ok, Err, IfOk, IfErr, refl, sym, ap, subst}
 use Rattle.std.specs.declared.io.ErrorKind.{ErrorKind}
 use Rattle.bw_model.specs.Report.{frames_of}
@@ -24,7 +24,7 @@ use Rattle.bw_report.specs.FileFindings.{HasReportAndDigest, IsFoundInBytes}
 use Rattle.bw_report.specs.FileLooks.{IsFoundBy, IsLookIn, IsOpening, IsReportedUnopened}
 use Rattle.bw_report.specs.Receipts.{HasNoReceipt, IsLeftOut, IsLineOfRecording, IsUnreadRecording, PutsLine, PutsReceipt}
 use Rattle.bw_report.specs.Receipts.{receipt_line_of, receipt_with}
-use Rattle.bw_report.specs.Receipts.{standard_output, unwritten_receipt_text}
+use Rattle.bw_report.specs.Receipts.{unwritten_receipt_text}
 use Rattle.bw_report.specs.declared.found.Found.{Found}
 use Rattle.bw_report.specs.declared.found.Found.TheVariants.{Read, Faulty, Unopened}
 use Rattle.bw_report.specs.declared.receipt.ReceiptJob.{ReceiptJob}
@@ -147,13 +147,14 @@ added = record { reads_all = true; out = Nothing; faults = Nothing; exit = Done 
 pub same_print : (text line : List ℕ) (did : Outcome) → text ≡ line → PrintsText text did → PrintsText line did
 same_print text line did same prints = subst (λ (t : List ℕ). PrintsText t did) same prints
 
-module _ {R F : Type 0} (receipts : Keeper R F) (file : F) (asked text line : List ℕ) (old new : R) (same : text ≡ line)
+module _ {R F : Type 0} (receipts : Keeper R F) (opened : Option F) (file : F) (there : opened ≡ Some file)
+    (asked text line : List ℕ) (old new : R) (same : text ≡ line)
     (others : KeepsOtherPaths (receipts.path_of file) (receipts.receipts_at old) (receipts.receipts_at new)) where
   -- the line was appended
   pub appended : receipts.failures new ≡ receipts.failures old
       → AddsLine (receipts.receipts_at old (receipts.path_of file)) text (receipts.receipts_at new (receipts.path_of file))
-      → PutsLine receipts (Some file) asked line old new added
-  appended failures adds = inl (record {
+      → PutsLine receipts opened asked line old new added
+  appended failures adds = subst (λ (o : Option F). PutsLine receipts o asked line old new added) (sym there) (inl (record {
     adds = subst (λ (t : List ℕ). AddsLine (receipts.receipts_at old (receipts.path_of file)) t
         (receipts.receipts_at new (receipts.path_of file))) same adds;
     others = others;
@@ -162,22 +163,22 @@ module _ {R F : Type 0} (receipts : Keeper R F) (file : F) (asked text line : Li
     reads = refl;
     prints = refl;
     reports = refl;
-  })
+  }))
 
   -- .. or in part
   pub appended_in_part : (kind : ErrorKind) (did : Outcome) → receipts.failures new ≡ one_more (receipts.failures old)
       → AddsLineInPart (receipts.receipts_at old (receipts.path_of file)) text
       (receipts.receipts_at new (receipts.path_of file))
       → ReportsFailure (unwritten_receipt_text asked) kind did ⊎ IsOutOfMemory did
-      → PutsLine receipts (Some file) asked line old new did
-  appended_in_part kind did failures adds reports = inr (record {
+      → PutsLine receipts opened asked line old new did
+  appended_in_part kind did failures adds reports = subst (λ (o : Option F). PutsLine receipts o asked line old new did) (sym there) (inr (record {
     adds = subst (λ (t : List ℕ). AddsLineInPart (receipts.receipts_at old (receipts.path_of file)) t
         (receipts.receipts_at new (receipts.path_of file))) same adds;
     others = others;
     failures = failures;
     kind = kind;
     reports = reports;
-  })
+  }))
 
 -- nothing is printed where the system failed to add a line
 pub none_printed : (line : List ℕ → List ℕ) (kind : ErrorKind) (did : Outcome)
