@@ -1,5 +1,5 @@
 -- When the line of an upload is shown.
-use Rattle.std.specs.Prelude.{◌≡◌, ◌⊎◌, ◌×◌, ℕ, List, Bool, true, false, Option, Some, None}
+use Rattle.std.specs.Prelude.{◌≡◌, ◌⊎◌, ℕ, List, Bool, true, false, Option, Some, None}
 use Rattle.bw_console.specs.Prints.{Print, IsOf, IsPrint}
 use Rattle.bw_console.specs.Text.{as_line}
 use Rattle.bw_progress.specs.Lines.{upload_line}
