@@ -27,7 +27,7 @@ use clap::error::ErrorKind;
 pub use folders::{FolderWork, TakesFolder};
 pub use inspection::Inspection;
 pub use peers::{End, Journaling, Logging, Recorders, Send, Serve};
-pub use recordings::{FileSender, PcmSender, PcmSource, ReceiptTarget, SourceFile};
+pub use recordings::{FileSender, FilesSender, PcmSender, PcmSource, ReceiptTarget, SourceFile};
 use std::alloc::{AllocError, Global};
 
 /// What a command line asks the program to do.
@@ -60,6 +60,8 @@ pub enum Task {
     SendFile(FileSender),
     /// Send headerless samples to a server.
     SendPcm(PcmSender),
+    /// Send the requests of several recordings to a server, one recording after the other.
+    SendFiles(FilesSender),
     /// Print the requests of a recording.
     Pack(SourceFile),
     /// Draw the waveform of the recording in the file at this path.
