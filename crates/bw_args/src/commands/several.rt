@@ -18,7 +18,7 @@ use std::net::SocketAddr;
 
 /// Bad values are reported in this order: options that are for one recording alone, the address, those of
 /// `tries_given`, and those of a receipt.
-pub(crate) fn files_line(
+pub fn files_line(
     alloc: Global,
     options: &ArgMatches<'_>,
     paths: &[&str],
@@ -48,7 +48,7 @@ pub(crate) fn files_line(
 }
 
 /// The sender of the recordings at these paths.
-fn sender_line(
+pub fn sender_line(
     alloc: Global,
     options: &ArgMatches<'_>,
     paths: &[&str],
@@ -92,7 +92,7 @@ fn sender_line(
 }
 
 /// Whether options are given that are for one recording alone.
-fn is_files_mixed(options: &ArgMatches<'_>) -> bool
+pub fn is_files_mixed(options: &ArgMatches<'_>) -> bool
     ensures { result ≡ is_files_mixed (first_value (found_of options.now)) }
 {
     options.get_str("rounds").is_some()

@@ -86,7 +86,7 @@ pub(crate) fn copies_of(alloc: Global, texts: &[&str]) -> Result<Vec<String>, Al
 }
 
 /// Whether recordings are given as words of their own.
-pub(crate) fn has_files(options: &ArgMatches<'_>) -> bool
+pub fn has_files(options: &ArgMatches<'_>) -> bool
     ensures { result ≡ has_files (first_value (found_of options.now)) }
 {
     options.get_str("files").is_some()
@@ -94,7 +94,7 @@ pub(crate) fn has_files(options: &ArgMatches<'_>) -> bool
 
 /// Whether options are given that aren't for one sender of at most one recording: the words of several,
 /// their names, or those that aren't for one source.
-pub(crate) fn is_mixed(options: &ArgMatches<'_>) -> bool
+pub fn is_mixed(options: &ArgMatches<'_>) -> bool
     ensures { result ≡ is_mixed (first_value (found_of options.now)) }
 {
     has_files(options) || options.get_str("names").is_some() || is_source_mixed(options)
