@@ -31,7 +31,7 @@ use Rattle.bw_console.specs.declared.fault.Fault.{Fault}
 use Rattle.bw_report.specs.Entries.{entry_text}
 use Rattle.bw_report.specs.FileFindings.{HasReportAndDigest, IsFoundInBytes, exit_of_found, worse}
 use Rattle.bw_report.specs.FileLooks.{IsOpening, IsReportedUnopened}
-use Rattle.bw_report.specs.FileLooks.{AreChunksRead, ArePrints, IsStoppedEarly, IsFoundBy, IsLookAt, IsLookIn, IsShown}
+use Rattle.bw_report.specs.FileLooks.{AreChunksRead, ArePrints, IsStoppedEarly, IsFoundByLook, IsLookAt, IsLookIn, IsShown}
 use Rattle.bw_report.specs.FileLooks.{FilesThere, Look, files_there, look_entry, shows_contents}
 use Rattle.bw_report.specs.FileLooks.{failures_after_looks, worst}
 use Rattle.bw_report.specs.declared.entry.Wanted.{Wanted}
@@ -73,7 +73,7 @@ pub found_opened : {E : Type 0} (reported : Writer E) (bytes_at : List ℕ → O
     (path : List ℕ) (found : Found) (n n' : ℕ) (e : E)
     → Of (bytes_at path) (λ b. IsFoundInBytes b digest read found)
     → IsOpening found (opened_look path found) → n' ≡ n
-    → IsFoundBy reported (IsLookIn bytes_at digest read) path found n n' e e
+    → IsFoundByLook reported (IsLookIn bytes_at digest read) path found n n' e e
 found_opened reported bytes_at digest read path found n n' e right opening same = record {
   look = opened_look path found;
   at = refl;
@@ -87,7 +87,7 @@ found_opened reported bytes_at digest read path found n n' e right opening same 
 pub found_unopened : {E : Type 0} (reported : Writer E) (bytes_at : List ℕ → Option (List ℕ)) (digest read : Bool)
     (path : List ℕ) (kind : ErrorKind) (did : Outcome) (exit : Exit) (n n' : ℕ) (e e' : E) → did.exit ≡ exit
     → IsUnopened path kind did ⊎ IsOutOfMemory did → n' ≡ failures_if false n → IsPrint reported did.faults e e'
-    → IsFoundBy reported (IsLookIn bytes_at digest read) path (Unopened exit) n n' e e'
+    → IsFoundByLook reported (IsLookIn bytes_at digest read) path (Unopened exit) n n' e e'
 found_unopened reported bytes_at digest read path kind did exit n n' e e' ends why failed prints = record {
   look = record { path = path; found = Unopened exit; is_opened = false; reported = did.faults };
   at = refl;
@@ -101,16 +101,16 @@ found_unopened reported bytes_at digest read path kind did exit n n' e e' ends w
 pub found_again : {E : Type 0} (reported : Writer E) (bytes_at there : List ℕ → Option (List ℕ)) (digest read : Bool)
     (path : List ℕ)
     (found : Found) (n n1 n2 : ℕ) (e e1 : E) → there ≡ bytes_at → n1 ≡ n → digest ≡ true
-    → IsFoundBy reported (IsLookIn there true read) path found n1 n2 e e1
-    → IsFoundBy reported (IsLookIn bytes_at digest read) path found n n2 e e1
+    → IsFoundByLook reported (IsLookIn there true read) path found n1 n2 e e1
+    → IsFoundByLook reported (IsLookIn bytes_at digest read) path found n n2 e e1
 found_again reported bytes_at there digest read path found n n1 n2 e e1 files counts asked is =
     rw (asked, ← files, ← counts) is
 
 -- .. after a call that changed neither
 pub found_after : {E : Type 0} (reported : Writer E) (bytes_at there : List ℕ → Option (List ℕ)) (digest read : Bool)
     (path : List ℕ) (found : Found) (n n1 n2 : ℕ) (e e1 : E) → there ≡ bytes_at → n1 ≡ n
-    → IsFoundBy reported (IsLookIn there digest read) path found n1 n2 e e1
-    → IsFoundBy reported (IsLookIn bytes_at digest read) path found n n2 e e1
+    → IsFoundByLook reported (IsLookIn there digest read) path found n1 n2 e e1
+    → IsFoundByLook reported (IsLookIn bytes_at digest read) path found n n2 e e1
 found_after reported bytes_at there digest read path found n n1 n2 e e1 files counts is = rw (← files, ← counts) is
 
 -- the chunks are read if the file's stamp has a length
@@ -137,8 +137,8 @@ some_read true (Some stamp) =
 pub found_as_wanted : {E : Type 0} (reported : Writer E) (bytes_at : List ℕ → Option (List ℕ))
     (stamp_at : List ℕ → Option FileStamp) (wanted : Wanted) (read : Bool) (path : List ℕ) (found : Found)
     (n n' : ℕ) (e e' : E) → AreChunksRead (shows_contents wanted.style) (stamp_at path) read
-    → IsFoundBy reported (IsLookIn bytes_at wanted.digest read) path found n n' e e'
-    → IsFoundBy reported (IsLookAt (files_there bytes_at stamp_at) wanted) path found n n' e e'
+    → IsFoundByLook reported (IsLookIn bytes_at wanted.digest read) path found n n' e e'
+    → IsFoundByLook reported (IsLookAt (files_there bytes_at stamp_at) wanted) path found n n' e e'
 found_as_wanted reported bytes_at stamp_at wanted read path found n n' e e' reads is = record {
   look = is.look;
   at = is.at;
@@ -158,8 +158,8 @@ pub found_unread : {E : Type 0} (reported : Writer E) (bytes_at : List ℕ → O
     (n n' : ℕ) (e e' : E) → before ≡ found
     → ((b : List ℕ) (read : Bool) → IsFoundInBytes b wanted.digest false found
     → IsFoundInBytes b wanted.digest read found)
-    → IsFoundBy reported (IsLookIn bytes_at wanted.digest false) path before n n' e e'
-    → IsFoundBy reported (IsLookAt (files_there bytes_at stamp_at) wanted) path found n n' e e'
+    → IsFoundByLook reported (IsLookIn bytes_at wanted.digest false) path before n n' e e'
+    → IsFoundByLook reported (IsLookAt (files_there bytes_at stamp_at) wanted) path found n n' e e'
 found_unread reported bytes_at stamp_at wanted path before found n n' e e' same any is =
     let some = some_read (shows_contents wanted.style) (stamp_at is.look.path) in
     let has : is.look.found ≡ found = is.has ∙ same in
@@ -186,7 +186,7 @@ module _ {E : Type 0} (reported : Writer E) (bytes_at there : List ℕ → Optio
     (stamp_at stamps : List ℕ → Option FileStamp) (wanted : Wanted) (path : List ℕ)
     (before found : Found) (r : Report) (d : Option (List ℕ)) (known : Option (List Said)) (n n1 n2 : ℕ) (e e1 e2 : E)
     (is : before ≡ Read r d known) (files : there ≡ bytes_at) (same_stamps : stamps ≡ stamp_at)
-    (first : IsFoundBy reported (IsLookIn bytes_at wanted.digest false) path before n n1 e e1) where
+    (first : IsFoundByLook reported (IsLookIn bytes_at wanted.digest false) path before n n1 e e1) where
   is_read : first.look.found ≡ Read r d known
   is_read = first.has ∙ is
 
@@ -206,8 +206,8 @@ module _ {E : Type 0} (reported : Writer E) (bytes_at there : List ℕ → Optio
   same_faults = subst (λ (p : Print). IsPrint reported p e e1) was_opened.1 first.reports
 
   pub found_inside : (Of (there path) (λ b. HasReportAndDigest b wanted.digest r d)
-      → IsFoundBy reported (IsLookAt (files_there there stamps) wanted) path found n1 n2 e1 e2)
-      → IsFoundBy reported (IsLookAt (files_there bytes_at stamp_at) wanted) path found n n2 e e2
+      → IsFoundByLook reported (IsLookAt (files_there there stamps) wanted) path found n1 n2 e1 e2)
+      → IsFoundByLook reported (IsLookAt (files_there bytes_at stamp_at) wanted) path found n n2 e e2
   found_inside next = rw (← files, ← same_stamps, ← same_count, ← same_faults) (next has_report)
 
 -- one more print after these
@@ -241,7 +241,7 @@ module _ {W E : Type 0} (out : Writer W) (reported : Writer E) (there : FilesThe
   module _ (paths : List (List ℕ)) (path : List ℕ) (found : Found) (exit : Exit) (n n1 n2 : ℕ) (o o1 o2 : W)
       (e e1 e2 : E)
       (before : IsShown out reported there paths wanted exit n n1 o o1 e e1)
-      (now : IsFoundBy reported (IsLookAt there wanted) path found n1 n2 e1 e2) where
+      (now : IsFoundByLook reported (IsLookAt there wanted) path found n1 n2 e1 e2) where
     all_at : map (λ (l : Look). l.path) (before.looks ++ now.look ∷ []) ≡ paths ++ path ∷ []
     all_at = map-append (λ (l : Look). l.path) before.looks (now.look ∷ [])
         ∙ ap (λ (ps : List (List ℕ)). ps ++ now.look.path ∷ []) before.at
@@ -319,7 +319,7 @@ pub next_shown : {W E : Type 0} (out : Writer W) (reported : Writer E) (bytes_at
     (o o1 o2 : W)
     (e e1 e2 : E) (print : Print)
     → IsShown out reported (files_there bytes_at stamp_at) paths wanted exit n n1 o o1 e e1
-    → IsFoundBy reported (IsLookAt (files_there there stamps) wanted) at found n1 n2 e1 e2
+    → IsFoundByLook reported (IsLookAt (files_there there stamps) wanted) at found n1 n2 e1 e2
     → there ≡ bytes_at → stamps ≡ stamp_at → at ≡ path → name ≡ path → paths ++ path ∷ [] ≡ all
     → ended ≡ exit_of_found found
     → next ≡ worse exit ended → IsPrintOfText (entry_text wanted.style wanted.named name found) (Ok tt) print
@@ -341,7 +341,7 @@ pub next_cut : {W E : Type 0} (out : Writer W) (reported : Writer E) (bytes_at t
     (exit ended worst_yet given_up next : Exit)
     (n n1 n2 : ℕ) (o o1 o2 : W) (e e1 e2 e3 : E) (fault : Fault) (print line : Print)
     → IsShown out reported (files_there bytes_at stamp_at) paths wanted exit n n1 o o1 e e1
-    → IsFoundBy reported (IsLookAt (files_there there stamps) wanted) at found n1 n2 e1 e2
+    → IsFoundByLook reported (IsLookAt (files_there there stamps) wanted) at found n1 n2 e1 e2
     → there ≡ bytes_at → stamps ≡ stamp_at → at ≡ path → name ≡ path → (paths ++ path ∷ []) ++ later ≡ all
     → ended ≡ exit_of_found found
     → worst_yet ≡ worse exit ended → given_up ≡ exit_on fault → next ≡ worse worst_yet given_up

@@ -21,7 +21,7 @@ use Rattle.bw_take_files.specs.Spellings.{receipt_json, receipt_text}
 use Rattle.bw_take_files.specs.declared.receipts.receipt.Receipt.{Receipt}
 use Rattle.bw_report.specs.Digests.{digest_at}
 use Rattle.bw_report.specs.FileFindings.{HasReportAndDigest, IsFoundInBytes}
-use Rattle.bw_report.specs.FileLooks.{IsFoundBy, IsLookIn, IsOpening, IsReportedUnopened}
+use Rattle.bw_report.specs.FileLooks.{IsFoundByLook, IsLookIn, IsOpening, IsReportedUnopened}
 use Rattle.bw_report.specs.Receipts.{HasNoReceipt, IsLeftOut, IsLineOfRecording, IsUnreadRecording, PutsLine, PutsReceipt}
 use Rattle.bw_report.specs.Receipts.{receipt_line_of, receipt_with}
 use Rattle.bw_report.specs.Receipts.{unwritten_receipt_text}
@@ -227,7 +227,7 @@ module _ {E : Type 0} (reported : Writer E) (file_at : List ℕ → Option (List
   where
     -- what is known of a file that was read
     pub of_read : (r : Report) (d : Option (List ℕ)) (known : Option (List Said))
-        → IsFoundBy reported (IsLookIn file_at true false) path (Read r d known) n n' e e'
+        → IsFoundByLook reported (IsLookIn file_at true false) path (Read r d known) n n' e e'
         → Of (file_at path) (λ b. HasReportAndDigest b true r d) × (n' ≡ n) × (e' ≡ e)
     of_read r d known at =
         let opening : IsOpening (Read r d known) at.look =
@@ -240,7 +240,7 @@ module _ {E : Type 0} (reported : Writer E) (file_at : List ℕ → Option (List
         )
 
     -- .. of one that has a fault
-    pub of_faulty : (f : InspectFault) → IsFoundBy reported (IsLookIn file_at true false) path (Faulty f) n n' e e'
+    pub of_faulty : (f : InspectFault) → IsFoundByLook reported (IsLookIn file_at true false) path (Faulty f) n n' e e'
         → (n' ≡ n) × (e' ≡ e)
     of_faulty f at =
         let opening : IsOpening (Faulty f) at.look =
@@ -250,7 +250,7 @@ module _ {E : Type 0} (reported : Writer E) (file_at : List ℕ → Option (List
         )
 
     -- .. and of one that wasn't opened
-    pub of_unopened : (exit : Exit) → IsFoundBy reported (IsLookIn file_at true false) path (Unopened exit) n n' e e'
+    pub of_unopened : (exit : Exit) → IsFoundByLook reported (IsLookIn file_at true false) path (Unopened exit) n n' e e'
         → (did : Outcome) × (did.exit ≡ exit) × (n' ≡ failures_if false n) × IsReportedUnopened path did
         × IsPrint reported did.faults e e'
     of_unopened exit at =

@@ -90,7 +90,7 @@ abbrev pub look_entry : Wanted → Look → List ℕ
 look_entry wanted l = entry_text wanted.style wanted.named l.path l.found
 
 -- this was found at a path and reported by a look of this kind, and the system's failures are these
-pub record IsFoundBy {E : Type 0} (reported : Writer E) (is_look : Look → Type 0) (path : List ℕ)
+pub record IsFoundByLook {E : Type 0} (reported : Writer E) (is_look : Look → Type 0) (path : List ℕ)
     (found : Found) (n n' : ℕ) (e e' : E) : Type 0 where
   pub look : Look
   pub at : look.path ≡ path

@@ -3,7 +3,7 @@ ghost use Rattle.std.specs.Prelude.{◌≡◌, Bool, None, true, false, map, nat
 ghost use Rattle.bw_inspect.specs.Faults.{bytes_fault};
 ghost use Rattle.bw_stream.specs.Readers.{Of};
 ghost use Rattle.bw_report.specs.FileFindings.{HasReportAndDigest, IsGivenOf};
-ghost use Rattle.bw_report.specs.FileLooks.{AreInspected, IsFoundBy, IsLookAt, IsLookIn, Look};
+ghost use Rattle.bw_report.specs.FileLooks.{AreInspected, IsFoundByLook, IsLookAt, IsLookIn, Look};
 ghost use Rattle.bw_report.specs.FileLooks.{files_there, shows_contents};
 
 use crate::digest::report_digest;
@@ -66,7 +66,7 @@ fn look<F: RecordingFiles, E: Sink>(
 ) -> Found
     ensures files { F.file_at files.new ≡ F.file_at files.old }
     ensures stamps { F.stamp_at files.new ≡ F.stamp_at files.old }
-    ensures found { IsFoundBy E.Sink
+    ensures found { IsFoundByLook E.Sink
         (IsLookAt (files_there (F.file_at files.old) (F.stamp_at files.old)) wanted) path.now result
         (F.failures files.old) (F.failures files.new) faults.old faults.new }
 {
@@ -95,7 +95,7 @@ pub(crate) fn look_over<F: RecordingFiles, E: Sink>(
 ) -> Found
     ensures files { F.file_at files.new ≡ F.file_at files.old }
     ensures stamps { F.stamp_at files.new ≡ F.stamp_at files.old }
-    ensures found { IsFoundBy E.Sink (IsLookIn (F.file_at files.old) digest false) path.now result
+    ensures found { IsFoundByLook E.Sink (IsLookIn (F.file_at files.old) digest false) path.now result
         (F.failures files.old) (F.failures files.new) faults.old faults.new }
 {
     match files.open(path) {
@@ -128,7 +128,7 @@ fn look_again<F: RecordingFiles, E: Sink>(
     ensures files { F.file_at files.new ≡ F.file_at files.old }
     ensures stamps { F.stamp_at files.new ≡ F.stamp_at files.old }
     ensures found { Of (F.file_at files.old path.now) (λ b. IsGivenOf b report) →
-        IsFoundBy E.Sink (IsLookIn (F.file_at files.old) true false) path.now result
+        IsFoundByLook E.Sink (IsLookIn (F.file_at files.old) true false) path.now result
         (F.failures files.old) (F.failures files.new) faults.old faults.new }
 {
     match files.open(path) {
@@ -158,7 +158,7 @@ fn look_inside<F: RecordingFiles, E: Sink>(
     ensures stamps { F.stamp_at files.new ≡ F.stamp_at files.old }
     ensures found { (wanted : Wanted) → shows_contents wanted.style ≡ true →
         Of (F.file_at files.old path.now) (λ b. HasReportAndDigest b wanted.digest report digest) →
-        IsFoundBy E.Sink
+        IsFoundByLook E.Sink
         (IsLookAt (files_there (F.file_at files.old) (F.stamp_at files.old)) wanted) path.now result
         (F.failures files.old) (F.failures files.new) faults.old faults.new }
 {
@@ -191,7 +191,7 @@ fn look_within<F: RecordingFiles, E: Sink>(
     ensures stamps { F.stamp_at files.new ≡ F.stamp_at files.old }
     ensures found { (asked : Bool) →
         Of (F.file_at files.old path.now) (λ b. HasReportAndDigest b asked report digest) →
-        IsFoundBy E.Sink (IsLookIn (F.file_at files.old) asked true) path.now result
+        IsFoundByLook E.Sink (IsLookIn (F.file_at files.old) asked true) path.now result
         (F.failures files.old) (F.failures files.new) faults.old faults.new }
 {
     match files.open(path) {
