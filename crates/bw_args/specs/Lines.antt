@@ -327,7 +327,7 @@ IsLineFor command (Run task) = IsWishOf command (wish_of task)
 IsLineFor command (Bad value) = AsksNothing command × Lacks command value
 IsLineFor command (Report error) = ⊥
 
--- `send` is asked for with neither the name of a take nor words of recordings
+-- `send` is asked for with neither a name nor a FILE
 abbrev pub is_nameless : Option (Text × List Row) → Bool
 is_nameless None = false
 is_nameless (Some command) = bytes_eq command.0 (codes "send")
@@ -344,8 +344,8 @@ pub record AsksFor (words : List Text) (wish : Wish) : Type 0 where
   pub taken : fault_of command_line words ≡ []
   pub asked : IsWishOf (subcommand_of command_line words) wish
 
--- the kinds of error that the words may have: those of `clap`'s walk over them, and else, where `send`
--- lacks a name, that of a missing argument
+-- the kinds of error that the words may have: those of `clap`'s walk over them, and else, where `send` has
+-- neither a name nor a FILE, that of a missing argument
 abbrev pub error_kinds : List Text → Kinds
 error_kinds words = or_else (fault_of command_line words)
     (if is_nameless (subcommand_of command_line words) then MissingRequiredArgument ∷ [] else [])

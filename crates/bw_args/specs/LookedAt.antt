@@ -102,7 +102,7 @@ looked_at_trying = Rounds ∷ Timeout ∷ Fruitless ∷ Rate ∷ []
 abbrev pub looked_at_samples : List BadValue
 looked_at_samples = Pcm ∷ Skip ∷ Block ∷ MixedSamples ∷ []
 
--- the values that a sender looks at, of several recordings or of at most one, in this order
+-- the values that `send` looks at, with a FILE and without, in this order
 abbrev pub looked_at_sending : Bool → List BadValue
 looked_at_sending true = Files ∷ Connect ∷ (looked_at_trying ++ Receipt ∷ [])
 looked_at_sending false =

@@ -133,7 +133,7 @@ pub(crate) struct Tries {
     pub(crate) rate: Option<u32>,
 }
 
-/// Whether neither the name of a take nor words of recordings are given.
+/// Whether neither a name nor a FILE is given.
 pub(crate) fn lacks_name(options: &ArgMatches<'_>) -> bool
     ensures { result ≡ not (is_some (first_value (found_of options.now) (codes "name"))
         || has_files (first_value (found_of options.now))) }
