@@ -1,0 +1,2 @@
+pub mod PathNames
+pub mod Namings
