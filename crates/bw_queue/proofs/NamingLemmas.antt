@@ -115,7 +115,7 @@ pub empty_good : (before : List (List ℕ)) (line : List ℕ) → (length line =
 empty_good before [] empty = inl refl
 empty_good before (c ∷ line) empty = absurd (search (rules, tests, empty))
 
-same_bytes : (xs : List ℕ) → pointwise nat_eq xs xs ≡ true
+pub same_bytes : (xs : List ℕ) → pointwise nat_eq xs xs ≡ true
 same_bytes [] = refl
 same_bytes (x ∷ xs) =
     let first : nat_eq x x ≡ true = grind arith in rw first (same_bytes xs)

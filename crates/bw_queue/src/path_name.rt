@@ -1,10 +1,11 @@
 //! The name of a take, made of the path of its recording.
-ghost use Rattle.std.specs.Prelude.{◌≡◌, ◌++◌, IsTrue, IfOk, IfSome, OnOk, length, ◌<◌};
+ghost use Rattle.std.specs.Prelude.{◌≡◌, ◌++◌, IsTrue, IfOk, OnOk};
 ghost use Rattle.std.specs.Option.{SomeIff};
-ghost use Rattle.std.specs.Path.{rfind_below};
 ghost use Rattle.bw_model.specs.Wire.{is_name};
-ghost use Rattle.bw_queue.specs.PathNames.{file_part as file_of, name_byte as byte_of_name, name_made, name_part, stem_part};
+ghost use Rattle.bw_queue.specs.PathNames.{file_part as file_of, name_byte as byte_of_name, name_made};
+ghost use Rattle.bw_queue.specs.PathNames.{name_part, stem_part};
 
+use crate::places::last_place;
 use bw_model::Name;
 use std::alloc::{AllocError, Global};
 
@@ -46,21 +47,6 @@ fn stem_of(file: &[u8]) -> &[u8]
         Some(place) if place > 0 => &file[..place],
         _ => file,
     }
-}
-
-/// The place of the last such byte of a text.
-fn last_place(text: &[u8], byte: u8) -> Option<usize>
-    ensures place { result ≡ rfind_below byte text.now (length text.now) }
-    ensures inside { IfSome result (λ place. place < length text.now) }
-{
-    let mut place = text.len();
-    while place > 0 {
-        place -= 1;
-        if text[place] == byte {
-            return Some(place);
-        }
-    }
-    None
 }
 
 /// Appends what a byte of a file's name becomes in a name.

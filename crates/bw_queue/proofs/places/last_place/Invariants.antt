@@ -1,6 +1,6 @@
 use Rattle.std.proofs.Common.{◌≡◌, length, ◌≤◌}
 use Rattle.std.specs.Path.{rfind_below}
-use Rattle.bw_queue.proofs.path_name.last_place.Given as goal
+use Rattle.bw_queue.proofs.places.last_place.Given as goal
 
 -- after this place there is no such byte
 abbrev pub invariant-loop-place : goal.invariant-loop-place
