@@ -1,11 +1,12 @@
 -- What is seen of this machine's files and of its clock.
-use Rattle.std.specs.Prelude.{ℕ, Bool}
+use Rattle.std.specs.Prelude.{ℕ, Bool, List, string_bytes}
 use Rattle.bw_net.specs.declared.host.Host.{Host}
 use Rattle.bw_net.specs.declared.recordings.HostRecordings.{HostRecordings}
 use Rattle.bw_net.specs.declared.recordings.StampedFile.{StampedFile}
 use Rattle.bw_net.specs.declared.followed.FollowedFile.{FollowedFile}
 use Rattle.bw_net.specs.declared.spool_file.SpoolFile.{SpoolFile}
 use Rattle.bw_net.specs.declared.receipts.HostReceipts.{HostReceipts}
+use Rattle.bw_net.specs.declared.receipts.ReceiptFile.{ReceiptFile}
 use Rattle.bw_net.specs.declared.states.HostStates.{HostStates}
 use Rattle.bw_net.specs.declared.states.StateFile.{StateFile}
 use Rattle.bw_net.specs.declared.pause.ClockPause.{ClockPause}
@@ -54,6 +55,10 @@ state_failures f = f.failures
 -- as the files of receipts did
 abbrev pub receipts_failures : HostReceipts → ℕ
 receipts_failures s = s.failures
+
+-- the path of one of them that was begun
+abbrev pub opened_receipts_path : ReceiptFile → List ℕ
+opened_receipts_path f = string_bytes f.path
 
 -- the runtime by whose clock is waited
 abbrev pub pausing_runtime : {R : Type 0} → ClockPause R → R

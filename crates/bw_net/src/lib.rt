@@ -49,7 +49,7 @@ pub use noted_files::{NotedFile, NotedFiles};
 pub use noted_stream::NotedStream;
 pub use pause::{ClockPause, SpoolPause};
 pub use reactor::TcpReactor;
-pub use receipts::HostReceipts;
+pub use receipts::{HostReceipts, ReceiptFile};
 pub use recordings::{HostRecordings, StampedFile};
 pub use socket::Socket;
 pub use spool::SpoolCell;

@@ -1,5 +1,6 @@
 //! Files of receipts, by the calls of std.
-ghost use Rattle.std.specs.Prelude.{◌≡◌, None};
+ghost use Rattle.std.specs.Prelude.{◌≡◌, IfOk, None};
+ghost use Rattle.bw_net.specs.SeenFiles.{opened_receipts_path};
 
 use crate::counting::counted;
 use crate::recordings::HostRecordings;
@@ -17,19 +18,30 @@ pub struct HostReceipts<'a> {
     failures: u64,
 }
 
+/// A file of receipts that was begun. It is opened again for each line, so that a line isn't lost where
+/// the file was moved away since.
+#[derive(Drop)]
+pub struct ReceiptFile {
+    path: String,
+}
+
 impl ReceiptFiles for HostReceipts<'_> {
-    ghost use Rattle.bw_net.specs.SeenFiles.{receipts_failures};
+    ghost use Rattle.bw_net.specs.SeenFiles.{opened_receipts_path, receipts_failures};
+
+    type File = ReceiptFile;
 
     ghost receipts_at = { λ s path. None };
 
+    ghost path_of = { opened_receipts_path };
+
     ghost failures = { receipts_failures };
 
-    fn begin(&mut self, path: &str) -> io::Result<()> {
-        counted(make_file(self.rt, path), &mut self.failures)
+    fn begin(&mut self, path: &str) -> io::Result<ReceiptFile> {
+        counted(begin_file(self.rt, path), &mut self.failures)
     }
 
-    fn append(&mut self, path: &str, line: &[u8]) -> io::Result<()> {
-        counted(append_line(self.rt, path, line), &mut self.failures)
+    fn append(&mut self, file: &mut ReceiptFile, line: &[u8]) -> io::Result<()> {
+        counted(append_line(self.rt, file.path.as_str(), line), &mut self.failures)
     }
 }
 
@@ -47,11 +59,14 @@ impl<'a> ReceiptKeeping for HostRecordings<'a> {
 }
 
 /// Makes a file of receipts, if it isn't there.
-fn make_file(rt: &HostRuntime, path: &str) -> io::Result<()> {
+fn begin_file(rt: &HostRuntime, path: &str) -> io::Result<ReceiptFile>
+    ensures { IfOk result (λ file. opened_receipts_path file ≡ path.now) }
+{
+    let kept = String::from_str(rt.alloc(), path)?;
     let _file = open_receipts(rt, path)?;
     // Some file systems can't sync a folder. Without it a loss of power may take an empty file away.
     let _ = sync_folder_of(rt, path);
-    Ok(())
+    Ok(ReceiptFile { path: kept })
 }
 
 /// A file of receipts, made if it isn't there. What isn't a file is opened without waiting, since it

@@ -34,21 +34,21 @@ pub record IsReceiptOf (sender : FileSender) (target : ReceiptTarget) (job : Rec
 
 module _ {F H G M R Q O E : Type 0} (files : FileGhosts F H G M) (receipts : ReceiptSide F R)
     (out : Writer O) (reported : Writer E) where
-  -- the receipt of the recording's file, as it is after the sending, was put
-  pub record PutsItsReceipt (sender : FileSender) (target : ReceiptTarget) (exit : Exit)
-      (r r' : R) (w w' : SenderWorld F Q O E) : Type 0 where
+  -- the receipt of the recording's file, as it is after the sending, was put into the file that was opened
+  pub record PutsItsReceipt (sender : FileSender) (target : ReceiptTarget) (file : Option receipts.Opened)
+      (exit : Exit) (r r' : R) (w w' : SenderWorld F Q O E) : Type 0 where
     pub job : ReceiptJob
     pub job_is : IsReceiptOf sender target job
-    pub puts : PutsReceipt receipts.files out reported (files.file_at w.files job.source.now) job exit
+    pub puts : PutsReceipt receipts.files out reported (files.file_at w.files job.source.now) job file exit
         (files.failures w.files) (files.failures w'.files) r r' w.out w'.out w.faults w'.faults
     pub unchanged : files.file_at w'.files ≡ files.file_at w.files
     pub unpaused : w'.pause ≡ w.pause
 
   -- the sending ended so: a receipt is put only if all is stored
-  abbrev pub PutsIfStored : FileSender → ReceiptTarget → Exit → Exit → R → R →
+  abbrev pub PutsIfStored : FileSender → ReceiptTarget → Option receipts.Opened → Exit → Exit → R → R →
       SenderWorld F Q O E → SenderWorld F Q O E → Type 0
-  PutsIfStored sender target exits.Done exit r r' w w' = PutsItsReceipt sender target exit r r' w w'
-  PutsIfStored sender target sent exit r r' w w' = (exit ≡ sent) × (r' ≡ r) × (w' ≡ w)
+  PutsIfStored sender target file exits.Done exit r r' w w' = PutsItsReceipt sender target file exit r r' w w'
+  PutsIfStored sender target file sent exit r r' w w' = (exit ≡ sent) × (r' ≡ r) × (w' ≡ w)
 
   -- memory was refused before anything was done
   pub record GivesUpReceipt (exit : Exit) (w w' : SenderWorld F Q O E) : Type 0 where
@@ -68,20 +68,21 @@ module _ {F H G M R Q O E : Type 0} (files : FileGhosts F H G M) (receipts : Rec
     pub begins : BeginsReceipts receipts.files reported to (Err exit) opened left w.faults faults
     pub alone : w' ≡ record w { faults = faults }
 
-  -- the recording was sent, with a file of receipts that was there before, and its receipt put into it
+  -- the recording was sent, with a file of receipts that was opened before, and its receipt put into it
   pub record SendsAndPuts (sends : Exit → SenderWorld F Q O E → SenderWorld F Q O E → Type 0)
       (sender : FileSender) (target : ReceiptTarget) (exit : Exit) (w w' : SenderWorld F Q O E) : Type 0 where
     pub opened : R
     pub kept : receipts.files.receipts_at opened ≡ receipts.noted_at w.files
     pub begun : R
     pub faults : E
-    pub begins : BeginsReceipts receipts.files reported (string_bytes target.path) (Ok tt)
+    pub file : Option receipts.Opened
+    pub begins : BeginsReceipts receipts.files reported (string_bytes target.path) (Ok file)
         opened begun w.faults faults
     pub sent : Exit
     pub between : SenderWorld F Q O E
     pub sends_it : sends sent (record w { faults = faults }) between
     pub left : R
-    pub puts : PutsIfStored sender target sent exit begun left between w'
+    pub puts : PutsIfStored sender target file sent exit begun left between w'
 
   -- the recording was sent so with a receipt, or not at all
   abbrev pub SendsWithReceipt : (Exit → SenderWorld F Q O E → SenderWorld F Q O E → Type 0) → FileSender →

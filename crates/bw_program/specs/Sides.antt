@@ -57,11 +57,12 @@ spool_side lends keeper = record { lends = lends; keeper = keeper }
 
 -- the texts of receipts, and the files that they are appended to
 pub record ReceiptSide (F R : Type 0) : Type 1 where
+  pub Opened : Type 0
   pub noted_at : F → List ℕ → Option (List ℕ)
-  pub files : ReceiptGhosts R
+  pub files : ReceiptGhosts R Opened
 
-abbrev pub receipt_side : {F R : Type 0} → (F → List ℕ → Option (List ℕ)) → ReceiptGhosts R → ReceiptSide F R
-receipt_side noted_at files = record { noted_at = noted_at; files = files }
+abbrev pub receipt_side : {F R H : Type 0} → (F → List ℕ → Option (List ℕ)) → ReceiptGhosts R H → ReceiptSide F R
+receipt_side {H = H} noted_at files = record { Opened = H; noted_at = noted_at; files = files }
 
 -- the system, the files of recordings, the states, the spools and the receipts of their senders, how
 -- files are changed in place, the locks of servers' folders, what is at each path, the disk of these

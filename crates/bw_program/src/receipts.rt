@@ -15,7 +15,7 @@ use bw_report::{ReceiptJob, begin_receipts, put_receipt};
 use std::alloc::Global;
 
 /// Sends the recording that the command line names, and puts its receipt once all is stored. The file
-/// of receipts is made first, so that nothing is sent where it can't be.
+/// of receipts is opened first, so that nothing is sent where it can't be.
 pub(crate) fn send_with_receipt<X: Environment>(
     alloc: Global,
     sender: &FileSender,
@@ -31,9 +31,10 @@ pub(crate) fn send_with_receipt<X: Environment>(
     };
     let mut receipts = outside.files.receipts();
     let to = target.path.as_str();
-    if let Err(exit) = begin_receipts(alloc, &mut receipts, to, &mut outside.faults) {
-        return exit;
-    }
+    let file = match begin_receipts(alloc, &mut receipts, to, &mut outside.faults) {
+        Ok(file) => file,
+        Err(exit) => return exit,
+    };
     match send_file_there(alloc, sender, outside, observers) {
         Exit::Done => {
             let job = job_of(sender, target, address.as_str());
@@ -43,7 +44,7 @@ pub(crate) fn send_with_receipt<X: Environment>(
                 faults,
                 ..
             } = outside;
-            put_receipt(alloc, &job, files, &mut receipts, out, faults)
+            put_receipt(alloc, &job, files, &mut receipts, file, out, faults)
         }
         exit => exit,
     }

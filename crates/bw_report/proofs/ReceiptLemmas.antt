@@ -147,40 +147,37 @@ added = record { reads_all = true; out = Nothing; faults = Nothing; exit = Done 
 pub same_print : (text line : List ℕ) (did : Outcome) → text ≡ line → PrintsText text did → PrintsText line did
 same_print text line did same prints = subst (λ (t : List ℕ). PrintsText t did) same prints
 
-module _ {R : Type 0} (receipts : Keeper R) (to text line : List ℕ) (old new : R) (same : text ≡ line)
-    (is_file : to ≢ standard_output)
-    (others : KeepsOtherPaths to (receipts.receipts_at old) (receipts.receipts_at new)) where
+module _ {R F : Type 0} (receipts : Keeper R F) (file : F) (asked text line : List ℕ) (old new : R) (same : text ≡ line)
+    (others : KeepsOtherPaths (receipts.path_of file) (receipts.receipts_at old) (receipts.receipts_at new)) where
   -- the line was appended
   pub appended : receipts.failures new ≡ receipts.failures old
-      → AddsLine (receipts.receipts_at old to) text (receipts.receipts_at new to) → PutsLine receipts to line old new added
-  appended failures adds = inr (
-    is_file,
-    inl (record {
-      adds = subst (λ (t : List ℕ). AddsLine (receipts.receipts_at old to) t (receipts.receipts_at new to)) same adds;
-      others = others;
-      failures = failures;
-      exit_is = refl;
-      reads = refl;
-      prints = refl;
-      reports = refl;
-    }),
-  )
+      → AddsLine (receipts.receipts_at old (receipts.path_of file)) text (receipts.receipts_at new (receipts.path_of file))
+      → PutsLine receipts (Some file) asked line old new added
+  appended failures adds = inl (record {
+    adds = subst (λ (t : List ℕ). AddsLine (receipts.receipts_at old (receipts.path_of file)) t
+        (receipts.receipts_at new (receipts.path_of file))) same adds;
+    others = others;
+    failures = failures;
+    exit_is = refl;
+    reads = refl;
+    prints = refl;
+    reports = refl;
+  })
 
   -- .. or in part
   pub appended_in_part : (kind : ErrorKind) (did : Outcome) → receipts.failures new ≡ one_more (receipts.failures old)
-      → AddsLineInPart (receipts.receipts_at old to) text (receipts.receipts_at new to)
-      → ReportsFailure (unwritten_receipt_text to) kind did ⊎ IsOutOfMemory did → PutsLine receipts to line old new did
-  appended_in_part kind did failures adds reports = inr (
-    is_file,
-    inr (record {
-      adds = subst
-          (λ (t : List ℕ). AddsLineInPart (receipts.receipts_at old to) t (receipts.receipts_at new to)) same adds;
-      others = others;
-      failures = failures;
-      kind = kind;
-      reports = reports;
-    }),
-  )
+      → AddsLineInPart (receipts.receipts_at old (receipts.path_of file)) text
+        (receipts.receipts_at new (receipts.path_of file))
+      → ReportsFailure (unwritten_receipt_text asked) kind did ⊎ IsOutOfMemory did
+      → PutsLine receipts (Some file) asked line old new did
+  appended_in_part kind did failures adds reports = inr (record {
+    adds = subst (λ (t : List ℕ). AddsLineInPart (receipts.receipts_at old (receipts.path_of file)) t
+        (receipts.receipts_at new (receipts.path_of file))) same adds;
+    others = others;
+    failures = failures;
+    kind = kind;
+    reports = reports;
+  })
 
 -- nothing is printed where the system failed to add a line
 pub none_printed : (line : List ℕ → List ℕ) (kind : ErrorKind) (did : Outcome)
@@ -196,11 +193,11 @@ reported_alone out reported w e e' did none prints = record {
   reported = prints;
 }
 
-module _ {R W E : Type 0} (receipts : Keeper R) (out : Writer W) (reported : Writer E) (file : Option (List ℕ))
-    (job : ReceiptJob) (exit : Exit) (n n' : ℕ) where
+module _ {R F W E : Type 0} (receipts : Keeper R F) (out : Writer W) (reported : Writer E)
+    (bytes : Option (List ℕ)) (job : ReceiptJob) (opened : Option F) (exit : Exit) (n n' : ℕ) where
   -- a recording without a receipt: this is all that is done
   pub none_put : (r : R) (w : W) (e e' : E) → IsLeftOut reported job.source.now exit n n' e e'
-      → PutsReceipt receipts out reported file job exit n n' r r w w e e'
+      → PutsReceipt receipts out reported bytes job opened exit n n' r r w w e e'
   none_put r w e e' left = record {
     did = left.did;
     ends = left.ends;
@@ -213,9 +210,9 @@ module _ {R W E : Type 0} (receipts : Keeper R) (out : Writer W) (reported : Wri
 
   -- the line of the recording is put
   pub line_put : (old new : R) (w w' : W) (e e1 e' : E) (line : List ℕ) (did : Outcome)
-      → Of file (λ b. IsLineOfRecording job b line) × (n' ≡ n) × (e1 ≡ e) → did.exit ≡ exit
-      → PutsLine receipts job.to.now line old new did → HasWritten out reported did w w' e1 e'
-      → PutsReceipt receipts out reported file job exit n n' old new w w' e e'
+      → Of bytes (λ b. IsLineOfRecording job b line) × (n' ≡ n) × (e1 ≡ e) → did.exit ≡ exit
+      → PutsLine receipts opened job.to.now line old new did → HasWritten out reported did w w' e1 e'
+      → PutsReceipt receipts out reported bytes job opened exit n n' old new w w' e e'
   line_put old new w w' e e1 e' line did made ends puts writes = record {
     did = did;
     ends = ends;

@@ -1,6 +1,6 @@
 -- The receipt of a recording: what its line says, and where it is put.
 use Rattle.std.specs.Prelude.{◌≡◌, ◌≢◌, ◌⊎◌, ℕ, Bool, true, false, List, [], ◌∷◌, ◌++◌, codes}
-use Rattle.std.specs.Prelude.{Option, Result, Ok, Err, if◌then◌else◌}
+use Rattle.std.specs.Prelude.{Option, None, Some, Result, Ok, Err, if◌then◌else◌}
 use Rattle.std.specs.declared.io.ErrorKind.{ErrorKind}
 use Rattle.bw_model.specs.Report.{frames_of}
 use Rattle.bw_stream.specs.Moves.{one_more}
@@ -76,7 +76,7 @@ pub record IsLeftOut {E : Type 0} (reported : Writer E) (path : List ℕ) (exit 
   pub why : HasNoReceipt path is_opened did
   pub reports : IsPrint reported did.faults e e'
 
-module _ {R : Type 0} (receipts : Keeper R) (to : List ℕ) where
+module _ {R F : Type 0} (receipts : Keeper R F) (to : List ℕ) where
   -- the line was added to the file at the path, and nothing is printed or reported
   pub record AddsReceipt (line : List ℕ) (old new : R) (did : Outcome) : Type 0 where
     pub adds : AddsLine (receipts.receipts_at old to) line (receipts.receipts_at new to)
@@ -87,29 +87,26 @@ module _ {R : Type 0} (receipts : Keeper R) (to : List ℕ) where
     pub prints : did.out ≡ Nothing
     pub reports : did.faults ≡ Nothing
 
-  -- the system failed to add it, which is reported
-  pub record FailsToAdd (line : List ℕ) (old new : R) (did : Outcome) : Type 0 where
+  -- the system failed to add it, which is reported of the path that was asked for
+  pub record FailsToAdd (asked line : List ℕ) (old new : R) (did : Outcome) : Type 0 where
     pub adds : AddsLineInPart (receipts.receipts_at old to) line (receipts.receipts_at new to)
     pub others : KeepsOtherPaths to (receipts.receipts_at old) (receipts.receipts_at new)
     pub failures : receipts.failures new ≡ one_more (receipts.failures old)
     pub kind : ErrorKind
-    pub reports : ReportsFailure (unwritten_receipt_text to) kind did ⊎ IsOutOfMemory did
+    pub reports : ReportsFailure (unwritten_receipt_text asked) kind did ⊎ IsOutOfMemory did
 
-  -- the line was printed, or added to the file at the path, as far as the system let it
-  abbrev pub PutsLine : List ℕ → R → R → Outcome → Type 0
-  PutsLine line old new did =
-      ((to ≡ standard_output) × (PrintsText line did × (new ≡ old)))
-      ⊎ ((to ≢ standard_output) × (AddsReceipt line old new did ⊎ FailsToAdd line old new did))
-
-  -- the file at the path was made, unless it is standard output
-  pub record BeginsReceiptFile {E : Type 0} (old new : R) (e e' : E) : Type 0 where
+  -- the file at the path was opened, and made if it wasn't there
+  pub record BeginsReceiptFile {E : Type 0} (file : F) (old new : R) (e e' : E) : Type 0 where
+    pub is_file : to ≢ standard_output
+    pub opened : receipts.path_of file ≡ to
     pub kept : receipts.receipts_at new ≡ receipts.receipts_at old
     pub failures : receipts.failures new ≡ receipts.failures old
     pub reports : e' ≡ e
 
-  -- it can't be made, which is reported
+  -- it can't be, which is reported
   pub record FailsToBegin {E : Type 0} (reported : Writer E) (exit : Exit) (old new : R) (e e' : E)
       : Type 0 where
+    pub is_file : to ≢ standard_output
     pub kept : receipts.receipts_at new ≡ receipts.receipts_at old
     pub failures : receipts.failures new ≡ one_more (receipts.failures old)
     pub did : Outcome
@@ -118,24 +115,32 @@ module _ {R : Type 0} (receipts : Keeper R) (to : List ℕ) where
     pub is : IsUnopened to kind did ⊎ IsOutOfMemory did
     pub reports : IsPrint reported did.faults e e'
 
--- the file of receipts at a path was made, or is standard output, or why it can't be made was reported
-abbrev pub BeginsReceipts : {R E : Type 0} → Keeper R → Writer E → List ℕ → Result (Unit {0}) Exit →
+-- the line was printed, or added to the file that was opened, as far as the system let it
+abbrev pub PutsLine : {R F : Type 0} → Keeper R F → Option F → List ℕ → List ℕ → R → R → Outcome → Type 0
+PutsLine receipts None asked line old new did = PrintsText line did × (new ≡ old)
+PutsLine receipts (Some file) asked line old new did =
+    AddsReceipt receipts (receipts.path_of file) line old new did
+    ⊎ FailsToAdd receipts (receipts.path_of file) asked line old new did
+
+-- the file of receipts at a path was opened, or is standard output, or why it can't be was reported
+abbrev pub BeginsReceipts : {R F E : Type 0} → Keeper R F → Writer E → List ℕ → Result (Option F) Exit →
     R → R → E → E → Type 0
-BeginsReceipts receipts reported to (Ok x) old new e e' =
-    ((to ≡ standard_output) × (new ≡ old) × (e' ≡ e))
-    ⊎ ((to ≢ standard_output) × BeginsReceiptFile receipts to old new e e')
+BeginsReceipts receipts reported to (Ok None) old new e e' =
+    (to ≡ standard_output) × (new ≡ old) × (e' ≡ e)
+BeginsReceipts receipts reported to (Ok (Some file)) old new e e' =
+    BeginsReceiptFile receipts to file old new e e'
 BeginsReceipts receipts reported to (Err exit) old new e e' =
-    (to ≢ standard_output) × FailsToBegin receipts to reported exit old new e e'
+    FailsToBegin receipts to reported exit old new e e'
 
 -- the job's receipt was put, where the file at its path has these bytes, if they are reported
-pub record PutsReceipt {R W E : Type 0} (receipts : Keeper R) (out : Writer W) (reported : Writer E)
-    (file : Option (List ℕ)) (job : ReceiptJob) (exit : Exit) (n n' : ℕ)
+pub record PutsReceipt {R F W E : Type 0} (receipts : Keeper R F) (out : Writer W) (reported : Writer E)
+    (bytes : Option (List ℕ)) (job : ReceiptJob) (opened : Option F) (exit : Exit) (n n' : ℕ)
     (old new : R) (w w' : W) (e e' : E) : Type 0 where
   pub did : Outcome
   pub ends : did.exit ≡ exit
   pub is_opened : Bool
   pub failures : n' ≡ failures_if is_opened n
   pub is : (HasNoReceipt job.source.now is_opened did × (new ≡ old))
-      ⊎ ((is_opened ≡ true) × ((line : List ℕ) × (Of file (λ b. IsLineOfRecording job b line)
-      × PutsLine receipts job.to.now line old new did)))
+      ⊎ ((is_opened ≡ true) × ((line : List ℕ) × (Of bytes (λ b. IsLineOfRecording job b line)
+      × PutsLine receipts opened job.to.now line old new did)))
   pub writes : HasWritten out reported did w w' e e'

@@ -32,7 +32,7 @@ pub struct ReceiptJob<'a> {
     pub source: &'a str,
     /// The server's address.
     pub address: &'a str,
-    /// The path of the file that the receipt is added to; `-` for standard output.
+    /// The path of the file that the receipt is added to, as reports have it.
     pub to: &'a str,
     /// Whether it is a line of JSON, or of words.
     pub json: bool,
@@ -68,8 +68,8 @@ impl ReceiptJob<'_> {
     }
 }
 
-/// Makes the file of receipts at a path, unless that is `-`, so that one that can't be written is
-/// known before anything is sent.
+/// Opens the file of receipts at a path, so that one that can't be written is known before anything is
+/// sent. `-` is standard output, which is no file.
 ///
 /// # Errors
 /// How the command ends, after `PATH can't be opened: REASON` was reported: `Device`, or `Memory` if
@@ -82,21 +82,21 @@ pub fn begin_receipts<R: ReceiptFiles, E: Sink>(
     receipts: &mut R,
     to: &str,
     faults: &mut E,
-) -> Result<(), Exit>
+) -> Result<Option<R::File>, Exit>
     ensures { BeginsReceipts R.ReceiptFiles E.Sink to.now result receipts.old receipts.new
         faults.old faults.new }
 {
     if to == "-" {
-        return Ok(());
+        return Ok(None);
     }
     match receipts.begin(to) {
-        Ok(()) => Ok(()),
+        Ok(file) => Ok(Some(file)),
         Err(error) => Err(report_unopened(alloc, to, &error, faults)),
     }
 }
 
-/// Puts the receipt of a recording: reads its file again, and prints or appends a line of the name,
-/// the frames and the SHA-256 of the samples, the address and the path.
+/// Puts the receipt of a recording: reads its file again, and appends a line of the name, the frames
+/// and the SHA-256 of the samples, the address and the path to a file, or prints it where there is none.
 ///
 /// `Done` if the line is there, whole. `Device` if the recording can't be opened or read, has a fault,
 /// or the line can't be written, of which a part may be there then; `Memory` if memory was refused.
@@ -111,23 +111,24 @@ pub fn put_receipt<F: RecordingFiles, R: ReceiptFiles, W: Sink, E: Sink>(
     job: &ReceiptJob<'_>,
     files: &mut F,
     receipts: &mut R,
+    opened: Option<R::File>,
     out: &mut W,
     faults: &mut E,
 ) -> Exit
     ensures files { F.file_at files.new ≡ F.file_at files.old }
     // Without a report of the file's bytes and their digest nothing is printed or appended.
     ensures puts { PutsReceipt R.ReceiptFiles W.Sink E.Sink (F.file_at files.old job.now.source.now)
-        job.now result (F.failures files.old) (F.failures files.new) receipts.old receipts.new
+        job.now opened result (F.failures files.old) (F.failures files.new) receipts.old receipts.new
         out.old out.new faults.old faults.new }
 {
     let line = match recording_line(alloc, job, files, faults) {
         Ok(line) => line,
         Err(exit) => return exit,
     };
-    if job.to == "-" {
+    let Some(mut file) = opened else {
         return print_text(line.as_slice(), out, faults);
-    }
-    match receipts.append(job.to, line.as_slice()) {
+    };
+    match receipts.append(&mut file, line.as_slice()) {
         Ok(()) => Exit::Done,
         Err(error) => report_unwritten(alloc, job.to, &error, faults),
     }
