@@ -1,2 +1,3 @@
 pub mod NamingLemmas
 pub mod NamedLemmas
+pub mod ListingLemmas

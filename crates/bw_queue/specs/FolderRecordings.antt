@@ -25,9 +25,13 @@ IsRecordingName file =
 abbrev pub is_slash_last : List ℕ → Bool
 is_slash_last path = nat_lt 0 (length path) && (slice_index path (length path - 1) == 47)
 
+-- what comes between a folder and its file: a slash, unless the folder ends with one
+abbrev pub slash_between : List ℕ → List ℕ
+slash_between folder = if is_slash_last folder then [] else codes "/"
+
 -- the path of a file in a folder
 unfoldable pub path_within : List ℕ → List ℕ → List ℕ
-path_within folder file = folder ++ (if is_slash_last folder then [] else codes "/") ++ file
+path_within folder file = folder ++ (slash_between folder ++ file)
 
 -- a file of a folder is a recording, as far as is told
 abbrev pub IsQueuedFile : (List ℕ → FileKind → Type 0) → List ℕ → List ℕ → Type 0

@@ -14,12 +14,16 @@ pub record QueueSide : Type 1 where
   pub lists : List ℕ → List (List ℕ) → Type 0
   pub reads : List ℕ → Option (List ℕ) → Type 0
 
+-- the bytes of the file at a path, or that there is none
+abbrev pub disk_reads : {D DF : Type 0} → DiskGhosts D DF → D → List ℕ → Option (List ℕ) → Type 0
+disk_reads disk d path found = IsTrue (disk.honest d) → disk.contents d path ≡ found
+
 -- the same of these files and this disk
 abbrev pub queue_side : {F D DF : Type 0} → KindGhosts F → F → DiskGhosts D DF → D → QueueSide
 queue_side kinds files disk d = record {
   kinds = kinds.kinds files;
   lists = λ folder names. IsTrue (disk.honest d) → Lists folder (disk.contents d) names;
-  reads = λ path found. IsTrue (disk.honest d) → disk.contents d path ≡ found;
+  reads = disk_reads disk d;
 }
 
 -- how often calls of the disk had failed before and after: none did, unless something couldn't be read, and

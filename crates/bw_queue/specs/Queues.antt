@@ -17,9 +17,9 @@ abbrev pub given_path : Option (Bor (List ℕ)) → Option (List ℕ)
 given_path path = option_map (λ p. p.now) path
 
 -- the text of the file of names, which is empty without one
-abbrev pub GivesText : QueueSide → Option (List ℕ) → List ℕ → Type 0
-GivesText side None text = text ≡ []
-GivesText side (Some path) text = side.reads path (Some text)
+abbrev pub GivesText : (List ℕ → Option (List ℕ) → Type 0) → Option (List ℕ) → List ℕ → Type 0
+GivesText reads None text = text ≡ []
+GivesText reads (Some path) text = reads path (Some text)
 
 -- the receipts of a file, if there is one
 abbrev pub HasKept : Option (List ℕ) → List Receipt → Type 0
@@ -27,10 +27,10 @@ HasKept None receipts = receipts ≡ []
 HasKept (Some text) receipts = SaysAllBut text receipts
 
 -- the receipts that are there already
-abbrev pub GivesReceipts : QueueSide → Option (List ℕ) → List Receipt → Type 0
-GivesReceipts side None receipts = receipts ≡ []
-GivesReceipts side (Some path) receipts =
-    (found : Option (List ℕ)) × side.reads path found × HasKept found receipts
+abbrev pub GivesReceipts : (List ℕ → Option (List ℕ) → Type 0) → Option (List ℕ) → List Receipt → Type 0
+GivesReceipts reads None receipts = receipts ≡ []
+GivesReceipts reads (Some path) receipts =
+    (found : Option (List ℕ)) × reads path found × HasKept found receipts
 
 -- the recordings at these paths, named by a text, each with a name of its own
 pub record AreNamedBy (text : List ℕ) (paths : List (List ℕ)) (recordings : List QueuedRecording) : Type 0 where
@@ -56,9 +56,9 @@ names_path None = []
 names_path (Some path) = path
 
 -- the line of a line of the file of receipts that is none
-abbrev pub SaysBadReceipt : QueueSide → Option (List ℕ) → List ℕ → Type 0
-SaysBadReceipt side None line = ⊥
-SaysBadReceipt side (Some path) line = (text : List ℕ) × side.reads path (Some text)
+abbrev pub SaysBadReceipt : (List ℕ → Option (List ℕ) → Type 0) → Option (List ℕ) → List ℕ → Type 0
+SaysBadReceipt reads None line = ⊥
+SaysBadReceipt reads (Some path) line = (text : List ℕ) × reads path (Some text)
     × ((number : ℕ) × HasBadLine (ended_lines text) number × (line ≡ no_receipt_text path number))
 
 -- the line of a file that can't be read
@@ -70,17 +70,17 @@ SaysUnreadable (Some path) line = line ≡ unreadable_text path
 -- the file of receipts
 pub record IsQueue (side : QueueSide) (request : QueueRequest) (queue : Queue) : Type 0 where
   pub text : List ℕ
-  pub given : GivesText side (given_path request.names) text
+  pub given : GivesText side.reads (given_path request.names) text
   pub paths : List (List ℕ)
   pub found : EachGives (StandsFor side) (map string_bytes request.paths.now) paths
   pub named : AreNamedBy text paths queue.recordings.items
-  pub known : GivesReceipts side (given_path request.receipts) queue.receipts.items
+  pub known : GivesReceipts side.reads (given_path request.receipts) queue.receipts.items
 
 -- the line that says what is wrong with what is asked for
 abbrev pub SaysRefused : QueueSide → QueueRequest → List ℕ → Type 0
-SaysRefused side request line = SaysBadReceipt side (given_path request.receipts) line
+SaysRefused side request line = SaysBadReceipt side.reads (given_path request.receipts) line
     ⊎ (SaysEmptyFolder side (map string_bytes request.paths.now) line
-    ⊎ ((text : List ℕ) × GivesText side (given_path request.names) text
+    ⊎ ((text : List ℕ) × GivesText side.reads (given_path request.names) text
     × ((paths : List (List ℕ)) × EachGives (StandsFor side) (map string_bytes request.paths.now) paths
     × SaysUnnamed (names_path (given_path request.names)) text paths line)))
 
@@ -91,6 +91,6 @@ SaysUnread side request line = SaysUnreadable (given_path request.names) line
     ⊎ SaysUnlisted side (map string_bytes request.paths.now) line)
 
 -- there is no file at this path
-abbrev pub IsMissing : QueueSide → Option (List ℕ) → Type 0
-IsMissing side None = ⊥
-IsMissing side (Some path) = side.reads path None
+abbrev pub IsMissing : (List ℕ → Option (List ℕ) → Type 0) → Option (List ℕ) → Type 0
+IsMissing reads None = ⊥
+IsMissing reads (Some path) = reads path None
