@@ -300,13 +300,17 @@ EOF
 run serve --help
 ends_with 'help on serve' 0 ''
 cat >wanted <<'EOF'
-Sends a recording, or the requests on standard input, until each has its verdict
+Sends recordings, or the requests on standard input, until each has its verdict
 
-Usage: bwingest send [OPTIONS] --connect <ADDR> --name <NAME>
+Usage: bwingest send [OPTIONS] --connect <ADDR> [FILE]...
+
+Arguments:
+  [FILE]...  Recordings, or folders of recordings, each sent as by --file under a name made of its file's name
 
 Options:
       --connect <ADDR>            The server's address: 127.0.0.1:PORT, or any address or host with --network
-      --name <NAME>               The name of the take
+      --name <NAME>               The name of the take; required without FILE..
+      --names <NAMES>             With FILE..: NAMES has a line 'NAME PATH' for each take that is to have another name
       --rounds <N>                Makes up to N exchanges of at most 16 requests, 1 to 1000 [default: 16]
       --timeout <SECONDS>         How long to wait for a silent server, 1 to 86400 [default: forever; with --file or --spool 30]
       --network                   Allows any address; nothing on the wire is encrypted or signed
@@ -323,12 +327,13 @@ Options:
       --spool <SPOOL>             With --pcm, instead of --file: appends standard input to SPOOL, and sends it until the input ends
       --fruitless <N>             With --file or --spool: gives up after N connections in a row that settle nothing, 1 to 1000000 [default: 10; with --follow or --spool never]
       --log                       With --file or --spool: reports each change of the connection on standard error
-      --state <STATE>             With --file: keeps its progress in STATE, and continues from there when run again
+      --state <STATE>             With --file: keeps its progress in STATE, and continues from there when run again; with FILE.. a folder of such files
       --rate <BYTES>              With --file or --spool: sends at most BYTES a second, 1 to 4294967295 [default: no limit]
       --receipt <RECEIPTS>        With --file: once all is stored, adds a receipt to RECEIPTS (name, frames, SHA-256 of the samples); --receipt=- prints it
       --json                      With --receipt: writes the receipt as a line of JSON
   -h, --help                      Print help
 
+Example: bwingest send --connect 127.0.0.1:4100 takes/*.wav
 Example: bwingest send --connect 127.0.0.1:4100 --name a1 --file take.wav
 Example: bwingest send --connect 127.0.0.1:4100 --name a1 < requests.hex
 EOF

@@ -17,6 +17,7 @@ use Rattle.bw_args.proofs.RehearsalLemmas.{runs_rehearsal}
 use Rattle.bw_args.proofs.RepairLemmas.{runs_repair}
 use Rattle.bw_args.proofs.SenderLemmas.{runs_sender}
 use Rattle.bw_args.proofs.ServerLemmas.{runs_server}
+use Rattle.bw_args.proofs.SeveralLemmas.{refuses_several, runs_files_sender}
 use Rattle.bw_args.proofs.ValueLemmas.{refuses_values}
 
 pub runs_commands : (words : List Text) (line : CommandLine) → IsLineOf words line → RunsCommands words line
@@ -28,6 +29,7 @@ runs_commands words line is = record {
   send = runs_sender words line is;
   send_file = runs_file_sender words line is;
   send_pcm = runs_pcm_sender words line is;
+  send_files = runs_files_sender words line is;
   pack = runs_pack words line is;
   picture = runs_picture words line is;
   repair = runs_repair words line is;
@@ -43,4 +45,5 @@ refuses_lines words line is = record {
   wanted = wants_peers words line is;
   files = refuses_files words line is;
   samples = refuses_samples words line is;
+  several = refuses_several words line is;
 }

@@ -3,6 +3,7 @@ use Rattle.std.proofs.Common.{◌≡◌, ℕ, ◌<◌, ◌≤◌, Bool, true, fa
 use Rattle.std.proofs.Common.{OnErr, ap, codes, refl, subst, sym, ◌∙◌, arith, inl, inr, unwrap_or}
 use Rattle.std.proofs.Math.Path.{fun_ext}
 use Rattle.std.specs.Prelude.{⊤, ◌⊎◌, ◌&&◌, ◌||◌, if◌then◌else◌, is_some, not, option_map}
+use Rattle.std.specs.Str.{bytes_eq}
 use Rattle.std.specs.declared.net.socket_addr.SocketAddr.{SocketAddr}
 use Rattle.std.specs.Net.Socket.{socket_port}
 use Rattle.clap.specs.Words.{Row, Text, first_of, first_value, rows_of}
@@ -14,7 +15,9 @@ use Rattle.bw_args.specs.Given.{GivesAddress, GivesCount, GivesCountOr, GivesEnd
 use Rattle.bw_args.specs.Given.{GivesNoFuse, GivesRecorders, IsAddressGiven, IsEnd, IsEndGiven, IsLimitGiven, IsNameGiven}
 use Rattle.bw_args.specs.Given.{IsJournaling, IsJournalingGiven, IsRecorders, IsRecordersGiven, given_on_line, is_set}
 use Rattle.bw_args.specs.Given.{GivesStatus, GivesWork, IsWork, IsWorkGiven, is_watch_mixed}
-use Rattle.bw_args.specs.Sources.{GivesSource, PlainSource, is_mixed, path_given, settings_on_line}
+use Rattle.bw_args.specs.Sources.{GivesSource, PlainSource, has_files, is_mixed, is_source_mixed}
+use Rattle.bw_args.specs.Sources.{path_given, settings_on_line}
+use Rattle.bw_args.specs.SeveralRecordings.{FilesUpload, is_files_mixed}
 use Rattle.bw_args.specs.LeftOutOptions.{is_left_out_mixed}
 use Rattle.bw_args.specs.ReceiptOptions.{is_receipt_mixed, receipt_given}
 use Rattle.bw_args.specs.InspectedFiles.{GivesInspection, PlainInspection, is_possible, one_file}
@@ -22,8 +25,8 @@ use Rattle.bw_args.specs.Lines.{GivesRest, IsRestGiven}
 use Rattle.bw_args.specs.declared.bad_value.BadValue.TheVariants.{Rest}
 use Rattle.bw_args.specs.Lines.{AsksForPath, AsksNothing, GivesSender, GivesServer, GivesTries, HasNumbersInRange}
 use Rattle.bw_args.specs.Lines.{IsEndWithin, HasPort, IsFirstBad, IsGood, IsLineFor, IsWayWithin, IsWishOf, IsWithin, Service}
-use Rattle.bw_args.specs.Lines.{FileUpload, Wish, looked_at, looked_at_trying, looked_at_waiting}
-use Rattle.bw_args.specs.Lines.{Replaying, Rehearsing, Inspecting, Packing, Sending, SendingPcm, Serving}
+use Rattle.bw_args.specs.Lines.{FileUpload, IsTakenLine, Wish, is_nameless, looked_at, looked_at_sending, looked_at_trying, looked_at_waiting}
+use Rattle.bw_args.specs.Lines.{Replaying, Rehearsing, Inspecting, Packing, Sending, SendingFiles, SendingPcm, Serving}
 use Rattle.bw_args.specs.Lines.{Uploading, PcmUpload, looked_at_samples, InspectingFiles, Repairing, Listing, Verifying, Picturing}
 use Rattle.bw_args.specs.PcmSources.{GivesFormat, GivesSamples, PlainPcm, fruitless_of, is_live, is_unpaired}
 use Rattle.bw_args.specs.PcmSources.{samples_with}
@@ -33,8 +36,8 @@ use Rattle.bw_args.specs.Numbers.{most_block, most_fruitless, most_rate, most_re
 use Rattle.bw_args.specs.declared.commands.sending.Tries.{Tries}
 use Rattle.bw_args.specs.declared.CommandLine.{CommandLine}
 use Rattle.bw_args.specs.declared.CommandLine.TheVariants.{Run, BadValue as Bad, Report}
-use Rattle.bw_args.specs.declared.Task.TheVariants.{Replay, Rehearse, Serve, Send, SendFile, SendPcm}
-use Rattle.bw_args.proofs.WishLemmas.{one_count, other_name, same_way}
+use Rattle.bw_args.specs.declared.Task.TheVariants.{Replay, Rehearse, Serve, Send, SendFile, SendFiles, SendPcm}
+use Rattle.bw_args.proofs.WishLemmas.{one_count, other_name, same_way, unmixed_parts}
 use Rattle.bw_args.specs.declared.folders.FolderWork.{FolderWork}
 use Rattle.bw_args.specs.declared.folders.FolderWork.TheVariants.{Report as Reported}
 use Rattle.bw_args.specs.Forms.{RunsFor}
@@ -95,7 +98,7 @@ none_kept None None others mixed none = refl
 
 -- without a recording's file nothing is said of fruitless links, nor of a rate, nor of a receipt, nor of
 -- what is kept
-no_pace : (given : Text → Option Text) → path_given given ≡ None → is_mixed given ≡ false
+no_pace : (given : Text → Option Text) → path_given given ≡ None → is_source_mixed given ≡ false
     → (given (codes "fruitless") ≡ None) × ((given (codes "rate") ≡ None)
     × ((is_receipt_mixed given ≡ false) × (is_left_out_mixed given ≡ false)))
 no_pace given none unmixed =
@@ -128,8 +131,8 @@ no_pace given none unmixed =
     )
 
 -- with it nothing of rounds
-no_rounds : (given : Text → Option Text) (path : Text) → path_given given ≡ Some path → is_mixed given ≡ false
-    → given (codes "rounds") ≡ None
+no_rounds : (given : Text → Option Text) (path : Text) → path_given given ≡ Some path
+    → is_source_mixed given ≡ false → given (codes "rounds") ≡ None
 no_rounds given path has unmixed = go (path_given given) (given (codes "rounds")) has unmixed
   where
     go : (file rounds : Option Text) → file ≡ Some path
@@ -143,6 +146,11 @@ no_rounds given path has unmixed = go (path_given given) (given (codes "rounds")
     go None rounds is unmixed = let bad : None ≡ Some path = is in cc
     go (Some text) None is unmixed = refl
     go (Some text) (Some count) is unmixed = let bad : true ≡ false = unmixed in cc
+
+-- nor with several recordings
+no_rounds_first : (rounds : Option Text) (others : Bool) → (is_some rounds || others) ≡ false → rounds ≡ None
+no_rounds_first None others none = refl
+no_rounds_first (Some text) others none = let bad : true ≡ false = none in cc
 
 -- nothing is a good number
 no_count : (most : ℕ) (text : Option Text) → text ≡ None → GivesCount most text None
@@ -207,14 +215,22 @@ verified_good given receipts v = verified_alone _ _ _ _ _ _ receipts v.is v.alon
 
 -- what is asked for has good values alone
 pub wished_good : (name : Text) (options : List Row) (wish : Wish) → IsWishOf (Some (name, options)) wish
-    → AllGood (looked_at name) (given_on_line options)
+    → AllGood (looked_at name (given_on_line options)) (given_on_line options)
 wished_good name options wish asked = go wish asked
   where
-    at : (command : Text) → name ≡ command → AllGood (looked_at command) (given_on_line options)
-        → AllGood (looked_at name) (given_on_line options)
-    at command same good = subst (λ n. AllGood (looked_at n) (given_on_line options)) (sym same) good
+    at : (command : Text) → name ≡ command → AllGood (looked_at command (given_on_line options)) (given_on_line options)
+        → AllGood (looked_at name (given_on_line options)) (given_on_line options)
+    at command same good =
+        subst (λ n. AllGood (looked_at n (given_on_line options)) (given_on_line options)) (sym same) good
 
-    go : (w : Wish) → IsWishOf (Some (name, options)) w → AllGood (looked_at name) (given_on_line options)
+    sends : (several : Bool) → name ≡ codes "send" → has_files (given_on_line options) ≡ several
+        → AllGood (looked_at_sending several) (given_on_line options)
+        → AllGood (looked_at name (given_on_line options)) (given_on_line options)
+    sends several same is good = at (codes "send") same
+        (subst (λ b. AllGood (looked_at_sending b) (given_on_line options)) (sym is) good)
+
+    go : (w : Wish) → IsWishOf (Some (name, options)) w
+        → AllGood (looked_at name (given_on_line options)) (given_on_line options)
     go (Replaying limit fuse) a = at (codes "replay") a.0 ((limit, a.1), ((fuse, a.2), tt))
     go (Rehearsing take_name limit) a = at (codes "rehearse") a.0 ((take_name, a.1), ((limit, a.2), tt))
     go (Listing folder work) a = at (codes "takes") a.0 (
@@ -231,20 +247,30 @@ wished_good name options wish asked = go wish asked
         also (server.recorders, a.1.serves) also (server.end, a.1.ends) also (server.journal, a.1.journals)
         also (server.rest, a.1.rests) also (server.status, a.1.shows) also (server.log, a.1.reports) also tt)
     go (Sending sender) a =
-        let paceless = no_pace (given_on_line options) a.1.lines a.1.unmixed in
-        at (codes "send") a.0 (
+        let parts = unmixed_parts (given_on_line options) a.1.unmixed in
+        let paceless = no_pace (given_on_line options) a.1.lines parts.1 in
+        sends false a.0 parts.0 (
         (sender.connect, a.1.connects) also (sender.name, a.1.named) also (a.1.tries.0, a.1.tries.1)
         also (sender.timeout, a.1.waits) also (None, no_count most_fruitless _ paceless.0)
         also (None, no_count most_rate _ paceless.1.0) also a.1.unmixed also paceless.1.1.0
         also paceless.1.1.1 also samples_good (given_on_line options) None a.1.unsampled)
-    go (Uploading sender) a = at (codes "send") a.0 (
+    go (Uploading sender) a =
+        let parts = unmixed_parts (given_on_line options) a.1.unmixed in
+        sends false a.0 parts.0 (
         (sender.connect, a.1.connects) also (sender.name, a.1.named)
-        also (None, no_count most_rounds _ (no_rounds (given_on_line options) sender.source.path a.1.takes.from a.1.unmixed))
+        also (None, no_count most_rounds _ (no_rounds (given_on_line options) sender.source.path a.1.takes.from parts.1))
         also (a.1.waits.0, a.1.waits.1) also (a.1.ends.0, a.1.ends.1) also (sender.rate, a.1.paced)
         also a.1.unmixed also a.1.receipted also a.1.takes.kept also samples_good (given_on_line options) None a.1.unsampled)
-    go (SendingPcm sender) a = at (codes "send") a.0 (
+    go (SendingFiles sender) a = sends true a.0 a.1.some (
+        a.1.unmixed also (sender.connect, a.1.connects)
+        also (None, no_count most_rounds _ (no_rounds_first (given_on_line options (codes "rounds")) _ a.1.unmixed))
+        also (a.1.waits.0, a.1.waits.1) also (a.1.ends.0, a.1.ends.1) also (sender.rate, a.1.paced)
+        also a.1.receipted also tt)
+    go (SendingPcm sender) a =
+        let parts = unmixed_parts (given_on_line options) a.1.unmixed in
+        sends false a.0 parts.0 (
         (sender.connect, a.1.connects) also (sender.name, a.1.named)
-        also (None, no_count most_rounds _ (no_rounds (given_on_line options) sender.source.path a.1.takes.from a.1.unmixed))
+        also (None, no_count most_rounds _ (no_rounds (given_on_line options) sender.source.path a.1.takes.from parts.1))
         also (a.1.waits.0, a.1.waits.1) also (a.1.count, a.1.counts) also (sender.rate, a.1.paced)
         also a.1.unmixed also a.1.unreceipted also a.1.takes.kept
         also samples_good (given_on_line options) (Some sender.pcm) a.1.samples)
@@ -274,14 +300,32 @@ one_bad (first ∷ later) given a b x y = elim x [
 
 -- if a value is the first that is bad, that is the line
 pub bad_line : (found : Found) (command : Text) (value : BadValue)
-    → IsFirstBad (looked_at command) (first_value found) value → IsLineFor (Some (command, rows_of found)) (Bad value)
+    → IsFirstBad (looked_at command (first_value found)) (first_value found) value
+    → IsLineFor (Some (command, rows_of found)) (Bad value)
 bad_line found command value first =
-    let bad : IsFirstBad (looked_at command) (given_on_line (rows_of found)) value =
-    by_rows found (λ g. IsFirstBad (looked_at command) g value) first in (
-      (λ wish asked. good_not_bad (looked_at command) (given_on_line (rows_of found)) value
+    let given = given_on_line (rows_of found) in
+    let bad : IsFirstBad (looked_at command given) given value =
+    by_rows found (λ g. IsFirstBad (looked_at command g) g value) first in (
+      (λ wish asked. good_not_bad (looked_at command given) given value
           (wished_good command (rows_of found) wish asked) bad),
       inl bad,
     )
+
+-- so of `send`, with words of several recordings or without
+pub bad_sender : (found : Found) (several : Bool) (value : BadValue) → has_files (first_value found) ≡ several
+    → IsFirstBad (looked_at_sending several) (first_value found) value
+    → IsLineFor (Some (codes "send", rows_of found)) (Bad value)
+bad_sender found several value is first = bad_line found (codes "send") value
+    (subst (λ b. IsFirstBad (looked_at_sending b) (first_value found) value) (sym is) first)
+
+-- whether `send` lacks a name, by its options
+pub nameless_given : (found : Found) (command : Text) (lacks : Bool) → bytes_eq command (codes "send") ≡ true
+    → lacks ≡ not (is_some (first_value found (codes "name")) || has_files (first_value found))
+    → lacks ≡ is_nameless (Some (command, rows_of found))
+nameless_given found command lacks same is =
+    by_rows found (λ g. lacks ≡ not (is_some (g (codes "name")) || has_files g)) is
+    ∙ ap (λ b. b && not (is_some (given_on_line (rows_of found) (codes "name"))
+    || has_files (given_on_line (rows_of found)))) (sym same)
 
 -- the limit that is given is the one on the line
 limit_on_line : (found : Found) (limit : ℕ) → GivesLimit (first_value found (codes "limit")) limit
@@ -577,6 +621,71 @@ pcm_asked found sender count connects named takes samples waits counts ends repo
     unmixed = by_rows found (λ g. is_mixed g ≡ false) unmixed;
     unreceipted = by_rows found (λ g. is_receipt_mixed g ≡ false) unreceipted;
   },
+)
+
+-- and the sender of several recordings
+pub files_asked : (found : Found) (sender : FilesUpload) → has_files (first_value found) ≡ true
+    → Some sender.paths ≡ option_map raw_values (matched_of found (codes "files"))
+    → is_files_mixed (first_value found) ≡ false
+    → GivesAddress (is_set (first_value found (codes "network"))) (first_value found (codes "connect")) sender.connect
+    → sender.names ≡ first_value found (codes "names") → sender.settings ≡ settings_on_line (rows_of found)
+    → sender.strict ≡ is_set (first_value found (codes "strict"))
+    → sender.strict_texts ≡ is_set (first_value found (codes "strict-texts"))
+    → GivesCountOr default_timeout most_seconds (first_value found (codes "timeout")) sender.timeout
+    → GivesCountOr default_fruitless most_fruitless (first_value found (codes "fruitless")) sender.fruitless
+    → sender.log ≡ is_set (first_value found (codes "log")) → sender.states ≡ first_value found (codes "state")
+    → sender.receipt ≡ receipt_given (first_value found) → is_receipt_mixed (first_value found) ≡ false
+    → GivesCount most_rate (first_value found (codes "rate")) sender.rate
+    → IsWishOf (Some (codes "send", rows_of found)) (SendingFiles sender)
+files_asked found sender some takes unmixed connects named sets strict texts waits ends reports keeps receipts receipted
+    paced = (
+      refl,
+      record {
+        some = by_rows found (λ g. has_files g ≡ true) some;
+        takes = sym (takes ∙ raw_values-rows found (codes "files"));
+        unmixed = by_rows found (λ g. is_files_mixed g ≡ false) unmixed;
+        connects = address_by_rows found (codes "connect") sender.connect connects;
+        named = by_rows found (λ g. sender.names ≡ g (codes "names")) named;
+        sets = sets;
+        refuses = by_rows found (λ g. sender.strict ≡ is_set (g (codes "strict"))) strict;
+        refuses_texts = by_rows found (λ g. sender.strict_texts ≡ is_set (g (codes "strict-texts"))) texts;
+        waits = by_rows found (λ g. GivesCountOr default_timeout most_seconds (g (codes "timeout")) sender.timeout) waits;
+        ends = by_rows found (λ g. GivesCountOr default_fruitless most_fruitless (g (codes "fruitless")) sender.fruitless)
+            ends;
+        reports = by_rows found (λ g. sender.log ≡ is_set (g (codes "log"))) reports;
+        keeps = by_rows found (λ g. sender.states ≡ g (codes "state")) keeps;
+        receipts = by_rows found (λ g. sender.receipt ≡ receipt_given g) receipts;
+        receipted = by_rows found (λ g. is_receipt_mixed g ≡ false) receipted;
+        paced = by_rows found (λ g. GivesCount most_rate (g (codes "rate")) sender.rate) paced;
+      },
+    )
+
+-- their paths are kept
+pub files_kept : (found : Found) (paths : List Text) (connect : SocketAddr) (tries : Tries)
+    → has_files (first_value found) ≡ true
+    → Some paths ≡ option_map raw_values (matched_of found (codes "files"))
+    → is_files_mixed (first_value found) ≡ false
+    → GivesAddress (is_set (first_value found (codes "network"))) (first_value found (codes "connect")) connect
+    → GivesTries (first_value found) tries → is_receipt_mixed (first_value found) ≡ false
+    → AsksForPath (Some (codes "send", rows_of found))
+files_kept found paths connect tries some takes unmixed connects given receipted = (
+  SendingFiles (record {
+    connect = connect;
+    paths = paths;
+    names = first_value found (codes "names");
+    settings = settings_on_line (rows_of found);
+    strict = is_set (first_value found (codes "strict"));
+    strict_texts = is_set (first_value found (codes "strict-texts"));
+    timeout = unwrap_or tries.timeout default_timeout;
+    fruitless = unwrap_or tries.fruitless default_fruitless;
+    log = is_set (first_value found (codes "log"));
+    states = first_value found (codes "state");
+    receipt = receipt_given (first_value found);
+    rate = tries.rate;
+  }),
+  tt,
+  files_asked found _ some takes unmixed connects refl refl refl refl (tries.timeout, given.waits, refl)
+      (tries.fruitless, given.ends, refl) refl refl refl receipted given.paced,
 )
 
 -- of a recording, or of samples, the file's path is kept
@@ -932,10 +1041,22 @@ line_limit (Some command) (Run (SendPcm sender)) asked = (
   given_block _ _ asked.1.samples,
   given_count _ _ sender.rate asked.1.paced,
 )
+line_limit (Some command) (Run (SendFiles sender)) asked = (
+  given_port _ _ sender.connect asked.1.connects,
+  given_count_or default_timeout most_seconds _ sender.timeout (omega arith) (omega arith) asked.1.waits,
+  given_count_or default_fruitless most_fruitless _ sender.fruitless (omega arith) (omega arith) asked.1.ends,
+  given_count _ _ sender.rate asked.1.paced,
+)
 line_limit (Some command) (Run task) asked = tt
 line_limit None (Run task) asked = absurd asked
 line_limit command (Bad value) asked = tt
 line_limit command (Report error) asked = tt
+
+pub taken_limit : (command : Option (Text × List Row)) (line : CommandLine) → IsTakenLine command line
+    → HasNumbersInRange line
+taken_limit command (Run task) taken = line_limit command (Run task) taken.1
+taken_limit command (Bad value) taken = tt
+taken_limit command (Report error) taken = tt
 
 -- what holds in any case holds of a fault
 pub on_err : {X Y P : Type 0} (r : Result X Y) → P → OnErr r P

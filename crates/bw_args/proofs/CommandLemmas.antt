@@ -4,9 +4,9 @@ use Rattle.std.specs.Prelude.{if◌then◌else◌}
 use Rattle.std.specs.Str.{bytes_eq}
 use Rattle.std.proofs.lemmas.Slice.Eq.{bytes_eq-Decides}
 use Rattle.clap.specs.Words.{Row, Text}
-use Rattle.bw_args.specs.Lines.{AsksNothing, IsLineFor, looked_at}
+use Rattle.bw_args.specs.Lines.{AsksNothing, IsLineFor, given_on_line, looked_at}
 use Rattle.bw_args.specs.Lines.{Replaying, Rehearsing, Inspecting, InspectingFiles, Serving, Sending, Uploading}
-use Rattle.bw_args.specs.Lines.{SendingPcm, Packing, Picturing, Repairing, Converting, Joining, Listing, Verifying}
+use Rattle.bw_args.specs.Lines.{SendingFiles, SendingPcm, Packing, Picturing, Repairing, Converting, Joining, Listing, Verifying}
 use Rattle.bw_args.specs.declared.CommandLine.TheVariants.{BadValue as Bad}
 use Rattle.bw_args.specs.declared.bad_value.BadValue.{BadValue}
 use Rattle.bw_args.specs.declared.bad_value.BadValue.TheVariants.{Limit, Inspection, Form, LeftOut}
@@ -38,7 +38,7 @@ pub unknown_line : (command : Option (Text × List Row)) (name : Text) (options 
 unknown_line command name options same replay rehearse inspect serve send pack picture repair convert join takes =
     subst (λ c. IsLineFor c (Bad Limit)) same (nothing, inr (unlooked, a_limit _ _ _ inspect convert pack))
   where
-    unlooked : looked_at name ≡ []
+    unlooked : looked_at name (given_on_line options) ≡ []
     unlooked = none_of _ _ _ _ _ (bytes_eq name (codes "replay")) (bytes_eq name (codes "rehearse"))
         (bytes_eq name (codes "serve")) (bytes_eq name (codes "send")) (bytes_eq name (codes "takes"))
         replay rehearse serve send takes
@@ -52,6 +52,7 @@ unknown_line command name options same replay rehearse inspect serve send pack p
     nothing (Sending sender) asked = not_named name (codes "send") send asked.0
     nothing (Uploading sender) asked = not_named name (codes "send") send asked.0
     nothing (SendingPcm sender) asked = not_named name (codes "send") send asked.0
+    nothing (SendingFiles sender) asked = not_named name (codes "send") send asked.0
     nothing (Packing source) asked = not_named name (codes "pack") pack asked.0
     nothing (Picturing path) asked = not_named name (codes "picture") picture asked.0
     nothing (Repairing path write) asked = not_named name (codes "repair") repair asked.0

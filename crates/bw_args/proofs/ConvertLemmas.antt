@@ -1,5 +1,5 @@
 -- The forms of `convert`, at values that are not known.
-use Rattle.std.proofs.Common.{◌≡◌, List, [], ◌∷◌, Option, Some, None, codes, refl, ap, subst, sym, ◌∙◌, inl, inr}
+use Rattle.std.proofs.Common.{false, ◌≡◌, List, [], ◌∷◌, Option, Some, None, codes, refl, ap, subst, sym, ◌∙◌, inl, inr}
 use Rattle.std.specs.Prelude.{map}
 use Rattle.clap.specs.declared.error.ErrorKind.TheVariants.{MissingRequiredArgument}
 use Rattle.clap.specs.Simple.{Shape, built, built_leaf}
@@ -9,7 +9,7 @@ use Rattle.bw_args.specs.Commands.{command_line, convert_command}
 use Rattle.bw_args.specs.ConvertForms.{RunsConvert}
 use Rattle.bw_args.specs.ReadWords.{as_read}
 use Rattle.bw_args.specs.Lines.{AsksFor, AsksNothing, Converting, IsFirstBad, IsLineOf, IsLineRead, Lacks, bad_unlooked}
-use Rattle.bw_args.specs.Lines.{given_on_line, looked_at, wish_of}
+use Rattle.bw_args.specs.Lines.{given_on_line, is_nameless, looked_at, error_kinds, wish_of}
 use Rattle.bw_args.specs.Forms.{IsPlain}
 use Rattle.bw_args.specs.AskedForms.{GivesConversion}
 use Rattle.bw_args.specs.declared.CommandLine.{CommandLine}
@@ -20,6 +20,7 @@ use Rattle.bw_args.specs.declared.asked_form.AskedForm.{AskedForm}
 use Rattle.bw_args.specs.declared.asked_form.AskedForm.TheVariants.{Rf64, Bw64}
 use Rattle.bw_args.proofs.ConvertAsked.{no_form, nothing_converted}
 use Rattle.bw_args.proofs.FormLemmas.{asked_reports, asked_runs}
+use Rattle.bw_args.proofs.LineLemmas.{fault_reason, no_reason}
 use Rattle.bw_args.proofs.PlainWords.{AreValues, Enters, Word, fault_of_values, level_by, literal, unknown, rows_by}
 use Rattle.bw_args.proofs.PlainWords.{rows_of_values, text_of, values_ask}
 
@@ -64,14 +65,15 @@ CannotConvert (Some command) =
 
 -- so of words that are taken
 abbrev IsFormless : List Text → Type 0
-IsFormless words = (fault_of command_line words ≡ []) × CannotConvert (subcommand_of command_line words)
+IsFormless words = (error_kinds words ≡ []) × CannotConvert (subcommand_of command_line words)
 
 -- so of a command's name and values
 values_lack : {name : Text} {s : Shape} → Enters (built command_line) name s → (program : Text) (words : List Word)
-    → AreValues words → level_by s words ≡ [] → CannotConvert (Some (s.name, rows_by s words))
-    → IsFormless (program ∷ name ∷ map text_of words)
-values_lack is program words are taken none = (
-  fault_of_values is program words are ∙ taken,
+    → AreValues words → level_by s words ≡ [] → is_nameless (Some (s.name, rows_by s words)) ≡ false
+    → CannotConvert (Some (s.name, rows_by s words)) → IsFormless (program ∷ name ∷ map text_of words)
+values_lack {name} is program words are taken other none = (
+  no_reason (program ∷ name ∷ map text_of words) (fault_of_values is program words are ∙ taken)
+      (ap is_nameless (rows_of_values is program words are) ∙ other),
   subst CannotConvert (sym (rows_of_values is program words are)) none,
 )
 
@@ -79,14 +81,14 @@ no_flag : (program path to : Text) → IsPlain path → IsPlain to
     → IsFormless (program ∷ codes "convert" ∷ path ∷ to ∷ [])
 unfolding clap_on_literals
 no_flag program path to p q = values_lack is_entered program
-    (unknown path ∷ unknown to ∷ []) (p, (q, tt)) refl
+    (unknown path ∷ unknown to ∷ []) (p, (q, tt)) refl refl
     (refl, no_form _ refl)
 
 both_flags : (program path to : Text) → IsPlain path → IsPlain to
     → IsFormless (program ∷ codes "convert" ∷ codes "--rf64" ∷ codes "--bw64" ∷ path ∷ to ∷ [])
 unfolding clap_on_literals
 both_flags program path to p q = values_lack is_entered program
-    (literal (codes "--rf64") ∷ literal (codes "--bw64") ∷ unknown path ∷ unknown to ∷ []) (tt, (tt, (p, (q, tt)))) refl
+    (literal (codes "--rf64") ∷ literal (codes "--bw64") ∷ unknown path ∷ unknown to ∷ []) (tt, (tt, (p, (q, tt)))) refl refl
     (refl, no_form _ refl)
 
 -- what such a command lacks
@@ -94,7 +96,8 @@ form_lacked : (command : Option (Text × List Row)) (value : BadValue) → Canno
     → value ≡ Form
 form_lacked None value none lacks = absurd none
 form_lacked (Some command) value none lacks = elim lacks [
-  | inl first ↦ absurd (subst (λ n. IsFirstBad (looked_at n) (given_on_line command.1) value) none.0 first)
+  | inl first ↦ absurd (subst
+      (λ n. IsFirstBad (looked_at n (given_on_line command.1)) (given_on_line command.1) value) none.0 first)
   | inr unlooked ↦ unlooked.1 ∙ ap bad_unlooked none.0
 ]
 
@@ -134,6 +137,7 @@ runs_convert words line is = record {
   bw64_last = λ n f t p q e. asked_runs words _ line _ is e (bw64_last_asks n f t p q);
   no_form = λ n f t p q e. formless_reported words _ line is e (no_flag n f t p q);
   both_forms = λ n f t p q e. formless_reported words _ line is e (both_flags n f t p q);
-  no_out = λ n f p e. asked_reports MissingRequiredArgument words _ line is e (lacks_out n f p);
+  no_out = λ n f p e. asked_reports MissingRequiredArgument words _ line is e (fault_reason (as_read (n ∷ codes "convert" ∷ codes "--rf64" ∷ f ∷ []))
+      MissingRequiredArgument (lacks_out n f p));
   none = λ n e. asked_reports MissingRequiredArgument words _ line is e refl;
 }

@@ -10,9 +10,10 @@ use Rattle.clap.proofs.OnLiterals.{clap_on_literals}
 use Rattle.bw_args.specs.Commands.{command_line, replay_command}
 use Rattle.bw_args.specs.Lines.{AsksFor, IsLineOf, IsLineRead, IsWishOf, Wish}
 use Rattle.bw_args.specs.ReadWords.{as_read}
-use Rattle.bw_args.specs.Lines.{Replaying, wish_of}
+use Rattle.bw_args.specs.Lines.{Replaying, error_kinds, wish_of}
 use Rattle.bw_args.specs.Forms.{IsPlain, IsReportedAs, RunsFor, RunsReplay, ReportsHelp}
 use Rattle.bw_args.specs.Numbers.{IsLimitText, IsNumber, default_limit, number_written}
+use Rattle.bw_args.proofs.LineLemmas.{asked_reason}
 use Rattle.bw_args.proofs.PlainWords.{Enters, literal, unknown, values_ask}
 use Rattle.bw_args.proofs.WishLemmas.{one_wish}
 use Rattle.bw_args.specs.declared.CommandLine.{CommandLine}
@@ -116,18 +117,19 @@ runs_replay words line is = record {
 }
 
 -- words with a fault of one kind report it
-pub reports : (kind : ErrorKind) (words : List Text) (line : CommandLine) → fault_of command_line words ≡ kind ∷ []
+pub reports : (kind : ErrorKind) (words : List Text) (line : CommandLine) → error_kinds words ≡ kind ∷ []
     → IsLineRead words line → IsReportedAs kind line
-reports kind words (Run task) fault is = let bad : kind ∷ [] ≡ [] = sym fault ∙ is.taken in cc
+reports kind words (Run task) fault is =
+    let bad : kind ∷ [] ≡ [] = sym fault ∙ asked_reason words (wish_of task) is in cc
 reports kind words (Bad value) fault is = let bad : kind ∷ [] ≡ [] = sym fault ∙ is.taken in cc
 reports kind words (Report error) fault is =
     elim (subst (IsAmong (kind_of error)) fault is.reason) [ inl same ↦ same | inr none ↦ absurd none ]
 
 -- as they are read
 pub asked_reports : (kind : ErrorKind) (words asking : List Text) (line : CommandLine) → IsLineOf words line
-    → words ≡ asking → fault_of command_line (as_read asking) ≡ kind ∷ [] → IsReportedAs kind line
+    → words ≡ asking → error_kinds (as_read asking) ≡ kind ∷ [] → IsReportedAs kind line
 asked_reports kind words asking line is e fault =
-    reports kind (as_read words) line (ap (λ w. fault_of command_line (as_read w)) e ∙ fault) is
+    reports kind (as_read words) line (ap (λ w. error_kinds (as_read w)) e ∙ fault) is
 
 pub reports_help : (words : List Text) (line : CommandLine) → IsLineOf words line → ReportsHelp words line
 unfolding clap_on_literals

@@ -5,13 +5,13 @@ use Rattle.std.specs.Prelude.{map, slice_index}
 use Rattle.std.proofs.lemmas.Slice.Eq.{bytes_eq-Decides}
 use Rattle.clap.specs.declared.error.ErrorKind.TheVariants.{MissingRequiredArgument}
 use Rattle.clap.specs.Simple.{Shape, built, built_leaf}
-use Rattle.clap.specs.Words.{IsAmong, Row, Text, fault_of, kind_of, subcommand_of}
+use Rattle.clap.specs.Words.{IsAmong, Row, Text, kind_of, subcommand_of}
 use Rattle.clap.specs.Walk.{all_of}
 use Rattle.clap.proofs.OnLiterals.{clap_on_literals}
 use Rattle.bw_args.specs.Commands.{command_line, inspect_command}
 use Rattle.bw_args.specs.ReadWords.{as_read}
 use Rattle.bw_args.specs.Lines.{AsksFor, IsFirstBad, IsLineOf, IsLineRead, Lacks, bad_unlooked, given_on_line, is_set}
-use Rattle.bw_args.specs.Lines.{AsksNothing, Inspecting, InspectingFiles, looked_at, wish_of}
+use Rattle.bw_args.specs.Lines.{AsksNothing, Inspecting, InspectingFiles, is_nameless, looked_at, error_kinds, wish_of}
 use Rattle.bw_args.specs.Forms.{Inspects, IsPlain, RunsFor, RunsInspect, inspection_of}
 use Rattle.bw_args.specs.InspectedFiles.{GivesInspection, PlainInspection, is_input, is_possible}
 use Rattle.bw_args.specs.declared.CommandLine.{CommandLine}
@@ -21,6 +21,7 @@ use Rattle.bw_args.specs.declared.bad_value.BadValue.{BadValue}
 use Rattle.bw_args.specs.declared.bad_value.BadValue.TheVariants.{Inspection}
 use Rattle.bw_args.proofs.Asked.{clashing, nothing_inspected}
 use Rattle.bw_args.proofs.FormLemmas.{asked_reports, asked_runs, asks}
+use Rattle.bw_args.proofs.LineLemmas.{no_reason}
 use Rattle.bw_args.proofs.PlainWords.{AreValues, Enters, Word, fault_of_values, level_by, literal, unknown, rows_by}
 use Rattle.bw_args.proofs.PlainWords.{rows_of_values, text_of, values_ask}
 
@@ -114,14 +115,15 @@ CannotInspect (Some command) =
 
 -- so of words that are taken
 abbrev IsClash : List Text → Type 0
-IsClash words = (fault_of command_line words ≡ []) × CannotInspect (subcommand_of command_line words)
+IsClash words = (error_kinds words ≡ []) × CannotInspect (subcommand_of command_line words)
 
 -- so of a command's name and values
 values_clash : {name : Text} {s : Shape} → Enters (built command_line) name s → (program : Text) (words : List Word)
-    → AreValues words → level_by s words ≡ [] → CannotInspect (Some (s.name, rows_by s words))
-    → IsClash (program ∷ name ∷ map text_of words)
-values_clash is program words are taken none = (
-  fault_of_values is program words are ∙ taken,
+    → AreValues words → level_by s words ≡ [] → is_nameless (Some (s.name, rows_by s words)) ≡ false
+    → CannotInspect (Some (s.name, rows_by s words)) → IsClash (program ∷ name ∷ map text_of words)
+values_clash {name} is program words are taken other none = (
+  no_reason (program ∷ name ∷ map text_of words) (fault_of_values is program words are ∙ taken)
+      (ap is_nameless (rows_of_values is program words are) ∙ other),
   subst CannotInspect (sym (rows_of_values is program words are)) none,
 )
 
@@ -129,7 +131,7 @@ both_clash : (program path : Text) → IsPlain path
     → IsClash (program ∷ codes "inspect" ∷ codes "--json" ∷ codes "--human" ∷ path ∷ [])
 unfolding clap_on_literals
 both_clash program path p = values_clash is_entered program
-    (literal (codes "--json") ∷ literal (codes "--human") ∷ unknown path ∷ []) (tt, (tt, (p, tt))) refl
+    (literal (codes "--json") ∷ literal (codes "--human") ∷ unknown path ∷ []) (tt, (tt, (p, tt))) refl refl
     (refl, clashing _ (path ∷ []) true true false refl refl refl refl refl)
 
 twice_clash : (program : Text) → IsClash (program ∷ codes "inspect" ∷ codes "--digest" ∷ codes "-" ∷ [])
@@ -139,7 +141,7 @@ twice_clash program = (refl, (refl, clashing _ (codes "-" ∷ []) false false tr
 beside_clash : (program path : Text) → IsPlain path → IsClash (program ∷ codes "inspect" ∷ codes "-" ∷ path ∷ [])
 unfolding clap_on_literals
 beside_clash program path p = values_clash is_entered program
-    (literal (codes "-") ∷ unknown path ∷ []) (tt, (p, tt)) refl
+    (literal (codes "-") ∷ unknown path ∷ []) (tt, (p, tt)) refl refl
     (refl, clashing _ (codes "-" ∷ path ∷ []) false false false refl refl refl refl refl)
 
 -- what such a command lacks
@@ -147,7 +149,8 @@ clash_lacked : (command : Option (Text × List Row)) (value : BadValue) → Cann
     → value ≡ Inspection
 clash_lacked None value none lacks = absurd none
 clash_lacked (Some command) value none lacks = elim lacks [
-  | inl first ↦ absurd (subst (λ n. IsFirstBad (looked_at n) (given_on_line command.1) value) none.0 first)
+  | inl first ↦ absurd (subst
+      (λ n. IsFirstBad (looked_at n (given_on_line command.1)) (given_on_line command.1) value) none.0 first)
   | inr unlooked ↦ unlooked.1 ∙ ap bad_unlooked none.0
 ]
 

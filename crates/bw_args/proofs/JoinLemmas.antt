@@ -16,6 +16,7 @@ use Rattle.bw_args.specs.declared.CommandLine.TheVariants.{BadValue as Bad}
 use Rattle.bw_args.specs.declared.bad_value.BadValue.TheVariants.{Limit}
 use Rattle.bw_args.proofs.Asked.{no_path}
 use Rattle.bw_args.proofs.FormLemmas.{asked_reports, asked_runs}
+use Rattle.bw_args.proofs.LineLemmas.{fault_reason}
 use Rattle.bw_args.proofs.PlainWords.{Enters, fault_of_values, unknown, values_ask}
 use Rattle.bw_args.proofs.WishLemmas.{other_name}
 
@@ -66,6 +67,6 @@ pub runs_join : (words : List Text) (line : CommandLine) → IsLineOf words line
 unfolding clap_on_literals
 runs_join words line is = record {
   both = λ n t f p q e. asked_runs words _ line _ is e (both_asks n t f p q);
-  no_left = λ n t p e. asked_reports MissingRequiredArgument words _ line is e (lacks_left n t p);
+  no_left = λ n t p e. asked_reports MissingRequiredArgument words _ line is e (fault_reason (as_read (n ∷ codes "join" ∷ t ∷ [])) MissingRequiredArgument (lacks_left n t p));
   none = λ n e. asked_reports MissingRequiredArgument words _ line is e refl;
 }

@@ -2,7 +2,7 @@
 use Rattle.std.proofs.Common.{◌≡◌, List, [], ◌∷◌, ◌++◌, true, false, Option, Some, None, codes, refl, ap, subst, sym}
 use Rattle.std.proofs.Common.{◌∙◌, inl, inr}
 use Rattle.clap.specs.Simple.{built, built_leaf}
-use Rattle.clap.specs.Words.{IsAmong, Row, Text, fault_of, kind_of, subcommand_of}
+use Rattle.clap.specs.Words.{IsAmong, Row, Text, kind_of, subcommand_of}
 use Rattle.clap.proofs.OnLiterals.{clap_on_literals}
 use Rattle.bw_args.specs.Commands.{command_line, pack_command}
 use Rattle.bw_args.specs.ReadWords.{as_read}
@@ -11,7 +11,7 @@ use Rattle.bw_args.specs.Sources.{PlainSource}
 use Rattle.bw_args.specs.FileForms.{plain_upload, source_at, with_file}
 use Rattle.bw_args.specs.Lines.{AsksFor, AsksNothing, Uploading}
 use Rattle.bw_args.specs.Lines.{IsFirstBad, IsLineOf, IsLineRead, Lacks, Packing, bad_unlooked}
-use Rattle.bw_args.specs.Lines.{given_on_line, looked_at, wish_of}
+use Rattle.bw_args.specs.Lines.{given_on_line, is_nameless, looked_at, error_kinds, wish_of}
 use Rattle.bw_args.specs.Forms.{IsPlain}
 use Rattle.bw_args.specs.declared.CommandLine.{CommandLine}
 use Rattle.bw_args.specs.declared.CommandLine.TheVariants.{Run, BadValue as Bad, Report}
@@ -19,7 +19,9 @@ use Rattle.bw_args.specs.declared.bad_value.BadValue.{BadValue}
 use Rattle.bw_args.specs.declared.bad_value.BadValue.TheVariants.{LeftOut, Mixed}
 use Rattle.bw_args.proofs.Asked.{bad, ◌and_then◌}
 use Rattle.bw_args.proofs.FormLemmas.{asks}
-use Rattle.bw_args.proofs.PlainWords.{Enters, fault_of_values, literal, rows_of_values, unknown, values_ask}
+use Rattle.bw_args.proofs.LineLemmas.{no_reason}
+use Rattle.bw_args.proofs.PlainWords.{Enters, fault_of_values, literal, rows_of_values, text_of, unknown, values_ask}
+use Rattle.std.specs.Prelude.{map}
 use Rattle.bw_args.proofs.SenderLemmas.{AsksSender, samples_by}
 use Rattle.bw_args.proofs.UploadLemmas.{upload_by}
 use Rattle.bw_args.proofs.ValueLemmas.{LacksSender, not_mixed, nothing}
@@ -33,14 +35,15 @@ CannotKeep (Some command) =
 
 -- so of words that are taken
 abbrev pub IsUnkept : List Text → Type 0
-IsUnkept words = (fault_of command_line words ≡ []) × CannotKeep (subcommand_of command_line words)
+IsUnkept words = (error_kinds words ≡ []) × CannotKeep (subcommand_of command_line words)
 
 -- what such a command lacks
 kept_lacked : (command : Option (Text × List Row)) (value : BadValue) → CannotKeep command → Lacks command value
     → value ≡ LeftOut
 kept_lacked None value none lacks = absurd none
 kept_lacked (Some command) value none lacks = elim lacks [
-  | inl first ↦ absurd (subst (λ n. IsFirstBad (looked_at n) (given_on_line command.1) value) none.0 first)
+  | inl first ↦ absurd (subst
+      (λ n. IsFirstBad (looked_at n (given_on_line command.1)) (given_on_line command.1) value) none.0 first)
   | inr unlooked ↦ unlooked.1 ∙ ap bad_unlooked none.0
 ]
 
@@ -74,7 +77,8 @@ pub strict_left_out : (program path left : Text) → IsPlain path
 unfolding clap_on_literals
 strict_left_out program path left p =
     let words = literal (codes "--strict") ∷ literal (codes "--keep-left-out=" ++ left) ∷ unknown path ∷ [] in (
-      fault_of_values is_entered program words (tt, (tt, (p, tt))) ∙ refl,
+      no_reason (program ∷ codes "pack" ∷ map text_of words) (fault_of_values is_entered program words (tt, (tt, (p, tt))) ∙ refl)
+          (ap is_nameless (rows_of_values is_entered program words (tt, (tt, (p, tt)))) ∙ refl),
       subst CannotKeep (sym (rows_of_values is_entered program words (tt, (tt, (p, tt))))) (refl, refl),
     )
 

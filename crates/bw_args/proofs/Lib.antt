@@ -22,4 +22,5 @@ pub mod ConvertAsked
 pub mod ConvertLemmas
 pub mod JoinLemmas
 pub mod FolderLemmas
+pub mod SeveralLemmas
 pub mod AllCommandLemmas

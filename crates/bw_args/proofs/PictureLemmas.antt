@@ -11,6 +11,7 @@ use Rattle.bw_args.specs.Forms.{IsPlain}
 use Rattle.bw_args.specs.PictureForms.{RunsPicture}
 use Rattle.bw_args.specs.declared.CommandLine.{CommandLine}
 use Rattle.bw_args.proofs.FormLemmas.{asked_reports, asked_runs, asks}
+use Rattle.bw_args.proofs.LineLemmas.{fault_reason}
 use Rattle.bw_args.proofs.PlainWords.{Enters, fault_of_values, unknown, values_ask}
 
 is_entered : Enters (built command_line) (codes "picture") (built_leaf picture_command.top)
@@ -37,6 +38,7 @@ unfolding clap_on_literals
 runs_picture words line is = record {
   alone = λ p f plain e. asked_runs words _ line _ is e (picture_asks p f plain);
   dash = λ p e. asked_runs words _ line _ is e (dash_asks p);
-  two = λ p f g plain more e. asked_reports UnknownArgument words _ line is e (two_fault p f g plain more);
+  two = λ p f g plain more e. asked_reports UnknownArgument words _ line is e (fault_reason (as_read (p ∷ codes "picture" ∷ f ∷ g ∷ [])) UnknownArgument
+      (two_fault p f g plain more));
   none = λ p e. asked_reports MissingRequiredArgument words _ line is e refl;
 }

@@ -2,12 +2,12 @@
 use Rattle.std.proofs.Common.{◌≡◌, ◌≢◌, List, [], ◌∷◌, ◌++◌, true, false, Option, Some, None, codes, refl, ap, subst}
 use Rattle.std.proofs.Common.{inl, inr}
 use Rattle.std.specs.declared.net.socket_addr.SocketAddr.{SocketAddr}
-use Rattle.clap.specs.Words.{IsAmong, Row, Text, fault_of, kind_of, subcommand_of}
+use Rattle.clap.specs.Words.{IsAmong, Row, Text, kind_of, subcommand_of}
 use Rattle.clap.proofs.OnLiterals.{clap_on_literals}
 use Rattle.bw_args.specs.Commands.{command_line}
 use Rattle.bw_args.specs.ReadWords.{as_read}
 use Rattle.bw_args.specs.Lines.{IsFirstBad, IsLineOf, IsLineRead, IsName, IsWishOf, Lacks, Wish}
-use Rattle.bw_args.specs.Lines.{given_on_line, looked_at, wish_of}
+use Rattle.bw_args.specs.Lines.{given_on_line, looked_at, error_kinds, wish_of}
 use Rattle.bw_args.specs.Addresses.{IsAddress}
 use Rattle.bw_args.specs.Forms.{RefusesValues}
 use Rattle.bw_args.specs.PeerForms.{sending, serving}
@@ -21,26 +21,27 @@ use Rattle.bw_args.proofs.Asked.{bad, good_not_bad, one_bad, wished_good, ◌and
 -- the command's first bad value
 abbrev pub HasFirstBad : Option (Text × List Row) → BadValue → Type 0
 HasFirstBad None value = ⊥
-HasFirstBad (Some command) value = IsFirstBad (looked_at command.0) (given_on_line command.1) value
+HasFirstBad (Some command) value =
+    IsFirstBad (looked_at command.0 (given_on_line command.1)) (given_on_line command.1) value
 
 -- a command with a bad value asks for nothing
 bad_not_wished : (command : Option (Text × List Row)) (value : BadValue) (wish : Wish) → HasFirstBad command value
     → ¬ IsWishOf command wish
 bad_not_wished None value wish first asked = first
 bad_not_wished (Some command) value wish first asked =
-    good_not_bad (looked_at command.0) (given_on_line command.1) value (wished_good command.0 command.1 wish asked)
-    first
+    good_not_bad (looked_at command.0 (given_on_line command.1)) (given_on_line command.1) value
+    (wished_good command.0 command.1 wish asked) first
 
 -- and lacks no other one
 one_lacked : (command : Option (Text × List Row)) (a b : BadValue) → HasFirstBad command a → Lacks command b → b ≡ a
 one_lacked None a b bad lacks = absurd bad
 one_lacked (Some command) a b bad lacks = elim lacks [
-  | inl first ↦ one_bad (looked_at command.0) (given_on_line command.1) b a first bad
+  | inl first ↦ one_bad (looked_at command.0 (given_on_line command.1)) (given_on_line command.1) b a first bad
   | inr none ↦ absurd (subst (λ (values : List BadValue). IsFirstBad values (given_on_line command.1) a) none.0 bad)
 ]
 
--- words that `clap` takes, and whose command has a first bad value, report it
-bad_reported : (words : List Text) (line : CommandLine) (value : BadValue) → fault_of command_line words ≡ []
+-- words that are taken, and whose command has a first bad value, report it
+bad_reported : (words : List Text) (line : CommandLine) (value : BadValue) → error_kinds words ≡ []
     → HasFirstBad (subcommand_of command_line words) value → IsLineRead words line → line ≡ Bad value
 bad_reported words (Run task) value taken bad is =
     absurd (bad_not_wished (subcommand_of command_line words) value (wish_of task) bad is.asked)
@@ -51,7 +52,7 @@ bad_reported words (Report error) value taken bad is = absurd (subst (IsAmong (k
 -- as they are read
 pub reported : (words asking : List Text) (line : CommandLine) (value : BadValue) → IsLineOf words line
     → words ≡ asking
-    → (fault_of command_line (as_read asking) ≡ []) × HasFirstBad (subcommand_of command_line (as_read asking)) value
+    → (error_kinds (as_read asking) ≡ []) × HasFirstBad (subcommand_of command_line (as_read asking)) value
     → line ≡ Bad value
 reported words asking line value is e bad =
     bad_reported (as_read asking) line value bad.0 bad.1 (subst (λ w. IsLineRead (as_read w) line) e is)
@@ -59,7 +60,7 @@ reported words asking line value is e bad =
 -- the words are taken, and this is the first bad value
 abbrev pub IsBadAt : List Text → BadValue → Type 0
 IsBadAt words value =
-    (fault_of command_line words ≡ []) × HasFirstBad (subcommand_of command_line words) value
+    (error_kinds words ≡ []) × HasFirstBad (subcommand_of command_line words) value
 
 -- so of a sender with these further words
 abbrev pub LacksSender : List Text → BadValue → Type 0

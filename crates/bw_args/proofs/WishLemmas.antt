@@ -2,7 +2,7 @@
 use Rattle.std.proofs.Common.{◌≡◌, ℕ, List, [], Bool, true, false, Option, Some, None, codes, sym, ◌∙◌, ap}
 use Rattle.std.proofs.Common.{subst, ◌∷◌}
 use Rattle.std.proofs.Common.{refl, unwrap_or}
-use Rattle.std.specs.Prelude.{is_some, option_map}
+use Rattle.std.specs.Prelude.{◌||◌, is_some, option_map}
 use Rattle.std.specs.Str.{bytes_eq}
 use Rattle.std.proofs.lemmas.Bool.{false≢true}
 use Rattle.std.proofs.lemmas.Slice.Eq.{bytes_eq-Decides}
@@ -12,13 +12,14 @@ use Rattle.clap.specs.Words.{Row, Text, first_of}
 use Rattle.bw_args.specs.Given.{GivesAddress, GivesCount, GivesCountOr, GivesEnd, GivesFolder, GivesFuse, GivesLimit}
 use Rattle.bw_args.specs.Given.{GivesName, GivesRecorders, GivesRest, GivesStatus, IsEnd, IsJournaling}
 use Rattle.bw_args.specs.Given.{GivesLog, IsRecorders, IsWork, given_on_line}
-use Rattle.bw_args.specs.Sources.{GivesSource, PlainSource}
+use Rattle.bw_args.specs.Sources.{GivesSource, PlainSource, has_files, is_mixed, is_source_mixed}
+use Rattle.bw_args.specs.SeveralRecordings.{FilesUpload, GivesFiles}
 use Rattle.bw_args.specs.PcmSources.{GivesFormat, GivesNumber, GivesSamples, IsFormatText, PlainPcm, at_comma}
 use Rattle.bw_args.specs.PcmSources.{fruitless_of, is_live, samples_with}
 use Rattle.bw_args.specs.declared.commands.samples.WrittenFormat.{WrittenFormat}
 use Rattle.bw_args.specs.Lines.{GivesPcmUpload, GivesSender, GivesServer, GivesUpload, IsWishOf, Service}
 use Rattle.bw_args.specs.Lines.{FileUpload, PcmUpload, Wish, Inspecting, Packing, Rehearsing, Replaying}
-use Rattle.bw_args.specs.Lines.{Sending, SendingPcm, Serving, Uploading, InspectingFiles, Repairing, Converting, Joining, Listing, Verifying, Picturing}
+use Rattle.bw_args.specs.Lines.{Sending, SendingFiles, SendingPcm, Serving, Uploading, InspectingFiles, Repairing, Converting, Joining, Listing, Verifying, Picturing}
 use Rattle.bw_args.specs.Numbers.{most_block, most_exchanges, most_fruitless, most_rate, most_recorders, most_seconds}
 use Rattle.bw_args.specs.Numbers.{number_written}
 use Rattle.bw_args.specs.InspectedFiles.{GivesInspection, PlainInspection, has_option, is_alone, one_file}
@@ -293,6 +294,42 @@ no_lines : (options : List Row) (sender : Sender) (upload : FileUpload) → Give
 no_lines options sender upload lines file =
     let bad : None ≡ Some upload.source.path = sym lines.lines ∙ file.takes.from in cc
 
+one_files : (options : List Row) (a b : FilesUpload) → GivesFiles options a → GivesFiles options b → a ≡ b
+one_files options a b x y =
+    let taken : Some a.paths ≡ Some b.paths = sym x.takes ∙ y.takes in
+    let paths : a.paths ≡ b.paths = cc in
+    λ i. record {
+      connect = one_address _ _ a.connect b.connect x.connects y.connects i;
+      paths = paths i;
+      names = (x.named ∙ sym y.named) i;
+      settings = (x.sets ∙ sym y.sets) i;
+      strict = (x.refuses ∙ sym y.refuses) i;
+      strict_texts = (x.refuses_texts ∙ sym y.refuses_texts) i;
+      timeout = one_count_or _ _ _ a.timeout b.timeout x.waits y.waits i;
+      fruitless = one_count_or _ _ _ a.fruitless b.fruitless x.ends y.ends i;
+      log = (x.reports ∙ sym y.reports) i;
+      states = (x.keeps ∙ sym y.keeps) i;
+      receipt = (x.receipts ∙ sym y.receipts) i;
+      rate = one_count most_rate _ a.rate b.rate x.paced y.paced i;
+    }
+
+-- of three tests of which none holds, the first and the last
+none_of_three : (a b c : Bool) → (a || (b || c)) ≡ false → (a ≡ false) × (c ≡ false)
+none_of_three false false c none = (refl, none)
+none_of_three true b c none = let bad : true ≡ false = none in cc
+none_of_three false true c none = let bad : true ≡ false = none in cc
+
+-- options for one sender have no words of several recordings, and are for one source
+pub unmixed_parts : (given : Text → Option Text) → is_mixed given ≡ false
+    → (has_files given ≡ false) × (is_source_mixed given ≡ false)
+unmixed_parts given unmixed =
+    none_of_three (has_files given) (is_some (given (codes "names"))) (is_source_mixed given) unmixed
+
+-- several recordings are given, or at most one
+several_or_one : {P : Type 0} (given : Text → Option Text) → has_files given ≡ true → is_mixed given ≡ false → P
+several_or_one given several unmixed =
+    let bad : true ≡ false = sym several ∙ (unmixed_parts given unmixed).0 in cc
+
 -- a command doesn't have two names
 pub other_name : {P : Type 0} {name a b : Text} → name ≡ a → name ≡ b → bytes_eq a b ≡ false → P
 other_name {P} {name} {a} {b} is also apart =
@@ -326,6 +363,19 @@ one_wish (Some command) (Uploading a) (SendingPcm b) x y =
     some_samples (given_on_line command.1) b.pcm x.1.unsampled y.1.samples
 one_wish (Some command) (SendingPcm a) (Uploading b) x y =
     some_samples (given_on_line command.1) a.pcm y.1.unsampled x.1.samples
+one_wish (Some command) (SendingFiles a) (SendingFiles b) x y = ap SendingFiles (one_files command.1 a b x.1 y.1)
+one_wish (Some command) (SendingFiles a) (Sending b) x y =
+    several_or_one (given_on_line command.1) x.1.some y.1.unmixed
+one_wish (Some command) (SendingFiles a) (Uploading b) x y =
+    several_or_one (given_on_line command.1) x.1.some y.1.unmixed
+one_wish (Some command) (SendingFiles a) (SendingPcm b) x y =
+    several_or_one (given_on_line command.1) x.1.some y.1.unmixed
+one_wish (Some command) (Sending a) (SendingFiles b) x y =
+    several_or_one (given_on_line command.1) y.1.some x.1.unmixed
+one_wish (Some command) (Uploading a) (SendingFiles b) x y =
+    several_or_one (given_on_line command.1) y.1.some x.1.unmixed
+one_wish (Some command) (SendingPcm a) (SendingFiles b) x y =
+    several_or_one (given_on_line command.1) y.1.some x.1.unmixed
 one_wish (Some command) (Packing a) (Packing b) x y = ap Packing (one_source _ command.1 a b x.1 y.1)
 one_wish (Some command) (Picturing a) (Picturing b) x y =
     let same : Some a ≡ Some b = sym x.1 ∙ y.1 in cc

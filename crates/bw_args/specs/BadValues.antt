@@ -9,7 +9,7 @@ use Rattle.bw_args.specs.declared.bad_value.BadValue.TheVariants.{UntilStopped, 
 use Rattle.bw_args.specs.declared.bad_value.BadValue.TheVariants.{Watch, Verify, Status, Log}
 use Rattle.bw_args.specs.declared.bad_value.BadValue.TheVariants.{Rounds, Fruitless, Mixed, Pcm, Skip}
 use Rattle.bw_args.specs.declared.bad_value.BadValue.TheVariants.{Block, Receipt, LeftOut}
-use Rattle.bw_args.specs.declared.bad_value.BadValue.TheVariants.{Rate, MixedSamples, Inspection, Form}
+use Rattle.bw_args.specs.declared.bad_value.BadValue.TheVariants.{Rate, MixedSamples, Files, Inspection, Form}
 
 -- what an address is
 abbrev pub address_wanted : Text
@@ -55,8 +55,8 @@ fault_said Rate =
 fault_said Mixed =
     codes "'--set', '--strict', '--strict-texts', '--fruitless', '--log', '--state', '--rate', "
     ++ codes "'--receipt', '--keep-left-out' and '--json' are for '--file <FILE>' or '--spool "
-    ++ codes "<SPOOL>', and '--rounds <N>' for a sender without them"
-fault_said Receipt = codes "'--receipt <RECEIPTS>' is for '--file <FILE>' of a RIFF WAVE, BW64 or RF64 file, "
+    ++ codes "<SPOOL>', '--rounds <N>' for a sender without them, and '--names <NAMES>' for FILE.."
+fault_said Receipt = codes "'--receipt <RECEIPTS>' is for RIFF WAVE, BW64 and RF64 files, "
     ++ codes "and '--json' for '--receipt <RECEIPTS>'"
 fault_said LeftOut =
     codes "'--keep-left-out <LEFT>' can't be given beside '--strict', '--pcm' and '--spool <SPOOL>'"
@@ -69,6 +69,9 @@ fault_said Block =
 fault_said MixedSamples = codes "'--pcm' is for '--file <FILE>' or '--spool <SPOOL>', without "
     ++ codes "'--state'; '--skip', '--block', '--follow' and '--spool' are for '--pcm'; '--follow' goes "
     ++ codes "with '--until <END>', and neither with '--spool'"
+fault_said Files = codes "FILE.. can't be given beside '--name', '--file', '--rounds', '--keep-left-out', "
+    ++ codes "'--pcm', '--skip', '--block', '--follow', '--until' and '--spool': '--names <NAMES>' names "
+    ++ codes "several recordings, and '--name <NAME>' with '--file <FILE>' sends one"
 fault_said Inspection = codes "'--json' can't be given beside '--human', and '-', which is read once, "
     ++ codes "beside another file or '--digest'"
 fault_said Form = codes "'convert' takes one of '--rf64' and '--bw64'"

@@ -10,6 +10,7 @@ use Rattle.bw_args.specs.PcmForms.{RefusesSamples, RunsPcmSender}
 use Rattle.bw_args.specs.PeerForms.{RefusesPeers, RunsSender, RunsServer, WantsPeers}
 use Rattle.bw_args.specs.PictureForms.{RunsPicture}
 use Rattle.bw_args.specs.RepairForms.{RunsRepair}
+use Rattle.bw_args.specs.SeveralForms.{RefusesSeveral, RunsFilesSender}
 use Rattle.bw_args.specs.declared.CommandLine.{CommandLine}
 
 -- Each command runs, in each of its forms.
@@ -28,6 +29,8 @@ pub record RunsCommands (words : List Text) (line : CommandLine) : Type 0 where
   pub send_file : RunsFileSender words line
   -- `--pcm` with each option; `--follow` and `--spool` never give up unless `--fruitless` is there
   pub send_pcm : RunsPcmSender words line
+  -- `send --connect=ADDR FILE`, two files, and each of its options
+  pub send_files : RunsFilesSender words line
   -- one file that doesn't begin with `-`; `--strict`, `--strict-texts`, `--keep-left-out`, which doesn't go with
   -- `--strict`, or settings in their order, unread here
   pub pack : RunsPack words line
@@ -55,3 +58,5 @@ pub record RefusesLines (words : List Text) (line : CommandLine) : Type 0 where
   pub files : RefusesFiles words line
   -- bad values of `--pcm`, `--skip` and `--block`, a receipt, chunks to keep, and options that don't go together
   pub samples : RefusesSamples words line
+  -- what is for one recording beside FILE, `--names` without it, `--json` alone, and bad values
+  pub several : RefusesSeveral words line

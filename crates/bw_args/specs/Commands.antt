@@ -47,6 +47,10 @@ word name = record (new_rule name) { value_names = 1; required = true }
 abbrev pub word_list : Text → Rule
 word_list name = record (word name) { action = Some Append }
 
+-- any number of such words, or none
+abbrev pub any_words : Text → Rule
+any_words name = record (word_list name) { required = false }
+
 -- the command of this name with these options
 abbrev pub command : Text → List Rule → App
 command name rules = fold with_rule (new_app name) rules
@@ -100,7 +104,8 @@ serve_command = command (codes "serve") (
 
 abbrev pub send_command : App
 send_command = command (codes "send") (
-    required (codes "connect") ∷ required (codes "name") ∷ option (codes "rounds") ∷
+    required (codes "connect") ∷ any_words (codes "files") ∷ option (codes "name") ∷
+    option (codes "names") ∷ option (codes "rounds") ∷
     option (codes "timeout") ∷ flag (codes "network") ∷ option (codes "file") ∷
     repeated (codes "set") ∷ flag (codes "strict") ∷ flag (codes "strict-texts") ∷
     option (codes "keep-left-out") ∷ option (codes "pcm") ∷ option (codes "skip") ∷

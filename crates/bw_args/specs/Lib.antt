@@ -11,11 +11,13 @@ pub mod PcmSources
 pub mod AskedForms
 pub mod VerifyOptions
 pub mod ReceiptOptions
+pub mod SeveralRecordings
 pub mod Ranges
 pub mod Lines
 pub mod Forms
 pub mod PeerForms
 pub mod FileForms
+pub mod SeveralForms
 pub mod PcmForms
 pub mod InspectedFiles
 pub mod PictureForms

@@ -10,25 +10,26 @@ pub use Rattle.bw_args.specs.Given.{GivesStatus, IsStatusGiven}
 pub use Rattle.bw_args.specs.Given.{IsWork, IsWorkGiven, GivesWork, is_watch_mixed}
 pub use Rattle.bw_args.specs.Ranges.{IsWithin, IsEndWithin, IsWayWithin, HasPort, HasNumbersInRange}
 use Rattle.std.specs.Prelude.{◌≡◌, ◌≢◌, ◌⊎◌, ⊤, ℕ, Bool}
-use Rattle.std.specs.Prelude.{false, List, [], ◌∷◌, ◌++◌}
+use Rattle.std.specs.Prelude.{true, false, List, [], ◌∷◌, ◌++◌}
 use Rattle.std.specs.Prelude.{Option, Some, None, option_map, string_bytes, codes}
-use Rattle.std.specs.Prelude.{if◌then◌else◌, is_some}
+use Rattle.std.specs.Prelude.{◌&&◌, ◌||◌, not, if◌then◌else◌, is_some}
 use Rattle.std.specs.Str.{bytes_eq}
 use Rattle.std.specs.declared.net.socket_addr.SocketAddr.{SocketAddr}
 use Rattle.clap.specs.Walk.{Row, Text, first_of}
 use Rattle.clap.specs.Simple.{subcommand_of}
 use Rattle.clap.specs.Faults.{fault_of}
-use Rattle.clap.specs.Kinds.{IsAmong}
+use Rattle.clap.specs.Kinds.{IsAmong, Kinds, or_else}
 use Rattle.clap.specs.Values.{kind_of}
 use Rattle.clap.specs.declared.error.ErrorKind.{ErrorKind}
-use Rattle.clap.specs.declared.error.ErrorKind.TheVariants.{OutOfMemory}
+use Rattle.clap.specs.declared.error.ErrorKind.TheVariants.{MissingRequiredArgument, OutOfMemory}
 use Rattle.bw_args.specs.Numbers.{default_fruitless, default_timeout, most_block, most_exchanges}
 use Rattle.bw_args.specs.Numbers.{most_fruitless, most_rate, most_recorders, most_rounds}
 use Rattle.bw_args.specs.Numbers.{most_seconds}
 use Rattle.bw_args.specs.Commands.{command_line}
 use Rattle.bw_args.specs.InspectedFiles.{GivesInspection, PlainInspection, has_option, inspection_in_plain}
 use Rattle.bw_args.specs.InspectedFiles.{is_alone, one_file}
-use Rattle.bw_args.specs.Sources.{GivesSource, PlainSource, in_plain, is_mixed, path_given}
+use Rattle.bw_args.specs.SeveralRecordings.{FilesUpload, GivesFiles, files_in_plain, is_files_mixed}
+use Rattle.bw_args.specs.Sources.{GivesSource, PlainSource, has_files, in_plain, is_mixed, path_given}
 use Rattle.bw_args.specs.PcmSources.{GivesFormat, GivesNumber, GivesSamples, PlainPcm}
 use Rattle.bw_args.specs.PcmSources.{are_samples_mixed, fruitless_of, is_live, plain_pcm}
 use Rattle.bw_args.specs.ReadWords.{as_read}
@@ -45,7 +46,7 @@ use Rattle.bw_args.specs.declared.bad_value.BadValue.TheVariants.{Recorders, Idl
 use Rattle.bw_args.specs.declared.bad_value.BadValue.TheVariants.{UntilStopped, Sync, Rest, GiveUp, Connect}
 use Rattle.bw_args.specs.declared.bad_value.BadValue.TheVariants.{Watch, Verify, Receipt, Status, Log}
 use Rattle.bw_args.specs.declared.bad_value.BadValue.TheVariants.{Rounds, Fruitless, Rate, Mixed, Pcm, Skip}
-use Rattle.bw_args.specs.declared.bad_value.BadValue.TheVariants.{Block, LeftOut, MixedSamples, Inspection, Form}
+use Rattle.bw_args.specs.declared.bad_value.BadValue.TheVariants.{Block, LeftOut, MixedSamples, Files, Inspection, Form}
 use Rattle.bw_args.specs.declared.folders.FolderWork.{FolderWork}
 use Rattle.bw_args.specs.declared.peers.End.{End}
 use Rattle.bw_args.specs.declared.peers.Journaling.{Journaling}
@@ -57,7 +58,7 @@ use Rattle.bw_args.specs.declared.asked_form.AskedForm.{AskedForm}
 use Rattle.bw_args.specs.declared.commands.samples.WrittenFormat.{WrittenFormat}
 use Rattle.bw_args.specs.declared.commands.sending.Tries.{Tries}
 use Rattle.bw_args.specs.declared.Task.TheVariants.{Replay, Rehearse, Inspect, Serve, Send, SendFile}
-use Rattle.bw_args.specs.declared.Task.TheVariants.{SendPcm}
+use Rattle.bw_args.specs.declared.Task.TheVariants.{SendPcm, SendFiles}
 use Rattle.bw_args.specs.declared.Task.TheVariants.{Pack, InspectFiles, Picture, Repair, Convert, Takes}
 use Rattle.bw_args.specs.declared.Task.TheVariants.{Join, Verify as Verifies}
 
@@ -107,7 +108,8 @@ pub record PcmUpload : Type 0 where
 
 -- what may be asked for: a replay with this limit, in which the call of this number fails, or none;
 -- a rehearsal of the take of this name, with this limit; to inspect the file of this path, or files;
--- a server or a sender; the sender of a recording, of headerless samples, or a recording's requests;
+-- a server or a sender; the sender of a recording, of headerless samples or of several recordings, or a
+-- recording's requests;
 -- the waveform of the file of this path; the sizes that it lacks, to be written or not; the
 -- file of the second path, made of that of the first in this form; the take of the first path, with the
 -- chunks of the file of the second; what is done with the takes of a folder, or the file of receipts that
@@ -121,6 +123,7 @@ pub data Wish : Type 0 where
   Sending : Sender → Wish
   Uploading : FileUpload → Wish
   SendingPcm : PcmUpload → Wish
+  SendingFiles : FilesUpload → Wish
   Packing : PlainSource → Wish
   Picturing : Text → Wish
   Repairing : Text → Bool → Wish
@@ -170,6 +173,7 @@ wish_of (SendPcm sender) = SendingPcm (record {
   log = sender.log;
   rate = sender.rate;
 })
+wish_of (SendFiles sender) = SendingFiles (files_in_plain sender)
 wish_of (Pack source) = Packing (in_plain source)
 wish_of (Picture file) = Picturing (string_bytes file)
 wish_of (Repair file write) = Repairing (string_bytes file) write
@@ -266,6 +270,8 @@ IsWishOf (Some command) (Uploading sender) =
     (command.0 ≡ codes "send") × GivesUpload command.1 sender
 IsWishOf (Some command) (SendingPcm sender) =
     (command.0 ≡ codes "send") × GivesPcmUpload command.1 sender
+IsWishOf (Some command) (SendingFiles sender) =
+    (command.0 ≡ codes "send") × GivesFiles command.1 sender
 IsWishOf (Some command) (Packing source) =
     (command.0 ≡ codes "pack")
     × GivesSource (given_on_line command.1 (codes "file")) command.1 source
@@ -300,6 +306,7 @@ HasPath (Serving server) = ⊤
 HasPath (Sending sender) = ⊥
 HasPath (Uploading sender) = ⊤
 HasPath (SendingPcm sender) = ⊤
+HasPath (SendingFiles sender) = ⊤
 HasPath (Packing source) = ⊤
 HasPath (Picturing path) = ⊤
 HasPath (Repairing path write) = ⊤
@@ -354,6 +361,7 @@ IsGood Pcm given = (format : Option WrittenFormat) × GivesFormat (given (codes 
 IsGood Skip given = (bytes : Option ℕ) × GivesNumber (given (codes "skip")) bytes
 IsGood Block given = (frames : Option ℕ) × GivesCount most_block (given (codes "block")) frames
 IsGood MixedSamples given = are_samples_mixed given ≡ false
+IsGood Files given = is_files_mixed given ≡ false
 IsGood Inspection given = ⊤
 IsGood Form given = ⊤
 
@@ -374,14 +382,20 @@ looked_at_trying = Rounds ∷ Timeout ∷ Fruitless ∷ Rate ∷ []
 abbrev pub looked_at_samples : List BadValue
 looked_at_samples = Pcm ∷ Skip ∷ Block ∷ MixedSamples ∷ []
 
+-- the values that a sender looks at, of several recordings or of at most one, in this order
+abbrev pub looked_at_sending : Bool → List BadValue
+looked_at_sending true = Files ∷ Connect ∷ (looked_at_trying ++ Receipt ∷ [])
+looked_at_sending false =
+    Connect ∷ Name ∷ (looked_at_trying ++ Mixed ∷ Receipt ∷ LeftOut ∷ looked_at_samples)
+
 -- the values that a command looks at, in this order
-abbrev pub looked_at : Text → List BadValue
-looked_at command = if bytes_eq command (codes "replay") then Limit ∷ Fuse ∷ []
+abbrev pub looked_at : Text → (Text → Option Text) → List BadValue
+looked_at command given = if bytes_eq command (codes "replay") then Limit ∷ Fuse ∷ []
     else (if bytes_eq command (codes "rehearse") then Name ∷ Limit ∷ []
     else (if bytes_eq command (codes "serve")
     then Listen ∷ Folder ∷ Exchanges ∷ Limit ∷ (looked_at_waiting ++ looked_at_serving)
     else (if bytes_eq command (codes "send")
-    then Connect ∷ Name ∷ (looked_at_trying ++ Mixed ∷ Receipt ∷ LeftOut ∷ looked_at_samples)
+    then looked_at_sending (has_files given)
     else (if bytes_eq command (codes "takes") then Folder ∷ Verify ∷ Watch ∷ GiveUp ∷ [] else []))))
 
 -- of these values, in this order, it is the first that is bad
@@ -401,8 +415,9 @@ bad_unlooked command = if bytes_eq command (codes "inspect") then Inspection
 -- the value for which they ask for nothing
 abbrev pub Lacks : Option (Text × List Row) → BadValue → Type 0
 Lacks None value = value ≡ Limit
-Lacks (Some command) value = IsFirstBad (looked_at command.0) (given_on_line command.1) value
-    ⊎ ((looked_at command.0 ≡ []) × (value ≡ bad_unlooked command.0))
+Lacks (Some command) value =
+    IsFirstBad (looked_at command.0 (given_on_line command.1)) (given_on_line command.1) value
+    ⊎ ((looked_at command.0 (given_on_line command.1) ≡ []) × (value ≡ bad_unlooked command.0))
 
 -- exactly the line that they result in
 abbrev pub IsLineFor : Option (Text × List Row) → CommandLine → Type 0
@@ -410,20 +425,38 @@ IsLineFor command (Run task) = IsWishOf command (wish_of task)
 IsLineFor command (Bad value) = AsksNothing command × Lacks command value
 IsLineFor command (Report error) = ⊥
 
+-- `send` is asked for with neither the name of a take nor words of recordings
+abbrev pub is_nameless : Option (Text × List Row) → Bool
+is_nameless None = false
+is_nameless (Some command) = bytes_eq command.0 (codes "send")
+    && not (is_some (given_on_line command.1 (codes "name")) || has_files (given_on_line command.1))
+
+-- exactly the line that they result in once `clap` takes them
+abbrev pub IsTakenLine : Option (Text × List Row) → CommandLine → Type 0
+IsTakenLine command (Report error) =
+    (is_nameless command ≡ true) × (kind_of error ≡ MissingRequiredArgument)
+IsTakenLine command line = (is_nameless command ≡ false) × IsLineFor command line
+
 -- `clap` takes the words, of which the first is the program's name, and they ask for this
 pub record AsksFor (words : List Text) (wish : Wish) : Type 0 where
   pub taken : fault_of command_line words ≡ []
   pub asked : IsWishOf (subcommand_of command_line words) wish
 
--- the words ask for nothing by `clap`'s walk over them; lack of memory is never reported
+-- the kinds of error that the words may have: those of `clap`'s walk over them, and else, where `send`
+-- lacks a name, that of a missing argument
+abbrev pub error_kinds : List Text → Kinds
+error_kinds words = or_else (fault_of command_line words)
+    (if is_nameless (subcommand_of command_line words) then MissingRequiredArgument ∷ [] else [])
+
+-- the words ask for nothing, and the error is of one of these kinds; lack of memory is never reported
 pub record IsReportedOf (words : List Text) (kind : ErrorKind) : Type 0 where
   pub asks_nothing : (wish : Wish) → ¬ AsksFor words wish
   pub not_memory : kind ≢ OutOfMemory
-  pub reason : IsAmong kind (fault_of command_line words)
+  pub reason : IsAmong kind (error_kinds words)
 
--- `clap` takes the words, and they ask for nothing, by this value
+-- the words are taken, and they ask for nothing, by this value
 pub record HasBadValue (value : BadValue) (words : List Text) : Type 0 where
-  pub taken : fault_of command_line words ≡ []
+  pub taken : error_kinds words ≡ []
   pub asks_nothing : (wish : Wish) → ¬ AsksFor words wish
   pub lacks : Lacks (subcommand_of command_line words) value
 

@@ -12,7 +12,7 @@ use Rattle.bw_args.specs.declared.peers.Recorders.{Recorders as Way}
 use Rattle.bw_args.specs.declared.peers.Recorders.TheVariants.{InTurn, AtOnce}
 use Rattle.bw_args.specs.declared.Task.TheVariants.{Replay, Rehearse, Inspect, Serve, Send, SendFile}
 use Rattle.bw_args.specs.declared.Task.TheVariants.{SendPcm, Pack, InspectFiles, Picture, Repair}
-use Rattle.bw_args.specs.declared.Task.TheVariants.{Takes, Verify, Convert, Join}
+use Rattle.bw_args.specs.declared.Task.TheVariants.{Takes, Verify, Convert, Join, SendFiles}
 
 -- no number, or one from 1 to the most
 abbrev pub IsWithin : ℕ → Option ℕ → Type 0
@@ -53,6 +53,10 @@ HasNumbersInRange (Run (SendFile sender)) = (0 < socket_port sender.connect)
 HasNumbersInRange (Run (SendPcm sender)) = (0 < socket_port sender.connect)
     × ((1 ≤ sender.timeout) × (sender.timeout ≤ most_seconds))
     × IsWithin most_fruitless sender.fruitless × IsWithin most_block sender.pcm.block
+    × IsWithin most_rate sender.rate
+HasNumbersInRange (Run (SendFiles sender)) = (0 < socket_port sender.connect)
+    × ((1 ≤ sender.timeout) × (sender.timeout ≤ most_seconds))
+    × ((1 ≤ sender.fruitless) × (sender.fruitless ≤ most_fruitless))
     × IsWithin most_rate sender.rate
 HasNumbersInRange (Run (Pack source)) = ⊤
 HasNumbersInRange (Run (Picture file)) = ⊤

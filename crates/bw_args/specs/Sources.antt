@@ -46,13 +46,22 @@ pub record GivesSource (path : Option Text) (options : List Row) (source : Plain
   pub keeps : source.left_out ≡ given_on_line options (codes "keep-left-out")
   pub kept : is_left_out_mixed (given_on_line options) ≡ false
 
--- options that aren't for one sender: a number of rounds beside the file of a recording or a spool, or
+-- recordings are given as words of their own
+abbrev pub has_files : (Text → Option Text) → Bool
+has_files given = is_some (given (codes "files"))
+
+-- options that aren't for one source: a number of rounds beside the file of a recording or a spool, or
 -- what is said about a recording without its file
-abbrev pub is_mixed : (Text → Option Text) → Bool
-is_mixed given = if is_some (path_given given) then is_some (given (codes "rounds"))
+abbrev pub is_source_mixed : (Text → Option Text) → Bool
+is_source_mixed given = if is_some (path_given given) then is_some (given (codes "rounds"))
     else is_some (given (codes "set"))
     || (is_some (given (codes "fruitless")) || (is_some (given (codes "state"))
     || (is_some (given (codes "rate")) || (is_some (given (codes "receipt"))
     || (is_some (given (codes "keep-left-out")) || (is_set (given (codes "json"))
     || (is_set (given (codes "strict"))
     || (is_set (given (codes "strict-texts")) || is_set (given (codes "log"))))))))))
+
+-- options that aren't for one sender of at most one recording: the words of several, the names of these,
+-- and those that aren't for one source
+abbrev pub is_mixed : (Text → Option Text) → Bool
+is_mixed given = has_files given || (is_some (given (codes "names")) || is_source_mixed given)

@@ -49,7 +49,8 @@ pub enum BadValue {
     Fruitless,
     /// How many bytes a second a sender sends at most.
     Rate,
-    /// An option for a recording without `--file` or `--spool`, or `--rounds` with one.
+    /// An option for a recording without `--file` or `--spool`, or `--rounds` with one; or `--names` without
+    /// FILE...
     Mixed,
     /// `--receipt` with headerless samples, or `--json` without `--receipt`.
     Receipt,
@@ -65,6 +66,8 @@ pub enum BadValue {
     /// with both, or with `--state`; or options that don't say in one way when the recording has
     /// ended.
     MixedSamples,
+    /// An option for one recording, or for samples, beside FILE...
+    Files,
     /// `--json` together with `--human`, or standard input (`-`) beside another file or `--digest`.
     Inspection,
     /// Both forms, or none, that a file is converted to.
@@ -117,6 +120,7 @@ impl BadValue {
             BadValue::Skip => BAD_SKIP,
             BadValue::Block => BAD_BLOCK,
             BadValue::MixedSamples => BAD_MIXED_SAMPLES,
+            BadValue::Files => BAD_FILES,
             BadValue::Inspection => BAD_INSPECTION,
             BadValue::Form => BAD_FORM,
         }
@@ -207,12 +211,12 @@ const BAD_RATE: &str = report!(
 const BAD_MIXED: &str = report!(
     "'--set', '--strict', '--strict-texts', '--fruitless', '--log', '--state', '--rate', ",
     "'--receipt', '--keep-left-out' and '--json' are for '--file <FILE>' or '--spool ",
-    "<SPOOL>', and '--rounds <N>' for a sender without them"
+    "<SPOOL>', '--rounds <N>' for a sender without them, and '--names <NAMES>' for FILE.."
 );
 
 const BAD_RECEIPT: &str = report!(
-    "'--receipt <RECEIPTS>' is for '--file <FILE>' of a RIFF WAVE, BW64 or RF64 file, and ",
-    "'--json' for '--receipt <RECEIPTS>'"
+    "'--receipt <RECEIPTS>' is for RIFF WAVE, BW64 and RF64 files, and '--json' for ",
+    "'--receipt <RECEIPTS>'"
 );
 
 const BAD_LEFT_OUT: &str = report!(
@@ -236,6 +240,12 @@ const BAD_MIXED_SAMPLES: &str = report!(
     "'--pcm' is for '--file <FILE>' or '--spool <SPOOL>', without '--state'; '--skip', ",
     "'--block', '--follow' and '--spool' are for '--pcm'; '--follow' goes with '--until ",
     "<END>', and neither with '--spool'"
+);
+
+const BAD_FILES: &str = report!(
+    "FILE.. can't be given beside '--name', '--file', '--rounds', '--keep-left-out', '--pcm', ",
+    "'--skip', '--block', '--follow', '--until' and '--spool': '--names <NAMES>' names several ",
+    "recordings, and '--name <NAME>' with '--file <FILE>' sends one"
 );
 
 const BAD_INSPECTION: &str = report!(

@@ -2,7 +2,7 @@
 ghost use Rattle.std.specs.Prelude.{◌≡◌, codes, option_map, Some, IfOk, OnErr};
 ghost use Rattle.clap.specs.Words.{first_value, found_of, rows_of, subcommand_rows_of};
 ghost use Rattle.bw_args.specs.Lines.{AsksForPath, IsFuseGiven, IsLimitGiven, IsLineFor};
-ghost use Rattle.bw_args.specs.Lines.{IsNameGiven};
+ghost use Rattle.bw_args.specs.Lines.{IsNameGiven, is_nameless};
 
 mod converting;
 mod grammar;
@@ -18,12 +18,13 @@ mod row;
 mod samples;
 mod sending;
 mod serving;
+mod several;
 mod sources;
 
 use crate::{BadValue, CommandLine, Task, numbers};
 use bw_model::Name;
 use clap::ArgMatches;
-pub use grammar::bwingest;
+pub use grammar::{bwingest, name_missing};
 use std::alloc::{AllocError, Global};
 
 /// A text that is no number of the kind wanted.
@@ -39,6 +40,16 @@ pub fn line(alloc: Global, matches: &ArgMatches<'_>) -> Result<CommandLine, Allo
     match entered(matches) {
         Some((name, options)) => line_of(alloc, name, options),
         None => Ok(CommandLine::BadValue(BadValue::Limit)),
+    }
+}
+
+/// Whether `send` is asked for with neither the name of a take nor words of recordings.
+pub fn is_nameless(matches: &ArgMatches<'_>) -> bool
+    ensures { result ≡ is_nameless (subcommand_rows_of matches.now) }
+{
+    match entered(matches) {
+        Some((name, options)) => name == "send" && sending::lacks_name(options),
+        None => false,
     }
 }
 

@@ -3,8 +3,8 @@
 #![tactic(auto)]
 
 ghost use Rattle.std.specs.Prelude.{◌≡◌, ◌↔◌, map, IfOk, IsErr, string_bytes};
-ghost use Rattle.clap.specs.Words.{kind_of};
-ghost use Rattle.bw_args.specs.Lines.{HasNumbersInRange, IsLineOf};
+ghost use Rattle.clap.specs.Words.{kind_of, subcommand_rows_of};
+ghost use Rattle.bw_args.specs.Lines.{HasNumbersInRange, IsLineOf, IsTakenLine};
 ghost use Rattle.bw_args.specs.CommandForms.{RefusesLines, RunsCommands};
 ghost use Rattle.bw_args.specs.Forms.{ReportsHelp};
 
@@ -22,12 +22,12 @@ mod recordings;
 pub use asked_form::AskedForm;
 pub use bad_value::BadValue;
 use bw_model::Name;
-use clap::Error;
 use clap::error::ErrorKind;
+use clap::{ArgMatches, Error};
 pub use folders::{FolderWork, TakesFolder};
 pub use inspection::Inspection;
 pub use peers::{End, Journaling, Logging, Recorders, Send, Serve};
-pub use recordings::{FileSender, PcmSender, PcmSource, ReceiptTarget, SourceFile};
+pub use recordings::{FileSender, FilesSender, PcmSender, PcmSource, ReceiptTarget, SourceFile};
 use std::alloc::{AllocError, Global};
 
 /// What a command line asks the program to do.
@@ -60,6 +60,8 @@ pub enum Task {
     SendFile(FileSender),
     /// Send headerless samples to a server.
     SendPcm(PcmSender),
+    /// Send the requests of several recordings to a server, one recording after the other.
+    SendFiles(FilesSender),
     /// Print the requests of a recording.
     Pack(SourceFile),
     /// Draw the waveform of the recording in the file at this path.
@@ -105,10 +107,9 @@ pub enum CommandLine {
 /// Parses a command line, whose first word is the program's own name.
 ///
 /// Which words run a task, and of what kind an error is, follows from `clap`'s own contract
-/// (`line`). In plain terms the contract says of ninety-three forms that they run, of seventy-one
-/// which value is a fault and of twenty-one what they print (`runs`, `refuses`, `help`). Examples
-/// test that options may be given in all their forms and orders, and that all else is refused,
-/// except `--` at the end or before a file.
+/// (`line`). In plain terms the contract says of 108 forms that they run, of 89 which value is a fault
+/// and of 23 what they print (`runs`, `refuses`, `help`). Examples test that options may be given in all
+/// their forms and orders, and that all else is refused, except `--` at the end or before a file.
 ///
 /// # Errors
 /// `AllocError` if memory was refused.
@@ -132,9 +133,21 @@ pub fn parse(alloc: Global, words: &[String]) -> Result<CommandLine, AllocError>
     let read = read_words::read_words(alloc, words)?;
     let mut command = commands::bwingest(alloc)?;
     match command.try_get_matches_from_mut(read.as_slice()) {
-        Ok(matches) => commands::line(alloc, &matches),
+        Ok(matches) => taken(alloc, &matches),
         Err(error) => reported(error),
     }
+}
+
+/// What words that `clap` takes result in. That a take without recordings needs a name is looked at here,
+/// since `clap`'s contract isn't exact for an option that is required unless another is there.
+fn taken(alloc: Global, matches: &ArgMatches<'_>) -> Result<CommandLine, AllocError>
+    ensures { IfOk result (IsTakenLine (subcommand_rows_of matches.now)) }
+{
+    if commands::is_nameless(matches) {
+        let error = commands::name_missing(alloc)?;
+        return Ok(CommandLine::Report(error));
+    }
+    commands::line(alloc, matches)
 }
 
 /// Lack of memory is no text for the user: the program has a status of its own for it.

@@ -93,3 +93,32 @@ pub struct FileSender {
     /// How many bytes a second it sends at most, at least 1; None for any number.
     pub rate: Option<u32>,
 }
+
+/// The sender of several recordings that a command line asks for.
+#[derive(Debug, PartialEq, Eq, Drop)]
+pub struct FilesSender {
+    /// Where the server listens, as for the server itself.
+    pub connect: SocketAddr,
+    /// The paths of recordings, and of folders of recordings, as they were given, in this order.
+    pub paths: Vec<String>,
+    /// The path of the file that gives takes their names, if one does, as it was given.
+    pub names: Option<String>,
+    /// What is set in place of what each file has, as in `SourceFile`.
+    pub settings: Vec<String>,
+    /// Whether a recording is refused that loses anything of its file.
+    pub strict: bool,
+    /// Whether a recording is refused whose texts would be cleaned, or that loses cue points.
+    pub strict_texts: bool,
+    /// How many seconds it waits for the server, 1 to 86,400.
+    pub timeout: u32,
+    /// After how many links in a row that settle nothing it gives a recording up, 1 to 1,000,000.
+    pub fruitless: u32,
+    /// Whether each change of the link is reported in a line on standard error.
+    pub log: bool,
+    /// The path of the folder of their states, if they keep any, as it was given.
+    pub states: Option<String>,
+    /// Where their receipts go, if they write any.
+    pub receipt: Option<ReceiptTarget>,
+    /// How many bytes a second it sends at most, at least 1; None for any number.
+    pub rate: Option<u32>,
+}

@@ -7,3 +7,5 @@ mod command_lines;
 mod left_outs;
 #[cfg(test)]
 mod outcomes;
+#[cfg(test)]
+mod several;

@@ -1,7 +1,7 @@
 //! The outcomes of command lines, in small values, and how tests compare them.
 use bw_args::{
-    AskedForm, CommandLine, End, FileSender, FolderWork, Journaling, PcmSender, ReceiptTarget,
-    Recorders, Send, Serve, SourceFile, Task, parse,
+    AskedForm, CommandLine, End, FileSender, FilesSender, FolderWork, Journaling, PcmSender,
+    ReceiptTarget, Recorders, Send, Serve, SourceFile, Task, parse,
 };
 use bw_model::Name;
 use clap::Error;
@@ -59,6 +59,9 @@ pub(crate) enum Outcome {
     Follows(u32, Option<u32>, Option<u32>),
     /// The same, with `-f` as the spool of standard input.
     Spools(u32, Option<u32>, Option<u32>),
+    /// Sends so many recordings to the address that the rows' first words give: whether
+    /// `-n` names them, and whether `-s` keeps their states.
+    SendsFiles(usize, [bool; 2]),
     /// Packs the recording `-f`.
     Packs(Said),
     /// Draws the file `-f`.
@@ -132,6 +135,7 @@ fn run_outcome(task: &Task, words: &[&str]) -> Outcome {
         Task::Send(sender) => sender_outcome(sender),
         Task::SendFile(sender) => file_sender_outcome(sender),
         Task::SendPcm(sender) => pcm_sender_outcome(sender),
+        Task::SendFiles(sender) => files_sender_outcome(sender),
         Task::Pack(source) => pack_outcome(source),
         Task::Picture { file } if file.as_str() == "-f" => Outcome::Draws,
         Task::Picture { .. } => Outcome::Confuses,
@@ -233,6 +237,28 @@ fn file_sender_outcome(sender: &FileSender) -> Outcome {
             Outcome::SendsWithState(sender.timeout, sender.fruitless, said)
         }
         Some(_) => Outcome::Confuses,
+    }
+}
+
+fn files_sender_outcome(sender: &FilesSender) -> Outcome {
+    if sender.connect.port() != 4100 {
+        return Outcome::SendsElsewhere;
+    }
+    if let Some(receipt) = &sender.receipt {
+        return receipt_outcome(receipt);
+    }
+    if let Some(rate) = sender.rate {
+        return Outcome::SendsAtMost(rate);
+    }
+    let is_named = is_given_as(&sender.names, "-n");
+    let is_kept = is_given_as(&sender.states, "-s");
+    Outcome::SendsFiles(sender.paths.len(), [is_named, is_kept])
+}
+
+fn is_given_as(path: &Option<String>, wanted: &str) -> bool {
+    match path {
+        Some(path) => path.as_str() == wanted,
+        None => false,
     }
 }
 

@@ -1,7 +1,7 @@
 //! The program and its commands, as `clap` sees them.
 ghost use Rattle.std.specs.Prelude.{◌≡◌, IfOk};
 ghost use Rattle.clap.specs.Simple.{App, new_app, with_subcommand};
-ghost use Rattle.clap.specs.Words.{app_of};
+ghost use Rattle.clap.specs.Words.{app_of, kind_of};
 ghost use Rattle.bw_args.specs.Commands.{IsCommand, command_line, convert_command};
 ghost use Rattle.bw_args.specs.Commands.{inspect_command, join_command};
 ghost use Rattle.bw_args.specs.Commands.{offline, on_files, on_folders, pack_command};
@@ -10,10 +10,11 @@ ghost use Rattle.bw_args.specs.Commands.{repair_command, replay_command, send_co
 ghost use Rattle.bw_args.specs.Commands.{serve_command, takes_command};
 
 use super::options::{
-    CONVERT, INSPECT, JOIN, PACK, PICTURE, REHEARSE, REPAIR, REPLAY, SEND, SERVE, TAKES,
+    CONVERT, INSPECT, JOIN, NAMED, PACK, PICTURE, REHEARSE, REPAIR, REPLAY, SEND, SERVE, TAKES,
 };
 use super::row::with_rows;
-use clap::Command;
+use clap::error::ErrorKind;
+use clap::{Command, Error};
 use std::alloc::{AllocError, Global};
 
 /// The whole command line.
@@ -74,6 +75,18 @@ fn program<'a>(alloc: Global) -> Result<Command<'a>, AllocError>
         .about("An ingest server for field recordings")
         .subcommand_required(true)
         .bin_name("bwingest")
+}
+
+/// The error of `send` with neither a name nor words of recordings, as `clap` reports a missing argument.
+pub fn name_missing(alloc: Global) -> Result<Error, AllocError>
+    ensures { IfOk result (λ e. kind_of e ≡ ErrorKind.MissingRequiredArgument) }
+{
+    let command = Command::new(alloc, "send").bin_name("bwingest send")?;
+    let mut command = with_rows(alloc, command, &NAMED)?;
+    command.error(
+        ErrorKind::MissingRequiredArgument,
+        "the following required arguments were not provided:\n  --name <NAME>",
+    )
 }
 
 /// A command without options, what it does, and an example.
@@ -209,8 +222,9 @@ fn send<'a>(alloc: Global) -> Result<Command<'a>, AllocError>
     let command = named(
         alloc,
         "send",
-        "Sends a recording, or the requests on standard input, until each has its verdict",
-        "Example: bwingest send --connect 127.0.0.1:4100 --name a1 --file take.wav
+        "Sends recordings, or the requests on standard input, until each has its verdict",
+        "Example: bwingest send --connect 127.0.0.1:4100 takes/*.wav
+Example: bwingest send --connect 127.0.0.1:4100 --name a1 --file take.wav
 Example: bwingest send --connect 127.0.0.1:4100 --name a1 < requests.hex",
     );
     with_rows(alloc, command, &SEND)

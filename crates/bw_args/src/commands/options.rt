@@ -1,5 +1,5 @@
 //! The options of the commands, in the order of the help: a table for each.
-use super::row::Kind::{Flag, Optional, Repeated, Required, Value, Word, Words};
+use super::row::Kind::{AnyWords, Flag, Optional, Repeated, Required, Value, Word, Words};
 use super::row::Row;
 
 const LIMIT: Row = Row {
@@ -255,14 +255,33 @@ pub(crate) const SERVE: [Row; 16] = [
     },
 ];
 
+const CONNECT: Row = Row {
+    name: "connect",
+    kind: Required("ADDR"),
+    help: "The server's address: 127.0.0.1:PORT, or any address or host with --network",
+};
+
+/// What `send` needs without FILE...
+pub(crate) const NAMED: [Row; 2] = [CONNECT, NAME];
+
 /// The options of `send`.
-pub(crate) const SEND: [Row; 22] = [
+pub(crate) const SEND: [Row; 24] = [
+    CONNECT,
     Row {
-        name: "connect",
-        kind: Required("ADDR"),
-        help: "The server's address: 127.0.0.1:PORT, or any address or host with --network",
+        name: "files",
+        kind: AnyWords("FILE"),
+        help: "Recordings, or folders of recordings, each sent as by --file under a name made of its file's name",
     },
-    NAME,
+    Row {
+        name: "name",
+        kind: Value("NAME"),
+        help: "The name of the take; required without FILE..",
+    },
+    Row {
+        name: "names",
+        kind: Value("NAMES"),
+        help: "With FILE..: NAMES has a line 'NAME PATH' for each take that is to have another name",
+    },
     Row {
         name: "rounds",
         kind: Value("N"),
@@ -326,7 +345,7 @@ pub(crate) const SEND: [Row; 22] = [
     Row {
         name: "state",
         kind: Value("STATE"),
-        help: "With --file: keeps its progress in STATE, and continues from there when run again",
+        help: "With --file: keeps its progress in STATE, and continues from there when run again; with FILE.. a folder of such files",
     },
     Row {
         name: "rate",

@@ -24,6 +24,8 @@ pub(crate) enum Kind {
     Word(&'static str),
     /// As such words, at least one.
     Words(&'static str),
+    /// As any number of such words, or none.
+    AnyWords(&'static str),
 }
 
 /// An option of one command: what follows `--`, how it is given, and what the help says.
@@ -54,6 +56,10 @@ impl Row {
             Kind::Word(value) => word(alloc, self.name, value, self.help),
             Kind::Words(value) => {
                 word(alloc, self.name, value, self.help).action(ArgAction::Append)
+            }
+            Kind::AnyWords(value) => {
+                let words = word(alloc, self.name, value, self.help).required(false);
+                words.action(ArgAction::Append)
             }
         }
     }

@@ -1,5 +1,6 @@
 //! The command `send`.
-ghost use Rattle.std.specs.Prelude.{◌≡◌, codes, false, Some, None, IfOk, IfErr, OnErr};
+ghost use Rattle.std.specs.Prelude.{◌≡◌, ◌||◌, codes, false, is_some, not, Some, None, IfOk, IfErr};
+ghost use Rattle.std.specs.Prelude.{OnErr};
 ghost use Rattle.clap.specs.Words.{first_value, found_of, rows_of};
 ghost use Rattle.bw_args.specs.Given.{GivesAddress, GivesName, is_set};
 ghost use Rattle.bw_args.specs.Lines.{AsksForPath, GivesTries, IsFirstBad, IsLineFor};
@@ -7,23 +8,40 @@ ghost use Rattle.bw_args.specs.LeftOutOptions.{is_left_out_mixed};
 ghost use Rattle.bw_args.specs.Lines.{looked_at_trying};
 ghost use Rattle.bw_args.specs.PcmSources.{GivesSamples};
 ghost use Rattle.bw_args.specs.ReceiptOptions.{is_receipt_mixed};
-ghost use Rattle.bw_args.specs.Sources.{is_mixed, path_given};
+ghost use Rattle.bw_args.specs.Sources.{has_files, is_mixed, path_given};
 
 use super::left_out::is_left_out_mixed;
 use super::name_given;
 use super::network::{address_given, count_given, flag_given};
 use super::receipts::{is_receipt_mixed, receipt_given};
 use super::samples::{samples_given, samples_line};
-use super::sources::{is_mixed, path_given, source_given, text_given};
+use super::several::files_line;
+use super::sources::{has_files, is_mixed, path_given, source_given, text_given};
 use crate::{BadValue, CommandLine, FileSender, Send, Task, numbers};
 use bw_model::Name;
 use clap::ArgMatches;
 use std::alloc::{AllocError, Global};
 use std::net::SocketAddr;
 
+/// What `send` results in, of several recordings or of at most one.
+pub(crate) fn send_line(alloc: Global, options: &ArgMatches<'_>) -> Result<CommandLine, AllocError>
+    ensures ok { IfOk result (IsLineFor (Some (codes "send", rows_of (found_of options.now)))) }
+    ensures err { OnErr result
+        (AsksForPath (Some (codes "send", rows_of (found_of options.now)))) }
+{
+    let Some(paths) = options.get_raw("files") else {
+        return one_line(alloc, options);
+    };
+    if paths.is_empty() {
+        return one_line(alloc, options);
+    }
+    files_line(alloc, options, paths)
+}
+
 /// Bad values are reported in this order: the address, the name, those of `tries_given`, options
 /// that don't belong together, those of a receipt, those of what is kept, and those of `samples_given`.
-pub(crate) fn send_line(alloc: Global, options: &ArgMatches<'_>) -> Result<CommandLine, AllocError>
+fn one_line(alloc: Global, options: &ArgMatches<'_>) -> Result<CommandLine, AllocError>
+    requires alone { has_files (first_value (found_of options.now)) ≡ false }
     ensures ok { IfOk result (IsLineFor (Some (codes "send", rows_of (found_of options.now)))) }
     ensures err { OnErr result
         (AsksForPath (Some (codes "send", rows_of (found_of options.now)))) }
@@ -114,11 +132,19 @@ pub(crate) struct Tries {
     pub(crate) rate: Option<u32>,
 }
 
+/// Whether neither the name of a take nor words of recordings are given.
+pub(crate) fn lacks_name(options: &ArgMatches<'_>) -> bool
+    ensures { result ≡ not (is_some (first_value (found_of options.now) (codes "name"))
+        || has_files (first_value (found_of options.now))) }
+{
+    options.get_str("name").is_none() && !has_files(options)
+}
+
 /// How the options say that a sender tries.
 ///
 /// # Errors
 /// The first of these that is bad: the rounds, the timeout, the fruitless links, the rate.
-fn tries_given(options: &ArgMatches<'_>) -> Result<Tries, BadValue>
+pub(crate) fn tries_given(options: &ArgMatches<'_>) -> Result<Tries, BadValue>
     ensures ok { IfOk result (GivesTries (first_value (found_of options.now))) }
     ensures err { IfErr result (IsFirstBad looked_at_trying (first_value (found_of options.now))) }
 {

@@ -2,7 +2,8 @@
 ghost use Rattle.std.specs.Prelude.{◌≡◌, ◌||◌, codes, is_some, map, option_map, string_bytes, IfOk};
 ghost use Rattle.clap.specs.Words.{first_value, found_of, rows_of};
 ghost use Rattle.bw_args.specs.Given.{is_set};
-ghost use Rattle.bw_args.specs.Sources.{is_mixed, path_given, settings_on_line};
+ghost use Rattle.bw_args.specs.Sources.{has_files, is_mixed, is_source_mixed};
+ghost use Rattle.bw_args.specs.Sources.{path_given, settings_on_line};
 
 use super::network::flag_given;
 use crate::SourceFile;
@@ -59,7 +60,10 @@ pub(crate) fn text_given(
 }
 
 /// What the options set, in their order.
-fn settings_given(alloc: Global, options: &ArgMatches<'_>) -> Result<Vec<String>, AllocError>
+pub(crate) fn settings_given(
+    alloc: Global,
+    options: &ArgMatches<'_>,
+) -> Result<Vec<String>, AllocError>
     ensures { IfOk result (λ settings.
         map string_bytes settings.items ≡ settings_on_line (rows_of (found_of options.now))) }
 {
@@ -81,10 +85,25 @@ pub(crate) fn copies_of(alloc: Global, texts: &[&str]) -> Result<Vec<String>, Al
     Ok(copies)
 }
 
-/// Whether options are given that aren't for one sender: those of a recording without a file or a
-/// spool, or a number of rounds with one.
-pub(crate) fn is_mixed(options: &ArgMatches<'_>) -> bool
+/// Whether recordings are given as words of their own.
+pub fn has_files(options: &ArgMatches<'_>) -> bool
+    ensures { result ≡ has_files (first_value (found_of options.now)) }
+{
+    options.get_str("files").is_some()
+}
+
+/// Whether options are given that aren't for one sender of at most one recording: the words of several,
+/// their names, or those that aren't for one source.
+pub fn is_mixed(options: &ArgMatches<'_>) -> bool
     ensures { result ≡ is_mixed (first_value (found_of options.now)) }
+{
+    has_files(options) || options.get_str("names").is_some() || is_source_mixed(options)
+}
+
+/// Whether options are given that aren't for one source: those of a recording without a file or a spool,
+/// or a number of rounds with one.
+fn is_source_mixed(options: &ArgMatches<'_>) -> bool
+    ensures { result ≡ is_source_mixed (first_value (found_of options.now)) }
 {
     if path_given(options).is_some() {
         return options.get_str("rounds").is_some();

@@ -2,24 +2,24 @@ use Rattle.std.proofs.Common.{◌≡◌, ◌∷◌, true, false, codes, sym, ◌
 use Rattle.clap.specs.Words.{first_value, found_of}
 use Rattle.bw_args.specs.Lines.{looked_at_samples, looked_at_trying}
 use Rattle.bw_args.specs.declared.bad_value.BadValue.TheVariants.{Name, Connect, LeftOut, Mixed, Receipt}
-use Rattle.bw_args.proofs.Asked.{an_address, bad, bad_line, first_then, found_address, no_address, no_samples, sender_asked}
+use Rattle.bw_args.proofs.Asked.{an_address, bad, bad_sender, first_then, found_address, no_address, no_samples, sender_asked}
 use Rattle.bw_args.proofs.Asked.{tries_then, ◌and_then◌}
-use Rattle.bw_args.proofs.commands.sending.send_line.Goals as goal
+use Rattle.bw_args.proofs.commands.sending.one_line.Goals as goal
 
 pub returns-in_default-clause-ok : goal.returns-in_default-clause-ok
-returns-in_default-clause-ok c = bad_line (found_of c.args.options.now) (codes "send") Connect (
+returns-in_default-clause-ok c = bad_sender (found_of c.args.options.now) false Connect c.requires.alone (
     bad (no_address (found_of c.args.options.now) (codes "connect") _ c.flag_given-network.ensures
     c.in_default.ensures)
     )
 
 pub returns-in_default-name_given-clause-ok : goal.returns-in_default-name_given-clause-ok
-returns-in_default-name_given-clause-ok c = bad_line (found_of c.args.options.now) (codes "send") Name (
+returns-in_default-name_given-clause-ok c = bad_sender (found_of c.args.options.now) false Name c.requires.alone (
     found_address (found_of c.args.options.now) (codes "connect") _ _ c.flag_given-network.ensures c.in-Some.ensures
     and_then bad (λ good. c.in_default-name_given.ensures good.0 good.1)
     )
 
 pub returns-in-Err-clause-ok : goal.returns-in-Err-clause-ok
-returns-in-Err-clause-ok c = bad_line (found_of c.args.options.now) (codes "send") c.in-Err.value (
+returns-in-Err-clause-ok c = bad_sender (found_of c.args.options.now) false c.in-Err.value c.requires.alone (
     found_address (found_of c.args.options.now) (codes "connect") _ _ c.flag_given-network.ensures c.in-Some.ensures
     and_then (c.in-Some-name_given.name, c.in-Some-name_given.ensures)
     and_then first_then looked_at_trying (Mixed ∷ Receipt ∷ LeftOut ∷ looked_at_samples) (first_value (found_of c.args.options.now))
@@ -27,7 +27,7 @@ returns-in-Err-clause-ok c = bad_line (found_of c.args.options.now) (codes "send
     )
 
 pub returns-then-is_mixed-clause-ok : goal.returns-then-is_mixed-clause-ok
-returns-then-is_mixed-clause-ok c = bad_line (found_of c.args.options.now) (codes "send") Mixed (
+returns-then-is_mixed-clause-ok c = bad_sender (found_of c.args.options.now) false Mixed c.requires.alone (
     found_address (found_of c.args.options.now) (codes "connect") _ _ c.flag_given-network.ensures c.in-Some.ensures
     and_then (c.in-Some-name_given.name, c.in-Some-name_given.ensures)
     and_then tries_then (Mixed ∷ Receipt ∷ LeftOut ∷ looked_at_samples) (first_value (found_of c.args.options.now)) Mixed
@@ -36,7 +36,7 @@ returns-then-is_mixed-clause-ok c = bad_line (found_of c.args.options.now) (code
     )
 
 pub returns-then-is_receipt_mixed-clause-ok : goal.returns-then-is_receipt_mixed-clause-ok
-returns-then-is_receipt_mixed-clause-ok c = bad_line (found_of c.args.options.now) (codes "send") Receipt (
+returns-then-is_receipt_mixed-clause-ok c = bad_sender (found_of c.args.options.now) false Receipt c.requires.alone (
     found_address (found_of c.args.options.now) (codes "connect") _ _ c.flag_given-network.ensures c.in-Some.ensures
     and_then (c.in-Some-name_given.name, c.in-Some-name_given.ensures)
     and_then tries_then (Mixed ∷ Receipt ∷ LeftOut ∷ looked_at_samples) (first_value (found_of c.args.options.now)) Receipt
@@ -47,7 +47,7 @@ returns-then-is_receipt_mixed-clause-ok c = bad_line (found_of c.args.options.no
     )
 
 pub returns-then-is_left_out_mixed-clause-ok : goal.returns-then-is_left_out_mixed-clause-ok
-returns-then-is_left_out_mixed-clause-ok c = bad_line (found_of c.args.options.now) (codes "send") LeftOut (
+returns-then-is_left_out_mixed-clause-ok c = bad_sender (found_of c.args.options.now) false LeftOut c.requires.alone (
     found_address (found_of c.args.options.now) (codes "connect") _ _ c.flag_given-network.ensures c.in-Some.ensures
     and_then (c.in-Some-name_given.name, c.in-Some-name_given.ensures)
     and_then tries_then (Mixed ∷ Receipt ∷ LeftOut ∷ looked_at_samples) (first_value (found_of c.args.options.now)) LeftOut
@@ -71,8 +71,7 @@ returns-in_default-path_given-clause-ok c = sender_asked (found_of c.args.option
 })
 
 pub returns-in-Err-samples_given-clause-ok : goal.returns-in-Err-samples_given-clause-ok
-returns-in-Err-samples_given-clause-ok c = bad_line (found_of c.args.options.now) (codes "send")
-    c.in-Err-samples_given.value (
+returns-in-Err-samples_given-clause-ok c = bad_sender (found_of c.args.options.now) false c.in-Err-samples_given.value c.requires.alone (
     found_address (found_of c.args.options.now) (codes "connect") _ _ c.flag_given-network.ensures c.in-Some.ensures
     and_then (c.in-Some-name_given.name, c.in-Some-name_given.ensures)
     and_then tries_then (Mixed ∷ Receipt ∷ LeftOut ∷ looked_at_samples) (first_value (found_of c.args.options.now))
