@@ -6,3 +6,5 @@ pub mod KeptReceipts
 pub mod QueueSides
 pub mod FolderRecordings
 pub mod Queues
+pub mod QueueOpenings
+pub mod StoredRecordings

@@ -180,9 +180,15 @@ fn put_recording<F: FileKinds>(
     Ok(())
 }
 
-/// The path of a file in a folder.
+/// The path of a file in a folder, which may end with a slash.
+///
+/// # Errors
+/// `AllocError` if memory was refused.
+///
+/// # Not specified
+/// When memory is refused.
 #[tactic(auto, using(std::proofs::lemmas::List::append_assoc), unfolding(crate::specs::FolderRecordings::path_within))]
-fn path_in(alloc: Global, folder: &str, name: &str) -> Result<String, AllocError>
+pub fn path_in(alloc: Global, folder: &str, name: &str) -> Result<String, AllocError>
     ensures { IfOk result (λ path. string_bytes path ≡ path_within folder.now name.now) }
 {
     let slash = slash_after(folder);
