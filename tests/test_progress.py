@@ -21,18 +21,13 @@ from kit.network import Fault, free_port, LOCAL, LONGEST_WAIT, run, run_cases, s
 from kit.recordings import data, fmt, Recording, riff
 from kit.terminals import Glass, open_terminal, pieces_of
 from kit.takes import LONGEST_BLOCK
-from kit.uploads import folder_in, serve_again, serving, settled, words_of, written
+from kit.uploads import folder_in, LINE, seconds_of, serve_again, serving, settled, words_of, written
 
 LONGEST_RUN = 170  # seconds, for all of it
 PIPE = subprocess.PIPE
 RATE = 100  # frames a second: a block of one channel with 16 bits lasts 163.84 seconds
 FRAMES = LONGEST_BLOCK // 2  # of a block
 SHOWN = re.compile(r"\r\x1b\[\?7l([^\r\x1b]*)\x1b\[K\x1b\[\?7h")
-CLOCK = r"\d+:[0-5]\d:[0-5]\d"
-LINE = re.compile(
-    rf"(?P<name>[a-z0-9_-]+) (?:(?P<percent>\d+)% (?P<done>{CLOCK})/(?P<all>{CLOCK})|(?P<so_far>{CLOCK}))"
-    r" (?P<speed>\d+\.\d) MB/s pending (?P<pending>\d+) link (?:up|down, (?P<down>\d+) s)"
-)
 
 
 def clock(seconds):
@@ -116,11 +111,6 @@ def are_paced(name, sender, parts):
 
 def never_falls(name, numbers):
     TALLY.holds(f"{name}: never falls", all(a <= b for a, b in zip(numbers, numbers[1:])), numbers)
-
-
-def seconds_of(text):
-    hours, minutes, seconds = map(int, text.split(":"))
-    return 3600 * hours + 60 * minutes + seconds
 
 
 def same_parts(name, parts, take, frames, first_done=0):

@@ -1,6 +1,7 @@
 """What the scripts that send recordings share: files, servers over them, a relay that counts."""
 import contextlib
 import random
+import re
 import select
 import socket
 import subprocess
@@ -8,6 +9,18 @@ import subprocess
 from kit.network import close_at_once, connect, LOCAL, pass_both_ways, Relay, run, Server, start, TALLY
 from kit.recordings import data, fmt, Recording, riff
 from kit.takes import LONGEST_BLOCK
+
+CLOCK = r"\d+:[0-5]\d:[0-5]\d"
+LINE = re.compile(
+    rf"(?P<name>[a-z0-9_-]+) (?:(?P<percent>\d+)% (?P<done>{CLOCK})/(?P<all>{CLOCK})|(?P<so_far>{CLOCK}))"
+    r" (?P<speed>\d+\.\d) MB/s pending (?P<pending>\d+) link (?:up|down, (?P<down>\d+) s)"
+)
+
+
+def seconds_of(text):
+    """How many seconds hours, minutes and seconds are."""
+    hours, minutes, seconds = map(int, text.split(":"))
+    return 3600 * hours + 60 * minutes + seconds
 
 
 def written(folder, file, name="take.wav"):

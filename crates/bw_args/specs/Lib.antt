@@ -13,6 +13,7 @@ pub mod VerifyOptions
 pub mod ReceiptOptions
 pub mod SeveralRecordings
 pub mod Ranges
+pub mod LookedAt
 pub mod Lines
 pub mod Forms
 pub mod PeerForms

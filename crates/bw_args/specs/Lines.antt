@@ -9,8 +9,11 @@ pub use Rattle.bw_args.specs.Given.{IsJournalingGiven, GivesCountOr, GivesRounds
 pub use Rattle.bw_args.specs.Given.{GivesStatus, IsStatusGiven}
 pub use Rattle.bw_args.specs.Given.{IsWork, IsWorkGiven, GivesWork, is_watch_mixed}
 pub use Rattle.bw_args.specs.Ranges.{IsWithin, IsEndWithin, IsWayWithin, HasPort, HasNumbersInRange}
+pub use Rattle.bw_args.specs.LookedAt.{IsGood, looked_at_waiting, looked_at_serving, looked_at_trying}
+pub use Rattle.bw_args.specs.LookedAt.{looked_at_samples, looked_at_sending, looked_at, IsFirstBad}
+pub use Rattle.bw_args.specs.LookedAt.{bad_unlooked}
 use Rattle.std.specs.Prelude.{◌≡◌, ◌≢◌, ◌⊎◌, ⊤, ℕ, Bool}
-use Rattle.std.specs.Prelude.{true, false, List, [], ◌∷◌, ◌++◌}
+use Rattle.std.specs.Prelude.{true, false, List, [], ◌∷◌}
 use Rattle.std.specs.Prelude.{Option, Some, None, option_map, string_bytes, codes}
 use Rattle.std.specs.Prelude.{◌&&◌, ◌||◌, not, if◌then◌else◌, is_some}
 use Rattle.std.specs.Str.{bytes_eq}
@@ -22,31 +25,24 @@ use Rattle.clap.specs.Kinds.{IsAmong, Kinds, or_else}
 use Rattle.clap.specs.Values.{kind_of}
 use Rattle.clap.specs.declared.error.ErrorKind.{ErrorKind}
 use Rattle.clap.specs.declared.error.ErrorKind.TheVariants.{MissingRequiredArgument, OutOfMemory}
-use Rattle.bw_args.specs.Numbers.{default_fruitless, default_timeout, most_block, most_exchanges}
-use Rattle.bw_args.specs.Numbers.{most_fruitless, most_rate, most_recorders, most_rounds}
+use Rattle.bw_args.specs.Numbers.{default_fruitless, default_timeout}
+use Rattle.bw_args.specs.Numbers.{most_fruitless, most_rate, most_rounds}
 use Rattle.bw_args.specs.Numbers.{most_seconds}
 use Rattle.bw_args.specs.Commands.{command_line}
 use Rattle.bw_args.specs.InspectedFiles.{GivesInspection, PlainInspection, has_option, inspection_in_plain}
 use Rattle.bw_args.specs.InspectedFiles.{is_alone, one_file}
-use Rattle.bw_args.specs.SeveralRecordings.{FilesUpload, GivesFiles, files_in_plain, is_files_mixed}
+use Rattle.bw_args.specs.SeveralRecordings.{FilesUpload, GivesFiles, files_in_plain}
 use Rattle.bw_args.specs.Sources.{GivesSource, PlainSource, has_files, in_plain, is_mixed, path_given}
-use Rattle.bw_args.specs.PcmSources.{GivesFormat, GivesNumber, GivesSamples, PlainPcm}
-use Rattle.bw_args.specs.PcmSources.{are_samples_mixed, fruitless_of, is_live, plain_pcm}
+use Rattle.bw_args.specs.PcmSources.{GivesSamples, PlainPcm}
+use Rattle.bw_args.specs.PcmSources.{fruitless_of, is_live, plain_pcm}
 use Rattle.bw_args.specs.ReadWords.{as_read}
-use Rattle.bw_args.specs.LeftOutOptions.{is_left_out_mixed}
 use Rattle.bw_args.specs.ReceiptOptions.{PlainTarget, is_receipt_mixed, receipt_given, target_in_plain}
 use Rattle.bw_args.specs.AskedForms.{GivesConversion}
-use Rattle.bw_args.specs.VerifyOptions.{IsVerifyGiven, is_verify_given_mixed}
+use Rattle.bw_args.specs.VerifyOptions.{IsVerifyGiven}
 use Rattle.bw_args.specs.declared.CommandLine.{CommandLine}
 use Rattle.bw_args.specs.declared.CommandLine.TheVariants.{Run, BadValue as Bad, Report}
 use Rattle.bw_args.specs.declared.bad_value.BadValue.{BadValue}
-use Rattle.bw_args.specs.declared.bad_value.BadValue.TheVariants.{Name, Limit, Fuse, Listen}
-use Rattle.bw_args.specs.declared.bad_value.BadValue.TheVariants.{Folder, Exchanges, Timeout}
-use Rattle.bw_args.specs.declared.bad_value.BadValue.TheVariants.{Recorders, Idle, Wait}
-use Rattle.bw_args.specs.declared.bad_value.BadValue.TheVariants.{UntilStopped, Sync, Rest, GiveUp, Connect}
-use Rattle.bw_args.specs.declared.bad_value.BadValue.TheVariants.{Watch, Verify, Receipt, Status, Log}
-use Rattle.bw_args.specs.declared.bad_value.BadValue.TheVariants.{Rounds, Fruitless, Rate, Mixed, Pcm, Skip}
-use Rattle.bw_args.specs.declared.bad_value.BadValue.TheVariants.{Block, LeftOut, MixedSamples, Files, Inspection, Form}
+use Rattle.bw_args.specs.declared.bad_value.BadValue.TheVariants.{Limit}
 use Rattle.bw_args.specs.declared.folders.FolderWork.{FolderWork}
 use Rattle.bw_args.specs.declared.peers.End.{End}
 use Rattle.bw_args.specs.declared.peers.Journaling.{Journaling}
@@ -55,7 +51,6 @@ use Rattle.bw_args.specs.declared.peers.Recorders.{Recorders as Way}
 use Rattle.bw_args.specs.declared.peers.Send.{Send as Sender}
 use Rattle.bw_args.specs.declared.Task.{Task}
 use Rattle.bw_args.specs.declared.asked_form.AskedForm.{AskedForm}
-use Rattle.bw_args.specs.declared.commands.samples.WrittenFormat.{WrittenFormat}
 use Rattle.bw_args.specs.declared.commands.sending.Tries.{Tries}
 use Rattle.bw_args.specs.declared.Task.TheVariants.{Replay, Rehearse, Inspect, Serve, Send, SendFile}
 use Rattle.bw_args.specs.declared.Task.TheVariants.{SendPcm, SendFiles}
@@ -319,99 +314,6 @@ HasPath (Verifying folder receipts) = ⊤
 abbrev pub AsksForPath : Option (Text × List Row) → Type 0
 AsksForPath command = (wish : Wish) × HasPath wish × IsWishOf command wish
 
--- what is given of this kind is good: a value that is one, or none if there is a default
-abbrev pub IsGood : BadValue → (Text → Option Text) → Type 0
-IsGood Name given = (name : Text) × GivesName (given (codes "name")) name
-IsGood Limit given = (limit : ℕ) × GivesLimit (given (codes "limit")) limit
-IsGood Fuse given = (fuse : Option ℕ) × GivesFuse (given (codes "fuse")) fuse
-IsGood Listen given = (address : SocketAddr)
-    × GivesAddress (is_set (given (codes "network"))) (given (codes "listen")) address
-IsGood Folder given = (folder : Text) × GivesFolder (given (codes "folder")) folder
-IsGood Exchanges given = (count : Option ℕ)
-    × GivesCount most_exchanges (given (codes "exchanges")) count
-IsGood Timeout given = (count : Option ℕ) × GivesCount most_seconds (given (codes "timeout")) count
-IsGood Recorders given = (count : Option ℕ)
-    × GivesCount most_recorders (given (codes "recorders")) count
-IsGood Idle given = (count : Option ℕ) × GivesCount most_seconds (given (codes "idle")) count
-IsGood Wait given = (way : Way) × GivesRecorders given way
-IsGood UntilStopped given = (end : End)
-    × GivesEnd (given (codes "exchanges")) (is_set (given (codes "until-stopped"))) end
-IsGood Sync given = (journal : Journaling)
-    × IsJournaling (is_set (given (codes "journal"))) (is_set (given (codes "sync"))) journal
-IsGood Rest given = (rest : Bool)
-    × GivesRest (is_set (given (codes "journal"))) (is_set (given (codes "rest"))) rest
-IsGood Status given = (status : Option SocketAddr) × GivesStatus (is_set (given (codes "network")))
-    (given (codes "status")) (is_some (given (codes "recorders"))) status
-IsGood Log given = (form : Option Logging) × GivesLog (given (codes "log")) form
-IsGood Watch given = is_watch_mixed (is_set (given (codes "watch")))
-    (is_set (given (codes "check"))) (is_set (given (codes "json")))
-    (is_set (given (codes "digest"))) (given (codes "give-up")) ≡ false
-IsGood Verify given = is_verify_given_mixed given ≡ false
-IsGood GiveUp given = (work : FolderWork) × GivesWork given work
-IsGood Connect given = (address : SocketAddr)
-    × GivesAddress (is_set (given (codes "network"))) (given (codes "connect")) address
-IsGood Rounds given = (count : Option ℕ) × GivesCount most_rounds (given (codes "rounds")) count
-IsGood Fruitless given = (count : Option ℕ)
-    × GivesCount most_fruitless (given (codes "fruitless")) count
-IsGood Rate given = (count : Option ℕ) × GivesCount most_rate (given (codes "rate")) count
-IsGood Mixed given = is_mixed given ≡ false
-IsGood Receipt given = is_receipt_mixed given ≡ false
-IsGood LeftOut given = is_left_out_mixed given ≡ false
-IsGood Pcm given = (format : Option WrittenFormat) × GivesFormat (given (codes "pcm")) format
-IsGood Skip given = (bytes : Option ℕ) × GivesNumber (given (codes "skip")) bytes
-IsGood Block given = (frames : Option ℕ) × GivesCount most_block (given (codes "block")) frames
-IsGood MixedSamples given = are_samples_mixed given ≡ false
-IsGood Files given = is_files_mixed given ≡ false
-IsGood Inspection given = ⊤
-IsGood Form given = ⊤
-
--- the values that say how recorders are served, in the order in which they are looked at
-abbrev pub looked_at_waiting : List BadValue
-looked_at_waiting = Timeout ∷ Recorders ∷ Idle ∷ Wait ∷ []
-
--- the values that say how a server ends, and what it does beside, in the order in which they are
--- looked at
-abbrev pub looked_at_serving : List BadValue
-looked_at_serving = UntilStopped ∷ Sync ∷ Rest ∷ Status ∷ Log ∷ []
-
--- the values that say how a sender tries, in the order in which they are looked at
-abbrev pub looked_at_trying : List BadValue
-looked_at_trying = Rounds ∷ Timeout ∷ Fruitless ∷ Rate ∷ []
-
--- the values that describe headerless samples, in the order in which they are looked at
-abbrev pub looked_at_samples : List BadValue
-looked_at_samples = Pcm ∷ Skip ∷ Block ∷ MixedSamples ∷ []
-
--- the values that a sender looks at, of several recordings or of at most one, in this order
-abbrev pub looked_at_sending : Bool → List BadValue
-looked_at_sending true = Files ∷ Connect ∷ (looked_at_trying ++ Receipt ∷ [])
-looked_at_sending false =
-    Connect ∷ Name ∷ (looked_at_trying ++ Mixed ∷ Receipt ∷ LeftOut ∷ looked_at_samples)
-
--- the values that a command looks at, in this order
-abbrev pub looked_at : Text → (Text → Option Text) → List BadValue
-looked_at command given = if bytes_eq command (codes "replay") then Limit ∷ Fuse ∷ []
-    else (if bytes_eq command (codes "rehearse") then Name ∷ Limit ∷ []
-    else (if bytes_eq command (codes "serve")
-    then Listen ∷ Folder ∷ Exchanges ∷ Limit ∷ (looked_at_waiting ++ looked_at_serving)
-    else (if bytes_eq command (codes "send")
-    then looked_at_sending (has_files given)
-    else (if bytes_eq command (codes "takes") then Folder ∷ Verify ∷ Watch ∷ GiveUp ∷ [] else []))))
-
--- of these values, in this order, it is the first that is bad
-abbrev pub IsFirstBad : List BadValue → (Text → Option Text) → BadValue → Type 0
-IsFirstBad [] given value = ⊥
-IsFirstBad (first ∷ later) given value = (¬ IsGood first given × (value ≡ first))
-    ⊎ (IsGood first given × IsFirstBad later given value)
-
--- what is bad of a command of which no value is looked at: of `inspect`, what is asked for
--- together; of `convert`, the form; of `pack`, what is to be kept; elsewhere a limit is there for what
--- `clap` doesn't let through
-abbrev pub bad_unlooked : Text → BadValue
-bad_unlooked command = if bytes_eq command (codes "inspect") then Inspection
-    else (if bytes_eq command (codes "convert") then Form
-    else (if bytes_eq command (codes "pack") then LeftOut else Limit))
-
 -- the value for which they ask for nothing
 abbrev pub Lacks : Option (Text × List Row) → BadValue → Type 0
 Lacks None value = value ≡ Limit
@@ -425,7 +327,7 @@ IsLineFor command (Run task) = IsWishOf command (wish_of task)
 IsLineFor command (Bad value) = AsksNothing command × Lacks command value
 IsLineFor command (Report error) = ⊥
 
--- `send` is asked for with neither the name of a take nor words of recordings
+-- `send` is asked for with neither a name nor a FILE
 abbrev pub is_nameless : Option (Text × List Row) → Bool
 is_nameless None = false
 is_nameless (Some command) = bytes_eq command.0 (codes "send")
@@ -442,8 +344,8 @@ pub record AsksFor (words : List Text) (wish : Wish) : Type 0 where
   pub taken : fault_of command_line words ≡ []
   pub asked : IsWishOf (subcommand_of command_line words) wish
 
--- the kinds of error that the words may have: those of `clap`'s walk over them, and else, where `send`
--- lacks a name, that of a missing argument
+-- the kinds of error that the words may have: those of `clap`'s walk over them, and else, where `send` has
+-- neither a name nor a FILE, that of a missing argument
 abbrev pub error_kinds : List Text → Kinds
 error_kinds words = or_else (fault_of command_line words)
     (if is_nameless (subcommand_of command_line words) then MissingRequiredArgument ∷ [] else [])

@@ -14,8 +14,8 @@ use Rattle.bw_args.specs.PeerForms.{ForSender, ReportsBad}
 use Rattle.bw_args.specs.FileForms.{with_file}
 use Rattle.bw_args.specs.declared.CommandLine.{CommandLine}
 use Rattle.bw_args.specs.declared.CommandLine.TheVariants.{BadValue as Bad}
-use Rattle.bw_args.specs.declared.bad_value.BadValue.TheVariants.{Connect, Files, Fruitless, Mixed, Rate, Receipt}
-use Rattle.bw_args.specs.declared.bad_value.BadValue.TheVariants.{Timeout}
+use Rattle.bw_args.specs.declared.bad_value.BadValue.TheVariants.{Connect, Files, Fruitless, Mixed, Rate}
+use Rattle.bw_args.specs.declared.bad_value.BadValue.TheVariants.{Receipt, Timeout}
 
 -- the sender of several recordings of which only address and paths are said
 abbrev pub plain_files : SocketAddr → List Text → FilesUpload

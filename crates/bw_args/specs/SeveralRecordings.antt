@@ -1,5 +1,6 @@
 -- Several recordings, as the words and the options of `send` give them.
-use Rattle.std.specs.Prelude.{◌≡◌, ◌||◌, ℕ, Bool, true, false, List, Option, Some, codes, is_some, map, option_map}
+use Rattle.std.specs.Prelude.{◌≡◌, ◌||◌, ℕ, Bool, true, false, List, Option, Some, codes, is_some}
+use Rattle.std.specs.Prelude.{map, option_map}
 use Rattle.std.specs.Prelude.{string_bytes}
 use Rattle.std.specs.declared.net.socket_addr.SocketAddr.{SocketAddr}
 use Rattle.clap.specs.Walk.{Row, Text, all_of}

@@ -46,7 +46,7 @@ pub record GivesSource (path : Option Text) (options : List Row) (source : Plain
   pub keeps : source.left_out ≡ given_on_line options (codes "keep-left-out")
   pub kept : is_left_out_mixed (given_on_line options) ≡ false
 
--- recordings are given as words of their own
+-- a FILE is given as a word of its own
 abbrev pub has_files : (Text → Option Text) → Bool
 has_files given = is_some (given (codes "files"))
 
@@ -61,7 +61,7 @@ is_source_mixed given = if is_some (path_given given) then is_some (given (codes
     || (is_set (given (codes "strict"))
     || (is_set (given (codes "strict-texts")) || is_set (given (codes "log"))))))))))
 
--- options that aren't for one sender of at most one recording: the words of several, the names of these,
--- and those that aren't for one source
+-- options that aren't for one sender of at most one recording: a FILE, the file of names, and those that
+-- aren't for one source
 abbrev pub is_mixed : (Text → Option Text) → Bool
 is_mixed given = has_files given || (is_some (given (codes "names")) || is_source_mixed given)

@@ -49,8 +49,8 @@ pub enum BadValue {
     Fruitless,
     /// How many bytes a second a sender sends at most.
     Rate,
-    /// An option for a recording without `--file` or `--spool`, or `--rounds` with one; or `--names` without
-    /// FILE...
+    /// An option for a recording without `--file` or `--spool`, or `--rounds` with one; or `--names`
+    /// without a FILE.
     Mixed,
     /// `--receipt` with headerless samples, or `--json` without `--receipt`.
     Receipt,
@@ -66,7 +66,7 @@ pub enum BadValue {
     /// with both, or with `--state`; or options that don't say in one way when the recording has
     /// ended.
     MixedSamples,
-    /// An option for one recording, or for samples, beside FILE...
+    /// An option for one recording, or for samples, beside a FILE.
     Files,
     /// `--json` together with `--human`, or standard input (`-`) beside another file or `--digest`.
     Inspection,

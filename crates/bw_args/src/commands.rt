@@ -43,7 +43,7 @@ pub fn line(alloc: Global, matches: &ArgMatches<'_>) -> Result<CommandLine, Allo
     }
 }
 
-/// Whether `send` is asked for with neither the name of a take nor words of recordings.
+/// Whether `send` is asked for with neither a name nor a FILE.
 pub fn is_nameless(matches: &ArgMatches<'_>) -> bool
     ensures { result ≡ is_nameless (subcommand_rows_of matches.now) }
 {

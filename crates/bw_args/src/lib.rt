@@ -138,8 +138,8 @@ pub fn parse(alloc: Global, words: &[String]) -> Result<CommandLine, AllocError>
     }
 }
 
-/// What words that `clap` takes result in. That a take without recordings needs a name is looked at here,
-/// since `clap`'s contract isn't exact for an option that is required unless another is there.
+/// What words that `clap` takes result in. That `send` needs a name or a FILE is looked at here, since
+/// `clap`'s contract isn't exact for an option that is required unless another is there.
 fn taken(alloc: Global, matches: &ArgMatches<'_>) -> Result<CommandLine, AllocError>
     ensures { IfOk result (IsTakenLine (subcommand_rows_of matches.now)) }
 {

@@ -13,5 +13,5 @@ pub mod CommitForms
 pub mod HeaderKeeping
 pub mod ClosedTakes
 pub mod ClosedNames
-pub mod RecoveredForms
+pub mod IdleForms
 pub mod FileNoteLaws

@@ -6,4 +6,4 @@ pub mod PendingNotes
 pub mod TakeFolders
 pub mod JournalFolders
 pub mod Commits
-pub mod RecoveredNames
+pub mod FolderDisks

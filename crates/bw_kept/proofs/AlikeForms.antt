@@ -12,7 +12,8 @@ use Rattle.bw_folder.specs.JournalFolders.{journals_disk, journals_folder, journ
 use Rattle.bw_folder.specs.JournalFolders.{journal_on_disk, noted_in_folder}
 use Rattle.bw_folder.specs.PendingNotes.{UnwrittenNotes, noted_with, unwritten_of, waits, with_pending}
 use Rattle.bw_folder.specs.Commits.{IsAllCommitted}
-use Rattle.bw_folder.specs.RecoveredNames.{AreOfOneFolder, CountsUnlessCrowded}
+use Rattle.bw_folder.specs.FolderDisks.{AreOfOneFolder}
+use Rattle.bw_kept.specs.RecoveredNames.{CountsUnlessCrowded}
 use Rattle.bw_folder.specs.declared.folder.FolderStore.{FolderStore}
 use Rattle.bw_folder.specs.declared.journal.FolderJournal.{FolderJournal}
 use Rattle.bw_kept.specs.Recoveries.{HasTooManyIn, IfNumbers, KeepsInFolder, OpensIn, OpensStory, RecoversIn, is_failed_call}

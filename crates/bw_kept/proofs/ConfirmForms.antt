@@ -13,7 +13,8 @@ use Rattle.bw_folder.specs.Journals.{known_but}
 use Rattle.bw_folder.specs.TakeFolders.{takes_disk, takes_folder, open_takes, take_in_folder}
 use Rattle.bw_folder.specs.JournalFolders.{journals_disk, journals_limit, open_journals, noted_in_folder, IsSyncedName}
 use Rattle.bw_folder.specs.Commits.{IsAllCommitted}
-use Rattle.bw_folder.specs.RecoveredNames.{AreOfOneFolder, CountsUnlessCrowded, ShowsAlike}
+use Rattle.bw_folder.specs.FolderDisks.{AreOfOneFolder, ShowsAlike}
+use Rattle.bw_kept.specs.RecoveredNames.{CountsUnlessCrowded}
 use Rattle.bw_folder.specs.declared.folder.FolderStore.{FolderStore}
 use Rattle.bw_folder.specs.declared.journal.FolderJournal.{FolderJournal}
 use Rattle.bw_kept.specs.Recoveries.{IfKept, IfNew, IsKeptUnder, KeepsBothSettings, KeepsInFolder, Recovers, RecoversIn}

@@ -33,3 +33,4 @@ pub mod ClosedFiles
 pub mod RecoverHeads
 pub mod RecoverNames
 pub mod SyncedForms
+pub mod RestoredForms

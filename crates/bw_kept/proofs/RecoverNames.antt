@@ -12,7 +12,7 @@ use Rattle.bw_folder.specs.Journals.{journal_path, existence_of, known_but}
 use Rattle.bw_folder.specs.TakeFolders.{takes_disk, takes_folder, take_in_folder}
 use Rattle.bw_folder.specs.JournalFolders.{journals_disk, journals_folder, journals_limit, noted_in_folder}
 use Rattle.bw_folder.specs.JournalFolders.{header_in_folder, open_journals}
-use Rattle.bw_folder.specs.RecoveredNames.{AreOfOneFolder, ShowsAlike}
+use Rattle.bw_folder.specs.FolderDisks.{AreOfOneFolder, ShowsAlike}
 use Rattle.bw_folder.specs.declared.folder.FolderStore.{FolderStore}
 use Rattle.bw_folder.specs.declared.journal.FolderJournal.{FolderJournal}
 use Rattle.bw_session.specs.SeenServers.{session_kept}

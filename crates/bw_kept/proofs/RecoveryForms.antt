@@ -18,7 +18,7 @@ use Rattle.bw_recovery.specs.declared.fault.FileFault.TheVariants.{Lost}
 use Rattle.bw_recovery.specs.declared.finding.Finding.{Finding}
 use Rattle.bw_recovery.specs.declared.finding.Finding.TheVariants.{Refused, Unbegun, Begun as Resumes}
 use Rattle.bw_recovery.specs.declared.finding.NameFault.{NameFault as Fault}
-use Rattle.bw_folder.specs.RecoveredNames.{FindsName, RestoresName}
+use Rattle.bw_kept.specs.RecoveredNames.{FindsName, RestoresName}
 use Rattle.bw_kept.specs.Recoveries.{Recovers, MadeOfStory, MadeOfJournal, opened_story, story_in}
 use Rattle.bw_kept.specs.KeptFolders.{HasNameFault, HasTooMany}
 use Rattle.bw_kept.specs.Recoveries.{is_failed_call, IfUntouched, IfNumbers, IsKeptUnder}

@@ -14,8 +14,9 @@ use Rattle.bw_recovery.specs.declared.finding.Finding.{Finding}
 use Rattle.bw_folder.specs.Folders.{take_path}
 use Rattle.bw_folder.specs.TakeFolders.{takes_disk, takes_folder, take_in_folder}
 use Rattle.bw_folder.specs.JournalFolders.{journals_disk, journals_folder, noted_in_folder}
-use Rattle.bw_folder.specs.RecoveredNames.{AreOfOneFolder, FindsName, FindsIn, RestoresName, RestoresIn, StaysLeftIn}
-use Rattle.bw_folder.specs.RecoveredNames.{ChangesName, CountsUnlessCrowded}
+use Rattle.bw_folder.specs.FolderDisks.{AreOfOneFolder}
+use Rattle.bw_kept.specs.RecoveredNames.{FindsName, FindsIn, RestoresName, RestoresIn, StaysLeftIn}
+use Rattle.bw_kept.specs.RecoveredNames.{ChangesName, CountsUnlessCrowded}
 use Rattle.bw_folder.specs.declared.folder.FolderStore.{FolderStore}
 use Rattle.bw_folder.specs.declared.journal.FolderJournal.{FolderJournal}
 use Rattle.bw_kept.specs.Recoveries.{Recovers, RecoversIn, opened_story, KeepsFaulty, KeepsFaultyIn, KeepsInFolder}

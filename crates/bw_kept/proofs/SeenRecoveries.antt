@@ -9,7 +9,7 @@ use Rattle.bw_folder.specs.Journals.{existence_of}
 use Rattle.bw_folder.specs.TakeFolders.{takes_disk, open_takes}
 use Rattle.bw_folder.specs.JournalFolders.{journals_disk, open_journals, noted_in_folder}
 use Rattle.bw_folder.specs.PendingNotes.{UnwrittenNotes, unwritten_of, waits}
-use Rattle.bw_folder.specs.RecoveredNames.{KeepsStore, KeepsFolderJournal}
+use Rattle.bw_folder.specs.FolderDisks.{KeepsStore, KeepsFolderJournal}
 use Rattle.bw_folder.specs.declared.folder.FolderStore.{FolderStore}
 use Rattle.bw_folder.specs.declared.journal.FolderJournal.{FolderJournal}
 use Rattle.bw_kept.specs.Recoveries.{HasTooManyIn, IfUntouched, KeepsBothSettings, RecoversIn, is_failed_call}

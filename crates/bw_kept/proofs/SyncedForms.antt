@@ -14,7 +14,7 @@ use Rattle.bw_folder.specs.Journals.{existence_of, known_but}
 use Rattle.bw_folder.specs.TakeFolders.{takes_disk, takes_folder, take_in_folder}
 use Rattle.bw_folder.specs.JournalFolders.{journals_disk, journals_sync, open_journals, noted_in_folder, IsSyncedName}
 use Rattle.bw_folder.specs.PendingNotes.{UnwrittenNotes, unwritten_of, waits}
-use Rattle.bw_folder.specs.RecoveredNames.{AreOfOneFolder}
+use Rattle.bw_folder.specs.FolderDisks.{AreOfOneFolder}
 use Rattle.bw_folder.specs.declared.folder.FolderStore.{FolderStore}
 use Rattle.bw_folder.specs.declared.journal.FolderJournal.{FolderJournal}
 use Rattle.bw_session.specs.declared.kept_take.KeptTake.{KeptTake}

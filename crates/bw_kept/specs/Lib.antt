@@ -16,3 +16,5 @@ pub mod RecoverySteps
 pub mod RecoveredLogs
 pub mod Visits
 pub mod LeftOutNames
+pub mod DiskVisits
+pub mod RecoveredNames

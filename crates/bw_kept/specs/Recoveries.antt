@@ -14,7 +14,7 @@ use Rattle.bw_folder.specs.TakeFolders.{takes_folder, takes_calls, takes_failure
 use Rattle.bw_folder.specs.TakeFolders.{take_in_folder}
 use Rattle.bw_folder.specs.JournalFolders.{journals_failures, open_journals, noted_in_folder, SameSettings}
 use Rattle.bw_folder.specs.JournalFolders.{has_pending}
-use Rattle.bw_folder.specs.RecoveredNames.{ChangesName, StaysLeftIn}
+use Rattle.bw_kept.specs.RecoveredNames.{ChangesName, StaysLeftIn}
 use Rattle.bw_folder.specs.declared.folder.FolderStore.{FolderStore}
 use Rattle.bw_folder.specs.declared.journal.FolderJournal.{FolderJournal}
 use Rattle.bw_kept.specs.KeptFolders.{HasNameFault, HasTooMany}

@@ -16,7 +16,8 @@ use Rattle.bw_folder.specs.Journals.{existence_of}
 use Rattle.bw_folder.specs.TakeFolders.{takes_disk, open_takes}
 use Rattle.bw_folder.specs.JournalFolders.{journals_disk, open_journals, noted_in_folder}
 use Rattle.bw_folder.specs.JournalFolders.{journals_failures, unwritten_in, SameSettings}
-use Rattle.bw_folder.specs.RecoveredNames.{AreOfOneFolder, FindsIn, CountsUnlessCrowded}
+use Rattle.bw_folder.specs.FolderDisks.{AreOfOneFolder}
+use Rattle.bw_kept.specs.RecoveredNames.{FindsIn, CountsUnlessCrowded}
 use Rattle.bw_folder.specs.declared.folder.FolderStore.{FolderStore}
 use Rattle.bw_folder.specs.declared.journal.FolderJournal.{FolderJournal}
 use Rattle.bw_kept.specs.KeptFolders.{HasManyDone}

@@ -12,7 +12,7 @@ use Rattle.bw_folder.specs.TakeFolders.{takes_disk, takes_folder, open_takes}
 use Rattle.bw_folder.specs.JournalFolders.{journals_disk, journals_limit, journals_sync, open_journals}
 use Rattle.bw_folder.specs.JournalFolders.{IsSyncedName, has_pending, noted_in_folder}
 use Rattle.bw_folder.specs.Commits.{IsAllCommitted, CommitsNotes}
-use Rattle.bw_folder.specs.RecoveredNames.{AreOfOneFolder, ShowsAlike}
+use Rattle.bw_folder.specs.FolderDisks.{AreOfOneFolder, ShowsAlike}
 use Rattle.bw_folder.specs.declared.folder.FolderStore.{FolderStore}
 use Rattle.bw_folder.specs.declared.journal.FolderJournal.{FolderJournal}
 use Rattle.bw_kept.specs.Recoveries.{IfKept, IfNew, IsKeptUnder, KeepsBothSettings, KeepsInFolder}

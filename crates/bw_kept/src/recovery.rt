@@ -14,8 +14,8 @@ ghost use Rattle.bw_folder.specs.JournalFolders.{noted_in_folder, SameSettings};
 ghost use Rattle.bw_folder.specs.JournalFolders.{journals_sync, has_pending, IsSyncedName};
 ghost use Rattle.bw_disk.specs.Volumes.{KeepsEach};
 ghost use Rattle.bw_folder.specs.Commits.{IsAllCommitted};
-ghost use Rattle.bw_folder.specs.RecoveredNames.{AreOfOneFolder};
-ghost use Rattle.bw_folder.specs.RecoveredNames.{CountsIn, CountsUnlessCrowded};
+ghost use Rattle.bw_folder.specs.FolderDisks.{AreOfOneFolder};
+ghost use Rattle.bw_kept.specs.RecoveredNames.{CountsIn, CountsUnlessCrowded};
 ghost use Rattle.bw_kept.specs.Recoveries.{makes_file, is_written_on, MadeOfStory};
 ghost use Rattle.bw_kept.specs.Recoveries.{is_failed_call, KeepsBothSettings, KeepsOthersOpen};
 ghost use Rattle.bw_kept.specs.Recoveries.{IfKept, OpensStory, RecoversIn, OpensIn, take_opened};
@@ -24,8 +24,9 @@ ghost use Rattle.bw_kept.specs.RecoverySteps.{fault_of_read, MadeOfFinding, stor
 ghost use Rattle.bw_kept.specs.RecoverySteps.{OpensMore, IsManyDone, IsFewDone, IsFoundThere};
 ghost use Rattle.bw_kept.specs.RecoverySteps.{RecoversAlone, RecoversFrom, SyncsJournal};
 
+use crate::restoring::{look_at_name, restore_in_folder};
 use bw_disk::{ReadFault, Volume};
-use bw_folder::{FolderJournal, FolderStore, look_at_name, restore_in_folder};
+use bw_folder::{FolderJournal, FolderStore};
 use bw_journal::Replayed;
 use bw_layout::Limit;
 use bw_model::Name;

@@ -5,14 +5,15 @@ ghost use Rattle.bw_folder.specs.TakeFolders.{takes_disk, open_takes};
 ghost use Rattle.bw_disk.specs.Volumes.{KeepsEach};
 ghost use Rattle.bw_folder.specs.JournalFolders.{journals_disk, open_journals, noted_in_folder};
 ghost use Rattle.bw_folder.specs.Commits.{IsAllCommitted};
-ghost use Rattle.bw_folder.specs.RecoveredNames.{AreOfOneFolder, KeepsStore, KeepsFolderJournal, ShowsAlike};
+ghost use Rattle.bw_folder.specs.FolderDisks.{AreOfOneFolder, KeepsStore, KeepsFolderJournal, ShowsAlike};
 ghost use Rattle.bw_kept.specs.Recoveries.{KeepsBothSettings};
 ghost use Rattle.bw_kept.specs.Visits.{ClosesFiles, CommitsJournals, OnlyCloses, IsDifference, RecoversName, delay_by};
 
 use crate::delay::Delay;
 use crate::recovery::{RecoverFault, Recovered, recover};
+use crate::restoring::shows_alike;
 use bw_disk::{ReadFault, Volume};
-use bw_folder::{FolderJournal, FolderStore, shows_alike};
+use bw_folder::{FolderJournal, FolderStore};
 use bw_model::Name;
 use bw_session::StoresVisitor;
 use std::alloc::Global;

@@ -41,7 +41,10 @@ impl ReceiptFiles for HostReceipts<'_> {
     }
 
     fn append(&mut self, file: &mut ReceiptFile, line: &[u8]) -> io::Result<()> {
-        counted(append_line(self.rt, file.path.as_str(), line), &mut self.failures)
+        counted(
+            append_line(self.rt, file.path.as_str(), line),
+            &mut self.failures,
+        )
     }
 }
 

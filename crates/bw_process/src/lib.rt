@@ -9,7 +9,8 @@ use bw_operators::StatusSetup;
 use bw_ports::{ListenerSetup, PacedNetwork};
 use bw_program::{Environment, Outside, ProgressObservers, start};
 use bw_progress::{
-    ClearingSink, LastOutage, LineHandle, OutageReports, RenewingPause, SendWatch, SharedProgress,
+    ClearingSink, LastOutage, LineHandle, LinePace, LineWatch, LogScreen, LoggedWatch,
+    OutageReports, RenewingPause, SendWatch, SharedProgress,
 };
 use bw_send_file::LinkLog;
 use bw_serve::{FilteredNetwork, Opens, ServeRules};
@@ -34,7 +35,7 @@ impl<'a, N: PacedNetwork + ListenerSetup + Opens + ServeRules + StatusSetup<N::R
 
     type Network = N;
 
-    type Pause = RenewingPause<SpoolPause<'a>, ProgressHandle<'a>>;
+    type Pause = RenewingPause<RenewingPause<SpoolPause<'a>, LogHandle<'a>>, ProgressHandle<'a>>;
 
     type Input = StdIo<Stdin>;
 
@@ -44,17 +45,34 @@ impl<'a, N: PacedNetwork + ListenerSetup + Opens + ServeRules + StatusSetup<N::R
 
     type Watch = OutageReports<
         'a,
-        SendWatch<'a, Terminal, HostRecordings<'a>, Terminal, ClockStopwatch<HostRuntime>>,
+        SendWatch<Terminal, LineWatch<'a, HostRecordings<'a>, Terminal, ProcessClock>>,
         ClearingSink<StdIo<Stderr>, ProgressHandle<'a>>,
     >;
 
-    type Log = OutageReports<'a, LinkLog<StdIo<Stderr>>, StdIo<Stderr>>;
+    type Log = OutageReports<
+        'a,
+        LoggedWatch<
+            LinkLog<StdIo<Stderr>>,
+            LineWatch<'a, HostRecordings<'a>, LogScreen<StdIo<Stderr>>, ProcessClock>,
+        >,
+        StdIo<Stderr>,
+    >;
 }
 
-/// The line of a sender's progress, and what shows it.
-type TerminalProgress = SharedProgress<Terminal, ClockStopwatch<HostRuntime>>;
+type ProcessClock = ClockStopwatch<HostRuntime>;
 
-type ProgressHandle<'a> = LineHandle<'a, Terminal, ClockStopwatch<HostRuntime>>;
+type ProgressHandle<'a> = LineHandle<'a, Terminal, ProcessClock>;
+
+type LogHandle<'a> = LineHandle<'a, LogScreen<StdIo<Stderr>>, ProcessClock>;
+
+/// The lines of a sender's progress, and what shows them.
+#[derive(Drop)]
+struct ProgressLines {
+    /// In place, on a terminal.
+    shown: SharedProgress<Terminal, ProcessClock>,
+    /// Each minute, in a log.
+    logged: SharedProgress<LogScreen<StdIo<Stderr>>, ProcessClock>,
+}
 
 /// What parts of the outside share.
 #[derive(Drop)]
@@ -91,13 +109,33 @@ fn run_over<N: PacedNetwork + ListenerSetup + Opens + ServeRules + StatusSetup<N
     network: N,
 ) -> ExitCode {
     let terminal = Terminal::new(&rt);
-    let screen = terminal.again(&rt);
-    // A copy of the runtime, since the prover refuses a reference here beside the sinks of lines.
-    let stopwatch = ClockStopwatch::new(rt);
-    let line = SharedProgress::new(rt.alloc(), screen, stopwatch);
-    let mut outside = outside_of(&rt, cells, &line, network);
-    let mut observers = observers_of(&rt, cells, &line, terminal);
+    let lines = progress_lines(rt, terminal.again(&rt));
+    let mut outside = outside_of(&rt, cells, &lines, network);
+    let mut observers = observers_of(&rt, cells, &lines, terminal);
     start(rt.alloc(), build, &mut outside, &mut observers)
+}
+
+/// The lines of a sender's progress. It takes copies of the runtime, since the prover refuses a
+/// reference in a clock beside the sinks of lines.
+fn progress_lines(rt: HostRuntime, screen: Terminal) -> ProgressLines {
+    let log = LogScreen {
+        alloc: rt.alloc(),
+        out: StdIo::new(rt.stderr()),
+    };
+    ProgressLines {
+        shown: SharedProgress::new(
+            rt.alloc(),
+            screen,
+            ClockStopwatch::new(rt),
+            LinePace::Renewed,
+        ),
+        logged: SharedProgress::new(
+            rt.alloc(),
+            log,
+            ClockStopwatch::new(rt),
+            LinePace::EachMinute,
+        ),
+    }
 }
 
 /// What the program works over. All that is lent has one lifetime here and below, since the prover
@@ -108,7 +146,7 @@ fn outside_of<
 >(
     rt: &'a HostRuntime,
     cells: &'a ProcessCells,
-    line: &'a TerminalProgress,
+    lines: &'a ProgressLines,
     network: N,
 ) -> Outside<Process<'a, N>> {
     Outside {
@@ -117,17 +155,28 @@ fn outside_of<
         disk: SystemDisk::new(rt),
         network,
         pause: RenewingPause {
-            inner: SpoolPause::new(rt, &cells.spool),
-            line: LineHandle { shared: line },
+            inner: RenewingPause {
+                inner: SpoolPause::new(rt, &cells.spool),
+                line: LineHandle {
+                    shared: &lines.logged,
+                },
+            },
+            line: LineHandle {
+                shared: &lines.shown,
+            },
         },
         input: StdIo::new(rt.stdin()),
         out: ClearingSink {
             inner: LineSink::new(*rt, &cells.lines, rt.stdout()),
-            line: LineHandle { shared: line },
+            line: LineHandle {
+                shared: &lines.shown,
+            },
         },
         faults: ClearingSink {
             inner: LineSink::new(*rt, &cells.lines, rt.stderr()),
-            line: LineHandle { shared: line },
+            line: LineHandle {
+                shared: &lines.shown,
+            },
         },
         screens: screen_style(rt),
         is_typed: rt.stdin().is_terminal(),
@@ -142,26 +191,36 @@ fn observers_of<
 >(
     rt: &'a HostRuntime,
     cells: &'a ProcessCells,
-    line: &'a TerminalProgress,
+    lines: &'a ProgressLines,
     terminal: Terminal,
 ) -> ProgressObservers<Process<'a, N>> {
     ProgressObservers {
         watch: OutageReports {
             watch: SendWatch {
                 rounds: terminal,
-                files: HostRecordings::new(rt, &cells.spool),
-                line,
+                uploads: LineWatch {
+                    files: HostRecordings::new(rt, &cells.spool),
+                    line: &lines.shown,
+                },
             },
             causes: &cells.causes,
             faults: ClearingSink {
                 inner: StdIo::new(rt.stderr()),
-                line: LineHandle { shared: line },
+                line: LineHandle {
+                    shared: &lines.shown,
+                },
             },
             last: LastOutage::none(),
         },
         log: OutageReports {
-            watch: LinkLog {
-                out: StdIo::new(rt.stderr()),
+            watch: LoggedWatch {
+                log: LinkLog {
+                    out: StdIo::new(rt.stderr()),
+                },
+                uploads: LineWatch {
+                    files: HostRecordings::new(rt, &cells.spool),
+                    line: &lines.logged,
+                },
             },
             causes: &cells.causes,
             faults: StdIo::new(rt.stderr()),

@@ -9,7 +9,7 @@ use Rattle.bw_console.specs.Outcomes.{Outcome}
 use Rattle.bw_console.specs.declared.exit.Exit.{Exit}
 use Rattle.bw_commands.specs.Inspections.{IsInspection}
 use Rattle.bw_commands.specs.Looks.{IsLook}
-use Rattle.bw_report.specs.FileLooks.{AreInspected}
+use Rattle.bw_report.specs.FileLooks.{AreInspected, files_there}
 use Rattle.bw_program.specs.FileCommands.{InspectsBy, InspectsInput, IsLookBy, wanted_of}
 use Rattle.std.specs.Prelude.{map, string_bytes}
 
@@ -31,7 +31,8 @@ module _ {F H G M I O E : Type 0} (files : FileGhosts F H G M) (input : Reader I
   inspects_input false inspection exit f f' i i' o o' e e' same is unread = let bad : false ≡ true = same in cc
 
   pub inspects_files : (b : Bool) (inspection : Inspection) (exit : Exit) (f f' : F) (i i' : I) (o o' : O) (e e' : E) → b ≡ false
-      → AreInspected out reported (files.file_at f) (map string_bytes inspection.files.items) (wanted_of inspection) exit
+      → AreInspected out reported (files_there (files.file_at f) (files.stamp_at f))
+      (map string_bytes inspection.files.items) (wanted_of inspection) exit
       (files.failures f) (files.failures f') o o' e e' → i' ≡ i
       → InspectsBy files input out reported b inspection exit f f' i i' o o' e e'
   inspects_files false inspection exit f f' i i' o o' e e' same is unread = (is, unread)

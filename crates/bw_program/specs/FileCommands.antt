@@ -12,7 +12,7 @@ use Rattle.bw_console.specs.Prints.{failures_if}
 use Rattle.bw_console.specs.declared.exit.Exit.{Exit}
 use Rattle.bw_commands.specs.Inspections.{IsInspection}
 use Rattle.bw_commands.specs.Looks.{IsLook}
-use Rattle.bw_report.specs.FileLooks.{AreInspected}
+use Rattle.bw_report.specs.FileLooks.{AreInspected, files_there}
 use Rattle.bw_report.specs.Inputs.{IsEntryOf}
 use Rattle.bw_report.specs.declared.entry.Style.{Style}
 use Rattle.bw_report.specs.declared.entry.Style.TheVariants.{Plain, Human, Json}
@@ -66,8 +66,9 @@ module _ {F H G M I O E : Type 0} (files : FileGhosts F H G M) (input : Reader I
   InspectsBy true inspection exit f f' i i' o o' e e' =
       InspectsInput (wanted_of inspection).style exit i i' o o' e e' × (f' ≡ f)
   InspectsBy false inspection exit f f' i i' o o' e e' =
-      AreInspected out reported (files.file_at f) (map string_bytes inspection.files.items)
-      (wanted_of inspection) exit (files.failures f) (files.failures f') o o' e e'
+      AreInspected out reported (files_there (files.file_at f) (files.stamp_at f))
+      (map string_bytes inspection.files.items) (wanted_of inspection) exit
+      (files.failures f) (files.failures f') o o' e e'
       × (i' ≡ i)
 
   -- the files that a command line names were inspected

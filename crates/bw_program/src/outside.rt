@@ -9,7 +9,6 @@ use bw_progress::UploadWatch;
 use bw_serve::{Opens, ServeRules};
 use bw_stream::{Sink, Source};
 use bw_takes::ScreenStyle;
-use bw_upload::Observer;
 use std::marker::PhantomData;
 
 /// The types of what the program works over.
@@ -51,8 +50,8 @@ pub trait Environment {
     /// Is shown a sender's progress.
     type Watch: Watch + UploadWatch;
 
-    /// Is shown the links of a sender of recordings.
-    type Log: Observer;
+    /// Is shown the links of a sender of recordings, and its progress.
+    type Log: UploadWatch;
 }
 
 /// What the program works over, besides memory.
@@ -87,7 +86,7 @@ pub struct Outside<X: Environment> {
 pub struct ProgressObservers<X: Environment> {
     /// Is shown its progress, of its rounds or of an upload.
     pub watch: X::Watch,
-    /// Is shown the links of a sender of recordings, where a log is asked for.
+    /// Is shown the links of a sender of recordings, and its progress, where a log is asked for.
     pub log: X::Log,
     /// As in `Outside`.
     pub environment: PhantomData<X>,

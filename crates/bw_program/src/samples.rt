@@ -29,7 +29,7 @@ enum Ending<'a> {
 
 /// Sends the headerless samples that the command line names, and reports each change of the link to
 /// the observer. A spool is held first, and what still comes is kept in it unless all is stored.
-pub(crate) fn send_pcm_as<X: Environment, G: Observer>(
+fn send_pcm_as<X: Environment, G: Observer>(
     alloc: Global,
     sender: &PcmSender,
     outside: &mut Outside<X>,

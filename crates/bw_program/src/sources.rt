@@ -5,8 +5,8 @@ ghost use Rattle.bw_program.specs.Requests.{ByTask, ByUpload, FoundRecording, Re
 use crate::behavior::Behavior;
 use crate::outside::{Environment, Outside, ProgressObservers};
 use crate::receipts::send_with_receipt;
-use crate::samples::{send_pcm_as, send_pcm_watched};
-use crate::uploads::{send_file_as, send_file_watched};
+use crate::samples::send_pcm_watched;
+use crate::uploads::send_file_watched;
 use bw_args::{FileSender, PcmSender};
 use bw_console::Exit;
 use bw_ports::{FileKinds, refuse_kind};
@@ -29,8 +29,8 @@ pub(crate) fn send_file_asked<X: Environment>(
     }
 }
 
-/// Sends the recording that the command line names, if a file is there. Each change of the link is
-/// logged, or the progress shown.
+/// Sends the recording that the command line names, if a file is there. Its progress is logged with
+/// each change of the link, or shown.
 pub(crate) fn send_file_there<X: Environment>(
     alloc: Global,
     sender: &FileSender,
@@ -46,13 +46,13 @@ pub(crate) fn send_file_there<X: Environment>(
         return refuse_kind(alloc, path, kind, false, &mut outside.faults);
     }
     if sender.log {
-        return send_file_as(alloc, sender, outside, &mut observers.log);
+        return send_file_watched(alloc, sender, outside, &mut observers.log);
     }
     send_file_watched(alloc, sender, outside, &mut observers.watch)
 }
 
-/// Sends the headerless samples that the command line names, if a file is there. Each change of the
-/// link is logged, or the progress shown.
+/// Sends the headerless samples that the command line names, if a file is there. Their progress is
+/// logged with each change of the link, or shown.
 pub(crate) fn send_pcm_there<X: Environment>(
     alloc: Global,
     sender: &PcmSender,
@@ -74,7 +74,7 @@ pub(crate) fn send_pcm_there<X: Environment>(
         );
     }
     if sender.log {
-        return send_pcm_as(alloc, sender, outside, &mut observers.log);
+        return send_pcm_watched(alloc, sender, outside, &mut observers.log);
     }
     send_pcm_watched(alloc, sender, outside, &mut observers.watch)
 }

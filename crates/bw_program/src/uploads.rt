@@ -16,7 +16,7 @@ use std::alloc::Global;
 
 /// Sends the recording that the command line names, with a state if that names one too, and reports
 /// each change of the link to the observer.
-pub(crate) fn send_file_as<X: Environment, G: Observer>(
+fn send_file_as<X: Environment, G: Observer>(
     alloc: Global,
     sender: &FileSender,
     outside: &mut Outside<X>,

@@ -2,6 +2,7 @@ pub mod Measures
 pub mod Speeds
 pub mod Progresses
 pub mod Lines
+pub mod Paces
 pub mod Displays
 pub mod Pauses
 pub mod Files

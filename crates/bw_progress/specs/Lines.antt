@@ -3,6 +3,7 @@ use Rattle.std.specs.Prelude.{ℕ, ◌+◌, ◌-◌, ◌*◌, ◌/◌, ◌%◌, 
 use Rattle.std.specs.Prelude.{Option, Some, None, codes, decimal, if◌then◌else◌}
 use Rattle.bw_progress.specs.Measures.{done_frames}
 use Rattle.bw_progress.specs.Progresses.{speed_at}
+use Rattle.bw_progress.specs.declared.batch.BatchPart.{BatchPart}
 use Rattle.bw_progress.specs.declared.progress.LinkState.{LinkState}
 use Rattle.bw_progress.specs.declared.progress.LinkState.TheVariants.{Up, Down}
 use Rattle.bw_progress.specs.declared.progress.UploadProgress.{UploadProgress}
@@ -47,6 +48,14 @@ course_text now p =
     speed_text (speed_at now p) ++ codes " pending " ++ decimal (p.offered - p.settled)
     ++ codes " " ++ link_text now p.link
 
--- The line at this millisecond: the take's name, how much is settled, and the course.
+-- which of several recordings it is: `3/40 `; nothing of one that is sent alone
+abbrev pub batch_text : BatchPart → List ℕ
+batch_text part =
+    if part.count == 0 then []
+    else decimal part.number ++ codes "/" ++ decimal part.count ++ codes " "
+
+-- The line at this millisecond: which recording it is, the take's name, how much is settled, and the
+-- course.
 abbrev pub upload_line : ℕ → UploadProgress → List ℕ
-upload_line now p = p.name ++ codes " " ++ amount_text p ++ codes " " ++ course_text now p
+upload_line now p =
+    batch_text p.part ++ p.name ++ codes " " ++ amount_text p ++ codes " " ++ course_text now p

@@ -6,6 +6,7 @@ use Rattle.bw_upload.specs.declared.observer.LinkEvent.{LinkEvent}
 use Rattle.bw_upload.specs.declared.observer.LinkEvent.TheVariants as events
 use Rattle.bw_progress.specs.Measures.{done_bytes}
 use Rattle.bw_progress.specs.Speeds.{bytes_a_second, speed_noted}
+use Rattle.bw_progress.specs.declared.batch.BatchPart.{BatchPart}
 use Rattle.bw_progress.specs.declared.measure.TakeMeasure.{TakeMeasure}
 use Rattle.bw_progress.specs.declared.progress.LinkState.{LinkState}
 use Rattle.bw_progress.specs.declared.progress.LinkState.TheVariants.{Up, Down}
@@ -14,8 +15,9 @@ use Rattle.bw_progress.specs.declared.speed.Mark.{Mark}
 use Rattle.bw_progress.specs.declared.speed.Speed.{Speed}
 
 -- an upload that begins at this millisecond
-abbrev pub begun_progress : List ℕ → TakeMeasure → ℕ → UploadProgress
-begun_progress name measure now = record {
+abbrev pub begun_progress : BatchPart → List ℕ → TakeMeasure → ℕ → UploadProgress
+begun_progress part name measure now = record {
+  part = part;
   name = name;
   measure = measure;
   offered = 0;

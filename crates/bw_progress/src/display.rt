@@ -1,12 +1,14 @@
 //! When the line of an upload is shown.
-ghost use Rattle.std.specs.Prelude.{◌≡◌, None, Some, false, option_map};
+ghost use Rattle.std.specs.Prelude.{◌≡◌, None, false, option_map};
 ghost use Rattle.bw_model.specs.World.{Sender as Defined};
 ghost use Rattle.bw_sender.specs.Senders.{IsSender};
 ghost use Rattle.bw_progress.specs.Displays.{ClearsLine, ShowsWhenDue, StaysShown, begun_if};
-ghost use Rattle.bw_progress.specs.Displays.{is_due as is_time};
+ghost use Rattle.bw_progress.specs.Displays.{awaited_if};
 ghost use Rattle.bw_progress.specs.Progresses.{begun_progress, counted_at, followed};
 
+use crate::batch::BatchPart;
 use crate::measure::TakeMeasure;
+use crate::pace::LinePace;
 use crate::progress::UploadProgress;
 use crate::screen::Screen;
 use bw_model::Name;
@@ -15,18 +17,19 @@ use bw_sender::Sender;
 use bw_upload::LinkEvent;
 use std::alloc::Global;
 
-/// The fewest milliseconds from one line to the next.
-const BETWEEN_LINES: u64 = 200;
-
-/// Shows how far an upload is, at most five times a second.
+/// Shows how far an upload is, at a pace.
 #[derive(Drop)]
 pub(crate) struct ProgressDisplay<S, T> {
     alloc: Global,
     pub(crate) screen: S,
     stopwatch: T,
+    /// How often a line is shown.
+    pub(crate) pace: LinePace,
+    /// Which recording the next upload is of.
+    pub(crate) part: BatchPart,
     /// What is sent, if anything.
     pub(crate) progress: Option<UploadProgress>,
-    /// When a line was last shown, if one was.
+    /// When a line was last shown, or the wait for a first one began.
     pub(crate) last: Option<u64>,
     /// Whether a line is on the screen.
     pub(crate) is_shown: bool,
@@ -34,8 +37,16 @@ pub(crate) struct ProgressDisplay<S, T> {
 
 impl<S: Screen, T: Stopwatch> ProgressDisplay<S, T> {
     /// Shows nothing yet.
-    pub(crate) fn new(alloc: Global, screen: S, stopwatch: T) -> ProgressDisplay<S, T>
+    pub(crate) fn new(
+        alloc: Global,
+        screen: S,
+        stopwatch: T,
+        pace: LinePace,
+    ) -> ProgressDisplay<S, T>
         ensures screen { result.screen ≡ screen }
+        ensures pace { result.pace ≡ pace }
+        ensures part { result.part ≡ record { number = 0; count = 0 } }
+        ensures last { result.last ≡ None }
         ensures progress { result.progress ≡ None }
         ensures shown { result.is_shown ≡ false }
     {
@@ -43,31 +54,45 @@ impl<S: Screen, T: Stopwatch> ProgressDisplay<S, T> {
             alloc,
             screen,
             stopwatch,
+            pace,
+            part: BatchPart::alone(),
             progress: None,
             last: None,
             is_shown: false,
         }
     }
 
+    /// Notes which recording the next upload is of.
+    pub(crate) fn set_part(&mut self, part: BatchPart)
+        ensures { self.new ≡ record self.old { part = part } }
+    {
+        self.part = part;
+    }
+
     /// Begins with a take, if anyone sees the screen.
     pub(crate) fn begin(&mut self, name: Name, measure: TakeMeasure)
         ensures progress { self.new.progress ≡ begun_if (S.is_seen self.old.screen)
-            (begun_progress name measure (T.time self.new.stopwatch)) self.old.progress }
-        ensures screen { StaysShown self.old self.new }
+            (begun_progress self.old.part name measure (T.time self.new.stopwatch)) self.old.progress }
+        ensures last { self.new.last ≡ awaited_if (S.is_seen self.old.screen) self.old.pace
+            (T.time self.new.stopwatch) self.old.last }
+        ensures screen { StaysShown (record self.old { last = self.new.last }) self.new }
     {
         if self.screen.is_there() {
             let now = self.stopwatch.look();
-            self.progress = Some(UploadProgress::new(name, measure, now));
+            self.progress = Some(UploadProgress::new(self.part, name, measure, now));
+            self.last = self.pace.begin(self.last, now);
         }
     }
 
     /// Ends with it: the line is cleared, and none is shown any more.
     pub(crate) fn end(&mut self)
         ensures progress { self.new.progress ≡ None }
-        ensures screen { ClearsLine S.Screen self.old self.new }
+        ensures screen { ClearsLine S.Screen
+            (record self.old { part = record { number = 0; count = 0 } }) self.new }
     {
         self.clear();
         self.progress = None;
+        self.part = BatchPart::alone();
     }
 
     /// Follows a change of the link, and shows the line again, if that is due.
@@ -119,8 +144,7 @@ impl<S: Screen, T: Stopwatch> ProgressDisplay<S, T> {
         }
     }
 
-    /// Shows the line at this millisecond, if something is sent and the last line is 200
-    /// milliseconds old.
+    /// Shows the line at this millisecond, if something is sent and a line is due.
     fn show_if_due(&mut self, now: u64)
         ensures progress { self.new.progress ≡ self.old.progress }
         ensures stopwatch { self.new.stopwatch ≡ self.old.stopwatch }
@@ -129,7 +153,7 @@ impl<S: Screen, T: Stopwatch> ProgressDisplay<S, T> {
         let Some(progress) = &self.progress else {
             return;
         };
-        if !is_due(self.last, now) {
+        if !self.pace.is_due(self.last, now) {
             return;
         }
         let Ok(line) = progress.line(self.alloc, now) else {
@@ -138,15 +162,5 @@ impl<S: Screen, T: Stopwatch> ProgressDisplay<S, T> {
         self.screen.show(line.as_slice());
         self.last = Some(now);
         self.is_shown = true;
-    }
-}
-
-/// Whether a line may be shown.
-fn is_due(last: Option<u64>, now: u64) -> bool
-    ensures { result ≡ is_time last now }
-{
-    match last {
-        None => true,
-        Some(last) => now.saturating_sub(last) >= BETWEEN_LINES,
     }
 }

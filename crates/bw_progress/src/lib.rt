@@ -4,12 +4,16 @@
 //! Not stated: what a clock says and a screen shows, and that those who share the line ask for it.
 #![tactic(auto)]
 
+mod batch;
 mod display;
 mod laws;
 mod line;
+mod line_watch;
+mod log_screen;
 mod measure;
 mod measuring;
 mod outage;
+mod pace;
 mod pause;
 mod progress;
 mod repeats;
@@ -20,10 +24,14 @@ mod sink;
 mod speed;
 mod watch;
 
+pub use batch::BatchPart;
 pub use laws::law_counted_frames;
+pub use line_watch::LineWatch;
+pub use log_screen::LogScreen;
 pub use measure::{Extent, TakeMeasure};
 pub use measuring::{measure_file, measure_samples};
 pub use outage::{Outage, outage_after};
+pub use pace::LinePace;
 pub use pause::RenewingPause;
 pub use progress::{LinkState, UploadProgress};
 pub use repeats::LastOutage;
@@ -32,4 +40,4 @@ pub use screen::{ProgressLine, Screen};
 pub use shared::{LineHandle, SharedProgress};
 pub use sink::ClearingSink;
 pub use speed::{Mark, Speed};
-pub use watch::{SamplesSent, SendWatch, UploadWatch};
+pub use watch::{LoggedWatch, SamplesSent, SendWatch, UploadWatch};

@@ -1,9 +1,10 @@
 //! The line that shows how far an upload is.
 ghost use Rattle.std.specs.Prelude.{◌≡◌, ◌+◌, ◌<◌, ◌≤◌, ◌++◌, IfOk, OnOk, Some, decimal};
-ghost use Rattle.bw_progress.specs.Lines.{amount_text, course_text, link_text, part_text};
+ghost use Rattle.bw_progress.specs.Lines.{amount_text, batch_text, course_text, link_text, part_text};
 ghost use Rattle.bw_progress.specs.Lines.{percent as percent_of, span_text};
 ghost use Rattle.bw_progress.specs.Lines.{upload_line, speed_text, clock_digits};
 
+use crate::batch::BatchPart;
 use crate::progress::{LinkState, UploadProgress};
 use itoa::Buffer;
 use std::alloc::{AllocError, Global};
@@ -28,11 +29,26 @@ pub(crate) fn line_of(
 fn put_line(text: &mut Vec<u8>, progress: &UploadProgress, now: u64) -> Result<(), AllocError>
     ensures { OnOk result (text.new.items ≡ text.old.items ++ upload_line now progress.now) }
 {
+    put_batch(text, progress.part)?;
     text.extend_from_slice(progress.name.as_bytes())?;
     text.extend_from_slice(b" ")?;
     put_amount(text, progress)?;
     text.extend_from_slice(b" ")?;
     put_course(text, progress, now)
+}
+
+/// Appends which of several recordings it is.
+fn put_batch(text: &mut Vec<u8>, part: BatchPart) -> Result<(), AllocError>
+    ensures { OnOk result (text.new.items ≡ text.old.items ++ batch_text part) }
+{
+    if part.count == 0 {
+        return Ok(());
+    }
+    put_number(text, u64::from(part.number))?;
+    text.extend_from_slice(b"/")?;
+    put_number(text, u64::from(part.count))?;
+    text.extend_from_slice(b" ")?;
+    Ok(())
 }
 
 /// Appends how fast requests are settled, how many are under way, and the link.

@@ -7,6 +7,7 @@ ghost use Rattle.bw_progress.specs.Progresses.{begun_progress, counted_progress,
 ghost use Rattle.bw_progress.specs.Progresses.{mark_at, speed_at};
 ghost use Rattle.bw_progress.specs.Progresses.{speed_after};
 
+use crate::batch::BatchPart;
 use crate::line::line_of;
 use crate::measure::TakeMeasure;
 use crate::speed::{Mark, Speed};
@@ -30,6 +31,8 @@ pub enum LinkState {
 /// How far the upload of a take is.
 #[derive(Drop)]
 pub struct UploadProgress {
+    /// Which of several recordings it is.
+    pub part: BatchPart,
     /// The take's name.
     pub name: Name,
     /// What is known of the take.
@@ -46,10 +49,11 @@ pub struct UploadProgress {
 
 impl UploadProgress {
     /// An upload that begins at this millisecond: nothing was offered, and there is no link.
-    pub fn new(name: Name, measure: TakeMeasure, now: u64) -> UploadProgress
-        ensures { result ≡ begun_progress name measure now }
+    pub fn new(part: BatchPart, name: Name, measure: TakeMeasure, now: u64) -> UploadProgress
+        ensures { result ≡ begun_progress part name measure now }
     {
         UploadProgress {
+            part,
             name,
             measure,
             offered: 0,
@@ -120,7 +124,8 @@ impl UploadProgress {
 
     /// The line at this millisecond, without an end:
     /// `take 62% 3:12:07/5:08:51 27.4 MB/s pending 16 link up`. Where the end isn't known it has the
-    /// time that is done alone; without a link it ends in `link down, 4 s`.
+    /// time that is done alone; without a link it ends in `link down, 4 s`. That of the third of forty
+    /// recordings begins with `3/40 `.
     ///
     /// # Errors
     /// `AllocError` if memory was refused.

@@ -61,6 +61,10 @@ impl<V: Watch, E: Sink> Watch for OutageReports<'_, V, E> {
 }
 
 impl<V: UploadWatch, E: Sink> UploadWatch for OutageReports<'_, V, E> {
+    fn part(&mut self, number: u32, count: u32) {
+        self.watch.part(number, count);
+    }
+
     fn begin_file(&mut self, alloc: Global, name: &Name, file: &RecordingFile<'_>) {
         self.watch.begin_file(alloc, name, file);
     }

@@ -1,7 +1,7 @@
 //! Where the line of an upload is shown, and how others ask for it.
 ghost use Rattle.std.specs.Prelude.{◌≡◌, ℕ, Bool, List};
 
-/// Shows one line, in place of the one before.
+/// Shows one line after another, such as each in place of the one before.
 pub trait Screen {
     /// Whether anyone sees it.
     ghost is_seen: { Self → Bool };
@@ -33,7 +33,7 @@ pub trait Screen {
 
 /// The line of an upload, for whoever waits or writes beside it.
 pub trait ProgressLine {
-    /// Whether a line is shown at all.
+    /// Whether an upload is followed, of which a line is shown.
     ///
     /// # Not specified
     /// Which it is.

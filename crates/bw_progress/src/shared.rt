@@ -1,6 +1,8 @@
 //! The line of an upload, shared by those who follow the upload, wait, or write beside it.
+use crate::batch::BatchPart;
 use crate::display::ProgressDisplay;
 use crate::measure::TakeMeasure;
+use crate::pace::LinePace;
 use crate::screen::{ProgressLine, Screen};
 use bw_model::Name;
 use bw_ports::Stopwatch;
@@ -19,10 +21,10 @@ pub struct SharedProgress<S, T> {
 
 impl<S: Screen + Drop, T: Stopwatch + Drop> SharedProgress<S, T> {
     /// Shows nothing yet, and never anything if no one sees the screen.
-    pub fn new(alloc: Global, screen: S, stopwatch: T) -> SharedProgress<S, T> {
+    pub fn new(alloc: Global, screen: S, stopwatch: T, pace: LinePace) -> SharedProgress<S, T> {
         let is_there = screen.is_there();
         SharedProgress {
-            display: RefCell::new(ProgressDisplay::new(alloc, screen, stopwatch)),
+            display: RefCell::new(ProgressDisplay::new(alloc, screen, stopwatch, pace)),
             is_there,
         }
     }
@@ -30,6 +32,13 @@ impl<S: Screen + Drop, T: Stopwatch + Drop> SharedProgress<S, T> {
     /// Whether anyone sees the screen.
     pub fn is_there(&self) -> bool {
         self.is_there
+    }
+
+    /// Notes which recording the next upload is of.
+    pub(crate) fn set_part(&self, part: BatchPart) {
+        if let Ok(mut display) = self.display.try_borrow_mut() {
+            display.set_part(part);
+        }
     }
 
     /// Shows how far the upload of a take is from now on.
@@ -76,7 +85,13 @@ pub struct LineHandle<'a, S, T> {
 
 impl<S: Screen + Drop, T: Stopwatch + Drop> ProgressLine for LineHandle<'_, S, T> {
     fn is_there(&self) -> bool {
-        self.shared.is_there
+        if !self.shared.is_there {
+            return false;
+        }
+        match self.shared.display.try_borrow() {
+            Ok(display) => display.progress.is_some(),
+            Err(_error) => false,
+        }
     }
 
     fn renew(&mut self) {

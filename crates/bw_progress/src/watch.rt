@@ -1,11 +1,8 @@
-//! Watchers of senders, for a terminal.
+//! Watchers of senders.
 use crate::measure::Extent;
-use crate::measuring::{measure_file, measure_samples};
-use crate::screen::Screen;
-use crate::shared::SharedProgress;
 use bw_model::Name;
 use bw_plan::Pcm;
-use bw_ports::{ProgressReport, RecordingFiles, Stopwatch, Watch};
+use bw_ports::{ProgressReport, Watch};
 use bw_recorder::RecordingFile;
 use bw_sender::Sender;
 use bw_upload::{LinkEvent, Observer};
@@ -25,6 +22,13 @@ pub struct SamplesSent<'a> {
 /// Observes uploads, and learns first what is sent. No clause says what it shows; it changes nothing
 /// of what is sent.
 pub trait UploadWatch: Observer {
+    /// The recording whose upload begins next is the `number`-th of `count` that are sent one after
+    /// another, from 1; with a `count` of 0 it is sent alone, as where this isn't called.
+    ///
+    /// # Not specified
+    /// What it does.
+    fn part(&mut self, number: u32, count: u32);
+
     /// The recording in a file is sent under this name.
     ///
     /// # Not specified
@@ -44,55 +48,84 @@ pub trait UploadWatch: Observer {
     fn end(&mut self);
 }
 
-/// Watches the rounds of a sender by another watcher, and shows uploads by a line.
+/// Watches the rounds of a sender by one watcher, and its uploads by another.
 #[derive(Drop)]
-pub struct SendWatch<'a, V, F, S, T> {
+pub struct SendWatch<R, U> {
     /// Gets the progress of a sender in rounds.
-    pub rounds: V,
-    /// The files of recordings, which are measured.
-    pub files: F,
-    /// The line.
-    pub line: &'a SharedProgress<S, T>,
+    pub rounds: R,
+    /// Gets the reports of uploads.
+    pub uploads: U,
 }
 
-impl<V: Watch, F, S, T> Watch for SendWatch<'_, V, F, S, T> {
+impl<R: Watch, U> Watch for SendWatch<R, U> {
     fn round<P: ProgressReport>(&mut self, progress: &P) {
         self.rounds.round(progress);
     }
 }
 
-impl<V, F, S: Screen + Drop, T: Stopwatch + Drop> Observer for SendWatch<'_, V, F, S, T> {
+impl<R, U: Observer> Observer for SendWatch<R, U> {
     fn link(&mut self, event: LinkEvent, sender: &Sender) {
-        self.line.follow_link(event, sender);
+        self.uploads.link(event, sender);
     }
 
     fn settled(&mut self, sender: &Sender) {
-        self.line.count(sender);
+        self.uploads.settled(sender);
     }
 }
 
-impl<V, F: RecordingFiles, S: Screen + Drop, T: Stopwatch + Drop> UploadWatch
-    for SendWatch<'_, V, F, S, T> {
+impl<R, U: UploadWatch> UploadWatch for SendWatch<R, U> {
+    fn part(&mut self, number: u32, count: u32) {
+        self.uploads.part(number, count);
+    }
+
     fn begin_file(&mut self, alloc: Global, name: &Name, file: &RecordingFile<'_>) {
-        if !self.line.is_there() {
-            return;
-        }
-        if let Some(measure) = measure_file(alloc, &mut self.files, file) {
-            self.line.begin(name.copy(), measure);
-        }
+        self.uploads.begin_file(alloc, name, file);
     }
 
     fn begin_samples(&mut self, alloc: Global, name: &Name, samples: &SamplesSent<'_>) {
-        if !self.line.is_there() {
-            return;
-        }
-        let SamplesSent { file, pcm, extent } = samples;
-        if let Some(measure) = measure_samples(alloc, &mut self.files, file, *pcm, *extent) {
-            self.line.begin(name.copy(), measure);
-        }
+        self.uploads.begin_samples(alloc, name, samples);
     }
 
     fn end(&mut self) {
-        self.line.end();
+        self.uploads.end();
+    }
+}
+
+/// Passes the reports of an upload on to an observer, and then to a watcher.
+#[derive(Drop)]
+pub struct LoggedWatch<G, U> {
+    /// Gets the changes of the link and the turns first.
+    pub log: G,
+    /// Gets all reports.
+    pub uploads: U,
+}
+
+impl<G: Observer, U: Observer> Observer for LoggedWatch<G, U> {
+    fn link(&mut self, event: LinkEvent, sender: &Sender) {
+        self.log.link(event, sender);
+        self.uploads.link(event, sender);
+    }
+
+    fn settled(&mut self, sender: &Sender) {
+        self.log.settled(sender);
+        self.uploads.settled(sender);
+    }
+}
+
+impl<G: Observer, U: UploadWatch> UploadWatch for LoggedWatch<G, U> {
+    fn part(&mut self, number: u32, count: u32) {
+        self.uploads.part(number, count);
+    }
+
+    fn begin_file(&mut self, alloc: Global, name: &Name, file: &RecordingFile<'_>) {
+        self.uploads.begin_file(alloc, name, file);
+    }
+
+    fn begin_samples(&mut self, alloc: Global, name: &Name, samples: &SamplesSent<'_>) {
+        self.uploads.begin_samples(alloc, name, samples);
+    }
+
+    fn end(&mut self) {
+        self.uploads.end();
     }
 }

@@ -2,11 +2,13 @@
 use Rattle.std.proofs.Common.{◌≡◌, ◌∙◌, ◌⊎◌, inl, inr, Bool, true, false, ℕ, ◌+◌, ◌<◌, List, [], ◌∷◌, ◌++◌, length, map}
 use Rattle.std.proofs.Common.{get_or, take, drop, Option, Some, None, Ok, Err}
 use Rattle.std.proofs.Common.{refl, sym, ap, subst, arith, string_bytes, String}
-use Rattle.std.specs.Prelude.{All, option_map}
+use Rattle.std.specs.Prelude.{All, option_map, nat_lt}
 use Rattle.std.specs.declared.alloc.Global.{Global}
 use Rattle.std.proofs.lemmas.List.{map-append, take-append-drop, take_more}
 use Rattle.std.proofs.lemmas.List.Elements.{All-append, All-cons}
 use Rattle.std.proofs.lemmas.List.Sums.{fold-append}
+use Rattle.bw_model.proofs.Elements.{some_inj}
+use Rattle.bw_ports.specs.declared.recording_files.FileStamp.{FileStamp}
 use Rattle.bw_stream.specs.Readers.{Of}
 use Rattle.bw_stream.specs.declared.sink.Sink.{Ghosts as Writer}
 use Rattle.bw_model.specs.Reading.{Fault as BytesFault, FaultKind}
@@ -29,7 +31,8 @@ use Rattle.bw_console.specs.declared.fault.Fault.{Fault}
 use Rattle.bw_report.specs.Entries.{entry_text}
 use Rattle.bw_report.specs.FileFindings.{HasReportAndDigest, IsFoundInBytes, exit_of_found, worse}
 use Rattle.bw_report.specs.FileLooks.{IsOpening, IsReportedUnopened}
-use Rattle.bw_report.specs.FileLooks.{ArePrints, IsStoppedEarly, IsFoundAt, IsLookAt, IsShown, Look, look_entry}
+use Rattle.bw_report.specs.FileLooks.{AreChunksRead, ArePrints, IsStoppedEarly, IsFoundByLook, IsLookAt, IsLookIn, IsShown}
+use Rattle.bw_report.specs.FileLooks.{FilesThere, Look, files_there, look_entry, shows_contents}
 use Rattle.bw_report.specs.FileLooks.{failures_after_looks, worst}
 use Rattle.bw_report.specs.declared.entry.Wanted.{Wanted}
 use Rattle.bw_report.specs.declared.found.Found.{Found}
@@ -66,10 +69,12 @@ none_worse Device = refl
 none_worse OutOfMemory = refl
 
 -- what is found in a file that was opened: nothing was reported
-pub found_opened : {E : Type 0} (reported : Writer E) (file_at : List ℕ → Option (List ℕ)) (digest : Bool)
-    (path : List ℕ) (found : Found) (n n' : ℕ) (e : E) → Of (file_at path) (λ b. IsFoundInBytes b digest found)
-    → IsOpening found (opened_look path found) → n' ≡ n → IsFoundAt reported file_at digest path found n n' e e
-found_opened reported file_at digest path found n n' e right opening same = record {
+pub found_opened : {E : Type 0} (reported : Writer E) (bytes_at : List ℕ → Option (List ℕ)) (digest read : Bool)
+    (path : List ℕ) (found : Found) (n n' : ℕ) (e : E)
+    → Of (bytes_at path) (λ b. IsFoundInBytes b digest read found)
+    → IsOpening found (opened_look path found) → n' ≡ n
+    → IsFoundByLook reported (IsLookIn bytes_at digest read) path found n n' e e
+found_opened reported bytes_at digest read path found n n' e right opening same = record {
   look = opened_look path found;
   at = refl;
   has = refl;
@@ -79,11 +84,11 @@ found_opened reported file_at digest path found n n' e right opening same = reco
 }
 
 -- what is found of one that can't be opened
-pub found_unopened : {E : Type 0} (reported : Writer E) (file_at : List ℕ → Option (List ℕ)) (digest : Bool)
+pub found_unopened : {E : Type 0} (reported : Writer E) (bytes_at : List ℕ → Option (List ℕ)) (digest read : Bool)
     (path : List ℕ) (kind : ErrorKind) (did : Outcome) (exit : Exit) (n n' : ℕ) (e e' : E) → did.exit ≡ exit
     → IsUnopened path kind did ⊎ IsOutOfMemory did → n' ≡ failures_if false n → IsPrint reported did.faults e e'
-    → IsFoundAt reported file_at digest path (Unopened exit) n n' e e'
-found_unopened reported file_at digest path kind did exit n n' e e' ends why failed prints = record {
+    → IsFoundByLook reported (IsLookIn bytes_at digest read) path (Unopened exit) n n' e e'
+found_unopened reported bytes_at digest read path kind did exit n n' e e' ends why failed prints = record {
   look = record { path = path; found = Unopened exit; is_opened = false; reported = did.faults };
   at = refl;
   has = refl;
@@ -93,35 +98,106 @@ found_unopened reported file_at digest path kind did exit n n' e e' ends why fai
 }
 
 -- what is found at a second look, after an opening that changed nothing
-pub found_again : {E : Type 0} (reported : Writer E) (file_at there : List ℕ → Option (List ℕ)) (digest : Bool)
+pub found_again : {E : Type 0} (reported : Writer E) (bytes_at there : List ℕ → Option (List ℕ)) (digest read : Bool)
     (path : List ℕ)
-    (found : Found) (n n1 n2 : ℕ) (e e1 : E) → there ≡ file_at → n1 ≡ n → digest ≡ true
-    → IsFoundAt reported there true path found n1 n2 e e1 → IsFoundAt reported file_at digest path found n n2 e e1
-found_again reported file_at there digest path found n n1 n2 e e1 files counts asked is =
+    (found : Found) (n n1 n2 : ℕ) (e e1 : E) → there ≡ bytes_at → n1 ≡ n → digest ≡ true
+    → IsFoundByLook reported (IsLookIn there true read) path found n1 n2 e e1
+    → IsFoundByLook reported (IsLookIn bytes_at digest read) path found n n2 e e1
+found_again reported bytes_at there digest read path found n n1 n2 e e1 files counts asked is =
     rw (asked, ← files, ← counts) is
 
 -- .. after a call that changed neither
-pub found_after : {E : Type 0} (reported : Writer E) (file_at there : List ℕ → Option (List ℕ)) (digest : Bool)
-    (path : List ℕ) (found : Found) (n n1 n2 : ℕ) (e e1 : E) → there ≡ file_at → n1 ≡ n
-    → IsFoundAt reported there digest path found n1 n2 e e1 → IsFoundAt reported file_at digest path found n n2 e e1
-found_after reported file_at there digest path found n n1 n2 e e1 files counts is = rw (← files, ← counts) is
+pub found_after : {E : Type 0} (reported : Writer E) (bytes_at there : List ℕ → Option (List ℕ)) (digest read : Bool)
+    (path : List ℕ) (found : Found) (n n1 n2 : ℕ) (e e1 : E) → there ≡ bytes_at → n1 ≡ n
+    → IsFoundByLook reported (IsLookIn there digest read) path found n1 n2 e e1
+    → IsFoundByLook reported (IsLookIn bytes_at digest read) path found n n2 e e1
+found_after reported bytes_at there digest read path found n n1 n2 e e1 files counts is = rw (← files, ← counts) is
+
+-- the chunks are read if the file's stamp has a length
+pub chunks_read : (shows : Bool) (there : Option FileStamp) (read has_length : Bool) (stamp : FileStamp)
+    → shows ≡ true → ((reported : FileStamp) → there ≡ Some reported → stamp ≡ reported)
+    → has_length ≡ nat_lt 0 stamp.len → has_length ≡ read → AreChunksRead shows there read
+chunks_read true there read has_length stamp shown same has is =
+    λ s found. sym is ∙ has ∙ ap (λ (x : FileStamp). nat_lt 0 x.len) (same s found)
+chunks_read false there read has_length stamp shown same has is = let bad : false ≡ true = shown in cc
+
+-- .. and aren't if what they say isn't printed
+pub chunks_unread : (shows : Bool) (there : Option FileStamp) → shows ≡ false → AreChunksRead shows there false
+chunks_unread false there unshown = refl
+chunks_unread true there unshown = let bad : true ≡ false = unshown in cc
+
+-- they are read or not
+pub some_read : (shows : Bool) (there : Option FileStamp) → (read : Bool) × AreChunksRead shows there read
+some_read false there = (false, refl)
+some_read true None = (false, λ s found. let bad : None ≡ Some s = found in cc)
+some_read true (Some stamp) =
+    (nat_lt 0 stamp.len, λ s found. ap (λ (x : FileStamp). nat_lt 0 x.len) (some_inj found))
+
+-- what is found at a look is what was wanted
+pub found_as_wanted : {E : Type 0} (reported : Writer E) (bytes_at : List ℕ → Option (List ℕ))
+    (stamp_at : List ℕ → Option FileStamp) (wanted : Wanted) (read : Bool) (path : List ℕ) (found : Found)
+    (n n' : ℕ) (e e' : E) → AreChunksRead (shows_contents wanted.style) (stamp_at path) read
+    → IsFoundByLook reported (IsLookIn bytes_at wanted.digest read) path found n n' e e'
+    → IsFoundByLook reported (IsLookAt (files_there bytes_at stamp_at) wanted) path found n n' e e'
+found_as_wanted reported bytes_at stamp_at wanted read path found n n' e e' reads is = record {
+  look = is.look;
+  at = is.at;
+  has = is.has;
+  is = record {
+    read = read;
+    reads = subst (λ (p : List ℕ). AreChunksRead (shows_contents wanted.style) (stamp_at p) read) (sym is.at) reads;
+    is = is.is;
+  };
+  failures = is.failures;
+  reports = is.reports;
+}
+
+-- .. where nothing of a file is found that depends on whether its chunks are read
+pub found_unread : {E : Type 0} (reported : Writer E) (bytes_at : List ℕ → Option (List ℕ))
+    (stamp_at : List ℕ → Option FileStamp) (wanted : Wanted) (path : List ℕ) (before found : Found)
+    (n n' : ℕ) (e e' : E) → before ≡ found
+    → ((b : List ℕ) (read : Bool) → IsFoundInBytes b wanted.digest false found
+    → IsFoundInBytes b wanted.digest read found)
+    → IsFoundByLook reported (IsLookIn bytes_at wanted.digest false) path before n n' e e'
+    → IsFoundByLook reported (IsLookAt (files_there bytes_at stamp_at) wanted) path found n n' e e'
+found_unread reported bytes_at stamp_at wanted path before found n n' e e' same any is =
+    let some = some_read (shows_contents wanted.style) (stamp_at is.look.path) in
+    let has : is.look.found ≡ found = is.has ∙ same in
+    record {
+      look = is.look;
+      at = is.at;
+      has = has;
+      is = record {
+        read = some.0;
+        reads = some.1;
+        is = record {
+          right = λ b there. subst (λ (f : Found). IsFoundInBytes b wanted.digest some.0 f) (sym has)
+              (any b some.0 (subst (λ (f : Found). IsFoundInBytes b wanted.digest false f) has
+              (is.is.right b there)));
+          opening = is.is.opening;
+        };
+      };
+      failures = is.failures;
+      reports = is.reports;
+    }
 
 -- what is found at a third look, into the chunks of a file that has a report
-module _ {E : Type 0} (reported : Writer E) (file_at there : List ℕ → Option (List ℕ)) (digest : Bool) (path : List ℕ)
+module _ {E : Type 0} (reported : Writer E) (bytes_at there : List ℕ → Option (List ℕ))
+    (stamp_at stamps : List ℕ → Option FileStamp) (wanted : Wanted) (path : List ℕ)
     (before found : Found) (r : Report) (d : Option (List ℕ)) (known : Option (List Said)) (n n1 n2 : ℕ) (e e1 e2 : E)
-    (is : before ≡ Read r d known) (files : there ≡ file_at)
-    (first : IsFoundAt reported file_at digest path before n n1 e e1) where
+    (is : before ≡ Read r d known) (files : there ≡ bytes_at) (same_stamps : stamps ≡ stamp_at)
+    (first : IsFoundByLook reported (IsLookIn bytes_at wanted.digest false) path before n n1 e e1) where
   is_read : first.look.found ≡ Read r d known
   is_read = first.has ∙ is
 
   was_opened : IsOpening (Read r d known) first.look
   was_opened = subst (λ (f : Found). IsOpening f first.look) is_read first.is.opening
 
-  has_report : Of (there path) (λ b. HasReportAndDigest b digest r d)
+  has_report : Of (there path) (λ b. HasReportAndDigest b wanted.digest r d)
   has_report b same =
-      let there_is : file_at first.look.path ≡ Some b =
-      ap file_at first.at ∙ ap (λ (f : List ℕ → Option (List ℕ)). f path) (sym files) ∙ same in
-      (subst (IsFoundInBytes b digest) is_read (first.is.right b there_is)).0
+      let there_is : bytes_at first.look.path ≡ Some b =
+      ap bytes_at first.at ∙ ap (λ (f : List ℕ → Option (List ℕ)). f path) (sym files) ∙ same in
+      (subst (IsFoundInBytes b wanted.digest false) is_read (first.is.right b there_is)).0
 
   same_count : n1 ≡ n
   same_count = first.failures ∙ ap (λ (opened : Bool). failures_if opened n) was_opened.0
@@ -129,10 +205,10 @@ module _ {E : Type 0} (reported : Writer E) (file_at there : List ℕ → Option
   same_faults : e1 ≡ e
   same_faults = subst (λ (p : Print). IsPrint reported p e e1) was_opened.1 first.reports
 
-  pub found_inside : (Of (there path) (λ b. HasReportAndDigest b digest r d)
-      → IsFoundAt reported there digest path found n1 n2 e1 e2)
-      → IsFoundAt reported file_at digest path found n n2 e e2
-  found_inside next = rw (← files, ← same_count, ← same_faults) (next has_report)
+  pub found_inside : (Of (there path) (λ b. HasReportAndDigest b wanted.digest r d)
+      → IsFoundByLook reported (IsLookAt (files_there there stamps) wanted) path found n1 n2 e1 e2)
+      → IsFoundByLook reported (IsLookAt (files_there bytes_at stamp_at) wanted) path found n n2 e e2
+  found_inside next = rw (← files, ← same_stamps, ← same_count, ← same_faults) (next has_report)
 
 -- one more print after these
 prints_more : {S : Type 0} (w : Writer S) (ps : List Print) (p : Print) (a b c : S) → ArePrints w ps a b
@@ -149,14 +225,13 @@ none_looked P k d h = absurd (omega arith)
 one_looked : {X : Type 0} (P : X → Type 0) (x : X) → P x → All P (x ∷ [])
 one_looked P x p = All-cons P x [] p (none_looked P)
 
-module _ {W E : Type 0} (out : Writer W) (reported : Writer E) (file_at : List ℕ → Option (List ℕ))
-    (wanted : Wanted) where
+module _ {W E : Type 0} (out : Writer W) (reported : Writer E) (there : FilesThere) (wanted : Wanted) where
   -- nothing was looked at yet
-  pub none_shown : (n : ℕ) (o : W) (e : E) → IsShown out reported file_at [] wanted Done n n o o e e
+  pub none_shown : (n : ℕ) (o : W) (e : E) → IsShown out reported there [] wanted Done n n o o e e
   none_shown n o e = record {
     looks = [];
     at = refl;
-    are = none_looked (IsLookAt file_at wanted.digest);
+    are = none_looked (IsLookAt there wanted);
     ends = refl;
     failures = refl;
     prints = refl;
@@ -165,16 +240,16 @@ module _ {W E : Type 0} (out : Writer W) (reported : Writer E) (file_at : List �
 
   module _ (paths : List (List ℕ)) (path : List ℕ) (found : Found) (exit : Exit) (n n1 n2 : ℕ) (o o1 o2 : W)
       (e e1 e2 : E)
-      (before : IsShown out reported file_at paths wanted exit n n1 o o1 e e1)
-      (now : IsFoundAt reported file_at wanted.digest path found n1 n2 e1 e2) where
+      (before : IsShown out reported there paths wanted exit n n1 o o1 e e1)
+      (now : IsFoundByLook reported (IsLookAt there wanted) path found n1 n2 e1 e2) where
     all_at : map (λ (l : Look). l.path) (before.looks ++ now.look ∷ []) ≡ paths ++ path ∷ []
     all_at = map-append (λ (l : Look). l.path) before.looks (now.look ∷ [])
         ∙ ap (λ (ps : List (List ℕ)). ps ++ now.look.path ∷ []) before.at
         ∙ ap (λ (p : List ℕ). paths ++ p ∷ []) now.at
 
-    all_are : All (IsLookAt file_at wanted.digest) (before.looks ++ now.look ∷ [])
-    all_are = All-append (IsLookAt file_at wanted.digest) before.looks (now.look ∷ []) before.are
-        (one_looked (IsLookAt file_at wanted.digest) now.look now.is)
+    all_are : All (IsLookAt there wanted) (before.looks ++ now.look ∷ [])
+    all_are = All-append (IsLookAt there wanted) before.looks (now.look ∷ []) before.are
+        (one_looked (IsLookAt there wanted) now.look now.is)
 
     all_end : worse exit (exit_of_found found) ≡ worst (before.looks ++ now.look ∷ [])
     all_end = ap (λ (x : Exit). worse x (exit_of_found found)) before.ends
@@ -197,7 +272,7 @@ module _ {W E : Type 0} (out : Writer W) (reported : Writer E) (file_at : List �
 
     -- the entry was printed
     pub one_shown : IsPrint out (Whole (entry_text wanted.style wanted.named path found)) o1 o2
-        → IsShown out reported file_at (paths ++ path ∷ []) wanted (worse exit (exit_of_found found)) n n2 o o2 e e2
+        → IsShown out reported there (paths ++ path ∷ []) wanted (worse exit (exit_of_found found)) n n2 o o2 e e2
     one_shown print =
         let whole : IsPrint out (Whole (look_entry wanted now.look)) o1 o2 =
         subst (λ (t : List ℕ). IsPrint out (Whole t) o1 o2) same_entry print in
@@ -218,7 +293,7 @@ module _ {W E : Type 0} (out : Writer W) (reported : Writer E) (file_at : List �
         → (paths ++ path ∷ []) ++ later ≡ all → IsPrintOfText (entry_text wanted.style wanted.named path found)
         (Err fault) part
         → IsPrint out part o1 o2 → IsOf (as_line (input_fault_text fault)) line → IsPrint reported line e2 e3
-        → IsStoppedEarly out reported file_at all wanted
+        → IsStoppedEarly out reported there all wanted
         (worse (worse exit (exit_of_found found)) (exit_on fault)) n n2 o o2 e e3
     one_cut later all fault part line e3 at part_is print line_is print_line = record {
       looks = before.looks;
@@ -238,48 +313,51 @@ module _ {W E : Type 0} (out : Writer W) (reported : Writer E) (file_at : List �
     }
 
 -- the same, by what the steps say: the entry of the next path was printed
-pub next_shown : {W E : Type 0} (out : Writer W) (reported : Writer E) (file_at there : List ℕ → Option (List ℕ))
-    (wanted : Wanted)
+pub next_shown : {W E : Type 0} (out : Writer W) (reported : Writer E) (bytes_at there : List ℕ → Option (List ℕ))
+    (stamp_at stamps : List ℕ → Option FileStamp) (wanted : Wanted)
     (paths all : List (List ℕ)) (path at name : List ℕ) (found : Found) (exit ended next : Exit) (n n1 n2 : ℕ)
     (o o1 o2 : W)
     (e e1 e2 : E) (print : Print)
-    → IsShown out reported file_at paths wanted exit n n1 o o1 e e1
-    → IsFoundAt reported there wanted.digest at found n1 n2 e1 e2
-    → there ≡ file_at → at ≡ path → name ≡ path → paths ++ path ∷ [] ≡ all → ended ≡ exit_of_found found
+    → IsShown out reported (files_there bytes_at stamp_at) paths wanted exit n n1 o o1 e e1
+    → IsFoundByLook reported (IsLookAt (files_there there stamps) wanted) at found n1 n2 e1 e2
+    → there ≡ bytes_at → stamps ≡ stamp_at → at ≡ path → name ≡ path → paths ++ path ∷ [] ≡ all
+    → ended ≡ exit_of_found found
     → next ≡ worse exit ended → IsPrintOfText (entry_text wanted.style wanted.named name found) (Ok tt) print
     → IsPrint out print o1 o2
-    → IsShown out reported file_at all wanted next n n2 o o2 e e2
-next_shown out reported file_at there wanted paths all path at name found exit ended next n n1 n2 o o1 o2 e e1 e2 print
-    before
-    now same_files same_path same_name paths_is ended_is next_is print_is printed =
-    let here = rw (same_files, same_path) at now in
+    → IsShown out reported (files_there bytes_at stamp_at) all wanted next n n2 o o2 e e2
+next_shown out reported bytes_at there stamp_at stamps wanted paths all path at name found exit ended next n n1 n2
+    o o1 o2 e e1 e2 print before
+    now same_files same_stamps same_path same_name paths_is ended_is next_is print_is printed =
+    let here = rw (same_files, same_stamps, same_path) at now in
     let whole = rw (print_is, same_name) at printed in
     rw (next_is, ended_is, ← paths_is)
-    (one_shown out reported file_at wanted paths path found exit n n1 n2 o o1 o2 e e1 e2 before here whole)
+    (one_shown out reported (files_there bytes_at stamp_at) wanted paths path found exit n n1 n2 o o1 o2
+    e e1 e2 before here whole)
 
 -- .. or wasn't
-pub next_cut : {W E : Type 0} (out : Writer W) (reported : Writer E) (file_at there : List ℕ → Option (List ℕ))
-    (wanted : Wanted)
+pub next_cut : {W E : Type 0} (out : Writer W) (reported : Writer E) (bytes_at there : List ℕ → Option (List ℕ))
+    (stamp_at stamps : List ℕ → Option FileStamp) (wanted : Wanted)
     (paths later all : List (List ℕ)) (path at name : List ℕ) (found : Found)
     (exit ended worst_yet given_up next : Exit)
     (n n1 n2 : ℕ) (o o1 o2 : W) (e e1 e2 e3 : E) (fault : Fault) (print line : Print)
-    → IsShown out reported file_at paths wanted exit n n1 o o1 e e1
-    → IsFoundAt reported there wanted.digest at found n1 n2 e1 e2
-    → there ≡ file_at → at ≡ path → name ≡ path → (paths ++ path ∷ []) ++ later ≡ all → ended ≡ exit_of_found found
+    → IsShown out reported (files_there bytes_at stamp_at) paths wanted exit n n1 o o1 e e1
+    → IsFoundByLook reported (IsLookAt (files_there there stamps) wanted) at found n1 n2 e1 e2
+    → there ≡ bytes_at → stamps ≡ stamp_at → at ≡ path → name ≡ path → (paths ++ path ∷ []) ++ later ≡ all
+    → ended ≡ exit_of_found found
     → worst_yet ≡ worse exit ended → given_up ≡ exit_on fault → next ≡ worse worst_yet given_up
     → IsPrintOfText (entry_text wanted.style wanted.named name found) (Err fault) print → IsPrint out print o1 o2
     → IsOf (as_line (input_fault_text fault)) line → IsPrint reported line e2 e3
-    → IsStoppedEarly out reported file_at all wanted next n n2 o o2 e e3
-next_cut out reported file_at there wanted paths later all path at name found exit ended worst_yet given_up next n n1
-    n2 o o1 o2
-    e e1 e2 e3 fault print line before now same_files same_path same_name all_is ended_is worst_is given_is next_is
+    → IsStoppedEarly out reported (files_there bytes_at stamp_at) all wanted next n n2 o o2 e e3
+next_cut out reported bytes_at there stamp_at stamps wanted paths later all path at name found exit ended worst_yet given_up
+    next n n1 n2 o o1 o2
+    e e1 e2 e3 fault print line before now same_files same_stamps same_path same_name all_is ended_is worst_is given_is next_is
     print_is
     printed line_is reported_line =
-    let here = rw (same_files, same_path) at now in
+    let here = rw (same_files, same_stamps, same_path) at now in
     let part = subst (λ (m : List ℕ). IsPrintOfText (entry_text wanted.style wanted.named m found)
     (Err fault) print) same_name print_is in
     rw (next_is, worst_is, given_is, ended_is)
-    (one_cut out reported file_at wanted paths path found exit n n1 n2 o o1 o2 e e1 e2 before here later all fault
+    (one_cut out reported (files_there bytes_at stamp_at) wanted paths path found exit n n1 n2 o o1 o2 e e1 e2 before here later all fault
     print line e3
     all_is part printed line_is reported_line)
 

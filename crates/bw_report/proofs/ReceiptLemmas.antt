@@ -1,5 +1,5 @@
 -- What is known of a receipt by what was found at its recording's path.
-use Rattle.std.proofs.Common.{◌≡◌, ◌≢◌, ◌∙◌, ◌⊎◌, inl, inr, Bool, true, false, ℕ, List, Option, Some}
+use Rattle.std.proofs.Common.{◌≡◌, ◌∙◌, ◌⊎◌, inl, inr, Bool, true, false, ℕ, List, Option, Some}
 use Rattle.std.proofs.Common.{Result, Ok, Err, IfOk, IfErr, refl, sym, ap, subst}
 use Rattle.std.specs.declared.io.ErrorKind.{ErrorKind}
 use Rattle.bw_model.specs.Report.{frames_of}
@@ -21,10 +21,10 @@ use Rattle.bw_take_files.specs.Spellings.{receipt_json, receipt_text}
 use Rattle.bw_take_files.specs.declared.receipts.receipt.Receipt.{Receipt}
 use Rattle.bw_report.specs.Digests.{digest_at}
 use Rattle.bw_report.specs.FileFindings.{HasReportAndDigest, IsFoundInBytes}
-use Rattle.bw_report.specs.FileLooks.{IsFoundAt, IsOpening, IsReportedUnopened}
+use Rattle.bw_report.specs.FileLooks.{IsFoundByLook, IsLookIn, IsOpening, IsReportedUnopened}
 use Rattle.bw_report.specs.Receipts.{HasNoReceipt, IsLeftOut, IsLineOfRecording, IsUnreadRecording, PutsLine, PutsReceipt}
 use Rattle.bw_report.specs.Receipts.{receipt_line_of, receipt_with}
-use Rattle.bw_report.specs.Receipts.{standard_output, unwritten_receipt_text}
+use Rattle.bw_report.specs.Receipts.{unwritten_receipt_text}
 use Rattle.bw_report.specs.declared.found.Found.{Found}
 use Rattle.bw_report.specs.declared.found.Found.TheVariants.{Read, Faulty, Unopened}
 use Rattle.bw_report.specs.declared.receipt.ReceiptJob.{ReceiptJob}
@@ -147,13 +147,14 @@ added = record { reads_all = true; out = Nothing; faults = Nothing; exit = Done 
 pub same_print : (text line : List ℕ) (did : Outcome) → text ≡ line → PrintsText text did → PrintsText line did
 same_print text line did same prints = subst (λ (t : List ℕ). PrintsText t did) same prints
 
-module _ {R F : Type 0} (receipts : Keeper R F) (file : F) (asked text line : List ℕ) (old new : R) (same : text ≡ line)
+module _ {R F : Type 0} (receipts : Keeper R F) (opened : Option F) (file : F) (there : opened ≡ Some file)
+    (asked text line : List ℕ) (old new : R) (same : text ≡ line)
     (others : KeepsOtherPaths (receipts.path_of file) (receipts.receipts_at old) (receipts.receipts_at new)) where
   -- the line was appended
   pub appended : receipts.failures new ≡ receipts.failures old
       → AddsLine (receipts.receipts_at old (receipts.path_of file)) text (receipts.receipts_at new (receipts.path_of file))
-      → PutsLine receipts (Some file) asked line old new added
-  appended failures adds = inl (record {
+      → PutsLine receipts opened asked line old new added
+  appended failures adds = subst (λ (o : Option F). PutsLine receipts o asked line old new added) (sym there) (inl (record {
     adds = subst (λ (t : List ℕ). AddsLine (receipts.receipts_at old (receipts.path_of file)) t
         (receipts.receipts_at new (receipts.path_of file))) same adds;
     others = others;
@@ -162,22 +163,22 @@ module _ {R F : Type 0} (receipts : Keeper R F) (file : F) (asked text line : Li
     reads = refl;
     prints = refl;
     reports = refl;
-  })
+  }))
 
   -- .. or in part
   pub appended_in_part : (kind : ErrorKind) (did : Outcome) → receipts.failures new ≡ one_more (receipts.failures old)
       → AddsLineInPart (receipts.receipts_at old (receipts.path_of file)) text
-        (receipts.receipts_at new (receipts.path_of file))
+      (receipts.receipts_at new (receipts.path_of file))
       → ReportsFailure (unwritten_receipt_text asked) kind did ⊎ IsOutOfMemory did
-      → PutsLine receipts (Some file) asked line old new did
-  appended_in_part kind did failures adds reports = inr (record {
+      → PutsLine receipts opened asked line old new did
+  appended_in_part kind did failures adds reports = subst (λ (o : Option F). PutsLine receipts o asked line old new did) (sym there) (inr (record {
     adds = subst (λ (t : List ℕ). AddsLineInPart (receipts.receipts_at old (receipts.path_of file)) t
         (receipts.receipts_at new (receipts.path_of file))) same adds;
     others = others;
     failures = failures;
     kind = kind;
     reports = reports;
-  })
+  }))
 
 -- nothing is printed where the system failed to add a line
 pub none_printed : (line : List ℕ → List ℕ) (kind : ErrorKind) (did : Outcome)
@@ -226,20 +227,20 @@ module _ {E : Type 0} (reported : Writer E) (file_at : List ℕ → Option (List
   where
     -- what is known of a file that was read
     pub of_read : (r : Report) (d : Option (List ℕ)) (known : Option (List Said))
-        → IsFoundAt reported file_at true path (Read r d known) n n' e e'
+        → IsFoundByLook reported (IsLookIn file_at true false) path (Read r d known) n n' e e'
         → Of (file_at path) (λ b. HasReportAndDigest b true r d) × (n' ≡ n) × (e' ≡ e)
     of_read r d known at =
         let opening : IsOpening (Read r d known) at.look =
         subst (λ (f : Found). IsOpening f at.look) at.has at.is.opening in (
           λ b is.
               let there : file_at at.look.path ≡ Some b = ap file_at at.at ∙ is in
-              (subst (IsFoundInBytes b true) at.has (at.is.right b there)).0,
+              (subst (IsFoundInBytes b true false) at.has (at.is.right b there)).0,
           at.failures ∙ ap (λ (o : Bool). failures_if o n) opening.0,
           subst (λ (p : Print). IsPrint reported p e e') opening.1 at.reports,
         )
 
     -- .. of one that has a fault
-    pub of_faulty : (f : InspectFault) → IsFoundAt reported file_at true path (Faulty f) n n' e e'
+    pub of_faulty : (f : InspectFault) → IsFoundByLook reported (IsLookIn file_at true false) path (Faulty f) n n' e e'
         → (n' ≡ n) × (e' ≡ e)
     of_faulty f at =
         let opening : IsOpening (Faulty f) at.look =
@@ -249,7 +250,7 @@ module _ {E : Type 0} (reported : Writer E) (file_at : List ℕ → Option (List
         )
 
     -- .. and of one that wasn't opened
-    pub of_unopened : (exit : Exit) → IsFoundAt reported file_at true path (Unopened exit) n n' e e'
+    pub of_unopened : (exit : Exit) → IsFoundByLook reported (IsLookIn file_at true false) path (Unopened exit) n n' e e'
         → (did : Outcome) × (did.exit ≡ exit) × (n' ≡ failures_if false n) × IsReportedUnopened path did
         × IsPrint reported did.faults e e'
     of_unopened exit at =

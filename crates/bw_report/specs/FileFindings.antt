@@ -34,17 +34,17 @@ IsDigestIn b r asked digest =
 abbrev pub HasReportAndDigest : List ℕ → Bool → Report → Option (List ℕ) → Type 0
 HasReportAndDigest b asked r digest = IsReportIn b r × IsDigestIn b r asked digest
 
--- this is what the chunks of the report say, if they were read
-abbrev pub AreContentsIn : List ℕ → Report → Option (List Said) → Type 0
-AreContentsIn b r None = ⊤
-AreContentsIn b r (Some contents) = contents ≡ chunks_say b r.chunks
+-- what the chunks of the report say, if they are read
+abbrev pub AreContentsIn : List ℕ → Report → Bool → Option (List Said) → Type 0
+AreContentsIn b r read contents = contents ≡ (if read then Some (chunks_say b r.chunks) else None)
 
--- this is found in the bytes: a fault of the bytes is their first
-abbrev pub IsFoundInBytes : List ℕ → Bool → Found → Type 0
-IsFoundInBytes b asked (Read r digest contents) =
-    HasReportAndDigest b asked r digest × AreContentsIn b r contents
-IsFoundInBytes b asked (Faulty f) = (met : Fault) → bytes_fault f ≡ Some met → IsFault b met
-IsFoundInBytes b asked (Unopened exit) = ⊤
+-- this is found in the bytes, where a digest is asked for or not, and the chunks are read or not: a
+-- fault of the bytes is their first
+abbrev pub IsFoundInBytes : List ℕ → Bool → Bool → Found → Type 0
+IsFoundInBytes b asked read (Read r digest contents) =
+    HasReportAndDigest b asked r digest × AreContentsIn b r read contents
+IsFoundInBytes b asked read (Faulty f) = (met : Fault) → bytes_fault f ≡ Some met → IsFault b met
+IsFoundInBytes b asked read (Unopened exit) = ⊤
 
 -- how a command ends by this file
 abbrev pub exit_of_found : Found → Exit

@@ -24,11 +24,12 @@ is_read_by (Read r digest contents) = true
 is_read_by (Faulty f) = not (is_failed_read f.kind)
 is_read_by (Unopened exit) = true
 
--- the entry of these bytes under a name was printed, or why it can't be was reported
+-- the entry of these bytes under a name, with neither digest nor contents of chunks, was printed, or why
+-- it can't be was reported
 pub record IsEntryOf (input : Option (List ℕ)) (style : Style) (name : List ℕ) (did : Outcome)
     : Type 0 where
   pub found : Found
-  pub right : Of input (λ b. IsFoundInBytes b false found)
+  pub right : Of input (λ b. IsFoundInBytes b false false found)
   pub opened : WasOpened found
   pub reads : did.reads_all ≡ is_read_by found
   pub outcome : Result (Unit {0}) Fault

@@ -1,9 +1,10 @@
 //! Files one after another, each with its entry.
-ghost use Rattle.std.specs.Prelude.{◌≡◌, Bool, None, true, map, string_bytes};
+ghost use Rattle.std.specs.Prelude.{◌≡◌, Bool, None, true, false, map, nat_lt, string_bytes};
 ghost use Rattle.bw_inspect.specs.Faults.{bytes_fault};
 ghost use Rattle.bw_stream.specs.Readers.{Of};
 ghost use Rattle.bw_report.specs.FileFindings.{HasReportAndDigest, IsGivenOf};
-ghost use Rattle.bw_report.specs.FileLooks.{IsFoundAt, AreInspected, Look};
+ghost use Rattle.bw_report.specs.FileLooks.{AreInspected, IsFoundByLook, IsLookAt, IsLookIn, Look};
+ghost use Rattle.bw_report.specs.FileLooks.{files_there, shows_contents};
 
 use crate::digest::report_digest;
 use crate::entry::{Style, Wanted, print_entry};
@@ -13,7 +14,7 @@ use bw_console::print::give_up;
 use bw_console::{Exit, report_unopened};
 use bw_contents::read_contents;
 use bw_inspect::{InspectFault, InspectKind, Report, inspect};
-use bw_ports::RecordingFiles;
+use bw_ports::{FileStamp, RecordingFiles};
 use bw_stream::Sink;
 use std::alloc::Global;
 
@@ -38,7 +39,8 @@ pub fn inspect_files<F: RecordingFiles, W: Sink, E: Sink>(
     out: &mut W,
     faults: &mut E,
 ) -> Exit
-    ensures { AreInspected W.Sink E.Sink (F.file_at files.old) (map string_bytes paths.now) wanted
+    ensures { AreInspected W.Sink E.Sink (files_there (F.file_at files.old) (F.stamp_at files.old))
+        (map string_bytes paths.now) wanted
         result (F.failures files.old) (F.failures files.new) out.old out.new faults.old faults.new }
 {
     let mut worst = Exit::Done;
@@ -63,11 +65,13 @@ fn look<F: RecordingFiles, E: Sink>(
     faults: &mut E,
 ) -> Found
     ensures files { F.file_at files.new ≡ F.file_at files.old }
-    ensures found { IsFoundAt E.Sink (F.file_at files.old) wanted.digest path.now result
+    ensures stamps { F.stamp_at files.new ≡ F.stamp_at files.old }
+    ensures found { IsFoundByLook E.Sink
+        (IsLookAt (files_there (F.file_at files.old) (F.stamp_at files.old)) wanted) path.now result
         (F.failures files.old) (F.failures files.new) faults.old faults.new }
 {
     let found = look_over(alloc, files, path, wanted.digest, faults);
-    if wanted.style == Style::Plain {
+    if !shows_contents(wanted.style) {
         return found;
     }
     match found {
@@ -76,7 +80,8 @@ fn look<F: RecordingFiles, E: Sink>(
             digest,
             contents: _unread,
         } => look_inside(alloc, files, path, report, digest, faults),
-        other => other,
+        Found::Faulty(fault) => Found::Faulty(fault),
+        Found::Unopened(exit) => Found::Unopened(exit),
     }
 }
 
@@ -89,7 +94,8 @@ pub(crate) fn look_over<F: RecordingFiles, E: Sink>(
     faults: &mut E,
 ) -> Found
     ensures files { F.file_at files.new ≡ F.file_at files.old }
-    ensures found { IsFoundAt E.Sink (F.file_at files.old) digest path.now result
+    ensures stamps { F.stamp_at files.new ≡ F.stamp_at files.old }
+    ensures found { IsFoundByLook E.Sink (IsLookIn (F.file_at files.old) digest false) path.now result
         (F.failures files.old) (F.failures files.new) faults.old faults.new }
 {
     match files.open(path) {
@@ -120,8 +126,9 @@ fn look_again<F: RecordingFiles, E: Sink>(
     faults: &mut E,
 ) -> Found
     ensures files { F.file_at files.new ≡ F.file_at files.old }
+    ensures stamps { F.stamp_at files.new ≡ F.stamp_at files.old }
     ensures found { Of (F.file_at files.old path.now) (λ b. IsGivenOf b report) →
-        IsFoundAt E.Sink (F.file_at files.old) true path.now result
+        IsFoundByLook E.Sink (IsLookIn (F.file_at files.old) true false) path.now result
         (F.failures files.old) (F.failures files.new) faults.old faults.new }
 {
     match files.open(path) {
@@ -148,22 +155,23 @@ fn look_inside<F: RecordingFiles, E: Sink>(
     faults: &mut E,
 ) -> Found
     ensures files { F.file_at files.new ≡ F.file_at files.old }
-    ensures found { (asked : Bool) →
-        Of (F.file_at files.old path.now) (λ b. HasReportAndDigest b asked report digest) →
-        IsFoundAt E.Sink (F.file_at files.old) asked path.now result
+    ensures stamps { F.stamp_at files.new ≡ F.stamp_at files.old }
+    ensures found { (wanted : Wanted) → shows_contents wanted.style ≡ true →
+        Of (F.file_at files.old path.now) (λ b. HasReportAndDigest b wanted.digest report digest) →
+        IsFoundByLook E.Sink
+        (IsLookAt (files_there (F.file_at files.old) (F.stamp_at files.old)) wanted) path.now result
         (F.failures files.old) (F.failures files.new) faults.old faults.new }
 {
     match files.stamp(path) {
         Ok(stamp) => {
-            let is_empty = stamp.len == 0;
-            if is_empty {
+            if has_length(stamp) {
+                look_within(alloc, files, path, report, digest, faults)
+            } else {
                 Found::Read {
                     report,
                     digest,
                     contents: None,
                 }
-            } else {
-                look_within(alloc, files, path, report, digest, faults)
             }
         }
         Err(error) => Found::Unopened(report_unopened(alloc, path, &error, faults)),
@@ -180,9 +188,10 @@ fn look_within<F: RecordingFiles, E: Sink>(
     faults: &mut E,
 ) -> Found
     ensures files { F.file_at files.new ≡ F.file_at files.old }
+    ensures stamps { F.stamp_at files.new ≡ F.stamp_at files.old }
     ensures found { (asked : Bool) →
         Of (F.file_at files.old path.now) (λ b. HasReportAndDigest b asked report digest) →
-        IsFoundAt E.Sink (F.file_at files.old) asked path.now result
+        IsFoundByLook E.Sink (IsLookIn (F.file_at files.old) asked true) path.now result
         (F.failures files.old) (F.failures files.new) faults.old faults.new }
 {
     match files.open(path) {
@@ -195,6 +204,24 @@ fn look_within<F: RecordingFiles, E: Sink>(
             Err(fault) => Found::Faulty(unread(fault)),
         },
         Err(error) => Found::Unopened(report_unopened(alloc, path, &error, faults)),
+    }
+}
+
+/// Whether a file has a length, unlike a pipe.
+fn has_length(stamp: FileStamp) -> bool
+    ensures { result ≡ nat_lt 0 stamp.len }
+{
+    stamp.len > 0
+}
+
+/// Whether what chunks say is printed.
+fn shows_contents(style: Style) -> bool
+    ensures { result ≡ shows_contents style }
+{
+    match style {
+        Style::Plain => false,
+        Style::Human => true,
+        Style::Json => true,
     }
 }
 

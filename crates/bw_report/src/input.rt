@@ -32,7 +32,7 @@ pub fn inspect_input<R: Source, W: Sink, E: Sink>(
     out: &mut W,
     faults: &mut E,
 ) -> Exit
-    // The entry has no digest.
+    // The entry has no digest, and nothing of what the chunks say.
     ensures { (did : Outcome) × (did.exit ≡ result)
         × IsEntryOf (R.left input.old) style name.now did
         × (R.failures input.new ≡ failures_if did.reads_all (R.failures input.old))
@@ -52,7 +52,7 @@ pub fn inspect_input<R: Source, W: Sink, E: Sink>(
 
 /// Looks at what a reader has.
 fn look_at_input<R: Source>(alloc: Global, input: &mut R) -> Found
-    ensures right { Of (R.left input.old) (λ b. IsFoundInBytes b false result) }
+    ensures right { Of (R.left input.old) (λ b. IsFoundInBytes b false false result) }
     ensures opened { WasOpened result }
     ensures count { R.failures input.new ≡ failures_if (is_read_by result) (R.failures input.old) }
 {

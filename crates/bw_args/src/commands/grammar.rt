@@ -77,7 +77,7 @@ fn program<'a>(alloc: Global) -> Result<Command<'a>, AllocError>
         .bin_name("bwingest")
 }
 
-/// The error of `send` with neither a name nor words of recordings, as `clap` reports a missing argument.
+/// The error of `send` with neither a name nor a FILE, as `clap` reports a missing argument.
 pub fn name_missing(alloc: Global) -> Result<Error, AllocError>
     ensures { IfOk result (λ e. kind_of e ≡ ErrorKind.MissingRequiredArgument) }
 {

@@ -261,7 +261,7 @@ const CONNECT: Row = Row {
     help: "The server's address: 127.0.0.1:PORT, or any address or host with --network",
 };
 
-/// What `send` needs without FILE...
+/// What `send` needs without a FILE.
 pub(crate) const NAMED: [Row; 2] = [CONNECT, NAME];
 
 /// The options of `send`.

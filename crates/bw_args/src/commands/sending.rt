@@ -23,24 +23,25 @@ use clap::ArgMatches;
 use std::alloc::{AllocError, Global};
 use std::net::SocketAddr;
 
-/// What `send` results in, of several recordings or of at most one.
+/// What `send` results in, for several recordings or for at most one.
 pub(crate) fn send_line(alloc: Global, options: &ArgMatches<'_>) -> Result<CommandLine, AllocError>
     ensures ok { IfOk result (IsLineFor (Some (codes "send", rows_of (found_of options.now)))) }
     ensures err { OnErr result
         (AsksForPath (Some (codes "send", rows_of (found_of options.now)))) }
 {
     let Some(paths) = options.get_raw("files") else {
-        return one_line(alloc, options);
+        return one_sender_line(alloc, options);
     };
     if paths.is_empty() {
-        return one_line(alloc, options);
+        return one_sender_line(alloc, options);
     }
     files_line(alloc, options, paths)
 }
 
-/// Bad values are reported in this order: the address, the name, those of `tries_given`, options
-/// that don't belong together, those of a receipt, those of what is kept, and those of `samples_given`.
-fn one_line(alloc: Global, options: &ArgMatches<'_>) -> Result<CommandLine, AllocError>
+/// What `send` results in for at most one recording. Bad values are reported in this order: the address,
+/// the name, those of `tries_given`, options that don't belong together, those of a receipt, those of
+/// what is kept, and those of `samples_given`.
+fn one_sender_line(alloc: Global, options: &ArgMatches<'_>) -> Result<CommandLine, AllocError>
     requires alone { has_files (first_value (found_of options.now)) ≡ false }
     ensures ok { IfOk result (IsLineFor (Some (codes "send", rows_of (found_of options.now)))) }
     ensures err { OnErr result
@@ -132,7 +133,7 @@ pub(crate) struct Tries {
     pub(crate) rate: Option<u32>,
 }
 
-/// Whether neither the name of a take nor words of recordings are given.
+/// Whether neither a name nor a FILE is given.
 pub(crate) fn lacks_name(options: &ArgMatches<'_>) -> bool
     ensures { result ≡ not (is_some (first_value (found_of options.now) (codes "name"))
         || has_files (first_value (found_of options.now))) }

@@ -16,8 +16,8 @@ use clap::ArgMatches;
 use std::alloc::{AllocError, Global};
 use std::net::SocketAddr;
 
-/// Bad values are reported in this order: options that are for one recording alone, the address, those of
-/// `tries_given`, and those of a receipt.
+/// What `send` results in for the recordings at these paths. Bad values are reported in this order: options
+/// that are for one recording alone, the address, those of `tries_given`, and those of a receipt.
 pub fn files_line(
     alloc: Global,
     options: &ArgMatches<'_>,
@@ -47,7 +47,7 @@ pub fn files_line(
     sender_line(alloc, options, paths, connect, tries)
 }
 
-/// The sender of the recordings at these paths.
+/// The task that sends the recordings at these paths.
 pub fn sender_line(
     alloc: Global,
     options: &ArgMatches<'_>,

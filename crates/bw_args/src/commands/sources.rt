@@ -85,15 +85,15 @@ pub(crate) fn copies_of(alloc: Global, texts: &[&str]) -> Result<Vec<String>, Al
     Ok(copies)
 }
 
-/// Whether recordings are given as words of their own.
+/// Whether a FILE is given as a word of its own.
 pub fn has_files(options: &ArgMatches<'_>) -> bool
     ensures { result ≡ has_files (first_value (found_of options.now)) }
 {
     options.get_str("files").is_some()
 }
 
-/// Whether options are given that aren't for one sender of at most one recording: the words of several,
-/// their names, or those that aren't for one source.
+/// Whether options are given that aren't for one sender of at most one recording: a FILE, `--names`, or
+/// those that aren't for one source.
 pub fn is_mixed(options: &ArgMatches<'_>) -> bool
     ensures { result ≡ is_mixed (first_value (found_of options.now)) }
 {

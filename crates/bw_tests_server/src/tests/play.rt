@@ -1,12 +1,12 @@
 //! The messages of a take and their replies, and the file that they leave.
 use crate::tests::compare::same;
+use crate::two_frames;
 use arrayvec::ArrayVec;
 use bw_journal::Journal;
 use bw_layout::Limit;
 use bw_model::{Name, Verdict};
 use bw_session::Server;
 use bw_store::MemoryStore;
-use bw_tests_kit::two_frames;
 use bw_wire::{Frame, Notice, Reply, decode};
 use std::alloc::Global;
 use std::process::Abort;

@@ -1,6 +1,6 @@
 use Rattle.std.proofs.Common.{Option, inl, subst}
 use Rattle.bw_recovery.specs.declared.finding.Finding.{Finding}
-use Rattle.bw_folder.specs.RecoveredNames.{FindsIn}
+use Rattle.bw_kept.specs.RecoveredNames.{FindsIn}
 use Rattle.bw_folder.specs.TakeFolders.{take_in_folder}
 use Rattle.bw_folder.specs.JournalFolders.{noted_in_folder}
 use Rattle.bw_kept.specs.Recoveries.{opened_story, HasTooManyIn}

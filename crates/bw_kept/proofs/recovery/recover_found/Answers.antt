@@ -5,7 +5,7 @@ use Rattle.bw_recovery.proofs.ListForms.{if_ok, if_ok_both}
 use Rattle.bw_folder.specs.Journals.{existence_of}
 use Rattle.bw_folder.specs.TakeFolders.{takes_disk, takes_folder, take_in_folder}
 use Rattle.bw_folder.specs.JournalFolders.{noted_in_folder}
-use Rattle.bw_folder.specs.RecoveredNames.{FindsName}
+use Rattle.bw_kept.specs.RecoveredNames.{FindsName}
 use Rattle.bw_kept.specs.Recoveries.{opened_story, RecoversIn, is_failed_call, HasTooManyIn, IsKeptUnder}
 use Rattle.bw_kept.specs.RecoverySteps.{OpensMoreIn, OpensMore, MadeOfFinding, story_found}
 use Rattle.bw_kept.specs.declared.recovery.Recovered.{Recovered}

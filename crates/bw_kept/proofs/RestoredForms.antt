@@ -1,5 +1,5 @@
 -- What is found and restored of a name, where its two files are in a folder.
-use Rattle.std.proofs.Common.{◌≡◌, ℕ, List, false, Option, Some, None, Ok, Err, refl, sym, ◌∙◌, subst}
+use Rattle.std.proofs.Common.{◌≡◌, ℕ, List, Option, Some, None, Ok, Err, refl, sym, ap, ◌∙◌, subst, []}
 use Rattle.std.specs.Prelude.{Result, IfOk, OnOk, IfNone, IfSome, IsSome, IsTrue}
 use Rattle.bw_disk.specs.declared.reading.ReadFault.{ReadFault}
 use Rattle.bw_recovery.specs.Findings.{IsFound, IsRestored, SparesFile, leaves_take}
@@ -9,14 +9,11 @@ use Rattle.bw_recovery.specs.Restorings.{is_refused}
 use Rattle.bw_recovery.specs.declared.finding.Finding.{Finding}
 use Rattle.bw_recovery.specs.declared.finding.Finding.TheVariants.{Refused, Unbegun, Begun}
 use Rattle.bw_folder.specs.Folders.{take_path}
-use Rattle.std.specs.List.{list_any}
 use Rattle.bw_store.specs.Stores.{KeepsOthers}
-use Rattle.bw_folder.specs.declared.journal.OpenJournal.{OpenJournal}
-use Rattle.bw_folder.specs.Journals.{journal_path, notes_at}
-use Rattle.bw_folder.specs.PendingNotes.{pendings, unwritten_of, waits, noted_at}
-use Rattle.bw_folder.proofs.PendingLaws.{noted_idle}
-use Rattle.bw_folder.proofs.PendingForms.{none_waits}
-use Rattle.bw_folder.specs.RecoveredNames.{FindsName, RestoresName}
+use Rattle.bw_disk.specs.Volumes.{KeepsEach}
+use Rattle.bw_folder.specs.Journals.{journal_path}
+use Rattle.bw_folder.proofs.PendingLaws.{noted_beside}
+use Rattle.bw_kept.specs.RecoveredNames.{FindsName, RestoresName}
 
 -- what is at each path of a disk
 abbrev Contents : Type 0
@@ -119,9 +116,23 @@ unfolding journal_path path_with
 notes_others inner folder name before after same others =
     subst (λ (f : List ℕ). KeepsOthers before after (notes_path f name)) same others
 
--- nothing is pending of any name: what is noted is what the files have
-pub noted_idly : {F : Type 0} (js : List (OpenJournal F)) (contents : Contents) (folder name : List ℕ) →
-    list_any (λ (j : OpenJournal F). waits j.pending.items) js ≡ false →
-    noted_at (pendings js) contents folder name ≡ notes_at contents folder name
-noted_idly js contents folder name none =
-    noted_idle (unwritten_of (pendings js) name) (notes_at contents folder name) (none_waits js none name)
+-- what holds of both holds of what is equal to them
+pub both_are : {A : Type 0} (P : A → A → Type 0) {j k j' k' : A} → j' ≡ j → k' ≡ k → P j k → P j' k'
+both_are P {j} {k} {j'} {k'} same also is =
+    subst (λ x. P x k') (sym same) (subst (λ y. P j y) (sym also) is)
+
+-- each other name has what it had, where what is noted is what the journals have
+pub others_noted : (name inner folder later : List ℕ) (noted noted' before after : Contents) →
+    ((n : List ℕ) → noted n ≡ before (journal_path folder n)) → ((n : List ℕ) → noted' n ≡ after (journal_path later n)) →
+    inner ≡ folder → later ≡ folder → KeepsOthers before after (notes_path inner name) → KeepsOthers noted noted' name
+others_noted name inner folder later noted noted' before after was is same stays others = λ other apart.
+    is other ∙ ap (λ (f : List ℕ). after (journal_path f other)) stays
+    ∙ noted_beside [] [] folder name before after (λ n. refl) (notes_others inner folder name before after same others)
+    other apart ∙ sym (was other)
+
+-- .. and so has each name, if each journal has
+pub each_noted : (folder later : List ℕ) (noted noted' before after : Contents) →
+    ((n : List ℕ) → noted n ≡ before (journal_path folder n)) → ((n : List ℕ) → noted' n ≡ after (journal_path later n)) →
+    later ≡ folder → KeepsEach before after → KeepsEach noted noted'
+each_noted folder later noted noted' before after was is stays same = λ n.
+    is n ∙ ap (λ (f : List ℕ). after (journal_path f n)) stays ∙ same (journal_path folder n) ∙ sym (was n)

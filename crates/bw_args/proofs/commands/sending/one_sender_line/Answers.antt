@@ -4,7 +4,7 @@ use Rattle.bw_args.specs.Lines.{looked_at_samples, looked_at_trying}
 use Rattle.bw_args.specs.declared.bad_value.BadValue.TheVariants.{Name, Connect, LeftOut, Mixed, Receipt}
 use Rattle.bw_args.proofs.Asked.{an_address, bad, bad_sender, first_then, found_address, no_address, no_samples, sender_asked}
 use Rattle.bw_args.proofs.Asked.{tries_then, ◌and_then◌}
-use Rattle.bw_args.proofs.commands.sending.one_line.Goals as goal
+use Rattle.bw_args.proofs.commands.sending.one_sender_line.Goals as goal
 
 pub returns-in_default-clause-ok : goal.returns-in_default-clause-ok
 returns-in_default-clause-ok c = bad_sender (found_of c.args.options.now) false Connect c.requires.alone (

@@ -1,5 +1,5 @@
 //! What a stop left of a name in a folder, and mending it, on the disks of a store and of a journal.
-ghost use Rattle.std.specs.Prelude.{◌≡◌, ℕ, Some, IsTrue, IfOk, OnOk};
+ghost use Rattle.std.specs.Prelude.{◌≡◌, ◌↔◌, ℕ, Some, IsTrue, IfOk, OnOk, is_some};
 ghost use Rattle.bw_store.specs.Stores.{KeepsOthers};
 ghost use Rattle.bw_disk.specs.DiskSteps.{StaysWhole};
 ghost use Rattle.bw_disk.specs.Volumes.{KeepsEach};
@@ -7,16 +7,16 @@ ghost use Rattle.bw_disk.specs.ReadFaults.{is_disk_fault};
 ghost use Rattle.bw_recovery.specs.Restorings.{is_refused};
 ghost use Rattle.bw_folder.specs.TakeFolders.{takes_disk};
 ghost use Rattle.bw_folder.specs.JournalFolders.{journals_disk, noted_in_folder};
-ghost use Rattle.bw_folder.specs.RecoveredNames.{KeepsStore, KeepsFolderJournal, AreOfOneFolder, FindsIn};
-ghost use Rattle.bw_folder.specs.RecoveredNames.{RestoresIn, StaysLeftIn, ChangesName};
-ghost use Rattle.bw_folder.specs.RecoveredNames.{CountsIn, CountsUnlessCrowded};
+ghost use Rattle.bw_folder.specs.FolderDisks.{AreOfOneFolder, KeepsFolderJournal, KeepsStore, ShowsAlike};
+ghost use Rattle.bw_kept.specs.RecoveredNames.{FindsIn, RestoresIn, StaysLeftIn, ChangesName};
+ghost use Rattle.bw_kept.specs.RecoveredNames.{CountsIn, CountsUnlessCrowded};
 
-use crate::folder::FolderStore;
-use crate::journal::FolderJournal;
+use crate::on_disks::{Comparing, Looking, Restoring};
 use bw_disk::{ReadFault, Volume};
+use bw_folder::{FolderJournal, FolderStore, lend_disks};
 use bw_layout::Limit;
 use bw_model::Name;
-use bw_recovery::{Finding, look, restore_name};
+use bw_recovery::Finding;
 use std::alloc::Global;
 
 /// What is found of a name of which nothing is open, by its journal and its file; None if it has no
@@ -28,7 +28,7 @@ use std::alloc::Global;
 ///
 /// # Not specified
 /// When memory is refused, and how many calls of the disks it makes.
-pub fn look_at_name<D: Volume, E: Volume>(
+pub(crate) fn look_at_name<D: Volume, E: Volume>(
     alloc: Global,
     store: &mut FolderStore<D>,
     journal: &mut FolderJournal<E>,
@@ -47,17 +47,17 @@ pub fn look_at_name<D: Volume, E: Volume>(
     // `Disk` is a call of one of the disks that failed, and no other call fails.
     ensures failures { CountsIn store.old journal.old store.new journal.new (is_disk_fault result) }
 {
-    if journal.has_any_pending() {
+    if journal.awaits_commit() {
         return Err(ReadFault::Memory);
     }
-    look(
+    let mut visitor = Looking {
         alloc,
-        &mut store.disk,
-        &mut journal.disk,
-        store.folder.as_str(),
         limit,
         name,
-    )
+        result: Err(ReadFault::Memory),
+    };
+    lend_disks(store, journal, &mut visitor);
+    visitor.result
 }
 
 /// Makes journal and file of a name of which nothing is open what they are to be, by what was found
@@ -71,7 +71,7 @@ pub fn look_at_name<D: Volume, E: Volume>(
 /// # Not specified
 /// What an error leaves of the name's own files, but that it is what a stop may leave of the same
 /// log.
-pub fn restore_in_folder<D: Volume, E: Volume>(
+pub(crate) fn restore_in_folder<D: Volume, E: Volume>(
     alloc: Global,
     store: &mut FolderStore<D>,
     journal: &mut FolderJournal<E>,
@@ -103,15 +103,53 @@ pub fn restore_in_folder<D: Volume, E: Volume>(
         FindsIn limit name.now store.old journal.old (Some finding.now) → CountsUnlessCrowded
         name.now store.old journal.old store.new journal.new (is_disk_fault result) }
 {
-    if journal.has_any_pending() {
+    if journal.awaits_commit() {
         return Err(ReadFault::Memory);
     }
-    restore_name(
+    let mut visitor = Restoring {
         alloc,
-        &mut store.disk,
-        &mut journal.disk,
-        store.folder.as_str(),
         name,
         finding,
-    )
+        result: Err(ReadFault::Memory),
+    };
+    lend_disks(store, journal, &mut visitor);
+    visitor.result
+}
+
+/// Whether the disks of store and journal show alike whether a name has a file in the store's folder.
+/// Nothing is changed. That is no call of the store or of the journal.
+///
+/// # Errors
+/// `Disk` if a call of a disk failed; `Memory` if memory was refused, or notes of any name are pending.
+///
+/// # Not specified
+/// When memory is refused, and how many calls of the disks it makes.
+pub(crate) fn shows_alike<D: Volume, E: Volume>(
+    alloc: Global,
+    store: &mut FolderStore<D>,
+    journal: &mut FolderJournal<E>,
+    name: &Name,
+) -> Result<bool, ReadFault>
+    ensures takes { StaysWhole D.Disk (takes_disk store.old) (takes_disk store.new) }
+    ensures notes { StaysWhole E.Disk (journals_disk journal.old) (journals_disk journal.new) }
+    ensures store { KeepsStore store.old store.new }
+    ensures journal { KeepsFolderJournal journal.old journal.new }
+    ensures noted { IsTrue (E.honest (journals_disk journal.old)) →
+        KeepsEach (noted_in_folder journal.old) (noted_in_folder journal.new) }
+    // Both have a file of it, or neither has one.
+    ensures alike { IsTrue (D.honest (takes_disk store.old)) → IsTrue (E.honest (journals_disk journal.old)) →
+        IfOk result (λ alike. IsTrue alike ↔ ShowsAlike name.now store.old journal.old) }
+    // `Disk` is a call of one of the disks that failed, and no other call fails.
+    ensures failures { CountsIn store.old journal.old store.new journal.new (is_disk_fault result) }
+{
+    if journal.awaits_commit() {
+        return Err(ReadFault::Memory);
+    }
+    let mut visitor = Comparing {
+        alloc,
+        name,
+        result: Err(ReadFault::Memory),
+    };
+    lend_disks(store, journal, &mut visitor);
+    visitor.result
 }
