@@ -63,17 +63,17 @@ naming_here line place at named located =
     let p = position-Some (λ c. c == 32) line place 0 at in
     let blank : get_or line place 0 ≡ 32 = grind arith in
     record {
-  named = named;
-  located = located;
-  is = sym (take-append-drop place line) ∙ ap (λ (l : List ℕ). take place line ++ l)
-      (drop_more line place 0 p.0 ∙ ap (λ (c : ℕ). c ∷ drop (place + 1) line) blank);
-}
+      named = named;
+      located = located;
+      is = sym (take-append-drop place line) ∙ ap (λ (l : List ℕ). take place line ++ l)
+          (drop_more line place 0 p.0 ∙ ap (λ (c : ℕ). c ∷ drop (place + 1) line) blank);
+    }
 
 -- whether anything is left
 pub none_left : (line : List ℕ) (place : ℕ) →
     (length (take (length line - place) (drop place line)) == 0) ≡ true → drop place line ≡ []
 none_left line place is = empty_is (drop place line) (ap (λ (l : List ℕ). length l == 0) (sym (take_rest line place)) ∙ is)
-    where
+  where
     empty_is : (xs : List ℕ) → (length xs == 0) ≡ true → xs ≡ []
     empty_is [] empty = refl
     empty_is (x ∷ xs) empty = absurd (search (rules, tests, empty))

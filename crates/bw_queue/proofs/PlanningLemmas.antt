@@ -25,7 +25,7 @@ pub receipts_given : (reads : List ℕ → Option (List ℕ) → Type 0) (path :
 receipts_given reads path p text r is read gives =
     subst (λ (q : Option (Bor (List ℕ))). MatchResult r (λ rs. GivesReceipts reads (given_path q) rs.items)
     (FaultSays (SaysBadReceipt reads (given_path q)) (SaysUnreadable (given_path q)))) (sym is) (by r gives)
-    where
+  where
     by : (r : Result (Vec Receipt Global) QueueFault) → MatchResult r (λ rs. SaysAllBut text rs.items)
         (FaultSays (λ line. (number : ℕ)
         × HasBadLine (ended_lines text) number × (line ≡ no_receipt_text p.now number)) (λ line. ⊥)) →

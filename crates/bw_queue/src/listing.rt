@@ -199,7 +199,11 @@ pub fn path_in(alloc: Global, folder: &str, name: &str) -> Result<String, AllocE
 fn slash_after(folder: &str) -> &'static str
     ensures { result.now ≡ slash_between folder.now }
 {
-    if is_slash_last(folder.as_bytes()) { "" } else { "/" }
+    if is_slash_last(folder.as_bytes()) {
+        ""
+    } else {
+        "/"
+    }
 }
 
 /// Whether a path ends with a slash.

@@ -39,11 +39,7 @@ pub(crate) fn name_recordings(
 }
 
 /// The recording at a path, with its name.
-fn name_recording(
-    alloc: Global,
-    lines: &[&[u8]],
-    path: &str,
-) -> Result<QueuedRecording, QueueFault>
+fn name_recording(alloc: Global, lines: &[&[u8]], path: &str) -> Result<QueuedRecording, QueueFault>
     ensures { MatchResult result
         (λ recording. (path_of recording ≡ path.now)
         × IsNameFor (map (λ x. x.now) lines.now) path.now recording.name)

@@ -66,7 +66,11 @@ fn name_byte(byte: u8) -> u8
 {
     if byte >= b'A' && byte <= b'Z' {
         byte + 32
-    } else if byte >= b'a' && byte <= b'z' || byte >= b'0' && byte <= b'9' || byte == b'-' || byte == b'_' {
+    } else if byte >= b'a' && byte <= b'z'
+        || byte >= b'0' && byte <= b'9'
+        || byte == b'-'
+        || byte == b'_'
+    {
         byte
     } else {
         b'-'

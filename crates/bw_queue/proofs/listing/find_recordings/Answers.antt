@@ -23,9 +23,17 @@ returns-in-Err-clause-found g c =
     (λ (line : List ℕ). kinds.kinds files path Folder × ListsRecordings then path [] × (line ≡ no_recordings_text path))
     (λ (line : List ℕ). kinds.kinds files path Folder × (line ≡ unreadable_text path))
     (SaysEmptyFolder side paths) (SaysUnlisted side paths)
-    (λ line says. (c.loop-path.path-index, path, there.0, there.1, (says.0,
-    recordings_before kinds files g.D.Disk c.args.disk.now c.loop-path.disk path [] c.loop-path.invariant.whole says.1,
-    says.2))) (λ line says. (c.loop-path.path-index, path, there.0, there.1, says)) c.in-Err.fault
+    (λ line says. (
+      c.loop-path.path-index,
+      path,
+      there.0,
+      there.1,
+      (
+        says.0,
+        recordings_before kinds files g.D.Disk c.args.disk.now c.loop-path.disk path [] c.loop-path.invariant.whole says.1,
+        says.2,
+      ),
+    )) (λ line says. (c.loop-path.path-index, path, there.0, there.1, says)) c.in-Err.fault
     c.in-Err.ensures.found
 
 pub loop-path-preserved : goal.loop-path-preserved

@@ -39,7 +39,11 @@ returns-in-Err-plan_queue g c =
         counts = c.in-Err-plan_queue.ensures.counts;
         whole = c.in-Err-plan_queue.ensures.disk;
         plans = c.in-Err-plan_queue.ensures.plans;
-        ends = (c.report_fault.result, refl, subst (λ e. ReportsFault g.E.Sink c.in-Err-plan_queue.fault
-            c.report_fault.result e c.report_fault.new.faults) same c.report_fault.ensures);
+        ends = (
+          c.report_fault.result,
+          refl,
+          subst (λ e. ReportsFault g.E.Sink c.in-Err-plan_queue.fault
+              c.report_fault.result e c.report_fault.new.faults) same c.report_fault.ensures,
+        );
       },
     )

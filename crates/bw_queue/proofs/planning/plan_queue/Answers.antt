@@ -58,9 +58,12 @@ returns-clause-plans g c =
     (λ line says. inr (inr (
       c.in-Ok.text.items,
       c.in-Ok.ensures.text,
-      (paths, all_stood_before kinds files g.D.Disk first later stays (map string_bytes c.args.request.now.paths.now)
-      paths c.in-Ok-find_recordings.ensures.found,
-      subst (λ (t : List ℕ). SaysUnnamed names t paths line) c.deref.ensures.value
-      (subst (λ (ps : List (String Global)). SaysUnnamed names c.deref.result.now (map string_bytes ps) line)
-      c.deref-2.ensures.value says)),
+      (
+        paths,
+        all_stood_before kinds files g.D.Disk first later stays (map string_bytes c.args.request.now.paths.now)
+            paths c.in-Ok-find_recordings.ensures.found,
+        subst (λ (t : List ℕ). SaysUnnamed names t paths line) c.deref.ensures.value
+            (subst (λ (ps : List (String Global)). SaysUnnamed names c.deref.result.now (map string_bytes ps) line)
+            c.deref-2.ensures.value says),
+      ),
     ))) (λ line says. absurd says) c.in-Err-name_all.fault c.in-Err-name_all.ensures
